@@ -1,12 +1,12 @@
 -- Demands by their digits, the slowest first: which digit a demand has at a set, what another
 -- action there changes, and which choices meet it.
 use Rattle.std.proofs.Common.{◌≡◌, ℕ, zero, suc, ◌+◌, ◌-◌, ◌*◌, ◌/◌, ◌%◌, ◌<◌, ◌≤◌, Bool, true}
-use Rattle.std.proofs.Common.{false, List, [], ◌∷◌, length, get_or, set, map, arith, refl, ap, sym}
-use Rattle.std.proofs.Common.{◌∙◌, subst, inl, inr, ◌⊎◌}
+use Rattle.std.proofs.Common.{false, List, [], ◌∷◌, length, get_or, set, map, arith, refl, ap, ◌∙◌}
+use Rattle.std.proofs.Common.{subst, inl, inr, ◌⊎◌}
 use Rattle.std.specs.Prelude.{◌==◌, ◌&&◌, ◌||◌, nat_le, nat_lt, if◌then◌else◌, ⊤}
 use Rattle.std.specs.Int.{◌∣◌}
-use Rattle.std.proofs.lemmas.Bool.{and_parts, cases_lt, eq-eqb, eqb-true, le-leb, le-ltb, lt-leb}
-use Rattle.std.proofs.lemmas.Bool.{lt-ltb, ne_eqb}
+use Rattle.std.proofs.lemmas.Bool.{and_parts, cases_lt, eq-eqb, le-leb, le-ltb, lt-leb, lt-ltb}
+use Rattle.std.proofs.lemmas.Bool.{ne_eqb}
 use Rattle.std.proofs.lemmas.Nat.{div-mul-add}
 use Rattle.std.proofs.Math.Nat.{add-mul-mod_self_right, div-mul_cancel, dvd-mul_left}
 use Rattle.std.proofs.Math.Nat.{dvd-mul_left_of_dvd, mod-eq_of_lt, mul-add-div, mul-le-mul_right}
@@ -64,9 +64,7 @@ faster_digit d p r s m above h =
     let whole : q * (s * (m + 1)) ≡ p = div-mul_cancel (s * (m + 1)) h in
     let grouped : d * p + r ≡ s * (d * q * (m + 1)) + r = omega (arith, ap (λ k. d * k) whole) in
     let turned : d * q * (m + 1) + r / s ≡ r / s + d * q * (m + 1) = omega arith in
-    ap (λ k. k / s % (m + 1)) grouped
-    ∙ ap (λ k. k % (m + 1)) (mul-add-div above (d * q * (m + 1)) r ∙ turned)
-    ∙ add-mul-mod_self_right (r / s) (d * q) (m + 1)
+    grind (arith, mul-add-div, add-mul-mod_self_right)
 
 step_above : (actions : List ℕ) (place : ℕ) → place < length actions
     → 0 < get_or (steps_of actions) place 0
@@ -92,9 +90,7 @@ digit_is (n ∷ faster) (d ∷ ds) zero h within =
     first_digit d n (product (spans faster)) (pack faster ds) h.0 (pack_below faster ds h.1)
 digit_is (n ∷ faster) (d ∷ ds) (suc place) h within =
     let there : place < length faster = omega (arith, within) in
-    faster_digit d (product (spans faster)) (pack faster ds) (get_or (steps_of faster) place 0)
-    (get_or faster place 0) (step_above faster place there) (step_divides faster place there)
-    ∙ digit_is faster ds place h.1 there
+    grind (arith, faster_digit, step_above, step_divides, digit_is faster ds place h.1 there)
 digit_is [] (d ∷ ds) place h within = absurd h
 digit_is (n ∷ faster) [] place h within = absurd h
 
@@ -112,8 +108,7 @@ pub set_pack : (actions ds : List ℕ) (place k : ℕ) → AreWithin actions ds 
     → get_or ds place 0 ≡ 0
     → pack actions ds + k * get_or (steps_of actions) place 0 ≡ pack actions (set ds place k)
 set_pack [] [] place k h within free = absurd (omega arith)
-set_pack (n ∷ faster) (d ∷ ds) zero k h within free =
-    omega (arith, ap (λ (e : ℕ). e * product (spans faster)) free)
+set_pack (n ∷ faster) (d ∷ ds) zero k h within free = grind arith
 set_pack (n ∷ faster) (d ∷ ds) (suc place) k h within free =
     omega (arith, set_pack faster ds place k h.1 (omega (arith, within)) free)
 set_pack [] (d ∷ ds) place k h within free = absurd h
@@ -137,13 +132,7 @@ met _ _ = true
 
 meets_first : (p r c d : ℕ) (steps cs : List ℕ) → r < p
     → meets (p ∷ steps) (c ∷ cs) (d * p + r) ≡ ((d == 0 || d == c) && meets steps cs r)
-meets_first p r c zero steps cs h =
-    let less : nat_lt (0 * p + r) p ≡ true = lt-ltb (0 * p + r) p (omega (arith, h)) in
-    let rest : 0 * p + r ≡ r = omega arith in
-    ap (λ b. if b then meets steps cs (0 * p + r)
-    else if nat_le (c * p) (0 * p + r) && nat_lt (0 * p + r) (c * p + p)
-    then meets steps cs (0 * p + r - c * p) else false) less
-    ∙ ap (meets steps cs) rest
+meets_first p r c zero steps cs h = grind arith
 meets_first p r c (suc d) steps cs h =
     let first : nat_lt n p ≡ false = le-ltb n p (omega arith) in
     rw first (by (cases_lt c (suc d)) (cases_lt (suc d) c))
@@ -174,23 +163,13 @@ meets_first p r c (suc d) steps cs h =
         )) in
         let apart : (suc d == c) ≡ false = ne_eqb (suc d) c (λ e. omega (arith, less, e)) in
         rw (past, any, apart) refl
-    by (inr le) (inr ge) =
-        let same : c ≡ suc d = omega (arith, le, ge) in
-        let times : c * p ≡ suc d * p = ap (λ k. k * p) same in
-        let up : nat_le (c * p) (suc d * p + r) ≡ true =
-        le-leb (c * p) (suc d * p + r) (omega (arith, times)) in
-        let less : nat_lt (suc d * p + r) (c * p + p) ≡ true =
-        lt-ltb (suc d * p + r) (c * p + p) (omega (arith, times, h)) in
-        let rest : suc d * p + r - c * p ≡ r = omega (arith, times) in
-        rw (up, less, rest, any, eq-eqb (suc d) c (sym same)) refl
+    by (inr le) (inr ge) = grind (arith, le-leb, lt-ltb, eq-eqb)
 
 pub meets_is : (actions choices ds : List ℕ) → length choices ≡ length actions
     → AreWithin actions ds → meets (steps_of actions) choices (pack actions ds) ≡ met choices ds
 meets_is [] [] [] e h = refl
 meets_is (n ∷ faster) (c ∷ cs) (d ∷ ds) e h =
-    meets_first (product (spans faster)) (pack faster ds) c d (steps_of faster) cs
-    (pack_below faster ds h.1)
-    ∙ ap (λ b. (d == 0 || d == c) && b) (meets_is faster cs ds (omega (arith, e)) h.1)
+    grind (arith, meets_first, pack_below, meets_is faster cs ds (omega (arith, e)) h.1)
 meets_is [] (c ∷ cs) ds e h = absurd (omega arith)
 meets_is (n ∷ faster) [] ds e h = absurd (omega arith)
 meets_is [] [] (d ∷ ds) e h = absurd h
@@ -201,10 +180,7 @@ pub met_set : (choices ds : List ℕ) (place k : ℕ) → length choices ≡ len
     → get_or ds place 0 ≡ 0 → 1 ≤ k
     → met choices (set ds place k) ≡ (met choices ds && k == get_or choices place 0)
 met_set [] [] place k e within free some = absurd (omega arith)
-met_set (c ∷ cs) (d ∷ ds) zero k e within free some =
-    let there : (k == 0) ≡ false = ne_eqb k 0 (λ z. omega (arith, some, z)) in
-    let any : (d == 0) ≡ true = eq-eqb d 0 free in
-    rw (there, any) (and_turned (k == c) (met cs ds))
+met_set (c ∷ cs) (d ∷ ds) zero k e within free some = grind arith
 met_set (c ∷ cs) (d ∷ ds) (suc place) k e within free some =
     ap (λ b. (d == 0 || d == c) && b)
     (met_set cs ds place k (omega (arith, e)) (omega (arith, within)) free some)
@@ -216,10 +192,7 @@ met_set (c ∷ cs) [] place k e within free some = absurd (omega arith)
 pub met_digit : (choices ds : List ℕ) (place : ℕ) → length choices ≡ length ds → place < length ds
     → met choices ds ≡ true → ¬ (get_or ds place 0 ≡ 0) → get_or choices place 0 ≡ get_or ds place 0
 met_digit [] [] place e within is some = absurd (omega arith)
-met_digit (c ∷ cs) (d ∷ ds) zero e within is some =
-    let both = and_parts (d == 0 || d == c) (met cs ds) is in
-    let not_any : (d == 0) ≡ false = ne_eqb d 0 some in
-    sym (eqb-true d c (rw not_any at both.0))
+met_digit (c ∷ cs) (d ∷ ds) zero e within is some = grind arith
 met_digit (c ∷ cs) (d ∷ ds) (suc place) e within is some =
     met_digit cs ds place (omega (arith, e)) (omega (arith, within))
     (and_parts (d == 0 || d == c) (met cs ds) is).1 some

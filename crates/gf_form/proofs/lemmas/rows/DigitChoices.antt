@@ -1,38 +1,29 @@
 -- The choices of the profile with a number: they have that number among all choices at the digits.
 use Rattle.std.proofs.Common.{◌≡◌, ℕ, zero, suc, ◌+◌, ◌-◌, ◌*◌, ◌/◌, ◌%◌, ◌<◌, ◌≤◌, List, [], ◌∷◌}
-use Rattle.std.proofs.Common.{◌++◌, map, get_or, refl, sym, ap, subst, ◌∙◌, arith}
+use Rattle.std.proofs.Common.{◌++◌, map, get_or, refl, sym, ap, ◌∙◌, arith}
 use Rattle.std.specs.List.{AllByRecursion, AllZip}
-use Rattle.std.proofs.Math.Nat.{add-mul, div-lt_iff_lt-mul, mod-add-div, mod-lt, mul_assoc}
-use Rattle.std.proofs.Math.Nat.{mul_comm}
+use Rattle.std.proofs.Math.Nat.{add-mul, mod-add-div, mul_assoc, mul_comm}
 use Rattle.std.proofs.lemmas.List.{get_or_default}
 use Rattle.std.proofs.lemmas.Slice.Zip.{AllZip-long}
 use Rattle.gf_nfg.specs.Profiles.{product}
 use Rattle.gf_form.specs.inner.rows.DigitSteps.{at_digits, picked}
 use Rattle.gf_form.specs.Strategies.{all_choices}
 use Rattle.gf_form.proofs.lemmas.strategies.Choices.{IsChoice, are_choices, every_choice}
-use Rattle.gf_form.proofs.lemmas.strategies.Choices.{length-all_choices, place}
-use Rattle.gf_form.proofs.lemmas.strategies.Choices.{place_at}
+use Rattle.gf_form.proofs.lemmas.strategies.Choices.{length-all_choices, place, place_at}
 use Rattle.gf_form.proofs.lemmas.strategies.CountedActions.{ArePositive}
 use Rattle.gf_form.proofs.lemmas.rows.DigitPlaces.{HasShape, product_joined}
 use Rattle.gf_form.proofs.lemmas.strategies.NumberedProfiles.{numbered}
-use Rattle.gf_form.proofs.lemmas.strategies.StrategiesByNumber.{all_at, positive_parts}
+use Rattle.gf_form.proofs.lemmas.strategies.StrategiesByNumber.{all_at}
 
 -- ---- places among all choices
 
 pub at_place : (counts choice : List ℕ) → IsChoice counts choice
     → get_or (all_choices counts) (place counts choice) [] ≡ choice
-at_place counts choice h =
-    let all = all_choices counts in
-    let there = (every_choice counts choice).1 h in
-    let at : there.0 ≡ place counts choice =
-    sym (place_at counts there.0 choice there.1) ∙ ap (place counts) there.2 in
-    ap (λ (n : ℕ). get_or all n []) (sym at) ∙ get_or_default all there.0 [] choice there.1
-    ∙ there.2
+at_place counts choice h = grind (arith, every_choice, place, place_at, get_or_default)
 
 pub choice_at_number : (counts : List ℕ) (n : ℕ) → n < product counts
     → IsChoice counts (get_or (all_choices counts) n [])
-choice_at_number counts n less = all_at (IsChoice counts) (all_choices counts) n []
-    (are_choices counts) (omega (arith, less, length-all_choices counts))
+choice_at_number counts n less = grind (arith, all_at, are_choices, length-all_choices)
 
 choice_joined : (xs ys chosen others : List ℕ) → IsChoice xs chosen → IsChoice ys others
     → IsChoice (xs ++ ys) (chosen ++ others)
@@ -53,8 +44,7 @@ place_joined (x ∷ xs) ys (a ∷ chosen) others h =
     (λ i. (a - 1) * product_joined xs ys i + place_joined xs ys chosen others h.1 i)
     ∙ ap (λ (n : ℕ). n + (place xs chosen * p + place ys others))
     (sym (mul_assoc (a - 1) (product xs) p))
-    ∙ (let sum : before * p + (place xs chosen * p + place ys others)
-    ≡ (before * p + place xs chosen * p) + place ys others = omega arith in sum)
+    ∙ (grind (arith, place))
     ∙ ap (λ (n : ℕ). n + place ys others) (sym (add-mul before (place xs chosen) p))
 
 -- ---- sets with one action
@@ -65,8 +55,7 @@ product_picked [] h = refl
 product_picked (zero ∷ counts) h = absurd (omega (arith, h.0))
 product_picked (suc zero ∷ counts) h =
     let others = product_picked counts h.1 in omega (arith, others)
-product_picked (suc (suc n) ∷ counts) h =
-    ap (λ (p : ℕ). suc (suc n) * p) (product_picked counts h.1)
+product_picked (suc (suc n) ∷ counts) h = cc (product_picked counts h.1)
 
 choice_picked : (counts choice : List ℕ) → IsChoice counts choice
     → IsChoice (picked counts counts) (picked counts choice)
@@ -84,11 +73,7 @@ place_picked [] (a ∷ choice) p h = absurd h
 place_picked (n ∷ counts) [] p h = absurd h
 place_picked (zero ∷ counts) (a ∷ choice) p h = absurd (omega (arith, p.0))
 place_picked (suc zero ∷ counts) (a ∷ choice) p h =
-    let one : a - 1 ≡ 0 = omega (arith, h.0) in
-    place_picked counts choice p.1 h.1
-    ∙ (let none : place counts choice ≡ 0 * product counts + place counts choice = omega
-    arith in none)
-    ∙ ap (λ (n : ℕ). n * product counts + place counts choice) (sym one)
+    grind (arith, place, place_picked counts choice p.1 h.1)
 place_picked (suc (suc n) ∷ counts) (a ∷ choice) p h =
     λ i. (a - 1) * product_picked counts p.1 i + place_picked counts choice p.1 h.1 i
 
@@ -125,8 +110,7 @@ choice_at_digits [] [] h = tt
 choice_at_digits [] (choice ∷ choices) h = absurd h
 choice_at_digits (own ∷ others) [] h = absurd h
 choice_at_digits (own ∷ others) (choice ∷ choices) h =
-    choice_joined (at_digits others others) (picked own own) (at_digits others choices)
-    (picked own choice) (choice_at_digits others choices h.1) (choice_picked own choice h.0)
+    grind (arith, choice_joined, choice_picked, choice_at_digits others choices h.1)
 
 -- the place of such choices, if the first player's advance fastest
 abbrev place_of : List (List ℕ) → List (List ℕ) → ℕ
@@ -155,12 +139,7 @@ record Left (own : List ℕ) (others : List (List ℕ)) (number : ℕ) : Type 0 
 
 left : (own : List ℕ) (others : List (List ℕ)) (number : ℕ)
     → number < product (map product (own ∷ others)) → Left own others number
-left own others number less =
-    let rest = product (map product others) in
-    let parts = positive_parts (product own) rest number less in
-    let swapped : number < rest * product own =
-    subst (λ (n : ℕ). number < n) (mul_comm (product own) rest) less in
-    record { here = mod-lt number parts.0; behind = (div-lt_iff_lt-mul parts.0).1 swapped }
+left own others number less = grind arith
 
 pub numbered_choices : (counts : List (List ℕ)) (number : ℕ)
     → number < product (map product counts) → AreChoices counts (numbered counts number)
@@ -177,9 +156,7 @@ place_numbered [] number less = omega (arith, less)
 place_numbered (own ∷ others) number less =
     let p = product own in
     let parts = left own others number less in
-    let sum : number / p * p + number % p ≡ number % p + p * (number / p) =
-    (let swap : number / p * p + number % p ≡ number % p + number / p * p = omega arith in swap)
-    ∙ ap (λ (n : ℕ). number % p + n) (mul_comm (number / p) p) in
+    let sum : number / p * p + number % p ≡ number % p + p * (number / p) = grind arith in
     (λ i. place_numbered others (number / p) parts.behind i * p
     + place_at own (number % p) [] (omega (arith, parts.here, length-all_choices own)) i)
     ∙ sum ∙ mod-add-div number p
@@ -189,9 +166,5 @@ pub numbered_at_digits : (counts : List (List ℕ)) (number : ℕ) → AllPositi
     → get_or (all_choices (at_digits counts counts)) number []
     ≡ at_digits counts (numbered counts number)
 numbered_at_digits counts number positive less =
-    let choices = numbered counts number in
     let are = numbered_choices counts number less in
-    let digits = at_digits counts counts in
-    ap (λ (n : ℕ). get_or (all_choices digits) n [])
-    (sym (place_at_digits counts choices positive are ∙ place_numbered counts number less))
-    ∙ at_place digits (at_digits counts choices) (choice_at_digits counts choices are)
+    grind (arith, place_at_digits, place_numbered, at_place, choice_at_digits)

@@ -1,7 +1,6 @@
 -- The places of the digits of all players' sets, and their steps.
-use Rattle.std.proofs.Common.{◌≡◌, ℕ, zero, suc, ◌+◌, ◌*◌, ◌<◌, ◌≤◌, List, [], ◌∷◌, ◌++◌}
-use Rattle.std.proofs.Common.{length, map, get_or, refl, sym, ap, ◌∙◌, append_assoc, arith}
-use Rattle.std.proofs.Common.{length-append}
+use Rattle.std.proofs.Common.{◌≡◌, ℕ, zero, suc, ◌+◌, ◌*◌, ◌<◌, ◌≤◌, List, [], ◌∷◌, ◌++◌, length}
+use Rattle.std.proofs.Common.{map, get_or, refl, sym, ap, ◌∙◌, append_assoc, arith, length-append}
 use Rattle.std.specs.List.{AllZip}
 use Rattle.std.proofs.Math.Nat.{mul_assoc, mul_comm}
 use Rattle.std.proofs.lemmas.List.{map-append}
@@ -16,13 +15,11 @@ use Rattle.gf_form.proofs.lemmas.strategies.CountedActions.{ArePositive, product
 
 pub product_joined : (xs ys : List ℕ) → product (xs ++ ys) ≡ product xs * product ys
 product_joined [] ys = omega arith
-product_joined (x ∷ xs) ys =
-    ap (λ (n : ℕ). x * n) (product_joined xs ys) ∙ sym (mul_assoc x (product xs) (product ys))
+product_joined (x ∷ xs) ys = cc (product_joined xs ys, mul_assoc x (product xs) (product ys))
 
 pub spans_joined : (xs ys : List ℕ)
     → product (spans (xs ++ ys)) ≡ product (spans xs) * product (spans ys)
-spans_joined xs ys =
-    ap product (map-append (λ n. n + 1) xs ys) ∙ product_joined (spans xs) (spans ys)
+spans_joined xs ys = cc (map-append (λ n. n + 1) xs ys, product_joined (spans xs) (spans ys))
 
 positive_spans : (counts : List ℕ) → ArePositive (spans counts)
 positive_spans [] = tt
@@ -35,10 +32,7 @@ width_positive counts =
 pub values_at_digits : (counts : List (List ℕ))
     → product (spans (at_digits counts counts)) ≡ product (map width counts)
 values_at_digits [] = refl
-values_at_digits (own ∷ others) =
-    spans_joined (at_digits others others) (picked own own)
-    ∙ ap (λ (n : ℕ). n * width own) (values_at_digits others)
-    ∙ mul_comm (product (map width others)) (width own)
+values_at_digits (own ∷ others) = grind (arith, spans_joined, mul_comm, values_at_digits others)
 
 -- ---- a number for each set
 
@@ -61,13 +55,7 @@ as_many_at_digits [] [] h = refl
 as_many_at_digits [] (x ∷ xs) h = absurd h
 as_many_at_digits (own ∷ others) [] h = absurd h
 as_many_at_digits (own ∷ others) (x ∷ xs) h =
-    omega (
-      arith,
-      as_many_at_digits others xs h.1,
-      as_many_picked own x h.0,
-      length-append (at_digits others xs) (picked own x),
-      length-append (at_digits others others) (picked own own),
-    )
+    grind (arith, as_many_picked, length-append, as_many_at_digits others xs h.1)
 
 pub steps_have_shape : (counts : List (List ℕ)) (f : ℕ) → HasShape counts (all_steps f counts)
 steps_have_shape [] f = tt
@@ -119,8 +107,7 @@ own_steps_are (suc (suc n) ∷ counts) faster f e =
 -- the faster digits of the next player
 next_faster : (own faster : List ℕ) (f : ℕ) → f ≡ product (spans faster)
     → width own * f ≡ product (spans (picked own own ++ faster))
-next_faster own faster f e =
-    ap (λ (n : ℕ). width own * n) e ∙ sym (spans_joined (picked own own) faster)
+next_faster own faster f e = cc (spans_joined (picked own own) faster)
 
 pub all_steps_are : (counts : List (List ℕ)) (faster : List ℕ) (f : ℕ)
     → f ≡ product (spans faster) → at_digits counts (all_steps f counts) ++ steps_of faster
@@ -144,13 +131,10 @@ own_digit [] xs faster fast f j e same less some = absurd (omega (arith, less))
 own_digit (n ∷ counts) [] faster fast f j e same less some = absurd (omega (arith, same))
 own_digit (zero ∷ counts) (x ∷ xs) faster fast f zero e same less some = absurd (some refl)
 own_digit (suc zero ∷ counts) (x ∷ xs) faster fast f zero e same less some = absurd (some refl)
-own_digit (suc (suc n) ∷ counts) (x ∷ xs) faster fast f zero e same less some = record {
-  place = 0;
-  within = omega arith;
-  step_is = sym (next_faster counts faster f e);
-  actions_are = refl;
-  choice_is = refl;
-}
+own_digit (suc (suc n) ∷ counts) (x ∷ xs) faster fast f zero e same less some = grind (
+  arith,
+  next_faster,
+)
 own_digit (zero ∷ counts) (x ∷ xs) faster fast f (suc j) e same less some =
     own_digit counts xs faster fast f j e (omega (arith, same)) (omega (arith, less)) some
 own_digit (suc zero ∷ counts) (x ∷ xs) faster fast f (suc j) e same less some =
@@ -169,14 +153,7 @@ pub digit_of : (counts xs : List (List ℕ)) (faster fast : List ℕ) (f i j : �
 digit_of [] xs faster fast f i j e same less some = absurd (omega (arith, less))
 digit_of (own ∷ others) [] faster fast f i j e same less some = absurd same
 digit_of (own ∷ others) (x ∷ xs) faster fast f zero j e same less some =
-    rw (
-      append_assoc (at_digits others others) (picked own own) faster,
-      append_assoc (at_digits others xs) (picked own x) fast,
-    )
-    (slower_digits (at_digits others others) (at_digits others xs) (picked own own ++ faster)
-    (picked own x ++ fast) (get_or (steps_behind f own) j 0) (get_or own j 0) (get_or x j 0)
-    (as_many_at_digits others xs same.1)
-    (own_digit own x faster fast f j e same.0 less some))
+    grind (arith, append_assoc, slower_digits, as_many_at_digits, own_digit)
 digit_of (own ∷ others) (x ∷ xs) faster fast f (suc i) j e same less some =
     rw (
       append_assoc (at_digits others others) (picked own own) faster,

@@ -13,47 +13,33 @@ use Rattle.gf_form.proofs.lemmas.rows.DigitPlaces.{HasShape}
 -- ---- a set with a digit, and one without
 
 width_more : (n : ℕ) (later : List ℕ) → 1 < n → width (n ∷ later) ≡ (n + 1) * width later
-width_more zero later some = absurd (omega arith)
-width_more (suc zero) later some = absurd (omega arith)
-width_more (suc (suc n)) later some = refl
+width_more n later some = grind arith
 
 width_same : (n : ℕ) (later : List ℕ) → n ≤ 1 → width (n ∷ later) ≡ width later
-width_same zero later none = refl
-width_same (suc zero) later none = refl
-width_same (suc (suc n)) later none = absurd (omega arith)
+width_same n later none = grind arith
 
 steps_more : (faster n : ℕ) (later : List ℕ) → 1 < n
     → steps_behind faster (n ∷ later) ≡ (width later * faster) ∷ steps_behind faster later
-steps_more faster zero later some = absurd (omega arith)
-steps_more faster (suc zero) later some = absurd (omega arith)
-steps_more faster (suc (suc n)) later some = refl
+steps_more faster n later some = grind arith
 
 steps_same : (faster n : ℕ) (later : List ℕ) → n ≤ 1
     → steps_behind faster (n ∷ later) ≡ 0 ∷ steps_behind faster later
-steps_same faster zero later none = refl
-steps_same faster (suc zero) later none = refl
-steps_same faster (suc (suc n)) later none = absurd (omega arith)
+steps_same faster n later none = grind arith
 
 picked_more : (n x : ℕ) (counts xs : List ℕ) → 1 < n
     → picked (n ∷ counts) (x ∷ xs) ≡ x ∷ picked counts xs
-picked_more zero x counts xs some = absurd (omega arith)
-picked_more (suc zero) x counts xs some = absurd (omega arith)
-picked_more (suc (suc n)) x counts xs some = refl
+picked_more n x counts xs some = grind arith
 
 picked_same : (n x : ℕ) (counts xs : List ℕ) → n ≤ 1
     → picked (n ∷ counts) (x ∷ xs) ≡ picked counts xs
-picked_same zero x counts xs none = refl
-picked_same (suc zero) x counts xs none = refl
-picked_same (suc (suc n)) x counts xs none = absurd (omega arith)
+picked_same n x counts xs none = grind arith
 
 -- ---- what is left from a place on
 
 -- the item at this place goes first
 pub next_is : {A : Type 0} (xs : List A) (i : ℕ) (x d : A) → i < length xs → x ≡ get_or xs i d
     → drop i xs ≡ x ∷ drop (i + 1) xs
-next_is xs i x d less is =
-    drop-cons xs i d less
-    ∙ (λ j. sym is j ∷ drop (sym (add-one i) j) xs)
+next_is xs i x d less is = grind (arith, drop-cons, add-one)
 
 pub none_left : {A : Type 0} (xs : List A) (i : ℕ) → length xs ≤ i → drop i xs ≡ []
 none_left xs i past = drop_of_length-le xs past
@@ -67,21 +53,16 @@ values_more counts i n values whole less is some h =
     let later = drop (i + 1) counts in
     ap (λ (v : ℕ). width later * v) (mul_comm values (n + 1))
     ∙ sym (mul_assoc (width later) (n + 1) values)
-    ∙ ap (λ (w : ℕ). w * values) (mul_comm (width later) (n + 1) ∙ sym (width_more n later some)
-    ∙ ap width (sym (next_is counts i n 0 less is))) ∙ h
+    ∙ ap (λ (w : ℕ). w * values) (grind (arith, mul_comm, width_more, next_is)) ∙ h
 
 pub values_same : (counts : List ℕ) (i n values whole : ℕ) → i < length counts
     → n ≡ get_or counts i 0 → n ≤ 1 → width (drop i counts) * values ≡ whole
     → width (drop (i + 1) counts) * values ≡ whole
-values_same counts i n values whole less is none h =
-    ap (λ (w : ℕ). w * values) (sym (width_same n (drop (i + 1) counts) none)
-    ∙ ap width (sym (next_is counts i n 0 less is))) ∙ h
+values_same counts i n values whole less is none h = grind (arith, width_same, next_is)
 
 pub all_values : (counts : List ℕ) (i values whole : ℕ) → length counts ≤ i
     → width (drop i counts) * values ≡ whole → values ≡ whole
-all_values counts i values whole past h =
-    (let one : values ≡ 1 * values = omega arith in one)
-    ∙ ap (λ (xs : List ℕ). width xs * values) (sym (none_left counts i past)) ∙ h
+all_values counts i values whole past h = grind (arith, none_left)
 
 -- ---- steps
 
@@ -98,40 +79,18 @@ pub step_more : (counts : List ℕ) (faster i n step after : ℕ) (steps next : 
 step_more counts faster i n step after steps next less is some after_is pushed h =
     let later = drop (i + 1) counts in
     let here = next_is counts i n 0 less is in
-    let above : 0 < n + 1 = omega arith in
-    let whole : step ≡ (n + 1) * (width later * faster) =
-    h.0 ∙ ap (λ (xs : List ℕ). width xs * faster) here
-    ∙ ap (λ (w : ℕ). w * faster) (width_more n later some)
-    ∙ mul_assoc (n + 1) (width later) faster in
-    let divided : step / (n + 1) ≡ width later * faster =
-    ap (λ (s : ℕ). s / (n + 1)) whole ∙ mul-div_cancel_left (width later * faster) above in (
-      after_is ∙ divided,
-      ap (λ (xs : List ℕ). xs ++ steps_behind faster later) pushed
-          ∙ append_assoc steps (step / (n + 1) ∷ []) (steps_behind faster later)
-          ∙ (λ j. steps ++ divided j ∷ steps_behind faster later)
-          ∙ ap (λ (xs : List ℕ). steps ++ xs) (sym (steps_more faster n later some)
-          ∙ ap (steps_behind faster) (sym here)) ∙ h.1,
-    )
+    grind (arith, width_more, mul_assoc, mul-div_cancel_left, append_assoc, steps_more)
 
 pub step_same : (counts : List ℕ) (faster i n step after : ℕ) (steps next : List ℕ)
     → i < length counts → n ≡ get_or counts i 0 → n ≤ 1 → after ≡ step
     → next ≡ steps ++ 0 ∷ [] → StepsGo counts faster i step steps
     → StepsGo counts faster (i + 1) after next
 step_same counts faster i n step after steps next less is none after_is pushed h =
-    let later = drop (i + 1) counts in
-    let here = next_is counts i n 0 less is in (
-      after_is ∙ h.0 ∙ ap (λ (w : ℕ). w * faster) (ap width here ∙ width_same n later none),
-      ap (λ (xs : List ℕ). xs ++ steps_behind faster later) pushed
-          ∙ append_assoc steps (0 ∷ []) (steps_behind faster later)
-          ∙ ap (λ (xs : List ℕ). steps ++ xs) (sym (steps_same faster n later none)
-          ∙ ap (steps_behind faster) (sym here)) ∙ h.1,
-    )
+    let here = next_is counts i n 0 less is in grind (arith, width_same, append_assoc, steps_same)
 
 pub steps_done : (counts : List ℕ) (faster i step : ℕ) (steps : List ℕ) → length counts ≤ i
     → StepsGo counts faster i step steps → steps ≡ steps_behind faster counts
-steps_done counts faster i step steps past h =
-    sym (append-nil steps)
-    ∙ ap (λ (xs : List ℕ). steps ++ steps_behind faster xs) (sym (none_left counts i past)) ∙ h.1
+steps_done counts faster i step steps past h = grind (arith, append-nil, none_left)
 
 -- ---- what stands at the digits
 
@@ -140,30 +99,18 @@ pub picked_on : (counts xs : List ℕ) (i n x : ℕ) (all next whole : List ℕ)
     → next ≡ all ++ x ∷ [] → all ++ picked (drop i counts) (drop i xs) ≡ whole
     → next ++ picked (drop (i + 1) counts) (drop (i + 1) xs) ≡ whole
 picked_on counts xs i n x all next whole less same is there some pushed h =
-    let later = picked (drop (i + 1) counts) (drop (i + 1) xs) in
-    ap (λ (ys : List ℕ). ys ++ later) pushed
-    ∙ append_assoc all (x ∷ []) later
-    ∙ ap (λ (ys : List ℕ). all ++ ys)
-    (sym (picked_more n x (drop (i + 1) counts) (drop (i + 1) xs) some)
-    ∙ (λ j. picked (sym (next_is counts i n 0 less is) j)
-    (sym (next_is xs i x 0 (omega (arith, less, same)) there) j))) ∙ h
+    grind (arith, append_assoc, picked_more, next_is)
 
 pub picked_past : (counts xs : List ℕ) (i n x : ℕ) (all next whole : List ℕ)
     → i < length counts → length xs ≡ length counts → n ≡ get_or counts i 0 → x ≡ get_or xs i 0
     → n ≤ 1 → next ≡ all → all ++ picked (drop i counts) (drop i xs) ≡ whole
     → next ++ picked (drop (i + 1) counts) (drop (i + 1) xs) ≡ whole
 picked_past counts xs i n x all next whole less same is there none kept h =
-    ap (λ (ys : List ℕ). ys ++ picked (drop (i + 1) counts) (drop (i + 1) xs)) kept
-    ∙ ap (λ (ys : List ℕ). all ++ ys)
-    (sym (picked_same n x (drop (i + 1) counts) (drop (i + 1) xs) none)
-    ∙ (λ j. picked (sym (next_is counts i n 0 less is) j)
-    (sym (next_is xs i x 0 (omega (arith, less, same)) there) j))) ∙ h
+    grind (arith, picked_same, next_is)
 
 pub all_picked : (counts xs : List ℕ) (i : ℕ) (all whole : List ℕ) → length counts ≤ i
     → all ++ picked (drop i counts) (drop i xs) ≡ whole → all ≡ whole
-all_picked counts xs i all whole past h =
-    sym (append-nil all)
-    ∙ ap (λ (ys : List ℕ). all ++ picked ys (drop i xs)) (sym (none_left counts i past)) ∙ h
+all_picked counts xs i all whole past h = grind (arith, append-nil, none_left)
 
 -- ---- player by player
 
@@ -187,50 +134,31 @@ pub player_steps : (counts : List (List ℕ)) (i faster more : ℕ) (own steps :
     → all ++ all_steps faster (drop i counts) ≡ whole
     → next ++ all_steps more (drop (i + 1) counts) ≡ whole
 player_steps counts i faster more own steps all next whole less is more_is steps_are next_steps h =
-    let later = drop (i + 1) counts in
-    ap (λ (ys : List (List ℕ)). ys ++ all_steps more later) next_steps
-    ∙ append_assoc all (steps ∷ []) (all_steps more later)
-    ∙ (λ j. all ++ steps_are j ∷ all_steps (more_is j) later)
-    ∙ ap (λ (ys : List (List ℕ)). all ++ all_steps faster ys)
-    (sym (next_is counts i own [] less is)) ∙ h
+    grind (arith, append_assoc, next_is)
 
 pub player_values : (counts : List (List ℕ)) (i faster more whole : ℕ) (own : List ℕ)
     → i < length counts → own ≡ get_or counts i [] → more ≡ width own * faster
     → product (map width (drop i counts)) * faster ≡ whole
     → product (map width (drop (i + 1) counts)) * more ≡ whole
 player_values counts i faster more whole own less is more_is h =
-    let later = product (map width (drop (i + 1) counts)) in
-    ap (λ (v : ℕ). later * v) more_is
-    ∙ sym (mul_assoc later (width own) faster)
-    ∙ ap (λ (w : ℕ). w * faster) (mul_comm later (width own)
-    ∙ ap (λ (ys : List (List ℕ)). product (map width ys)) (sym (next_is counts i own [] less is)))
-    ∙ h
+    grind (arith, mul_assoc, mul_comm, next_is)
 
 pub all_player_steps : (counts : List (List ℕ)) (i faster : ℕ) (all whole : List (List ℕ))
     → length counts ≤ i → all ++ all_steps faster (drop i counts) ≡ whole → all ≡ whole
-all_player_steps counts i faster all whole past h =
-    sym (append-nil all)
-    ∙ ap (λ (ys : List (List ℕ)). all ++ all_steps faster ys) (sym (none_left counts i past)) ∙ h
+all_player_steps counts i faster all whole past h = grind (arith, append-nil, none_left)
 
 pub all_player_values : (counts : List (List ℕ)) (i faster whole : ℕ) → length counts ≤ i
     → product (map width (drop i counts)) * faster ≡ whole → faster ≡ whole
-all_player_values counts i faster whole past h =
-    (let one : faster ≡ 1 * faster = omega arith in one)
-    ∙ ap (λ (ys : List (List ℕ)). product (map width ys) * faster) (sym (none_left counts i past))
-    ∙ h
+all_player_values counts i faster whole past h = grind (arith, none_left)
 
 -- ---- the digits, from the last player to the first
 
 pub no_digits : (counts xs : List (List ℕ)) (i : ℕ) → length counts ≤ i
     → [] ≡ at_digits (drop i counts) (drop i xs)
-no_digits counts xs i past =
-    ap (λ (ys : List (List ℕ)). at_digits ys (drop i xs)) (sym (none_left counts i past))
+no_digits counts xs i past = cc (none_left counts i past)
 
 pub digits_more : (counts xs : List (List ℕ)) (i : ℕ) (own x all next : List ℕ)
     → i < length counts → i < length xs → own ≡ get_or counts i [] → x ≡ get_or xs i []
     → next ≡ all ++ picked own x → all ≡ at_digits (drop (i + 1) counts) (drop (i + 1) xs)
     → next ≡ at_digits (drop i counts) (drop i xs)
-digits_more counts xs i own x all next less inside is there pushed h =
-    pushed ∙ ap (λ (ys : List ℕ). ys ++ picked own x) h
-    ∙ (λ j. at_digits (sym (next_is counts i own [] less is) j)
-    (sym (next_is xs i x [] inside there) j))
+digits_more counts xs i own x all next less inside is there pushed h = grind (arith, next_is)

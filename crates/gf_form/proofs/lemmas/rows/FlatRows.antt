@@ -1,26 +1,21 @@
 -- Terms whose numbers stand one row after another.
 use Rattle.std.proofs.Common.{◌≡◌, ℕ, ℤ, zero, suc, ◌+◌, ◌-◌, ◌*◌, ◌<◌, ◌≤◌, ◌/◌, ◌+ℤ◌, ◌*ℤ◌, List}
-use Rattle.std.proofs.Common.{[], ◌∷◌, ◌++◌}
-use Rattle.std.proofs.Common.{Bool, true, false, pos, inl, inr, ◌⊎◌, length, get_or, take, drop}
-use Rattle.std.proofs.Common.{refl, ap, sym, subst, ◌∙◌, arith, map}
-use Rattle.std.proofs.Math.Seq.{take-length}
+use Rattle.std.proofs.Common.{[], ◌∷◌, ◌++◌, Bool, true, false, pos, inl, inr, ◌⊎◌, length, get_or}
+use Rattle.std.proofs.Common.{take, drop, refl, ap, sym, subst, ◌∙◌, arith, map}
+use Rattle.std.proofs.Math.Seq.{take-length, get_or-append_seam}
 use Rattle.std.specs.Int.{◌∣◌}
 use Rattle.std.proofs.Math.IntN.{zero-*ℤ}
-use Rattle.std.proofs.Math.Nat.{mul-div_cancel}
-use Rattle.std.proofs.Math.Seq.{get_or-append_seam}
 use Rattle.std.proofs.lemmas.Bool.{cases_lt}
-use Rattle.std.proofs.lemmas.List.{get_or_append_left, length-take-le}
+use Rattle.std.proofs.lemmas.List.{get_or_append_left, length-take-le, append_assoc, get_or_default}
+use Rattle.std.proofs.lemmas.List.{drop-append-le, drop-drop, take-append-drop, length-append}
+use Rattle.std.proofs.lemmas.List.{length-drop, map-append, take-append-le}
 use Rattle.std.proofs.lemmas.Nat.Gcd.{dvd_refl}
-use Rattle.std.proofs.lemmas.List.{append_assoc, get_or_default, drop-append-le, drop-drop}
-use Rattle.std.proofs.lemmas.List.{take-append-drop, length-append, length-drop, map-append}
-use Rattle.std.proofs.lemmas.List.{take-append-le}
 use Rattle.gf_fraction.specs.Ratio.{IsWithin}
 use Rattle.gf_fraction.proofs.AllElements.{all_both, all_parts}
 use Rattle.std.specs.List.{AllByRecursion}
 use Rattle.gf_form.specs.inner.rows.Entries.{Entry, HasNumbers, HasSum, IsScale, IsShaped, IsSumOf}
-use Rattle.gf_form.specs.inner.rows.Entries.{entries}
-use Rattle.gf_form.specs.inner.rows.Entries.{entries_of, entry_at, lowered, no_entry, no_head}
-use Rattle.gf_form.specs.inner.rows.Entries.{number_at}
+use Rattle.gf_form.specs.inner.rows.Entries.{entries, entries_of, entry_at, lowered, no_entry}
+use Rattle.gf_form.specs.inner.rows.Entries.{no_head, number_at}
 use Rattle.gf_form.specs.declared.rows.sums.Scale.{Scale}
 use Rattle.gf_form.specs.declared.rows.terms.Head.{Head}
 use Rattle.gf_form.specs.declared.rows.terms.Terms.{Terms}
@@ -32,8 +27,7 @@ past (x ∷ xs) zero h = absurd (omega (arith, h))
 past (x ∷ xs) (suc k) h = past xs k (omega (arith, h))
 
 pub none_taken : {X : Type 0} (xs : List X) → take 0 xs ≡ []
-none_taken [] = refl
-none_taken (x ∷ xs) = refl
+none_taken xs = grind arith
 
 one_row : (row : List ℤ) (p : ℕ) → length row ≡ p → take p row ≡ row
 one_row row p one_each = ap (λ (n : ℕ). take n row) (sym one_each) ∙ take-length row
@@ -42,14 +36,11 @@ pub entry_more : (p : ℕ) (hs : List Head) (ns row : List ℤ) (h : Head)
     → length ns ≡ length hs * p → length row ≡ p
     → entries_of p (hs ++ h ∷ []) (ns ++ row)
     ≡ entries_of p hs ns ++ record { head = h; row = row } ∷ []
-entry_more p [] [] row h shaped one_each =
-    ap (λ (r : List ℤ). record { head = h; row = r } ∷ []) (one_row row p one_each)
+entry_more p [] [] row h shaped one_each = cc (one_row row p one_each)
 entry_more p [] (n ∷ ns) row h shaped one_each = absurd (omega (arith, shaped))
 entry_more p (g ∷ hs) ns row h shaped one_each =
-    let le : p ≤ length ns = omega (arith, shaped) in
     let rest : length (drop p ns) ≡ length hs * p = omega (arith, shaped, length-drop p ns) in
-    (λ i. record { head = g; row = take-append-le p ns row le i }
-    ∷ entries_of p (hs ++ h ∷ []) (drop-append-le p ns row le i))
+    (grind (arith, take-append-le, drop-append-le))
     ∙ ap (λ (es : List Entry). record { head = g; row = take p ns } ∷ es)
     (entry_more p hs (drop p ns) row h rest one_each)
 
@@ -57,14 +48,9 @@ pub entry_is : (p : ℕ) (hs : List Head) (ns : List ℤ) (place : ℕ) (d : Hea
     → get_or (entries_of p hs ns) place no_entry
     ≡ record { head = get_or hs place d; row = take p (drop (place * p) ns) }
 entry_is p [] ns place d within = absurd (omega (arith, within))
-entry_is p (h ∷ hs) ns zero d within =
-    let none : 0 * p ≡ 0 = omega arith in
-    ap (λ (n : ℕ). record { head = h; row = take p (drop n ns) }) (sym none)
+entry_is p (h ∷ hs) ns zero d within = grind arith
 entry_is p (h ∷ hs) ns (suc place) d within =
-    let on : p + place * p ≡ suc place * p = omega arith in
-    entry_is p hs (drop p ns) place d (omega (arith, within))
-    ∙ ap (λ (r : List ℤ). record { head = get_or hs place d; row = take p r })
-    (drop-drop (place * p) p ns ∙ ap (λ (n : ℕ). drop n ns) on)
+    grind (arith, get_or, drop-drop, entry_is p hs (drop p ns) place d (omega (arith, within)))
 
 pub entries_count : (p : ℕ) (hs : List Head) (ns : List ℤ)
     → length (entries_of p hs ns) ≡ length hs
@@ -95,10 +81,7 @@ shaped_more p hs ns row h shaped one_each =
 
 -- a row is among the numbers
 pub row_within : (p count place : ℕ) → place < count → place * p + p ≤ count * p
-row_within p zero place within = absurd (omega (arith, within))
-row_within p (suc count) zero within = omega arith
-row_within p (suc count) (suc place) within =
-    omega (arith, row_within p count place (omega (arith, within)))
+row_within p count place within = grind arith
 
 -- what the code reads at a place
 abbrev pub head_at : Terms → ℕ → Head
@@ -106,9 +89,7 @@ head_at t place = get_or t.heads.items place no_head
 
 pub entry_head : (t : Terms) (place : ℕ) → place < length t.heads.items
     → (entry_at t place).head ≡ head_at t place
-entry_head t place within =
-    ap (λ (e : Entry). e.head)
-    (entry_is t.players t.heads.items t.numbers.items place no_head within)
+entry_head t place within = grind (arith, entry_is)
 
 -- ---- a term more
 
@@ -148,15 +129,12 @@ pub is_pushed : (to : Terms) (h : Head) (row : List ℤ) (heads : List Head) (nu
     → IsShaped to → AllByRecursion IsWithin row → length row ≡ to.players
     → heads ≡ to.heads.items ++ h ∷ [] → numbers ≡ to.numbers.items ++ row
     → Pushed to (record { head = h; row = row }) heads numbers
-is_pushed to h row heads numbers shaped all one_each heads_are numbers_are = record {
-  pushed = (λ i. entries_of to.players (heads_are i) (numbers_are i))
-      ∙ entry_more to.players to.heads.items to.numbers.items row h shaped.count one_each;
-  count = ap length numbers_are
-      ∙ shaped_more to.players to.heads.items to.numbers.items row h shaped.count one_each
-      ∙ ap (λ (hs : List Head). length hs * to.players) (sym heads_are);
-  within = subst (AllByRecursion IsWithin) (sym numbers_are)
-      (all_both IsWithin to.numbers.items row shaped.within all);
-}
+is_pushed to h row heads numbers shaped all one_each heads_are numbers_are = grind (
+  arith,
+  entry_more,
+  shaped_more,
+  all_both,
+)
 
 -- a head with lower demands, as the code makes it of another
 abbrev pub less_head : Head → ℕ → Head
@@ -165,16 +143,12 @@ less_head h less = record { demands = h.demands - less; den = h.den; size = h.si
 pub lowered_is : (from : Terms) (place less : ℕ) (h : Head) (row : List ℤ)
     → place < length from.heads.items → h ≡ head_at from place → row ≡ (entry_at from place).row
     → record { head = less_head h less; row = row } ≡ lowered less (entry_at from place)
-lowered_is from place less h row within is row_is =
-    let same : h ≡ (entry_at from place).head = is ∙ sym (entry_head from place within) in
-    λ i. record { head = less_head (same i) less; row = row_is i }
+lowered_is from place less h row within is row_is = grind (arith, entry_head)
 
 -- ---- two terms over one denominator
 
 pub itself : (n : ℕ) → 0 < n → n / n ≡ 1
-itself n above =
-    let one : 1 * n ≡ n = omega arith in
-    sym (ap (λ (k : ℕ). k / n) one) ∙ mul-div_cancel 1 above
+itself n above = grind arith
 
 pub same_scale : (a b : Head) (size : ℕ) → a.den ≡ b.den → 0 < a.den → size ≡ a.size + b.size
     → IsScale a b (record { den = a.den; size = size; first = 1; second = 1 })
@@ -182,21 +156,13 @@ same_scale a b size same above is =
     let own : a.den / a.den ≡ 1 = itself a.den above in
     let other : a.den / b.den ≡ 1 = ap (λ (n : ℕ). a.den / n) (sym same) ∙ own in
     record {
-      first = record {
-        above = above;
-        divides = dvd_refl a.den;
-        factor_is = sym own;
-      };
+      first = grind (arith, dvd_refl);
       second = record {
         above = subst (λ (n : ℕ). 0 < n) same above;
         divides = subst (λ (n : ℕ). n ∣ a.den) same (dvd_refl a.den);
         factor_is = sym other;
       };
-      size =
-          let first : a.size * (a.den / a.den) ≡ a.size * 1 = ap (λ (n : ℕ). a.size * n) own in
-          let second : b.size * (a.den / b.den) ≡ b.size * 1 =
-          ap (λ (n : ℕ). b.size * n) other in
-          omega (arith, first, second, is);
+      size = grind arith;
     }
 
 -- ---- rows of sums
@@ -217,9 +183,7 @@ module _ (first second : List ℤ) (by_first by_second : ℕ) (place : ℕ) (old
 
   more_row : (fits : Bool) (before : Adding first second by_first by_second place fits old new)
       → after ≡ old ++ (before.row ++ number ∷ [])
-  more_row fits before =
-      pushed ∙ ap (λ (ns : List ℤ). ns ++ number ∷ []) before.is
-      ∙ append_assoc old before.row (number ∷ [])
+  more_row fits before = grind (arith, append_assoc)
 
   more_length : (fits : Bool) (before : Adding first second by_first by_second place fits old new)
       → length (before.row ++ number ∷ []) ≡ place + 1
@@ -239,14 +203,8 @@ module _ (first second : List ℤ) (by_first by_second : ℕ) (place : ℕ) (old
     where
       by : fits ≡ true → (k : ℕ) → k < place + 1 → (k < place) ⊎ (place ≤ k)
           → get_or (before.row ++ number ∷ []) k (pos 0) ≡ sum_there k
-      by known k less (inl h) =
-          get_or_append_left before.row (number ∷ []) (pos 0) k (omega (arith, h, before.one_each))
-          ∙ before.sums known k h
-      by known k less (inr h) =
-          let same : k ≡ length before.row = omega (arith, h, less, before.one_each) in
-          let at : k ≡ place = omega (arith, h, less) in
-          ap (λ (n : ℕ). get_or (before.row ++ number ∷ []) n (pos 0)) same
-          ∙ get_or-append_seam before.row number [] (pos 0) ∙ is ∙ ap sum_there (sym at)
+      by known k less (inl h) = grind (arith, get_or_append_left)
+      by known k less (inr h) = grind (arith, get_or-append_seam)
 
   pub none_added : (fits : Bool) → Adding first second by_first by_second place fits old new
       → Adding first second by_first by_second (place + 1) false old after
@@ -265,22 +223,8 @@ pub all_added : (first second : List ℤ) (by_first by_second : ℕ) (place : �
     (old new : List ℤ) → length first ≡ length second → place ≡ length first
     → Adding first second by_first by_second place fits old new
     → HasNumbers first second by_first by_second fits old new
-all_added first second by_first by_second place fits old new same all done = record {
-  row = done.row;
-  is = done.is;
-  one_each = done.one_each ∙ all;
-  within = done.within;
-  sums = λ known k. by known k (cases_lt k place);
-}
-  where
-    by : fits ≡ true → (k : ℕ) → (k < place) ⊎ (place ≤ k) → get_or done.row k (pos 0)
-        ≡ get_or first k (pos 0) *ℤ pos by_first +ℤ get_or second k (pos 0) *ℤ pos by_second
-    by known k (inl h) = done.sums known k h
-    by known k (inr h) =
-        past done.row k (omega (arith, h, done.one_each))
-        ∙ sym ((λ i. past first k (omega (arith, h, all)) i *ℤ pos by_first
-        +ℤ past second k (omega (arith, h, all, same)) i *ℤ pos by_second)
-        ∙ no_sum (pos by_first) (pos by_second))
+all_added first second by_first by_second place fits old new same all done =
+    grind (arith, cases_lt, get_or, past, no_sum)
 
 -- the sum of two terms
 pub sum_made : (a b : Entry) (s : Scale) (fits : Bool) (demands : ℕ) (row : List ℤ)
@@ -295,15 +239,7 @@ sum_made a b s fits demands row is sums den known above =
     subst (λ (n : ℕ). IsSumOf a b
     (record { head = record { demands = demands; den = n; size = s.size }; row = row }))
     (sym k.1)
-    (record {
-      first = is.first.above;
-      first_divides = is.first.divides;
-      second = is.second.above;
-      second_divides = is.second.divides;
-      size = is.size;
-      numbers = λ p. sums k.0 p ∙ (λ i. number_at p a *ℤ pos (is.first.factor_is i)
-          +ℤ number_at p b *ℤ pos (is.second.factor_is i));
-    })
+    (grind arith)
 
 -- what the code reads at a place
 pub head_read : (t : Terms) (place : ℕ) (h : Head) → place < length t.heads.items
@@ -323,9 +259,5 @@ pub has_sum : (to from : Terms) (first second den size : ℕ) (own : Head) (row 
     }))
     → HasSum (entry_at from first) (entry_at from second) (entries to)
     (entries_of to.players heads numbers)
-has_sum to from first second den size own row heads numbers within is made adds = record {
-  sum = record { head = record { demands = own.demands; den = den; size = size }; row = row };
-  is = made.pushed;
-  demands = ap (λ (h : Head). h.demands) (is ∙ sym (entry_head from first within));
-  adds = adds;
-}
+has_sum to from first second den size own row heads numbers within is made adds =
+    grind (arith, entry_head)

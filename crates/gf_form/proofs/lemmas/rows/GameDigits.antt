@@ -1,8 +1,8 @@
 -- What is made from the numbers of actions are the digits of the game.
-use Rattle.std.proofs.Common.{◌≡◌, ℕ, zero, suc, ◌+◌, ◌-◌, ◌<◌, ◌≤◌, ◌^◌, Bool, true, false}
-use Rattle.std.proofs.Common.{cond, List, [], ◌∷◌, ◌++◌, Some, length, map, get_or, refl, sym}
-use Rattle.std.proofs.Common.{ap, subst, ◌∙◌, arith}
-use Rattle.std.specs.Prelude.{option_map, unwrap_or, find}
+use Rattle.std.proofs.Common.{◌≡◌, ℕ, zero, suc, ◌+◌, ◌-◌, ◌<◌, ◌≤◌, ◌^◌, Bool, true, false, cond}
+use Rattle.std.proofs.Common.{List, [], ◌∷◌, ◌++◌, Some, length, map, get_or, refl, sym, ap, subst}
+use Rattle.std.proofs.Common.{◌∙◌, arith}
+use Rattle.std.specs.Prelude.{option_map, find}
 use Rattle.std.proofs.lemmas.List.{append-nil, get_or_default, length-map}
 use Rattle.std.proofs.lemmas.Option.{none-some}
 use Rattle.std.proofs.lemmas.Slice.Zip.{AllZip-long}
@@ -18,16 +18,14 @@ use Rattle.gf_form.specs.inner.rows.GameDigits.{HasDigits, digit_actions, digit_
 use Rattle.gf_form.specs.inner.rows.Shares.{AreDigits, IsDigitOf}
 use Rattle.gf_form.specs.Strategies.{action_counts, all_choices, choice_at, choices_by}
 use Rattle.gf_form.specs.Strategies.{full_profiles, players_of, strategies, strategies_at}
-use Rattle.gf_form.specs.Strategies.{strategy_at}
 use Rattle.gf_form.specs.declared.rows.digits.Digits.{Digits}
 use Rattle.gf_form.proofs.lemmas.strategies.Choices.{IsChoice, length-all_choices}
 use Rattle.gf_form.proofs.lemmas.strategies.Chosen.{among_his, have_actions, profile_strategies}
 use Rattle.gf_form.proofs.lemmas.strategies.CountedActions.{actions_positive, of_player}
 use Rattle.gf_form.proofs.lemmas.strategies.CountedActions.{strategy_counts}
 use Rattle.gf_form.proofs.lemmas.rows.DigitChoices.{AllPositive, AreChoices, choice_at_number}
-use Rattle.gf_form.proofs.lemmas.rows.DigitChoices.{have_shape}
-use Rattle.gf_form.proofs.lemmas.rows.DigitChoices.{numbered_at_digits, numbered_choices}
-use Rattle.gf_form.proofs.lemmas.rows.DigitChoices.{product_at_digits}
+use Rattle.gf_form.proofs.lemmas.rows.DigitChoices.{have_shape, numbered_at_digits}
+use Rattle.gf_form.proofs.lemmas.rows.DigitChoices.{numbered_choices, product_at_digits}
 use Rattle.gf_form.proofs.lemmas.rows.DigitPlaces.{all_steps_are, alone, digit_of, values_at_digits}
 use Rattle.gf_form.proofs.lemmas.strategies.KnownSets.{set_is}
 use Rattle.gf_form.proofs.lemmas.strategies.Lookups.{strategy_before}
@@ -51,31 +49,20 @@ among (s ∷ ss) key set is = by (same_set s.key key) refl (among ss key set) is
     here : same_set s.key key ≡ true → (xs : List ℕ)
         → choice_at (map (λ s. s.key) (s ∷ ss)) xs key ≡ get_or xs 0 0
     here same [] = refl
-    here same (x ∷ xs) =
-        ap (λ b. cond b x
-        (choice_at (map (λ (s : Described SetKey InformationSet). s.key) ss) xs key))
-        same
+    here same (x ∷ xs) = cc
 
     behind : same_set s.key key ≡ false → (place : ℕ) → ((xs : List ℕ)
         → choice_at (map (λ s. s.key) ss) xs key ≡ get_or xs place 0) → (xs : List ℕ)
         → choice_at (map (λ s. s.key) (s ∷ ss)) xs key ≡ get_or xs (suc place) 0
     behind other place h [] = refl
-    behind other place h (x ∷ xs) =
-        ap (λ b. cond b x
-        (choice_at (map (λ (s : Described SetKey InformationSet). s.key) ss) xs key))
-        other ∙ h xs
+    behind other place h (x ∷ xs) = cc (h xs)
 
     by : (b : Bool) → same_set s.key key ≡ b
         → (description_at same_set ss key ≡ Some set → IsAmong ss key set)
         → option_map (λ (s : Described SetKey InformationSet). s.description)
         (cond b (Some s) (find (λ s. same_set s.key key) ss)) ≡ Some set
         → IsAmong (s ∷ ss) key set
-    by true same others found = record {
-      place = 0;
-      within = omega arith;
-      count = ap (λ o. length (unwrap_or o s.description).actions) found;
-      choice = here same;
-    }
+    by true same others found = grind arith
     by false other others found =
         let later = others found in
         record {
@@ -99,13 +86,7 @@ choice_bounds (n ∷ counts) (a ∷ choice) h (suc place) less =
 same_digit : (actions more choices others : List ℕ) (step by count many choice taken : ℕ)
     → actions ≡ more → choices ≡ others → step ≡ by → count ≡ many → choice ≡ taken
     → IsDigitOf actions choices step count choice → IsDigitOf more others by many taken
-same_digit actions more choices others step by count many choice taken a c s n t d = record {
-  place = d.place;
-  within = subst (λ (xs : List ℕ). d.place < length xs) a d.within;
-  step_is = ap (λ (xs : List ℕ). get_or (steps_of xs) d.place 0) (sym a) ∙ d.step_is ∙ s;
-  actions_are = ap (λ (xs : List ℕ). get_or xs d.place 0) (sym a) ∙ d.actions_are ∙ n;
-  choice_is = ap (λ (xs : List ℕ). get_or xs d.place 0) (sym c) ∙ d.choice_is ∙ t;
-}
+same_digit actions more choices others step by count many choice taken a c s n t d = grind arith
 
 -- ---- the game
 
@@ -141,41 +122,17 @@ module _ (g : Game) (game : IsGame g) where
       λ i. sym (length-all_choices (action_counts g player)) i ∷ products_for players i
 
   as_many_choices : product (map product counted) ≡ length (full_profiles g)
-  as_many_choices =
-      ap product (products_for (players_of g)) ∙ sym (length-profiles (strategy_counts g))
+  as_many_choices = cc (products_for (players_of g), length-profiles (strategy_counts g))
 
   his : (key : SetKey) (set : InformationSet) → set_at g key ≡ Some set → 0 < key.player
       → IsHis g counted key set
   his key set is above =
       let known = set_is g game key set is in
-      let player = known.player in
       let here = among (player_sets g key.player) key set (among_his g key ∙ is) in
-      let next : key.player - 1 + 1 ≡ key.player = omega arith in
-      let own : get_or counted (key.player - 1) [] ≡ action_counts g key.player =
-      of_player g (action_counts g) (key.player - 1) [] (omega (arith, player, above))
-      ∙ ap (action_counts g) next in
-      record {
-        place = here.place;
-        within = omega (
-          arith,
-          here.within,
-          ap length own,
-          length-map (player_sets g key.player) (λ s. length s.description.actions),
-        );
-        count = ap (λ (xs : List ℕ). get_or xs here.place 0) own ∙ here.count;
-        said = λ all. ap (λ (xs : List ℕ). get_or xs here.place 0)
-            (sym (strategy_before all key.player above))
-            ∙ sym (here.choice (strategy_at all key.player));
-        some_action = known.some_action;
-      }
+      grind (arith, of_player, length-map, strategy_before)
 
   within : (d : Digits) → AreMade counted d → product (spans (digit_actions d)) < 2 ^ 64
-  within d made = omega (
-    arith,
-    made.values,
-    values_at_digits counted,
-    ap (λ (counts : List ℕ). product (spans counts)) made.digit_actions_are,
-  )
+  within d made = grind (arith, values_at_digits)
 
   module _ (d : Digits) (made : AreMade counted d) (number : ℕ)
       (less : number < length (full_profiles g)) where
@@ -186,25 +143,16 @@ module _ (g : Game) (game : IsGame g) where
     below = omega (arith, less, as_many_choices)
 
     numbered_is : numbered counted number ≡ profile
-    numbered_is = numbered_strategies g (players_of g) number
-        (omega (arith, below, ap product (products_for (players_of g))))
+    numbered_is = grind (arith, numbered_strategies, below, products_for)
 
     are : AreChoices counted profile
     are = subst (AreChoices counted) numbered_is (numbered_choices counted number below)
 
     choices_are : get_or (all_choices (digit_actions d)) number [] ≡ at_digits counted profile
-    choices_are =
-        ap (λ (counts : List ℕ). get_or (all_choices counts) number []) made.digit_actions_are
-        ∙ numbered_at_digits counted number (positive_for (players_of g)) below
-        ∙ ap (at_digits counted) numbered_is
+    choices_are = grind (arith, numbered_at_digits, positive_for, below, numbered_is)
 
     choice : IsChoice (digit_actions d) (get_or (all_choices (digit_actions d)) number [])
-    choice = choice_at_number (digit_actions d) number (omega (
-      arith,
-      below,
-      ap product made.digit_actions_are,
-      product_at_digits counted (positive_for (players_of g)),
-    ))
+    choice = grind (arith, choice_at_number, below, product_at_digits, positive_for)
 
     digits_are : AreDigits g (choices_by g (map (λ own. own.items) d.steps.items))
         (choices_by g profile) (digit_actions d)
@@ -215,8 +163,7 @@ module _ (g : Game) (game : IsGame g) where
           (get_or (all_choices (digit_actions d)) number []) (digit_actions d) choice);
       some = λ place within. (choice_bounds (digit_actions d)
           (get_or (all_choices (digit_actions d)) number []) choice place within).0;
-      valid = λ place within. (choice_bounds (digit_actions d)
-          (get_or (all_choices (digit_actions d)) number []) choice place within).1;
+      valid = grind (arith, choice_bounds, choice);
       chosen = λ key set is personal. have_actions g game profile
           (profile_strategies g (get_or (full_profiles g) number []) (
             number,
@@ -227,8 +174,7 @@ module _ (g : Game) (game : IsGame g) where
       alone = λ key set is personal none.
           let h = his key set is (omega (arith, personal)) in
           let few = alone counted 1 (key.player - 1) h.place (omega arith)
-          (ap (λ (all : List (List ℕ)). get_or (get_or all (key.player - 1) []) h.place 0)
-          (sym made.steps) ∙ h.said (map (λ own. own.items) d.steps.items) ∙ none) in
+          (cc (h.said (map (λ own. own.items) d.steps.items))) in
           omega (arith, few, h.count, h.some_action);
       several = λ key set is personal some.
           let h = his key set is (omega (arith, personal)) in
@@ -243,8 +189,7 @@ module _ (g : Game) (game : IsGame g) where
           (append-nil (at_digits counted counted) ∙ sym made.digit_actions_are)
           (append-nil (at_digits counted profile) ∙ sym choices_are) step h.count
           (h.said profile)
-          (digit_of counted profile [] [] 1 (key.player - 1) h.place refl
-          (have_shape counted profile are) h.within (λ none. some (sym step ∙ none)));
+          (grind (arith, digit_of, have_shape, are));
     }
 
   pub has_digits : (d : Digits) → AreMade counted d → HasDigits g d
@@ -254,7 +199,6 @@ module _ (g : Game) (game : IsGame g) where
         ∙ all_steps_are counted [] 1 refl
         ∙ ap steps_of (append-nil (at_digits counted counted) ∙ sym made.digit_actions_are);
     within = within d made;
-    as_many = ap product made.digit_actions_are
-        ∙ product_at_digits counted (positive_for (players_of g)) ∙ as_many_choices;
+    as_many = grind (arith, product_at_digits, positive_for, as_many_choices);
     choices = λ number less. digits_are d made number less;
   }

@@ -1,6 +1,6 @@
 -- The rows of a game's profiles, by its terms.
-use Rattle.std.proofs.Common.{◌≡◌, ℕ, ℤ, ◌-◌, ◌<◌, List, [], arith, get_or, length, map, subst}
-use Rattle.gf_fraction.specs.Ratio.{HasValue, Ratio}
+use Rattle.std.proofs.Common.{◌≡◌, ℕ, ◌-◌, ◌<◌, List, [], arith, get_or, length, map}
+use Rattle.gf_fraction.specs.Ratio.{Ratio}
 use Rattle.gf_tree.specs.Game.{Game, IsGame}
 use Rattle.gf_tree.specs.Spellable.{IsSpellable}
 use Rattle.gf_form.specs.inner.rows.Demands.{steps_of}
@@ -34,27 +34,11 @@ module _ (g : Game) (game : IsGame g) (spellable : IsSpellable g) (rows : List (
       let v = paid_value g game spellable rows paid
       (choices_by g (map (λ own. own.items) d.steps.items))
       (choices_by g (strategies_at g (get_or (full_profiles g) number []))) actions choices
-      (digits.choices number below) k den (record {
-        den_above_zero = above;
-        den_within = within;
-        exact = h.exact;
-        within = let most = h.bounds in omega (arith, most, small);
-      }) in record {
-        payoff = v.0;
-        fraction = v.2;
-        is_value = v.1;
-        over = subst (λ (z : ℤ). HasValue v.0 z den) h.sums v.3;
-      }
+      (digits.choices number below) k den (grind arith) in grind arith
 
   pub settle_all : (i : ℕ) → i < length numbers
       → SettlesAt g (digit_actions d) terms 0 (get_or numbers i 0)
   settle_all i less =
       let number = get_or numbers i 0 in
       let below = all_at (λ number. number < length (full_profiles g)) numbers i 0 full less in
-      let same : number ≡ number - 0 = omega arith in record {
-        from = omega arith;
-        to = omega (arith, below, digits.as_many);
-        settles = subst (λ (n : ℕ). Settles g number (steps_of (digit_actions d))
-            (get_or (all_choices (digit_actions d)) n []) (entries terms)) same
-            (settled number below);
-      }
+      let same : number ≡ number - 0 = omega arith in grind (arith, settled)

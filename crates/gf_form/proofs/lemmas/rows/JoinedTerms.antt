@@ -1,19 +1,18 @@
 -- Terms, when the last two become their sum.
-use Rattle.std.proofs.Common.{◌≡◌, ℕ, ℤ, zero, suc, ◌+◌, ◌-◌, ◌*◌, List, [], ◌∷◌, ◌++◌}
-use Rattle.std.proofs.Common.{ap, arith, drop, get_or, length, refl, subst, sym, take, ◌∙◌}
+use Rattle.std.proofs.Common.{◌≡◌, ℕ, ℤ, zero, suc, ◌+◌, ◌-◌, ◌*◌, List, [], ◌∷◌, ◌++◌, ap, arith}
+use Rattle.std.proofs.Common.{drop, get_or, length, refl, subst, sym, take, ◌∙◌}
 use Rattle.std.proofs.lemmas.List.{drop-take, get_or-take, get_or_default, length-take}
 use Rattle.std.proofs.lemmas.List.Sorted.{IsNonDecreasingBy-take}
 use Rattle.gf_tree.specs.Game.{Game}
 use Rattle.gf_form.specs.inner.rows.Entries.{AreOrdered, EndsBelow, Entry, HasSum, entries}
-use Rattle.gf_form.specs.inner.rows.Entries.{entries_of}
-use Rattle.gf_form.specs.inner.rows.Entries.{entry_at, lowered, no_entry, no_head}
+use Rattle.gf_form.specs.inner.rows.Entries.{entries_of, entry_at, lowered, no_head}
 use Rattle.gf_form.specs.inner.rows.ListedNodes.{AreTermsOf}
 use Rattle.gf_form.specs.declared.rows.paths.Reached.{Reached}
 use Rattle.gf_form.specs.declared.rows.terms.Head.{Head}
 use Rattle.gf_form.specs.declared.rows.terms.Terms.{Terms}
 use Rattle.gf_form.proofs.lemmas.rows.FlatRows.{entries_count, entry_head, head_at, heads_more}
 use Rattle.gf_form.proofs.lemmas.rows.ListedEntries.{one_term_less}
-use Rattle.gf_form.proofs.lemmas.rows.Merges.{below_more, lowered_none, ordered_more}
+use Rattle.gf_form.proofs.lemmas.rows.Merges.{below_more, ordered_more}
 
 -- ---- the first ones of a list
 
@@ -33,8 +32,7 @@ entries_cut p [] ns (suc n) = refl
 entries_cut p (h ∷ hs) ns (suc n) =
     let e : suc n * p ≡ p + n * p = omega arith in
     ap (λ (k : ℕ). entries_of p (h ∷ take n hs) (take k ns)) e
-    ∙ (λ i. record { head = h; row = take_less p (n * p) ns i }
-    ∷ entries_of p (take n hs) (drop-take p (n * p) ns i))
+    ∙ (grind (arith, take_less, drop-take))
     ∙ ap (λ (es : List Entry). record { head = h; row = take p ns } ∷ es)
     (entries_cut p hs (drop p ns) n)
 
@@ -44,11 +42,7 @@ last_two [] n d two = absurd (omega (arith, two))
 last_two (x ∷ []) n d two = absurd (omega (arith, two))
 last_two (x ∷ y ∷ []) zero d two = refl
 last_two (x ∷ y ∷ z ∷ xs) zero d two = absurd (omega (arith, two))
-last_two (x ∷ y ∷ xs) (suc n) d two =
-    let e : suc n + 1 ≡ suc (n + 1) = omega arith in
-    ap (λ (more : List _). x ∷ more) (last_two (y ∷ xs) n d (omega (arith, two)))
-    ∙ ap (λ (k : ℕ). x ∷ take n (y ∷ xs) ++ get_or (y ∷ xs) n d ∷ get_or (x ∷ y ∷ xs) k d ∷ [])
-    (sym e)
+last_two (x ∷ y ∷ xs) (suc n) d two = grind (arith, last_two (y ∷ xs) n d (omega (arith, two)))
 
 -- ---- the sum of the last two
 
@@ -68,21 +62,14 @@ module _ (old spare sums after : Terms) (n last : ℕ) (two : length old.heads.i
     (is : entries after ≡ entries_of old.players (take n old.heads.items)
     (take (n * old.players) old.numbers.items) ++ lowered 0 (entry_at sums 0) ∷ []) where
   sum_is : lowered 0 (entry_at sums 0) ≡ has.sum
-  sum_is =
-      lowered_none (entry_at sums 0)
-      ∙ ap (λ (es : List Entry). get_or es 0 no_entry) (has.is
-      ∙ ap (λ (hs : List Head). entries_of spare.players hs spare.numbers.items
-      ++ has.sum ∷ []) none)
+  sum_is = grind arith
 
   all_are : entries after ≡ take n (entries old) ++ has.sum ∷ []
   all_are =
       is ∙ (λ i. entries_cut old.players old.heads.items old.numbers.items n i ++ sum_is i ∷ [])
 
   heads_are : after.heads.items ≡ take n old.heads.items ++ has.sum.head ∷ []
-  heads_are =
-      heads_more after old.players (take n old.heads.items)
-      (take (n * old.players) old.numbers.items) (lowered 0 (entry_at sums 0)) is
-      ∙ ap (λ (e : Entry). take n old.heads.items ++ e.head ∷ []) sum_is
+  heads_are = grind (arith, heads_more, sum_is)
 
   first : has.sum.head.demands ≡ (head_at old n).demands
   first = has.demands ∙ ap (λ (h : Head). h.demands) (entry_head old n (omega (arith, two)))
@@ -93,14 +80,9 @@ module _ (old spare sums after : Terms) (n last : ℕ) (two : length old.heads.i
       subst (AreTermsOf g players nodes) (sym all_are)
       (one_term_less g players nodes (take n (entries old)) (entry_at old n)
       (entry_at old last) has.sum has.demands
-      (first ∙ same
-      ∙ sym (ap (λ (h : Head). h.demands) (entry_head old last (omega (arith, two, next)))))
+      (grind (arith, first, entry_head))
       has.adds
-      (subst (AreTermsOf g players nodes)
-      (last_two (entries old) n no_entry
-      (entries_count old.players old.heads.items old.numbers.items ∙ two)
-      ∙ ap (λ (k : ℕ). take n (entries old) ++ entry_at old n ∷ entry_at old k ∷ []) (sym next))
-      before))
+      (grind (arith, last_two, entries_count)))
 
   joined_ordered : AreOrdered old → AreOrdered after
   joined_ordered sorted =
@@ -115,9 +97,7 @@ module _ (old spare sums after : Terms) (n last : ℕ) (two : length old.heads.i
           (ap (λ (k : ℕ). get_or (take n old.heads.items) (k - 1) d) count
           ∙ get_or-take n old.heads.items (n - 1) d (omega (arith, some, count))) in
           let up = sorted (n - 1) n no_head (omega arith) (omega (arith, two)) in
-          let other : get_or old.heads.items (n - 1) d ≡ get_or old.heads.items (n - 1) no_head =
-          get_or_default old.heads.items (n - 1) d no_head (omega (arith, two)) in
-          omega (arith, there, ap (λ (h : Head). h.demands) other, up, first)
+          grind (arith, get_or_default, first)
 
   joined_last : (demands : ℕ) → EndsBelow old.heads.items demands
       → EndsBelow after.heads.items demands
@@ -125,8 +105,7 @@ module _ (old spare sums after : Terms) (n last : ℕ) (two : length old.heads.i
       let least = ends no_head (omega (arith, two)) in
       let place : length old.heads.items - 1 ≡ last = omega (arith, two, next) in
       let there : (get_or old.heads.items (length old.heads.items - 1) no_head).demands
-      ≡ (head_at old last).demands =
-      ap (λ (k : ℕ). (get_or old.heads.items k no_head).demands) place in
+      ≡ (head_at old last).demands = cc in
       below_more (take n old.heads.items) after.heads.items has.sum.head demands heads_are
       (omega (arith, first, same, there, least))
 

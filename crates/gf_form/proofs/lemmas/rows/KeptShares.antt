@@ -1,28 +1,22 @@
 -- The nodes that pay somebody something have all shares.
-use Rattle.std.proofs.Common.{◌≡◌, ℕ, suc, ◌+◌, ◌*◌, Bool, true, false, List, [], ◌∷◌}
-use Rattle.std.proofs.Common.{length, refl, sym, ap, ◌∙◌, subst, arith, Some}
-use Rattle.std.specs.Prelude.{ℤ, pos, ◌+ℤ◌, ◌*ℤ◌, ◌/◌, unsigned_abs, nat_lt, if◌then◌else◌}
+use Rattle.std.proofs.Common.{◌≡◌, ℕ, suc, Bool, true, false, List, [], ◌∷◌, length, refl, arith}
+use Rattle.std.proofs.Common.{Some}
+use Rattle.std.specs.Prelude.{ℤ, pos, nat_lt, if◌then◌else◌}
 use Rattle.std.specs.List.{AllByRecursion, filter}
-use Rattle.std.proofs.Math.IntN.{*ℤ-zero, zero-*ℤ, +ℤ_idl}
-use Rattle.std.proofs.lemmas.Bool.{ltb-false}
 use Rattle.gf_fraction.specs.Ratio.{HasValue, IsFraction, Ratio}
 use Rattle.gf_fraction.specs.Rational.{zero_ratio}
 use Rattle.gf_tree.specs.Description.{SetKey}
 use Rattle.gf_tree.specs.Game.{Game, IsGame}
 use Rattle.gf_tree.specs.Spellable.{IsSpellable}
-use Rattle.gf_form.specs.inner.rows.Demands.{meets, steps_of}
+use Rattle.gf_form.specs.inner.rows.Demands.{steps_of}
 use Rattle.gf_form.specs.inner.rows.KeptNodes.{is_paid, paid_reached}
 use Rattle.gf_form.specs.inner.rows.ReachedNodes.{reached, root_path}
 use Rattle.gf_form.specs.inner.values.Rows.{ArePaid, at_place, row_at}
-use Rattle.gf_form.specs.inner.rows.Shares.{AreDigits, FitsAt, IsExactIfMet, met_bounds, over}
-use Rattle.gf_form.specs.inner.rows.Shares.{pay_at, scale}
+use Rattle.gf_form.specs.inner.rows.Shares.{AreDigits, FitsAt, IsExactIfMet, met_bounds, pay_at}
 use Rattle.gf_form.specs.inner.rows.Shares.{share, share_bound, sum_of_shares}
 use Rattle.gf_form.specs.inner.values.Values.{value}
 use Rattle.gf_form.specs.declared.rows.paths.Reached.{Reached}
 use Rattle.gf_form.proofs.lemmas.rows.ReachedValues.{reached_value}
-
-times_zero : (n : ℕ) → n * 0 ≡ 0
-times_zero n = omega arith
 
 unpaid : (b : Bool) (z : ℤ) → z ≡ pos 0 → (if b then z else pos 0) ≡ pos 0
 unpaid true z nothing = nothing
@@ -35,104 +29,44 @@ unbound false n nothing = refl
 empty_row : (row : List Ratio) (k : ℕ) → nat_lt 0 (length row) ≡ false
     → at_place row k ≡ zero_ratio
 empty_row [] k h = refl
-empty_row (x ∷ row) k h =
-    let none = ltb-false 0 (length (x ∷ row)) h in absurd (omega (arith, none))
+empty_row (x ∷ row) k h = grind arith
 
 module _ (g : Game) (den : ℕ) (rows : List (List Ratio)) (are : ArePaid g rows) where
   nothing_paid : (r : Reached) → is_paid rows r ≡ false → (k : ℕ) → pay_at g (suc k) r ≡ zero_ratio
-  nothing_paid r none k =
-      sym (are.paid_is r.outcome k) ∙ empty_row (row_at rows r.outcome) k none
+  nothing_paid r none k = cc (are.paid_is r.outcome k, empty_row (row_at rows r.outcome) k none)
 
   no_share : (r : Reached) (k : ℕ) → pay_at g (suc k) r ≡ zero_ratio
       → share g (suc k) den r ≡ pos 0
-  no_share r k nothing =
-      ap (λ (pay : Ratio). pos r.path.weight *ℤ over (scale den r) pay) nothing
-      ∙ ap (λ (z : ℤ). pos r.path.weight *ℤ z) (zero-*ℤ (pos (scale den r / 1)))
-      ∙ *ℤ-zero (pos r.path.weight)
+  no_share r k nothing = grind arith
 
   no_bound : (r : Reached) (k : ℕ) → pay_at g (suc k) r ≡ zero_ratio
       → share_bound g (suc k) den r ≡ 0
-  no_bound r k nothing =
-      ap (λ (pay : Ratio). r.path.bound * unsigned_abs (over (scale den r) pay)) nothing
-      ∙ ap (λ (z : ℤ). r.path.bound * unsigned_abs z) (zero-*ℤ (pos (scale den r / 1)))
-      ∙ times_zero r.path.bound
-
-  abbrev shares : ℕ → List ℕ → List ℕ → List Reached → ℤ
-  shares k steps choices rs = sum_of_shares g (suc k) den steps choices rs
-
-  abbrev bounds : ℕ → List ℕ → List ℕ → List Reached → ℕ
-  bounds k steps choices rs = met_bounds g (suc k) den steps choices rs
+  no_bound r k nothing = grind arith
 
   kept_shares : (k : ℕ) (steps choices : List ℕ) (rs : List Reached)
       → sum_of_shares g (suc k) den steps choices (filter (is_paid rows) rs)
       ≡ sum_of_shares g (suc k) den steps choices rs
   kept_shares k steps choices [] = refl
   kept_shares k steps choices (r ∷ rs) =
-      at (is_paid rows r) refl (kept_shares k steps choices rs)
-    where
-      at : (b : Bool) → is_paid rows r ≡ b
-          → shares k steps choices (filter (is_paid rows) rs) ≡ shares k steps choices rs
-          → shares k steps choices
-          (if b then r ∷ filter (is_paid rows) rs else filter (is_paid rows) rs)
-          ≡ shares k steps choices (r ∷ rs)
-      at true e same =
-          ap (λ (z : ℤ). (if meets steps choices r.path.demands then share g (suc k) den r
-          else pos 0) +ℤ z) same
-      at false e same =
-          same ∙ sym (+ℤ_idl (shares k steps choices rs))
-          ∙ ap (λ (z : ℤ). z +ℤ shares k steps choices rs)
-          (sym (unpaid (meets steps choices r.path.demands) (share g (suc k) den r)
-          (no_share r k (nothing_paid r e k))))
+      grind (arith, unpaid, no_share, nothing_paid, kept_shares k steps choices rs)
 
   kept_bounds : (k : ℕ) (steps choices : List ℕ) (rs : List Reached)
       → met_bounds g (suc k) den steps choices (filter (is_paid rows) rs)
       ≡ met_bounds g (suc k) den steps choices rs
   kept_bounds k steps choices [] = refl
   kept_bounds k steps choices (r ∷ rs) =
-      at (is_paid rows r) refl (kept_bounds k steps choices rs)
-    where
-      at : (b : Bool) → is_paid rows r ≡ b
-          → bounds k steps choices (filter (is_paid rows) rs) ≡ bounds k steps choices rs
-          → bounds k steps choices
-          (if b then r ∷ filter (is_paid rows) rs else filter (is_paid rows) rs)
-          ≡ bounds k steps choices (r ∷ rs)
-      at true e same =
-          ap (λ (n : ℕ). (if meets steps choices r.path.demands then share_bound g (suc k) den r
-          else 0) + n) same
-      at false e same =
-          omega (
-            arith,
-            same,
-            unbound (meets steps choices r.path.demands) (share_bound g (suc k) den r)
-                (no_bound r k (nothing_paid r e k)),
-          )
+      grind (arith, unbound, no_bound, nothing_paid, kept_bounds k steps choices rs)
 
   kept_exact : (k : ℕ) (steps choices : List ℕ) (rs : List Reached)
       → AllByRecursion (IsExactIfMet g (suc k) den steps choices) (filter (is_paid rows) rs)
       → AllByRecursion (IsExactIfMet g (suc k) den steps choices) rs
   kept_exact k steps choices [] h = h
-  kept_exact k steps choices (r ∷ rs) h =
-      at (is_paid rows r) refl h (kept_exact k steps choices rs)
-    where
-      at : (b : Bool) → is_paid rows r ≡ b
-          → AllByRecursion (IsExactIfMet g (suc k) den steps choices)
-          (if b then r ∷ filter (is_paid rows) rs else filter (is_paid rows) rs)
-          → (AllByRecursion (IsExactIfMet g (suc k) den steps choices) (filter (is_paid rows) rs)
-          → AllByRecursion (IsExactIfMet g (suc k) den steps choices) rs)
-          → AllByRecursion (IsExactIfMet g (suc k) den steps choices) (r ∷ rs)
-      at true e exact rest = (exact.0, rest exact.1)
-      at false e exact rest =
-          (λ met pays. absurd (pays (nothing_paid r e k)), rest exact)
+  kept_exact k steps choices (r ∷ rs) h = grind (arith, nothing_paid, kept_exact k steps choices rs)
 
   pub kept_fits : (k : ℕ) (steps choices : List ℕ) (rs : List Reached)
       → FitsAt g (suc k) den steps choices (filter (is_paid rows) rs)
       → FitsAt g (suc k) den steps choices rs
-  kept_fits k steps choices rs fits = record {
-    den_above_zero = fits.den_above_zero;
-    den_within = fits.den_within;
-    exact = kept_exact k steps choices rs fits.exact;
-    within = omega (arith, fits.within, kept_bounds k steps choices rs);
-  }
+  kept_fits k steps choices rs fits = grind (arith, kept_exact, kept_bounds)
 
 -- The value of the game for a player, if over the denominator no share has a remainder of the nodes
 -- which pay somebody something and which the choices reach.
@@ -146,10 +80,4 @@ pub paid_value : (g : Game) → IsGame g → IsSpellable g → (rows : List (Lis
 paid_value g game spellable rows are steps choose actions choices digits k den fits =
     let all = reached g steps root_path g.tree in
     let v = reached_value g game spellable steps choose actions choices digits (suc k) den
-    (kept_fits g den rows are k (steps_of actions) choices all fits) in (
-      v.0,
-      v.1,
-      v.2,
-      subst (λ (z : ℤ). HasValue v.0 z den)
-          (sym (kept_shares g den rows are k (steps_of actions) choices all)) v.3,
-    )
+    (kept_fits g den rows are k (steps_of actions) choices all fits) in grind (arith, kept_shares)

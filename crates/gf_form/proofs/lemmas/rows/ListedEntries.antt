@@ -1,11 +1,9 @@
 -- The terms of nodes say what the nodes add.
-use Rattle.std.proofs.Common.{◌≡◌, ℕ, ℤ, pos, suc, ◌+◌, ◌*◌, ◌/◌, ◌<◌, ◌≤◌, ◌*ℤ◌}
-use Rattle.std.proofs.Common.{Bool, true, false, List, [], ◌∷◌, ◌++◌, refl, ap, sym, subst, ◌∙◌}
-use Rattle.std.proofs.Common.{arith}
-use Rattle.std.specs.Prelude.{if◌then◌else◌, unsigned_abs}
+use Rattle.std.proofs.Common.{◌≡◌, ℕ, ℤ, pos, suc, ◌+◌, ◌*◌, ◌/◌, ◌<◌, ◌≤◌, ◌*ℤ◌, Bool, true, List}
+use Rattle.std.proofs.Common.{[], ◌∷◌, ◌++◌, ap, sym, subst, ◌∙◌, arith, get_or, length, take}
+use Rattle.std.specs.Prelude.{if◌then◌else◌}
 use Rattle.std.specs.Int.{◌∣◌}
-use Rattle.std.proofs.Math.Nat.{dvd-mul_right, mul-le-mul_right, mul-div_cancel}
-use Rattle.std.proofs.Math.Nat.{pos_of_dvd_of_pos}
+use Rattle.std.proofs.Math.Nat.{dvd-mul_right, mul-le-mul_right, mul-div_cancel, pos_of_dvd_of_pos}
 use Rattle.std.proofs.lemmas.Int.{ints, unsigned_abs-mul}
 use Rattle.std.proofs.lemmas.Nat.Gcd.{dvd_trans}
 use Rattle.gf_fraction.proofs.AllElements.{all_both, all_parts}
@@ -13,13 +11,12 @@ use Rattle.gf_fraction.proofs.Integers.{*ℤ_assoc}
 use Rattle.gf_fraction.specs.Ratio.{Ratio}
 use Rattle.gf_tree.specs.Game.{Game}
 use Rattle.gf_form.specs.inner.rows.Demands.{meets}
-use Rattle.gf_form.specs.inner.rows.Entries.{Entry, IsExactAt, IsSumOf, number_at}
+use Rattle.gf_form.specs.inner.rows.Entries.{Entry, IsExactAt, IsSumOf, number_at, AreOrdered}
+use Rattle.gf_form.specs.inner.rows.Entries.{EndsBelow, IsShaped, entries}
 use Rattle.gf_form.specs.inner.rows.ListedNodes.{AreTermsOf, HasShare, IsTermMore, IsTermOf}
-use Rattle.gf_form.specs.inner.rows.Entries.{AreOrdered, EndsBelow, IsShaped, entries}
 use Rattle.gf_form.specs.inner.values.Rows.{ArePaid}
 use Rattle.gf_form.specs.declared.rows.terms.Terms.{Terms}
 use Rattle.gf_form.proofs.lemmas.rows.Merges.{below_more, ordered_more}
-use Rattle.std.proofs.Common.{get_or, length, take}
 use Rattle.std.specs.List.Sorted.{IsNonDecreasingBy}
 use Rattle.std.proofs.lemmas.List.{get_or_default, take_more}
 use Rattle.gf_form.specs.inner.rows.Shares.{IsExact, IsExactIfMet, over, pay_at, scale, share}
@@ -49,10 +46,7 @@ module _ (d m den : ℕ) (above : 0 < m) (first : d ∣ m) (second : m ∣ den) 
         subst (λ (n : ℕ). m / d ∣ n) (sym left_over) (dvd-mul_right (m / d) (den / m))
 
     rest_times : den / d / (m / d) ≡ den / m
-    rest_times =
-        ap (λ (n : ℕ). n / (m / d))
-        (left_over ∙ (let turn : m / d * (den / m) ≡ den / m * (m / d) = omega arith in turn))
-        ∙ mul-div_cancel (den / m) rest_above
+    rest_times = grind (arith, left_over, mul-div_cancel, rest_above)
 
     c_divides : c ∣ den / d
     c_divides = dvd_trans c third rest_divides
@@ -66,10 +60,7 @@ module _ (d m den : ℕ) (above : 0 < m) (first : d ∣ m) (second : m ∣ den) 
 module _ (g : Game) (player m den : ℕ) (r : Reached) (above : 0 < m) (second : m ∣ den)
     (exact : IsExact g player m r) where
   pub exact_more : IsExact g player den r
-  exact_more = record {
-    path = dvd_trans r.path.den exact.path second;
-    pay = c_divides r.path.den m den above exact.path second (pay_at g player r).den exact.pay;
-  }
+  exact_more = grind (arith, dvd_trans, c_divides)
 
   over_is : over (scale den r) (pay_at g player r)
       ≡ over (scale m r) (pay_at g player r) *ℤ pos (den / m)
@@ -85,26 +76,17 @@ module _ (g : Game) (player m den : ℕ) (r : Reached) (above : 0 < m) (second :
       ∙ sym (*ℤ_assoc (pos r.path.weight) (over (scale m r) (pay_at g player r)) (pos (den / m)))
 
   pub bound_more : share_bound g player den r ≡ share_bound g player m r * (den / m)
-  bound_more =
-      let size = unsigned_abs (over (scale m r) (pay_at g player r)) in
-      let whole : unsigned_abs (over (scale den r) (pay_at g player r)) ≡ size * (den / m) =
-      ap unsigned_abs over_is
-      ∙ unsigned_abs-mul (over (scale m r) (pay_at g player r)) (pos (den / m)) in
-      let grouped : r.path.bound * (size * (den / m)) ≡ r.path.bound * size * (den / m) =
-      omega arith in
-      ap (λ (n : ℕ). r.path.bound * n) whole ∙ grouped
+  bound_more = grind (arith, over_is, unsigned_abs-mul)
 
 -- ---- a node, and its term
 
 met_number : (met : Bool) (x y : ℤ) → (met ≡ true → x ≡ y)
     → (if met then x else pos 0) ≡ (if met then y else pos 0)
-met_number true x y h = h refl
-met_number false x y h = refl
+met_number met x y h = grind arith
 
 met_size : (met : Bool) (x y : ℕ) → (met ≡ true → x ≤ y)
     → (if met then x else 0) ≤ (if met then y else 0)
-met_size true x y h = h refl
-met_size false x y h = omega arith
+met_size met x y h = grind arith
 
 module _ (g : Game) (players : ℕ) (r : Reached) (e : Entry) (is : IsTermOf g players r e) (k : ℕ)
     (less : k < players) (den : ℕ) (steps choices : List ℕ)
@@ -114,8 +96,7 @@ module _ (g : Game) (players : ℕ) (r : Reached) (e : Entry) (is : IsTermOf g p
 
   has : meets steps choices r.path.demands ≡ true
       → HasShare g r e k × (0 < e.head.den) × (e.head.den ∣ den)
-  has met =
-      let known = exact (sym same_met ∙ met) in (is.shares known.0 k less, known.0, known.1)
+  has met = grind arith
 
   node_exact : IsExactIfMet g (suc k) den steps choices r
   node_exact met pays =
@@ -124,13 +105,7 @@ module _ (g : Game) (players : ℕ) (r : Reached) (e : Entry) (is : IsTermOf g p
   node_sum : (if meets steps choices r.path.demands then share g (suc k) den r else pos 0)
       ≡ (if meets steps choices e.head.demands
       then number_at k e *ℤ pos (den / e.head.den) else pos 0)
-  node_sum =
-      met_number (meets steps choices r.path.demands) (share g (suc k) den r)
-      (number_at k e *ℤ pos (den / e.head.den))
-      (λ met. let h = has met in
-      share_more g (suc k) e.head.den den r h.1 h.2 h.0.exact
-      ∙ ap (λ (z : ℤ). z *ℤ pos (den / e.head.den)) (sym h.0.number))
-      ∙ ap (λ (b : Bool). if b then number_at k e *ℤ pos (den / e.head.den) else pos 0) same_met
+  node_sum = grind (arith, met_number, has, share_more, same_met)
 
   node_bound : (if meets steps choices r.path.demands then share_bound g (suc k) den r else 0)
       ≤ (if meets steps choices e.head.demands then e.head.size * (den / e.head.den) else 0)
@@ -139,12 +114,8 @@ module _ (g : Game) (players : ℕ) (r : Reached) (e : Entry) (is : IsTermOf g p
       let le = met_size (meets steps choices r.path.demands) (share_bound g (suc k) den r) whole
       (λ met. let h = has met in
       let more = bound_more g (suc k) e.head.den den r h.1 h.2 h.0.exact in
-      let most = mul-le-mul_right (den / e.head.den) h.0.bound in
-      omega (arith, more, most)) in
-      let same : (if meets steps choices r.path.demands then whole else 0)
-      ≡ (if meets steps choices e.head.demands then whole else 0) =
-      ap (λ (b : Bool). if b then whole else 0) same_met in
-      omega (arith, le, same)
+      grind (arith, mul-le-mul_right)) in
+      grind arith
 
 -- ---- lists of them
 
@@ -156,21 +127,8 @@ one_node_more g players rs es r e is before k less den steps choices exact =
     let told = before k less den steps choices both.0 in record {
       exact = all_both (IsExactIfMet g (suc k) den steps choices) rs (r ∷ []) told.exact
           (node_exact g players r e is k less den steps choices both.1.0, tt);
-      sums = omega (
-        arith,
-        ints,
-        told.sums,
-        shares_append g (suc k) den steps choices rs (r ∷ []),
-        sum_append den steps choices k es (e ∷ []),
-        node_sum g players r e is k less den steps choices both.1.0,
-      );
-      bounds = omega (
-        arith,
-        told.bounds,
-        bounds_append g (suc k) den steps choices rs (r ∷ []),
-        size_append den steps choices es (e ∷ []),
-        node_bound g players r e is k less den steps choices both.1.0,
-      );
+      sums = grind (arith, shares_append, sum_append, node_sum);
+      bounds = grind (arith, bounds_append, size_append, node_bound);
     }
 
 -- what the code reads at a place
@@ -218,16 +176,13 @@ module _ (rows : List (List Ratio)) (players : ℕ) (rs : List Reached)
   }
     where
       ends : EndsBelow old.heads.items more.term.head.demands
-      ends = subst (EndsBelow old.heads.items)
-          (ap (λ (n : Reached). n.path.demands) (sym is) ∙ sym more.demands)
-          (before.next r less)
+      ends = grind arith
 
       up : (d : Reached) → at + 1 < length rs
           → more.term.head.demands ≤ (get_or rs (at + 1) d).path.demands
       up d there =
           let le = sorted at (at + 1) d (omega arith) there in
-          let same : get_or rs at d ≡ r = get_or_default rs at d r less ∙ sym is in
-          omega (arith, le, ap (λ (n : Reached). n.path.demands) same, more.demands)
+          grind (arith, get_or_default)
 
 -- the sum of two terms in place of both
 pub one_term_less : (g : Game) (players : ℕ) (rs : List Reached) (es : List Entry)
@@ -238,10 +193,7 @@ one_term_less g players rs es a b sum first second adds before k less den steps 
     let both = all_parts (IsExactAt den steps choices) es (sum ∷ []) exact in
     let known : IsExactAt den steps choices sum = both.1.0 in
     let told = before k less den steps choices
-    (all_both (IsExactAt den steps choices) es (a ∷ b ∷ []) both.0 (
-      exact_first den steps choices a b sum first second adds known,
-      (exact_second den steps choices a b sum first second adds known, tt),
-    )) in record {
+    (grind (arith, all_both, exact_first, exact_second)) in record {
       exact = told.exact;
       sums = omega (
         arith,
@@ -251,11 +203,5 @@ one_term_less g players rs es a b sum first second adds before k less den steps 
         sum_append den steps choices k es (sum ∷ []),
         both_sum den steps choices a b sum first second adds known k,
       );
-      bounds = omega (
-        arith,
-        told.bounds,
-        size_append den steps choices es (a ∷ b ∷ []),
-        size_append den steps choices es (sum ∷ []),
-        both_size den steps choices a b sum first second adds known,
-      );
+      bounds = grind (arith, size_append, both_size);
     }

@@ -1,14 +1,13 @@
 -- What terms come to, part by part, and while they are merged.
-use Rattle.std.proofs.Common.{◌≡◌, ℕ, ℤ, pos, ◌+◌, ◌-◌, ◌*◌, ◌/◌, ◌<◌, ◌≤◌, ◌+ℤ◌, ◌*ℤ◌}
-use Rattle.std.proofs.Common.{Bool, true, false, List, [], ◌∷◌, ◌++◌, refl, ap, sym, subst, ◌∙◌}
-use Rattle.std.proofs.Common.{arith}
-use Rattle.std.proofs.Common.{map, inl, inr, ◌⊎◌}
-use Rattle.std.specs.Prelude.{◌&&◌, if◌then◌else◌, nat_le, nat_lt}
+use Rattle.std.proofs.Common.{◌≡◌, ℕ, ℤ, pos, ◌+◌, ◌-◌, ◌*◌, ◌/◌, ◌<◌, ◌≤◌, ◌+ℤ◌, ◌*ℤ◌, Bool, true}
+use Rattle.std.proofs.Common.{false, List, [], ◌∷◌, ◌++◌, refl, ap, sym, subst, ◌∙◌, arith, map}
+use Rattle.std.proofs.Common.{◌⊎◌}
+use Rattle.std.specs.Prelude.{if◌then◌else◌}
 use Rattle.std.specs.Int.{◌∣◌}
 use Rattle.std.specs.List.{AllByRecursion}
 use Rattle.std.proofs.Math.IntN.{+ℤ_assoc, +ℤ_idl}
 use Rattle.std.proofs.Math.Nat.{mul-le-mul_right}
-use Rattle.std.proofs.lemmas.Bool.{le-leb, le-ltb, lt-leb, lt-ltb}
+use Rattle.std.proofs.lemmas.Bool.{lt-ltb}
 use Rattle.std.proofs.lemmas.Int.{ints}
 use Rattle.std.proofs.lemmas.Nat.Gcd.{dvd_trans}
 use Rattle.gf_fraction.proofs.AllElements.{all_both, all_parts}
@@ -18,10 +17,6 @@ use Rattle.gf_form.specs.inner.rows.Entries.{AreExactAt, AreMerged, ComeTo, Entr
 use Rattle.gf_form.specs.inner.rows.Entries.{IsSumOf, lowered, number_at, size_of_entries}
 use Rattle.gf_form.specs.inner.rows.Entries.{sum_of_entries}
 use Rattle.gf_form.proofs.lemmas.rows.OverOneDenominator.{quotient_through}
-
-and_false : (b : Bool) → (b && false) ≡ false
-and_false true = refl
-and_false false = refl
 
 false_true : ¬ (false ≡ true)
 false_true e = absurd cc
@@ -45,13 +40,7 @@ scaled_size n d m den above dm mden =
 module _ (den : ℕ) (a b sum : Entry) (adds : IsSumOf a b sum) (divides : sum.head.den ∣ den) where
   pub numbers_added : (k : ℕ) → number_at k sum *ℤ pos (den / sum.head.den)
       ≡ number_at k a *ℤ pos (den / a.head.den) +ℤ number_at k b *ℤ pos (den / b.head.den)
-  numbers_added k =
-      ap (λ (z : ℤ). z *ℤ pos (den / sum.head.den)) (adds.numbers k)
-      ∙ add-*ℤ (number_at k a *ℤ pos (sum.head.den / a.head.den))
-      (number_at k b *ℤ pos (sum.head.den / b.head.den)) (pos (den / sum.head.den))
-      ∙ (λ i. scaled (number_at k a) a.head.den sum.head.den den adds.first adds.first_divides
-      divides i +ℤ scaled (number_at k b) b.head.den sum.head.den den adds.second
-      adds.second_divides divides i)
+  numbers_added k = grind (arith, add-*ℤ, scaled)
 
   pub sizes_added : a.head.size * (den / a.head.den) + b.head.size * (den / b.head.den)
       ≤ sum.head.size * (den / sum.head.den)
@@ -64,11 +53,7 @@ module _ (den : ℕ) (a b sum : Entry) (adds : IsSumOf a b sum) (divides : sum.h
       let most : (a.head.size * (sum.head.den / a.head.den)
       + b.head.size * (sum.head.den / b.head.den)) * q ≤ sum.head.size * q =
       mul-le-mul_right q adds.size in
-      let parts : (a.head.size * (sum.head.den / a.head.den)
-      + b.head.size * (sum.head.den / b.head.den)) * q
-      ≡ a.head.size * (sum.head.den / a.head.den) * q
-      + b.head.size * (sum.head.den / b.head.den) * q = omega arith in
-      omega (arith, first, second, most, parts)
+      grind arith
 
 -- ---- parts of a list
 
@@ -92,13 +77,11 @@ module _ (den : ℕ) (steps choices : List ℕ) where
 
 one_sum : (met : Bool) (x y z : ℤ) → (met ≡ true → z ≡ x +ℤ y)
     → (if met then z else pos 0) ≡ (if met then x else pos 0) +ℤ (if met then y else pos 0)
-one_sum true x y z h = h refl
-one_sum false x y z h = refl
+one_sum met x y z h = grind arith
 
 one_size : (met : Bool) (x y z : ℕ) → (met ≡ true → x + y ≤ z)
     → (if met then x else 0) + (if met then y else 0) ≤ (if met then z else 0)
-one_size true x y z h = h refl
-one_size false x y z h = omega arith
+one_size met x y z h = grind arith
 
 module _ (den : ℕ) (steps choices : List ℕ) (a b sum : Entry)
     (first : sum.head.demands ≡ a.head.demands) (second : sum.head.demands ≡ b.head.demands)
@@ -110,16 +93,10 @@ module _ (den : ℕ) (steps choices : List ℕ) (a b sum : Entry)
   met_second = ap (meets steps choices) second
 
   pub exact_first : IsExactAt den steps choices a
-  exact_first met =
-      let known = exact (met_first ∙ met) in
-      let is = adds known.0 in
-      (is.first, dvd_trans a.head.den is.first_divides known.1)
+  exact_first met = grind (arith, met_first, dvd_trans)
 
   pub exact_second : IsExactAt den steps choices b
-  exact_second met =
-      let known = exact (met_second ∙ met) in
-      let is = adds known.0 in
-      (is.second, dvd_trans b.head.den is.second_divides known.1)
+  exact_second met = grind (arith, met_second, dvd_trans)
 
   pub both_sum : (k : ℕ)
       → (if meets steps choices sum.head.demands
@@ -128,31 +105,13 @@ module _ (den : ℕ) (steps choices : List ℕ) (a b sum : Entry)
       then number_at k a *ℤ pos (den / a.head.den) else pos 0)
       +ℤ (if meets steps choices b.head.demands
       then number_at k b *ℤ pos (den / b.head.den) else pos 0)
-  both_sum k =
-      let x = number_at k a *ℤ pos (den / a.head.den) in
-      let y = number_at k b *ℤ pos (den / b.head.den) in
-      one_sum (meets steps choices sum.head.demands) x y
-      (number_at k sum *ℤ pos (den / sum.head.den))
-      (λ met. let known = exact met in numbers_added den a b sum (adds known.0) known.1 k)
-      ∙ (λ i. (if met_first i then x else pos 0) +ℤ (if met_second i then y else pos 0))
+  both_sum k = grind (arith, one_sum, numbers_added, met_first, met_second)
 
   pub both_size :
       (if meets steps choices a.head.demands then a.head.size * (den / a.head.den) else 0)
       + (if meets steps choices b.head.demands then b.head.size * (den / b.head.den) else 0)
       ≤ (if meets steps choices sum.head.demands then sum.head.size * (den / sum.head.den) else 0)
-  both_size =
-      let x = a.head.size * (den / a.head.den) in
-      let y = b.head.size * (den / b.head.den) in
-      let z = sum.head.size * (den / sum.head.den) in
-      let most = one_size (meets steps choices sum.head.demands) x y z
-      (λ met. let known = exact met in sizes_added den a b sum (adds known.0) known.1) in
-      let xs : (if meets steps choices sum.head.demands then x else 0)
-      ≡ (if meets steps choices a.head.demands then x else 0) =
-      ap (λ (m : Bool). if m then x else 0) met_first in
-      let ys : (if meets steps choices sum.head.demands then y else 0)
-      ≡ (if meets steps choices b.head.demands then y else 0) =
-      ap (λ (m : Bool). if m then y else 0) met_second in
-      omega (arith, most, xs, ys)
+  both_size = grind (arith, one_size, sizes_added, met_first, met_second)
 
 -- ---- while terms are merged
 
@@ -222,12 +181,7 @@ module _ (step action : ℕ) (terms left more others : List Entry) where
           sum_append den steps choices k left (sum ∷ []),
           both_sum den steps choices a b sum first second adds known k,
         );
-        sizes = omega (
-          arith,
-          parts.sizes,
-          size_append den steps choices left (sum ∷ []),
-          both_size den steps choices a b sum first second adds known,
-        );
+        sizes = grind (arith, size_append, both_size);
       }
 
 -- ---- before anything is merged
@@ -263,28 +217,11 @@ module _ (step action : ℕ) (steps choices : List ℕ) where
   own_met : (e : Entry) → 1 ≤ action → IsOwn step action e
       → meets (step ∷ steps) (action ∷ choices) e.head.demands
       ≡ meets steps choices (e.head.demands - action * step)
-  own_met e some own =
-      let least : 1 * step ≤ action * step = mul-le-mul_right step some in
-      let not_free : nat_lt e.head.demands step ≡ false =
-      le-ltb e.head.demands step (omega (arith, least, own.0)) in
-      let from : nat_le (action * step) e.head.demands ≡ true =
-      le-leb (action * step) e.head.demands own.0 in
-      let to : nat_lt e.head.demands (action * step + step) ≡ true =
-      lt-ltb e.head.demands (action * step + step) own.1 in
-      rw (not_free, from, to) refl
+  own_met e some own = grind arith
 
   other_unmet : (e : Entry) → IsOther step action e
       → meets (step ∷ steps) (action ∷ choices) e.head.demands ≡ false
-  other_unmet e (not_free, inl before) =
-      let far : nat_lt e.head.demands step ≡ false = le-ltb e.head.demands step not_free in
-      let less : nat_le (action * step) e.head.demands ≡ false =
-      lt-leb (action * step) e.head.demands before in
-      rw (far, less) refl
-  other_unmet e (not_free, inr after) =
-      let far : nat_lt e.head.demands step ≡ false = le-ltb e.head.demands step not_free in
-      let past : nat_lt e.head.demands (action * step + step) ≡ false =
-      le-ltb e.head.demands (action * step + step) after in
-      rw (far, past, and_false (nat_le (action * step) e.head.demands)) refl
+  other_unmet e h = grind arith
 
   module _ (den : ℕ) (P : Entry → Type 0) where
     abbrev Come : List Entry → List Entry → Type 0
@@ -296,31 +233,13 @@ module _ (step action : ℕ) (steps choices : List ℕ) where
         ≡ meets steps choices (d e)) → (es : List Entry) → AllByRecursion P es
         → AreExactAt den steps choices (map (demanding d) es) → Come es (map (demanding d) es)
     come_same d met [] all h = record { exact = tt; sums = λ k. refl; sizes = omega arith }
-    come_same d met (e ∷ es) all h =
-        let same = met e all.0 in
-        let rest = come_same d met es all.1 h.1 in
-        let size = ap (λ (b : Bool). if b then e.head.size * (den / e.head.den) else 0) same in
-        record {
-          exact = ((λ is. h.0 (sym same ∙ is)), rest.exact);
-          sums = λ k i. (if same i then number_at k e *ℤ pos (den / e.head.den) else pos 0)
-              +ℤ rest.sums k i;
-          sizes = omega (arith, size, rest.sizes);
-        }
+    come_same d met (e ∷ es) all h = grind (arith, come_same d met es all.1 h.1)
 
     come_none : ((e : Entry) → P e
         → meets (step ∷ steps) (action ∷ choices) e.head.demands ≡ false) → (es : List Entry)
         → AllByRecursion P es → Come es []
     come_none unmet [] all = record { exact = tt; sums = λ k. refl; sizes = omega arith }
-    come_none unmet (e ∷ es) all =
-        let no = unmet e all.0 in
-        let rest = come_none unmet es all.1 in
-        let size = ap (λ (b : Bool). if b then e.head.size * (den / e.head.den) else 0) no in
-        record {
-          exact = ((λ is. absurd (false_true (sym no ∙ is))), rest.exact);
-          sums = λ k i. (if no i then number_at k e *ℤ pos (den / e.head.den) else pos 0)
-              +ℤ rest.sums k i;
-          sizes = omega (arith, size, rest.sizes);
-        }
+    come_none unmet (e ∷ es) all = grind (arith, false_true, come_none unmet es all.1)
 
 -- the four ranges of the terms
 pub record Ranges (step action : ℕ) (terms free between own rest : List Entry) : Type 0 where
@@ -344,43 +263,11 @@ first_parts step action terms free between own rest some ranges den steps choice
     let frees = subst (Come step action steps choices den (IsFree step) free) (map_same free)
     (come (IsFree step) (λ e. e.head.demands) (free_met step action steps choices) free
     ranges.are_free (subst (AreExactAt den steps choices) (sym (map_same free)) exact_free)) in
-    let betweens = other between ranges.are_between in
     let owns = come (IsOwn step action) (λ e. e.head.demands - action * step)
     (λ e. own_met step action steps choices e some) own ranges.are_own exact_own in
-    let rests = other rest ranges.are_rest in
-    subst (λ (es : List Entry). Parts den step action steps choices es [] free
-    (map (lowered (action * step)) own)) (sym ranges.joined) (record {
-      exact = both free (between ++ (own ++ rest)) frees.exact
-          (both between (own ++ rest) betweens.exact (both own rest owns.exact rests.exact));
-      sums = λ k. omega (
-        arith,
-        ints,
-        sum k free (between ++ (own ++ rest)),
-        sum k between (own ++ rest),
-        sum k own rest,
-        frees.sums k,
-        betweens.sums k,
-        owns.sums k,
-        rests.sums k,
-      );
-      sizes = omega (
-        arith,
-        size free (between ++ (own ++ rest)),
-        size between (own ++ rest),
-        size own rest,
-        frees.sizes,
-        betweens.sizes,
-        owns.sizes,
-        rests.sizes,
-      );
-    })
+    grind arith
 
 -- nothing is left to be merged
 pub all_merged : (step action : ℕ) (terms left : List Entry)
     → Merging step action terms left [] [] → AreMerged step action terms left
-all_merged step action terms left done den steps choices exact =
-    let parts = done den steps choices exact tt tt in record {
-      exact = parts.exact;
-      sums = λ k. let sum = parts.sums k in omega (arith, ints, sum);
-      sizes = let size = parts.sizes in omega (arith, size);
-    }
+all_merged step action terms left done den steps choices exact = grind arith

@@ -1,42 +1,34 @@
 -- Two ranges of terms while they are merged by the code.
 use Rattle.std.proofs.Common.{◌≡◌, ℕ, zero, suc, ◌+◌, ◌-◌, ◌*◌, ◌<◌, ◌≤◌, List, [], ◌∷◌, ◌++◌}
-use Rattle.std.proofs.Common.{length, get_or, take, drop, map, ap, sym, subst, ◌∙◌, arith}
-use Rattle.std.proofs.Common.{add-one}
+use Rattle.std.proofs.Common.{length, get_or, take, drop, map, ap, sym, subst, ◌∙◌, arith, add-one}
 use Rattle.std.proofs.Common.{inl, inr}
 use Rattle.std.specs.List.{AllByRecursion}
 use Rattle.std.specs.List.Sorted.{IsNonDecreasingBy}
 use Rattle.std.proofs.Math.Nat.{mul-le-mul_right}
 use Rattle.std.proofs.Math.Seq.{drop-cons, get_or-append_seam}
-use Rattle.std.proofs.lemmas.List.{drop-drop, length-append, take-append-drop}
-use Rattle.std.proofs.lemmas.List.{take_rest}
+use Rattle.std.proofs.lemmas.List.{drop-drop, length-append, take-append-drop, take_rest}
 use Rattle.std.proofs.lemmas.List.Sorted.{IsNonDecreasingBy-push, IsNonDecreasingBy-short}
 use Rattle.gf_fraction.specs.Ratio.{IsWithin}
 use Rattle.gf_form.specs.inner.rows.Entries.{AreChosen, AreMerged, AreOrdered, CountsBelow}
-use Rattle.gf_form.specs.inner.rows.Entries.{EndsBelow, Entry, HasSum, IsShaped, entries}
-use Rattle.gf_form.specs.inner.rows.Entries.{entries_of, entry_at, lowered, no_entry, no_head, part}
+use Rattle.gf_form.specs.inner.rows.Entries.{EndsBelow, Entry, HasSum, IsShaped, entries, entry_at}
+use Rattle.gf_form.specs.inner.rows.Entries.{lowered, no_entry, no_head, part}
 use Rattle.gf_form.specs.declared.rows.chosen.Chosen.{Chosen}
 use Rattle.gf_form.specs.declared.rows.terms.Head.{Head}
 use Rattle.gf_form.specs.declared.rows.terms.Terms.{Terms}
 use Rattle.gf_form.proofs.lemmas.rows.FlatRows.{entries_count, entry_head, head_at, heads_more}
 use Rattle.gf_form.proofs.lemmas.rows.FlatRows.{none_taken}
 use Rattle.gf_form.proofs.lemmas.rows.MergedEntries.{IsFree, IsOther, IsOwn, Merging, Ranges}
-use Rattle.gf_form.proofs.lemmas.rows.MergedEntries.{all_merged}
-use Rattle.gf_form.proofs.lemmas.rows.MergedEntries.{first_parts, take_both, take_free, take_own}
+use Rattle.gf_form.proofs.lemmas.rows.MergedEntries.{all_merged, first_parts, take_both, take_free}
+use Rattle.gf_form.proofs.lemmas.rows.MergedEntries.{take_own}
 
 -- ---- ranges of a list
 
 pub part_next : (es : List Entry) (i end : ℕ) → i < end → end ≤ length es
     → part i end es ≡ get_or es i no_entry ∷ part (i + 1) end es
-part_next es i end less within =
-    let n : end - i ≡ suc (end - (i + 1)) = omega arith in
-    let d : drop i es ≡ get_or es i no_entry ∷ drop (i + 1) es =
-    rw (add-one) (drop-cons es i no_entry (omega (arith, less, within))) in
-    λ k. take (n k) (d k)
+part_next es i end less within = grind (arith, add-one, drop-cons)
 
 pub part_past : (es : List Entry) (i end : ℕ) → end ≤ i → part i end es ≡ []
-part_past es i end past =
-    let none : end - i ≡ 0 = omega arith in
-    ap (λ (n : ℕ). take n (drop i es)) none ∙ none_taken (drop i es)
+part_past es i end past = grind arith
 
 -- all of a range, by the places of all
 all_in : (P : Entry → Type 0) (es : List Entry) (n i : ℕ) → i + n ≤ length es
@@ -55,17 +47,13 @@ all_in P es (suc n) i within each =
 cut : (es : List Entry) (i j : ℕ) → i ≤ j → drop i es ≡ part i j es ++ drop j es
 cut es i j le =
     let on : i + (j - i) ≡ j = omega arith in
-    sym (take-append-drop (j - i) (drop i es))
-    ∙ ap (λ (xs : List Entry). part i j es ++ xs)
-    (drop-drop (j - i) i es ∙ ap (λ (n : ℕ). drop n es) on)
+    cc (take-append-drop (j - i) (drop i es), drop-drop (j - i) i es)
 
 -- ---- the ranges by demands
 
 before_it : (heads : List Head) (low high m n : ℕ) → low ≤ high → CountsBelow heads low m
     → CountsBelow heads high n → ¬ (n < m)
-before_it heads low high m n le first second less =
-    let up = second.above n (omega arith) (omega (arith, less, first.bound)) in
-    let down = first.below n less in omega (arith, le, up, down)
+before_it heads low high m n le first second less = grind arith
 
 module _ (from : Terms) (step action : ℕ) (some : 1 ≤ action) (chosen : Chosen)
     (are : AreChosen from.heads.items step action chosen) where
@@ -79,14 +67,10 @@ module _ (from : Terms) (step action : ℕ) (some : 1 ≤ action) (chosen : Chos
   least = mul-le-mul_right step some
 
   free_le : chosen.free ≤ chosen.start
-  free_le =
-      let no = before_it from.heads.items step (action * step) chosen.free chosen.start
-      (omega (arith, least)) are.free are.start in omega (arith, no)
+  free_le = grind (arith, before_it, least)
 
   start_le : chosen.start ≤ chosen.end
-  start_le =
-      let no = before_it from.heads.items (action * step) (action * step + step) chosen.start
-      chosen.end (omega arith) are.start are.end in omega (arith, no)
+  start_le = grind arith
 
   by_head : (P : Entry → Type 0) (Q : ℕ → Type 0) → ((e : Entry) → Q e.head.demands → P e)
       → (k : ℕ) → k < length from.heads.items → Q (head_at from k).demands → P (entry_at from k)
@@ -96,11 +80,7 @@ module _ (from : Terms) (step action : ℕ) (some : 1 ≤ action) (chosen : Chos
   pub ranges : Ranges step action es (take chosen.free es) (part chosen.free chosen.start es)
       (part chosen.start chosen.end es) (drop chosen.end es)
   ranges = record {
-    joined = sym (take-append-drop chosen.free es)
-        ∙ ap (λ (xs : List Entry). take chosen.free es ++ xs)
-        (cut es chosen.free chosen.start free_le
-        ∙ ap (λ (xs : List Entry). part chosen.free chosen.start es ++ xs)
-        (cut es chosen.start chosen.end start_le));
+    joined = grind (arith, take-append-drop, cut, free_le, start_le);
     are_free = all_in (IsFree step) es chosen.free 0 (omega (arith, count, are.free.bound))
         (λ k at less. by_head (IsFree step) (λ n. n < step) (λ e q. q) k
         (omega (arith, less, are.free.bound)) (are.free.below k (omega (arith, less))));
@@ -108,28 +88,18 @@ module _ (from : Terms) (step action : ℕ) (some : 1 ≤ action) (chosen : Chos
         (omega (arith, count, are.start.bound, free_le))
         (λ k at less. by_head (IsOther step action)
         (λ n. (step ≤ n) × (n < action * step)) (λ e q. (q.0, inl q.1)) k
-        (omega (arith, less, are.start.bound, free_le)) (
-          are.free.above k at (omega (arith, less, are.start.bound, free_le)),
-          are.start.below k (omega (arith, less, free_le)),
-        ));
+        (omega (arith, less, are.start.bound, free_le)) (grind (arith, free_le)));
     are_own = all_in (IsOwn step action) es (chosen.end - chosen.start) chosen.start
         (omega (arith, count, are.end.bound, start_le))
         (λ k at less. by_head (IsOwn step action)
         (λ n. (action * step ≤ n) × (n < action * step + step)) (λ e q. q) k
-        (omega (arith, less, are.end.bound, start_le)) (
-          are.start.above k at (omega (arith, less, are.end.bound, start_le)),
-          are.end.below k (omega (arith, less, start_le)),
-        ));
+        (omega (arith, less, are.end.bound, start_le)) (grind (arith, start_le)));
     are_rest = subst (AllByRecursion (IsOther step action)) rest_is
         (all_in (IsOther step action) es (length es - chosen.end) chosen.end
         (omega (arith, count, are.end.bound))
         (λ k at less. by_head (IsOther step action)
         (λ n. (step ≤ n) × (action * step + step ≤ n)) (λ e q. (q.0, inr q.1)) k
-        (omega (arith, less, count, are.end.bound)) (
-          are.free.above k (omega (arith, at, free_le, start_le))
-              (omega (arith, less, count, are.end.bound)),
-          are.end.above k at (omega (arith, less, count, are.end.bound)),
-        )));
+        (omega (arith, less, count, are.end.bound)) (grind (arith, free_le, start_le, count))));
   }
     where
       rest_is : take (length es - chosen.end) (drop chosen.end es)
@@ -162,8 +132,7 @@ first_merge from step action chosen some are to none no_numbers players =
     let start = chosen.start in
     let end = chosen.end in
     let all : free - 0 ≡ free = omega arith in
-    let nothing : entries to ≡ [] =
-    ap (λ (hs : List Head). entries_of to.players hs to.numbers.items) none in
+    let nothing : entries to ≡ [] = cc in
     let length_is : length to.heads.items ≡ 0 = ap length none in
     let own = map (lowered (action * step)) (part start end es) in
     let parts = first_parts step action es (take free es) (part free start es) (part start end es)
@@ -192,9 +161,7 @@ pub below_more : (heads new : List Head) (h : Head) (n : ℕ) → new ≡ heads 
 below_more heads new h n is le d some =
     let size : length new ≡ length heads + 1 = ap length is ∙ length-append heads (h ∷ []) in
     let last : length new - 1 ≡ length heads = omega (arith, size) in
-    let at : get_or new (length new - 1) d ≡ h =
-    (λ i. get_or (is i) (last i) d) ∙ get_or-append_seam heads h [] d in
-    subst (λ (g : Head). g.demands ≤ n) (sym at) le
+    grind (arith, get_or-append_seam)
 
 pub ordered_more : (heads new : List Head) (h : Head) → new ≡ heads ++ h ∷ []
     → IsNonDecreasingBy (λ (g : Head). g.demands) heads → EndsBelow heads h.demands
@@ -204,12 +171,7 @@ ordered_more heads new h is ordered below =
     (IsNonDecreasingBy-push (λ (g : Head). g.demands) heads h ordered below)
 
 pub lowered_none : (e : Entry) → lowered 0 e ≡ e
-lowered_none e =
-    let same : e.head.demands - 0 ≡ e.head.demands = omega arith in
-    λ i. record {
-      head = record { demands = same i; den = e.head.den; size = e.head.size };
-      row = e.row;
-    }
+lowered_none e = grind arith
 
 module _ (from : Terms) (step action lowest free_end own_end free own : ℕ) (to after : Terms)
     (sorted : AreOrdered from)
@@ -236,18 +198,14 @@ module _ (from : Terms) (step action lowest free_end own_end free own : ℕ) (to
       part_next (entries from) free free_end less (omega (arith, count_from, before.free_within))
 
   first_own : own < own_end → owns own ≡ lowered lowest (entry_at from own) ∷ owns (own + 1)
-  first_own less =
-      ap (map (lowered lowest))
-      (part_next (entries from) own own_end less (omega (arith, count_from, before.own_within)))
+  first_own less = grind (arith, part_next, count_from)
 
   free_demands : free < free_end
       → (entry_at from free).head.demands ≡ (head_at from free).demands
-  free_demands less = ap (λ (h : Head). h.demands)
-      (entry_head from free (omega (arith, less, before.free_within)))
+  free_demands less = grind (arith, entry_head)
 
   own_demands : own < own_end → (entry_at from own).head.demands ≡ (head_at from own).demands
-  own_demands less = ap (λ (h : Head). h.demands)
-      (entry_head from own (omega (arith, less, before.own_within)))
+  own_demands less = grind (arith, entry_head)
 
   -- one more term, and the places of those that are next
   one_more : (next_free next_own : ℕ) (e : Entry) → own ≤ next_own

@@ -1,10 +1,9 @@
 -- The term of a node, number by number.
 use Rattle.std.proofs.Common.{◌≡◌, ℕ, ℤ, pos, ◌+◌, ◌<◌, ◌≤◌, ◌⊎◌, inl, inr, List, [], ◌∷◌, ◌++◌}
-use Rattle.std.proofs.Common.{Bool, true, false, get_or, length, refl, ap, sym, subst, ◌∙◌, arith}
-use Rattle.std.proofs.Common.{◌*◌, ◌/◌, ◌*ℤ◌, suc}
+use Rattle.std.proofs.Common.{Bool, true, false, get_or, length, refl, sym, subst, ◌∙◌, arith, ◌*◌}
+use Rattle.std.proofs.Common.{◌/◌, suc}
 use Rattle.std.specs.Int.{◌∣◌}
 use Rattle.std.specs.List.{AllByRecursion}
-use Rattle.std.specs.Prelude.{unsigned_abs}
 use Rattle.std.proofs.Math.Seq.{get_or-append_seam}
 use Rattle.std.proofs.lemmas.Bool.{cases_lt}
 use Rattle.std.proofs.lemmas.List.{append_assoc, get_or_append_left, length-append}
@@ -15,7 +14,7 @@ use Rattle.gf_tree.specs.Game.{Game}
 use Rattle.gf_form.specs.inner.rows.Entries.{Entry}
 use Rattle.gf_form.specs.inner.rows.ListedNodes.{HasShare, IsTermOf}
 use Rattle.gf_form.specs.inner.values.Rows.{ArePaid, at_place, row_at}
-use Rattle.gf_form.specs.inner.rows.Shares.{IsShare, over, share_bound}
+use Rattle.gf_form.specs.inner.rows.Shares.{IsShare, share_bound}
 use Rattle.gf_form.specs.declared.rows.share.Share.{Share}
 use Rattle.gf_form.specs.declared.rows.paths.Path.{Path}
 use Rattle.gf_form.specs.declared.rows.paths.Reached.{Reached}
@@ -25,13 +24,7 @@ pub zero_share : (path : Path) (pay : Ratio) (times : ℕ) (s : Share) → pay �
     → s.amount ≡ pos 0 → s.bound ≡ 0 → IsShare path pay times s
 zero_share path pay times s nothing amount_is bound_is =
     let none : 0 * (times / 1) ≡ 0 = omega arith in
-    let weighed : 0 ≡ path.weight * (0 * (times / 1)) = omega (arith, none) in
-    let bounded : 0 ≡ path.bound * (0 * (times / 1)) = omega (arith, none) in
-    subst (λ (pay : Ratio). IsShare path pay times s) (sym nothing) (record {
-      exact = one-dvd times;
-      amount_is = amount_is ∙ ap pos weighed;
-      bound_is = bound_is ∙ bounded;
-    })
+    subst (λ (pay : Ratio). IsShare path pay times s) (sym nothing) (grind (arith, one-dvd))
 
 -- what a path adds to a payoff is this number, and its bound is at most so much
 pub record IsNumber (path : Path) (pay : Ratio) (times size : ℕ) (number : ℤ) : Type 0 where
@@ -67,9 +60,7 @@ module _ (path : Path) (pays : ℕ → Ratio) (times size place : ℕ) (fits : B
   more = before.row ++ number ∷ []
 
   more_is : after ≡ old ++ more
-  more_is =
-      is ∙ ap (λ (r : List ℤ). r ++ number ∷ []) before.is
-      ∙ append_assoc old before.row (number ∷ [])
+  more_is = grind (arith, append_assoc)
 
   more_each : length more ≡ place + 1
   more_each = length-append before.row (number ∷ []) ∙ omega (arith, before.one_each)
@@ -79,41 +70,15 @@ module _ (path : Path) (pays : ℕ → Ratio) (times size place : ℕ) (fits : B
 
   pub one_filled : (next : ℕ) → size ≤ next → IsNumber path (pays place) times next number
       → Filling path pays times next (place + 1) fits old after
-  one_filled next up here = record {
-    row = more;
-    is = more_is;
-    one_each = more_each;
-    within = more_within;
-    numbers = λ known k less. at known k less (cases_lt k place);
-  }
+  one_filled next up here = grind (arith, more_is, more_each, more_within, at, cases_lt)
     where
       at : fits ≡ true → (k : ℕ) → k < place + 1 → (k < place) ⊎ (place ≤ k)
           → IsNumber path (pays k) times next (get_or more k (pos 0))
-      at known k less (inl h) =
-          let n = before.numbers known k h in record {
-            share = n.share;
-            is = n.is;
-            amount = n.amount
-                ∙ sym (get_or_append_left before.row (number ∷ []) (pos 0) k
-                (omega (arith, h, before.one_each)));
-            bound = let b = n.bound in omega (arith, b, up);
-          }
-      at known k less (inr h) =
-          let last : k ≡ length before.row = omega (arith, h, less, before.one_each) in
-          let there : k ≡ place = omega (arith, h, less) in
-          subst (λ (n : ℕ). IsNumber path (pays n) times next (get_or more k (pos 0))) (sym there)
-          (subst (IsNumber path (pays place) times next)
-          (sym (ap (λ (n : ℕ). get_or more n (pos 0)) last
-          ∙ get_or-append_seam before.row number [] (pos 0))) here)
+      at known k less (inl h) = grind (arith, get_or_append_left)
+      at known k less (inr h) = grind (arith, get_or-append_seam)
 
   pub none_known : (next : ℕ) → Filling path pays times next (place + 1) false old after
-  none_known next = record {
-    row = more;
-    is = more_is;
-    one_each = more_each;
-    within = more_within;
-    numbers = λ known k less. absurd (let no : false ≡ true = known in cc);
-  }
+  none_known next = grind (arith, more_is, more_each, more_within)
 
 -- ---- the term
 
@@ -132,15 +97,12 @@ module _ (g : Game) (rows : List (List Ratio)) (are : ArePaid g rows) (r : Reach
   has_share k n =
       let paid = are.paid_is r.outcome k in
       let is = n.is in
-      let bound : n.share.bound ≡ share_bound g (suc k) den r =
-      is.bound_is
-      ∙ ap (λ (p : Ratio). r.path.bound * unsigned_abs (over (den / r.path.den) p)) paid in record {
+      let bound : n.share.bound ≡ share_bound g (suc k) den r = cc in record {
         exact = record {
           path = divides;
           pay = subst (λ (p : Ratio). p.den ∣ den / r.path.den) paid is.exact;
         };
-        number = sym n.amount ∙ is.amount_is
-            ∙ ap (λ (p : Ratio). pos r.path.weight *ℤ over (den / r.path.den) p) paid;
+        number = cc;
         bound = let most = n.bound in omega (arith, most, bound);
       }
 

@@ -1,6 +1,5 @@
 -- The sums of shares do not depend on the order of the nodes.
-use Rattle.std.proofs.Common.{◌≡◌, ℕ, ◌+◌, ℤ, pos, ◌+ℤ◌, List, [], ◌∷◌}
-use Rattle.std.proofs.Common.{refl, sym, ap, ◌∙◌, arith}
+use Rattle.std.proofs.Common.{◌≡◌, ℕ, ◌+◌, ℤ, pos, ◌+ℤ◌, List, [], ◌∷◌, refl, arith}
 use Rattle.std.specs.Prelude.{if◌then◌else◌}
 use borrow.Author.Differences.{up, down, same_in, sum_is_lem}
 use Rattle.std.specs.List.{sum_by}
@@ -48,12 +47,7 @@ module _ (g : Game) (player den : ℕ) where
     shares_permuted rs ss h =
         same (sum_of_shares g player den steps choices ss)
         (sum_of_shares g player den steps choices rs) (gains rs) (losses rs)
-        (omega (
-          arith,
-          as_sizes ss,
-          sum_by-IsPermutation (λ r. up (counted r)) rs ss h,
-          sum_by-IsPermutation (λ r. down (counted r)) rs ss h,
-        ))
+        (grind (arith, as_sizes, sum_by-IsPermutation))
         (as_sizes rs)
 
     abbrev bound : Reached → ℕ
@@ -62,10 +56,8 @@ module _ (g : Game) (player den : ℕ) where
     bounds_sum : (rs : List Reached) → met_bounds g player den steps choices rs
         ≡ sum_by bound rs
     bounds_sum [] = refl
-    bounds_sum (r ∷ rs) =
-        ap (λ (n : ℕ). bound r + n) (bounds_sum rs) ∙ sym (sum_by-cons bound r rs)
+    bounds_sum (r ∷ rs) = cc (bounds_sum rs, sum_by-cons bound r rs)
 
     pub bounds_permuted : (rs ss : List Reached) → IsPermutation rs ss
         → met_bounds g player den steps choices ss ≡ met_bounds g player den steps choices rs
-    bounds_permuted rs ss h =
-        bounds_sum ss ∙ sum_by-IsPermutation bound rs ss h ∙ sym (bounds_sum rs)
+    bounds_permuted rs ss h = cc (bounds_sum ss, sum_by-IsPermutation bound rs ss h, bounds_sum rs)

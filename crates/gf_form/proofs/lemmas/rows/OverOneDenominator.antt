@@ -1,13 +1,12 @@
 -- Fractions with their numerators over one denominator for all: sums and products of them fit if
 -- the numerators are within bounds.
-use Rattle.std.proofs.Common.{◌≡◌, ℕ, ℤ, suc, zero, pos, ◌+◌, ◌*◌, ◌/◌, ◌%◌, ◌^◌, ◌<◌, ◌≤◌}
-use Rattle.std.proofs.Common.{arith, refl, ap, sym, subst, ◌∙◌, Some}
+use Rattle.std.proofs.Common.{◌≡◌, ℕ, ℤ, suc, zero, pos, ◌+◌, ◌*◌, ◌/◌, ◌%◌, ◌^◌, ◌<◌, ◌≤◌, arith}
+use Rattle.std.proofs.Common.{refl, ap, sym, subst, ◌∙◌, Some}
 use Rattle.std.specs.Prelude.{◌*ℤ◌, ◌+ℤ◌, unsigned_abs}
 use Rattle.std.specs.Int.{IsGcd, ◌∣◌}
 use Rattle.std.proofs.lemmas.Int.{ints, unsigned_abs-mul}
 use Rattle.std.proofs.lemmas.Nat.Gcd.{IsGcd-from_mod, IsGcd-from_zero, IsGcd-swap, le_of_dvd}
-use Rattle.std.proofs.Math.Nat.{div-mul_cancel, dvd-mul_left, le-mul_of_pos_right, mod-lt}
-use Rattle.std.proofs.Math.Nat.{pos_of_dvd_of_pos}
+use Rattle.std.proofs.Math.Nat.{div-mul_cancel, dvd-mul_left, mod-lt, pos_of_dvd_of_pos}
 use Rattle.gf_fraction.specs.Ratio.{Ratio, HasValue, IsFraction, IsWithin}
 use Rattle.gf_fraction.specs.Rational.{IsEqual, plus, times}
 use Rattle.gf_fraction.specs.Fits.{IsLcm, IsProduct, IsSum, SumFits, scaled_num}
@@ -16,8 +15,7 @@ use Rattle.gf_fraction.proofs.Chains.{◌then◌, back}
 use Rattle.gf_fraction.proofs.ComputedArithmetic.{lowest_of-fraction, lowest_of-value}
 use Rattle.gf_fraction.proofs.ComputedArithmetic.{product_of-some, sum_of-some}
 use Rattle.gf_fraction.proofs.Divisors.{dvd_of_dvd-mul}
-use Rattle.gf_fraction.proofs.Integers.{*-cancel_right, *ℤ-cancel_right, *ℤ_assoc}
-use Rattle.gf_fraction.proofs.Integers.{add-*ℤ}
+use Rattle.gf_fraction.proofs.Integers.{*-cancel_right, *ℤ-cancel_right, *ℤ_assoc, add-*ℤ}
 use Rattle.gf_fraction.proofs.LowestTerms.{mul_pos_left, mul_pos_right}
 use Rattle.gf_fraction.proofs.Products.{mul_above}
 use Rattle.gf_fraction.proofs.Rationals.{equal_refl, plus_both, same_parts, times_both}
@@ -31,9 +29,7 @@ pub quotient_above : (d s : ℕ) → 0 < s → d ∣ s → 0 < s / d
 quotient_above d s above h = mul_pos_left (s / d) d s (div-mul_cancel d h) above
 
 pub quotient_le : (d s : ℕ) → 0 < s → d ∣ s → s / d ≤ s
-quotient_le d s above h =
-    let some = pos_of_dvd_of_pos h above in
-    omega (arith, div-mul_cancel d h, le-mul_of_pos_right (s / d) some)
+quotient_le d s above h = grind arith
 
 pub quotient_of_product : (d b s : ℕ) → 0 < s → d * b ∣ s → b * (s / (d * b)) ≡ s / d
 quotient_of_product d b s above h =
@@ -81,14 +77,11 @@ den_divides x n s f v =
 over_is : (x : Ratio) (n : ℤ) (s : ℕ) → 0 < x.den → HasValue x n s → x.den ∣ s → over s x ≡ n
 over_is x n s above v h =
     *ℤ-cancel_right (over s x) n x.den above
-    (*ℤ_assoc x.num (pos (s / x.den)) (pos x.den)
-    ∙ ap (λ k. x.num *ℤ pos k) (div-mul_cancel x.den h) ∙ v)
+    (cc (*ℤ_assoc x.num (pos (s / x.den)) (pos x.den), div-mul_cancel x.den h))
 
 -- over a denominator that its own divides
 pub over_value : (x : Ratio) (s : ℕ) → x.den ∣ s → HasValue x (over s x) s
-over_value x s h =
-    ap (λ k. x.num *ℤ pos k) (sym (div-mul_cancel x.den h))
-    ∙ sym (*ℤ_assoc x.num (pos (s / x.den)) (pos x.den))
+over_value x s h = cc (div-mul_cancel x.den h, *ℤ_assoc x.num (pos (s / x.den)) (pos x.den))
 
 -- ---- sums
 
@@ -96,10 +89,7 @@ pub sum_size : (a b : ℤ) → unsigned_abs (a +ℤ b) ≤ unsigned_abs a + unsi
 sum_size a b = omega (arith, ints)
 
 smaller_within : (z n : ℤ) (q : ℕ) → 0 < q → z *ℤ pos q ≡ n → IsWithin n → IsWithin z
-smaller_within z n q above e h =
-    let size : unsigned_abs z * q ≡ unsigned_abs n =
-    sym (unsigned_abs-mul z (pos q)) ∙ ap unsigned_abs e in
-    let le = le-mul_of_pos_right (unsigned_abs z) above in omega (arith, size, le, h)
+smaller_within z n q above e h = grind arith
 
 module _ (x y : Ratio) (m n : ℤ) (s : ℕ) (hx : IsFraction x) (hy : IsFraction y)
     (above : 0 < s) (within : s < 2 ^ 127) (vx : HasValue x m s) (vy : HasValue y n s)
@@ -146,8 +136,7 @@ module _ (x y : Ratio) (m n : ℤ) (s : ℕ) (hx : IsFraction x) (hy : IsFractio
   same_den = record {
     left = mul_above s s above above;
     right = above;
-    crosswise = ap (λ z. z *ℤ pos s) (sym (add-*ℤ m n (pos s)))
-        ∙ *ℤ_assoc (m +ℤ n) (pos s) (pos s);
+    crosswise = cc (add-*ℤ m n (pos s), *ℤ_assoc (m +ℤ n) (pos s) (pos s));
   }
 
   is_sum : IsSum whole x y
@@ -162,12 +151,7 @@ module _ (x y : Ratio) (m n : ℤ) (s : ℕ) (hx : IsFraction x) (hy : IsFractio
 
   -- a sum over one denominator fits, and is over it
   pub sum_over : (r : Ratio) × (sum_of x y ≡ Some r) × IsFraction r × HasValue r (m +ℤ n) s
-  sum_over = (
-    whole,
-    sum_of-some x y hx hy whole fits whole_fraction is_sum,
-    whole_fraction,
-    lowest_of-value (m +ℤ n) s above,
-  )
+  sum_over = grind (arith, sum_of-some, fits, whole_fraction, is_sum, lowest_of-value)
 
 -- ---- products
 
@@ -194,9 +178,4 @@ module _ (p y : Ratio) (n : ℤ) (s t : ℕ) (hp : IsFraction p) (hy : IsFractio
   -- a product of a fraction with another over a denominator is over the product of the denominators
   pub product_over : (r : Ratio) × (product_of p y ≡ Some r) × IsFraction r
       × HasValue r (p.num *ℤ n) s
-  product_over = (
-    product,
-    product_of-some p y hp hy product product_fraction is_product,
-    product_fraction,
-    lowest_of-value (p.num *ℤ n) s above,
-  )
+  product_over = grind (arith, product_of-some, product_fraction, is_product, lowest_of-value)

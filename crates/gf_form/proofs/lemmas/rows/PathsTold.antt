@@ -1,7 +1,6 @@
 -- The nodes that choices can reach, given by a walk through branches.
-use Rattle.std.proofs.Common.{◌≡◌, ℕ, zero, suc, ◌+◌, false, true, List, [], ◌∷◌}
-use Rattle.std.proofs.Common.{◌++◌, length, Option, Some, None, refl, sym, ap, ◌∙◌}
-use Rattle.std.proofs.Common.{append_assoc, Bool}
+use Rattle.std.proofs.Common.{arith, ◌≡◌, ℕ, zero, suc, ◌+◌, List, [], ◌∷◌, ◌++◌, length, Option}
+use Rattle.std.proofs.Common.{Some, None, refl, sym, ap, append_assoc}
 use Rattle.std.specs.Prelude.{◌==◌, if◌then◌else◌}
 use Rattle.std.proofs.lemmas.Bool.{eqb-true, eq-eqb, false_from_ne_true}
 use Rattle.gf_fraction.specs.Ratio.{Ratio}
@@ -14,11 +13,9 @@ use Rattle.gf_tree.specs.Game.{Game, Node}
 use Rattle.gf_tree.specs.Subtrees.{child_trees, list_of, root_node}
 use Rattle.gf_tree.specs.declared.game.branch.Branch.{Branch}
 use Rattle.gf_form.specs.inner.rows.PathsLeft.{any_nodes, below, lot_nodes, next_nodes, open_nodes}
-use Rattle.gf_form.specs.inner.rows.PathsLeft.{nodes_beneath, option_nodes}
-use Rattle.gf_form.specs.inner.rows.PathsLeft.{taken}
+use Rattle.gf_form.specs.inner.rows.PathsLeft.{nodes_beneath, option_nodes, taken}
 use Rattle.gf_form.specs.inner.rows.ReachedNodes.{by_action, by_any, by_chance, by_choice, by_lot}
-use Rattle.gf_form.specs.inner.rows.ReachedNodes.{demanded}
-use Rattle.gf_form.specs.inner.rows.ReachedNodes.{over_set, reached}
+use Rattle.gf_form.specs.inner.rows.ReachedNodes.{demanded, over_set, reached}
 use Rattle.gf_form.specs.Strategies.{choices_by}
 use Rattle.gf_form.specs.inner.values.Values.{chances_at}
 use Rattle.gf_form.specs.declared.rows.paths.Open.{Open}
@@ -35,14 +32,12 @@ module _ (g : Game) (steps : SetKey → ℕ) (path : Path) where
   lot_list : (ts : Trees Node) (chances : ℕ → Ratio) (k : ℕ)
       → by_lot g steps path chances k ts ≡ lot_nodes g steps path chances k (list_of ts)
   lot_list none chances k = refl
-  lot_list (more t ts) chances k =
-      ap (λ rs. reached g steps (by_chance path (chances k)) t ++ rs) (lot_list ts chances (k + 1))
+  lot_list (more t ts) chances k = cc (lot_list ts chances (k + 1))
 
   any_list : (ts : Trees Node) (step k : ℕ)
       → by_any g steps path step k ts ≡ any_nodes g steps path step k (list_of ts)
   any_list none step k = refl
-  any_list (more t ts) step k =
-      ap (λ rs. reached g steps (by_choice path step k) t ++ rs) (any_list ts step (k + 1))
+  any_list (more t ts) step k = cc (any_list ts step (k + 1))
 
   action_list : (ts : Trees Node) (position : ℕ)
       → by_action g steps path position ts
@@ -55,21 +50,12 @@ module _ (g : Game) (steps : SetKey → ℕ) (path : Path) where
 
   over_some : (o : Option SetKey) (nodes : SetKey → List Reached) (key : SetKey) → o ≡ Some key
       → over_set o nodes ≡ nodes key
-  over_some None nodes key is = absurd cc
-  over_some (Some k) nodes key is = let same : k ≡ key = cc in ap nodes same
+  over_some o nodes key is = grind arith
 
   pub lot_beneath : (t : Tree Node) (key : SetKey) → (root_node t).set ≡ Some key → key.player ≡ 0
       → nodes_beneath g steps path t
       ≡ lot_nodes g steps path (chances_at g (root_node t)) 1 (child_trees t)
-  lot_beneath (branch n ts) key is chance =
-      over_some n.set _ key is
-      ∙ ap (λ b. if b then by_lot g steps path (chances_at g n) 1 ts
-      else if steps key == 0 then by_action g steps path 1 ts
-      else if demanded path.demands (steps key) (count ts) == 0
-      then by_any g steps path (steps key) 1 ts
-      else by_action g steps path (demanded path.demands (steps key) (count ts)) ts)
-      (eq-eqb key.player 0 chance)
-      ∙ lot_list ts (chances_at g n) 1
+  lot_beneath (branch n ts) key is chance = grind (arith, over_some, eq-eqb, lot_list)
 
   -- the nodes below a player's node, if this action is taken
   abbrev pub below_by : ℕ → ℕ → List (Tree Node) → List Reached
@@ -82,37 +68,14 @@ module _ (g : Game) (steps : SetKey → ℕ) (path : Path) where
       else if demanded path.demands step (count ts) == 0 then by_any g steps path step 1 ts
       else by_action g steps path (demanded path.demands step (count ts)) ts)
       ≡ below_by step (taken path step actions) (list_of ts)
-  by_taken ts step actions is = rw is (at (step == 0))
-    where
-      free : (b : Bool) (action : ℕ)
-          → (if b then by_any g steps path step 1 ts else by_action g steps path action ts)
-          ≡ (if b then any_nodes g steps path step 1 (list_of ts)
-          else option_nodes g steps path (at_position (list_of ts) action))
-      free true action = any_list ts step 1
-      free false action = action_list ts action
-
-      at : (b : Bool) → (if b then by_action g steps path 1 ts
-          else if demanded path.demands step (count ts) == 0 then by_any g steps path step 1 ts
-          else by_action g steps path (demanded path.demands step (count ts)) ts)
-          ≡ below_by step (if b then 1 else demanded path.demands step (count ts)) (list_of ts)
-      at true = action_list ts 1
-      at false = free (demanded path.demands step (count ts) == 0)
-          (demanded path.demands step (count ts))
+  by_taken ts step actions is = grind (arith, any_list, action_list)
 
   pub choice_beneath : (t : Tree Node) (key : SetKey) (step : ℕ) → (root_node t).set ≡ Some key
       → ¬ (key.player ≡ 0) → steps key ≡ step
       → nodes_beneath g steps path t
       ≡ below_by step (taken path step (length (child_trees t))) (child_trees t)
   choice_beneath (branch n ts) key step is personal here =
-      over_some n.set _ key is
-      ∙ ap (λ b. if b then by_lot g steps path (chances_at g n) 1 ts
-      else if steps key == 0 then by_action g steps path 1 ts
-      else if demanded path.demands (steps key) (count ts) == 0
-      then by_any g steps path (steps key) 1 ts
-      else by_action g steps path (demanded path.demands (steps key) (count ts)) ts)
-      (false_from_ne_true (key.player == 0) (λ t. personal (eqb-true key.player 0 t)))
-      ∙ by_taken ts (steps key) (length (list_of ts)) (length-list_of ts)
-      ∙ ap (λ (s : ℕ). below_by s (taken path s (length (list_of ts))) (list_of ts)) here
+      grind (arith, over_some, false_from_ne_true, eqb-true, by_taken, length-list_of)
 
 -- ---- what is open
 

@@ -1,29 +1,23 @@
 -- Terms that fit together over one denominator, and those of them that add something.
-use Rattle.std.proofs.Common.{◌≡◌, ℕ, ℤ, suc, pos, ◌+◌, ◌-◌, ◌*◌, ◌/◌, ◌<◌, ◌≤◌, ◌^◌, ◌+ℤ◌}
-use Rattle.std.proofs.Common.{◌*ℤ◌}
-use Rattle.std.proofs.Common.{Bool, true, false, List, [], ◌∷◌, ◌++◌, length, get_or, take, drop}
-use Rattle.std.proofs.Common.{refl, ap, sym, subst, ◌∙◌, arith, lit<}
+use Rattle.std.proofs.Common.{◌≡◌, ℕ, ℤ, pos, ◌+◌, ◌-◌, ◌*◌, ◌/◌, ◌<◌, ◌≤◌, ◌^◌, ◌+ℤ◌, ◌*ℤ◌, Bool}
+use Rattle.std.proofs.Common.{true, List, [], ◌∷◌, ◌++◌, length, get_or, take, drop, ap, sym, subst}
+use Rattle.std.proofs.Common.{◌∙◌, arith}
 use Rattle.std.specs.Prelude.{if◌then◌else◌}
 use Rattle.std.specs.Int.{◌∣◌}
 use Rattle.std.specs.List.{AllByRecursion}
 use Rattle.std.proofs.Math.IntN.{zero-*ℤ}
 use Rattle.std.proofs.Math.Nat.{div-mul_cancel}
 use Rattle.std.proofs.Math.Seq.{take-length, take-suc}
-use Rattle.std.proofs.lemmas.Int.{ints}
-use Rattle.std.proofs.lemmas.List.Sorted.{IsNonDecreasingBy-short}
 use Rattle.std.proofs.lemmas.Nat.Gcd.{dvd_refl}
 use Rattle.gf_fraction.proofs.AllElements.{all_both, all_parts}
 use Rattle.gf_fraction.proofs.Integers.{*ℤ-cancel_right, *ℤ_assoc, *ℤ_right_comm, add-*ℤ}
 use Rattle.gf_tree.specs.Game.{Game}
-use Rattle.gf_form.specs.inner.rows.Demands.{meets, steps_of}
+use Rattle.gf_form.specs.inner.rows.Demands.{meets}
 use Rattle.gf_form.specs.inner.rows.Entries.{AreExactAt, AreOrdered, EndsBelow, Entry, IsShaped}
-use Rattle.gf_form.specs.inner.rows.Entries.{entries}
-use Rattle.gf_form.specs.inner.rows.Entries.{entries_of, entry_at, lowered, no_entry, no_head}
-use Rattle.gf_form.specs.inner.rows.Entries.{number_at}
-use Rattle.gf_form.specs.inner.rows.Entries.{size_of_entries, sum_of_entries}
+use Rattle.gf_form.specs.inner.rows.Entries.{entries, entries_of, entry_at, lowered, no_head}
+use Rattle.gf_form.specs.inner.rows.Entries.{number_at, size_of_entries, sum_of_entries}
 use Rattle.gf_form.specs.inner.rows.Paying.{FitOver, SettleAsWell, sizes_of}
 use Rattle.gf_form.specs.inner.rows.SettledRows.{SettlesAt}
-use Rattle.gf_form.specs.Strategies.{all_choices}
 use Rattle.gf_form.specs.declared.rows.terms.Head.{Head}
 use Rattle.gf_form.specs.declared.rows.terms.Terms.{Terms}
 use Rattle.gf_form.proofs.lemmas.rows.FlatRows.{entries_count, entry_head, head_at, heads_more}
@@ -43,8 +37,7 @@ are_over den p [] ns all = tt
 are_over den p (h ∷ hs) ns all = (all.0, are_over den p hs (drop p ns) all.1)
 
 chosen : (b : Bool) (n : ℕ) → (if b then n else 0) ≤ n
-chosen true n = omega arith
-chosen false n = omega arith
+chosen b n = grind arith
 
 module _ (den : ℕ) (above : 0 < den) (steps choices : List ℕ) where
   are_exact : (es : List Entry) → AllByRecursion (IsOver den) es
@@ -62,11 +55,7 @@ module _ (den : ℕ) (above : 0 < den) (steps choices : List ℕ) where
       → AllByRecursion (λ (h : Head). h.den ≡ den) hs
       → size_of_entries den steps choices (entries_of p hs ns) ≤ sizes_of hs
   sizes_met p [] ns all = omega arith
-  sizes_met p (h ∷ hs) ns all =
-      let one : den / h.den ≡ 1 = ap (λ (n : ℕ). den / n) all.0 ∙ itself den above in
-      let own : h.size * (den / h.den) ≡ h.size * 1 = ap (λ (n : ℕ). h.size * n) one in
-      let met = chosen (meets steps choices h.demands) (h.size * (den / h.den)) in
-      let rest = sizes_met p hs (drop p ns) all.1 in omega (arith, own, met, rest)
+  sizes_met p (h ∷ hs) ns all = grind (arith, itself, chosen, sizes_met p hs (drop p ns) all.1)
 
 -- ---- over a multiple of the denominator
 
@@ -78,16 +67,12 @@ module _ (k den most : ℕ) (above : 0 < den) (steps choices : List ℕ) where
       sym (ap (λ (n : ℕ). most / d * n) same) ∙ div-mul_cancel d divides in
       let one : den / d ≡ 1 = ap (λ (n : ℕ). den / n) same ∙ itself den above in
       let once : 1 * most ≡ most = omega arith in
-      let other : den / d * most ≡ most = ap (λ (n : ℕ). n * most) one ∙ once in
-      *ℤ_assoc z (pos (most / d)) (pos den)
-      ∙ ap (λ (n : ℕ). z *ℤ pos n) (own ∙ sym other)
-      ∙ sym (*ℤ_assoc z (pos (den / d)) (pos most))
+      cc (*ℤ_assoc z (pos (most / d)) (pos den), *ℤ_assoc z (pos (den / d)) (pos most))
 
   one_scaled : (b : Bool) (z : ℤ) (d : ℕ) → d ≡ den → (b ≡ true → (0 < d) × (d ∣ most))
       → (if b then z *ℤ pos (most / d) else pos 0) *ℤ pos den
       ≡ (if b then z *ℤ pos (den / d) else pos 0) *ℤ pos most
-  one_scaled true z d same exact = over_most z d same (exact refl).1
-  one_scaled false z d same exact = zero-*ℤ (pos den) ∙ sym (zero-*ℤ (pos most))
+  one_scaled b z d same exact = grind (arith, over_most, zero-*ℤ)
 
   all_scaled : (es : List Entry) → AllByRecursion (IsOver den) es
       → AreExactAt most steps choices es
@@ -101,8 +86,7 @@ module _ (k den most : ℕ) (above : 0 < den) (steps choices : List ℕ) where
       add-*ℤ (if met then z *ℤ pos (most / d) else pos 0) (sum_of_entries k most steps choices es)
       (pos den)
       ∙ (λ i. one_scaled met z d all.0 exact.0 i +ℤ all_scaled es all.1 exact.1 i)
-      ∙ sym (add-*ℤ (if met then z *ℤ pos (den / d) else pos 0)
-      (sum_of_entries k den steps choices es) (pos most))
+      ∙ sym (grind (arith, add-*ℤ))
 
 -- ---- some of the terms
 
@@ -114,17 +98,13 @@ pub record Kept (es left : List Entry) : Type 0 where
 
 kept_more : (es left : List Entry) (e : Entry) → Kept es left → Kept (es ++ e ∷ []) (left ++ e ∷ [])
 kept_more es left e before = record {
-  sums = λ k den steps choices. sum_append den steps choices k left (e ∷ [])
-      ∙ ap (λ (z : ℤ). z +ℤ sum_of_entries k den steps choices (e ∷ []))
-      (before.sums k den steps choices)
-      ∙ sym (sum_append den steps choices k es (e ∷ []));
+  sums = grind (arith, sum_append);
   among = λ den all. let parts = all_parts (IsOver den) es (e ∷ []) all in
       all_both (IsOver den) left (e ∷ []) (before.among den parts.0) parts.1;
 }
 
 none_met : (b : Bool) (z : ℤ) (n : ℕ) → z ≡ pos 0 → (if b then z *ℤ pos n else pos 0) ≡ pos 0
-none_met true z n none = ap (λ (x : ℤ). x *ℤ pos n) none ∙ zero-*ℤ (pos n)
-none_met false z n none = refl
+none_met b z n none = grind arith
 
 kept_zero : (es left : List Entry) (e : Entry) → ((k : ℕ) → number_at k e ≡ pos 0)
     → Kept es left → Kept (es ++ e ∷ []) left
@@ -132,11 +112,7 @@ kept_zero es left e none before = record {
   sums = λ k den steps choices.
       let own = if meets steps choices e.head.demands
       then number_at k e *ℤ pos (den / e.head.den) else pos 0 in
-      let nothing : own ≡ pos 0 = none_met (meets steps choices e.head.demands) (number_at k e)
-      (den / e.head.den) (none k) in
-      let s = sum_of_entries k den steps choices es in
-      let more : s ≡ s +ℤ (own +ℤ pos 0) = omega (arith, ints, nothing) in
-      before.sums k den steps choices ∙ more ∙ sym (sum_append den steps choices k es (e ∷ []));
+      grind (arith, none_met, sum_append);
   among = λ den all. before.among den (all_parts (IsOver den) es (e ∷ []) all).0;
 }
 
@@ -149,8 +125,7 @@ settled_as_well from left den fit kept g number steps choices settles k less mos
     let all = are_over den from.players hs ns fit.dens in
     let base = settles k less den fit.above fit.within
     (are_exact den fit.above steps choices (entries from) all)
-    (let met = sizes_met den fit.above steps choices from.players hs ns fit.dens in
-    let sizes = fit.sizes in omega (arith, met, sizes)) in
+    (grind (arith, sizes_met)) in
     let whole = sum_of_entries k den steps choices (entries from) in
     let left_whole = sum_of_entries k most steps choices (entries left) in
     let num = base.payoff.num in
@@ -182,30 +157,12 @@ pub record Paying (from : Terms) (i : ℕ) (left : Terms) : Type 0 where
 
 pub first_paying : (from left : Terms) → entries left ≡ [] → IsShaped left
     → left.players ≡ from.players → Paying from 0 left
-first_paying from left none shaped players =
-    let no_heads : length left.heads.items ≡ 0 =
-    sym (entries_count left.players left.heads.items left.numbers.items) ∙ ap length none in
-    record {
-      kept = subst (λ (es : List Entry). Kept es (entries left)) (sym (none_taken (entries from)))
-          (subst (Kept []) (sym none) (record {
-            sums = λ k den steps choices. refl;
-            among = λ den all. tt;
-          }));
-      shaped = shaped;
-      players = players;
-      ordered = IsNonDecreasingBy-short (λ (h : Head). h.demands) left.heads.items
-          (omega (arith, no_heads));
-      next = λ less d some. absurd (omega (arith, no_heads, some));
-    }
+first_paying from left none shaped players = grind (arith, entries_count, none_taken)
 
 module _ (from : Terms) (i : ℕ) (left : Terms) (sorted : AreOrdered from)
     (less : i < length from.heads.items) (before : Paying from i left) where
   one_more : take (i + 1) (entries from) ≡ take i (entries from) ++ entry_at from i ∷ []
-  one_more =
-      let count = entries_count from.players from.heads.items from.numbers.items in
-      let next : i + 1 ≡ suc i = omega arith in
-      ap (λ (n : ℕ). take n (entries from)) next
-      ∙ take-suc (entries from) i no_entry (omega (arith, count, less))
+  one_more = grind (arith, entries_count, take-suc)
 
   rises : i + 1 < length from.heads.items
       → (head_at from i).demands ≤ (head_at from (i + 1)).demands
@@ -219,13 +176,9 @@ module _ (from : Terms) (i : ℕ) (left : Terms) (sorted : AreOrdered from)
       let heads = heads_more after left.players left.heads.items left.numbers.items (lowered 0 e)
       is in
       let demands : (lowered 0 e).head.demands ≡ (head_at from i).demands =
-      ap (λ (f : Entry). f.head.demands) (lowered_none e)
-      ∙ ap (λ (h : Head). h.demands) (entry_head from i less) in
+      grind (arith, lowered_none, entry_head) in
       record {
-        kept = subst (λ (es : List Entry). Kept es (entries after)) (sym one_more)
-            (subst (Kept (take i (entries from) ++ e ∷ []))
-            (sym (is ∙ ap (λ (f : Entry). entries left ++ f ∷ []) (lowered_none e)))
-            (kept_more (take i (entries from)) (entries left) e before.kept));
+        kept = grind (arith, one_more, lowered_none, kept_more);
         shaped = shaped;
         players = players ∙ before.players;
         ordered = ordered_more left.heads.items after.heads.items (lowered 0 e).head heads
@@ -237,24 +190,13 @@ module _ (from : Terms) (i : ℕ) (left : Terms) (sorted : AreOrdered from)
       }
 
   pub same_paying : ((k : ℕ) → number_at k (entry_at from i) ≡ pos 0) → Paying from (i + 1) left
-  same_paying none = record {
-    kept = subst (λ (es : List Entry). Kept es (entries left)) (sym one_more)
-        (kept_zero (take i (entries from)) (entries left) (entry_at from i) none before.kept);
-    shaped = before.shaped;
-    players = before.players;
-    ordered = before.ordered;
-    next = λ there d some. let le = before.next less d some in
-        let up = rises there in omega (arith, le, up);
-  }
+  same_paying none = grind (arith, one_more, kept_zero, rises)
 
 pub last_paying : (from left : Terms) (i den : ℕ) → i ≡ length from.heads.items
     → FitOver den from.heads.items → Paying from i left → SettleAsWell from left
 last_paying from left i den all fit done =
     let count = entries_count from.players from.heads.items from.numbers.items in
-    settled_as_well from left den fit
-    (subst (λ (es : List Entry). Kept es (entries left))
-    (ap (λ (n : ℕ). take n (entries from)) (all ∙ sym count) ∙ take-length (entries from))
-    done.kept)
+    grind (arith, settled_as_well from left den fit (grind (arith, take-length)))
 
 -- ---- whether they fit
 
@@ -268,48 +210,16 @@ sizes_append : (xs ys : List Head) → sizes_of (xs ++ ys) ≡ sizes_of xs + siz
 sizes_append [] ys = omega arith
 sizes_append (x ∷ xs) ys = omega (arith, sizes_append xs ys)
 
-pub first_fitting : (den : ℕ) (heads : List Head) → Fitting den 0 heads 0
-first_fitting den heads = record {
-  dens = subst (AllByRecursion (λ (h : Head). h.den ≡ den)) (sym (none_taken heads)) tt;
-  sizes = ap sizes_of (none_taken heads);
-  within = lit< tt;
-}
-
 pub more_fitting : (den size more : ℕ) (heads : List Head) (i : ℕ) (h : Head)
     → i < length heads → h ≡ get_or heads i h → h.den ≡ den → more ≡ size + h.size
     → more < 2 ^ 127 → Fitting den size heads i → Fitting den more heads (i + 1)
 more_fitting den size more heads i h less is same sum within before =
-    let next : i + 1 ≡ suc i = omega arith in
-    let taken : take (i + 1) heads ≡ take i heads ++ h ∷ [] =
-    ap (λ (n : ℕ). take n heads) next ∙ take-suc heads i h less
-    ∙ ap (λ (g : Head). take i heads ++ g ∷ []) (sym is) in
-    record {
-      dens = subst (AllByRecursion (λ (g : Head). g.den ≡ den)) (sym taken)
-          (all_both (λ (g : Head). g.den ≡ den) (take i heads) (h ∷ []) before.dens (same, tt));
-      sizes = ap sizes_of taken ∙ sizes_append (take i heads) (h ∷ [])
-          ∙ (let so_far = before.sizes in omega (arith, so_far, sum));
-      within = within;
-    }
-
-pub all_fitting : (den size : ℕ) (heads : List Head) (i : ℕ) → i ≡ length heads → 0 < den
-    → den < 2 ^ 127 → Fitting den size heads i → FitOver den heads
-all_fitting den size heads i all above within done =
-    let whole : take i heads ≡ heads = ap (λ (n : ℕ). take n heads) all ∙ take-length heads in
-    record {
-      above = above;
-      within = within;
-      dens = subst (AllByRecursion (λ (h : Head). h.den ≡ den)) whole done.dens;
-      sizes = subst (λ (n : ℕ). n < 2 ^ 127) (sym done.sizes ∙ ap sizes_of whole) done.within;
-    }
+    let taken : take (i + 1) heads ≡ take i heads ++ h ∷ [] = grind (arith, take-suc) in
+    grind (arith, all_both, sizes_append)
 
 -- ---- profiles
 
 pub settled_at : (g : Game) (actions : List ℕ) (from left : Terms) (least number : ℕ)
     → SettleAsWell from left → SettlesAt g actions from least number
     → SettlesAt g actions left least number
-settled_at g actions from left least number as_well before = record {
-  from = before.from;
-  to = before.to;
-  settles = as_well g number (steps_of actions)
-      (get_or (all_choices actions) (number - least) []) before.settles;
-}
+settled_at g actions from left least number as_well before = grind arith

@@ -2,8 +2,7 @@
 use Rattle.std.proofs.Common.{◌≡◌, ℕ, ℤ, zero, suc, pos, ◌+◌, ◌*◌, ◌/◌, ◌^◌, ◌<◌, ◌≤◌, Bool, true}
 use Rattle.std.proofs.Common.{false, List, ◌∷◌, ◌++◌, Option, Some, None, MatchOption, length}
 use Rattle.std.proofs.Common.{get_or, set, refl, ap, sym, subst, ◌∙◌, arith, inr}
-use Rattle.std.specs.Prelude.{◌*ℤ◌, ◌+ℤ◌, ◌==◌, ◌&&◌, unsigned_abs}
-use Rattle.std.specs.Prelude.{option_map, if◌then◌else◌}
+use Rattle.std.specs.Prelude.{◌*ℤ◌, ◌+ℤ◌, ◌==◌, ◌&&◌, unsigned_abs, option_map, if◌then◌else◌}
 use Rattle.std.specs.List.{AllByRecursion}
 use Rattle.std.proofs.lemmas.Bool.{and_from, eq-eqb, eqb-false, eqb-true, ne_eqb}
 use Rattle.std.proofs.Math.IntN.{*ℤ_comm}
@@ -20,33 +19,31 @@ use Rattle.gf_tree.specs.Game.{Game, HasChildren, IsGame, Node, set_at}
 use Rattle.gf_tree.specs.Spellable.{IsSpellable}
 use Rattle.gf_form.specs.inner.rows.Demands.{meets, steps_of}
 use Rattle.gf_form.specs.Payoff.{payoff_at}
-use Rattle.gf_form.specs.inner.values.Program.{paid, paid_at_node}
+use Rattle.gf_form.specs.inner.values.Program.{paid_at_node}
 use Rattle.gf_form.specs.inner.rows.ReachedNodes.{below_set, by_action, by_any, by_chance}
 use Rattle.gf_form.specs.inner.rows.ReachedNodes.{by_choice, by_lot, demanded, has_room, is_sum}
 use Rattle.gf_form.specs.inner.rows.ReachedNodes.{is_sum_at, over_set, reached, root_path}
 use Rattle.gf_form.specs.inner.rows.Shares.{AreDigits, FitsAt, IsExactIfMet, met_bounds}
 use Rattle.gf_form.specs.inner.rows.Shares.{sum_of_shares}
-use Rattle.gf_form.specs.inner.values.Values.{chance_value, chances_at, child_value, value}
-use Rattle.gf_form.specs.inner.values.Values.{plus_of, times_of, value_over}
+use Rattle.gf_form.specs.inner.values.Values.{chance_value, chances_at, child_value, value, plus_of}
+use Rattle.gf_form.specs.inner.values.Values.{times_of, value_over}
 use Rattle.gf_form.specs.declared.rows.paths.Path.{Path}
 use Rattle.gf_form.specs.declared.rows.paths.Reached.{Reached}
 use Rattle.gf_form.proofs.lemmas.values.ChanceSigns.{chance_size}
 use Rattle.gf_form.proofs.lemmas.rows.DemandDigits.{met, met_digit, no_demands, none_met, none_pack}
-use Rattle.gf_form.proofs.lemmas.rows.DemandDigits.{none_within}
-use Rattle.gf_form.proofs.lemmas.rows.DemandDigits.{within_length}
+use Rattle.gf_form.proofs.lemmas.rows.DemandDigits.{none_within, within_length}
 use Rattle.gf_form.proofs.lemmas.rows.IdlePaths.{idle_weightless, unpaid_move, weightless}
 use Rattle.gf_form.proofs.lemmas.values.Denominators.{payoff_fraction, probability_fraction}
 use Rattle.gf_form.proofs.lemmas.values.ProgramRuns.{paid_is}
 use Rattle.gf_form.proofs.lemmas.rows.ShareSums.{bounds_append}
 use Rattle.gf_form.proofs.lemmas.rows.UnmetShares.{HasDigits, IsFree, any_unmet, chosen_digits}
-use Rattle.gf_form.proofs.lemmas.rows.UnmetShares.{digit_of}
-use Rattle.gf_form.proofs.lemmas.rows.UnmetShares.{digit_there, meets_digits, met_with, set_there}
-use Rattle.gf_form.proofs.lemmas.rows.UnmetShares.{unmet}
+use Rattle.gf_form.proofs.lemmas.rows.UnmetShares.{digit_of, digit_there, meets_digits, met_with}
+use Rattle.gf_form.proofs.lemmas.rows.UnmetShares.{set_there, unmet}
 use Rattle.gf_form.proofs.lemmas.rows.ValuedNodes.{IsAdded, IsPart, IsValued, child_added}
-use Rattle.gf_form.proofs.lemmas.rows.ValuedNodes.{from_nothing, idle_leaf, idle_move, idle_sum}
-use Rattle.gf_form.proofs.lemmas.rows.ValuedNodes.{leaf_valued, move_valued, next_limit, next_sum}
-use Rattle.gf_form.proofs.lemmas.rows.ValuedNodes.{no_child, none_added, part_value, same_sum}
-use Rattle.gf_form.proofs.lemmas.rows.ValuedNodes.{valued_before, valued_behind, valued_known}
+use Rattle.gf_form.proofs.lemmas.rows.ValuedNodes.{from_nothing, idle_leaf, idle_move, leaf_valued}
+use Rattle.gf_form.proofs.lemmas.rows.ValuedNodes.{move_valued, next_limit, next_sum, no_child}
+use Rattle.gf_form.proofs.lemmas.rows.ValuedNodes.{none_added, same_sum, valued_before}
+use Rattle.gf_form.proofs.lemmas.rows.ValuedNodes.{valued_behind, valued_known}
 use Rattle.gf_form.proofs.lemmas.values.ValuesComputed.{zero_fraction}
 
 module _ (g : Game) (game : IsGame g) (spellable : IsSpellable g) (steps choose : SetKey → ℕ)
@@ -78,8 +75,7 @@ module _ (g : Game) (game : IsGame g) (spellable : IsSpellable g) (steps choose 
 
   demands_met : (path : Path) (ds : List ℕ) → IsMet path ds
       → meets (steps_of actions) choices path.demands ≡ true
-  demands_met path ds is =
-      meets_digits g steps choose actions choices digits path ds is.has ∙ is.met
+  demands_met path ds is = cc (meets_digits g steps choose actions choices digits path ds is.has)
 
   parts : (xs ys : List Reached) → AreExact (xs ++ ys) → AreExact xs × AreExact ys
   parts xs ys h =
@@ -111,10 +107,7 @@ module _ (g : Game) (game : IsGame g) (spellable : IsSpellable g) (steps choose 
   personal_valued n ts path ds key is personal h action any = by_digit (steps key == 0) refl
     where
       chosen : (1 ≤ choose key) × (choose key ≤ count ts)
-      chosen =
-          let set = set_there g key (count ts) h in
-          let both = digits.chosen key set.0 set.1 personal in
-          (both.0, omega (arith, both.1, set.2))
+      chosen = grind (arith, set_there)
 
       by_demand : ¬ (steps key ≡ 0) → (b : Bool)
           → (demanded path.demands (steps key) (count ts) == 0) ≡ b
@@ -140,12 +133,8 @@ module _ (g : Game) (game : IsGame g) (spellable : IsSpellable g) (steps choose 
           λ e. eqb-false (demanded path.demands (steps key) (count ts)) 0 taken (there ∙ e) in
           let size = within_length actions ds is.has.1 in
           let same : choose key ≡ demanded path.demands (steps key) (count ts) =
-          sym d.choice_is
-          ∙ met_digit choices ds d.place (digits.one_each ∙ sym size)
-          (omega (arith, size, d.within)) is.met some
-          ∙ sym there in
-          subst (λ k. IfFits (child_value g choose player (choose key) ts) path
-          (by_action g steps path k ts)) same (action (choose key) chosen.0 chosen.1)
+          grind (arith, met_digit) in
+          grind arith
 
       by_digit : (b : Bool) → (steps key == 0) ≡ b
           → IfFits (child_value g choose player (choose key) ts) path
@@ -153,15 +142,8 @@ module _ (g : Game) (game : IsGame g) (spellable : IsSpellable g) (steps choose 
           else if demanded path.demands (steps key) (count ts) == 0
           then by_any g steps path (steps key) 1 ts
           else by_action g steps path (demanded path.demands (steps key) (count ts)) ts)
-      by_digit true one =
-          let set = set_there g key (count ts) h in
-          let alone = digits.alone key set.0 set.1 personal (eqb-true (steps key) 0 one) in
-          let same : choose key ≡ 1 = omega (arith, chosen.0, chosen.1, set.2, alone) in
-          subst (λ k. IfFits (child_value g choose player (choose key) ts) path
-          (by_action g steps path k ts)) same (action (choose key) chosen.0 chosen.1)
-      by_digit false several =
-          by_demand (eqb-false (steps key) 0 several)
-          (demanded path.demands (steps key) (count ts) == 0) refl
+      by_digit true one = grind (arith, set_there, eqb-true)
+      by_digit false several = grind (arith, by_demand, eqb-false)
 
   abbrev value_below : Node → Trees Node → SetKey → Option Ratio
   value_below n ts key =
@@ -182,25 +164,8 @@ module _ (g : Game) (game : IsGame g) (spellable : IsSpellable g) (steps choose 
       → get_or choices place 0 ≡ choice → 1 ≤ choice → choice ≤ count ts
       → IfFits (child_value g choose player choice ts) path (by_any g steps path step 1 ts))
       → IfFits (value_below n ts key) path (below_set g steps path n ts key)
-  below_valued n ts path ds key is h lot action any = by (key.player == 0) refl
-    where
-      by : (b : Bool) → (key.player == 0) ≡ b
-          → IfFits (if b
-          then chance_value g choose player (chances_at g n) 1 (Some zero_ratio) ts
-          else child_value g choose player (choose key) ts) path
-          (if b then by_lot g steps path (chances_at g n) 1 ts
-          else if steps key == 0 then by_action g steps path 1 ts
-          else if demanded path.demands (steps key) (count ts) == 0
-          then by_any g steps path (steps key) 1 ts
-          else by_action g steps path (demanded path.demands (steps key) (count ts)) ts)
-      by true chance = lot (eqb-true key.player 0 chance)
-      by false other =
-          let personal = eqb-false key.player 0 other in
-          let set = set_there g key (count ts) h in
-          let chosen = digits.chosen key set.0 set.1 personal in
-          personal_valued n ts path ds key is personal h action
-          (λ step place free choice.
-          any step place (choose key) free choice chosen.0 (omega (arith, chosen.1, set.2)))
+  below_valued n ts path ds key is h lot action any =
+      grind (arith, eqb-true, eqb-false, set_there, personal_valued)
 
   -- what is below a node, on any path that is not idle where chance moves
   abbrev Below : Node → Trees Node → List ℕ → Type 0
@@ -219,11 +184,7 @@ module _ (g : Game) (game : IsGame g) (spellable : IsSpellable g) (steps choose 
       (paid_is g player n) (own_fraction n) (exact.0 (demands_met path ds is))
       (demands_met path ds is)
   awake_valued n ts path ds is some below (Some key) at exact limit =
-      move_valued g player den den_above den_within (steps_of actions) choices
-      (record { path = path; outcome = paid_at_node g n }) (payoff_at g player n)
-      (paid_is g player n) (own_fraction n) (exact.0 (demands_met path ds is))
-      (demands_met path ds is)
-      _ _ some limit (below path is key at (λ chance. some) exact.1 (omega (arith, limit)))
+      grind (arith, move_valued, paid_is, own_fraction, demands_met)
 
   -- the node at the end of a path that is idle or is not, and at which something is added or is not
   abbrev met_if : Bool → Bool → Path → ℕ → Reached
@@ -249,32 +210,19 @@ module _ (g : Game) (game : IsGame g) (spellable : IsSpellable g) (steps choose 
       let above = eqb-false path.bound 0 idle in omega (arith, above) in
       awake_valued n ts path ds is some below o at
   node_valued n ts path ds is below None at true idle true adds = absurd cc
-  node_valued n ts path ds is below None at true idle false adds = λ exact limit.
-      let unbound = eqb-true path.bound 0 idle in
-      idle_leaf g player den den_above den_within (steps_of actions) choices
-      (record { path = path; outcome = 0 }) (is.weightless unbound) unbound (payoff_at g player n)
-      (own_fraction n)
+  node_valued n ts path ds is below None at true idle false adds =
+      grind (arith, eqb-true, idle_leaf, own_fraction)
   node_valued n ts path ds is below (Some key) at true idle true adds = λ exact limit.
       let anew : Path =
       record { weight = path.weight; bound = 1; den = 1; demands = path.demands } in
-      let on = awake_valued n ts anew ds (record {
-        has = is.has;
-        met = is.met;
-        weightless = λ nothing. absurd (omega (arith, nothing));
-      }) (omega arith) below (Some key) at exact limit in
-      idle_sum g player den den_above den_within (steps_of actions) choices _ path.weight
-      path.bound 1 path.den _ (eqb-true path.bound 0 idle) on
+      let on = awake_valued n ts anew ds (grind arith) (omega arith) below (Some key) at exact limit
+      in
+      grind arith
   node_valued n ts path ds is below (Some key) at true idle false adds = λ exact limit.
       let unbound = eqb-true path.bound 0 idle in
       let move = unpaid_move key (paid_at_node g n) adds in
-      let pay : payoff_at g player n ≡ zero_ratio =
-      sym (paid_is g player n) ∙ ap (paid g player) move.1 in
-      subst (λ (r : Ratio). Valued (plus_of (Some r) (value_below n ts key)) path
-      (record { path = path; outcome = 0 } ∷ below_set g steps path n ts key)) (sym pay)
-      (idle_move g player den den_above den_within (steps_of actions) choices
-      (record { path = path; outcome = 0 }) (is.weightless unbound) unbound (value_below n ts key)
-      (below_set g steps path n ts key)
-      (below path is key at (λ chance. absurd (move.0 chance)) exact.1 (omega (arith, limit))))
+      let pay : payoff_at g player n ≡ zero_ratio = cc (paid_is g player n) in
+      grind (arith, idle_move)
 
   -- the next child of a node of chance, with those after it
   child_valued : (c : Ratio) → IsFraction c → c.num ≡ pos (unsigned_abs c.num) → (path : Path)
@@ -465,19 +413,8 @@ pub reached_value : (g : Game) → IsGame g → IsSpellable g → (steps choose 
 reached_value g game spellable steps choose actions choices digits player den fits =
     let whole = valued g game spellable steps choose actions choices digits player den
     fits.den_above_zero fits.den_within g.tree root_path (no_demands actions) game.children
-    (record {
-      has = (sym (none_pack actions), none_within actions);
-      met = none_met choices actions;
-      weightless = λ unbound. absurd (omega (arith, unbound));
-    }) fits.exact fits.within in
+    (grind (arith, none_pack, none_within, none_met)) fits.exact fits.within in
     let sum : whole.amount
     ≡ sum_of_shares g player den (steps_of actions) choices (reached g steps root_path g.tree) =
     sym (whole.shares_are ∙ *ℤ_comm (pos 1) whole.amount ∙ *ℤ-one whole.amount) in
-    let over : den / 1 ≡ den = omega arith in (
-      whole.ratio,
-      whole.value_is,
-      whole.fraction,
-      subst (λ n. HasValue whole.ratio n den) sum
-          (subst (HasValue whole.ratio whole.amount) over (part_value den fits.den_above_zero
-          fits.den_within 1 whole.ratio whole.amount (whole.amount_is (omega arith)))),
-    )
+    let over : den / 1 ≡ den = omega arith in grind arith

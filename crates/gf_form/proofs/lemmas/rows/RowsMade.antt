@@ -1,7 +1,6 @@
 -- Rows of payoffs at profiles in turn, and the table that they make.
-use Rattle.std.proofs.Common.{◌≡◌, ℕ, ◌+◌, ◌*◌, ◌<◌, List, [], ◌∷◌, ◌++◌, length, map}
-use Rattle.std.proofs.Common.{get_or, take, refl, sym, ap, subst, ◌∙◌, add-one, arith, zero, suc}
-use Rattle.std.proofs.Common.{Some, slice_get}
+use Rattle.std.proofs.Common.{◌≡◌, ℕ, ◌+◌, ◌*◌, ◌<◌, List, [], ◌∷◌, ◌++◌, length, map, get_or, take}
+use Rattle.std.proofs.Common.{refl, sym, ap, subst, ◌∙◌, add-one, arith, zero, suc, Some, slice_get}
 use Rattle.std.proofs.lemmas.Option.{slice_get-get_or}
 use Rattle.std.specs.List.{AllByRecursion, AllZip, flat_map}
 use Rattle.std.proofs.Math.Nat.{suc-mul}
@@ -10,7 +9,6 @@ use Rattle.std.proofs.lemmas.Grind.{flat_map-append}
 use Rattle.std.proofs.lemmas.List.{append-nil, append_cancel_left, length-append, length-map}
 use Rattle.gf_fraction.specs.Ratio.{Ratio, IsFraction}
 use Rattle.gf_fraction.proofs.AllElements.{all_both, all_joined}
-use Rattle.gf_nfg.specs.Profiles.{profiles}
 use Rattle.gf_nfg.specs.Table.{Table, rows}
 use Rattle.gf_nfg.specs.TableAccess.{IsTableOf}
 use Rattle.gf_tree.specs.Game.{Game}
@@ -50,12 +48,8 @@ same_rows n [] (y ∷ ys) h k counted same = absurd (omega (arith, counted))
 same_rows n (x ∷ xs) [] h k counted same = absurd (omega (arith, counted))
 same_rows n (x ∷ xs) (y ∷ ys) h k counted same =
     let others = λ (rows : List (List _)). flat_map (λ row. row) rows in
-    let first : x ≡ y =
-    sym (take-append_seam x (others xs)) ∙ (λ i. take ((h.0 ∙ sym k.0) i) (same i))
-    ∙ take-append_seam y (others ys) in
-    let rest : others xs ≡ others ys =
-    append_cancel_left x (others xs) (others ys)
-    (same ∙ ap (λ (row : List _). row ++ others ys) (sym first)) in
+    let first : x ≡ y = cc (take-append_seam x (others xs), take-append_seam y (others ys)) in
+    let rest : others xs ≡ others ys = grind (arith, append_cancel_left, first) in
     λ i. first i ∷ same_rows n xs ys h.1 k.1 (omega (arith, counted)) rest i
 
 pub all_more : {A : Type 0} (P : A → Type 0) (xs : List A) (i : ℕ) (d : A) → i < length xs
@@ -96,38 +90,26 @@ module _ (R : List ℕ → List Ratio → Type 0) where
   one_row_more ps i payoffs next row less h right next_is =
       let all = λ (rows : List (List Ratio)). flat_map (λ row. row) rows in record {
         rows = h.rows ++ row ∷ [];
-        joined = next_is
-            ∙ (λ j. h.joined j ++ sym (append-nil row) j)
-            ∙ sym (flat_map-append (λ (row : List Ratio). row) h.rows (row ∷ []));
-        right = subst (λ (qs : List (List ℕ)). AllZip R qs (h.rows ++ row ∷ []))
-            (sym (take-suc ps i [] less) ∙ ap (λ (n : ℕ). take n ps) (sym (add-one i)))
-            (zip_more R (take i ps) h.rows (get_or ps i []) row h.right right);
+        joined = grind (arith, append-nil, flat_map-append);
+        right = grind (arith, take-suc, add-one, zip_more);
       }
 
   counted : (n : ℕ) (rows : List (List Ratio)) → AllByRecursion (λ row. length row ≡ n) rows
       → length (flat_map (λ row. row) rows) ≡ length rows * n
   counted n [] h = omega arith
-  counted n (row ∷ rows) h =
-      let both = length-append row (flat_map (λ row. row) rows) in
-      omega (arith, both, h.0, counted n rows h.1, suc-mul (length rows) n)
+  counted n (row ∷ rows) h = grind (arith, length-append, suc-mul, counted n rows h.1)
 
   -- if each row has this many
   pub rows_counted : (n : ℕ) → ((p : List ℕ) (row : List Ratio) → R p row → length row ≡ n)
       → (ps : List (List ℕ)) (payoffs : List Ratio) → AreRowsAt R ps payoffs
       → length payoffs ≡ length ps * n
-  rows_counted n each ps payoffs h =
-      ap length h.joined
-      ∙ counted n h.rows (all_second R (λ row. length row ≡ n) ps h.rows each h.right)
-      ∙ ap (λ (m : ℕ). m * n) (sym (as_many R ps h.rows h.right))
+  rows_counted n each ps payoffs h = grind (arith, counted, all_second, as_many)
 
   -- if all items of each row are fractions
   pub rows_fractions : ((p : List ℕ) (row : List Ratio) → R p row → AllByRecursion IsFraction row)
       → (ps : List (List ℕ)) (payoffs : List Ratio) → AreRowsAt R ps payoffs
       → AllByRecursion IsFraction payoffs
-  rows_fractions each ps payoffs h =
-      subst (AllByRecursion IsFraction) (sym h.joined)
-      (all_joined IsFraction h.rows
-      (all_second R (AllByRecursion IsFraction) ps h.rows each h.right))
+  rows_fractions each ps payoffs h = grind (arith, all_joined, all_second)
 
   -- the table of rows that are right is a form
   pub form_by_rows : (labels : ℕ → List (List ℕ)) (g : Game) (t : Table) (payoffs : List Ratio)
@@ -137,25 +119,11 @@ module _ (R : List ℕ → List Ratio → Type 0) where
   form_by_rows labels g t payoffs each made h =
       let n = length g.players in
       let ps = form_profiles labels g in
-      let listed : map (λ e. e.profile) t.entries ≡ ps =
-      made.is_table.one_entry_each
-      ∙ ap (λ (own : List (List (List ℕ))). profiles (map length own)) made.strategies_are in
-      let as_rows : length (rows t) ≡ length h.rows =
-      length-map t.entries (λ e. e.payoffs) ∙ sym (length-map t.entries (λ e. e.profile))
-      ∙ ap length listed ∙ as_many R ps h.rows h.right in
+      let as_rows : length (rows t) ≡ length h.rows = grind (arith, length-map, as_many) in
       let same : rows t ≡ h.rows =
       same_rows n (rows t) h.rows
       (subst (λ (players : List (List ℕ)). AllByRecursion (λ row. length row ≡ length players)
       (rows t)) made.players_are made.is_table.one_payoff_each)
       (all_second R (λ row. length row ≡ n) ps h.rows each h.right) as_rows
       (made.payoffs_are ∙ h.joined) in
-      record {
-        title = made.title_is;
-        comment = made.comment_is;
-        players = made.players_are;
-        strategies = made.strategies_are;
-        profiles = made.is_table.one_entry_each;
-        payoffs = zip_of_one R (λ e. e.profile) (λ e. e.payoffs) t.entries
-            (subst (λ (qs : List (List ℕ)). AllZip R qs (rows t)) (sym listed)
-            (subst (λ (rs : List (List Ratio)). AllZip R ps rs) (sym same) h.right));
-      }
+      grind (arith, zip_of_one)

@@ -1,14 +1,13 @@
 -- What is left of terms once an action is chosen, and the profiles that it settles.
 use Rattle.std.proofs.Common.{◌≡◌, ℕ, ◌+◌, ◌-◌, ◌*◌, ◌/◌, ◌<◌, ◌≤◌, ◌^◌, ◌⊎◌, inl, inr, List, []}
 use Rattle.std.proofs.Common.{◌∷◌, get_or, ap, sym, subst, ◌∙◌, arith}
-use Rattle.std.proofs.Math.Nat.{div-lt_iff_lt-mul, div-mul-le_self, lt-div-mul-add}
 use Rattle.std.proofs.Math.Nat.{mul-div_cancel, mul-le-mul_right}
 use Rattle.std.proofs.lemmas.Bool.{cases_lt}
 use Rattle.gf_nfg.specs.Profiles.{product}
 use Rattle.gf_tree.specs.Game.{Game}
-use Rattle.gf_form.specs.inner.rows.Demands.{spans, steps_of}
+use Rattle.gf_form.specs.inner.rows.Demands.{spans}
 use Rattle.gf_form.specs.inner.rows.Entries.{AreMerged, Entry, entries}
-use Rattle.gf_form.specs.inner.rows.SettledRows.{PaysOver, SettleRows, Settles, SettlesAt}
+use Rattle.gf_form.specs.inner.rows.SettledRows.{SettleRows, Settles, SettlesAt}
 use Rattle.gf_form.specs.declared.rows.written.Asked.{Asked}
 use Rattle.gf_form.specs.declared.rows.written.Run.{Run}
 use Rattle.gf_form.specs.Strategies.{all_choices}
@@ -27,8 +26,7 @@ choice_first n ns b r less within =
     let there : place ns c ≡ r =
     place_at ns r [] (omega (arith, within, length-all_choices ns)) in
     let back : b + 1 - 1 ≡ b = omega arith in
-    let at : place (n ∷ ns) ((b + 1) ∷ c) ≡ b * product ns + r =
-    λ i. back i * product ns + there i in
+    let at : place (n ∷ ns) ((b + 1) ∷ c) ≡ b * product ns + r = cc in
     ap (λ (k : ℕ). get_or (all_choices (n ∷ ns)) k []) (sym at)
     ∙ choice_there (n ∷ ns) ((b + 1) ∷ c)
     ((omega arith, omega (arith, less)), choice_at_number ns r within)
@@ -47,17 +45,7 @@ pub record IsChoiceOf (n count number before first : ℕ) : Type 0 where
 pub choice_of : (n count least number : ℕ) → least ≤ number → number - least < n * count
     → (0 < count) × IsChoiceOf n count number ((number - least) / count)
     (least + (number - least) / count * count)
-choice_of n count least number from to =
-    let above = (positive_parts n count (number - least) to).1 in
-    let below = div-mul-le_self (number - least) count in
-    let past = lt-div-mul-add {a = number - least} {b = count} above in (
-      above,
-      record {
-        less = (div-lt_iff_lt-mul {k = count} {x = number - least} {y = n} above).1 to;
-        from = omega (arith, below, from);
-        to = omega (arith, past, below, from);
-      },
-    )
+choice_of n count least number from to = grind arith
 
 settled_left : (g : Game) (number step action : ℕ) (steps choices : List ℕ) (es left : List Entry)
     → AreMerged step action es left → Settles g number (step ∷ steps) (action ∷ choices) es
@@ -65,8 +53,7 @@ settled_left : (g : Game) (number step action : ℕ) (steps choices : List ℕ) 
 settled_left g number step action steps choices es left merged settles k less den above within exact
     small =
     let come = merged den steps choices exact in
-    subst (PaysOver g number k den) (come.sums k)
-    (settles k less den above within come.exact (omega (arith, come.sizes, small)))
+    grind arith
 
 settled_behind : (g : Game) (n : ℕ) (ns : List ℕ) (terms left : Terms)
     (least number b first : ℕ) → SettlesAt g (n ∷ ns) terms least number → b < n
@@ -80,12 +67,8 @@ settled_behind g n ns terms left least number b first before less is from to mer
       let r = number - first in
       let whole : number - least ≡ b * product ns + r = omega (arith, is, from, before.from) in
       let choices : get_or (all_choices (n ∷ ns)) (number - least) []
-      ≡ (b + 1) ∷ get_or (all_choices ns) r [] =
-      ap (λ (k : ℕ). get_or (all_choices (n ∷ ns)) k []) whole ∙ choice_first n ns b r less to in
-      settled_left g number (product (spans ns)) (b + 1) (steps_of ns)
-      (get_or (all_choices ns) r []) (entries terms) (entries left) merged
-      (subst (λ (c : List ℕ). Settles g number (steps_of (n ∷ ns)) c (entries terms)) choices
-      before.settles);
+      ≡ (b + 1) ∷ get_or (all_choices ns) r [] = cc (choice_first n ns b r less to) in
+      grind (arith, settled_left);
 }
 
 -- the first of these profiles, and those with the same choice at the slowest digit
@@ -105,9 +88,7 @@ module _ (asked : Asked) (n : ℕ) (ns : List ℕ) (terms : Terms) (run : Run)
       ap (λ (c : ℕ). c / n) turned ∙ mul-div_cancel (product ns) parts.0
 
   pub some_stride : 0 < run.count / n
-  some_stride =
-      let parts = positive_parts n (product ns) (number run.from - run.first) here.to in
-      let above = parts.1 in omega (arith, above, stride_is)
+  some_stride = grind (arith, positive_parts, stride_is)
 
   abbrev before : ℕ
   before = (number run.from - run.first) / (run.count / n)
@@ -116,11 +97,7 @@ module _ (asked : Asked) (n : ℕ) (ns : List ℕ) (terms : Terms) (run : Run)
   first = run.first + before * (run.count / n)
 
   choice : IsChoiceOf n (product ns) (number run.from) before first
-  choice =
-      subst (λ (s : ℕ). IsChoiceOf n (product ns) (number run.from)
-      ((number run.from - run.first) / s)
-      (run.first + (number run.from - run.first) / s * s)) (sym stride_is)
-      (choice_of n (product ns) run.first (number run.from) here.from here.to).1
+  choice = grind (arith, stride_is, choice_of)
 
   pub step_within : (step : ℕ) → (n + 1) * step < 2 ^ 64 → (before + 1) * step + step < 2 ^ 64
   step_within step bound =
@@ -145,7 +122,4 @@ module _ (asked : Asked) (n : ℕ) (ns : List ℕ) (terms : Terms) (run : Run)
       at : (run.from < i) ⊎ (i ≤ run.from)
           → (first ≤ number i) × (number i < first + run.count / n)
       at (inl h) = alike i (omega (arith, h)) less
-      at (inr h) =
-          let same : run.from ≡ i = omega (arith, h, more) in
-          subst (λ (k : ℕ). (first ≤ number k) × (number k < first + run.count / n)) same
-          (choice.from, omega (arith, choice.from, choice.to, stride_is))
+      at (inr h) = grind (arith, stride_is)

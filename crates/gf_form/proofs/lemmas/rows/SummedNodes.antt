@@ -1,24 +1,20 @@
 -- Nodes that differ in weight alone have the shares of their sum.
-use Rattle.std.proofs.Common.{◌≡◌, ℕ, ℤ, pos, ◌+◌, ◌-◌, ◌*◌, ◌<◌, ◌≤◌, ◌*ℤ◌, Bool, true, false}
-use Rattle.std.proofs.Common.{List, [], ◌∷◌, ◌++◌, arith, refl, ap, sym, subst, ◌∙◌, get_or, length}
-use Rattle.std.proofs.Common.{set, suc, take}
-use Rattle.std.specs.Prelude.{◌+ℤ◌, if◌then◌else◌, unsigned_abs}
+use Rattle.std.proofs.Common.{◌≡◌, ℕ, ℤ, pos, ◌+◌, ◌-◌, ◌*◌, ◌<◌, ◌≤◌, ◌*ℤ◌, Bool, List, [], ◌∷◌}
+use Rattle.std.proofs.Common.{◌++◌, arith, refl, ap, sym, subst, ◌∙◌, get_or, length, set, take}
+use Rattle.std.specs.Prelude.{◌+ℤ◌, if◌then◌else◌}
 use Rattle.std.specs.List.Sorted.{IsNonDecreasingBy, IsPermutation}
 use Rattle.std.proofs.Math.Nat.{mod-lt}
 use Rattle.std.proofs.Math.Seq.{get_or-append_seam, take-length}
-use Rattle.std.proofs.lemmas.Int.{ints}
 use Rattle.std.proofs.lemmas.List.{append_assoc, get_or_default, get_or-set_other, length-append}
 use Rattle.std.proofs.lemmas.List.{length-set, take_more, take_more_set}
 use Rattle.std.proofs.lemmas.List.Elements.{All-from_recursion, recursion_from_All}
 use Rattle.std.proofs.lemmas.List.Sorted.{All-permutation, IsNonDecreasingBy-push}
 use Rattle.std.proofs.lemmas.List.Sorted.{IsPermutation-sym}
 use Rattle.gf_fraction.proofs.AllElements.{all_both, all_parts}
-use Rattle.gf_fraction.proofs.Integers.{add-*ℤ}
 use Rattle.gf_tree.specs.Game.{Game}
-use Rattle.gf_form.specs.inner.rows.Demands.{meets}
 use Rattle.gf_form.specs.inner.rows.Entries.{Entry}
 use Rattle.gf_form.specs.inner.rows.ListedNodes.{AreTermsOf}
-use Rattle.gf_form.specs.inner.rows.Shares.{IsExactIfMet, over, pay_at, scale}
+use Rattle.gf_form.specs.inner.rows.Shares.{IsExactIfMet}
 use Rattle.gf_form.specs.inner.rows.SummedNodes.{HaveSharesOf, IsNodeSum, order_of, weighing}
 use Rattle.gf_form.specs.declared.rows.paths.Reached.{Reached}
 use Rattle.gf_form.proofs.lemmas.rows.FlatRows.{none_taken}
@@ -29,22 +25,11 @@ use Rattle.gf_form.proofs.lemmas.rows.ShareSums.{bounds_append, shares_append}
 -- ---- lists of nodes
 
 pub have_same : (rs : List Reached) → HaveSharesOf rs rs
-have_same rs = record {
-  exact = λ g player den steps choices all. all;
-  sums = λ g player den steps choices. refl;
-  bounds = λ g player den steps choices. refl;
-}
+have_same rs = grind arith
 
 pub have_then : (rs ss ts : List Reached) → HaveSharesOf rs ss → HaveSharesOf ss ts
     → HaveSharesOf rs ts
-have_then rs ss ts first second = record {
-  exact = λ g player den steps choices all. first.exact g player den steps choices
-      (second.exact g player den steps choices all);
-  sums = λ g player den steps choices. first.sums g player den steps choices
-      ∙ second.sums g player den steps choices;
-  bounds = λ g player den steps choices. first.bounds g player den steps choices
-      ∙ second.bounds g player den steps choices;
-}
+have_then rs ss ts first second = grind arith
 
 pub have_both : (rs ss ps qs : List Reached) → HaveSharesOf rs ss → HaveSharesOf ps qs
     → HaveSharesOf (rs ++ ps) (ss ++ qs)
@@ -52,16 +37,9 @@ have_both rs ss ps qs first second = record {
   exact = λ g player den steps choices all.
       let P = IsExactIfMet g player den steps choices in
       let both = all_parts P ss qs all in
-      all_both P rs ps (first.exact g player den steps choices both.0)
-      (second.exact g player den steps choices both.1);
-  sums = λ g player den steps choices. shares_append g player den steps choices rs ps
-      ∙ (λ i. first.sums g player den steps choices i
-      +ℤ second.sums g player den steps choices i)
-      ∙ sym (shares_append g player den steps choices ss qs);
-  bounds = λ g player den steps choices. bounds_append g player den steps choices rs ps
-      ∙ (λ i. first.bounds g player den steps choices i
-      + second.bounds g player den steps choices i)
-      ∙ sym (bounds_append g player den steps choices ss qs);
+      grind (arith, all_both);
+  sums = grind (arith, shares_append);
+  bounds = grind (arith, bounds_append);
 }
 
 pub have_permuted : (rs ss : List Reached) → IsPermutation rs ss → HaveSharesOf rs ss
@@ -70,8 +48,7 @@ have_permuted rs ss order = record {
       recursion_from_All P rs (All-permutation P ss rs (IsPermutation-sym rs ss order)
       (All-from_recursion P ss all));
   sums = λ g player den steps choices. sym (shares_permuted g player den steps choices rs ss order);
-  bounds = λ g player den steps choices.
-      sym (bounds_permuted g player den steps choices rs ss order);
+  bounds = grind (arith, bounds_permuted);
 }
 
 -- ---- two nodes and their sum
@@ -79,39 +56,22 @@ have_permuted rs ss order = record {
 both_met : (met : Bool) (v w : ℕ) (number : ℤ) → (if met then pos v *ℤ number else pos 0)
     +ℤ ((if met then pos w *ℤ number else pos 0) +ℤ pos 0)
     ≡ (if met then pos (v + w) *ℤ number else pos 0) +ℤ pos 0
-both_met true v w number = let both = add-*ℤ (pos v) (pos w) number in omega (arith, ints, both)
-both_met false v w number = refl
+both_met met v w number = grind arith
 
 both_bound : (met : Bool) (v w size : ℕ) → (if met then v * size else 0)
     + ((if met then w * size else 0) + 0) ≡ (if met then (v + w) * size else 0) + 0
-both_bound true v w size = omega arith
-both_bound false v w size = refl
+both_bound met v w size = grind arith
 
 weights_sum : (r : Reached) (w b : ℕ) → HaveSharesOf (r ∷ weighing r w b ∷ [])
     (weighing r (r.path.weight + w) (r.path.bound + b) ∷ [])
-weights_sum r w b = record {
-  exact = λ g player den steps choices all. (
-    λ met pays. let h = all.0 met pays in record { path = h.path; pay = h.pay },
-    (λ met pays. let h = all.0 met pays in record { path = h.path; pay = h.pay }, tt),
-  );
-  sums = λ g player den steps choices. both_met (meets steps choices r.path.demands) r.path.weight w
-      (over (scale den r) (pay_at g player r));
-  bounds = λ g player den steps choices. both_bound (meets steps choices r.path.demands)
-      r.path.bound b (unsigned_abs (over (scale den r) (pay_at g player r)));
-}
+weights_sum r w b = grind (arith, both_met, both_bound)
 
 sum_shares : (r s sum : Reached) → IsNodeSum r s sum → HaveSharesOf (r ∷ s ∷ []) (sum ∷ [])
 sum_shares r s sum h =
     let weight = s.path.weight in
     let bound = s.path.bound in
-    let like : s ≡ weighing r weight bound = λ i. record {
-      path = record { weight = weight; bound = bound; den = h.den i; demands = h.demands i };
-      outcome = h.outcome i;
-    } in
-    subst (λ (t : Reached). HaveSharesOf (r ∷ s ∷ []) (t ∷ [])) (sym h.is)
-    (subst (λ (t : Reached). HaveSharesOf (r ∷ t ∷ [])
-    (weighing r (r.path.weight + weight) (r.path.bound + bound) ∷ []))
-    (sym like) (weights_sum r weight bound))
+    let like : s ≡ weighing r weight bound = grind arith in
+    grind (arith, weights_sum)
 
 -- ---- node by node
 
@@ -122,8 +82,6 @@ demands_of r = r.path.demands
 pub in_order : (rs : List Reached) → IsNonDecreasingBy order_of rs
     → IsNonDecreasingBy demands_of rs
 in_order rs sorted i j d le less =
-    let r = get_or rs i d in
-    let s = get_or rs j d in
     let up = sorted i j d le less in
     omega (arith, up, mod-lt)
 
@@ -141,13 +99,7 @@ module _ (rs : List Reached) (sorted : IsNonDecreasingBy demands_of rs) where
   up at there = sorted at (at + 1) no_node (omega arith) there
 
   pub first_summed : 0 < length rs → Summing rs 1 [] (node_at rs 0)
-  first_summed some = record {
-    shares = subst (λ (ns : List Reached). HaveSharesOf ns (node_at rs 0 ∷ []))
-        (sym (take_more rs 0 no_node some)) (have_same (node_at rs 0 ∷ []));
-    ordered = λ i j d le less. absurd (omega (arith, less));
-    ends = λ d less. absurd (omega (arith, less));
-    next = up 0;
-  }
+  first_summed some = grind (arith, node_at, take_more, no_node, have_same, up)
 
   module _ (at : ℕ) (less : at < length rs) (sums : List Reached) (last : Reached)
       (before : Summing rs at sums last) where
@@ -158,22 +110,11 @@ module _ (rs : List Reached) (sorted : IsNonDecreasingBy demands_of rs) where
     both =
         subst (λ (ns : List Reached). HaveSharesOf ns ((sums ++ last ∷ []) ++ r ∷ []))
         (sym (take_more rs at no_node less))
-        (have_both (take at rs) (sums ++ last ∷ []) (r ∷ []) (r ∷ []) before.shares
-        (have_same (r ∷ [])))
+        (grind (arith, have_both, have_same))
 
     pub one_added : (sum : Reached) → IsNodeSum last r sum → Summing rs (at + 1) sums sum
     one_added sum h =
-        let demands = ap demands_of h.is in record {
-          shares = have_then (take (at + 1) rs) ((sums ++ last ∷ []) ++ r ∷ []) (sums ++ sum ∷ [])
-              both
-              (subst (λ (ns : List Reached). HaveSharesOf ns (sums ++ sum ∷ []))
-              (sym (append_assoc sums (last ∷ []) (r ∷ [])))
-              (have_both sums sums (last ∷ r ∷ []) (sum ∷ []) (have_same sums)
-              (sum_shares last r sum h)));
-          ordered = before.ordered;
-          ends = λ d some. let le = before.ends d some in omega (arith, le, demands);
-          next = λ there. omega (arith, up at there, demands, h.demands);
-        }
+        grind (arith, have_then, both, append_assoc, have_both, have_same, sum_shares, up)
 
     pub one_apart : Summing rs (at + 1) (sums ++ last ∷ []) r
     one_apart = record {
@@ -181,10 +122,7 @@ module _ (rs : List Reached) (sorted : IsNonDecreasingBy demands_of rs) where
       ordered = IsNonDecreasingBy-push demands_of sums last before.ordered before.ends;
       ends = λ d some. let count : length (sums ++ last ∷ []) - 1 ≡ length sums =
           omega (arith, length-append sums (last ∷ [])) in
-          let there : get_or (sums ++ last ∷ []) (length (sums ++ last ∷ []) - 1) d ≡ last =
-          ap (λ (n : ℕ). get_or (sums ++ last ∷ []) n d) count
-          ∙ get_or-append_seam sums last [] d in
-          omega (arith, before.next less, ap demands_of there);
+          grind (arith, get_or-append_seam);
       next = up at;
     }
 
@@ -201,8 +139,7 @@ module _ (rs : List Reached) (sorted : IsNonDecreasingBy demands_of rs) where
   pub first_adding : 0 < length rs → (r : Reached) → r ≡ get_or rs 0 r → AddingUp rs 1 0 rs r
   first_adding some r is = record {
     summing = subst (λ (ns : List Reached). Summing rs 1 ns r) (sym (none_taken rs))
-        (subst (Summing rs 1 []) (sym (is ∙ get_or_default rs 0 r no_node some))
-        (first_summed rs sorted some));
+        (grind (arith, get_or_default rs 0 r no_node some, first_summed rs sorted some));
     left = λ k d more. refl;
     room = omega arith;
     within = omega (arith, some);
@@ -216,14 +153,7 @@ module _ (rs : List Reached) (sorted : IsNonDecreasingBy demands_of rs) where
     there = read ∙ before.left at node (omega arith) ∙ get_or_default rs at node no_node less
 
     pub last_grows : (sum : Reached) → IsNodeSum last node sum → AddingUp rs (at + 1) count now sum
-    last_grows sum h = record {
-      summing = one_added rs sorted at less (take count now) last before.summing sum
-          (subst (λ (n : Reached). IsNodeSum last n sum) there h);
-      left = λ k d more. before.left k d (omega (arith, more));
-      room = omega (arith, before.room);
-      within = omega (arith, less);
-      length_is = before.length_is;
-    }
+    last_grows sum h = grind (arith, one_added, there)
 
     pub last_is_kept : AddingUp rs (at + 1) (count + 1) (set now count last) node
     last_is_kept = record {
@@ -231,8 +161,7 @@ module _ (rs : List Reached) (sorted : IsNonDecreasingBy demands_of rs) where
           (sym (take_more_set now count last (omega (arith, before.room, less, before.length_is))))
           (subst (Summing rs (at + 1) (take count now ++ last ∷ [])) (sym there)
           (one_apart rs sorted at less (take count now) last before.summing));
-      left = λ k d more. get_or-set_other now count k last d
-          (λ e. omega (arith, e, more, before.room)) ∙ before.left k d (omega (arith, more));
+      left = grind (arith, get_or-set_other);
       room = omega (arith, before.room);
       within = omega (arith, less);
       length_is = length-set now count last ∙ before.length_is;
@@ -261,10 +190,4 @@ all_added rs at count now last done end =
 -- the terms of nodes are terms of those whose shares they have
 pub terms_of_sums : (g : Game) (players : ℕ) (rs ss : List Reached) (es : List Entry)
     → HaveSharesOf rs ss → AreTermsOf g players ss es → AreTermsOf g players rs es
-terms_of_sums g players rs ss es have told k less den steps choices exact =
-    let h = told k less den steps choices exact in record {
-      exact = have.exact g (suc k) den steps choices h.exact;
-      sums = have.sums g (suc k) den steps choices ∙ h.sums;
-      bounds = let most = h.bounds in
-          omega (arith, have.bounds g (suc k) den steps choices, most);
-    }
+terms_of_sums g players rs ss es have told k less den steps choices exact = grind arith

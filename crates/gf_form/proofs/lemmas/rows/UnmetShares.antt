@@ -1,9 +1,8 @@
 -- The digits of the sets along a path, and that nothing is added if choices do not meet them.
-use Rattle.std.proofs.Common.{◌≡◌, ℕ, zero, suc, pos, ◌+◌, ◌*◌, ◌%◌, ◌^◌, ◌<◌, ◌≤◌, Bool, true}
-use Rattle.std.proofs.Common.{false, List}
-use Rattle.std.proofs.Common.{◌++◌, Option, Some, None, MatchOption, length, get_or, set, refl}
-use Rattle.std.proofs.Common.{ap, sym, subst, ◌∙◌, arith}
-use Rattle.std.specs.Prelude.{ℤ, ◌+ℤ◌, ◌==◌, ◌&&◌, option_map, if◌then◌else◌}
+use Rattle.std.proofs.Common.{◌≡◌, ℕ, zero, suc, pos, ◌+◌, ◌^◌, ◌<◌, ◌≤◌, Bool, true, false, List}
+use Rattle.std.proofs.Common.{◌++◌, Option, Some, None, MatchOption, length, get_or, set, refl, ap}
+use Rattle.std.proofs.Common.{sym, ◌∙◌, arith}
+use Rattle.std.specs.Prelude.{ℤ, ◌==◌, ◌&&◌, option_map, if◌then◌else◌}
 use Rattle.std.specs.List.{AllByRecursion}
 use Rattle.std.proofs.lemmas.Bool.{eqb-false, eqb-true}
 use Rattle.std.proofs.Math.Nat.{mod-eq_of_lt}
@@ -25,22 +24,15 @@ use Rattle.gf_form.specs.inner.values.Values.{chances_at}
 use Rattle.gf_form.specs.declared.rows.paths.Path.{Path}
 use Rattle.gf_form.specs.declared.rows.paths.Reached.{Reached}
 use Rattle.gf_form.proofs.lemmas.rows.DemandDigits.{AreWithin, digit_is, meets_is, met, met_set}
-use Rattle.gf_form.proofs.lemmas.rows.DemandDigits.{pack}
-use Rattle.gf_form.proofs.lemmas.rows.DemandDigits.{pack_below}
-use Rattle.gf_form.proofs.lemmas.rows.DemandDigits.{set_pack, set_within, within_length}
+use Rattle.gf_form.proofs.lemmas.rows.DemandDigits.{pack, pack_below, set_pack, set_within}
+use Rattle.gf_form.proofs.lemmas.rows.DemandDigits.{within_length}
 use Rattle.gf_form.proofs.lemmas.rows.ShareSums.{shares_append, unmet_first}
 
 -- a set with this many actions is at a node with children
 pub set_there : (g : Game) (key : SetKey) (m : ℕ)
     → option_map (λ set. length set.actions) (set_at g key) ≡ Some m
     → (set : InformationSet) × (set_at g key ≡ Some set) × (length set.actions ≡ m)
-set_there g key m h = by (set_at g key) refl h
-  where
-    by : (o : Option InformationSet) → set_at g key ≡ o
-        → option_map (λ set. length set.actions) o ≡ Some m
-        → (set : InformationSet) × (set_at g key ≡ Some set) × (length set.actions ≡ m)
-    by None at e = absurd cc
-    by (Some set) at e = (set, at, (let same : length set.actions ≡ m = cc in same))
+set_there g key m h = grind arith
 
 -- the path's demands have these digits
 abbrev pub HasDigits : List ℕ → Path → List ℕ → Type 0
@@ -56,23 +48,14 @@ pub record IsFree (actions ds : List ℕ) (step count place : ℕ) : Type 0 wher
 pub digit_there : (actions choices ds : List ℕ) (path : Path) (step count choice : ℕ)
     → HasDigits actions path ds → (d : IsDigitOf actions choices step count choice)
     → demanded path.demands step count ≡ get_or ds d.place 0
-digit_there actions choices ds path step count choice has d =
-    (λ i. demanded (has.0 i) (sym d.step_is i) (sym d.actions_are i))
-    ∙ digit_is actions ds d.place has.1 d.within
+digit_there actions choices ds path step count choice has d = grind (arith, digit_is)
 
 pub chosen_digits : (actions ds : List ℕ) (path : Path) (step count place k : ℕ)
     → product (spans actions) < 2 ^ 64 → HasDigits actions path ds
     → IsFree actions ds step count place → k ≤ count
     → HasDigits actions (by_choice path step k) (set ds place k)
 chosen_digits actions ds path step count place k small has free le =
-    let within = set_within actions ds place k has.1 (omega (arith, le, free.actions_are)) in
-    let more : path.demands + k * step ≡ pack actions (set ds place k) =
-    (λ i. has.0 i + k * sym free.step_is i)
-    ∙ set_pack actions ds place k has.1 free.within free.free in (
-      ap (λ (n : ℕ). n % 2 ^ 64) more
-          ∙ mod-eq_of_lt (omega (arith, pack_below actions (set ds place k) within, small)),
-      within,
-    )
+    grind (arith, set_within, pack, set_pack, mod-eq_of_lt, pack_below)
 
 module _ (g : Game) (steps choose : SetKey → ℕ) (actions choices : List ℕ)
     (digits : AreDigits g steps choose actions choices) where
@@ -80,25 +63,17 @@ module _ (g : Game) (steps choose : SetKey → ℕ) (actions choices : List ℕ)
   pub digit_of : (key : SetKey) (m : ℕ) → ¬ (key.player ≡ 0) → ¬ (steps key ≡ 0)
       → option_map (λ set. length set.actions) (set_at g key) ≡ Some m
       → IsDigitOf actions choices (steps key) m (choose key)
-  digit_of key m personal several h =
-      let set = set_there g key m h in
-      subst (λ c. IsDigitOf actions choices (steps key) c (choose key)) set.2
-      (digits.several key set.0 set.1 personal several)
+  digit_of key m personal several h = grind arith
 
   pub meets_digits : (path : Path) (ds : List ℕ) → HasDigits actions path ds
       → meets (steps_of actions) choices path.demands ≡ met choices ds
-  meets_digits path ds has =
-      ap (meets (steps_of actions) choices) has.0
-      ∙ meets_is actions choices ds digits.one_each has.1
+  meets_digits path ds has = grind (arith, meets_is)
 
   -- whether the choices meet the demands when another is added
   pub met_with : (ds : List ℕ) (step count place k : ℕ) → AreWithin actions ds
       → IsFree actions ds step count place → 1 ≤ k
       → met choices (set ds place k) ≡ (met choices ds && k == get_or choices place 0)
-  met_with ds step count place k within free some =
-      let size = within_length actions ds within in
-      met_set choices ds place k (digits.one_each ∙ sym size)
-      (omega (arith, size, free.within)) free.free some
+  met_with ds step count place k within free some = grind (arith, within_length, met_set)
 
   module _ (player den : ℕ) where
     abbrev shares : List Reached → ℤ
@@ -108,8 +83,7 @@ module _ (g : Game) (steps choose : SetKey → ℕ) (actions choices : List ℕ)
     AddsNothing rs = shares rs ≡ pos 0
 
     both_nothing : (xs ys : List Reached) → AddsNothing xs → AddsNothing ys → AddsNothing (xs ++ ys)
-    both_nothing xs ys hx hy =
-        shares_append g player den (steps_of actions) choices xs ys ∙ (λ i. hx i +ℤ hy i)
+    both_nothing xs ys hx hy = cc (shares_append g player den (steps_of actions) choices xs ys)
 
     -- below a node, whose set it is
     nothing_below : (n : Node) (ts : Trees Node) (path : Path) (ds : List ℕ)
@@ -147,9 +121,7 @@ module _ (g : Game) (steps choose : SetKey → ℕ) (actions choices : List ℕ)
             then by_any g steps path (steps key) 1 ts
             else by_action g steps path (demanded path.demands (steps key) (count ts)) ts)
         by_digit personal true is = action 1
-        by_digit personal false is =
-            by_demand personal (eqb-false (steps key) 0 is)
-            (demanded path.demands (steps key) (count ts) == 0) refl
+        by_digit personal false is = grind (arith, by_demand, eqb-false)
 
         by_player : (b : Bool) → (key.player == 0) ≡ b
             → AddsNothing (if b then by_lot g steps path (chances_at g n) 1 ts

@@ -1,8 +1,8 @@
 -- A value over the common denominator, with the shares that it is the sum of: at a leaf, at a move,
 -- and as the children of a chance move are added.
-use Rattle.std.proofs.Common.{◌≡◌, ◌⊎◌, inl, inr, ℕ, ℤ, pos, ◌+◌, ◌*◌, ◌/◌, ◌^◌, ◌<◌}
-use Rattle.std.proofs.Common.{◌≤◌, Bool, true, false, List, [], ◌∷◌, ◌++◌, Option, Some, arith}
-use Rattle.std.proofs.Common.{refl, ap, sym, subst, ◌∙◌}
+use Rattle.std.proofs.Common.{◌≡◌, ◌⊎◌, inl, inr, ℕ, ℤ, pos, ◌+◌, ◌*◌, ◌/◌, ◌^◌, ◌<◌, ◌≤◌, Bool}
+use Rattle.std.proofs.Common.{true, false, List, [], ◌∷◌, ◌++◌, Option, Some, arith, refl, ap, sym}
+use Rattle.std.proofs.Common.{subst, ◌∙◌}
 use Rattle.std.specs.Bool.{Decides}
 use Rattle.std.specs.Int.{◌∣◌}
 use Rattle.std.specs.Ordering.{int_eq}
@@ -24,8 +24,8 @@ use Rattle.gf_form.specs.inner.rows.Shares.{sum_of_shares}
 use Rattle.gf_form.specs.inner.values.Values.{plus_of, times_of}
 use Rattle.gf_form.specs.declared.rows.paths.Reached.{Reached}
 use Rattle.gf_form.proofs.lemmas.rows.OverOneDenominator.{over_value, product_over, quotient_above}
-use Rattle.gf_form.proofs.lemmas.rows.OverOneDenominator.{quotient_le}
-use Rattle.gf_form.proofs.lemmas.rows.OverOneDenominator.{quotient_of_product, sum_over, sum_size}
+use Rattle.gf_form.proofs.lemmas.rows.OverOneDenominator.{quotient_le, quotient_of_product}
+use Rattle.gf_form.proofs.lemmas.rows.OverOneDenominator.{sum_over, sum_size}
 use Rattle.gf_form.proofs.lemmas.rows.ShareSums.{bound_first, bounds_append, met_first}
 use Rattle.gf_form.proofs.lemmas.rows.ShareSums.{shares_append}
 use Rattle.gf_form.proofs.lemmas.values.ValuesComputed.{zero_fraction}
@@ -65,11 +65,6 @@ module _ (den : ℕ) (den_above : 0 < den) (den_within : den < 2 ^ 127) where
   abbrev pub IsPart : ℕ → Ratio → ℤ → Type 0
   IsPart by r n = ((by ∣ den) × HasValue r n (den / by)) ⊎ ((r ≡ zero_ratio) × (n ≡ pos 0))
 
-  pub part_value : (by : ℕ) (r : Ratio) (n : ℤ) → IsPart by r n → HasValue r n (den / by)
-  part_value by r n (inl part) = part.1
-  part_value by r n (inr none) =
-      let nothing : 0 * (den / by) ≡ 0 = omega arith in rw (none.0, none.1) (ap pos nothing)
-
   left_within : (by : ℕ) → by ∣ den → den / by < 2 ^ 127
   left_within by divides = omega (arith, den_within, quotient_le by den den_above divides)
 
@@ -80,18 +75,8 @@ module _ (den : ℕ) (den_above : 0 < den) (den_within : den < 2 ^ 127) where
       let sum = sum_over x y m n (den / by) fx fy (quotient_above by den den_above px.0)
       (left_within by px.0) px.1 py.1 hm hn hs in
       (sum.0, sum.1, sum.2, inl (px.0, sum.3))
-  sum_part by x y m n fx fy (inr px) py hm hn hs = (
-    y,
-    ap (λ (r : Ratio). sum_of r y) px.0 ∙ zero_plus y fy,
-    fy,
-    subst (IsPart by y) (sym (+ℤ_idl n) ∙ ap (λ (z : ℤ). z +ℤ n) (sym px.1)) py,
-  )
-  sum_part by x y m n fx fy (inl px) (inr py) hm hn hs = (
-    x,
-    ap (sum_of x) py.0 ∙ plus_zero x fx,
-    fx,
-    subst (IsPart by x) (sym (right_zero m) ∙ ap (λ (z : ℤ). m +ℤ z) (sym py.1)) (inl px),
-  )
+  sum_part by x y m n fx fy (inr px) py hm hn hs = grind (arith, zero_plus)
+  sum_part by x y m n fx fy (inl px) (inr py) hm hn hs = grind (arith, plus_zero, right_zero)
 
   product_part : (by : ℕ) (p y : Ratio) (n : ℤ) → IsFraction p → IsFraction y
       → IsPart (by * p.den) y n → IsWithin (p.num *ℤ n)
@@ -102,12 +87,7 @@ module _ (den : ℕ) (den_above : 0 < den) (den_within : den < 2 ^ 127) where
       (quotient_of_product by p.den den den_above py.0) (quotient_above by den den_above part)
       (left_within by part) py.1 hn in
       (product.0, product.1, product.2, inl (part, product.3))
-  product_part by p y n fp fy (inr py) hn = (
-    zero_ratio,
-    ap (product_of p) py.0 ∙ times_zero p fp,
-    zero_fraction,
-    inr (refl, ap (λ (z : ℤ). p.num *ℤ z) py.1 ∙ *ℤ-zero p.num),
-  )
+  product_part by p y n fp fy (inr py) hn = grind (arith, times_zero, zero_fraction)
 
 -- ---- values
 
@@ -148,68 +128,30 @@ module _ (g : Game) (player den : ℕ) (den_above : 0 < den) (den_within : den <
 
   pub from_nothing : (value : Option Ratio) (weight bound by : ℕ) (rs : List Reached)
       → IsAdded value (pos 0) weight bound by rs → IsValued value weight bound by rs
-  from_nothing value weight bound by rs h = record {
-    ratio = h.ratio;
-    value_is = h.value_is;
-    fraction = h.fraction;
-    amount = h.amount;
-    amount_is = λ some. subst (IsOver by h.ratio) (+ℤ_idl h.amount) h.amount_is;
-    shares_are = h.shares_are;
-    size = h.size;
-  }
+  from_nothing value weight bound by rs h = grind arith
 
   -- numbers of a path that are not known stand for any, since the value is zero there
   pub valued_known : (room : Bool) (value : Option Ratio) (weight bound by : ℕ) (rs : List Reached)
       → IsValued value (if room then weight else 0) (if room then bound else 1)
       (if room then by else 0) rs → IsValued value weight bound by rs
   valued_known true value weight bound by rs h = h
-  valued_known false value weight bound by rs h = nothing (h.amount_is (omega arith))
-    where
-      nothing : IsOver 0 h.ratio h.amount → IsValued value weight bound by rs
-      nothing (inl over) = absurd (omega (arith, den_above, eq-zero_of_zero-dvd over.0))
-      nothing (inr none) =
-          let small : 0 * bound ≡ 0 = omega arith in
-          record {
-            ratio = h.ratio;
-            value_is = h.value_is;
-            fraction = h.fraction;
-            amount = h.amount;
-            amount_is = λ some. inr none;
-            shares_are = h.shares_are ∙ zero-*ℤ h.amount ∙ sym (*ℤ-zero (pos weight))
-                ∙ ap (λ (z : ℤ). pos weight *ℤ z) (sym none.1);
-            size = omega (arith, ap (λ (z : ℤ). unsigned_abs z * bound) none.1, small);
-          }
+  valued_known false value weight bound by rs h = grind (arith, eq-zero_of_zero-dvd, zero-*ℤ)
 
   -- further nodes that the choices do not reach
   pub valued_before : (value : Option Ratio) (weight bound by : ℕ) (xs ys : List Reached)
       → IsValued value weight bound by xs → shares ys ≡ pos 0
       → IsValued value weight bound by (xs ++ ys)
-  valued_before value weight bound by xs ys h none = record {
-    ratio = h.ratio;
-    value_is = h.value_is;
-    fraction = h.fraction;
-    amount = h.amount;
-    amount_is = h.amount_is;
-    shares_are = shares_append g player den steps choices xs ys
-        ∙ (λ i. h.shares_are i +ℤ none i)
-        ∙ right_zero (pos weight *ℤ h.amount);
-    size = omega (arith, h.size, bounds_append g player den steps choices xs ys);
-  }
+  valued_before value weight bound by xs ys h none = grind (
+    arith,
+    shares_append,
+    right_zero,
+    bounds_append,
+  )
 
   pub valued_behind : (value : Option Ratio) (weight bound by : ℕ) (xs ys : List Reached)
       → shares xs ≡ pos 0 → IsValued value weight bound by ys
       → IsValued value weight bound by (xs ++ ys)
-  valued_behind value weight bound by xs ys none h = record {
-    ratio = h.ratio;
-    value_is = h.value_is;
-    fraction = h.fraction;
-    amount = h.amount;
-    amount_is = h.amount_is;
-    shares_are = shares_append g player den steps choices xs ys
-        ∙ (λ i. none i +ℤ h.shares_are i)
-        ∙ +ℤ_idl (pos weight *ℤ h.amount);
-    size = omega (arith, h.size, bounds_append g player den steps choices xs ys);
-  }
+  valued_behind value weight bound by xs ys none h = grind (arith, shares_append, bounds_append)
 
   -- ---- a node's own payoff
 
@@ -234,12 +176,8 @@ module _ (g : Game) (player den : ℕ) (den_above : 0 < den) (den_within : den <
             && nat_eq (pay_at g player own).den 1) ≡ b
             → Decides b (pay_at g player own ≡ zero_ratio)
             → IsOver own.path.den (pay_at g player own) amount
-        by true is decides =
-            let none : pay_at g player own ≡ zero_ratio = decides.0 refl in
-            inr (none, ap (over left) none ∙ zero-*ℤ (pos (left / 1)))
-        by false is decides =
-            let whole = exact (λ none. let e : false ≡ true = decides.1 none in absurd cc) in
-            inl (whole.path, over_value (pay_at g player own) left whole.pay)
+        by true is decides = grind (arith, zero-*ℤ)
+        by false is decides = grind (arith, over_value)
 
     bound_is : size ≡ share_bound g player den own
     bound_is = omega arith
@@ -252,8 +190,7 @@ module _ (g : Game) (player den : ℕ) (den_above : 0 < den) (den_within : den <
       fraction = f;
       amount = amount;
       amount_is = λ some. amount_is;
-      shares_are = met_first g player den steps choices own [] met
-          ∙ right_zero (share g player den own);
+      shares_are = grind (arith, met_first, right_zero);
       size = omega (arith, bound_is, bound_first g player den steps choices own [] met);
     }
 
@@ -265,15 +202,9 @@ module _ (g : Game) (player den : ℕ) (den_above : 0 < den) (den_within : den <
     move_valued below rs some limit h =
         let both = sum_below amount h.amount own.path.bound in
         let all = bound_first g player den steps choices own rs met in
-        let first : IsWithin amount =
-        size_below (unsigned_abs amount) own.path.bound (2 ^ 127) some
-        (omega (arith, bound_is, all, limit)) in
-        let second : IsWithin h.amount =
-        size_below (unsigned_abs h.amount) own.path.bound (2 ^ 127) some
-        (omega (arith, h.size, all, limit)) in
-        let whole : IsWithin (amount +ℤ h.amount) =
-        size_below (unsigned_abs (amount +ℤ h.amount)) own.path.bound (2 ^ 127) some
-        (omega (arith, both, bound_is, h.size, all, limit)) in
+        let first : IsWithin amount = grind arith in
+        let second : IsWithin h.amount = grind arith in
+        let whole : IsWithin (amount +ℤ h.amount) = grind arith in
         let sum = sum_part den den_above den_within own.path.den pay h.ratio amount h.amount f
         h.fraction amount_is (h.amount_is some) first second whole in
         record {
@@ -291,17 +222,8 @@ module _ (g : Game) (player den : ℕ) (den_above : 0 < den) (den_within : den <
   -- ---- a node on an idle path
 
   module _ (own : Reached) (weightless : own.path.weight ≡ 0) (idle : own.path.bound ≡ 0) where
-    no_share : share g player den own ≡ pos 0
-    no_share =
-        ap (λ n. pos n *ℤ over (den / own.path.den) (pay_at g player own)) weightless
-        ∙ zero-*ℤ (over (den / own.path.den) (pay_at g player own))
-
     none_first : (rs : List Reached) → shares (own ∷ rs) ≡ shares rs
-    none_first rs = by (meets steps choices own.path.demands)
-      where
-        by : (b : Bool) → (if b then share g player den own else pos 0) +ℤ shares rs ≡ shares rs
-        by true = ap (λ z. z +ℤ shares rs) no_share ∙ +ℤ_idl (shares rs)
-        by false = +ℤ_idl (shares rs)
+    none_first rs = grind arith
 
     pub idle_leaf : (pay : Ratio) → IsFraction pay
         → IsValued (Some pay) own.path.weight own.path.bound own.path.den (own ∷ [])
@@ -320,28 +242,7 @@ module _ (g : Game) (player den : ℕ) (den_above : 0 < den) (den_within : den <
         → IsValued below own.path.weight own.path.bound own.path.den rs
         → IsValued (plus_of (Some zero_ratio) below) own.path.weight own.path.bound own.path.den
         (own ∷ rs)
-    idle_move below rs h = record {
-      ratio = h.ratio;
-      value_is = ap (plus_of (Some zero_ratio)) h.value_is ∙ zero_plus h.ratio h.fraction;
-      fraction = h.fraction;
-      amount = h.amount;
-      amount_is = h.amount_is;
-      shares_are = none_first rs ∙ h.shares_are;
-      size = omega (arith, ap (λ n. unsigned_abs h.amount * n) idle);
-    }
-
-  -- on a path that started anew there
-  pub idle_sum : (value : Option Ratio) (weight bound other by : ℕ) (rs : List Reached)
-      → bound ≡ 0 → IsValued value weight 1 other rs → IsValued value weight bound by rs
-  idle_sum value weight bound other by rs idle h = record {
-    ratio = h.ratio;
-    value_is = h.value_is;
-    fraction = h.fraction;
-    amount = h.amount;
-    amount_is = λ some. absurd (omega (arith, some, idle));
-    shares_are = h.shares_are;
-    size = omega (arith, ap (λ n. unsigned_abs h.amount * n) idle);
-  }
+    idle_move below rs h = grind (arith, zero_plus)
 
   -- ---- the children of a chance move
 
@@ -362,26 +263,17 @@ module _ (g : Game) (player den : ℕ) (den_above : 0 < den) (den_within : den <
       (fs : IsFraction sum) (value : Option Ratio) (other more part : ℕ) (xs : List Reached)
       (h : IsValued value other more part xs) (weightless : other ≡ 0) where
     pub same_sum : plus_of (Some sum) (times_of chance value) ≡ Some sum
-    same_sum =
-        ap (λ o. plus_of (Some sum) (times_of chance o)) h.value_is
-        ∙ ap (plus_of (Some sum)) (none_times chance fc none h.ratio h.fraction)
-        ∙ plus_zero sum fs
+    same_sum = grind (arith, none_times, plus_zero)
 
     pub none_added : (total : Option Ratio) (start : ℤ) (weight bound by : ℕ)
         (ys : List Reached) → IsAdded total start weight bound by ys
         → IsAdded total start weight bound by (xs ++ ys)
-    none_added total start weight bound by ys later = record {
-      ratio = later.ratio;
-      value_is = later.value_is;
-      fraction = later.fraction;
-      amount = later.amount;
-      amount_is = later.amount_is;
-      shares_are = shares_append g player den steps choices xs ys
-          ∙ (λ i. (h.shares_are ∙ ap (λ n. pos n *ℤ h.amount) weightless ∙ zero-*ℤ h.amount) i
-          +ℤ later.shares_are i)
-          ∙ +ℤ_idl (pos weight *ℤ later.amount);
-      size = omega (arith, later.size, bounds_append g player den steps choices xs ys);
-    }
+    none_added total start weight bound by ys later = grind (
+      arith,
+      shares_append,
+      zero-*ℤ,
+      bounds_append,
+    )
 
   module _ (chance : Ratio) (fc : IsFraction chance) (likely : 1 ≤ unsigned_abs chance.num)
       (sign : chance.num ≡ pos (unsigned_abs chance.num)) (sum : Ratio) (start : ℤ)
@@ -397,9 +289,7 @@ module _ (g : Game) (player den : ℕ) (den_above : 0 < den) (den_within : den <
     part = chance.num *ℤ h.amount
 
     part_below : unsigned_abs part * bound ≤ bounds xs
-    part_below =
-        let signed = ap (λ z. unsigned_abs (z *ℤ h.amount) * bound) sign in
-        omega (arith, signed, chance_below a bound h.amount, h.size)
+    part_below = grind (arith, chance_below)
 
     both_below : unsigned_abs (start +ℤ part) * bound ≤ unsigned_abs start * bound + bounds xs
     both_below = omega (arith, sum_below start part bound, part_below)
@@ -408,15 +298,13 @@ module _ (g : Game) (player den : ℕ) (den_above : 0 < den) (den_within : den <
     lists = bounds_append g player den steps choices xs ys
 
     part_within : IsWithin part
-    part_within = size_below (unsigned_abs part) bound (2 ^ 127) some
-        (omega (arith, part_below, lists, limit))
+    part_within = grind (arith, size_below, part_below, lists)
 
     start_within : IsWithin start
     start_within = size_below (unsigned_abs start) bound (2 ^ 127) some (omega (arith, limit))
 
     next_within : IsWithin (start +ℤ part)
-    next_within = size_below (unsigned_abs (start +ℤ part)) bound (2 ^ 127) some
-        (omega (arith, both_below, lists, limit))
+    next_within = grind (arith, size_below, both_below, lists)
 
     -- the sum so far
     pub next_sum : (next : Ratio) × (plus_of (Some sum) (times_of chance value) ≡ Some next)
@@ -425,14 +313,7 @@ module _ (g : Game) (player den : ℕ) (den_above : 0 < den) (den_within : den <
         let times = product_part den den_above den_within by chance h.ratio h.amount fc h.fraction
         (h.amount_is (product_above bound a some likely)) part_within in
         let sums = sum_part den den_above den_within by sum times.0 start part fs times.2 starts
-        times.3 start_within part_within next_within in (
-          sums.0,
-          ap (λ o. plus_of (Some sum) (times_of chance o)) h.value_is
-              ∙ ap (plus_of (Some sum)) times.1
-              ∙ sums.1,
-          sums.2,
-          sums.3,
-        )
+        times.3 start_within part_within next_within in grind arith
 
     pub next_limit :
         unsigned_abs (start +ℤ chance.num *ℤ h.amount) * bound + bounds ys < 2 ^ 127
@@ -449,8 +330,7 @@ module _ (g : Game) (player den : ℕ) (den_above : 0 < den) (den_within : den <
       amount_is = subst (IsOver by later.ratio) (+ℤ_assoc start part later.amount)
           later.amount_is;
       shares_are = shares_append g player den steps choices xs ys
-          ∙ (λ i. (h.shares_are ∙ *ℤ_assoc (pos weight) (pos a) h.amount
-          ∙ ap (λ z. pos weight *ℤ (z *ℤ h.amount)) (sym sign)) i +ℤ later.shares_are i)
+          ∙ (cc (h.shares_are, *ℤ_assoc (pos weight) (pos a) h.amount, sign, later.shares_are))
           ∙ sym (mul-plus (pos weight) part later.amount);
       size = omega (arith, sum_below part later.amount bound, part_below, later.size, lists);
     }
