@@ -5,14 +5,21 @@ use Rattle.gf_canon.specs.GameFile.{GameFile}
 use Rattle.gf_canon.specs.Judgement.{SpellsWithin}
 use Rattle.gf_canon.specs.declared.format.Format.{Format}
 use Rattle.gf_canon.specs.declared.format.Format.TheVariants.{Extensive, Strategic}
+use Rattle.gf_run.specs.declared.jobs.answer.FileKind.{FileKind}
+use Rattle.gf_run.specs.declared.jobs.answer.FileKind.TheVariants as kind
 
--- what a file in this format holds
-abbrev pub kind_line : Format → List ℕ
-kind_line Extensive = codes "tree\n"
-kind_line Strategic = codes "table\n"
+-- for a file in this format
+abbrev pub kind_in : Format → FileKind
+kind_in Extensive = kind.Tree
+kind_in Strategic = kind.Strategic
 
--- the bytes mean a file, within the limit, and this is the line of its kind
-pub record IsKindLine (bytes text : List ℕ) : Type 0 where
+abbrev pub kind_line : FileKind → List ℕ
+kind_line kind.Tree = codes "tree\n"
+kind_line kind.Strategic = codes "table\n"
+
+-- the bytes mean a file of this kind, within the limit, and this is its line
+pub record IsKindLine (kind : FileKind) (bytes text : List ℕ) : Type 0 where
   pub file : GameFile
   pub spelled : SpellsWithin bytes file
-  pub is_text : text ≡ kind_line (format_of file)
+  pub is_kind : kind ≡ kind_in (format_of file)
+  pub is_text : text ≡ kind_line kind

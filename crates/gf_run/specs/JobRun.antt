@@ -16,6 +16,7 @@ use Rattle.gf_run.specs.Opening.{IsNotOpened, IsOpened, RunsOver, RunsOverTwo}
 use Rattle.gf_run.specs.Run.{IsRefusal}
 use Rattle.gf_run.specs.RunOfTwo.{AreNotRead, IsFaultOfFiles}
 use Rattle.gf_run.specs.SameText.{IsAnswer, IsLine, IsLineAndMap}
+use Rattle.gf_run.specs.declared.jobs.answer.FileKind.{FileKind}
 use Rattle.gf_run.specs.declared.fault.RunFault.{RunFault}
 use Rattle.gf_run.specs.declared.fault.RunFault.TheVariants.{Read, Write}
 use Rattle.gf_run.specs.declared.fault.Which.TheVariants.{Only, First, Second}
@@ -39,7 +40,8 @@ IsAnswerBy false names = IsAnswer (SameBy names) IsLine
 -- the exit status and the text that answer a job over the bytes of its inputs
 abbrev pub IsAnswerOf : Job → List ℕ → List ℕ → ℕ → List ℕ → Type 0
 IsAnswerOf (Canon input names) a b status text = (status ≡ 0) × IsTextBy names a text
-IsAnswerOf (Check input) a b status text = (status ≡ 0) × IsKindLine a text
+IsAnswerOf (Check input) a b status text =
+    (status ≡ 0) × ((kind : FileKind) × IsKindLine kind a text)
 IsAnswerOf (Table input reduced) a b status text =
     (status ≡ 0) × IsFormText (strategies_of reduced) a text
 IsAnswerOf (Same first second map names) a b status text =
@@ -102,7 +104,8 @@ module _ {S : Type 0} (standard : S → Type 0) (opens : List ℕ → Result S E
   EndsOverTwo fault a b = ((fault ≡ Read First) × IsNotOpened standard opens a)
       ⊎ ((fault ≡ Read Second) × ((first : S) × IsOpened standard opens a first)
       × IsNotOpened standard opens b)
-      ⊎ RunsOverTwo standard opens (AreNotRead remaining count gives fault) a b
+      ⊎ RunsOverTwo standard opens
+      (AreNotRead remaining count gives remaining count gives fault) a b
 
   -- the inputs of a job were not read, because of this fault
   abbrev pub AreUnread : Job → RunFault → Type 0

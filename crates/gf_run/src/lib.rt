@@ -22,6 +22,8 @@ pub use fault::{RunFault, Which, WriteFault, answer_status, status};
 pub use jobs::ending::{answer, tell};
 pub use jobs::explained::perform_explained;
 pub use jobs::job::perform;
+pub use jobs::run::{run_canon, run_check, run_table, run_table_reduced};
+pub use jobs::run_of_two::{run_same, run_same_by, run_same_map};
 pub use opening::inputs::Inputs;
 pub use opening::opened::Opened;
 pub use streams::counted::Counted;

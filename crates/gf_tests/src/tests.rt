@@ -4,4 +4,5 @@ mod faults;
 mod forms;
 mod jobs;
 mod library;
+mod runs;
 mod trees;

@@ -4,7 +4,7 @@ ghost use Rattle.std.specs.Prelude.{◌≡◌, ◌≤◌, Bool, IfErr, IfOk, len
 ghost use Rattle.gf_canon.specs.Judgement.{IsTextBy};
 ghost use Rattle.gf_run.specs.AnswerText.{bytes_of};
 ghost use Rattle.gf_run.specs.FaultStatus.{answer_status};
-ghost use Rattle.gf_run.specs.FileKinds.{IsKindLine, kind_line};
+ghost use Rattle.gf_run.specs.FileKinds.{IsKindLine, kind_in, kind_line};
 ghost use Rattle.gf_run.specs.FormText.{IsFaultOfBytes, IsFormText};
 ghost use Rattle.gf_run.specs.Input.{limit};
 ghost use Rattle.gf_run.specs.JobRun.{IsAnswerBy, IsAnswerOf, IsFaultOf, strategies_of};
@@ -42,7 +42,7 @@ fn refused(fault: Fault) -> RunFault
 }
 
 /// The canonical text of a file, with names or without.
-fn canon(alloc: Global, bytes: &[u8], names: Names) -> Result<Answer, RunFault>
+pub(crate) fn canon(alloc: Global, bytes: &[u8], names: Names) -> Result<Answer, RunFault>
     ensures answer { IfOk result (λ answer. (answer.status ≡ 0)
         × IsTextBy names bytes.now (bytes_of answer.text)) }
     ensures refused { IfErr result (IsRefusal bytes.now) }
@@ -56,28 +56,58 @@ fn canon(alloc: Global, bytes: &[u8], names: Names) -> Result<Answer, RunFault>
     }
 }
 
-/// What a file in this format holds.
-fn kind_line(format: Format) -> &'static [u8]
-    ensures { result.now ≡ kind_line format }
+/// What a game file holds.
+#[derive(Clone, Copy)]
+pub enum FileKind {
+    /// A tree, as an extensive file does.
+    Tree,
+    /// A table, as a strategic file does.
+    Strategic,
+}
+
+impl From<Format> for FileKind {
+    ghost from_gives = { λ format kind. kind ≡ kind_in format };
+
+    fn from(format: Format) -> FileKind {
+        match format {
+            Format::Extensive => FileKind::Tree,
+            Format::Strategic => FileKind::Strategic,
+        }
+    }
+}
+
+pub(crate) fn kind_line(kind: FileKind) -> &'static [u8]
+    ensures { result.now ≡ kind_line kind }
 {
-    match format {
-        Format::Extensive => b"tree\n",
-        Format::Strategic => b"table\n",
+    match kind {
+        FileKind::Tree => b"tree\n",
+        FileKind::Strategic => b"table\n",
     }
 }
 
 /// What a file holds. No node of a tree is kept, and no text of a game is made.
-fn kind(alloc: Global, bytes: &[u8]) -> Result<Answer, RunFault>
-    ensures answer { IfOk result (λ answer. (answer.status ≡ 0)
-        × IsKindLine bytes.now (bytes_of answer.text)) }
+pub(crate) fn kind(alloc: Global, bytes: &[u8]) -> Result<FileKind, RunFault>
+    ensures kind { IfOk result (λ kind. IsKindLine kind bytes.now (kind_line kind)) }
     ensures refused { IfErr result (IsRefusal bytes.now) }
 {
     match check(alloc, bytes) {
-        Ok(format) => Ok(Answer {
-            status: 0,
-            text: Text::Line(kind_line(format)),
-        }),
+        Ok(format) => Ok(FileKind::from(format)),
         Err(fault) => Err(refused(fault)),
+    }
+}
+
+/// The line that says what a file holds.
+fn line_of_kind(alloc: Global, bytes: &[u8]) -> Result<Answer, RunFault>
+    ensures answer { IfOk result (λ answer. (answer.status ≡ 0)
+        × ((kind : FileKind) × IsKindLine kind bytes.now (bytes_of answer.text))) }
+    ensures refused { IfErr result (IsRefusal bytes.now) }
+{
+    match kind(alloc, bytes) {
+        Ok(kind) => Ok(Answer {
+            status: 0,
+            text: Text::Line(kind_line(kind)),
+        }),
+        Err(fault) => Err(fault),
     }
 }
 
@@ -93,7 +123,7 @@ fn strategies_of(reduced: bool) -> Strategies
 }
 
 /// The strategic form of a tree, or its reduced form; a table as it is.
-fn table(alloc: Global, bytes: &[u8], reduced: bool) -> Result<Answer, RunFault>
+pub(crate) fn table(alloc: Global, bytes: &[u8], reduced: bool) -> Result<Answer, RunFault>
     requires { length bytes.now ≤ limit }
     ensures answer { IfOk result (λ answer. (answer.status ≡ 0)
         × IsFormText (strategies_of reduced) bytes.now (bytes_of answer.text)) }
@@ -108,18 +138,37 @@ fn table(alloc: Global, bytes: &[u8], reduced: bool) -> Result<Answer, RunFault>
     }
 }
 
-/// Whether two files are the same, with their renumbering or by names.
+/// Whether two files are the same, and what is written about it: with their renumbering, or by
+/// names.
+pub(crate) fn compare(
+    alloc: Global,
+    a: &[u8],
+    b: &[u8],
+    map: bool,
+    names: Names,
+) -> Result<Compared, RunFault>
+    ensures answer { IfOk result (λ answer.
+        IsAnswerBy map names answer.same a.now b.now (bytes_of answer.text)) }
+    ensures fault { IfErr result (IsFaultOfFiles a.now b.now) }
+{
+    match answer_by(alloc, a, b, map, names) {
+        Ok(answer) => Ok(answer),
+        Err(fault) => Err(RunFault::from(fault)),
+    }
+}
+
+/// Whether two files are the same, as an answer.
 fn same(alloc: Global, a: &[u8], b: &[u8], map: bool, names: Names) -> Result<Answer, RunFault>
     ensures answer { IfOk result (λ answer. (same : Bool) × (answer.status ≡ answer_status same)
         × IsAnswerBy map names same a.now b.now (bytes_of answer.text)) }
     ensures fault { IfErr result (IsFaultOfFiles a.now b.now) }
 {
-    match answer_by(alloc, a, b, map, names) {
+    match compare(alloc, a, b, map, names) {
         Ok(Compared { same, text }) => Ok(Answer {
             status: answer_status(same),
             text,
         }),
-        Err(fault) => Err(RunFault::from(fault)),
+        Err(fault) => Err(fault),
     }
 }
 
@@ -134,7 +183,7 @@ pub fn answer_of(alloc: Global, job: &Job, texts: &Texts) -> Result<Answer, RunF
     let (first, second) = (texts.first.as_slice(), texts.second.as_slice());
     match job {
         Job::Canon { names, .. } => canon(alloc, first, *names),
-        Job::Check(_) => kind(alloc, first),
+        Job::Check(_) => line_of_kind(alloc, first),
         Job::Table { reduced, .. } => table(alloc, first, *reduced),
         Job::Same { map, names, .. } => same(alloc, first, second, *map, *names),
     }

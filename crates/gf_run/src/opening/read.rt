@@ -102,12 +102,16 @@ fn read_one<I: Inputs>(alloc: Global, inputs: &I, input: &Input) -> Result<Texts
 }
 
 /// Reads two inputs that are open.
-fn read_both<R: Source>(alloc: Global, a: &mut R, b: &mut R) -> Result<Texts, Failure>
+pub(crate) fn read_both<R: Source, S: Source>(
+    alloc: Global,
+    a: &mut R,
+    b: &mut S,
+) -> Result<Texts, Failure>
     ensures whole { IfOk result (λ texts.
         IsReadWhole R.remaining R.pull_gives a.old a.new texts.first.items
-        × IsReadWhole R.remaining R.pull_gives b.old b.new texts.second.items) }
-    ensures part { IfErr result (λ failure. AreNotRead
-        R.remaining R.count R.pull_gives failure.fault a.old a.new b.old b.new) }
+        × IsReadWhole S.remaining S.pull_gives b.old b.new texts.second.items) }
+    ensures part { IfErr result (λ failure. AreNotRead R.remaining R.count R.pull_gives
+        S.remaining S.count S.pull_gives failure.fault a.old a.new b.old b.new) }
 {
     let first = read(alloc, a, Which::First)?;
     let second = read(alloc, b, Which::Second)?;

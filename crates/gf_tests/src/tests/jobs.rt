@@ -1,6 +1,8 @@
 //! Jobs, hashes and duplicates of files that are texts, on their happy paths.
 
-use super::trees::{FIVE, FIVE_BY_OTHER_NUMBERS, FIVE_HASH_LINE, FIVE_TEXT};
+use super::trees::{
+    FIVE, FIVE_BY_OTHER_NUMBERS, FIVE_HASH_LINE, FIVE_MAP, FIVE_TEXT, NOBODY, NOBODY_TEXT,
+};
 use gf_canon::Names;
 use gf_run::{
     Counted, Input, Inputs, Job, Progress, perform, perform_explained, run_duplicates, run_hash,
@@ -10,14 +12,6 @@ use std::alloc::{AllocError, Global};
 use std::io;
 use std::io::ErrorKind;
 use std::test::Fail;
-
-/// A table of nobody, and its canonical text.
-const NOBODY: &[u8] = b"NFG 1 R \"\" { } { }";
-
-const NOBODY_TEXT: &[u8] = b"NFG 1 R \"\" { }\n{ }\n\"\"\n\n\n";
-
-/// What is written about the two trees, with the numbers that correspond.
-const MAP: &[u8] = b"same\nset 0 9 2\nset 1 7 3\nset 1 3 8\noutcome 4 2\n";
 
 /// Standard input, which is a table, and two files, which are the same game.
 #[derive(Drop)]
@@ -129,7 +123,7 @@ fn compares_two_files_without_names(rt: HostRuntime) -> Result<(), Fail> {
 #[test]
 fn writes_which_numbers_correspond(rt: HostRuntime) -> Result<(), Fail> {
     let job = comparison(rt.alloc(), true, Names::Kept)?;
-    assert!(rt; writes(rt.alloc(), &job, MAP));
+    assert!(rt; writes(rt.alloc(), &job, FIVE_MAP));
     Ok(())
 }
 

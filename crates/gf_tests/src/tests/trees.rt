@@ -47,3 +47,12 @@ t \"\" 1
 /// The line of its hash, by `sha256sum` of `FIVE_TEXT`, if it is in the file `a.efg`.
 pub(super) const FIVE_HASH_LINE: &[u8] =
     b"45d17d8787029197e0ed15a3bcf5fc5a4110bfa3e798ca81a24543f7b429871b  a.efg\n";
+
+/// A table of nobody, and its canonical text.
+pub(super) const NOBODY: &[u8] = b"NFG 1 R \"\" { } { }";
+
+pub(super) const NOBODY_TEXT: &[u8] = b"NFG 1 R \"\" { }\n{ }\n\"\"\n\n\n";
+
+/// What is written about the tree and the same tree by other numbers, with the numbers that
+/// correspond.
+pub(super) const FIVE_MAP: &[u8] = b"same\nset 0 9 2\nset 1 7 3\nset 1 3 8\noutcome 4 2\n";

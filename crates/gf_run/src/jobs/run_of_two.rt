@@ -1,0 +1,158 @@
+//! The runs that compare two files, over inputs that are open.
+
+ghost use Rattle.std.specs.Prelude.{◌≡◌, ◌≢◌, Bool, IfErr, IfOk};
+ghost use Rattle.gf_canon.specs.GameFile.{SameFile};
+ghost use Rattle.gf_canon.specs.SameBy.{SameBy};
+ghost use Rattle.gf_run.specs.Input.{IsReadWhole};
+ghost use Rattle.gf_run.specs.JobRun.{IsAnswerBy};
+ghost use Rattle.gf_run.specs.Output.{IsWriteFault, IsWritten};
+ghost use Rattle.gf_run.specs.RunOfTwo.{AnswersTwo, ReadsTwoUntil};
+ghost use Rattle.gf_run.specs.SameText.{IsAnswer, IsLine, IsLineAndMap};
+
+use crate::fault::RunFault;
+use crate::jobs::answer::compare;
+use crate::opening::read::read_both;
+use crate::streams::sink::{Sink, push_all};
+use crate::streams::source::Source;
+use gf_canon::Names;
+use std::alloc::Global;
+
+/// The run that compares two files: with their renumbering if `map` is true, otherwise by `names`.
+fn run_compare<R: Source, S: Source, W: Sink>(
+    alloc: Global,
+    a: &mut R,
+    b: &mut S,
+    map: bool,
+    names: Names,
+    output: &mut W,
+) -> Result<bool, RunFault>
+    ensures done { IfOk result (λ same. AnswersTwo (IsAnswerBy map names same)
+        (IsReadWhole R.remaining R.pull_gives a.old a.new)
+        (IsReadWhole S.remaining S.pull_gives b.old b.new)
+        (IsWritten W.contents W.push_gives output.old output.new)) }
+    ensures refused { IfErr result (λ fault. ReadsTwoUntil R.remaining R.count R.pull_gives
+        S.remaining S.count S.pull_gives fault a.old a.new b.old b.new) }
+    ensures untouched { IfErr result (λ fault. fault ≢ RunFault.Write → output.new ≡ output.old) }
+    ensures cut_off { result ≡ Err RunFault.Write → (same : Bool)
+        × AnswersTwo (IsAnswerBy map names same)
+        (IsReadWhole R.remaining R.pull_gives a.old a.new)
+        (IsReadWhole S.remaining S.pull_gives b.old b.new)
+        (IsWriteFault W.contents W.count W.push_gives output.old output.new) }
+{
+    let texts = read_both(alloc, a, b)?;
+    let answer = compare(
+        alloc,
+        texts.first.as_slice(),
+        texts.second.as_slice(),
+        map,
+        names,
+    )?;
+    push_all(output, answer.text.as_slice())?;
+    Ok(answer.same)
+}
+
+/// Returns whether the two files that it reads mean the same, with names or without, as `same_by`
+/// says; writes `same` or `different` and a line feed.
+///
+/// The first input is read whole, and then the second; only then is the first judged, and then the
+/// second. The text is made whole before its first byte is written. So a prefix of it has been
+/// written only after `Write`; before any other fault, nothing is asked of the output.
+///
+/// # Errors
+///
+/// - `Refused`: the first or the second file is refused as `same_by` refuses it, or it has a byte
+///   past the first 16,777,216, which is the last one that is read of it. If the first is too long,
+///   the second is not read.
+/// - `Read`: the reader of the first or of the second failed, or was interrupted sixteen times in a
+///   row. `failures` has counted it. If the first fails, the second is not read.
+/// - `Write`: the writer failed in this way, or took nothing, which `failures` has counted too.
+/// - `Memory`: memory ran out while an input was read, or although both files are accepted.
+pub fn run_same_by<R: Source, S: Source, W: Sink>(
+    alloc: Global,
+    a: &mut R,
+    b: &mut S,
+    names: Names,
+    output: &mut W,
+) -> Result<bool, RunFault>
+    ensures done { IfOk result (λ same. AnswersTwo (IsAnswer (SameBy names) IsLine same)
+        (IsReadWhole R.remaining R.pull_gives a.old a.new)
+        (IsReadWhole S.remaining S.pull_gives b.old b.new)
+        (IsWritten W.contents W.push_gives output.old output.new)) }
+    ensures refused { IfErr result (λ fault. ReadsTwoUntil R.remaining R.count R.pull_gives
+        S.remaining S.count S.pull_gives fault a.old a.new b.old b.new) }
+    ensures untouched { IfErr result (λ fault. fault ≢ RunFault.Write → output.new ≡ output.old) }
+    ensures cut_off { result ≡ Err RunFault.Write → (same : Bool)
+        × AnswersTwo (IsAnswer (SameBy names) IsLine same)
+        (IsReadWhole R.remaining R.pull_gives a.old a.new)
+        (IsReadWhole S.remaining S.pull_gives b.old b.new)
+        (IsWriteFault W.contents W.count W.push_gives output.old output.new) }
+{
+    run_compare(alloc, a, b, false, names, output)
+}
+
+/// Returns whether the two files that it reads mean the same, as `same` says; writes `same` or
+/// `different` and a line feed.
+///
+/// It reads and writes as `run_same_by` does.
+///
+/// # Errors
+///
+/// Those of `run_same_by`.
+pub fn run_same<R: Source, S: Source, W: Sink>(
+    alloc: Global,
+    a: &mut R,
+    b: &mut S,
+    output: &mut W,
+) -> Result<bool, RunFault>
+    ensures done { IfOk result (λ same. AnswersTwo (IsAnswer SameFile IsLine same)
+        (IsReadWhole R.remaining R.pull_gives a.old a.new)
+        (IsReadWhole S.remaining S.pull_gives b.old b.new)
+        (IsWritten W.contents W.push_gives output.old output.new)) }
+    ensures refused { IfErr result (λ fault. ReadsTwoUntil R.remaining R.count R.pull_gives
+        S.remaining S.count S.pull_gives fault a.old a.new b.old b.new) }
+    ensures untouched { IfErr result (λ fault. fault ≢ RunFault.Write → output.new ≡ output.old) }
+    ensures cut_off { result ≡ Err RunFault.Write → (same : Bool)
+        × AnswersTwo (IsAnswer SameFile IsLine same)
+        (IsReadWhole R.remaining R.pull_gives a.old a.new)
+        (IsReadWhole S.remaining S.pull_gives b.old b.new)
+        (IsWriteFault W.contents W.count W.push_gives output.old output.new) }
+{
+    run_compare(alloc, a, b, false, Names::Kept, output)
+}
+
+/// Returns whether the two files that it reads mean the same, as `same` says; writes `same` or
+/// `different` and a line feed, and after `same`, if both are trees, the lines of the only
+/// renumbering that carries the first to the second.
+///
+/// These lines are `set P X Y` for each information set of the first tree, where P is its player, X
+/// its number and Y its number in the second tree, and then `outcome X Y` for each outcome except
+/// the null outcome. The sets of chance, which is player 0, come first, and then those of each
+/// player in turn. Each player's sets, and the outcomes, are in order of first use (this project's
+/// profile).
+///
+/// It reads and writes as `run_same_by` does.
+///
+/// # Errors
+///
+/// Those of `run_same_by`.
+pub fn run_same_map<R: Source, S: Source, W: Sink>(
+    alloc: Global,
+    a: &mut R,
+    b: &mut S,
+    output: &mut W,
+) -> Result<bool, RunFault>
+    ensures done { IfOk result (λ same. AnswersTwo (IsAnswer SameFile IsLineAndMap same)
+        (IsReadWhole R.remaining R.pull_gives a.old a.new)
+        (IsReadWhole S.remaining S.pull_gives b.old b.new)
+        (IsWritten W.contents W.push_gives output.old output.new)) }
+    ensures refused { IfErr result (λ fault. ReadsTwoUntil R.remaining R.count R.pull_gives
+        S.remaining S.count S.pull_gives fault a.old a.new b.old b.new) }
+    ensures untouched { IfErr result (λ fault. fault ≢ RunFault.Write → output.new ≡ output.old) }
+    ensures cut_off { result ≡ Err RunFault.Write → (same : Bool)
+        × AnswersTwo (IsAnswer SameFile IsLineAndMap same)
+        (IsReadWhole R.remaining R.pull_gives a.old a.new)
+        (IsReadWhole S.remaining S.pull_gives b.old b.new)
+        (IsWriteFault W.contents W.count W.push_gives output.old output.new) }
+{
+    run_compare(alloc, a, b, true, Names::Kept, output)
+}
