@@ -42,7 +42,6 @@ pub fn run_canon<R: Source, W: Sink>(
     ensures done { OnOk result (Answers (IsTextBy names)
         (IsReadWhole R.remaining R.pull_gives input.old input.new)
         (IsWritten W.contents W.push_gives output.old output.new)) }
-
     ensures refused { IfErr result (λ fault. ReadsUntil
         R.remaining R.count R.pull_gives IsRefusedWith Which.Only fault input.old input.new) }
     ensures untouched { IfErr result (λ fault. fault ≢ RunFault.Write → output.new ≡ output.old) }
