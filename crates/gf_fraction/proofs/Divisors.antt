@@ -4,7 +4,7 @@ use Rattle.std.proofs.Common.{◌<◌, arith, ap, sym, ◌∙◌, refl, subst}
 use Rattle.std.specs.Int.{IsGcd, ◌∣◌}
 use Rattle.std.proofs.lemmas.Nat.Gcd.{dvd_refl, dvd-zero, dvd_trans, IsGcd-from_zero}
 use Rattle.std.proofs.lemmas.Nat.Gcd.{IsGcd-from_mod, same_from_IsGcd}
-use Rattle.std.proofs.Math.Nat.{pos_of_dvd_of_pos, div-div-eq-div-mul, div-mul_cancel}
+use Rattle.std.proofs.Math.Nat.{pos_of_dvd_of_pos, div-mul_cancel}
 use Rattle.std.proofs.Math.Nat.{mul-dvd-mul_right}
 use Rattle.std.proofs.Math.Nat.{dvd_of_mul-dvd-mul_right, one-dvd, mod-add-div'}
 use Rattle.std.proofs.Math.Nat.{add-mul-mod_self_right, mod-eq_of_lt}
@@ -101,37 +101,13 @@ IsLowest-div n d k g h is =
     }
 
 -- nothing is shared if only 1 can be
+pub IsLowest-apart : (n d k : ℕ) → HoldsCommon n d k → IsGcd n k 1 → IsLowest n d n d
+IsLowest-apart n d k h is =
+    record { by = 1; num = omega arith; den = omega arith; apart = IsGcd-common n d k 1 h is }
+
 pub IsLowest-same : (n d k : ℕ) → HoldsCommon n d k → k ≡ 1 → IsLowest n d n d
-IsLowest-same n d k h one =
-    record {
-      by = 1;
-      num = omega arith;
-      den = omega arith;
-      apart = IsGcd-common n d k 1 h (subst (λ x. IsGcd n x 1) (sym one) (IsGcd-one_right n));
-    }
+IsLowest-same n d k h one = IsLowest-apart n d k h (rw one (IsGcd-one_right n))
 
 pub IsLowest-zero : (n d : ℕ) → n ≡ 0 → IsLowest n d 0 1
 IsLowest-zero n d none =
     record { by = d; num = omega (arith, none); den = omega arith; apart = IsGcd-one_right 0 }
-
--- divided by one factor of their greatest common divisor, and then by the other
-pub IsLowest-div_both : (n d k p q : ℕ) → HoldsCommon n d k → IsGcd n k (q * p)
-    → IsLowest n d (n / p / q) (d / p / q)
-IsLowest-div_both n d k p q h is =
-    let turned : q * p ≡ p * q = omega arith in
-    let low : IsLowest n d (n / (p * q)) (d / (p * q)) =
-    subst (λ g. IsLowest n d (n / g) (d / g)) turned (IsLowest-div n d k (q * p) h is) in
-    subst (λ m. IsLowest n d m (d / p / q)) (sym (div-div-eq-div-mul n p q))
-    (subst (λ m. IsLowest n d (n / (p * q)) m) (sym (div-div-eq-div-mul d p q)) low)
-
-pub IsLowest-div_one : (n d k p q : ℕ) → HoldsCommon n d k → IsGcd n k (q * p) → q ≡ 1
-    → IsLowest n d (n / p) (d / p)
-IsLowest-div_one n d k p q h is one =
-    let same : q * p ≡ p =
-    ap (λ x. x * p) one ∙ (let e : 1 * p ≡ p = omega arith in e) in
-    subst (λ g. IsLowest n d (n / g) (d / g)) same (IsLowest-div n d k (q * p) h is)
-
-pub factor_above_zero : (n k p q : ℕ) → 0 < k → IsGcd n k (q * p) → 0 < q
-factor_above_zero n k p zero some is =
-    let h : 0 < zero * p = pos_of_dvd_of_pos is.1 some in absurd (omega (arith, h))
-factor_above_zero n k p (suc q) some is = omega arith

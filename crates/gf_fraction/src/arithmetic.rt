@@ -57,20 +57,8 @@ fn odd_gcd(a: u64, b: u64) -> u64
     x
 }
 
-/// The greatest common divisor of two numbers of 64 bits: an odd number, and the count of twos that
-/// it is multiplied by.
-fn shared(a: u64, b: u64) -> (u64, u32)
-    requires some_a { 0 < a }
-    requires some_b { 0 < b }
-    ensures shared { IsGcd a b (result.0 * 2 ^ result.1) }
-    ensures few { result.1 < 64 }
-{
-    let a_twos = a.trailing_zeros();
-    let b_twos = b.trailing_zeros();
-    (odd_gcd(a >> a_twos, b >> b_twos), a_twos.min(b_twos))
-}
-
-/// The greatest common divisor of two numbers of 64 bits.
+/// The greatest common divisor of two numbers of 64 bits: that of their odd parts, and the twos that
+/// both have.
 fn word_gcd(a: u64, b: u64) -> u64
     ensures { IsGcd a b result }
 {
@@ -80,8 +68,9 @@ fn word_gcd(a: u64, b: u64) -> u64
     if b == 0 {
         return a;
     }
-    let (odd, twos) = shared(a, b);
-    odd << twos
+    let a_twos = a.trailing_zeros();
+    let b_twos = b.trailing_zeros();
+    odd_gcd(a >> a_twos, b >> b_twos) << a_twos.min(b_twos)
 }
 
 /// The greatest common divisor. Steps use 64 bits as soon as both numbers fit.
@@ -133,7 +122,7 @@ pub fn lowest(size: u128, den: u128, common: u128) -> (u128, u128)
     (quotient(size, shared), quotient(den, shared))
 }
 
-/// Divides out common twos, and leaves no twos in `common`.
+/// Divides out the twos that the size and `common` have in common.
 #[inline(always)]
 fn without_twos(size: u64, den: u64, common: u64) -> (u64, u64, u64)
     requires some { 0 < size }
@@ -145,7 +134,7 @@ fn without_twos(size: u64, den: u64, common: u64) -> (u64, u64, u64)
     (size >> twos, den >> twos, common >> all)
 }
 
-/// Divides out a prime as often as all three numbers have it, and leaves none of it in `common`.
+/// Divides out a prime as often as both the size and `common` have it.
 #[inline(always)]
 fn without(prime: u64, size: u64, den: u64, common: u64) -> (u64, u64, u64)
     requires prime { IsPrime prime }
@@ -173,16 +162,12 @@ fn without_shared(size: u64, den: u64, common: u64) -> (u64, u64)
     if common == 1 {
         return (size, den);
     }
-    if size == 0 {
-        return (0, 1);
+    let shared = word_gcd(size, common);
+    if shared == 1 {
+        (size, den)
+    } else {
+        (size / shared, den / shared)
     }
-    let (odd, twos) = shared(size, common);
-    let size = size >> twos;
-    let den = den >> twos;
-    if odd == 1 {
-        return (size, den);
-    }
-    (size / odd, den / odd)
 }
 
 /// `lowest` for numbers of 64 bits. Most denominators are products of twos, threes and fives, for

@@ -1,30 +1,25 @@
-use Rattle.gf_fraction.proofs.Divisors.{IsLowest-same, IsLowest-zero, IsLowest-div_both}
-use Rattle.gf_fraction.proofs.Divisors.{IsLowest-div_one, factor_above_zero}
+use Rattle.std.proofs.Common.{subst}
+use Rattle.std.specs.Int.{IsGcd}
+use Rattle.std.proofs.Math.Nat.{pos_of_dvd_of_pos}
+use Rattle.gf_fraction.proofs.Divisors.{IsLowest-apart, IsLowest-div, IsLowest-same}
 use Rattle.gf_fraction.proofs.arithmetic.without_shared.Goals as goal
 
 pub returns-then-common-eq1 : goal.returns-then-common-eq1
 returns-then-common-eq1 c =
     IsLowest-same c.args.size c.args.den c.args.common c.requires c.if-common-eq1.true
 
-pub returns-then-size-eq0 : goal.returns-then-size-eq0
-returns-then-size-eq0 c = IsLowest-zero c.args.size c.args.den c.if-size-eq0.true
+pub returns-then-shared-eq1 : goal.returns-then-shared-eq1
+returns-then-shared-eq1 c =
+    IsLowest-apart c.args.size c.args.den c.args.common c.requires
+    (subst (IsGcd c.args.size c.args.common) c.if-shared-eq1.true c.word_gcd-shared.ensures)
 
-pub returns-then-odd-eq1 : goal.returns-then-odd-eq1
-returns-then-odd-eq1 c =
-    IsLowest-div_one c.args.size c.args.den c.args.common _ _ c.requires c.shared-odd.ensures.shared
-    c.if-odd-eq1.true
-
-pub returns : goal.returns
-returns c =
-    IsLowest-div_both c.args.size c.args.den c.args.common _ _ c.requires
-    c.shared-odd.ensures.shared
+pub returns-else-shared-eq1 : goal.returns-else-shared-eq1
+returns-else-shared-eq1 c =
+    IsLowest-div c.args.size c.args.den c.args.common _ c.requires c.word_gcd-shared.ensures
 
 pub nonzero_div-result : goal.nonzero_div-result
-nonzero_div-result c =
-    factor_above_zero c.args.size c.args.common _ _ c.requires.above_zero
-    c.shared-odd.ensures.shared
+nonzero_div-result c = pos_of_dvd_of_pos c.word_gcd-shared.ensures.1 c.requires.above_zero
 
-pub nonzero_div-result-2 : goal.nonzero_div-result-2
-nonzero_div-result-2 c =
-    factor_above_zero c.args.size c.args.common _ _ c.requires.above_zero
-    c.shared-odd.ensures.shared
+pub nonzero_div-result-else-shared-eq1 : goal.nonzero_div-result-else-shared-eq1
+nonzero_div-result-else-shared-eq1 c =
+    pos_of_dvd_of_pos c.word_gcd-shared.ensures.1 c.requires.above_zero
