@@ -10,7 +10,7 @@ use Rattle.gf_fraction.specs.Steps.{IsLowest}
 use Rattle.gf_fraction.specs.NumberSpelling.{Reading, HasShape, size_of, den_of}
 use Rattle.gf_fraction.specs.NumberSpelling.{scaled_digits, power_of_ten, IsBounded}
 use Rattle.gf_fraction.specs.NumberSpelling.Reading.{decimal, rational}
-use Rattle.gf_fraction.specs.ShortNumber.{IsReadOn, IsRun}
+use Rattle.gf_fraction.specs.ShortNumber.{IsLeft, IsReadOn, IsRun}
 use Rattle.gf_fraction.specs.declared.fraction.NumberFault.{NumberFault}
 use Rattle.gf_fraction.specs.declared.fraction.NumberFault.TheVariants.{NotANumber}
 use Rattle.gf_fraction.specs.declared.fraction.NumberFault.TheVariants.{ZeroDenominator, TooLarge}
@@ -102,6 +102,15 @@ pub record AreRead (n : ℕ) (text : List ℕ) (value : ℕ) (rest : List ℕ) :
   pub spelled : text ≡ digits ++ rest
   pub run : IsRun n digits rest
   pub is : value ≡ digits_value_after 10 n digits
+
+-- a text after its sign is not all read in one pass: no digits come first, or what follows the first
+-- digits is left, or more follows what is read on
+pub data IsNotShort (text : List ℕ) : Type 0 where
+  no_digits : (n : ℕ) (rest : List ℕ) → AreRead 0 text n rest → length rest ≡ length text
+      → IsNotShort text
+  left : (n : ℕ) (rest : List ℕ) → AreRead 0 text n rest → IsLeft n rest → IsNotShort text
+  more : (n : ℕ) (on rest : List ℕ) → AreRead 0 text n (on ++ rest) → IsReadOn n on rest
+      → 0 < length rest → IsNotShort text
 
 -- after digits of value n, a text begins with what completes a number within the bounds, p over q
 -- in lowest terms, and this follows it

@@ -6,8 +6,8 @@ ghost use Rattle.std.specs.Str.Parse.{IsNumeral, digits_value};
 ghost use Rattle.gf_fraction.specs.NumberSpelling.{IsNumber, IsSign, Reads, scaled_digits};
 ghost use Rattle.gf_fraction.specs.NumberSpelling.Reading.{decimal, rational};
 ghost use Rattle.gf_fraction.specs.ShortNumber.{IsLeft, IsReadOn};
-ghost use Rattle.gf_fraction.specs.NumberScan.{AreRead, Completes, HasReadingFault, IsScaled};
-ghost use Rattle.gf_fraction.specs.NumberScan.{IsValueOf, after_sign, behind, capped, is_minus};
+ghost use Rattle.gf_fraction.specs.NumberScan.{AreRead, Completes, HasReadingFault};
+ghost use Rattle.gf_fraction.specs.NumberScan.{IsNotShort, IsScaled, IsValueOf, after_sign, behind, capped, is_minus};
 ghost use Rattle.gf_fraction.specs.NumberScan.{leading, leading_value, reading_of, scan};
 ghost use Rattle.gf_fraction.specs.NumberScan.{scan_decimal, scan_exponent, scan_fraction};
 
@@ -112,7 +112,7 @@ fn short_end(num: u64, text: &[u8]) -> Option<(u64, u64, &[u8])>
 
 /// The number that a text spells, if all of it is read in one pass. Most numbers are.
 fn short(text: &[u8]) -> Option<Fraction>
-    ensures { IfSome result (λ r. IsNumber text.now r) }
+    ensures { MatchOption result (IsNotShort (after_sign text.now)) (λ r. IsNumber text.now r) }
 {
     let (negative, unsigned) = split_sign(text);
     let (num, rest) = word_digits(0, unsigned);

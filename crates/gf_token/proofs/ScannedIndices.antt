@@ -12,6 +12,7 @@ use Rattle.std.proofs.lemmas.List.{get_or-drop, length-drop, length-take-le}
 use Rattle.gf_fraction.proofs.SpelledIsFound.{digit_from_ascii}
 use Rattle.gf_token.specs.Byte.{is_bare}
 use Rattle.gf_token.specs.Indices.{index_of}
+use Rattle.gf_token.specs.inner.Finding.{EndsDigits}
 use Rattle.gf_token.proofs.ReadingIndices.{numeral_of}
 
 pub digit_is_bare : (b : ℕ) → is_ascii_digit b ≡ true → is_bare b ≡ true
@@ -84,13 +85,13 @@ has_room bytes start at value from within few all is =
     omega (arith, most, below, is)
 
 -- what digits by themselves are read as
-pub scanned : (bytes : List ℕ) (start at value : ℕ) → start < at → at ≤ length bytes
-    → AllDigits 10 (slice_range bytes start at)
+pub scanned : (bytes : List ℕ) (start at value : ℕ) → EndsDigits bytes start at
     → value ≡ digits_value 10 (slice_range bytes start at)
     → (if nat_lt value (2 ^ 32) then Some value else None)
     ≡ index_of (slice_range bytes start at)
 unfolding index_of
-scanned bytes start at value some within all is =
+scanned bytes start at value d is =
     let long : length (slice_range bytes start at) ≡ at - start =
-    length-take-le (at - start) (drop start bytes) (omega (arith, length-drop start bytes)) in
-    rw (is, numeral_of (slice_range bytes start at) (omega (arith, long), all)) refl
+    length-take-le (at - start) (drop start bytes)
+    (omega (arith, length-drop start bytes, d.within)) in
+    rw (is, numeral_of (slice_range bytes start at) (omega (arith, long, d.begins), d.digits)) refl

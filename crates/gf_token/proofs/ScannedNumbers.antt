@@ -2,28 +2,30 @@
 -- of one follows it.
 use Rattle.std.proofs.Common.{◌∷◌, ◌++◌, ◌≡◌, ℕ, suc, ◌+◌, ◌-◌, ◌<◌, ◌≤◌, ◌^◌, ◌==◌, Bool, true}
 use Rattle.std.proofs.Common.{false, inl, inr, []}
-use Rattle.std.proofs.Common.{List, length, take, drop, get_or, sym, ap, subst, ◌∙◌, arith}
+use Rattle.std.proofs.Common.{List, length, take, drop, get_or, refl, sym, ap, subst, ◌∙◌, arith}
 use Rattle.std.specs.Prelude.{slice_range}
 use Rattle.std.specs.Int.{from_bool}
-use Rattle.std.specs.Str.Parse.{AllDigits, IsNumeral, digits_value}
+use Rattle.std.specs.Str.Parse.{IsNumeral, digits_value}
 use Rattle.std.proofs.Math.Seq.{take-add}
 use Rattle.std.proofs.lemmas.Bool.{cases_lt}
 use Rattle.std.proofs.lemmas.Bool.Decides.{nat_tests}
-use Rattle.std.proofs.lemmas.List.{at_drop_more, at_drop_all, drop-drop, take-append-drop}
-use Rattle.std.proofs.lemmas.List.{length-drop, length-take-le}
+use Rattle.std.proofs.lemmas.List.{at_drop_more, at_drop_all, drop-drop}
+use Rattle.std.proofs.lemmas.List.{length-drop, length-take-le, take_rest}
+use Rattle.std.proofs.lemmas.List.Folds.{drop_split}
 use Rattle.gf_fraction.specs.Ratio.{Ratio, signed, whole}
 use Rattle.gf_fraction.specs.NumberSpelling.{IsNumber, IsSign}
 use Rattle.gf_fraction.proofs.ComputedAnswers.{number_again}
-use Rattle.gf_fraction.proofs.WholeNumbers.{digits_spelled, is_sign_of, sign_of}
+use Rattle.gf_fraction.proofs.WholeNumbers.{digits_spelled as digits_spelled_number, is_sign_of, sign_of}
 use Rattle.gf_token.specs.Byte.{is_bare}
 use Rattle.gf_token.specs.Token.{lexeme}
 use Rattle.gf_token.specs.Token.Token.{Bare}
 use Rattle.gf_token.specs.TokenSpelling.{IsSpelled, MayPrecede}
-use Rattle.gf_token.specs.inner.Finding.{FindsNumber, lexed}
+use Rattle.gf_token.specs.inner.Finding.{EndsDigits, FindsNumber, lexed}
 use Rattle.gf_token.specs.inner.Lexing.{lex}
 use Rattle.gf_token.specs.inner.Lexing.Mode.{Gap}
 use Rattle.gf_token.proofs.Spelled.{token_again}
-use Rattle.gf_token.proofs.SpelledNumbers.{number_bare}
+use Rattle.gf_token.proofs.ScannedIndices.{scanned}
+use Rattle.gf_token.proofs.SpelledNumbers.{digits_spelled, number_bare}
 
 precedes : (bytes text : List ℕ) (at : ℕ)
     → (at < length bytes → is_bare (get_or bytes at 0) ≡ false)
@@ -39,6 +41,35 @@ some_bytes : (text : List ℕ) → IsSpelled (Bare text) → 0 < length text
 some_bytes [] h = absurd h
 some_bytes (b ∷ bytes) h = omega arith
 
+length_range : (bytes : List ℕ) (start end : ℕ) → end ≤ length bytes
+    → length (slice_range bytes start end) ≡ end - start
+length_range bytes start end within =
+    length-take-le (end - start) (drop start bytes) (omega (arith, length-drop start bytes))
+
+-- what follows bytes
+slice_more : (bytes : List ℕ) (start at len : ℕ) → start ≤ at
+    → slice_range bytes start (at + len) ≡ slice_range bytes start at ++ take len (drop at bytes)
+slice_more bytes start at len order =
+    let parts : at + len - start ≡ at - start + len = omega arith in
+    let there : start + (at - start) ≡ at = omega arith in
+    ap (λ n. take n (drop start bytes)) parts
+    ∙ take-add (at - start) len (drop start bytes)
+    ∙ ap (λ t. slice_range bytes start at ++ take len t) (drop-drop (at - start) start bytes)
+    ∙ ap (λ n. slice_range bytes start at ++ take len (drop n bytes)) there
+
+-- bytes that spell a bare token are one, if no further byte of one follows them
+pub finds_bare : (bytes : List ℕ) (start end : ℕ) → IsSpelled (Bare (slice_range bytes start end))
+    → start ≤ end → end ≤ length bytes → (end < length bytes → is_bare (get_or bytes end 0) ≡ false)
+    → lexed bytes start ≡ lexeme start end (Bare (slice_range bytes start end)) ∷ lexed bytes end
+finds_bare bytes start end bare order within ends =
+    let text = slice_range bytes start end in
+    let long = length_range bytes start end within in
+    let stop : start + length text ≡ end = omega (arith, long) in
+    ap (lex Gap start) (drop_split bytes start end order)
+    ∙ token_again (Bare text) start (drop end bytes) (lexed bytes end) bare
+    (precedes bytes text end ends) (ap (λ i. lex Gap i (drop end bytes)) stop)
+    ∙ ap (λ i. lexeme start i (Bare text) ∷ lexed bytes end) stop
+
 pub finds_number : (bytes : List ℕ) (start end : ℕ) (r : Ratio)
     → IsNumber (slice_range bytes start end) r → start ≤ end → end ≤ length bytes
     → (end < length bytes → is_bare (get_or bytes end 0) ≡ false)
@@ -46,24 +77,22 @@ pub finds_number : (bytes : List ℕ) (start end : ℕ) (r : Ratio)
 finds_number bytes start end r number order within ends =
     let text = slice_range bytes start end in
     let bare = number_bare text r number in
-    let long : length text ≡ end - start =
-    length-take-le (end - start) (drop start bytes) (omega (arith, length-drop start bytes)) in
-    let stop : start + length text ≡ end = omega (arith, long) in
-    let there : start + (end - start) ≡ end = omega arith in
-    let parts : drop start bytes ≡ text ++ drop end bytes =
-    sym (take-append-drop (end - start) (drop start bytes))
-    ∙ ap (λ t. text ++ t) (drop-drop (end - start) start bytes)
-    ∙ ap (λ n. text ++ drop n bytes) there in
+    let long = length_range bytes start end within in
     record {
       begins = omega (arith, long, some_bytes text bare);
       within = within;
-      found =
-          ap (lex Gap start) parts
-          ∙ token_again (Bare text) start (drop end bytes) (lexed bytes end) bare
-          (precedes bytes text end ends) (ap (λ i. lex Gap i (drop end bytes)) stop)
-          ∙ ap (λ i. lexeme start i (Bare text) ∷ lexed bytes end) stop;
+      found = finds_bare bytes start end bare order within ends;
       number = sym (number_again text r number);
     }
+
+pub digits_found : (bytes : List ℕ) (start at : ℕ) → EndsDigits bytes start at
+    → (at < length bytes → is_bare (get_or bytes at 0) ≡ false)
+    → lexed bytes start ≡ lexeme start at (Bare (slice_range bytes start at)) ∷ lexed bytes at
+digits_found bytes start at d ends =
+    let long = length_range bytes start at d.within in
+    finds_bare bytes start at
+    (digits_spelled (slice_range bytes start at) (omega (arith, long, d.begins), d.digits))
+    (omega (arith, d.begins)) d.within ends
 
 is_45 : (b : ℕ) → (b == 45) ≡ true → b ≡ 45
 is_45 b h = grind (arith, nat_tests)
@@ -83,57 +112,61 @@ signed_slice bytes start sign at true one within is some =
     ∙ ap (λ (b : ℕ). b ∷ slice_range bytes (start + 1) at) (is_45 (get_or bytes start 0) is)
     ∙ ap (λ (n : ℕ). 45 ∷ slice_range bytes n at) next
 
--- the number that they spell
-pub number_scanned : (bytes : List ℕ) (start sign at value : ℕ) (negative : Bool) (r : Ratio)
-    → sign ≡ from_bool negative → start < length bytes → (get_or bytes start 0 == 45) ≡ negative
-    → start + sign < at → at ≤ length bytes → AllDigits 10 (slice_range bytes (start + sign) at)
-    → value ≡ digits_value 10 (slice_range bytes (start + sign) at) → value < 2 ^ 64
-    → r ≡ whole (signed negative value) → IsNumber (slice_range bytes start at) r
-number_scanned bytes start sign at value negative r signs begins is some within all valued short
-    spelled =
-    let first : ℕ = start + sign in
-    let digits : List ℕ = slice_range bytes first at in
-    let long : length digits ≡ at - first =
-    length-take-le (at - first) (drop first bytes) (omega (arith, length-drop first bytes)) in
-    let numeral : IsNumber (sign_of negative ++ digits)
-    (whole (signed negative (digits_value 10 digits))) =
-    digits_spelled negative digits (omega (arith, long), all) (omega (arith, valued, short)) in
-    let same : whole (signed negative (digits_value 10 digits)) ≡ r =
-    ap (λ (n : ℕ). whole (signed negative n)) (sym valued) ∙ sym spelled in
-    subst (λ (t : List ℕ). IsNumber t r)
-    (sym (signed_slice bytes start sign at negative signs begins is some))
-    (subst (λ (q : Ratio). IsNumber (sign_of negative ++ digits) q) same numeral)
+-- a sign, or none, and the first digits after it
+module _ (bytes : List ℕ) (start sign at value : ℕ)
+    (signs : sign ≡ from_bool (get_or bytes start 0 == 45)) (some : start < length bytes)
+    (d : EndsDigits bytes (start + sign) at)
+    (valued : value ≡ digits_value 10 (slice_range bytes (start + sign) at)) where
+  abbrev negative : Bool
+  negative = get_or bytes start 0 == 45
 
--- what follows the digits
-slice_more : (bytes : List ℕ) (start at len : ℕ) → start ≤ at
-    → slice_range bytes start (at + len) ≡ slice_range bytes start at ++ take len (drop at bytes)
-slice_more bytes start at len order =
-    let parts : at + len - start ≡ at - start + len = omega arith in
-    let there : start + (at - start) ≡ at = omega arith in
-    ap (λ n. take n (drop start bytes)) parts
-    ∙ take-add (at - start) len (drop start bytes)
-    ∙ ap (λ t. slice_range bytes start at ++ take len t) (drop-drop (at - start) start bytes)
-    ∙ ap (λ n. slice_range bytes start at ++ take len (drop n bytes)) there
+  abbrev digits : List ℕ
+  digits = slice_range bytes (start + sign) at
 
--- the number that they spell together
-pub number_completed : (bytes : List ℕ) (start sign at value len : ℕ) (negative : Bool) (r : Ratio)
-    → sign ≡ from_bool negative → start < length bytes → (get_or bytes start 0 == 45) ≡ negative
-    → start + sign < at → at ≤ length bytes → AllDigits 10 (slice_range bytes (start + sign) at)
-    → value ≡ digits_value 10 (slice_range bytes (start + sign) at)
-    → ((s digits : List ℕ) → IsSign s negative → IsNumeral 10 digits
-    → digits_value 10 digits ≡ value → IsNumber (s ++ digits ++ take len (drop at bytes)) r)
-    → IsNumber (slice_range bytes start (at + len)) r
-number_completed bytes start sign at value len negative r signs begins is some within all valued
-    spelled =
-    let first : ℕ = start + sign in
-    let digits : List ℕ = slice_range bytes first at in
-    let long : length digits ≡ at - first =
-    length-take-le (at - first) (drop first bytes) (omega (arith, length-drop first bytes)) in
-    let parts : slice_range bytes start (at + len)
-    ≡ sign_of negative ++ digits ++ take len (drop at bytes) =
-    slice_more bytes start at len (omega arith)
-    ∙ ap (λ t. t ++ take len (drop at bytes))
-    (signed_slice bytes start sign at negative signs begins is some) in
-    subst (λ t. IsNumber t r) (sym parts)
-    (spelled (sign_of negative) digits (is_sign_of negative) (omega (arith, long), all)
-    (sym valued))
+  order : start ≤ at
+  order = omega (arith, d.begins)
+
+  parts : slice_range bytes start at ≡ sign_of negative ++ digits
+  parts = signed_slice bytes start sign at negative signs some refl d.begins
+
+  numeral : IsNumeral 10 digits
+  numeral =
+      let long = length_range bytes (start + sign) at d.within in
+      (omega (arith, long, d.begins), d.digits)
+
+  -- they are a whole number
+  pub whole_found : (r : Ratio) → value < 2 ^ 64 → r ≡ whole (signed negative value)
+      → (at < length bytes → is_bare (get_or bytes at 0) ≡ false) → FindsNumber bytes start at r
+  whole_found r short spelled ends =
+      let same : whole (signed negative (digits_value 10 digits)) ≡ r =
+      ap (λ (n : ℕ). whole (signed negative n)) (sym valued) ∙ sym spelled in
+      finds_number bytes start at r
+      (subst (λ (t : List ℕ). IsNumber t r) (sym parts)
+      (subst (λ (q : Ratio). IsNumber (sign_of negative ++ digits) q) same
+      (digits_spelled_number negative digits numeral (omega (arith, valued, short)))))
+      order d.within ends
+
+  -- they are a number together with what follows them
+  pub number_found : (len : ℕ) (r : Ratio)
+      → ((s ds : List ℕ) → IsSign s negative → IsNumeral 10 ds → digits_value 10 ds ≡ value
+      → IsNumber (s ++ ds ++ take len (take (length bytes - at) (drop at bytes))) r)
+      → len ≤ length (take (length bytes - at) (drop at bytes))
+      → (at + len < length bytes → is_bare (get_or bytes (at + len) 0) ≡ false)
+      → FindsNumber bytes start (at + len) r
+  number_found len r spelled within ends =
+      let rest = take_rest bytes at in
+      let long : length (take (length bytes - at) (drop at bytes)) ≡ length bytes - at =
+      ap length rest ∙ length-drop at bytes in
+      let all : slice_range bytes start (at + len)
+      ≡ sign_of negative ++ digits ++ take len (take (length bytes - at) (drop at bytes)) =
+      slice_more bytes start at len order
+      ∙ ap (λ t. t ++ take len (drop at bytes)) parts
+      ∙ ap (λ t. sign_of negative ++ digits ++ take len t) (sym rest) in
+      finds_number bytes start (at + len) r
+      (subst (λ t. IsNumber t r) (sym all)
+      (spelled (sign_of negative) digits (is_sign_of negative) numeral (sym valued)))
+      (omega (arith, order)) (omega (arith, within, long, d.within)) ends
+
+pub ruleset index_steps = (digits_found, scanned)
+
+pub ruleset number_steps = (whole_found, number_found)

@@ -82,7 +82,7 @@ number_bare (b ∷ bytes) r h =
 pub number_spelled : (r : Ratio) → IsFraction r → IsSpelled (Bare (number_text r))
 number_spelled r h = number_bare (number_text r) r (written_is_read r h)
 
-digits_spelled : (bytes : List ℕ) → IsNumeral 10 bytes → IsSpelled (Bare bytes)
+pub digits_spelled : (bytes : List ℕ) → IsNumeral 10 bytes → IsSpelled (Bare bytes)
 digits_spelled [] h = absurd (let some = h.0 in omega (arith, some))
 digits_spelled (b ∷ bytes) h = bare_digits (b ∷ bytes) h.1
 

@@ -4,12 +4,15 @@
 //! memory.
 
 ghost use Rattle.std.specs.Prelude.{◌≡◌, ◌<◌, ◌≤◌, ◌+◌, [], ◌∷◌, length, slice_range};
-ghost use Rattle.std.specs.Prelude.{◌^◌, nat_lt, slice_index, IfSome, MatchOption, None, Some};
-ghost use Rattle.std.specs.Prelude.{true, false, if◌then◌else◌};
+ghost use Rattle.std.specs.Prelude.{◌^◌, nat_lt, slice_index, MatchOption, None, Some};
+ghost use Rattle.std.specs.Prelude.{◌==◌, true, false, if◌then◌else◌};
+ghost use Rattle.std.specs.Int.{from_bool};
 ghost use Rattle.std.specs.Char.{digit_value, is_ascii_digit};
+ghost use Rattle.std.specs.Str.Parse.{digits_value};
 ghost use Rattle.gf_fraction.specs.Computed.{number_of};
 ghost use Rattle.gf_token.specs.Byte.{is_space, is_bare};
-ghost use Rattle.gf_token.specs.inner.Finding.{lexed, ClosesText, EndsGap, Finds, FindsNumber};
+ghost use Rattle.gf_token.specs.inner.Finding.{lexed, ClosesText, EndsDigits, EndsGap, Finds};
+ghost use Rattle.gf_token.specs.inner.Finding.{FindsNumber, IsNotShort};
 ghost use Rattle.gf_token.specs.Indices.{index_of};
 ghost use Rattle.gf_token.specs.Label.{label_of};
 ghost use Rattle.gf_token.specs.Next.{starts, is_text_of};
@@ -86,9 +89,28 @@ fn digit_value(byte: u8) -> u64
     u64::from(byte - b'0')
 }
 
+/// Where the digits end that begin at `first`, and their value. At most 19 are read, whose value
+/// always fits.
+#[inline(always)]
+fn digits_end(input: &[u8], first: usize) -> (usize, u64)
+    requires within { first < length input.now }
+    requires digit { is_ascii_digit (slice_index input.now first) ≡ true }
+    ensures ends { EndsDigits input.now first result.0 }
+    ensures value { result.1 ≡ digits_value 10 (slice_range input.now first result.0) }
+{
+    let stop = first + (input.len() - first).min(WORD_DIGITS);
+    let mut at = first + 1;
+    let mut value = digit_value(input[first]);
+    while at < stop && input[at].is_ascii_digit() {
+        value = value * 10 + digit_value(input[at]);
+        at += 1;
+    }
+    (at, value)
+}
+
 /// Where the bare token ends that begins at `start`, and the index that it spells, if it spells
 /// one. Digits are read in the scan that finds their end.
-#[tactic(auto, using(crate::proofs::Steps::bare_steps))]
+#[tactic(auto, using(crate::proofs::ScannedNumbers::index_steps))]
 #[inline(always)]
 pub(crate) fn index_end(input: &[u8], start: usize) -> (usize, Option<u32>)
     requires within { start < length input.now }
@@ -100,13 +122,7 @@ pub(crate) fn index_end(input: &[u8], start: usize) -> (usize, Option<u32>)
     ensures index { result.1 ≡ index_of (slice_range input.now start result.0) }
 {
     if input[start].is_ascii_digit() {
-        let stop = start + (input.len() - start).min(WORD_DIGITS);
-        let mut at = start + 1;
-        let mut value = digit_value(input[start]);
-        while at < stop && input[at].is_ascii_digit() {
-            value = value * 10 + digit_value(input[at]);
-            at += 1;
-        }
+        let (at, value) = digits_end(input, start);
         if at >= input.len() || !is_bare(input[at]) {
             return (at, index_of_value(value));
         }
@@ -128,23 +144,20 @@ fn index_of_value(value: u64) -> Option<u32>
 
 /// Where the bare token ends that begins at `start`, and the number that it spells, if all of it is
 /// read in one pass. Most numbers are whole: what ends these is looked for first.
+#[tactic(auto, using(crate::proofs::ScannedNumbers::number_steps))]
 #[inline(always)]
 fn short_number_end(input: &[u8], start: usize) -> Option<(usize, Fraction)>
     requires within { start < length input.now }
-    ensures { IfSome result (λ r. FindsNumber input.now start r.0 r.1) }
+    ensures { MatchOption result
+        (IsNotShort input.now (start + from_bool (slice_index input.now start == 45)))
+        (λ r. FindsNumber input.now start r.0 r.1) }
 {
     let negative = input[start] == b'-';
     let first = start + usize::from(negative);
     if first == input.len() || !input[first].is_ascii_digit() {
         return None;
     }
-    let stop = first + (input.len() - first).min(WORD_DIGITS);
-    let mut at = first + 1;
-    let mut value = digit_value(input[first]);
-    while at < stop && input[at].is_ascii_digit() {
-        value = value * 10 + digit_value(input[at]);
-        at += 1;
-    }
+    let (at, value) = digits_end(input, first);
     if at == input.len() || !is_bare(input[at]) {
         return Some((at, Fraction::whole(negative, value)));
     }

@@ -1,9 +1,12 @@
 -- What is found in the bytes from a place on. No public contract cites this file.
 use Rattle.std.specs.Prelude.{◌≡◌, ℕ, ◌+◌, ◌<◌, ◌≤◌, true, false, List, [], ◌∷◌, length, drop}
-use Rattle.std.specs.Prelude.{get_or, slice_range, Result, Ok, Err}
+use Rattle.std.specs.Prelude.{get_or, slice_range, take, Result, Ok, Err}
+use Rattle.std.specs.Char.{is_ascii_digit}
+use Rattle.std.specs.Str.Parse.{AllDigits, digits_value}
 use Rattle.gf_fraction.specs.Ratio.{Ratio}
 use Rattle.gf_fraction.specs.Computed.{number_of}
-use Rattle.gf_token.specs.Byte.{is_space}
+use Rattle.gf_fraction.specs.ShortNumber.{IsLeft, IsReadOn}
+use Rattle.gf_token.specs.Byte.{is_bare, is_space}
 use Rattle.gf_token.specs.LabelSpelling.{is_spelling}
 use Rattle.gf_token.specs.Token.{Lexeme, lexeme}
 use Rattle.gf_token.specs.Token.Token.{Bare, Text, Broken}
@@ -31,6 +34,28 @@ pub record FindsNumber (bytes : List ℕ) (start end : ℕ) (r : Ratio) : Type 0
   pub found : lexed bytes start
       ≡ lexeme start end (Bare (slice_range bytes start end)) ∷ lexed bytes end
   pub number : Ok r ≡ number_of (slice_range bytes start end)
+
+-- the digits from place `first` on, of which at most 19 count, end at `at`
+pub record EndsDigits (bytes : List ℕ) (first at : ℕ) : Type 0 where
+  pub begins : first < at
+  pub within : at ≤ length bytes
+  pub digits : AllDigits 10 (slice_range bytes first at)
+  pub few : at ≤ first + 19
+  pub stops : at < length bytes → at < first + 19 → is_ascii_digit (get_or bytes at 0) ≡ false
+
+-- a number is not all read in one pass if its digits begin at `first`: no digit stands there, or
+-- what follows the first digits is left, or more of a bare token follows what is read on
+pub data IsNotShort (bytes : List ℕ) (first : ℕ) : Type 0 where
+  no_digit : (first < length bytes → is_ascii_digit (get_or bytes first 0) ≡ false)
+      → IsNotShort bytes first
+  left : (at : ℕ) → EndsDigits bytes first at
+      → IsLeft (digits_value 10 (slice_range bytes first at)) (drop at bytes)
+      → IsNotShort bytes first
+  more : (at len : ℕ) → EndsDigits bytes first at
+      → IsReadOn (digits_value 10 (slice_range bytes first at)) (take len (drop at bytes))
+      (drop len (drop at bytes))
+      → at + len < length bytes → is_bare (get_or bytes (at + len) 0) ≡ true
+      → IsNotShort bytes first
 
 -- the text that begins at `start` is closed by the quote at `end`
 pub record ClosesText (bytes : List ℕ) (start end : ℕ) : Type 0 where

@@ -1,10 +1,36 @@
-use Rattle.std.proofs.Common.{◌≡◌, ◌<◌, ◌+◌, length, subst, sym, ap, ◌∙◌, arith}
-use Rattle.std.proofs.lemmas.List.{length-append}
+use Rattle.std.proofs.Common.{◌≡◌, ◌<◌, ◌+◌, length, take, drop, subst, sym, ap, ◌∙◌, arith}
+use Rattle.std.proofs.lemmas.List.{length-append, length-drop, take-append-drop}
 use Rattle.gf_fraction.specs.NumberSpelling.{IsNumber, IsSign}
-use Rattle.gf_fraction.specs.NumberScan.{AreRead, after_sign}
+use Rattle.gf_fraction.specs.NumberScan.{AreRead, IsNotShort, after_sign}
 use Rattle.gf_fraction.proofs.FoundIsSpelled.{has_sign}
 use Rattle.gf_fraction.proofs.ShortNumbers.{parts_of}
 use Rattle.gf_fraction.proofs.read.short.Goals as goal
+
+pub returns-then-rest-unsigned : goal.returns-then-rest-unsigned
+returns-then-rest-unsigned c =
+    subst IsNotShort c.split_sign-negative.ensures.rest
+    (IsNotShort.no_digits _ _ c.word_digits-num.ensures c.if-rest-unsigned.true)
+
+pub returns-in_err-number : goal.returns-in_err-number
+returns-in_err-number c =
+    rw c.from_residual.ensures
+    (subst IsNotShort c.split_sign-negative.ensures.rest
+    (IsNotShort.left _ _ c.word_digits-num.ensures c.in_err-number.ensures.end))
+
+pub returns-else-len-rest : goal.returns-else-len-rest
+returns-else-len-rest c =
+    let rest = c.word_digits-num.result.1.now in
+    let len = c.in_ok-number.len in
+    let more : 0 < length (drop len rest) = omega (
+      arith,
+      length-drop len rest,
+      c.if-len-rest.false,
+      c.in_ok-number.ensures.within,
+    ) in
+    subst IsNotShort c.split_sign-negative.ensures.rest
+    (IsNotShort.more _ (take len rest) (drop len rest)
+    (subst (AreRead 0 _ _) (sym (take-append-drop len rest)) c.word_digits-num.ensures)
+    c.in_ok-number.ensures.end more)
 
 pub returns-then-len-rest : goal.returns-then-len-rest
 returns-then-len-rest c =

@@ -1,15 +1,12 @@
-use Rattle.std.proofs.Common.{◌≡◌, ◌≤◌, ◌<◌, ◌-◌, length}
+use Rattle.std.proofs.Common.{◌≡◌, ◌≤◌, ◌<◌, ◌-◌}
 use Rattle.std.specs.Prelude.{slice_range}
 use Rattle.std.specs.Str.Parse.{AllDigits, digits_value}
-use Rattle.gf_token.proofs.scan.short_number_end.Given as goal
+use Rattle.gf_token.proofs.scan.digits_end.Given as goal
 
 abbrev pub invariant-loop-at : goal.invariant-loop-at
 invariant-loop-at l = record {
   within : l.at ≤ l.stop;
-  stops : l.stop ≤ length l.input;
   begins : l.first < l.at;
-  signed : l.start ≤ l.first;
-  few : l.stop - l.first ≤ 19;
   digits : AllDigits 10 (slice_range l.input l.first l.at);
   value : l.value ≡ digits_value 10 (slice_range l.input l.first l.at);
 }
