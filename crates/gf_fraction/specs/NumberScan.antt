@@ -103,8 +103,8 @@ pub record AreRead (n : ℕ) (text : List ℕ) (value : ℕ) (rest : List ℕ) :
   pub run : IsRun n digits rest
   pub is : value ≡ digits_value_after 10 n digits
 
--- a text after its sign is not all read in one pass: no digits come first, or what follows the first
--- digits is left, or more follows what is read on
+-- a text after its sign is not all read in one pass: no digits come first, or what follows the
+-- first digits is left, or more follows what is read on
 pub data IsNotShort (text : List ℕ) : Type 0 where
   no_digits : (n : ℕ) (rest : List ℕ) → AreRead 0 text n rest → length rest ≡ length text
       → IsNotShort text

@@ -57,8 +57,8 @@ fn odd_gcd(a: u64, b: u64) -> u64
     x
 }
 
-/// The greatest common divisor of two numbers of 64 bits: that of their odd parts, and the twos that
-/// both have.
+/// The greatest common divisor of two numbers of 64 bits: that of their odd parts, with the twos
+/// that both have.
 fn word_gcd(a: u64, b: u64) -> u64
     ensures { IsGcd a b result }
 {

@@ -7,9 +7,10 @@ ghost use Rattle.gf_fraction.specs.NumberSpelling.{IsNumber, IsSign, Reads, scal
 ghost use Rattle.gf_fraction.specs.NumberSpelling.Reading.{decimal, rational};
 ghost use Rattle.gf_fraction.specs.ShortNumber.{IsLeft, IsReadOn};
 ghost use Rattle.gf_fraction.specs.NumberScan.{AreRead, Completes, HasReadingFault};
-ghost use Rattle.gf_fraction.specs.NumberScan.{IsNotShort, IsScaled, IsValueOf, after_sign, behind, capped, is_minus};
-ghost use Rattle.gf_fraction.specs.NumberScan.{leading, leading_value, reading_of, scan};
-ghost use Rattle.gf_fraction.specs.NumberScan.{scan_decimal, scan_exponent, scan_fraction};
+ghost use Rattle.gf_fraction.specs.NumberScan.{IsNotShort, IsScaled, IsValueOf, after_sign};
+ghost use Rattle.gf_fraction.specs.NumberScan.{behind, capped, is_minus, leading, leading_value};
+ghost use Rattle.gf_fraction.specs.NumberScan.{reading_of, scan, scan_decimal, scan_exponent};
+ghost use Rattle.gf_fraction.specs.NumberScan.{scan_fraction};
 
 use crate::arithmetic::{LARGEST, lowest_decimal, lowest_words, product, with_sign};
 use crate::fraction::{Fraction, NumberFault};

@@ -15,7 +15,7 @@ use Rattle.std.proofs.lemmas.List.Folds.{drop_split}
 use Rattle.gf_fraction.specs.Ratio.{Ratio, signed, whole}
 use Rattle.gf_fraction.specs.NumberSpelling.{IsNumber, IsSign}
 use Rattle.gf_fraction.proofs.ComputedAnswers.{number_again}
-use Rattle.gf_fraction.proofs.WholeNumbers.{digits_spelled as digits_spelled_number, is_sign_of, sign_of}
+use Rattle.gf_fraction.proofs.WholeNumbers.{digits_spelled as whole_spelled, is_sign_of, sign_of}
 use Rattle.gf_token.specs.Byte.{is_bare}
 use Rattle.gf_token.specs.Token.{lexeme}
 use Rattle.gf_token.specs.Token.Token.{Bare}
@@ -143,7 +143,7 @@ module _ (bytes : List ℕ) (start sign at value : ℕ)
       finds_number bytes start at r
       (subst (λ (t : List ℕ). IsNumber t r) (sym parts)
       (subst (λ (q : Ratio). IsNumber (sign_of negative ++ digits) q) same
-      (digits_spelled_number negative digits numeral (omega (arith, valued, short)))))
+      (whole_spelled negative digits numeral (omega (arith, valued, short)))))
       order d.within ends
 
   -- they are a number together with what follows them
@@ -168,5 +168,3 @@ module _ (bytes : List ℕ) (start sign at value : ℕ)
       (omega (arith, order)) (omega (arith, within, long, d.within)) ends
 
 pub ruleset index_steps = (digits_found, scanned)
-
-pub ruleset number_steps = (whole_found, number_found)

@@ -144,7 +144,6 @@ fn index_of_value(value: u64) -> Option<u32>
 
 /// Where the bare token ends that begins at `start`, and the number that it spells, if all of it is
 /// read in one pass. Most numbers are whole: what ends these is looked for first.
-#[tactic(auto, using(crate::proofs::ScannedNumbers::number_steps))]
 #[inline(always)]
 fn short_number_end(input: &[u8], start: usize) -> Option<(usize, Fraction)>
     requires within { start < length input.now }
