@@ -20,10 +20,7 @@ quotes_escaped : (bytes front back : List ℕ) (before : ℕ) → is_spelling_af
 unfolding last_of
 quotes_escaped [] [] back before h e = absurd cc
 quotes_escaped [] (c ∷ front) back before h e = absurd cc
-quotes_escaped (b ∷ bytes) [] back before h e =
-    let quote : b ≡ 34 = cc in
-    quote_escaped before
-    (rw quote at (and_parts (not (b == 34) || before == 92) (is_spelling_after b bytes) h).0)
+quotes_escaped (b ∷ bytes) [] back before h e = grind arith
 quotes_escaped (b ∷ bytes) (c ∷ front) back before h e =
     let same : c ≡ b = cc in
     let tail : bytes ≡ front ++ 34 ∷ back = cc in

@@ -10,7 +10,6 @@ use Rattle.gf_token.specs.Reason.{IsReason}
 use Rattle.gf_token.specs.declared.fault.Span.{Span}
 use Rattle.gf_token.specs.declared.fault.What.{What}
 use Rattle.gf_token.specs.declared.fault.Why.{Why}
-use Rattle.gf_token.specs.declared.fault.Why.TheVariants.{Expected}
 use Rattle.gf_token.proofs.Spelled.{same_tokens}
 
 -- ---- two ways to part a list
@@ -30,9 +29,7 @@ first_and_rest x y xs ys e = (cc, cc)
 
 parts_more : (x u : Lexeme) (xs ys us vs : List Lexeme) → x ≡ u → Parts xs ys us vs
     → Parts (x ∷ xs) ys (u ∷ us) vs
-parts_more x u xs ys us vs e (inl h) = inl (h.0, h.1, (λ i. sym e i ∷ h.2 i), h.3)
-parts_more x u xs ys us vs e (inr (inl h)) = inr (inl ((λ i. e i ∷ h.0 i), h.1))
-parts_more x u xs ys us vs e (inr (inr h)) = inr (inr (h.0, h.1, (λ i. e i ∷ h.2 i), h.3))
+parts_more x u xs ys us vs e h = grind arith
 
 pub parts : (xs ys us vs : List Lexeme) → xs ++ ys ≡ us ++ vs → Parts xs ys us vs
 parts [] ys [] vs e = inr (inl (refl, e))
@@ -54,13 +51,11 @@ same_span s t start end = (λ i. record { start = start i; end = end i })
 
 pub one_span : (ls : List Lexeme) (size : ℕ) (s t : Span) → IsSpanOf ls size s → IsSpanOf ls size t
     → s ≡ t
-one_span [] size s t h k = same_span s t (h.0 ∙ sym k.0) (h.1 ∙ sym k.1)
-one_span (l ∷ ls) size s t h k = same_span s t (h.0 ∙ sym k.0) (h.1 ∙ sym k.1)
+one_span ls size s t h k = grind arith
 
 module _ (IsFile : List Token → Type 0) where
   pub begins_front : (ts us : List Token) → Begins IsFile (ts ++ us) → Begins IsFile ts
-  begins_front ts us b =
-      (us ++ b.0, subst (λ (x : List Token). IsFile x) (append_assoc ts us b.0) b.1)
+  begins_front ts us b = grind (arith, append_assoc)
 
   -- where tokens are refused, there is no file
   pub no_file : (before after : List Token) → ¬ (IsAccepted IsFile before after)
@@ -108,18 +103,8 @@ module _ (Holds : Why → Type 0) (IsDue : What → Type 0) where
 
   expected_or_lowest : (why : Why) → IsReason Holds IsDue why
       → ((code_of why ≡ 3) × NoneHolds) ⊎ Lowest why
-  expected_or_lowest (Expected what) h = inl (refl, h.1)
-  expected_or_lowest why h = inr h
+  expected_or_lowest why h = grind arith
 
   pub one_code : (why other : Why) → IsReason Holds IsDue why → IsReason Holds IsDue other
       → code_of why ≡ code_of other
-  one_code why other h k = elim (expected_or_lowest why h) [
-    | inl a ↦ elim (expected_or_lowest other k) [
-      | inl b ↦ a.0 ∙ sym b.0
-      | inr b ↦ absurd (a.1 other b.0)
-    ]
-    | inr a ↦ elim (expected_or_lowest other k) [
-      | inl b ↦ absurd (b.1 why a.0)
-      | inr b ↦ let x = a.1 other b.0 in let y = b.1 why a.0 in omega (arith, x, y)
-    ]
-  ]
+  one_code why other h k = grind arith

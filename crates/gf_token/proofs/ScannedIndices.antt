@@ -1,7 +1,7 @@
 -- The digits of an index, one by one, if they are read while their end is looked for.
 use Rattle.std.proofs.Common.{[], ◌≡◌, ℕ, ◌+◌, ◌-◌, ◌*◌, ◌<◌, ◌≤◌, ◌^◌, true, List, length, take}
 use Rattle.std.proofs.Common.{drop}
-use Rattle.std.proofs.Common.{get_or, Some, None, sym, ap, subst, ◌∙◌, arith, refl, lit<}
+use Rattle.std.proofs.Common.{get_or, Some, None, sym, ap, subst, arith}
 use Rattle.std.specs.Prelude.{nat_lt, slice_range, if◌then◌else◌}
 use Rattle.std.specs.Char.{digit_value, is_ascii_digit}
 use Rattle.std.specs.Str.Parse.{AllDigits, digits_value}
@@ -28,26 +28,18 @@ module _ (bytes : List ℕ) (start at : ℕ) (from : start ≤ at) (within : at 
   next = omega arith
 
   byte : get_or (drop start bytes) (at - start) 0 ≡ get_or bytes at 0
-  byte =
-      let there : start + (at - start) ≡ at = omega arith in
-      get_or-drop start bytes (at - start) 0 ∙ ap (λ (i : ℕ). get_or bytes i 0) there
+  byte = grind (arith, get_or-drop)
 
   small : digit_value (get_or (drop start bytes) (at - start) 0) < 10
   small = rw byte (digit_from_ascii (get_or bytes at 0) digit)
 
   pub more_digits : AllDigits 10 (slice_range bytes start at)
       → AllDigits 10 (slice_range bytes start (at + 1))
-  more_digits all =
-      let more : AllDigits 10 (take (at - start + 1) (drop start bytes)) =
-      digits_more 10 (drop start bytes) (at - start) room all small in
-      subst (λ (n : ℕ). AllDigits 10 (take n (drop start bytes))) (sym next) more
+  more_digits all = grind (arith, digits_more, room, small, next)
 
   pub more_value : digits_value 10 (slice_range bytes start (at + 1))
       ≡ digits_value 10 (slice_range bytes start at) * 10 + digit_value (get_or bytes at 0)
-  more_value =
-      ap (λ (n : ℕ). digits_value 10 (take n (drop start bytes))) next
-      ∙ digits_value_more 10 (drop start bytes) (at - start) room
-      ∙ ap (λ (b : ℕ). digits_value 10 (slice_range bytes start at) * 10 + digit_value b) byte
+  more_value = grind (arith, next, digits_value_more, room, byte)
 
 -- the first digit
 module _ (bytes : List ℕ) (start : ℕ) (within : start < length bytes)
@@ -63,26 +55,14 @@ module _ (bytes : List ℕ) (start : ℕ) (within : start < length bytes)
 
   pub first_value : digits_value 10 (slice_range bytes start (start + 1))
       ≡ digit_value (get_or bytes start 0)
-  first_value =
-      let nothing : digits_value 10 (slice_range bytes start start) ≡ 0 =
-      ap (digits_value 10) none in
-      let more = more_value bytes start start (omega arith) within digit in
-      omega (arith, nothing, more)
+  first_value = grind (arith, none, more_value)
 
 -- a further digit has room in 64 bits
 pub has_room : (bytes : List ℕ) (start at value : ℕ) → start ≤ at → at ≤ length bytes
     → at - start < 19 → AllDigits 10 (slice_range bytes start at)
     → value ≡ digits_value 10 (slice_range bytes start at) → value * 10 + 9 < 2 ^ 64
 has_room bytes start at value from within few all is =
-    let long : length (slice_range bytes start at) ≡ at - start =
-    length-take-le (at - start) (drop start bytes) (omega (arith, length-drop start bytes)) in
-    let below : digits_value 10 (slice_range bytes start at)
-    < 10 ^ length (slice_range bytes start at) =
-    digits_value-lt 10 (slice_range bytes start at) all in
-    let less : length (slice_range bytes start at) ≤ 18 = omega (arith, long) in
-    let most : 10 ^ length (slice_range bytes start at) ≤ 10 ^ 18 =
-    pow-le-pow_right (lit< tt) less in
-    omega (arith, most, below, is)
+    grind (arith, length-take-le, length-drop, digits_value-lt, pow-le-pow_right)
 
 -- what digits by themselves are read as
 pub scanned : (bytes : List ℕ) (start at value : ℕ) → EndsDigits bytes start at
@@ -90,8 +70,4 @@ pub scanned : (bytes : List ℕ) (start at value : ℕ) → EndsDigits bytes sta
     → (if nat_lt value (2 ^ 32) then Some value else None)
     ≡ index_of (slice_range bytes start at)
 unfolding index_of
-scanned bytes start at value d is =
-    let long : length (slice_range bytes start at) ≡ at - start =
-    length-take-le (at - start) (drop start bytes)
-    (omega (arith, length-drop start bytes, d.within)) in
-    rw (is, numeral_of (slice_range bytes start at) (omega (arith, long, d.begins), d.digits)) refl
+scanned bytes start at value d is = grind (arith, length-take-le, length-drop, numeral_of)

@@ -1,7 +1,7 @@
 -- A number that is read in one pass, from a sign and digits on, is a bare token, if no further byte
 -- of one follows it.
 use Rattle.std.proofs.Common.{◌∷◌, ◌++◌, ◌≡◌, ℕ, suc, ◌+◌, ◌-◌, ◌<◌, ◌≤◌, ◌^◌, ◌==◌, Bool, true}
-use Rattle.std.proofs.Common.{false, inl, inr, []}
+use Rattle.std.proofs.Common.{false, inl, inr}
 use Rattle.std.proofs.Common.{List, length, take, drop, get_or, refl, sym, ap, subst, ◌∙◌, arith}
 use Rattle.std.specs.Prelude.{slice_range}
 use Rattle.std.specs.Int.{from_bool}
@@ -38,13 +38,11 @@ precedes bytes text at h =
     ]
 
 some_bytes : (text : List ℕ) → IsSpelled (Bare text) → 0 < length text
-some_bytes [] h = absurd h
-some_bytes (b ∷ bytes) h = omega arith
+some_bytes text h = grind arith
 
 length_range : (bytes : List ℕ) (start end : ℕ) → end ≤ length bytes
     → length (slice_range bytes start end) ≡ end - start
-length_range bytes start end within =
-    length-take-le (end - start) (drop start bytes) (omega (arith, length-drop start bytes))
+length_range bytes start end within = grind (arith, length-take-le, length-drop)
 
 -- what follows bytes
 slice_more : (bytes : List ℕ) (start at len : ℕ) → start ≤ at
@@ -88,11 +86,7 @@ finds_number bytes start end r number order within ends =
 pub digits_found : (bytes : List ℕ) (start at : ℕ) → EndsDigits bytes start at
     → (at < length bytes → is_bare (get_or bytes at 0) ≡ false)
     → lexed bytes start ≡ lexeme start at (Bare (slice_range bytes start at)) ∷ lexed bytes at
-digits_found bytes start at d ends =
-    let long = length_range bytes start at d.within in
-    finds_bare bytes start at
-    (digits_spelled (slice_range bytes start at) (omega (arith, long, d.begins), d.digits))
-    (omega (arith, d.begins)) d.within ends
+digits_found bytes start at d ends = grind (arith, length_range, finds_bare, digits_spelled)
 
 is_45 : (b : ℕ) → (b == 45) ≡ true → b ≡ 45
 is_45 b h = grind (arith, nat_tests)
@@ -101,9 +95,7 @@ is_45 b h = grind (arith, nat_tests)
 signed_slice : (bytes : List ℕ) (start sign at : ℕ) (negative : Bool) → sign ≡ from_bool negative
     → start < length bytes → (get_or bytes start 0 == 45) ≡ negative → start + sign < at
     → slice_range bytes start at ≡ sign_of negative ++ slice_range bytes (start + sign) at
-signed_slice bytes start sign at false none within is some =
-    let same : start ≡ start + sign = (let n : sign ≡ 0 = none in omega (arith, n)) in
-    ap (λ (n : ℕ). slice_range bytes n at) same
+signed_slice bytes start sign at false none within is some = grind arith
 signed_slice bytes start sign at true one within is some =
     let next : start + 1 ≡ start + sign = (let n : sign ≡ 1 = one in omega (arith, n)) in
     let more : at - start ≡ suc (at - (start + 1)) = omega (arith, next) in
@@ -130,9 +122,7 @@ module _ (bytes : List ℕ) (start sign at value : ℕ)
   parts = signed_slice bytes start sign at negative signs some refl d.begins
 
   numeral : IsNumeral 10 digits
-  numeral =
-      let long = length_range bytes (start + sign) at d.within in
-      (omega (arith, long, d.begins), d.digits)
+  numeral = grind (arith, length_range)
 
   -- they are a whole number
   pub whole_found : (r : Ratio) → value < 2 ^ 64 → r ≡ whole (signed negative value)
@@ -154,17 +144,6 @@ module _ (bytes : List ℕ) (start sign at value : ℕ)
       → (at + len < length bytes → is_bare (get_or bytes (at + len) 0) ≡ false)
       → FindsNumber bytes start (at + len) r
   number_found len r spelled within ends =
-      let rest = take_rest bytes at in
-      let long : length (take (length bytes - at) (drop at bytes)) ≡ length bytes - at =
-      ap length rest ∙ length-drop at bytes in
-      let all : slice_range bytes start (at + len)
-      ≡ sign_of negative ++ digits ++ take len (take (length bytes - at) (drop at bytes)) =
-      slice_more bytes start at len order
-      ∙ ap (λ t. t ++ take len (drop at bytes)) parts
-      ∙ ap (λ t. sign_of negative ++ digits ++ take len t) (sym rest) in
-      finds_number bytes start (at + len) r
-      (subst (λ t. IsNumber t r) (sym all)
-      (spelled (sign_of negative) digits (is_sign_of negative) numeral (sym valued)))
-      (omega (arith, order)) (omega (arith, within, long, d.within)) ends
+      grind (arith, take_rest, length-drop, sign_of, slice_more, order, parts, finds_number, is_sign_of, numeral)
 
 pub ruleset index_steps = (digits_found, scanned)

@@ -10,13 +10,7 @@ use Rattle.gf_token.specs.TokenSpelling.{IsSpelled, GoesOn, BeginsWith, Spells, 
 
 -- each token has a byte
 pub some_byte : (t : Token) → IsSpelled t → 0 < length (spelling t)
-some_byte Opening h = omega arith
-some_byte Closing h = omega arith
-some_byte Comma h = omega arith
-some_byte (Text label) h = omega arith
-some_byte (Bare []) h = absurd h
-some_byte (Bare (b ∷ bytes)) h = omega arith
-some_byte Broken h = omega arith
+some_byte t h = grind arith
 
 slice_between : (front mid back : List ℕ)
     → slice_range (front ++ (mid ++ back)) (length front) (length front + length mid) ≡ mid
@@ -88,9 +82,7 @@ stands_in bytes before after l h = stands before after l [] bytes 0 refl h
 
 ends_before : (between after : List Lexeme) (l m : Lexeme) (at : ℕ) (bytes : List ℕ)
     → Spells at bytes (l ∷ (between ++ m ∷ after)) → l.end ≤ m.start
-ends_before [] after l m at bytes h =
-    let next = goes_on_some l.token [] after m (Spells l.end h.0.rest (m ∷ after)) h.1 in
-    omega (arith, next.0.start)
+ends_before [] after l m at bytes h = grind arith
 ends_before (x ∷ between) after l m at bytes h =
     let next = goes_on_some l.token (x ∷ between) after m
     (Spells l.end h.0.rest (x ∷ (between ++ m ∷ after))) h.1 in

@@ -5,7 +5,7 @@ use Rattle.std.proofs.Common.{inl, inr}
 use Rattle.std.specs.Prelude.{not}
 use Rattle.std.specs.List.{AllByRecursion}
 use Rattle.std.proofs.lemmas.Bool.{cases_Bool, and_parts}
-use Rattle.std.proofs.lemmas.Bool.Decides.{Decides-eqb, nat_tests}
+use Rattle.std.proofs.lemmas.Bool.Decides.{Decides-eqb}
 use Rattle.std.proofs.lemmas.List.{append-nil, length-append}
 use Rattle.gf_token.specs.Byte.{is_space, is_bare}
 use Rattle.gf_token.specs.LabelSpelling.{is_spelling_after}
@@ -39,9 +39,7 @@ bare_again : (bs acc rest : List ℕ) (start at : ℕ) → AllBare bs
     → lex (InBare start acc) at (bs ++ rest)
     ≡ lex (InBare start (acc ++ bs)) (at + length bs) rest
 unfolding lex
-bare_again [] acc rest start at h =
-    let e : at ≡ at + 0 = omega arith in
-    rw append-nil (ap (λ (i : ℕ). lex (InBare start acc) i rest) e)
+bare_again [] acc rest start at h = grind (arith, append-nil)
 bare_again (b ∷ bs) acc rest start at h =
     let e : at + 1 + length bs ≡ at + suc (length bs) = omega arith in
     rw h.0 (bare_again bs (acc ++ b ∷ []) rest start (at + 1) h.1
@@ -52,28 +50,21 @@ bare_again (b ∷ bs) acc rest start at h =
 bare_ends : (text rest : List ℕ) (start at : ℕ) → MayPrecede (Bare text) rest
     → lex (InBare start text) at rest ≡ lexeme start at (Bare text) ∷ lex Gap at rest
 unfolding lex
-bare_ends text [] start at h = refl
-bare_ends text (c ∷ rest) start at h = rw h refl
+bare_ends text rest start at h = grind arith
 
 -- a byte of a label does not close it, and a byte that does not close it may be one of its bytes
 goes_on : (quote escaped : Bool) → (not quote || escaped) ≡ true → (quote && not escaped) ≡ false
-goes_on true true h = refl
-goes_on true false h = absurd cc
-goes_on false escaped h = refl
+goes_on quote escaped h = grind arith
 
 goes_on_back : (quote escaped : Bool) → (quote && not escaped) ≡ false
     → (not quote || escaped) ≡ true
-goes_on_back true true h = refl
-goes_on_back true false h = absurd cc
-goes_on_back false escaped h = refl
+goes_on_back quote escaped h = grind arith
 
 pub text_again : (l acc rest : List ℕ) (start at before : ℕ) → is_spelling_after before l ≡ true
     → lex (InText start before acc) at (l ++ 34 ∷ rest)
     ≡ lexeme start (at + length l + 1) (Text (acc ++ l)) ∷ lex Gap (at + length l + 1) rest
 unfolding lex
-text_again [] acc rest start at before h =
-    let e : at + 1 ≡ at + 0 + 1 = omega arith in
-    rw (h, append-nil) (ap (λ (i : ℕ). lexeme start i (Text acc) ∷ lex Gap i rest) e)
+text_again [] acc rest start at before h = grind (arith, append-nil)
 text_again (b ∷ l) acc rest start at before h =
     let k = and_parts (not (b == 34) || before == 92) (is_spelling_after b l) h in
     let e : at + 1 + length l + 1 ≡ at + suc (length l) + 1 = omega arith in
@@ -109,38 +100,12 @@ pub token_again : (t : Token) (at : ℕ) (rest : List ℕ) (others : List Lexeme
     → GoesOn t others (lex Gap (at + length (spelling t)) rest ≡ others)
     → lex Gap at (spelling t ++ rest) ≡ lexeme at (at + length (spelling t)) t ∷ others
 unfolding lex
-token_again Opening at rest others h s k =
-    ap (λ (x : List Lexeme). lexeme at (at + 1) Opening ∷ x) k
-token_again Closing at rest others h s k =
-    ap (λ (x : List Lexeme). lexeme at (at + 1) Closing ∷ x) k
-token_again Comma at rest others h s k = ap (λ (x : List Lexeme). lexeme at (at + 1) Comma ∷ x) k
-token_again (Text l) at rest others h s k =
-    let e : at + 1 + length l + 1 ≡ at + suc (length (l ++ 34 ∷ [])) =
-    omega (arith, length-append l (34 ∷ [])) in
-    ap (λ (x : List ℕ). lex (InText at 34 []) (at + 1) x) (append_assoc l (34 ∷ []) rest)
-    ∙ text_again l [] rest at (at + 1) 34 h
-    ∙ ap (λ (i : ℕ). lexeme at i (Text l) ∷ lex Gap i rest) e
-    ∙ ap (λ (x : List Lexeme). lexeme at (at + suc (length (l ++ 34 ∷ []))) (Text l) ∷ x) k
-token_again (Bare []) at rest others h s k = absurd h
-token_again (Bare (b ∷ bs)) at rest others h s k =
-    let e : at + 1 + length bs ≡ at + suc (length bs) = omega arith in
-    rw (bare_out at b h.0, h.0)
-    (bare_again bs (b ∷ []) rest at (at + 1) h.1
-    ∙ bare_ends (b ∷ bs) rest at (at + 1 + length bs) s
-    ∙ ap (λ (i : ℕ). lexeme at i (Bare (b ∷ bs)) ∷ lex Gap i rest) e
-    ∙ ap (λ (x : List Lexeme). lexeme at (at + suc (length bs)) (Bare (b ∷ bs)) ∷ x) k)
-token_again Broken at rest others h s k =
-    text_breaks rest [] at (at + 1) 34 s
-    ∙ ap (λ (x : List Lexeme). lexeme at (at + 1) Broken ∷ x) (sym k)
+token_again t at rest others h s k =
+    grind (arith, length-append, append_assoc, text_again, bare_out, bare_again, bare_ends, text_breaks)
 
 goes_on_map : (t : Token) (others : List Lexeme) (A B : Type 0) → (A → B) → GoesOn t others A
     → GoesOn t others B
-goes_on_map Opening others A B f g = f g
-goes_on_map Closing others A B f g = f g
-goes_on_map Comma others A B f g = f g
-goes_on_map (Text l) others A B f g = f g
-goes_on_map (Bare l) others A B f g = f g
-goes_on_map Broken others A B f g = g
+goes_on_map t others A B f g = grind arith
 
 made : (l : Lexeme) (a b : ℕ) → l.start ≡ a → b ≡ l.end → lexeme a b l.token ≡ l
 made l a b p q = rw (← p, q) refl
@@ -202,16 +167,10 @@ data Class (b : ℕ) : Type 0 where
 
 class_by : (b : ℕ) (x y z v w : Bool) → is_space b ≡ x → (b == 123) ≡ y → (b == 125) ≡ z
     → (b == 44) ≡ v → (b == 34) ≡ w → Class b
-class_by b true y z v w p q r s t = space p
-class_by b false true z v w p q r s t = opening ((Decides-eqb b 123).0 q)
-class_by b false false true v w p q r s t = closing ((Decides-eqb b 125).0 r)
-class_by b false false false true w p q r s t = comma ((Decides-eqb b 44).0 s)
-class_by b false false false false true p q r s t = quote ((Decides-eqb b 34).0 t)
-class_by b false false false false false p q r s t = bare (rw (p, q, r, s, t) refl)
+class_by b x y z v w p q r s t = grind arith
 
 class_of : (b : ℕ) → Class b
-class_of b =
-    class_by b (is_space b) (b == 123) (b == 125) (b == 44) (b == 34) refl refl refl refl refl
+class_of b = grind arith
 
 -- a gap with a byte of whitespace before it
 pub wider : (ls : List Lexeme) (b at : ℕ) (bs : List ℕ) → is_space b ≡ true → Spells (at + 1) bs ls
@@ -301,39 +260,18 @@ at_quote : (at : ℕ) (bs : List ℕ) → Known (at + 1) bs → Goal at 34 bs
 at_quote at bs ih = text_parts at bs (lex (InText at 34 []) (at + 1) bs) (ih (InText at 34 []))
 
 gap_step : (b at : ℕ) (bs : List ℕ) → Class b → Known (at + 1) bs → Goal at b bs
-gap_step b at bs (space s) ih =
-    rw (space_out at b s, space_after at b s) (wider (lex Gap (at + 1) bs) b at bs s (ih Gap))
+gap_step b at bs (space s) ih = grind (arith, space_out, space_after, wider)
 gap_step b at bs (opening s) ih = subst (λ (x : ℕ). Goal at x bs) (sym s) (at_opening at bs ih)
 gap_step b at bs (closing s) ih = subst (λ (x : ℕ). Goal at x bs) (sym s) (at_closing at bs ih)
 gap_step b at bs (comma s) ih = subst (λ (x : ℕ). Goal at x bs) (sym s) (at_comma at bs ih)
 gap_step b at bs (quote s) ih = subst (λ (x : ℕ). Goal at x bs) (sym s) (at_quote at bs ih)
-gap_step b at bs (bare s) ih =
-    rw (bare_out at b s, s)
-    (bare_parts b at bs (lex (InBare at (b ∷ [])) (at + 1) bs) s (ih (InBare at (b ∷ []))))
+gap_step b at bs (bare s) ih = grind (arith, bare_out, bare_parts)
 
 bare_step : (b at start : ℕ) (text bs : List ℕ) (c : Bool) → is_bare b ≡ c → Known (at + 1) bs
     → BareEnds start text at (b ∷ bs)
     (cond c [] (lexeme start at (Bare text) ∷ single at b)
     ++ lex (cond c (InBare start (text ++ b ∷ [])) (begins at b)) (at + 1) bs)
-bare_step b at start text bs true s ih =
-    let mode = InBare start (text ++ b ∷ []) in
-    let h : BareEnds start (text ++ b ∷ []) (at + 1) bs (lex mode (at + 1) bs) = ih mode in
-    let e : at + 1 + length h.more ≡ at + length (b ∷ h.more) = omega arith in
-    record {
-      more = b ∷ h.more;
-      rest = h.rest;
-      others = h.others;
-      parts = ap (λ (x : List ℕ). b ∷ x) h.parts;
-      bare = (s, h.bare);
-      first =
-          h.first ∙ ap (λ (x : List ℕ). lexeme start (at + 1 + length h.more) (Bare x) ∷ h.others)
-          (append_assoc text (b ∷ []) h.more)
-          ∙ ap (λ (i : ℕ). lexeme start i (Bare (text ++ b ∷ h.more)) ∷ h.others) e;
-      stands =
-          subst (λ (x : List ℕ). MayPrecede (Bare x) h.rest)
-          (append_assoc text (b ∷ []) h.more) h.stands;
-      then = subst (λ (i : ℕ). Spells i h.rest h.others) e h.then;
-    }
+bare_step b at start text bs true s ih = grind (arith, append_assoc)
 bare_step b at start text bs false s ih =
     let e : at ≡ at + 0 = omega arith in
     record {
@@ -354,14 +292,8 @@ bare_step b at start text bs false s ih =
 -- with one byte before that closes no text, no label is closed either
 closes_never_back : (b before : ℕ) (bs : List ℕ) → ((b == 34) && not (before == 92)) ≡ false
     → ClosesNever b bs → ClosesNever before (b ∷ bs)
-closes_never_back b before bs s h [] rest spelled parts =
-    let q : b ≡ 34 = cc in
-    absurd (grind (arith, nat_tests))
-closes_never_back b before bs s h (c ∷ label) rest spelled parts =
-    let same : b ≡ c = cc in
-    let k = and_parts (not (c == 34) || before == 92) (is_spelling_after c label) spelled in
-    let tail : bs ≡ label ++ 34 ∷ rest = cc in
-    h label rest (rw same k.1) tail
+closes_never_back b before bs s h [] rest spelled parts = cc
+closes_never_back b before bs s h (c ∷ label) rest spelled parts = grind arith
 
 text_on : (b at start before : ℕ) (text bs : List ℕ) (ls : List Lexeme)
     → ((b == 34) && not (before == 92)) ≡ false

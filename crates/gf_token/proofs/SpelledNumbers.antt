@@ -1,7 +1,7 @@
 -- The texts of numbers and of indices are the bytes of bare tokens, and the texts of indices are
 -- read as indices.
 use Rattle.std.proofs.Common.{◌≡◌, ◌⊎◌, ℕ, ℤ, ◌^◌, ◌<◌, ◌≤◌, true, List, [], ◌∷◌, ◌++◌, Ok}
-use Rattle.std.proofs.Common.{Err, refl, sym, subst, arith, inl, inr}
+use Rattle.std.proofs.Common.{Err, refl, arith}
 use Rattle.std.specs.Prelude.{codes, decimal, Bool}
 use Rattle.std.specs.Char.{digit_value}
 use Rattle.std.specs.Str.Parse.{AllDigits, IsNumeral}
@@ -16,7 +16,6 @@ use Rattle.gf_fraction.specs.Ratio.{Ratio, IsFraction}
 use Rattle.gf_fraction.specs.NumberText.{number_text}
 use Rattle.gf_fraction.specs.NumberSpelling.{Reading, IsSign, IsPlain, IsExponent, HasShape}
 use Rattle.gf_fraction.specs.NumberSpelling.{IsNumber}
-use Rattle.gf_fraction.specs.NumberSpelling.IsSign.{absent, plus, minus}
 use Rattle.gf_fraction.specs.NumberSpelling.IsPlain.{whole, pointed}
 use Rattle.gf_fraction.specs.NumberSpelling.HasShape.{plain, raised, fraction}
 use Rattle.gf_fraction.specs.declared.fraction.NumberFault.TheVariants.{NotANumber}
@@ -38,9 +37,7 @@ bare_both xs ys h k = all_both (λ b. is_bare b ≡ true) xs ys h k
 -- ---- the parts of a number
 
 bare_sign : (sign : List ℕ) (negative : Bool) → IsSign sign negative → AllBare sign
-bare_sign _ _ absent = tt
-bare_sign _ _ plus = (refl, tt)
-bare_sign _ _ minus = (refl, tt)
+bare_sign sign negative h = grind arith
 
 bare_plain : (text digits : List ℕ) (places : ℕ) → IsPlain text digits places → AllBare text
 bare_plain text _ _ (whole _ is) = bare_digits text is.1
@@ -50,22 +47,16 @@ bare_plain _ _ _ (pointed before after is) =
     bare_both (before ++ codes ".") after (bare_both before (codes ".") parts.0 (refl, tt)) parts.1
 
 bare_mark : (mark : List ℕ) → (mark ≡ codes "e") ⊎ (mark ≡ codes "E") → AllBare mark
-bare_mark mark (inl e) = subst AllBare (sym e) (refl, tt)
-bare_mark mark (inr e) = subst AllBare (sym e) (refl, tt)
+bare_mark mark h = grind arith
 
 bare_exponent : (text : List ℕ) (exponent : ℤ) → IsExponent text exponent → AllBare text
-bare_exponent text exponent h =
-    subst AllBare (sym h.spelled)
-    (bare_both (h.mark ++ h.sign) h.digits (bare_both h.mark h.sign (bare_mark h.mark h.is_mark)
-    (bare_sign h.sign h.negative h.is_sign)) (bare_digits h.digits h.some.1))
+bare_exponent text exponent h = grind (arith, bare_both, bare_mark, bare_sign, bare_digits)
 
 bare_shape : (text : List ℕ) (reading : Reading) → HasShape text reading → AllBare text
 bare_shape text _ (plain _ digits places is) = bare_plain text digits places is
 bare_shape _ _ (raised text more digits places exponent is by) =
     bare_both text more (bare_plain text digits places is) (bare_exponent more exponent by)
-bare_shape _ _ (fraction num den is_num is_den) =
-    bare_both (num ++ codes "/") den (bare_both num (codes "/") (bare_digits num is_num.1)
-    (refl, tt)) (bare_digits den is_den.1)
+bare_shape _ _ (fraction num den is_num is_den) = grind (arith, bare_both, bare_digits)
 
 -- ---- a number, and an index
 
@@ -73,18 +64,13 @@ pub number_bare : (text : List ℕ) (r : Ratio) → IsNumber text r → IsSpelle
 unfolding number_of
 number_bare [] r h =
     absurd (let e : Err NotANumber ≡ Ok r = number_again [] r h in cc)
-number_bare (b ∷ bytes) r h =
-    let s = h.spelled in
-    subst AllBare (sym s.spelled)
-    (bare_both s.sign s.rest (bare_sign s.sign h.negative s.is_sign)
-    (bare_shape s.rest h.reading s.has_shape))
+number_bare (b ∷ bytes) r h = grind (arith, bare_both, bare_sign, bare_shape)
 
 pub number_spelled : (r : Ratio) → IsFraction r → IsSpelled (Bare (number_text r))
 number_spelled r h = number_bare (number_text r) r (written_is_read r h)
 
 pub digits_spelled : (bytes : List ℕ) → IsNumeral 10 bytes → IsSpelled (Bare bytes)
-digits_spelled [] h = absurd (let some = h.0 in omega (arith, some))
-digits_spelled (b ∷ bytes) h = bare_digits (b ∷ bytes) h.1
+digits_spelled bytes h = grind (arith, bare_digits)
 
 pub decimal_is_index : (n : ℕ) → n < 2 ^ 32 → IsIndex (decimal n) n
 decimal_is_index n h =

@@ -1,7 +1,8 @@
 -- What the byte at a place says about the token that begins there.
+use Rattle.std.proofs.Common.{arith}
 use Rattle.std.proofs.Common.{◌≡◌, ℕ, ◌+◌, ◌<◌, Bool, true, false, ◌==◌, ◌&&◌}
 use Rattle.std.proofs.Common.{not, List, [], ◌∷◌, ◌++◌, length, get_or, drop}
-use Rattle.std.proofs.Common.{refl, ap, ◌∙◌, if◌then◌else◌, inl, inr}
+use Rattle.std.proofs.Common.{refl, ap, ◌∙◌, if◌then◌else◌}
 use Rattle.std.proofs.lemmas.Bool.{cases_eq}
 use Rattle.gf_token.specs.Byte.{is_space, is_bare}
 use Rattle.gf_token.specs.Token.{Token, Lexeme, lexeme}
@@ -51,14 +52,12 @@ front : (test : Token → Bool) (bytes : List ℕ) (at b : ℕ) (rest : List ℕ
     → starts test (ended Gap at b ++ lex (after Gap at b) (at + 1) rest) ≡ false
     → at < length bytes → get_or bytes at 0 ≡ b → rest ≡ drop (at + 1) bytes
     → starts test (lex Gap at (drop at bytes)) ≡ false
-front test bytes at b rest h lt is others =
-    ap (starts test) (lex_more Gap bytes at lt) ∙ rw (is, ← others) h
+front test bytes at b rest h lt is others = grind (arith, lex_more)
 
 bare_front : (test : Token → Bool)
     → ((text : List ℕ) → test (Bare text) ≡ false) → (at b : ℕ) (rest : List ℕ) → is_bare b ≡ true
     → starts test (ended Gap at b ++ lex (after Gap at b) (at + 1) rest) ≡ false
-bare_front test none at b rest h =
-    rw (bare_out at b h, h) (in_bare test none at (b ∷ []) (at + 1) rest)
+bare_front test none at b rest h = grind (arith, bare_out, in_bare)
 
 -- A test that the token passes by none of the bytes that it may begin with.
 module _ (test : Token → Bool) (bytes : List ℕ) (at : ℕ) (lt : at < length bytes)
@@ -70,61 +69,35 @@ module _ (test : Token → Bool) (bytes : List ℕ) (at : ℕ) (lt : at < length
     (closes : get_or bytes at 0 ≡ 125 → test Closing ≡ false)
     (comma_out : get_or bytes at 0 ≡ 44 → test Comma ≡ false) where
   pub not_in_front : starts test (lex Gap at (drop at bytes)) ≡ false
-  not_in_front =
-      elim (cases_eq (get_or bytes at 0) 34) [
-        | inl e ↦ front test bytes at 34 (drop (at + 1) bytes)
-            (in_text test false (texts e) (broken e) at 34 [] (at + 1) (drop (at + 1) bytes)) lt e
-            refl
-        | inr q ↦ elim (cases_eq (get_or bytes at 0) 123) [
-          | inl e ↦ front test bytes at 123 (drop (at + 1) bytes) (opens e) lt e refl
-          | inr o ↦ elim (cases_eq (get_or bytes at 0) 125) [
-            | inl e ↦ front test bytes at 125 (drop (at + 1) bytes) (closes e) lt e refl
-            | inr c ↦ elim (cases_eq (get_or bytes at 0) 44) [
-              | inl e ↦ front test bytes at 44 (drop (at + 1) bytes) (comma_out e) lt e refl
-              | inr m ↦
-                  let b : is_bare (get_or bytes at 0) ≡ true =
-                  bare_if (get_or bytes at 0) space o c m q in
-                  front test bytes at (get_or bytes at 0) (drop (at + 1) bytes)
-                  (bare_front test (bare b) at (get_or bytes at 0) (drop (at + 1) bytes) b) lt refl
-                  refl
-            ]
-          ]
-        ]
-      ]
+  not_in_front = grind (arith, cases_eq, front, in_text, bare_if, bare_front)
 
 pub no_text : (bytes : List ℕ) (at : ℕ) → at < length bytes → is_space (get_or bytes at 0) ≡ false
     → (get_or bytes at 0 ≡ 34 → ⊥) → starts is_text_token (lex Gap at (drop at bytes)) ≡ false
-no_text bytes at lt s q = not_in_front is_text_token bytes at lt s (λ b t. refl) (λ e. absurd (q e))
-    (λ e. absurd (q e)) (λ e. refl) (λ e. refl) (λ e. refl)
+no_text bytes at lt s q = grind (arith, not_in_front)
 
 pub not_quoted : (bytes : List ℕ) (at : ℕ)
     → at < length bytes → is_space (get_or bytes at 0) ≡ false → (get_or bytes at 0 ≡ 34 → ⊥)
     → starts is_quoted (lex Gap at (drop at bytes)) ≡ false
-not_quoted bytes at lt s q = not_in_front is_quoted bytes at lt s (λ b t. refl)
-    (λ e. absurd (q e)) (λ e. absurd (q e)) (λ e. refl) (λ e. refl) (λ e. refl)
+not_quoted bytes at lt s q = grind (arith, not_in_front)
 
 pub no_bare : (bytes : List ℕ) (at : ℕ)
     → at < length bytes → is_space (get_or bytes at 0) ≡ false → is_bare (get_or bytes at 0) ≡ false
     → starts is_bare_token (lex Gap at (drop at bytes)) ≡ false
-no_bare bytes at lt s q = not_in_front is_bare_token bytes at lt s (λ b t. cc) (λ e t. refl)
-    (λ e. refl) (λ e. refl) (λ e. refl) (λ e. refl)
+no_bare bytes at lt s q = grind (arith, not_in_front)
 
 pub no_opening : (bytes : List ℕ) (at : ℕ)
     → at < length bytes → is_space (get_or bytes at 0) ≡ false → (get_or bytes at 0 ≡ 123 → ⊥)
     → starts is_opening (lex Gap at (drop at bytes)) ≡ false
-no_opening bytes at lt s q = not_in_front is_opening bytes at lt s (λ b t. refl) (λ e t. refl)
-    (λ e. refl) (λ e. absurd (q e)) (λ e. refl) (λ e. refl)
+no_opening bytes at lt s q = grind (arith, not_in_front)
 
 pub no_closing : (bytes : List ℕ) (at : ℕ)
     → at < length bytes → is_space (get_or bytes at 0) ≡ false → (get_or bytes at 0 ≡ 125 → ⊥)
     → starts is_closing (lex Gap at (drop at bytes)) ≡ false
-no_closing bytes at lt s q = not_in_front is_closing bytes at lt s (λ b t. refl) (λ e t. refl)
-    (λ e. refl) (λ e. refl) (λ e. absurd (q e)) (λ e. refl)
+no_closing bytes at lt s q = grind (arith, not_in_front)
 
 pub no_comma : (bytes : List ℕ) (at : ℕ) → at < length bytes → is_space (get_or bytes at 0) ≡ false
     → (get_or bytes at 0 ≡ 44 → ⊥) → starts is_comma (lex Gap at (drop at bytes)) ≡ false
-no_comma bytes at lt s q = not_in_front is_comma bytes at lt s (λ b t. refl) (λ e t. refl)
-    (λ e. refl) (λ e. refl) (λ e. refl) (λ e. absurd (q e))
+no_comma bytes at lt s q = grind (arith, not_in_front)
 
 -- an unterminated text
 pub broken_front : (test : Token → Bool) (ls : List Lexeme) (start end : ℕ)

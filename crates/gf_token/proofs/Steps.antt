@@ -1,6 +1,6 @@
 -- What the loops over the bytes find, one byte at a time.
 use Rattle.std.proofs.Common.{◌≡◌, ℕ, ◌+◌, ◌-◌, ◌<◌, ◌≤◌, true, false, ◌==◌, ◌&&◌, List, [], ◌∷◌}
-use Rattle.std.proofs.Common.{◌++◌, length, get_or, take, drop, refl, sym, ap, ◌∙◌, arith, inl, inr}
+use Rattle.std.proofs.Common.{◌++◌, length, get_or, take, drop, refl, sym, ap, ◌∙◌, arith}
 use Rattle.std.proofs.Common.{append_assoc}
 use Rattle.std.specs.Prelude.{slice_range, not}
 use Rattle.std.proofs.lemmas.Bool.Decides.{nat_tests}
@@ -9,7 +9,7 @@ use Rattle.std.proofs.lemmas.List.{at_drop_more, at_drop_all, take_more, get_or-
 use Rattle.std.proofs.lemmas.List.{append-nil}
 use Rattle.gf_token.specs.Byte.{is_space, is_bare}
 use Rattle.gf_token.specs.LabelSpelling.{is_spelling, is_spelling_after}
-use Rattle.gf_token.specs.Token.{Lexeme, lexeme}
+use Rattle.gf_token.specs.Token.{lexeme}
 use Rattle.gf_token.specs.Token.Token.{Opening, Closing, Comma, Bare, Broken}
 use Rattle.gf_token.specs.inner.Lexing.{Mode, lex, ended, after, single, begins, last}
 use Rattle.gf_token.specs.inner.Finding.{ClosesText}
@@ -35,9 +35,7 @@ space_after at b h = grind (arith, nat_tests)
 
 pub gap_more : (bytes : List ℕ) (at : ℕ) → at < length bytes → is_space (get_or bytes at 0) ≡ true
     → lex Gap at (drop at bytes) ≡ lex Gap (at + 1) (drop (at + 1) bytes)
-gap_more bytes at h s =
-    lex_more Gap bytes at h
-    ∙ rw (space_out at (get_or bytes at 0) s, space_after at (get_or bytes at 0) s) refl
+gap_more bytes at h s = grind (arith, lex_more, space_out, space_after)
 
 pub range_more : (xs : List ℕ) (s at : ℕ) → s ≤ at → at < length xs
     → slice_range xs s (at + 1) ≡ slice_range xs s at ++ get_or xs at 0 ∷ []
@@ -79,33 +77,19 @@ bare_out at b s = grind (arith, nat_tests)
 pub bare_open : (bytes : List ℕ) (at : ℕ) → at < length bytes → is_bare (get_or bytes at 0) ≡ true
     → lex Gap at (drop at bytes) ≡ lex (InBare at (slice_range bytes at (at + 1))) (at + 1)
     (drop (at + 1) bytes)
-bare_open bytes at h s =
-    let one : slice_range bytes at (at + 1) ≡ get_or bytes at 0 ∷ [] =
-    range_more bytes at at (omega arith) h
-    ∙ ap (λ (x : List ℕ). x ++ get_or bytes at 0 ∷ []) (range_none bytes at) in
-    lex_more Gap bytes at h ∙ rw (bare_out at (get_or bytes at 0) s, s, one) refl
+bare_open bytes at h s = grind (arith, range_more, range_none, lex_more, bare_out)
 
 pub bare_more : (bytes : List ℕ) (start at : ℕ) → start < at → at < length bytes
     → is_bare (get_or bytes at 0) ≡ true
     → lex (InBare start (slice_range bytes start at)) at (drop at bytes) ≡ lex
     (InBare start (slice_range bytes start (at + 1))) (at + 1) (drop (at + 1) bytes)
-bare_more bytes start at lt h s =
-    lex_more (InBare start (slice_range bytes start at)) bytes at h
-    ∙ rw (s, range_more bytes start at (omega arith) h) refl
+bare_more bytes start at lt h s = grind (arith, lex_more, range_more)
 
 pub bare_close : (bytes text : List ℕ) (start at : ℕ)
     → (at < length bytes → is_bare (get_or bytes at 0) ≡ false) → at ≤ length bytes
     → lex (InBare start text) at (drop at bytes) ≡ lexeme start at (Bare text) ∷ lex Gap at
     (drop at bytes)
-bare_close bytes text start at s h =
-    elim (cases_lt at (length bytes)) [
-      | inl lt ↦ lex_more (InBare start text) bytes at lt ∙ rw (s lt) refl
-          ∙ ap (λ (x : List Lexeme). lexeme start at (Bare text) ∷ x)
-          (sym (lex_more Gap bytes at lt))
-      | inr le ↦ lex_all (InBare start text) bytes at le
-          ∙ ap (λ (x : List Lexeme). lexeme start at (Bare text) ∷ x)
-          (sym (lex_all Gap bytes at le))
-    ]
+bare_close bytes text start at s h = grind (arith, cases_lt, lex_more, lex_all)
 
 -- ---- texts
 
@@ -120,14 +104,7 @@ pub record IsOpen (bytes : List ℕ) (start at : ℕ) : Type 0 where
 
 pub opens : (bytes : List ℕ) (start : ℕ) → start < length bytes → get_or bytes start 0 ≡ 34
     → IsOpen bytes start (start + 1)
-opens bytes start h s =
-    let k : start + 1 - 1 ≡ start = omega arith in
-    let e : get_or bytes (start + 1 - 1) 0 ≡ 34 = rw (k, s) refl in
-    record {
-      begins = omega arith;
-      same = lex_more Gap bytes start h ∙ rw (s, e, range_none bytes (start + 1)) refl;
-      spelled = λ more. rw (e, range_none bytes (start + 1)) refl;
-    }
+opens bytes start h s = grind (arith, lex_more, range_none)
 
 -- a byte that closes no text
 goes_on : (b before : ℕ) (more : List ℕ) → ((b == 34) && not (before == 92)) ≡ false
@@ -141,22 +118,7 @@ pub stays_open : (bytes : List ℕ) (start at : ℕ) → at < length bytes
     → (get_or bytes at 0 ≡ 34 → get_or bytes (at - 1) 0 ≡ 92) → IsOpen bytes start at
     → IsOpen bytes start (at + 1)
 stays_open bytes start at h quote o =
-    let s : ((get_or bytes at 0 == 34) && not (get_or bytes (at - 1) 0 == 92)) ≡ false =
-    no_close (get_or bytes at 0) (get_or bytes (at - 1) 0) quote in
-    let k : at + 1 - 1 ≡ at = omega arith in
-    let before = get_or bytes (at - 1) 0 in
-    let text = slice_range bytes (start + 1) at in
-    let b = get_or bytes at 0 in
-    let more_text : slice_range bytes (start + 1) (at + 1) ≡ text ++ b ∷ [] =
-    range_more bytes (start + 1) at (omega (arith, o.begins)) h in
-    record {
-      begins = omega (arith, o.begins);
-      same = o.same ∙ lex_more (InText start before text) bytes at h ∙ rw (s, k, more_text) refl;
-      spelled =
-          λ more. rw (k, more_text)
-          (ap is_spelling (append_assoc text (b ∷ []) more) ∙ o.spelled (b ∷ more)
-          ∙ goes_on b before more s);
-    }
+    grind (arith, no_close, range_more, lex_more, append_assoc, goes_on)
 
 pub closes : (bytes : List ℕ) (start at : ℕ) → at < length bytes → get_or bytes at 0 ≡ 34
     → (get_or bytes (at - 1) 0 ≡ 92 → ⊥) → IsOpen bytes start at → ClosesText bytes start at
@@ -174,9 +136,7 @@ closes bytes start at h s other o =
 
 pub breaks : (bytes : List ℕ) (start at : ℕ) → length bytes ≤ at → IsOpen bytes start at
     → lex Gap start (drop start bytes) ≡ lexeme start (start + 1) Broken ∷ []
-breaks bytes start at h o =
-    o.same ∙ lex_all (InText start (get_or bytes (at - 1) 0)
-    (slice_range bytes (start + 1) at)) bytes at h
+breaks bytes start at h o = grind (arith, lex_all)
 
 -- ---- what each loop and call uses
 

@@ -1,9 +1,8 @@
 -- The text of a known label: which bytes it is, and that no others are.
 use Rattle.std.proofs.Common.{◌≡◌, ℕ, ◌+◌, ◌-◌, ◌<◌, ◌≤◌, true, false, List, [], ◌∷◌}
-use Rattle.std.proofs.Common.{◌++◌, length, get_or, take, drop, refl, sym, ap, ◌∙◌, arith, subst}
+use Rattle.std.proofs.Common.{◌++◌, length, get_or, take, drop, refl, sym, ap, ◌∙◌, arith}
 use Rattle.std.proofs.Common.{append_assoc, inl, inr, suc}
-use Rattle.std.specs.Prelude.{slice_range, nat_eq}
-use Rattle.std.specs.Cmp.Lexicographic.{pointwise}
+use Rattle.std.specs.Prelude.{slice_range}
 use Rattle.std.proofs.lemmas.Bool.{cases_Bool}
 use Rattle.std.proofs.lemmas.Bool.Decides.{Decides-eqb}
 use Rattle.std.proofs.lemmas.List.{at_drop_more, length-drop, length-append, get_or-drop}
@@ -15,8 +14,8 @@ use Rattle.gf_token.specs.LabelSpelling.{is_spelling}
 use Rattle.gf_token.specs.inner.Lexing.{lex}
 use Rattle.gf_token.specs.inner.Lexing.Mode.{Gap, InText}
 use Rattle.gf_token.specs.Next.{starts, is_text_of}
-use Rattle.gf_token.specs.Token.{Token, Lexeme, lexeme, spelling}
-use Rattle.gf_token.specs.Token.Token.{Opening, Closing, Comma, Text, Bare, Broken}
+use Rattle.gf_token.specs.Token.{Token, Lexeme, lexeme}
+use Rattle.gf_token.specs.Token.Token.{Text}
 use Rattle.gf_token.specs.TokenSpelling.{IsGap, Spells}
 use Rattle.gf_token.proofs.Spelled.{found, text_again}
 use Rattle.gf_token.proofs.Steps.{lex_more}
@@ -59,13 +58,7 @@ label_found bytes label start within opens same ends spelled =
 -- ---- no others are
 
 is_that_text : (label : List ℕ) (t : Token) → is_text_of label t ≡ true → t ≡ Text label
-is_that_text label Opening h = absurd cc
-is_that_text label Closing h = absurd cc
-is_that_text label Comma h = absurd cc
-is_that_text label (Text text) h =
-    ap Text ((slice_eq-Decides Decides-eqb text label (pointwise nat_eq text label) refl).0 h)
-is_that_text label (Bare bytes) h = absurd cc
-is_that_text label Broken h = absurd cc
+is_that_text label t h = grind (arith, slice_eq-Decides, Decides-eqb)
 
 no_gap : (gap rest : List ℕ) → IsGap gap → is_space (get_or (gap ++ rest) 0 0) ≡ false → gap ≡ []
 no_gap [] rest h s = refl
@@ -74,17 +67,7 @@ no_gap (b ∷ gap) rest h s = absurd cc
 begun : (label : List ℕ) (at : ℕ) (bytes : List ℕ) (ls : List Lexeme) → Spells at bytes ls
     → is_space (get_or bytes 0 0) ≡ false → starts (is_text_of label) ls ≡ true
     → (rest : List ℕ) × (bytes ≡ 34 ∷ (label ++ 34 ∷ rest))
-begun label at bytes [] h s is = absurd cc
-begun label at bytes (l ∷ ls) h s is =
-    let first = h.0 in
-    let none = no_gap first.gap (spelling l.token ++ first.rest) first.is_gap
-    (subst (λ (x : List ℕ). is_space (get_or x 0 0) ≡ false) first.parts s) in (
-      first.rest,
-      first.parts
-          ∙ ap (λ (x : List ℕ). x ++ (spelling l.token ++ first.rest)) none
-          ∙ ap (λ (t : Token). spelling t ++ first.rest) (is_that_text label l.token is)
-          ∙ ap (λ (x : List ℕ). 34 ∷ x) (append_assoc label (34 ∷ []) first.rest),
-    )
+begun label at bytes ls h s is = grind (arith, no_gap, is_that_text, append_assoc)
 
 quoted : (bytes label rest : List ℕ) (start : ℕ) → drop start bytes ≡ 34 ∷ (label ++ 34 ∷ rest)
     → Quotes bytes start label

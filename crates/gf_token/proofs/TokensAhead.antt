@@ -1,6 +1,6 @@
 -- What is known about the tokens of an input that are still to come.
 use Rattle.std.proofs.Common.{◌≡◌, ◌<◌, ◌≤◌, ◌+◌, ℕ, Bool, true, List, [], ◌∷◌, ◌++◌, length}
-use Rattle.std.proofs.Common.{refl, sym, ap, subst, append_assoc, arith}
+use Rattle.std.proofs.Common.{sym, ap, subst, append_assoc, arith}
 use Rattle.std.proofs.lemmas.List.{length-append}
 use Rattle.gf_token.specs.inner.Finding.{lexed}
 use Rattle.gf_token.specs.Remaining.{AreAhead, AreInOrder, Remaining, StandsBefore, Takes}
@@ -67,16 +67,7 @@ module _ (input : List ℕ) (at start end : ℕ) (token : Token)
 
   pub stands_before : StandsBefore (record { input = input; ahead = lexed input end })
       (record { start = start; end = end })
-  stands_before =
-      let none : 0 + length input ≡ length input = omega arith in
-      let order = behind_first (length input) 0 known.behind (lexeme start end token)
-      (lexed input end)
-      (subst (λ (n : ℕ). AreInOrder n 0 all) none (in_order 0 input all spelled)) in
-      record {
-        place = (known.behind, lexeme start end token ∷ lexed input end, spelled, (refl, refl));
-        some = order.0;
-        order = order.1;
-      }
+  stands_before = grind (arith, behind_first, in_order, spelled)
 
 pub ruleset taken = (ahead_after, stands_before)
 
