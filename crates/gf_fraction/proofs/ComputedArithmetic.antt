@@ -1,10 +1,10 @@
 -- Computed sums and products are those of the relations.
 use Rattle.std.proofs.Common.{◌≡◌, ℕ, ℤ, pos, suc, zero, ◌*◌, ◌/◌, ◌%◌, ◌^◌, ◌<◌}
 use Rattle.std.proofs.Common.{Bool, true, false, Option, Some, None, MatchOption}
-use Rattle.std.proofs.Common.{arith, refl, ap, sym, subst, inl, inr, ◌⊎◌}
+use Rattle.std.proofs.Common.{arith, refl, sym, subst, inl, inr, ◌⊎◌}
 use Rattle.std.specs.Prelude.{◌&&◌, ◌*ℤ◌, ◌+ℤ◌, unsigned_abs, int_lt, nat_lt, if◌then◌else◌}
 use Rattle.std.specs.Int.{IsGcd}
-use Rattle.std.proofs.lemmas.Bool.{ltb-true, ltb-false, and_parts, lt-ltb, and_from}
+use Rattle.std.proofs.lemmas.Bool.{ltb-true, ltb-false, lt-ltb, and_from}
 use Rattle.std.proofs.lemmas.Nat.Gcd.{IsGcd-from_zero, IsGcd-from_mod}
 use Rattle.std.proofs.Math.Nat.{mod-lt}
 use Rattle.gf_fraction.specs.Ratio.{Ratio, IsFraction, IsWithin, HasValue}
@@ -83,24 +83,11 @@ module _ (x y : Ratio) (hx : IsFraction x) (hy : IsFraction y) where
 
   test_parts : test ≡ true → PartsFit x.num y.num x.den p q
   unfolding test
-  test_parts h =
-      let d = and_parts (nat_lt (x.den * p) (2 ^ 127) && is_within left && is_within right)
-      (is_within (left +ℤ right)) h in
-      let c = and_parts (nat_lt (x.den * p) (2 ^ 127) && is_within left) (is_within right) d.0 in
-      let b = and_parts (nat_lt (x.den * p) (2 ^ 127)) (is_within left) c.0 in
-      record {
-        den = ltb-true _ _ b.0;
-        left = ltb-true _ _ b.1;
-        right = ltb-true _ _ c.1;
-        sum = ltb-true _ _ d.1;
-      }
+  test_parts h = grind arith
 
   parts_test : PartsFit x.num y.num x.den p q → test ≡ true
   unfolding test
-  parts_test h =
-      and_from _ _
-      (and_from _ _ (and_from _ _ (lt-ltb _ _ h.den) (lt-ltb _ _ h.left)) (lt-ltb _ _ h.right))
-      (lt-ltb _ _ h.sum)
+  parts_test h = grind (arith, and_from, lt-ltb)
 
   by_test : (b : Bool) → test ≡ b
       → MatchOption (if b then Some (lowest_of (left +ℤ right) (x.den * p)) else None)
@@ -113,8 +100,7 @@ module _ (x y : Ratio) (hx : IsFraction x) (hy : IsFraction y) where
         sum_value x y _ _ _ _ _ _ _ adding (lowest_of (left +ℤ right) (x.den * p)) _ _ refl refl
             (lowest_of-value (left +ℤ right) (x.den * p) above),
       )
-  by_test false h = sum_overflows x y _ _ _ _ _ _ _ adding
-      (λ parts. let e = parts_test parts in let f : ⊥ = cc in f)
+  by_test false h = grind (arith, sum_overflows, adding, parts_test)
 
   pub sum_is_computed : MatchOption (sum_of x y) (¬ (SumFits x y))
       (λ r. SumFits x y × IsFraction r × IsSum r x y)
@@ -147,31 +133,12 @@ module _ (x y : Ratio) (hx : IsFraction x) (hy : IsFraction y) where
   lowest = lowest_of-lowest (x.num *ℤ y.num) (x.den * y.den) above
 
   fits_product : ProductFits x y → IsFraction product
-  fits_product fits =
-      subst IsFraction (one_lowest fits.product product (x.num *ℤ y.num) (x.den * y.den)
-      (IsLowestRatio-fraction fits.product fits.fraction) lowest above fits.value value)
-      fits.fraction
+  fits_product fits = grind (arith, one_lowest, IsLowestRatio-fraction, lowest, above, value)
 
   by_size : (a b : Bool) → nat_lt product.den (2 ^ 127) ≡ a → is_within product.num ≡ b
       → MatchOption (if a && b then Some product else None) (¬ (ProductFits x y))
       (λ r. IsFraction r × IsProduct r x y)
-  by_size true true ha hb = (
-    record {
-      den_above_zero = lowest.den_above_zero;
-      den_within = ltb-true _ _ ha;
-      num_within = ltb-true _ _ hb;
-      lowest = lowest.lowest;
-    },
-    value,
-  )
-  by_size true false ha hb = λ fits.
-      let is = fits_product fits in
-      let over = ltb-false (unsigned_abs product.num) (2 ^ 127) hb in
-      let within = is.num_within in omega (arith, over, within)
-  by_size false b ha hb = λ fits.
-      let is = fits_product fits in
-      let over = ltb-false product.den (2 ^ 127) ha in
-      let within = is.den_within in omega (arith, over, within)
+  by_size a b h h' = grind (arith, lowest, ltb-true, value, fits_product, ltb-false)
 
   pub product_is_computed : MatchOption (product_of x y) (¬ (ProductFits x y))
       (λ r. IsFraction r × IsProduct r x y)
@@ -186,9 +153,7 @@ module _ (x y : Ratio) (hx : IsFraction x) (hy : IsFraction y) where
   sum_cases : (o : Option Ratio) (r : Ratio)
       → MatchOption o (¬ (SumFits x y)) (λ s. SumFits x y × IsFraction s × IsSum s x y)
       → SumFits x y → IsFraction r → IsSum r x y → o ≡ Some r
-  sum_cases None r h fits hr is = absurd (h fits)
-  sum_cases (Some s) r h fits hr is =
-      ap Some (one_fraction s r _ (x.den * y.den) h.1 hr dens_above h.2 is)
+  sum_cases o r h fits h' h'' = grind (arith, one_fraction, dens_above)
 
   pub sum_of-some : (r : Ratio) → SumFits x y → IsFraction r → IsSum r x y → sum_of x y ≡ Some r
   sum_of-some r fits hr is = sum_cases (sum_of x y) r (sum_is_computed x y hx hy) fits hr is
@@ -196,8 +161,7 @@ module _ (x y : Ratio) (hx : IsFraction x) (hy : IsFraction y) where
   no_sum : (o : Option Ratio)
       → MatchOption o (¬ (SumFits x y)) (λ s. SumFits x y × IsFraction s × IsSum s x y)
       → ¬ (SumFits x y) → o ≡ None
-  no_sum None h none = refl
-  no_sum (Some s) h none = absurd (none h.0)
+  no_sum o h none = grind arith
 
   pub sum_of-none : ¬ (SumFits x y) → sum_of x y ≡ None
   sum_of-none none = no_sum (sum_of x y) (sum_is_computed x y hx hy) none
@@ -205,9 +169,7 @@ module _ (x y : Ratio) (hx : IsFraction x) (hy : IsFraction y) where
   product_cases : (o : Option Ratio) (r : Ratio)
       → MatchOption o (¬ (ProductFits x y)) (λ s. IsFraction s × IsProduct s x y) → IsFraction r
       → IsProduct r x y → o ≡ Some r
-  product_cases None r h hr is = absurd (h (record { product = r; fraction = hr; value = is }))
-  product_cases (Some s) r h hr is =
-      ap Some (one_fraction s r _ (x.den * y.den) h.0 hr dens_above h.1 is)
+  product_cases o r h h' h'' = grind (arith, value, one_fraction, dens_above)
 
   pub product_of-some : (r : Ratio) → IsFraction r → IsProduct r x y → product_of x y ≡ Some r
   product_of-some r hr is = product_cases (product_of x y) r (product_is_computed x y hx hy) hr is
@@ -215,8 +177,7 @@ module _ (x y : Ratio) (hx : IsFraction x) (hy : IsFraction y) where
   no_product : (o : Option Ratio)
       → MatchOption o (¬ (ProductFits x y)) (λ s. IsFraction s × IsProduct s x y)
       → ¬ (ProductFits x y) → o ≡ None
-  no_product None h none = refl
-  no_product (Some s) h none = absurd (none (record { product = s; fraction = h.0; value = h.1 }))
+  no_product o h none = grind arith
 
   pub product_of-none : ¬ (ProductFits x y) → product_of x y ≡ None
   product_of-none none = no_product (product_of x y) (product_is_computed x y hx hy) none

@@ -40,8 +40,7 @@ mod-mul a b k above some =
     ap (λ x. x % (b * k)) e ∙ add-mul-mod_self_right (a % b * k) (a / b) (b * k) ∙ mod-eq_of_lt lt
 
 IsGcd-to_mod : (a b g : ℕ) → IsGcd a b g → IsGcd b (a % b) g
-IsGcd-to_mod a b g is =
-    (is.1, (dvd-mod_iff g is.1).1 is.0, λ d p q. is.2 d ((dvd-mod_iff d p).0 q) p)
+IsGcd-to_mod a b g is = grind (arith, dvd-mod_iff)
 
 -- along Euclid's steps
 IsGcd-mul_below : (n a b g k : ℕ) → b < n → 0 < k → IsGcd a b g → IsGcd (a * k) (b * k) (g * k)
@@ -70,18 +69,11 @@ dvd_of_dvd-mul p q (suc u) is h =
 
 -- a number that is coprime to two is coprime to their product
 pub coprime-mul : (a b c : ℕ) → IsGcd a c 1 → IsGcd b c 1 → IsGcd (a * b) c 1
-coprime-mul a b c ha hb = (
-  one-dvd (a * b),
-  one-dvd c,
-  λ d p q.
-      let da : IsGcd d a 1 = (one-dvd d, one-dvd a, λ e x y. ha.2 e y (dvd_trans e x q)) in
-      hb.2 d (dvd_of_dvd-mul d a b da p) q,
-)
+coprime-mul a b c ha hb = grind (arith, one-dvd, dvd_trans, dvd_of_dvd-mul)
 
 -- divisors of coprime numbers are coprime
 pub coprime_parts : (a b c d : ℕ) → IsGcd a b 1 → c ∣ a → d ∣ b → IsGcd c d 1
-coprime_parts a b c d h p q =
-    (one-dvd c, one-dvd d, λ e x y. h.2 e (dvd_trans e x p) (dvd_trans e y q))
+coprime_parts a b c d h p q = grind (arith, one-dvd, dvd_trans)
 
 -- a denominator holds what it shares with any numerator
 pub HoldsCommon-self : (n d : ℕ) → 0 < d → HoldsCommon n d d

@@ -153,8 +153,7 @@ found_decimal : (text digits rest : List ℕ) (places : ℕ) (some : Bool) (s : 
     → (some ≡ true → IsPlain text digits places)
     → scan_decimal (capped (digits_value 10 digits)) some places rest ≡ Some s
     → Found (text ++ rest) s
-found_decimal text digits rest places true s is h = found_end text digits rest places s (is refl) h
-found_decimal text digits rest places false s is h = absurd (let f : ⊥ = cc in f)
+found_decimal text digits rest places some s h h' = grind (arith, found_end)
 
 found_whole : (ds rest : List ℕ) (s : Spelling) → AllDigits 10 ds
     → scan_decimal (capped (digits_value 10 ds)) (nat_lt 0 (length ds)) 0 rest ≡ Some s

@@ -1,7 +1,7 @@
 -- What a method knows about a fraction by its fields, stated for the ratio that clauses see.
-use Rattle.std.proofs.Common.{◌≡◌, ap, subst, ◌∙◌, to_z, of_z}
+use Rattle.std.proofs.Common.{arith}
+use Rattle.std.proofs.Common.{◌≡◌, ap, subst, to_z, of_z}
 use Rattle.std.specs.Int.{w128}
-use Rattle.std.proofs.lemmas.Int.{to_z-of_z, fits_signed_from_abs}
 use Rattle.gf_fraction.specs.Ratio.{Ratio, IsFraction}
 
 pub IsFraction-seen : (fields seen : Ratio) → IsFraction fields → fields ≡ seen → IsFraction seen
@@ -9,9 +9,7 @@ IsFraction-seen fields seen h e = subst IsFraction e h
 
 pub num_seen : (fields seen : Ratio) → IsFraction fields → fields ≡ seen
     → to_z w128 (of_z w128 fields.num) ≡ seen.num
-num_seen fields seen h e =
-    to_z-of_z w128 fields.num (fits_signed_from_abs w128 fields.num h.num_within)
-    ∙ ap (λ r. r.num) e
+num_seen fields seen h e = grind arith
 
 pub den_seen : (fields seen : Ratio) → fields ≡ seen → fields.den ≡ seen.den
 den_seen fields seen e = ap (λ r. r.den) e

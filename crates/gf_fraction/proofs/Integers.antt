@@ -1,9 +1,7 @@
 -- Laws of ℤ that std lacks, and sizes with a sign.
-use Rattle.std.proofs.Common.{◌≡◌, ℕ, ℤ, pos, negsuc, suc, zero, ◌+◌, ◌*◌, ◌/◌, ◌<◌}
-use Rattle.std.proofs.Common.{Bool, true, false, not, arith, ap, sym, ◌∙◌, refl}
+use Rattle.std.proofs.Common.{◌≡◌, ℕ, ℤ, pos, ◌+◌, ◌*◌, ◌<◌}
+use Rattle.std.proofs.Common.{Bool, not, arith, ap, sym, ◌∙◌}
 use Rattle.std.specs.Prelude.{◌*ℤ◌, ◌+ℤ◌, unsigned_abs, int_lt}
-use Rattle.std.proofs.lemmas.Bool.{le-ltb}
-use Rattle.std.proofs.Math.Nat.{mul-div_cancel}
 use Rattle.std.proofs.Math.IntN.{*ℤ_comm}
 use mathlib.Core.Bool.{beq}
 use borrow.Author.Differences.{up, down, product_is, same_in, same_out, sum_is_lem}
@@ -48,8 +46,7 @@ pub *ℤ_right_comm : (a b c : ℤ) → (a *ℤ b) *ℤ c ≡ (a *ℤ c) *ℤ b
 *ℤ_right_comm a b c = *ℤ_assoc a b c ∙ ap (λ x. a *ℤ x) (*ℤ_comm b c) ∙ sym (*ℤ_assoc a c b)
 
 pub *-cancel_right : (m n k : ℕ) → 0 < k → m * k ≡ n * k → m ≡ n
-*-cancel_right m n k above e =
-    sym (mul-div_cancel m above) ∙ ap (λ x. x / k) e ∙ mul-div_cancel n above
+*-cancel_right m n k above e = grind arith
 
 pub *ℤ-cancel_right : (a b : ℤ) (k : ℕ) → 0 < k → a *ℤ pos k ≡ b *ℤ pos k → a ≡ b
 *ℤ-cancel_right a b k above e =
@@ -65,31 +62,15 @@ pub *ℤ-one : (z : ℤ) → z *ℤ pos 1 ≡ z
 *ℤ-one z = let p = product_is z (pos 1) in same_in _ _ (omega (arith, p.0, p.1))
 
 pub unsigned_abs-signed : (s : Bool) (n : ℕ) → unsigned_abs (signed s n) ≡ n
-unsigned_abs-signed false n = refl
-unsigned_abs-signed true zero = refl
-unsigned_abs-signed true (suc n) = refl
+unsigned_abs-signed s n = grind arith
 
 -- an integer is its size with its sign
 pub signed-unsigned_abs : (z : ℤ) → signed (int_lt z (pos 0)) (unsigned_abs z) ≡ z
-signed-unsigned_abs (pos n) =
-    let at_least : int_lt (pos n) (pos 0) ≡ false = le-ltb n 0 (omega arith) in rw at_least
-signed-unsigned_abs (negsuc n) = refl
+signed-unsigned_abs z = grind arith
 
 pub signed-* : (s : Bool) (m n : ℕ) → signed s m *ℤ pos n ≡ signed s (m * n)
-signed-* false m n = refl
-signed-* true zero n = let e : 0 * n ≡ 0 = omega arith in rw e
-signed-* true (suc m) n = refl
+signed-* s m n = grind arith
 
 -- the sign of a product is negative if the signs differ
 pub signed-*ℤ : (s t : Bool) (m n : ℕ) → signed s m *ℤ signed t n ≡ signed (not (beq s t)) (m * n)
-signed-*ℤ false false m n = refl
-signed-*ℤ true false m n = signed-* true m n
-signed-*ℤ false true m n =
-    *ℤ_comm (pos m) (signed true n)
-    ∙ signed-* true n m
-    ∙ ap (signed true) (let turn : n * m ≡ m * n = omega arith in turn)
-signed-*ℤ true true zero n =
-    let e : 0 * n ≡ 0 = omega arith in
-    let p = product_is (pos 0) (signed true n) in rw e (same_in _ _ (omega (arith, p.0, p.1)))
-signed-*ℤ true true (suc m) zero = let e : suc m * 0 ≡ 0 = omega arith in rw e
-signed-*ℤ true true (suc m) (suc n) = refl
+signed-*ℤ s t m n = grind arith

@@ -1,8 +1,7 @@
 -- The digits at the head of a text: their value, how many there are, and what follows them.
-use Rattle.std.proofs.Common.{◌≡◌, ℕ, ◌+◌, ◌-◌, ◌*◌, ◌<◌, ◌≤◌, Bool, true}
+use Rattle.std.proofs.Common.{◌≡◌, ℕ, ◌+◌, ◌-◌, ◌*◌, ◌<◌, ◌≤◌, true}
 use Rattle.std.proofs.Common.{false, List, [], ◌∷◌, ◌++◌, length, get_or, drop}
 use Rattle.std.proofs.Common.{arith, refl, ap, sym, ◌∙◌, add-one, length-append}
-use Rattle.std.specs.Prelude.{if◌then◌else◌}
 use Rattle.std.specs.Char.{digit_value, is_ascii_digit}
 use Rattle.std.specs.Str.Parse.{digits_value_after}
 use Rattle.std.proofs.lemmas.Bool.Decides.{nat_tests}
@@ -16,8 +15,7 @@ digit_value-ascii c h = grind (arith, nat_tests)
 -- one more digit, and none
 pub leading_value-digit : (v c : ℕ) (cs : List ℕ) → is_ascii_digit c ≡ true
     → leading_value v (c ∷ cs) ≡ leading_value (v * 10 + (c - 48)) cs
-leading_value-digit v c cs h =
-    rw h (ap (λ d. digits_value_after 10 (v * 10 + d) (leading cs)) (digit_value-ascii c h))
+leading_value-digit v c cs h = grind arith
 
 pub behind-digit : (c : ℕ) (cs : List ℕ) → is_ascii_digit c ≡ true → behind (c ∷ cs) ≡ behind cs
 behind-digit c cs h = rw h
@@ -74,12 +72,7 @@ capped-leading n text = capped-after n (leading text)
 -- the digits at the head and what follows them make up the text
 pub leading_behind : (text : List ℕ) → leading text ++ behind text ≡ text
 leading_behind [] = refl
-leading_behind (c ∷ cs) = split c cs (is_ascii_digit c) (leading_behind cs)
-  where
-    split : (c : ℕ) (cs : List ℕ) (b : Bool) → leading cs ++ behind cs ≡ cs
-        → (if b then c ∷ leading cs else []) ++ (if b then behind cs else c ∷ cs) ≡ c ∷ cs
-    split c cs true e = ap (λ t. c ∷ t) e
-    split c cs false e = refl
+leading_behind (c ∷ cs) = grind (arith, leading_behind cs)
 
 pub length_leading : (text : List ℕ) → length (leading text) + length (behind text) ≡ length text
 length_leading text =

@@ -1,6 +1,6 @@
 -- A decimal in lowest terms: what is left when the twos and fives that its digits share with the
 -- power of ten are divided out.
-use Rattle.std.proofs.Common.{◌≡◌, ℕ, ℤ, Bool, pos, negsuc, zero, suc, ◌+◌, ◌-◌, ◌*◌}
+use Rattle.std.proofs.Common.{◌≡◌, ℕ, ℤ, Bool, pos, zero, suc, ◌+◌, ◌-◌, ◌*◌}
 use Rattle.std.proofs.Common.{◌/◌, ◌%◌, ◌^◌, ◌<◌, ◌≤◌, min, arith, ap, sym, ◌∙◌, subst}
 use Rattle.std.specs.Prelude.{unsigned_abs, ◌≤ℤ◌}
 use Rattle.std.proofs.lemmas.Int.{ints}
@@ -10,7 +10,7 @@ use Rattle.std.specs.Int.Count.{trailing_of_zero}
 use Rattle.std.proofs.lemmas.Nat.Bits.{bit_at-zero, bit_at-trailing_zeros}
 use Rattle.std.proofs.lemmas.Nat.Gcd.{dvd_refl, IsGcd-from_mod, IsGcd-swap}
 use Rattle.std.proofs.Math.Nat.{dvd-mul_right, pow-succ'}
-use Rattle.gf_fraction.specs.Ratio.{Ratio, IsFraction, HasValue, signed}
+use Rattle.gf_fraction.specs.Ratio.{Ratio, IsFraction, signed}
 use Rattle.gf_fraction.specs.Steps.{IsLowest}
 use Rattle.gf_fraction.specs.NumberScan.{IsScaled}
 use Rattle.gf_fraction.proofs.LowestTerms.{value_from}
@@ -130,15 +130,5 @@ pub scaled_from_lowest : (negative : Bool) (digits word p q k : ℕ) (power : �
     → IsLowest word (10 ^ k) p q
     → IsFraction r → r ≡ record { num = signed negative p; den = q }
     → IsScaled negative digits power r
-scaled_from_lowest negative digits word p q k (pos m) r above size same within low fraction is =
-    let value : HasValue r (signed negative word) (10 ^ k) =
-    subst (λ x. HasValue x (signed negative word) (10 ^ k)) (sym is)
-    (value_from negative word (10 ^ k) p q low) in
-    let F : (ℕ × ℕ) → Type 0 = λ t. HasValue r (signed negative t.0) (10 ^ t.1) in
-    record {
-      within = within;
-      fraction = fraction;
-      value = subst F (λ i. (same i, sym size i)) value;
-    }
-scaled_from_lowest negative digits word p q k (negsuc m) r above size same within low fraction is =
-    absurd (omega (arith, ints, above))
+scaled_from_lowest negative digits word p q k power r above h h' h'' h''' h'''' is =
+    grind (arith, value_from, ints)

@@ -1,6 +1,6 @@
 -- Ratios in lowest terms: when they are fractions, which value they have, and that no other ratio
 -- has it.
-use Rattle.std.proofs.Common.{◌≡◌, ℕ, ℤ, Bool, pos, suc, zero, ◌*◌, ◌^◌}
+use Rattle.std.proofs.Common.{◌≡◌, ℕ, ℤ, Bool, pos, ◌*◌, ◌^◌}
 use Rattle.std.proofs.Common.{◌<◌, ◌≤◌, arith, ap, sym, ◌∙◌, subst}
 use Rattle.std.specs.Prelude.{◌*ℤ◌, unsigned_abs, int_lt}
 use Rattle.std.specs.Int.{IsGcd, ◌∣◌}
@@ -15,12 +15,10 @@ use Rattle.gf_fraction.proofs.Integers.{signed-*, *ℤ_right_comm, *ℤ-cancel_r
 
 -- a product above zero has parts above zero
 pub mul_pos_left : (p q n : ℕ) → p * q ≡ n → 0 < n → 0 < p
-mul_pos_left zero q n e h = absurd (omega arith)
-mul_pos_left (suc p) q n e h = omega arith
+mul_pos_left p q n e h = grind arith
 
 pub mul_pos_right : (p q n : ℕ) → p * q ≡ n → 0 < n → 0 < q
-mul_pos_right p zero n e h = absurd (omega arith)
-mul_pos_right p (suc q) n e h = omega arith
+mul_pos_right p q n e h = grind arith
 
 -- a part of a product above zero is no greater
 pub part_le : (p by n : ℕ) → 0 < by → p * by ≡ n → p ≤ n
@@ -104,5 +102,4 @@ IsLowestRatio-fraction r h = record { den_above_zero = h.den_above_zero; lowest 
 -- a value over a positive denominator has one fraction
 pub one_fraction : (r s : Ratio) (n : ℤ) (d : ℕ)
     → IsFraction r → IsFraction s → 0 < d → HasValue r n d → HasValue s n d → r ≡ s
-one_fraction r s n d hr hs above vr vs =
-    one_lowest r s n d (IsLowestRatio-fraction r hr) (IsLowestRatio-fraction s hs) above vr vs
+one_fraction r s n d hr hs above vr vs = grind (arith, one_lowest, IsLowestRatio-fraction)

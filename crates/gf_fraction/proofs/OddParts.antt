@@ -85,11 +85,7 @@ odd_step x y t m least g odd_x odd_y part least_is is = by_order (cases_lt x y)
         IsGcd-from_sub x y g most (IsGcd-swap y (x - y) g (subst (λ k. IsGcd y k g) apart step))
 
 pub least_odd : (x y least : ℕ) → x % 2 ≡ 1 → y % 2 ≡ 1 → least ≡ min x y → least % 2 ≡ 1
-least_odd x y least odd_x odd_y is = by_order (cases_lt x y)
-  where
-    by_order : (x < y) ⊎ (y ≤ x) → least % 2 ≡ 1
-    by_order (inl less) = let low : least ≡ x = omega (arith, is, less) in rw low odd_x
-    by_order (inr most) = let low : least ≡ y = omega (arith, is, most) in rw low odd_y
+least_odd x y least odd_x odd_y is = grind arith
 
 -- odd parts with the twos that both have
 with_twos : (x y s k g : ℕ) → x % 2 ≡ 1 → IsGcd x y g

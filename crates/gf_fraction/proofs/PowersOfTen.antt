@@ -1,5 +1,5 @@
 -- Powers of ten, and the bounds of a decimal.
-use Rattle.std.proofs.Common.{◌≡◌, ℕ, ℤ, Bool, pos, negsuc, ◌^◌, ◌<◌, ◌≤◌, arith, lit<, subst, sym}
+use Rattle.std.proofs.Common.{◌≡◌, ℕ, ℤ, Bool, pos, ◌^◌, ◌<◌, ◌≤◌, arith, lit<}
 use Rattle.std.specs.Prelude.{unsigned_abs, ◌-ℤ◌, ◌≤ℤ◌}
 use Rattle.std.proofs.Math.Nat.{one-le-pow, pow-le-pow_right}
 use Rattle.gf_fraction.specs.Ratio.{Ratio}
@@ -13,15 +13,12 @@ pub pow_above_zero : (k : ℕ) → 0 < 10 ^ k
 pow_above_zero k = let h : 1 ≤ 10 ^ k = one-le-pow k 10 (lit< tt) in omega (arith, h)
 
 pub pow_within : (k : ℕ) → k ≤ 38 → 10 ^ k < 2 ^ 127
-pow_within k h =
-    let most : 10 ^ k ≤ 10 ^ 38 = pow-le-pow_right (lit< tt) h in
-    omega (arith, most)
+pow_within k h = grind (arith, pow-le-pow_right)
 
 pub ruleset power_bounds = (pow_above_zero, pow_within)
 
 pub power_of_ten-above : (z : ℤ) → 0 < power_of_ten z
-power_of_ten-above (pos k) = pow_above_zero k
-power_of_ten-above (negsuc k) = lit< tt
+power_of_ten-above z = grind (arith, pow_above_zero)
 
 -- what is known of a decimal whose digits, places, exponent and power are within their bounds
 pub record IsScalable (digits places : ℕ) (exponent power : ℤ) : Type 0 where
@@ -35,28 +32,9 @@ pub value_from_scaled : (negative : Bool) (digits places : ℕ) (exponent power 
     → IsScalable digits places exponent power → IsScaled negative digits power r
     → IsValueOf negative (decimal digits places exponent) r
 value_from_scaled negative digits places exponent power r h scaled =
-    let is : IsScaled negative digits (pos places -ℤ exponent) r =
-    subst (λ z. IsScaled negative digits z r) h.power_is scaled in
-    record {
-      den_above_zero = power_of_ten-above (pos places -ℤ exponent);
-      bounded = record {
-        digits_within = h.digits_within;
-        places_within = h.places_within;
-        exponent_within = h.exponent_within;
-        power_within = h.power_within;
-        scaled_within = is.within;
-      };
-      fraction = is.fraction;
-      value = is.value;
-    }
+    grind (arith, power_of_ten-above)
 
 pub fault_from_scaled : (digits places : ℕ) (exponent power : ℤ) (fault : NumberFault)
     → IsScalable digits places exponent power → fault ≡ TooLarge
     → 2 ^ 127 ≤ scaled_digits digits power → HasReadingFault (decimal digits places exponent) fault
-fault_from_scaled digits places exponent power fault h e over =
-    let over' : 2 ^ 127 ≤ scaled_digits digits (pos places -ℤ exponent) =
-    subst (λ z. 2 ^ 127 ≤ scaled_digits digits z) h.power_is over in
-    subst (λ f. HasReadingFault (decimal digits places exponent) f) (sym e) (
-      power_of_ten-above (pos places -ℤ exponent),
-      λ bounded. let within = bounded.scaled_within in omega arith,
-    )
+fault_from_scaled digits places exponent power fault h e over = grind arith

@@ -1,5 +1,5 @@
 -- Products: their value, and when they fit.
-use Rattle.std.proofs.Common.{◌≡◌, ℕ, ℤ, Bool, pos, suc, zero, not, ◌*◌}
+use Rattle.std.proofs.Common.{◌≡◌, ℕ, ℤ, Bool, pos, not, ◌*◌}
 use Rattle.std.proofs.Common.{◌^◌, ◌<◌, arith, ap, sym, ◌∙◌, subst}
 use Rattle.std.specs.Prelude.{◌*ℤ◌, unsigned_abs, int_lt}
 use Rattle.std.specs.Int.{IsGcd, ◌∣◌}
@@ -16,9 +16,7 @@ use Rattle.gf_fraction.proofs.LowestTerms.{IsLowestRatio, IsLowestRatio-fraction
 use Rattle.gf_fraction.proofs.LowestTerms.{one_lowest, mul_pos_left}
 
 pub mul_above : (m n : ℕ) → 0 < m → 0 < n → 0 < m * n
-mul_above zero n h k = absurd (omega arith)
-mul_above (suc m) zero h k = absurd (omega arith)
-mul_above (suc m) (suc n) h k = omega arith
+mul_above m n h h' = grind arith
 
 -- what the code knows as it multiplies: each numerator is reduced against the other denominator
 pub record Multiplying (x y : Ratio) (m n : ℕ) (b d p q r s : ℕ) : Type 0 where
@@ -36,8 +34,7 @@ module _ (x y : Ratio) (m n : ℕ) (b d p q r s : ℕ) (h : Multiplying x y m n 
   first = subst (λ (t : ℕ × ℕ). IsLowest t.0 t.1 p q) (λ i. (h.left_size i, h.right_den i)) h.first
 
   second : IsLowest (unsigned_abs y.num) x.den r s
-  second =
-      subst (λ (t : ℕ × ℕ). IsLowest t.0 t.1 r s) (λ i. (h.right_size i, h.left_den i)) h.second
+  second = grind arith
 
   part : (k by whole : ℕ) → k * by ≡ whole → k ∣ whole
   part k by whole e = subst (λ w. k ∣ w) e (dvd-mul_right k by)
@@ -54,8 +51,7 @@ module _ (x y : Ratio) (m n : ℕ) (b d p q r s : ℕ) (h : Multiplying x y m n 
       IsGcd-swap _ _ _ (coprime-mul s q (p * r) over_s over_q)
 
   den_above : 0 < s * q
-  den_above = mul_above s q (mul_pos_left s second.by _ second.den h.left.den_above_zero)
-      (mul_pos_left q first.by _ first.den h.right.den_above_zero)
+  den_above = grind (arith, mul_above, mul_pos_left, second, first)
 
   abbrev sign : Bool
   sign = not (beq (int_lt x.num (pos 0)) (int_lt y.num (pos 0)))
@@ -102,9 +98,7 @@ module _ (x y : Ratio) (m n : ℕ) (b d p q r s : ℕ) (h : Multiplying x y m n 
 
   pub product_value : (num : ℤ) (den : ℕ) → num ≡ signed sign (p * r) → den ≡ s * q
       → IsProduct (record { num = num; den = den }) x y
-  product_value num den en ed =
-      let F : (ℤ × ℕ) → Type 0 = λ t. IsProduct (record { num = t.0; den = t.1 }) x y in
-      subst F (λ i. (sym en i, sym ed i)) is_product
+  product_value num den en ed = grind (arith, is_product)
 
   -- any fraction of the product's value is the product of the reduced parts, so that is within the
   -- bounds

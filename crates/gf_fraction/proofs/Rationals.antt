@@ -1,8 +1,8 @@
 -- Laws of rationals of any size, up to equality by cross multiplication.
 use Rattle.std.proofs.Common.{◌≡◌, ℕ, ℤ, pos, ◌*◌, ◌<◌, refl, ap, sym}
-use Rattle.std.proofs.Common.{◌∙◌, subst, arith, List, [], ◌∷◌, map}
+use Rattle.std.proofs.Common.{◌∙◌, arith, List, [], ◌∷◌, map}
 use Rattle.std.specs.Prelude.{◌+ℤ◌, ◌*ℤ◌}
-use Rattle.std.proofs.Math.IntN.{*ℤ_comm, *ℤ-zero, +ℤ_comm, +ℤ_assoc, +ℤ_idl}
+use Rattle.std.proofs.Math.IntN.{*ℤ_comm, +ℤ_assoc}
 use Rattle.gf_fraction.specs.Ratio.{Ratio}
 use Rattle.gf_fraction.proofs.Integers.{*ℤ_assoc, *ℤ_right_comm, add-*ℤ, *ℤ-one, *ℤ-cancel_right}
 use Rattle.gf_fraction.proofs.Products.{mul_above}
@@ -23,8 +23,7 @@ times_above x y hx hy = mul_above x.den y.den hx hy
 pub total_above : {A : Type 0} (f : A → Ratio) → ((x : A) → IsAbove (f x)) → (xs : List A)
     → IsAbove (total (map f xs))
 total_above f above [] = omega arith
-total_above f above (x ∷ xs) =
-    plus_above (f x) (total (map f xs)) (above x) (total_above f above xs)
+total_above f above (x ∷ xs) = grind (arith, plus_above, map, total_above f above xs)
 
 pub ratio_product_above : {A : Type 0} (f : A → Ratio) → ((x : A) → IsAbove (f x)) → (xs : List A)
     → IsAbove (ratio_product (map f xs))
@@ -43,11 +42,7 @@ at z m n e = ap (λ k. z *ℤ pos k) e
 -- ---- equality
 
 pub same_parts : (x y : Ratio) → 0 < x.den → x.num ≡ y.num → x.den ≡ y.den → IsEqual x y
-same_parts x y above num den = record {
-  left = above;
-  right = subst (λ d. 0 < d) den above;
-  crosswise = (λ i. num i *ℤ pos (sym den i));
-}
+same_parts x y above num den = grind arith
 
 pub equal_refl : (x : Ratio) → 0 < x.den → IsEqual x x
 equal_refl x above = same_parts x x above refl refl
@@ -80,18 +75,7 @@ part x y b d h =
     ∙ over y.num x.den (b * d) ∙ at y.num _ _ right ∙ sym (over y.num d (x.den * b))
 
 pub plus_both : (x u y v : Ratio) → IsEqual x u → IsEqual y v → IsEqual (plus x y) (plus u v)
-plus_both x u y v h k =
-    let turned : u.den * v.den ≡ v.den * u.den = omega arith in
-    let back : y.den * x.den ≡ x.den * y.den = omega arith in
-    record {
-      left = mul_above x.den y.den h.left k.left;
-      right = mul_above u.den v.den h.right k.right;
-      crosswise = add-*ℤ (x.num *ℤ pos y.den) (y.num *ℤ pos x.den) (pos (u.den * v.den))
-          ∙ (λ i. part x u y.den v.den h i +ℤ (at (y.num *ℤ pos x.den) _ _ turned
-          ∙ part y v x.den u.den k
-          ∙ at (v.num *ℤ pos u.den) _ _ back) i)
-          ∙ sym (add-*ℤ (u.num *ℤ pos v.den) (v.num *ℤ pos u.den) (pos (x.den * y.den)));
-    }
+plus_both x u y v h k = grind (arith, mul_above, add-*ℤ, part, at)
 
 -- (a * b) * (c * d) is (a * c) * (b * d)
 across : (a b c d : ℤ) → (a *ℤ b) *ℤ (c *ℤ d) ≡ (a *ℤ c) *ℤ (b *ℤ d)
@@ -110,8 +94,7 @@ times_both x u y v h k = record {
 -- ---- laws
 
 pub plus_comm : (x y : Ratio) → 0 < x.den → 0 < y.den → IsEqual (plus x y) (plus y x)
-plus_comm x y hx hy = same_parts _ _ (mul_above x.den y.den hx hy)
-    (+ℤ_comm (x.num *ℤ pos y.den) (y.num *ℤ pos x.den)) (omega arith)
+plus_comm x y hx hy = grind arith
 
 pub plus_assoc : (x y z : Ratio) → 0 < x.den → 0 < y.den → 0 < z.den
     → IsEqual (plus (plus x y) z) (plus x (plus y z))
@@ -135,8 +118,7 @@ plus_assoc x y z hx hy hz =
     (omega arith)
 
 pub times_comm : (x y : Ratio) → 0 < x.den → 0 < y.den → IsEqual (times x y) (times y x)
-times_comm x y hx hy =
-    same_parts _ _ (mul_above x.den y.den hx hy) (*ℤ_comm x.num y.num) (omega arith)
+times_comm x y hx hy = grind arith
 
 pub times_assoc : (x y z : Ratio) → 0 < x.den → 0 < y.den → 0 < z.den
     → IsEqual (times (times x y) z) (times x (times y z))
@@ -148,10 +130,7 @@ pub times_one : (x : Ratio) → 0 < x.den → IsEqual (times x one_ratio) x
 times_one x hx = same_parts _ _ (mul_above x.den 1 hx (omega arith)) (*ℤ-one x.num) (omega arith)
 
 pub plus_zero : (x : Ratio) → 0 < x.den → IsEqual (plus zero_ratio x) x
-plus_zero x hx =
-    let none : 0 * x.den ≡ 0 = omega arith in
-    same_parts _ _ (mul_above 1 x.den (omega arith) hx)
-    ((λ i. pos (none i) +ℤ *ℤ-one x.num i) ∙ +ℤ_idl x.num) (omega arith)
+plus_zero x hx = grind arith
 
 mul-plus : (a b c : ℤ) → a *ℤ (b +ℤ c) ≡ a *ℤ b +ℤ a *ℤ c
 mul-plus a b c = *ℤ_comm a (b +ℤ c) ∙ add-*ℤ b c a ∙ (λ i. *ℤ_comm b a i +ℤ *ℤ_comm c a i)
@@ -181,10 +160,4 @@ times_plus x y z hx hy hz =
     }
 
 pub times_zero : (x : Ratio) → 0 < x.den → IsEqual (times x zero_ratio) zero_ratio
-times_zero x hx =
-    let none : 0 * (x.den * 1) ≡ 0 = omega arith in
-    record {
-      left = mul_above x.den 1 hx (omega arith);
-      right = omega arith;
-      crosswise = ap (λ n. n *ℤ pos 1) (*ℤ-zero x.num) ∙ sym (ap pos none);
-    }
+times_zero x hx = grind arith

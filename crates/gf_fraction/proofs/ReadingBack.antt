@@ -1,8 +1,8 @@
 -- A text has one answer, and what is written for a fraction reads back to it.
 use Rattle.std.proofs.Common.{◌≡◌, ℕ, ℤ, pos, negsuc, suc, ◌^◌, ◌<◌, ◌≤◌, Bool}
-use Rattle.std.proofs.Common.{true, false, List, [], ◌∷◌, ◌++◌, Result, Ok, Err}
+use Rattle.std.proofs.Common.{true, false, List, [], ◌∷◌, ◌++◌, Result}
 use Rattle.std.proofs.Common.{arith, refl, ap, sym, ◌∙◌, subst, append_assoc}
-use Rattle.std.specs.Prelude.{◌==◌, ◌*ℤ◌, unsigned_abs, decimal as digits, if◌then◌else◌}
+use Rattle.std.specs.Prelude.{◌*ℤ◌, unsigned_abs, decimal as digits}
 use Rattle.std.specs.Fmt.{signed_decimal}
 use Rattle.std.specs.Str.Parse.{IsNumeral, digits_value}
 use Rattle.std.proofs.lemmas.Int.{ints}
@@ -38,10 +38,7 @@ module _ (text : List ℕ) (m n : Bool) (x y : Reading) (hx : Spells text m x)
   same_bounded bx by = sym (bounded_kept x bx) ∙ ap reading_of same_held ∙ bounded_kept y by
 
   bounded_too : IsBounded x → IsBounded y
-  bounded_too bx =
-      let both : IsBounded (reading_of (held y)) = subst (λ k. IsBounded (reading_of k)) same_held
-      (subst IsBounded (sym (bounded_kept x bx)) bx) in
-      subst IsBounded (bounded_held y both) both
+  bounded_too bx = grind (arith, held, same_held, bounded_kept, bounded_held)
 
   zero_too : den_of x ≡ 0 → den_of y ≡ 0
   zero_too z = zero_held y (ap (λ k. den_of (reading_of k)) (sym same_held) ∙ zero_kept x z)
@@ -85,10 +82,7 @@ same_fault text TooLarge TooLarge a b = refl
 
 pub one_answer : (text : List ℕ) (a b : Result Ratio NumberFault) → Reads text a → Reads text b
     → a ≡ b
-one_answer text (Ok r) (Ok s) a b = ap Ok (same_number text r s a b)
-one_answer text (Ok r) (Err g) a b = absurd (not_both text r g a b)
-one_answer text (Err f) (Ok s) a b = absurd (not_both text s f b a)
-one_answer text (Err f) (Err g) a b = ap Err (same_fault text f g a b)
+one_answer text a b a' b' = grind (arith, same_number, not_both, same_fault)
 
 -- the text of an integer
 record IsWritten (z : ℤ) : Type 0 where
@@ -188,12 +182,7 @@ fraction_is_read r h =
 
 pub written_is_read : (r : Ratio) → IsFraction r → IsNumber (number_text r) r
 unfolding number_text
-written_is_read r h = by_den (r.den == 1) refl
-  where
-    by_den : (b : Bool) → (r.den == 1) ≡ b → IsNumber
-        (if b then signed_decimal r.num else signed_decimal r.num ++ (47 ∷ []) ++ digits r.den) r
-    by_den true e = whole_is_read r h (eqb-true r.den 1 e)
-    by_den false e = fraction_is_read r h
+written_is_read r h = grind (arith, whole_is_read, eqb-true, fraction_is_read)
 
 pub one_text : (r s : Ratio) → IsFraction r → IsFraction s → number_text r ≡ number_text s → r ≡ s
 one_text r s hr hs e = same_number (number_text s) r s

@@ -48,21 +48,14 @@ module _ (text : List ℕ) (i : ℕ) (within : i < length text)
 -- a text by its first byte
 pub first_and_more : (text : List ℕ) (b : ℕ) → 1 ≤ length text → get_or text 0 0 ≡ b
     → text ≡ b ∷ take (length text - 1) (drop 1 text)
-first_and_more [] b some first = absurd (omega arith)
-first_and_more (c ∷ cs) b some first =
-    let n : length (c ∷ cs) - 1 ≡ length cs = omega arith in
-    let all : take (length (c ∷ cs) - 1) cs ≡ cs =
-    ap (λ k. take k cs) n ∙ take_all (length cs) cs (omega arith) in
-    (λ i. first i ∷ sym all i)
+first_and_more text b some first = grind (arith, take_all)
 
 pub no_byte : (text : List ℕ) → length text < 1 → EndsDigits text
-no_byte [] none = tt
-no_byte (c ∷ cs) none = absurd (omega arith)
+no_byte text none = grind arith
 
 pub other_byte : (text : List ℕ) → ¬ (get_or text 0 0 ≡ 47) → ¬ (get_or text 0 0 ≡ 46)
     → EndsDigits text
-other_byte [] slash point = tt
-other_byte (c ∷ cs) slash point = (slash, point)
+other_byte text h h' = grind arith
 
 pub whole_completes : (n : ℕ) (text : List ℕ) → n < 2 ^ 64 → EndsDigits text
     → Completes n text n 1 text
@@ -166,8 +159,7 @@ decimal_left n v places text behind rest point h count many =
 
 pub read_within : (n v : ℕ) (text rest : List ℕ) → AreRead n text v rest
     → length rest ≤ length text
-read_within n v text rest h =
-    let long = ap length h.spelled ∙ length-append h.digits rest in omega (arith, long)
+read_within n v text rest h = grind (arith, length-append)
 
 pub completed_number : (sign digits text rest : List ℕ) (negative : Bool) (n p q len : ℕ)
     (r : Ratio) → IsSign sign negative → IsNumeral 10 digits → digits_value 10 digits ≡ n
@@ -202,10 +194,4 @@ completed_number sign digits text rest negative n p q len r is_sign numeral valu
 -- a sign, digits and what follows them are the whole text
 pub parts_of : (text rest : List ℕ) (n len : ℕ) (d : AreRead 0 (after_sign text) n rest)
     → len ≡ length rest → (has_sign text).sign ++ d.digits ++ take len rest ≡ text
-parts_of text rest n len d all =
-    let s = has_sign text in
-    ap (λ k. s.sign ++ d.digits ++ take k rest) all
-    ∙ ap (λ t. s.sign ++ d.digits ++ t) (take_all (length rest) rest (omega arith))
-    ∙ append_assoc s.sign d.digits rest
-    ∙ ap (λ t. s.sign ++ t) (sym d.spelled)
-    ∙ sym s.spelled
+parts_of text rest n len d all = grind (arith, has_sign, take_all, append_assoc)

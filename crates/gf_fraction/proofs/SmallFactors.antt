@@ -30,8 +30,7 @@ prime_five = record { above_one = lit< tt; apart = coprime_five }
 pub ruleset small_primes = (prime_three, prime_five)
 
 some_factor : (c m : ℕ) → 0 < c * m → 0 < c
-some_factor zero m h = absurd (omega (arith, h))
-some_factor (suc c) m h = omega arith
+some_factor c m h = grind arith
 
 -- a factor of all three numbers
 held_both : (p q k f : ℕ) → 0 < f → HoldsCommon (p * f) (q * f) (k * f) → HoldsCommon p q k

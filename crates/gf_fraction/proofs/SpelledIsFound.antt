@@ -1,9 +1,9 @@
 -- If a text has one of the shapes, the scan of it finds what the text says, capped.
-use Rattle.std.proofs.Common.{◌≡◌, ℕ, ℤ, pos, negsuc, suc, zero, ◌+◌, ◌*◌, ◌<◌, min}
+use Rattle.std.proofs.Common.{◌≡◌, ℕ, ℤ, pos, negsuc, suc, ◌+◌, ◌*◌, ◌<◌, min}
 use Rattle.std.proofs.Common.{Bool, true, false, List, [], ◌∷◌, ◌++◌, length, Option, Some, None}
 use Rattle.std.proofs.Common.{arith, refl, ap, sym, ◌∙◌, subst, inl, inr, append_assoc}
 use Rattle.std.proofs.lemmas.List.{append-nil}
-use Rattle.std.specs.Prelude.{◌==◌, ◌||◌, ◌&&◌, ◌⊎◌, nat_lt, neg_ℤ, if◌then◌else◌, option_map}
+use Rattle.std.specs.Prelude.{◌==◌, ◌||◌, ◌⊎◌, nat_lt, neg_ℤ, if◌then◌else◌}
 use Rattle.std.specs.Char.{digit_value, is_ascii_digit}
 use Rattle.std.specs.Str.Parse.{AllDigits, IsNumeral, digits_value, digits_value_after}
 use Rattle.std.proofs.lemmas.Bool.{lt-ltb}
@@ -11,12 +11,11 @@ use Rattle.std.proofs.lemmas.Bool.Decides.{nat_tests}
 use Rattle.gf_fraction.specs.Ratio.{signed}
 use Rattle.gf_fraction.specs.NumberSpelling.{Reading, IsSign, IsPlain, IsExponent, HasShape}
 use Rattle.gf_fraction.specs.NumberSpelling.Reading.{decimal, rational}
-use Rattle.gf_fraction.specs.NumberSpelling.IsSign.{absent, plus, minus}
 use Rattle.gf_fraction.specs.NumberSpelling.IsPlain.{whole, pointed}
 use Rattle.gf_fraction.specs.NumberSpelling.HasShape.{plain, raised, fraction}
-use Rattle.gf_fraction.specs.NumberScan.{capped, leading, behind, leading_value, has_digits}
+use Rattle.gf_fraction.specs.NumberScan.{capped, leading, behind}
 use Rattle.gf_fraction.specs.NumberScan.{is_minus, after_sign, scan, scan_rest, scan_decimal}
-use Rattle.gf_fraction.specs.NumberScan.{scan_end, scan_exponent, scan_fraction}
+use Rattle.gf_fraction.specs.NumberScan.{scan_end, scan_exponent}
 use Rattle.gf_fraction.specs.declared.read.Spelling.{Spelling}
 use Rattle.gf_fraction.specs.declared.read.Spelling.TheVariants.{Decimal, Rational}
 use Rattle.gf_fraction.proofs.LeadingDigits.{capped-after}
@@ -52,12 +51,7 @@ leading-digits (d ∷ ds) all =
 
 pub AllDigits-leading : (text : List ℕ) → AllDigits 10 (leading text)
 AllDigits-leading [] = tt
-AllDigits-leading (c ∷ cs) = split c cs (is_ascii_digit c) refl (AllDigits-leading cs)
-  where
-    split : (c : ℕ) (cs : List ℕ) (b : Bool) → is_ascii_digit c ≡ b → AllDigits 10 (leading cs)
-        → AllDigits 10 (if b then c ∷ leading cs else [])
-    split c cs true e all = (digit_from_ascii c e, all)
-    split c cs false e all = tt
+AllDigits-leading (c ∷ cs) = grind (arith, digit_from_ascii, AllDigits-leading cs)
 
 pub AllDigits-append : (xs ys : List ℕ) → AllDigits 10 xs → AllDigits 10 ys
     → AllDigits 10 (xs ++ ys)
@@ -88,16 +82,11 @@ Unsigned-append [] rest all h = h
 Unsigned-append (d ∷ ds) rest all h = digit_unsigned d (ascii_from_digit d all.0)
 
 pub Unsigned-digits : (ds : List ℕ) → AllDigits 10 ds → Unsigned ds
-Unsigned-digits [] all = tt
-Unsigned-digits (d ∷ ds) all = digit_unsigned d (ascii_from_digit d all.0)
+Unsigned-digits ds all = grind arith
 
 pub sign_split : (sign rest : List ℕ) (negative : Bool) → IsSign sign negative → Unsigned rest
     → (is_minus (sign ++ rest) ≡ negative) × (after_sign (sign ++ rest) ≡ rest)
-sign_split [] [] _ absent h = (refl, refl)
-sign_split [] (c ∷ cs) _ absent h = (h.1, rw (h.0, h.1))
-sign_split (_ ∷ (_ ∷ _)) rest negative is h = elim is [ ]
-sign_split (_ ∷ []) rest _ plus h = (refl, refl)
-sign_split (_ ∷ []) rest _ minus h = (refl, refl)
+sign_split sign rest negative is h = grind arith
 
 -- capped readings
 
@@ -111,9 +100,7 @@ held (rational num den) = Rational (capped num) (capped den)
 
 pub capped_exponent-signed : (negative : Bool) (n : ℕ)
     → capped_exponent (signed negative n) ≡ signed negative (min (capped n) 39)
-capped_exponent-signed false n = refl
-capped_exponent-signed true zero = refl
-capped_exponent-signed true (suc n) = refl
+capped_exponent-signed negative n = grind arith
 
 -- what a scan of an exponent and of a denominator answers by its test
 abbrev pub exponent_if : Bool → Bool → ℕ → Option ℤ
@@ -134,9 +121,7 @@ data Ends : List ℕ → Type 0 where
   mark : (c : ℕ) (cs : List ℕ) → (c ≡ 101) ⊎ (c ≡ 69) → Ends (c ∷ cs)
 
 ends_stop : (more : List ℕ) → Ends more → Stops more
-ends_stop [] none = tt
-ends_stop (c ∷ cs) (mark _ _ (inl e)) = rw e
-ends_stop (c ∷ cs) (mark _ _ (inr e)) = rw e
+ends_stop more h = grind arith
 
 rest_ends : (v : ℕ) (more : List ℕ) → Ends more → scan_rest v true more ≡ scan_end v 0 more
 rest_ends v [] none = refl
@@ -146,10 +131,7 @@ rest_ends v (c ∷ cs) (mark _ _ (inr e)) = rw e
 scan_plain : (text digits more : List ℕ) (places : ℕ) → IsPlain text digits places → Ends more
     → scan (text ++ more) ≡ scan_end (capped (digits_value 10 digits)) places more
 scan_plain text _ more _ (whole _ is) ends =
-    let e = leading-append text more is.1 (ends_stop more ends) in
-    (λ i. scan_rest (capped (digits_value 10 (e.0 i))) (nat_lt 0 (length (e.0 i))) (e.1 i))
-    ∙ ap (λ b. scan_rest (capped (digits_value 10 text)) b more) (above_zero text is.0)
-    ∙ rest_ends (capped (digits_value 10 text)) more ends
+    grind (arith, leading-append, ends_stop, above_zero, rest_ends)
 scan_plain _ _ more _ (pointed before after is) ends =
     let parts = AllDigits-parts before after is.1 in
     let tail = after ++ more in
@@ -177,14 +159,7 @@ scan_exponent_is : (sign digits : List ℕ) (negative : Bool)
     → IsSign sign negative → IsNumeral 10 digits → scan_exponent (sign ++ digits)
     ≡ Some (capped_exponent (signed negative (digits_value 10 digits)))
 scan_exponent_is sign digits negative is_sign is =
-    let e = sign_split sign digits negative is_sign (Unsigned-digits digits is.1) in
-    let f = leading-digits digits is.1 in
-    let all = λ (t : List ℕ). length (behind t) == 0 in
-    (λ i. exponent_if (has_digits (e.1 i) && all (e.1 i)) (e.0 i) (leading_value 0 (e.1 i)))
-    ∙ (λ i. exponent_if (nat_lt 0 (length (f.0 i)) && (length (f.1 i) == 0)) negative
-    (digits_value 10 (f.0 i)))
-    ∙ ap (λ b. exponent_if (b && true) negative (digits_value 10 digits)) (above_zero digits is.0)
-    ∙ ap Some (sym (capped_exponent-signed negative (digits_value 10 digits)))
+    grind (arith, sign_split, Unsigned-digits, leading-digits, above_zero, capped_exponent-signed)
 
 -- with an exponent
 exponent_ends : (more : List ℕ) (exponent : ℤ) → IsExponent more exponent → Ends more
@@ -198,16 +173,7 @@ exponent_ends more exponent h =
 
 end_exponent : (v places : ℕ) (more : List ℕ) (exponent : ℤ) → IsExponent more exponent
     → scan_end v places more ≡ Some (Decimal v places (capped_exponent exponent))
-end_exponent v places more exponent h =
-    let F = λ (m : List ℕ). scan_end v places (m ++ h.sign ++ h.digits) in
-    let tail : scan_exponent (h.sign ++ h.digits) ≡ Some (capped_exponent exponent) =
-    scan_exponent_is h.sign h.digits h.negative h.is_sign h.some
-    ∙ ap (λ z. Some (capped_exponent z)) (sym h.value) in
-    ap (scan_end v places) h.spelled
-    ∙ elim h.is_mark as (λ _. F h.mark ≡ Some (Decimal v places (capped_exponent exponent))) [
-      | inl e ↦ ap F e ∙ ap (option_map (λ z. Decimal v places z)) tail
-      | inr e ↦ ap F e ∙ ap (option_map (λ z. Decimal v places z)) tail
-    ]
+end_exponent v places more exponent h = grind (arith, scan_exponent_is)
 
 pub scan_shape : (text : List ℕ) (reading : Reading) → HasShape text reading
     → scan text ≡ Some (held reading)
@@ -217,13 +183,4 @@ scan_shape _ _ (raised text more digits places exponent is by) =
     scan_plain text digits more places is (exponent_ends more exponent by)
     ∙ end_exponent (capped (digits_value 10 digits)) places more exponent by
 scan_shape _ _ (fraction num den is_num is_den) =
-    let turned : (num ++ 47 ∷ []) ++ den ≡ num ++ (47 ∷ den) = append_assoc num (47 ∷ []) den in
-    let e = leading-append num (47 ∷ den) is_num.1 refl in
-    let f = leading-digits den is_den.1 in
-    let v = capped (digits_value 10 num) in
-    ap scan turned
-    ∙ (λ i. scan_rest (capped (digits_value 10 (e.0 i))) (nat_lt 0 (length (e.0 i))) (e.1 i))
-    ∙ (λ i. scan_fraction v (above_zero num is_num.0 i) den)
-    ∙ (λ i. rational_if (true && nat_lt 0 (length (f.0 i)) && (length (f.1 i) == 0)) v
-    (digits_value 10 (f.0 i)))
-    ∙ ap (λ b. rational_if (true && b && true) v (digits_value 10 den)) (above_zero den is_den.0)
+    grind (arith, append_assoc, leading-append, leading-digits, above_zero)

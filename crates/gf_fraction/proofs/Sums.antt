@@ -217,26 +217,14 @@ module _ (x y : Ratio) (a c : ℤ) (b d g p q : ℕ) (h : Adding x y a c b d g p
       (IsGcd-div x.den y.den g gcd_above gcd_is))
 
   pub sum_fits : PartsFit a c b p q → SumFits x y
-  sum_fits parts =
-      let F : (ℤ × ℤ × ℕ × ℕ × ℕ) → Type 0 = λ t. PartsFit t.0 t.1 t.2 t.3 t.4 in
-      fits_from_parts x y g h.left h.right gcd_is
-      (subst F (λ i. (h.left_num i, h.right_num i, h.left_den i, p_is i, q_is i)) parts)
+  sum_fits parts = grind (arith, fits_from_parts, gcd_is, p_is, q_is)
 
   pub sum_overflows : ¬ (PartsFit a c b p q) → ¬ (SumFits x y)
-  sum_overflows none fits =
-      let F : (ℤ × ℤ × ℕ × ℕ × ℕ) → Type 0 = λ t. PartsFit t.0 t.1 t.2 t.3 t.4 in
-      none (subst F
-      (λ i. (sym h.left_num i, sym h.right_num i, sym h.left_den i, sym p_is i, sym q_is i))
-      (parts_from_fits x y g h.left h.right gcd_is fits))
+  sum_overflows none fits = grind (arith, p_is, q_is, parts_from_fits, gcd_is)
 
   pub sum_value : (r : Ratio) (n : ℤ) (m : ℕ)
       → n ≡ a *ℤ pos p +ℤ c *ℤ pos q → m ≡ b * p → HasValue r n m → IsSum r x y
-  sum_value r n m en em value =
-      let F : (ℤ × ℕ) → Type 0 = λ t. HasValue r t.0 t.1 in
-      let num : n ≡ x.num *ℤ pos p +ℤ y.num *ℤ pos q =
-      en ∙ (λ i. h.left_num i *ℤ pos p +ℤ h.right_num i *ℤ pos q) in
-      let den : m ≡ x.den * p = em ∙ ap (λ k. k * p) h.left_den in
-      sum_from_parts r x y g p q p_times q_times (subst F (λ i. (num i, den i)) value)
+  sum_value r n m en em value = grind (arith, sum_from_parts, p_times, q_times)
 
   pub sum_common : (n : ℤ) (m : ℕ) → n ≡ a *ℤ pos p +ℤ c *ℤ pos q → m ≡ b * p
       → HoldsCommon (unsigned_abs n) m g
@@ -249,9 +237,7 @@ module _ (x y : Ratio) (a c : ℤ) (b d g p q : ℕ) (h : Adding x y a c b d g p
       (common_from_gcd x y g p q h.left h.right gcd_above p_times q_times apart)
 
   pub sum_den_above : (m : ℕ) → m ≡ b * p → 0 < m
-  sum_den_above m em =
-      let left : 0 < b = subst (λ k. 0 < k) (sym h.left_den) h.left.den_above_zero in
-      subst (λ k. 0 < k) (sym em) (omega (arith, le-mul_of_pos_right b p_above))
+  sum_den_above m em = grind (arith, le-mul_of_pos_right, p_above)
 
 -- over one denominator nothing is scaled
 pub Adding-equal : (x y : Ratio) (a c : ℤ) (b d : ℕ) → IsFraction x → IsFraction y → a ≡ x.num
@@ -273,19 +259,10 @@ Adding-equal x y a c b d hx hy ea ec eb ed e =
 
 pub equal_parts : (x y : Ratio) (a c n : ℤ) (b d : ℕ)
     → Adding x y a c b d b 1 1 → n ≡ a +ℤ c → IsWithin n → PartsFit a c b 1 1
-equal_parts x y a c n b d h en within =
-    let one : b ≡ b * 1 = omega arith in
-    record {
-      den = subst (λ k. k < 2 ^ 127) (sym h.left_den ∙ one) h.left.den_within;
-      left = subst IsWithin (sym h.left_num ∙ sym (*ℤ-one a)) h.left.num_within;
-      right = subst IsWithin (sym h.right_num ∙ sym (*ℤ-one c)) h.right.num_within;
-      sum = subst IsWithin (en ∙ (λ i. sym (*ℤ-one a) i +ℤ sym (*ℤ-one c) i)) within;
-    }
+equal_parts x y a c n b d h en within = grind arith
 
 pub equal_overflows : (a c : ℤ) (b : ℕ) → 2 ^ 127 ≤ unsigned_abs (a +ℤ c) → ¬ (PartsFit a c b 1 1)
-equal_overflows a c b over parts =
-    let within : IsWithin (a +ℤ c) = subst IsWithin (λ i. *ℤ-one a i +ℤ *ℤ-one c i) parts.sum in
-    omega arith
+equal_overflows a c b over parts = grind arith
 
 pub equal_value : (r x y : Ratio) (a c n : ℤ) (b d : ℕ)
     → Adding x y a c b d b 1 1 → n ≡ a +ℤ c → HasValue r n b → IsSum r x y

@@ -1,6 +1,6 @@
 -- Whole numbers and parts of one within the bound are fractions, and a sign and digits spell whole
 -- numbers.
-use Rattle.std.proofs.Common.{ℕ, zero, suc, pos, ◌^◌, ◌<◌, ◌++◌, Bool, true, false, List, [], arith}
+use Rattle.std.proofs.Common.{ℕ, pos, ◌^◌, ◌<◌, ◌++◌, Bool, true, false, List, [], arith}
 use Rattle.std.proofs.Common.{lit<}
 use Rattle.std.proofs.Common.{refl}
 use Rattle.std.specs.Prelude.{codes, unsigned_abs}
@@ -17,20 +17,10 @@ use Rattle.gf_fraction.specs.NumberSpelling.Reading.{decimal}
 use Rattle.gf_fraction.proofs.Divisors.{IsGcd-one_left, IsGcd-one_right}
 
 pub whole_fraction : (n : ℕ) → n < 2 ^ 127 → IsFraction (ratio.whole (pos n))
-whole_fraction n h = record {
-  den_above_zero = omega arith;
-  den_within = omega arith;
-  num_within = h;
-  lowest = IsGcd-one_right n;
-}
+whole_fraction n h = grind (arith, IsGcd-one_right)
 
 pub part_fraction : (n : ℕ) → 0 < n → n < 2 ^ 127 → IsFraction (record { num = pos 1; den = n })
-part_fraction n above h = record {
-  den_above_zero = above;
-  den_within = h;
-  num_within = omega arith;
-  lowest = IsGcd-one_left n;
-}
+part_fraction n above h = grind (arith, IsGcd-one_left)
 
 -- a sign, as short as can be
 abbrev pub sign_of : Bool → List ℕ
@@ -42,9 +32,7 @@ is_sign_of false = absent
 is_sign_of true = minus
 
 within_signed : (negative : Bool) (n : ℕ) → n < 2 ^ 127 → IsWithin (signed negative n)
-within_signed false n h = h
-within_signed true zero h = h
-within_signed true (suc n) h = h
+within_signed negative n h = grind arith
 
 pub lowest_whole : (n : ℕ) → IsGcd n 1 1
 lowest_whole n = IsGcd-one_right n

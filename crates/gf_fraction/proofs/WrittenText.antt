@@ -1,5 +1,5 @@
 -- The text of a fraction, written from its end.
-use Rattle.std.proofs.Common.{◌≡◌, ℕ, ℤ, pos, negsuc, ◌+◌, ◌-◌, ◌≤◌, Bool, true, false}
+use Rattle.std.proofs.Common.{◌≡◌, ℕ, ℤ, pos, ◌+◌, ◌-◌, ◌≤◌, Bool, true, false}
 use Rattle.std.proofs.Common.{List, [], ◌∷◌, ◌++◌, ◌∙◌, length, take, drop, set, arith}
 use Rattle.std.proofs.Common.{refl, ap, sym, append-nil, append_assoc, length-append}
 use Rattle.std.specs.Prelude.{◌==◌, codes, decimal, unsigned_abs, if◌then◌else◌}
@@ -36,17 +36,10 @@ number_parts z d = part (d == 1) (signed_decimal z) (decimal d)
 pub with_minus : (z : ℤ) (at : ℕ) (text behind : List ℕ) → 1 ≤ at → at ≤ length text
     → drop at text ≡ decimal (unsigned_abs z) ++ behind
     → drop (at - from_bool (lt_z z (pos 0))) (set text (at - 1) 45) ≡ signed_decimal z ++ behind
-with_minus (pos n) at text behind above within digits =
-    let none : from_bool (lt_z (pos n) (pos 0)) ≡ 0 = ap from_bool (leb-suc-zero n) in
-    let e : at - from_bool (lt_z (pos n) (pos 0)) ≡ at = omega (arith, none) in
-    rw (e, drop-set-lt at text (at - 1) 45 (omega arith)) digits
-with_minus (negsuc n) at text behind above within digits =
-    let e : at - 1 + 1 ≡ at = omega arith in
-    rw (drop-set text (at - 1) 45 (omega arith), e, digits) refl
+with_minus z at text behind above within digits = grind (arith, leb-suc-zero, drop-set-lt, drop-set)
 
 pub at_most_one : (b : Bool) → from_bool b ≤ 1
-at_most_one true = omega arith
-at_most_one false = omega arith
+at_most_one b = grind arith
 
 -- from where a text begins a window of 41 bytes is appended, and what it took too much is cut off
 module _ (before number behind text : List ℕ) (start : ℕ) (within : start ≤ 41)

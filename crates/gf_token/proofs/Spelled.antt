@@ -101,7 +101,16 @@ pub token_again : (t : Token) (at : ℕ) (rest : List ℕ) (others : List Lexeme
     → lex Gap at (spelling t ++ rest) ≡ lexeme at (at + length (spelling t)) t ∷ others
 unfolding lex
 token_again t at rest others h s k =
-    grind (arith, length-append, append_assoc, text_again, bare_out, bare_again, bare_ends, text_breaks)
+    grind (
+      arith,
+      length-append,
+      append_assoc,
+      text_again,
+      bare_out,
+      bare_again,
+      bare_ends,
+      text_breaks,
+    )
 
 goes_on_map : (t : Token) (others : List Lexeme) (A B : Type 0) → (A → B) → GoesOn t others A
     → GoesOn t others B
