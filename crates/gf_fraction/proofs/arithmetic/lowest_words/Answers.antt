@@ -1,10 +1,10 @@
+use Rattle.std.proofs.Common.{arith}
 use Rattle.gf_fraction.proofs.Divisors.{IsLowest-same, IsLowest-zero}
 use Rattle.gf_fraction.proofs.SmallFactors.{lowest_after}
 use Rattle.gf_fraction.proofs.arithmetic.lowest_words.Goals as goal
 
 pub returns-then-common-eq1 : goal.returns-then-common-eq1
-returns-then-common-eq1 c =
-    IsLowest-same c.args.size c.args.den c.args.common c.requires c.if-common-eq1.true
+returns-then-common-eq1 c = grind (arith, IsLowest-same)
 
 pub returns-then-size-eq0 : goal.returns-then-size-eq0
 returns-then-size-eq0 c = IsLowest-zero c.args.size c.args.den c.if-size-eq0.true

@@ -7,13 +7,4 @@ pub loop-common-init : goal.loop-common-init
 loop-common-init c = record { by = 1; num = omega arith; den = omega arith; held = c.requires.held }
 
 pub loop-common-preserved : goal.loop-common-preserved
-loop-common-preserved c =
-    let prime = c.requires.prime in
-    let whole = c.loop-common-test.true in
-    let h = c.loop-common.invariant in
-    elim c.if-size-prime-eq0.branch [
-      | then-size-prime-eq0 w ↦ rw (w.size-is, w.den-is)
-          (divided_both _ _ _ _ _ _ prime whole h (omega arith))
-      | else-size-prime-eq0 w ↦ rw (w.size-is, w.den-is)
-          (divided_one _ _ _ _ _ _ prime whole h (omega arith))
-    ]
+loop-common-preserved c = grind (arith, divided_both, divided_one)

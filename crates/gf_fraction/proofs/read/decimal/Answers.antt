@@ -8,18 +8,10 @@ use Rattle.gf_fraction.proofs.PowersOfTen.{value_from_scaled, fault_from_scaled}
 use Rattle.gf_fraction.proofs.read.decimal.Goals as goal
 
 pub returns-then-digits-gt-LARGEST : goal.returns-then-digits-gt-LARGEST
-returns-then-digits-gt-LARGEST c = (
-  power_of_ten-above _,
-  λ bounded.
-      let digits = bounded.digits_within in
-      let places = bounded.places_within in
-      let exponent = bounded.exponent_within in
-      grind (arith, ints, digits, places, exponent),
-)
+returns-then-digits-gt-LARGEST c = grind (arith, power_of_ten-above, ints)
 
 pub returns-then-power-gt-POWER : goal.returns-then-power-gt-POWER
-returns-then-power-gt-POWER c =
-    (power_of_ten-above _, λ bounded. let h = bounded.power_within in omega (arith, ints, h))
+returns-then-power-gt-POWER c = grind (arith, power_of_ten-above, ints)
 
 pub returns : goal.returns
 returns c =

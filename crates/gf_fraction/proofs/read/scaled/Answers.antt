@@ -6,10 +6,7 @@ use Rattle.gf_fraction.proofs.PowersOfTen.{pow_above_zero}
 use Rattle.gf_fraction.proofs.read.scaled.Goals as goal
 
 pub of_words-requires-clause-den_above_zero : goal.of_words-requires-clause-den_above_zero
-of_words-requires-clause-den_above_zero c =
-    let w = c.lowest_decimal-num in
-    mul_pos_left w.result.1 w.ensures.by _ w.ensures.den
-    (pow_above_zero c.unsigned_abs-places.result)
+of_words-requires-clause-den_above_zero c = grind (arith, mul_pos_left, pow_above_zero)
 
 pub returns-in-Ok-try_from : goal.returns-in-Ok-try_from
 returns-in-Ok-try_from c =

@@ -1,5 +1,4 @@
 use Rattle.std.proofs.Common.{◌≡◌, get_or, arith, refl}
-use Rattle.gf_fraction.specs.ShortNumber.{EndsDigits}
 use Rattle.gf_fraction.proofs.ShortNumbers.{first_and_more, decimal_completes, decimal_left}
 use Rattle.gf_fraction.proofs.ShortNumbers.{ratio_completes, ratio_left, whole_completes}
 use Rattle.gf_fraction.proofs.ShortNumbers.{no_byte, other_byte}
@@ -38,12 +37,4 @@ returns-else-places-gt-WORD_PLACES c =
     c.lowest_decimal-num.ensures
 
 pub returns-in_default : goal.returns-in_default
-returns-in_default c =
-    let text = c.args.text.now in
-    let ends : EndsDigits text = elim c.in_default.branch [
-      | in_default-via-then-text-lt1 w ↦ no_byte text (grind arith)
-      | in_default-via-else-text-lt1+in_default-1 w ↦
-          other_byte text (λ slash. absurd (omega (arith, slash)))
-          (λ point. absurd (omega (arith, point)))
-    ] in
-    whole_completes c.args.num text (omega arith) ends
+returns-in_default c = grind (arith, no_byte, other_byte, whole_completes)

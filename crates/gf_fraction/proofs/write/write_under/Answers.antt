@@ -1,18 +1,14 @@
-use Rattle.std.proofs.Common.{◌≡◌, ◌+◌, ◌-◌, ◌++◌, drop, ap, arith, rules}
+use Rattle.std.proofs.Common.{◌≡◌, ◌+◌, ◌-◌, ◌++◌, drop, ap, arith}
 use Rattle.std.proofs.lemmas.Fmt.{length-decimal-le}
 use Rattle.std.proofs.lemmas.List.{drop-set}
-use Rattle.gf_fraction.proofs.WrittenText.{under_one, under_above}
+use Rattle.gf_fraction.proofs.WrittenText.{under_above}
 use Rattle.gf_fraction.proofs.write.write_under.Goals as goal
 
 pub returns-then-den-eq1-clause-written : goal.returns-then-den-eq1-clause-written
-returns-then-den-eq1-clause-written c =
-    ap (λ t. t ++ drop 41 c.args.text.now) (under_one c.args.den c.if-den-eq1.true)
+returns-then-den-eq1-clause-written c = grind arith
 
 pub write_digits-at-requires : goal.write_digits-at-requires
-write_digits-at-requires c = (
-  omega (arith, length-decimal-le 20 c.args.den (omega arith) (omega arith) c.ranges.den.fits),
-  search rules,
-)
+write_digits-at-requires c = grind (arith, length-decimal-le)
 
 pub overflow_sub-at : goal.overflow_sub-at
 overflow_sub-at c =

@@ -6,16 +6,7 @@ use Rattle.gf_token.proofs.ScannedIndices.{more_digits, more_value}
 use Rattle.gf_token.proofs.scan.digits_end.Goals as goal
 
 pub loop-at-init : goal.loop-at-init
-loop-at-init c =
-    let bytes = c.args.input.now in
-    let first = c.args.first in
-    record {
-      within = omega (arith, c.requires.within, c.min.ensures);
-      begins = omega arith;
-      digits = first_digits bytes first c.requires.within c.requires.digit;
-      value = c.digit_value-value.ensures
-          ∙ sym (first_value bytes first c.requires.within c.requires.digit);
-    }
+loop-at-init c = grind (arith, first_digits, first_value)
 
 pub overflow_mul-value : goal.overflow_mul-value
 overflow_mul-value c =

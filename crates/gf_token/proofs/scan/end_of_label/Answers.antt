@@ -7,7 +7,7 @@ use Rattle.gf_token.specs.Label.{label_of}
 use Rattle.gf_token.specs.Token.{lexeme}
 use Rattle.gf_token.specs.Token.Token.{Text}
 use Rattle.gf_token.proofs.TextsOfLabels.{label_found, too_short, no_quote_before, no_quote_behind}
-use Rattle.gf_token.proofs.TextsOfLabels.{other_bytes, Unlike}
+use Rattle.gf_token.proofs.TextsOfLabels.{other_bytes}
 use Rattle.gf_token.proofs.scan.end_of_label.Goals.{
   then-input-start-ne34-via-then-input-start-ne34,
 }
@@ -52,15 +52,4 @@ returns-then-eq c =
 
 pub returns-else-input-quote-eq34 : goal.returns-else-input-quote-eq34
 returns-else-input-quote-eq34 c =
-    let bytes = c.args.input.now in
-    let start = c.args.start in
-    let raw = c.raw-raw.result.now in
-    subst (λ (x : List ℕ). Unlike bytes x start) c.raw-raw.ensures.same
-    (elim c.else-input-quote-eq34.branch [
-      | else-input-quote-eq34-via-then-input-quote-eq34+else-eq w ↦
-          other_bytes bytes raw start c.requires.no_gap
-          (not_from_Decides w.eq.result (slice_eq-Decides Decides-eqb (slice_range bytes
-          (start + 1) (start + 1 + length raw)) raw w.eq.result w.eq.ensures) w.if-eq.false)
-      | else-input-quote-eq34-via-else-input-quote-eq34 w ↦
-          no_quote_behind bytes raw start c.requires.no_gap w.if-input-quote-eq34.false
-    ])
+    grind (arith, other_bytes, not_from_Decides, slice_eq-Decides, Decides-eqb, no_quote_behind)

@@ -1,10 +1,10 @@
-use Rattle.std.proofs.Common.{rules, ◌≡◌, ◌∙◌, sym, subst, to_z, of_z}
+use Rattle.std.proofs.Common.{arith}
+use Rattle.std.proofs.Common.{rules, ◌≡◌, ◌∙◌, to_z, of_z}
 use Rattle.std.specs.Int.{w128}
 use Rattle.std.proofs.lemmas.Int.{to_z-of_z, fits_signed_from_abs}
 use Rattle.std.proofs.lemmas.Result.{MatchResult-from_err}
 use Rattle.std.proofs.Math.Nat.{pos_of_dvd_of_pos}
 use Rattle.gf_fraction.specs.Fits.{SumFits}
-use Rattle.gf_fraction.specs.Ratio.{IsWithin}
 use Rattle.gf_fraction.proofs.FractionFields.{IsFraction-seen, num_seen, den_seen}
 use Rattle.gf_fraction.proofs.Sums.{Adding, Adding-equal, equal_parts, equal_overflows, equal_value}
 use Rattle.gf_fraction.proofs.Sums.{sum_fits, sum_overflows, sum_value, sum_common, sum_den_above}
@@ -49,17 +49,7 @@ adding : (c : After-quotient-by_right)
     → Adding c.args.self c.args.o (to_z w128 (of_z w128 c.self.inside.num))
     (to_z w128 (of_z w128 c.o.inside.num)) c.self.inside.den c.o.inside.den c.gcd-common.result
     c.quotient-by_left.result c.quotient-by_right.result
-adding c = record {
-  left = IsFraction-seen _ _ c.self.invariant c.self.view_is;
-  right = IsFraction-seen _ _ c.o.invariant c.o.view_is;
-  left_num = num_seen _ _ c.self.invariant c.self.view_is;
-  right_num = num_seen _ _ c.o.invariant c.o.view_is;
-  left_den = den_seen _ _ c.self.view_is;
-  right_den = den_seen _ _ c.o.view_is;
-  gcd = c.gcd-common.ensures;
-  left_by = c.quotient-by_left.ensures;
-  right_by = c.quotient-by_right.ensures;
-}
+adding c = grind arith
 
 pub quotient-by_left-requires : goal.quotient-by_left-requires
 quotient-by_left-requires c = pos_of_dvd_of_pos c.gcd-common.ensures.1 c.o.invariant.den_above_zero
@@ -68,10 +58,7 @@ pub quotient-by_right-requires : goal.quotient-by_right-requires
 quotient-by_right-requires c = pos_of_dvd_of_pos c.gcd-common.ensures.1 c.o.invariant.den_above_zero
 
 num_back : (c : In_ok-num-2) → to_z w128 (of_z w128 c.in_ok-num-2.num) ≡ c.in_ok-num-2.num
-num_back c =
-    let is = c.in_ok-num-2.ensures in
-    let within = subst IsWithin (sym is.1) is.0.sum in
-    to_z-of_z w128 c.in_ok-num-2.num (fits_signed_from_abs w128 c.in_ok-num-2.num within)
+num_back c = grind arith
 
 pub reduced-requires-2-clause-den_above_zero : goal.reduced-requires-2-clause-den_above_zero
 reduced-requires-2-clause-den_above_zero c =

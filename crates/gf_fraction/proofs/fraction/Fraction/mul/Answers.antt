@@ -1,14 +1,12 @@
-use Rattle.std.proofs.Common.{◌≡◌, ◌∙◌, ap, subst, pos, not, to_z, of_z, ◌*◌, ◌^◌, ◌<◌}
-use Rattle.std.specs.Prelude.{unsigned_abs, int_lt, FitsSigned}
+use Rattle.std.proofs.Common.{◌≡◌, subst, pos, not, to_z, of_z, ◌*◌, ◌^◌, ◌<◌}
+use Rattle.std.specs.Prelude.{int_lt}
 use Rattle.std.specs.Int.{w128}
-use Rattle.std.proofs.lemmas.Int.{to_z-of_z}
 use Rattle.std.proofs.Common.{rules, arith}
 use Rattle.std.proofs.lemmas.Result.{MatchResult-from_err}
 use mathlib.Core.Bool.{beq}
 use Rattle.gf_fraction.specs.Fits.{ProductFits}
 use Rattle.gf_fraction.specs.Ratio.{IsFraction, signed}
 use Rattle.gf_fraction.proofs.Divisors.{HoldsCommon-self}
-use Rattle.gf_fraction.proofs.FractionFields.{IsFraction-seen, num_seen, den_seen}
 use Rattle.gf_fraction.proofs.Products.{Multiplying, product_fraction}
 use Rattle.gf_fraction.proofs.Products.{product_value, product_within}
 use Rattle.gf_fraction.proofs.fraction.Fraction.mul.Goals as goal
@@ -23,29 +21,12 @@ lowest-right-requires c = HoldsCommon-self _ _ c.self.invariant.den_above_zero
 multiplying : (c : After-lowest-right) → Multiplying c.args.self c.args.o c.unsigned_abs.result
     c.unsigned_abs-2.result c.self.inside.den c.o.inside.den c.lowest-left.result.0
     c.lowest-left.result.1 c.lowest-right.result.0 c.lowest-right.result.1
-multiplying c = record {
-  left = IsFraction-seen _ _ c.self.invariant c.self.view_is;
-  right = IsFraction-seen _ _ c.o.invariant c.o.view_is;
-  left_size =
-      c.unsigned_abs.ensures.value ∙ ap unsigned_abs (num_seen _ _ c.self.invariant c.self.view_is);
-  right_size =
-      c.unsigned_abs-2.ensures.value ∙ ap unsigned_abs (num_seen _ _ c.o.invariant c.o.view_is);
-  left_den = den_seen _ _ c.self.view_is;
-  right_den = den_seen _ _ c.o.view_is;
-  first = c.lowest-left.ensures;
-  second = c.lowest-right.ensures;
-}
+multiplying c = grind arith
 
 num_is : (c : After-with_sign) → to_z w128 (of_z w128 c.with_sign.result)
     ≡ signed (not (beq (int_lt c.args.self.num (pos 0)) (int_lt c.args.o.num (pos 0))))
     (c.lowest-left.result.0 * c.lowest-right.result.0)
-num_is c =
-    let fits : FitsSigned w128 c.with_sign.result = record { sfits = c.with_sign.type_inv } in
-    let left = num_seen _ _ c.self.invariant c.self.view_is in
-    let right = num_seen _ _ c.o.invariant c.o.view_is in
-    to_z-of_z w128 c.with_sign.result fits ∙ c.with_sign.ensures
-    ∙ (λ i. signed (not (beq (int_lt (left i) (pos 0)) (int_lt (right i) (pos 0))))
-    (c.in_ok-size.ensures.0 i))
+num_is c = grind arith
 
 fraction : (c : After-with_sign)
     → IsFraction (record { num = to_z w128 (of_z w128 c.with_sign.result); den = c.in_ok-den.den })

@@ -1,7 +1,5 @@
-use Rattle.std.proofs.Common.{◌≡◌, ◌∙◌, arith, ap, sym, subst, to_z, of_z}
-use Rattle.std.specs.Prelude.{FitsSigned}
+use Rattle.std.proofs.Common.{◌≡◌, arith, sym, subst, to_z, of_z}
 use Rattle.std.specs.Int.{w128}
-use Rattle.std.proofs.lemmas.Int.{to_z-of_z}
 use Rattle.gf_fraction.specs.Ratio.{Ratio, IsFraction, signed}
 use Rattle.gf_fraction.specs.Steps.{IsLowest}
 use Rattle.gf_fraction.proofs.LowestTerms.{fraction_from}
@@ -12,13 +10,7 @@ made c = record { num = to_z w128 (of_z w128 c.with_sign.result); den = c.from-2
 
 made_is : (c : goal.After-from-2)
     → made c ≡ record { num = signed c.args.negative c.args.num; den = c.args.den }
-made_is c =
-    let fits : FitsSigned w128 c.with_sign.result = record { sfits = c.with_sign.type_inv } in
-    let num : to_z w128 (of_z w128 c.with_sign.result) ≡ signed c.args.negative c.args.num =
-    to_z-of_z w128 c.with_sign.result fits
-    ∙ c.with_sign.ensures
-    ∙ ap (signed c.args.negative) c.from.ensures in
-    (λ i. record { num = num i; den = c.from-2.ensures i })
+made_is c = grind arith
 
 fraction : (c : goal.After-from-2) → IsFraction (made c)
 fraction c =

@@ -1,4 +1,5 @@
-use Rattle.std.proofs.Common.{◌≡◌, ◌∙◌, ℕ, List, Bool, ap, sym, subst, Some}
+use Rattle.std.proofs.Common.{arith}
+use Rattle.std.proofs.Common.{◌≡◌, ◌∙◌, ℕ, List, Bool, ap, sym, Some}
 use Rattle.std.proofs.lemmas.Result.{MatchResult-weaker}
 use Rattle.gf_fraction.specs.NumberScan.{after_sign, is_minus, scan}
 use Rattle.gf_fraction.specs.declared.read.Spelling.{Spelling}
@@ -9,9 +10,7 @@ use Rattle.gf_fraction.proofs.fraction.Fraction.read.Goals as goal
 -- what is found after the sign
 found : (text rest : List ℕ) (negative : Bool) (s : Spelling) → negative ≡ is_minus text
     → rest ≡ after_sign text → scan rest ≡ Some s → FoundNumber text negative s
-found text rest negative s sign behind scanned =
-    subst (λ b. FoundNumber text b s) (sym sign)
-    (found_number text s (ap scan (sym behind) ∙ scanned))
+found text rest negative s sign behind scanned = grind (arith, found_number)
 
 pub returns-in-Some-scan : goal.returns-in-Some-scan
 returns-in-Some-scan c =

@@ -1,5 +1,6 @@
+use Rattle.std.proofs.Common.{arith}
 use Rattle.std.proofs.Common.{◌≡◌, pos, ap, ◌∙◌, to_z, of_z}
-use Rattle.std.specs.Prelude.{unsigned_abs, FitsSigned, int_lt}
+use Rattle.std.specs.Prelude.{unsigned_abs, int_lt}
 use Rattle.std.specs.Int.{w128}
 use Rattle.std.proofs.lemmas.Int.{to_z-of_z}
 use Rattle.gf_fraction.specs.Ratio.{IsFraction, signed}
@@ -8,11 +9,7 @@ use Rattle.gf_fraction.proofs.fraction.Fraction.reduced.Goals as goal
 
 num_is : (c : goal.After-with_sign) → to_z w128 (of_z w128 c.with_sign.result)
     ≡ signed (int_lt c.args.num (pos 0)) c.lowest-size.result.0
-num_is c =
-    let fits : FitsSigned w128 c.with_sign.result = record { sfits = c.with_sign.type_inv } in
-    to_z-of_z w128 c.with_sign.result fits ∙ c.with_sign.ensures
-    ∙ ap (λ z. signed (int_lt z (pos 0)) c.lowest-size.result.0)
-    (to_z-of_z w128 c.args.num c.ranges.num)
+num_is c = grind arith
 
 size_is : (c : goal.After-with_sign) → c.unsigned_abs.result ≡ unsigned_abs c.args.num
 size_is c = c.unsigned_abs.ensures.value ∙ ap unsigned_abs (to_z-of_z w128 c.args.num c.ranges.num)
