@@ -1,8 +1,7 @@
 -- The answer for a text, from what the scan of it finds: capped numbers keep its value and its
 -- fault.
-use Rattle.std.proofs.Common.{◌≡◌, ℕ, ℤ, ◌<◌, ◌≤◌, Bool, List, []}
+use Rattle.std.proofs.Common.{◌≡◌, ℕ, ◌<◌, Bool, List, []}
 use Rattle.std.proofs.Common.{◌∷◌, ◌++◌, length, Some, None, arith, refl, ap, ◌∙◌}
-use Rattle.std.specs.Prelude.{unsigned_abs}
 use Rattle.gf_fraction.specs.Ratio.{Ratio}
 use Rattle.gf_fraction.specs.NumberSpelling.{Reading, IsPlain, HasShape, Spells}
 use Rattle.gf_fraction.specs.NumberSpelling.{IsNumber, HasNumberFault, IsBounded, den_of}
@@ -44,13 +43,6 @@ scan_spelled text negative reading h =
     )
 
 -- within the bounds nothing is capped
-
-exponent_kept : (z : ℤ) → unsigned_abs z ≤ 38 → capped_exponent z ≡ z
-exponent_kept z h = grind arith
-
-exponent_held : (z : ℤ) → unsigned_abs (capped_exponent z) ≤ 38 → capped_exponent z ≡ z
-exponent_held z h = grind arith
-
 pub bounded_kept : (r : Reading) → IsBounded r → reading_of (held r) ≡ r
 bounded_kept r h = grind arith
 

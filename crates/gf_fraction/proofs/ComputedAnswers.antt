@@ -3,11 +3,10 @@ use Rattle.std.proofs.Common.{◌≡◌, ℕ, ℤ, pos, ◌^◌, ◌<◌, Bool, 
 use Rattle.std.proofs.Common.{Some, None, Result, Ok, MatchResult, arith, refl, sym, subst}
 use Rattle.std.specs.Prelude.{◌≤ℤ◌}
 use Rattle.std.proofs.lemmas.Int.{ints}
-use Rattle.std.proofs.lemmas.Bool.{eqb-true, eqb-false}
 use Rattle.std.proofs.lemmas.Result.{MatchResult-weaker}
 use Rattle.gf_fraction.specs.Ratio.{Ratio}
 use Rattle.gf_fraction.specs.NumberSpelling.{Reading, Reads, IsNumber, IsBounded}
-use Rattle.gf_fraction.specs.NumberSpelling.{size_of, den_of, power_of_ten}
+use Rattle.gf_fraction.specs.NumberSpelling.{den_of, power_of_ten}
 use Rattle.gf_fraction.specs.NumberScan.{IsValueOf, HasReadingFault, scan}
 use Rattle.gf_fraction.specs.NumberScan.{after_sign, is_minus, reading_of}
 use Rattle.gf_fraction.specs.Computed.{is_bounded, value_of, answer_of, number_of}
@@ -20,9 +19,6 @@ use Rattle.gf_fraction.proofs.AnswersFromScans.{number_from_value, fault_from_re
 use Rattle.gf_fraction.proofs.ReadingBack.{one_answer}
 use Rattle.gf_fraction.proofs.ComputedArithmetic.{lowest_of-fraction, lowest_of-value}
 
-bounded_from : (r : Reading) → is_bounded r ≡ true → IsBounded r
-bounded_from r h = grind arith
-
 bounded_to : (r : Reading) → IsBounded r → is_bounded r ≡ true
 bounded_to r h = grind arith
 
@@ -32,24 +28,10 @@ power_within z h = grind (arith, pow_within, ints)
 den_within : (r : Reading) → IsBounded r → den_of r < 2 ^ 127
 den_within r h = grind (arith, power_within)
 
-size_within : (r : Reading) → IsBounded r → size_of r < 2 ^ 127
-size_within r h = grind arith
-
 value_is_computed : (negative : Bool) (r : Reading) → MatchResult (value_of negative r)
     (λ f. IsValueOf negative r f) (λ fault. HasReadingFault r fault)
 value_is_computed negative r =
-    grind (
-      arith,
-      eqb-true,
-      bounded_from,
-      eqb-false,
-      unsigned_abs-signed,
-      size_within,
-      lowest_of-fraction,
-      den_within,
-      lowest_of-value,
-      bounded_to,
-    )
+    grind (arith, unsigned_abs-signed, lowest_of-fraction, den_within, lowest_of-value, bounded_to)
 
 answer_is_computed : (text : List ℕ) (o : Option Spelling) → scan (after_sign text) ≡ o
     → Reads text (answer_of (is_minus text) o)

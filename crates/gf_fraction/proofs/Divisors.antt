@@ -1,14 +1,13 @@
 -- Common divisors, and numbers that have none except 1.
-use Rattle.std.proofs.Common.{◌%◌, ◌≡◌, ℕ, suc, zero, ◌+◌, ◌*◌, ◌/◌}
-use Rattle.std.proofs.Common.{◌<◌, arith, ap, sym, ◌∙◌, refl, subst}
+use Rattle.std.proofs.Common.{◌%◌, ◌≡◌, ℕ, suc, zero, ◌+◌, ◌*◌, ◌/◌, ◌<◌, arith, ap, sym, ◌∙◌, refl}
+use Rattle.std.proofs.Common.{subst}
 use Rattle.std.specs.Int.{IsGcd, ◌∣◌}
 use Rattle.std.proofs.lemmas.Nat.Gcd.{dvd_refl, dvd-zero, dvd_trans, IsGcd-from_zero}
 use Rattle.std.proofs.lemmas.Nat.Gcd.{IsGcd-from_mod, same_from_IsGcd}
-use Rattle.std.proofs.Math.Nat.{pos_of_dvd_of_pos, div-mul_cancel}
-use Rattle.std.proofs.Math.Nat.{mul-dvd-mul_right}
+use Rattle.std.proofs.Math.Nat.{pos_of_dvd_of_pos, div-mul_cancel, mul-dvd-mul_right}
 use Rattle.std.proofs.Math.Nat.{dvd_of_mul-dvd-mul_right, one-dvd, mod-add-div'}
-use Rattle.std.proofs.Math.Nat.{add-mul-mod_self_right, mod-eq_of_lt}
-use Rattle.std.proofs.Math.Nat.{mul-lt-mul_of_pos_right, mod-lt, dvd-mod_iff, dvd-mul_right}
+use Rattle.std.proofs.Math.Nat.{add-mul-mod_self_right, mod-eq_of_lt, mul-lt-mul_of_pos_right}
+use Rattle.std.proofs.Math.Nat.{mod-lt, dvd-mod_iff, dvd-mul_right}
 use Rattle.gf_fraction.specs.Steps.{HoldsCommon, IsLowest}
 
 pub IsGcd-one_right : (n : ℕ) → IsGcd n 1 1

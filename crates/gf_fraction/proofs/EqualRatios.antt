@@ -1,6 +1,5 @@
 -- A test of two ratios part by part decides whether they are equal.
-use Rattle.std.proofs.Common.{arith}
-use Rattle.std.proofs.Common.{◌≡◌, Bool, true, nat_eq}
+use Rattle.std.proofs.Common.{arith, ◌≡◌, Bool, true, nat_eq}
 use Rattle.std.specs.Prelude.{◌&&◌}
 use Rattle.std.specs.Bool.{Decides}
 use Rattle.std.specs.Ordering.{int_eq}

@@ -1,7 +1,7 @@
 -- A text spells what a scan finds in it.
-use Rattle.std.proofs.Common.{◌≡◌, ℕ, ℤ, pos, ◌<◌, min, Bool, true, false, List}
-use Rattle.std.proofs.Common.{[], ◌∷◌, ◌++◌, length, Option, Some, None, arith}
-use Rattle.std.proofs.Common.{refl, ap, sym, ◌∙◌, subst, inl, inr, append_assoc}
+use Rattle.std.proofs.Common.{◌≡◌, ℕ, ℤ, pos, ◌<◌, min, Bool, true, false, List, [], ◌∷◌, ◌++◌}
+use Rattle.std.proofs.Common.{length, Option, Some, None, arith, refl, ap, sym, ◌∙◌, subst, inl}
+use Rattle.std.proofs.Common.{inr, append_assoc}
 use Rattle.std.specs.Prelude.{◌==◌, ◌||◌, ◌&&◌, ◌⊎◌, nat_lt, if◌then◌else◌, option_map}
 use Rattle.std.specs.Str.Parse.{AllDigits, IsNumeral, digits_value}
 use Rattle.std.proofs.lemmas.List.{append-nil}
@@ -19,9 +19,8 @@ use Rattle.gf_fraction.specs.declared.read.Spelling.{Spelling}
 use Rattle.gf_fraction.specs.declared.read.Spelling.TheVariants.{Decimal, Rational}
 use Rattle.gf_fraction.proofs.LeadingDigits.{leading_behind, capped-after}
 use Rattle.gf_fraction.proofs.SpelledIsFound.{AllDigits-leading, AllDigits-append}
-use Rattle.gf_fraction.proofs.SpelledIsFound.{digits_value_after-append}
-use Rattle.gf_fraction.proofs.SpelledIsFound.{held, capped_exponent, capped_exponent-signed}
-use Rattle.gf_fraction.proofs.SpelledIsFound.{exponent_if, rational_if}
+use Rattle.gf_fraction.proofs.SpelledIsFound.{digits_value_after-append, held, capped_exponent}
+use Rattle.gf_fraction.proofs.SpelledIsFound.{capped_exponent-signed, exponent_if, rational_if}
 
 -- a sign, or none, and the rest
 pub record HasSign (text : List ℕ) : Type 0 where

@@ -1,6 +1,5 @@
 -- What a method knows about a fraction by its fields, stated for the ratio that clauses see.
-use Rattle.std.proofs.Common.{arith}
-use Rattle.std.proofs.Common.{◌≡◌, ap, subst, to_z, of_z}
+use Rattle.std.proofs.Common.{arith, ◌≡◌, ap, subst, to_z, of_z}
 use Rattle.std.specs.Int.{w128}
 use Rattle.gf_fraction.specs.Ratio.{Ratio, IsFraction}
 

@@ -1,6 +1,5 @@
 -- Laws of ℤ that std lacks, and sizes with a sign.
-use Rattle.std.proofs.Common.{◌≡◌, ℕ, ℤ, pos, ◌+◌, ◌*◌, ◌<◌}
-use Rattle.std.proofs.Common.{Bool, not, arith, ap, sym, ◌∙◌}
+use Rattle.std.proofs.Common.{◌≡◌, ℕ, ℤ, pos, ◌+◌, ◌*◌, ◌<◌, Bool, not, arith, ap, sym, ◌∙◌}
 use Rattle.std.specs.Prelude.{◌*ℤ◌, ◌+ℤ◌, unsigned_abs, int_lt}
 use Rattle.std.proofs.Math.IntN.{*ℤ_comm}
 use mathlib.Core.Bool.{beq}

@@ -1,6 +1,6 @@
 -- The digits at the head of a text: their value, how many there are, and what follows them.
 use Rattle.std.proofs.Common.{◌≡◌, ℕ, ◌+◌, ◌-◌, ◌*◌, ◌<◌, ◌≤◌, true}
-use Rattle.std.proofs.Common.{false, List, [], ◌∷◌, ◌++◌, length, get_or, drop}
+use Rattle.std.proofs.Common.{List, [], ◌∷◌, ◌++◌, length, get_or, drop}
 use Rattle.std.proofs.Common.{arith, refl, ap, sym, ◌∙◌, add-one, length-append}
 use Rattle.std.specs.Char.{digit_value, is_ascii_digit}
 use Rattle.std.specs.Str.Parse.{digits_value_after}
@@ -19,13 +19,6 @@ leading_value-digit v c cs h = grind arith
 
 pub behind-digit : (c : ℕ) (cs : List ℕ) → is_ascii_digit c ≡ true → behind (c ∷ cs) ≡ behind cs
 behind-digit c cs h = rw h
-
-pub leading_value-other : (v c : ℕ) (cs : List ℕ) → is_ascii_digit c ≡ false
-    → leading_value v (c ∷ cs) ≡ v
-leading_value-other v c cs h = rw h
-
-pub behind-other : (c : ℕ) (cs : List ℕ) → is_ascii_digit c ≡ false → behind (c ∷ cs) ≡ c ∷ cs
-behind-other c cs h = rw h
 
 -- the same at a place of a text
 module _ (text : List ℕ) (i : ℕ) (within : i < length text) where
@@ -46,13 +39,6 @@ module _ (text : List ℕ) (i : ℕ) (within : i < length text) where
   pub behind-drop : is_ascii_digit (get_or text i 0) ≡ true
       → behind (drop i text) ≡ behind (drop (i + 1) text)
   behind-drop h = ap behind at ∙ behind-digit here more h
-
-  pub leading_value-stop : (v : ℕ) → is_ascii_digit (get_or text i 0) ≡ false
-      → leading_value v (drop i text) ≡ v
-  leading_value-stop v h = ap (leading_value v) at ∙ leading_value-other v here more h
-
-  pub behind-stop : is_ascii_digit (get_or text i 0) ≡ false → behind (drop i text) ≡ drop i text
-  behind-stop h = ap behind at ∙ behind-other here more h ∙ sym at
 
 -- too large stays too large, so a value may be capped at each digit
 pub capped-after : (n : ℕ) (ds : List ℕ)

@@ -1,7 +1,6 @@
 -- Ratios in lowest terms: when they are fractions, which value they have, and that no other ratio
 -- has it.
-use Rattle.std.proofs.Common.{◌≡◌, ℕ, ℤ, Bool, pos, ◌*◌, ◌^◌}
-use Rattle.std.proofs.Common.{◌<◌, ◌≤◌, arith, ap, sym, ◌∙◌, subst}
+use Rattle.std.proofs.Common.{◌≡◌, ℕ, ℤ, Bool, pos, ◌*◌, ◌^◌, ◌<◌, ◌≤◌, arith, ap, sym, ◌∙◌, subst}
 use Rattle.std.specs.Prelude.{◌*ℤ◌, unsigned_abs, int_lt}
 use Rattle.std.specs.Int.{IsGcd, ◌∣◌}
 use Rattle.std.proofs.lemmas.Int.{unsigned_abs-mul}
@@ -10,8 +9,8 @@ use Rattle.std.proofs.Math.Nat.{dvd-mul_left, le-mul_of_pos_right}
 use Rattle.gf_fraction.specs.Ratio.{Ratio, IsFraction, IsWithin, HasValue, signed}
 use Rattle.gf_fraction.specs.Steps.{IsLowest}
 use Rattle.gf_fraction.proofs.Divisors.{dvd_of_dvd-mul}
-use Rattle.gf_fraction.proofs.Integers.{unsigned_abs-signed, signed-unsigned_abs}
-use Rattle.gf_fraction.proofs.Integers.{signed-*, *ℤ_right_comm, *ℤ-cancel_right}
+use Rattle.gf_fraction.proofs.Integers.{unsigned_abs-signed, signed-unsigned_abs, signed-*}
+use Rattle.gf_fraction.proofs.Integers.{*ℤ_right_comm, *ℤ-cancel_right}
 
 -- a product above zero has parts above zero
 pub mul_pos_left : (p q n : ℕ) → p * q ≡ n → 0 < n → 0 < p

@@ -1,6 +1,5 @@
 -- Products: their value, and when they fit.
-use Rattle.std.proofs.Common.{◌≡◌, ℕ, ℤ, Bool, pos, not, ◌*◌}
-use Rattle.std.proofs.Common.{◌^◌, ◌<◌, arith, ap, sym, ◌∙◌, subst}
+use Rattle.std.proofs.Common.{◌≡◌, ℕ, ℤ, Bool, pos, not, ◌*◌, ◌^◌, ◌<◌, arith, ap, sym, ◌∙◌, subst}
 use Rattle.std.specs.Prelude.{◌*ℤ◌, unsigned_abs, int_lt}
 use Rattle.std.specs.Int.{IsGcd, ◌∣◌}
 use Rattle.std.proofs.lemmas.Nat.Gcd.{IsGcd-swap}
@@ -10,10 +9,10 @@ use Rattle.gf_fraction.specs.Ratio.{Ratio, IsFraction, signed}
 use Rattle.gf_fraction.specs.Fits.{IsProduct, ProductFits}
 use Rattle.gf_fraction.specs.Steps.{IsLowest}
 use Rattle.gf_fraction.proofs.Divisors.{coprime-mul, coprime_parts}
-use Rattle.gf_fraction.proofs.Integers.{unsigned_abs-signed, signed-unsigned_abs}
-use Rattle.gf_fraction.proofs.Integers.{signed-*, signed-*ℤ}
-use Rattle.gf_fraction.proofs.LowestTerms.{IsLowestRatio, IsLowestRatio-fraction}
-use Rattle.gf_fraction.proofs.LowestTerms.{one_lowest, mul_pos_left}
+use Rattle.gf_fraction.proofs.Integers.{unsigned_abs-signed, signed-unsigned_abs, signed-*}
+use Rattle.gf_fraction.proofs.Integers.{signed-*ℤ}
+use Rattle.gf_fraction.proofs.LowestTerms.{IsLowestRatio, IsLowestRatio-fraction, one_lowest}
+use Rattle.gf_fraction.proofs.LowestTerms.{mul_pos_left}
 
 pub mul_above : (m n : ℕ) → 0 < m → 0 < n → 0 < m * n
 mul_above m n h h' = grind arith

@@ -1,7 +1,6 @@
 -- A text has one answer, and what is written for a fraction reads back to it.
-use Rattle.std.proofs.Common.{◌≡◌, ℕ, ℤ, pos, negsuc, suc, ◌^◌, ◌<◌, ◌≤◌, Bool}
-use Rattle.std.proofs.Common.{true, false, List, [], ◌∷◌, ◌++◌, Result}
-use Rattle.std.proofs.Common.{arith, refl, ap, sym, ◌∙◌, subst, append_assoc}
+use Rattle.std.proofs.Common.{◌≡◌, ℕ, ℤ, pos, negsuc, suc, ◌^◌, ◌<◌, ◌≤◌, Bool, true, false, List}
+use Rattle.std.proofs.Common.{[], ◌∷◌, ◌++◌, Result, arith, refl, ap, sym, ◌∙◌, subst, append_assoc}
 use Rattle.std.specs.Prelude.{◌*ℤ◌, unsigned_abs, decimal as digits}
 use Rattle.std.specs.Fmt.{signed_decimal}
 use Rattle.std.specs.Str.Parse.{IsNumeral, digits_value}
@@ -18,12 +17,12 @@ use Rattle.gf_fraction.specs.NumberSpelling.HasShape.{plain, fraction}
 use Rattle.gf_fraction.specs.NumberText.{number_text}
 use Rattle.gf_fraction.specs.NumberScan.{reading_of}
 use Rattle.gf_fraction.specs.declared.fraction.NumberFault.{NumberFault}
-use Rattle.gf_fraction.specs.declared.fraction.NumberFault.TheVariants.{NotANumber}
-use Rattle.gf_fraction.specs.declared.fraction.NumberFault.TheVariants.{ZeroDenominator, TooLarge}
+use Rattle.gf_fraction.specs.declared.fraction.NumberFault.TheVariants.{NotANumber, ZeroDenominator}
+use Rattle.gf_fraction.specs.declared.fraction.NumberFault.TheVariants.{TooLarge}
 use Rattle.gf_fraction.proofs.LowestTerms.{one_fraction}
 use Rattle.gf_fraction.proofs.SpelledIsFound.{held}
-use Rattle.gf_fraction.proofs.AnswersFromScans.{scan_spelled, bounded_kept}
-use Rattle.gf_fraction.proofs.AnswersFromScans.{bounded_held, zero_held, zero_kept}
+use Rattle.gf_fraction.proofs.AnswersFromScans.{scan_spelled, bounded_kept, bounded_held, zero_held}
+use Rattle.gf_fraction.proofs.AnswersFromScans.{zero_kept}
 
 -- two readings of one text agree but for what is too large
 module _ (text : List ℕ) (m n : Bool) (x y : Reading) (hx : Spells text m x)

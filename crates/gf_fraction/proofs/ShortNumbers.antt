@@ -1,7 +1,7 @@
 -- Short numbers: what is read of a text one part at a time spells a number.
-use Rattle.std.proofs.Common.{Bool, ◌≡◌, ℕ, pos, ◌+◌, ◌-◌, ◌*◌, ◌^◌, ◌<◌, ◌≤◌, true, List}
-use Rattle.std.proofs.Common.{[], ◌∷◌, ◌++◌, length, get_or, take, drop, arith, lit<, refl, ap, sym}
-use Rattle.std.proofs.Common.{◌∙◌, subst, append_assoc, length-append}
+use Rattle.std.proofs.Common.{Bool, ◌≡◌, ℕ, pos, ◌+◌, ◌-◌, ◌*◌, ◌^◌, ◌<◌, ◌≤◌, true, List, [], ◌∷◌}
+use Rattle.std.proofs.Common.{◌++◌, length, get_or, take, drop, arith, lit<, refl, ap, sym, ◌∙◌}
+use Rattle.std.proofs.Common.{subst, append_assoc, length-append}
 use Rattle.std.specs.Char.{digit_value, is_ascii_digit}
 use Rattle.std.specs.Str.Parse.{AllDigits, IsNumeral, digits_value, digits_value_after}
 use Rattle.std.specs.Prelude.{◌-ℤ◌}
@@ -11,9 +11,8 @@ use Rattle.std.proofs.Math.Seq.{take-append_seam}
 use Rattle.gf_fraction.specs.Ratio.{Ratio, IsFraction, HasValue, signed}
 use Rattle.gf_fraction.specs.Steps.{IsLowest}
 use Rattle.gf_fraction.specs.NumberSpelling.{HasShape, IsNumber, IsSign, size_of, den_of}
-use Rattle.gf_fraction.specs.NumberSpelling.{scaled_digits, power_of_ten}
+use Rattle.gf_fraction.specs.NumberSpelling.{scaled_digits, power_of_ten, IsPlain}
 use Rattle.gf_fraction.specs.NumberSpelling.Reading.{decimal, rational}
-use Rattle.gf_fraction.specs.NumberSpelling.{IsPlain}
 use Rattle.gf_fraction.specs.NumberSpelling.HasShape.{plain, fraction}
 use Rattle.gf_fraction.specs.NumberScan.{AreRead, Completes, after_sign}
 use Rattle.gf_fraction.specs.ShortNumber.{EndsDigits, IsLeft, IsReadOn}
@@ -156,10 +155,6 @@ decimal_left n v places text behind rest point h count many =
     (many_places h.digits rest h.run (omega (arith, long, count, many)))
 
 -- ---- the number
-
-pub read_within : (n v : ℕ) (text rest : List ℕ) → AreRead n text v rest
-    → length rest ≤ length text
-read_within n v text rest h = grind (arith, length-append)
 
 pub completed_number : (sign digits text rest : List ℕ) (negative : Bool) (n p q len : ℕ)
     (r : Ratio) → IsSign sign negative → IsNumeral 10 digits → digits_value 10 digits ≡ n

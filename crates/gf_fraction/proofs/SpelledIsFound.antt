@@ -1,7 +1,7 @@
 -- If a text has one of the shapes, the scan of it finds what the text says, capped.
-use Rattle.std.proofs.Common.{◌≡◌, ℕ, ℤ, pos, negsuc, suc, ◌+◌, ◌*◌, ◌<◌, min}
-use Rattle.std.proofs.Common.{Bool, true, false, List, [], ◌∷◌, ◌++◌, length, Option, Some, None}
-use Rattle.std.proofs.Common.{arith, refl, ap, sym, ◌∙◌, subst, inl, inr, append_assoc}
+use Rattle.std.proofs.Common.{◌≡◌, ℕ, ℤ, pos, negsuc, suc, ◌+◌, ◌*◌, ◌<◌, min, Bool, true, false}
+use Rattle.std.proofs.Common.{List, [], ◌∷◌, ◌++◌, length, Option, Some, None, arith, refl, ap, sym}
+use Rattle.std.proofs.Common.{◌∙◌, subst, inl, inr, append_assoc}
 use Rattle.std.proofs.lemmas.List.{append-nil}
 use Rattle.std.specs.Prelude.{◌==◌, ◌||◌, ◌⊎◌, nat_lt, neg_ℤ, if◌then◌else◌}
 use Rattle.std.specs.Char.{digit_value, is_ascii_digit}
@@ -13,9 +13,8 @@ use Rattle.gf_fraction.specs.NumberSpelling.{Reading, IsSign, IsPlain, IsExponen
 use Rattle.gf_fraction.specs.NumberSpelling.Reading.{decimal, rational}
 use Rattle.gf_fraction.specs.NumberSpelling.IsPlain.{whole, pointed}
 use Rattle.gf_fraction.specs.NumberSpelling.HasShape.{plain, raised, fraction}
-use Rattle.gf_fraction.specs.NumberScan.{capped, leading, behind}
-use Rattle.gf_fraction.specs.NumberScan.{is_minus, after_sign, scan, scan_rest, scan_decimal}
-use Rattle.gf_fraction.specs.NumberScan.{scan_end, scan_exponent}
+use Rattle.gf_fraction.specs.NumberScan.{capped, leading, behind, is_minus, after_sign, scan}
+use Rattle.gf_fraction.specs.NumberScan.{scan_rest, scan_decimal, scan_end, scan_exponent}
 use Rattle.gf_fraction.specs.declared.read.Spelling.{Spelling}
 use Rattle.gf_fraction.specs.declared.read.Spelling.TheVariants.{Decimal, Rational}
 use Rattle.gf_fraction.proofs.LeadingDigits.{capped-after}

@@ -1,7 +1,6 @@
 -- Whole numbers and parts of one within the bound are fractions, and a sign and digits spell whole
 -- numbers.
-use Rattle.std.proofs.Common.{ℕ, pos, ◌^◌, ◌<◌, ◌++◌, Bool, true, false, List, [], arith}
-use Rattle.std.proofs.Common.{lit<}
+use Rattle.std.proofs.Common.{ℕ, pos, ◌^◌, ◌<◌, ◌++◌, Bool, true, false, List, [], arith, lit<}
 use Rattle.std.proofs.Common.{refl}
 use Rattle.std.specs.Prelude.{codes, unsigned_abs}
 use Rattle.std.specs.Int.{IsGcd}

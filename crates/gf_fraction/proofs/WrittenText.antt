@@ -16,9 +16,6 @@ use Rattle.gf_fraction.specs.NumberText.{number_text}
 abbrev pub under_text : ℕ → List ℕ
 under_text d = if d == 1 then [] else codes "/" ++ decimal d
 
-pub under_one : (d : ℕ) → d ≡ 1 → [] ≡ under_text d
-under_one d e = rw e refl
-
 pub under_above : (d : ℕ) → (d ≡ 1 → ⊥) → 47 ∷ decimal d ≡ under_text d
 under_above d h = sym (ap (λ b. if b then [] else codes "/" ++ decimal d) (ne_eqb d 1 h))
 

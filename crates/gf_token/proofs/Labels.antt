@@ -12,9 +12,6 @@ last_of : ℕ → List ℕ → ℕ
 last_of before [] = before
 last_of before (b ∷ bytes) = last_of b bytes
 
-quote_escaped : (before : ℕ) → (not (34 == 34) || before == 92) ≡ true → before ≡ 92
-quote_escaped before h = grind (arith, nat_tests)
-
 quotes_escaped : (bytes front back : List ℕ) (before : ℕ) → is_spelling_after before bytes ≡ true
     → bytes ≡ front ++ 34 ∷ back → last_of before front ≡ 92
 unfolding last_of

@@ -101,10 +101,6 @@ module _ (Holds : Why → Type 0) (IsDue : What → Type 0) where
   abbrev NoneHolds : Type 0
   NoneHolds = (why : Why) → ¬ (Holds why)
 
-  expected_or_lowest : (why : Why) → IsReason Holds IsDue why
-      → ((code_of why ≡ 3) × NoneHolds) ⊎ Lowest why
-  expected_or_lowest why h = grind arith
-
   pub one_code : (why other : Why) → IsReason Holds IsDue why → IsReason Holds IsDue other
       → code_of why ≡ code_of other
   one_code why other h k = grind arith

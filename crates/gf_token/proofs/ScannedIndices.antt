@@ -1,22 +1,16 @@
 -- The digits of an index, one by one, if they are read while their end is looked for.
 use Rattle.std.proofs.Common.{[], ◌≡◌, ℕ, ◌+◌, ◌-◌, ◌*◌, ◌<◌, ◌≤◌, ◌^◌, true, List, length, take}
-use Rattle.std.proofs.Common.{drop}
-use Rattle.std.proofs.Common.{get_or, Some, None, sym, ap, subst, arith}
+use Rattle.std.proofs.Common.{drop, get_or, Some, None, sym, ap, subst, arith}
 use Rattle.std.specs.Prelude.{nat_lt, slice_range, if◌then◌else◌}
 use Rattle.std.specs.Char.{digit_value, is_ascii_digit}
 use Rattle.std.specs.Str.Parse.{AllDigits, digits_value}
 use Rattle.std.proofs.Math.Nat.{pow-le-pow_right}
-use Rattle.std.proofs.lemmas.Bool.Decides.{nat_tests}
 use Rattle.std.proofs.lemmas.Int.Digits.{digits_more, digits_value_more, digits_value-lt}
 use Rattle.std.proofs.lemmas.List.{get_or-drop, length-drop, length-take-le}
 use Rattle.gf_fraction.proofs.SpelledIsFound.{digit_from_ascii}
-use Rattle.gf_token.specs.Byte.{is_bare}
 use Rattle.gf_token.specs.Indices.{index_of}
 use Rattle.gf_token.specs.inner.Finding.{EndsDigits}
 use Rattle.gf_token.proofs.ReadingIndices.{numeral_of}
-
-pub digit_is_bare : (b : ℕ) → is_ascii_digit b ≡ true → is_bare b ≡ true
-digit_is_bare b h = grind (arith, nat_tests)
 
 -- a digit more
 module _ (bytes : List ℕ) (start at : ℕ) (from : start ≤ at) (within : at < length bytes)

@@ -144,17 +144,6 @@ module _ (bytes : List ℕ) (start sign at value : ℕ)
       → (at + len < length bytes → is_bare (get_or bytes (at + len) 0) ≡ false)
       → FindsNumber bytes start (at + len) r
   number_found len r spelled within ends =
-      grind (
-        arith,
-        take_rest,
-        length-drop,
-        sign_of,
-        slice_more,
-        order,
-        parts,
-        finds_number,
-        is_sign_of,
-        numeral,
-      )
+      grind (arith, take_rest, length-drop, slice_more, parts, finds_number, is_sign_of, numeral)
 
 pub ruleset index_steps = (digits_found, scanned)

@@ -47,11 +47,6 @@ bare_again (b ∷ bs) acc rest start at h =
     ∙ ap (λ (x : List ℕ). lex (InBare start x) (at + suc (length bs)) rest)
     (append_assoc acc (b ∷ []) bs))
 
-bare_ends : (text rest : List ℕ) (start at : ℕ) → MayPrecede (Bare text) rest
-    → lex (InBare start text) at rest ≡ lexeme start at (Bare text) ∷ lex Gap at rest
-unfolding lex
-bare_ends text rest start at h = grind arith
-
 -- a byte of a label does not close it, and a byte that does not close it may be one of its bytes
 goes_on : (quote escaped : Bool) → (not quote || escaped) ≡ true → (quote && not escaped) ≡ false
 goes_on quote escaped h = grind arith
@@ -101,16 +96,7 @@ pub token_again : (t : Token) (at : ℕ) (rest : List ℕ) (others : List Lexeme
     → lex Gap at (spelling t ++ rest) ≡ lexeme at (at + length (spelling t)) t ∷ others
 unfolding lex
 token_again t at rest others h s k =
-    grind (
-      arith,
-      length-append,
-      append_assoc,
-      text_again,
-      bare_out,
-      bare_again,
-      bare_ends,
-      text_breaks,
-    )
+    grind (arith, length-append, append_assoc, text_again, bare_again, text_breaks)
 
 goes_on_map : (t : Token) (others : List Lexeme) (A B : Type 0) → (A → B) → GoesOn t others A
     → GoesOn t others B
@@ -173,10 +159,6 @@ data Class (b : ℕ) : Type 0 where
   comma : b ≡ 44 → Class b
   quote : b ≡ 34 → Class b
   bare : is_bare b ≡ true → Class b
-
-class_by : (b : ℕ) (x y z v w : Bool) → is_space b ≡ x → (b == 123) ≡ y → (b == 125) ≡ z
-    → (b == 44) ≡ v → (b == 34) ≡ w → Class b
-class_by b x y z v w p q r s t = grind arith
 
 class_of : (b : ℕ) → Class b
 class_of b = grind arith

@@ -1,16 +1,14 @@
 -- What the byte at a place says about the token that begins there.
-use Rattle.std.proofs.Common.{arith}
-use Rattle.std.proofs.Common.{◌≡◌, ℕ, ◌+◌, ◌<◌, Bool, true, false, ◌==◌, ◌&&◌}
-use Rattle.std.proofs.Common.{not, List, [], ◌∷◌, ◌++◌, length, get_or, drop}
-use Rattle.std.proofs.Common.{refl, ap, ◌∙◌, if◌then◌else◌}
+use Rattle.std.proofs.Common.{arith, ◌≡◌, ℕ, ◌+◌, ◌<◌, Bool, true, false, ◌==◌, ◌&&◌, not, List, []}
+use Rattle.std.proofs.Common.{◌∷◌, ◌++◌, length, get_or, drop, refl, ap, ◌∙◌, if◌then◌else◌}
 use Rattle.std.proofs.lemmas.Bool.{cases_eq}
 use Rattle.gf_token.specs.Byte.{is_space, is_bare}
-use Rattle.gf_token.specs.Token.{Token, Lexeme, lexeme}
+use Rattle.gf_token.specs.Token.{Token, lexeme}
 use Rattle.gf_token.specs.Token.Token.{Opening, Closing, Comma, Text, Bare, Broken}
 use Rattle.gf_token.specs.inner.Lexing.{lex, ended, after, single, begins}
 use Rattle.gf_token.specs.inner.Lexing.Mode.{Gap, InText, InBare}
-use Rattle.gf_token.specs.Next.{starts, is_quoted, is_text_token, is_bare_token}
-use Rattle.gf_token.specs.Next.{is_opening, is_closing, is_comma}
+use Rattle.gf_token.specs.Next.{starts, is_quoted, is_text_token, is_bare_token, is_opening}
+use Rattle.gf_token.specs.Next.{is_closing, is_comma}
 use Rattle.gf_token.proofs.Steps.{lex_more, bare_out, bare_if, opening, closing, comma}
 
 -- what begins with a byte of a bare token is one
@@ -98,11 +96,6 @@ no_closing bytes at lt s q = grind (arith, not_in_front)
 pub no_comma : (bytes : List ℕ) (at : ℕ) → at < length bytes → is_space (get_or bytes at 0) ≡ false
     → (get_or bytes at 0 ≡ 44 → ⊥) → starts is_comma (lex Gap at (drop at bytes)) ≡ false
 no_comma bytes at lt s q = grind (arith, not_in_front)
-
--- an unterminated text
-pub broken_front : (test : Token → Bool) (ls : List Lexeme) (start end : ℕ)
-    → ls ≡ lexeme start end Broken ∷ [] → test Broken ≡ false → starts test ls ≡ false
-broken_front test ls start end e h = ap (starts test) e ∙ h
 
 pub ruleset starts_steps = (
   quoted,

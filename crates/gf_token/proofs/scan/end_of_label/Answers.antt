@@ -8,18 +8,14 @@ use Rattle.gf_token.specs.Token.{lexeme}
 use Rattle.gf_token.specs.Token.Token.{Text}
 use Rattle.gf_token.proofs.TextsOfLabels.{label_found, too_short, no_quote_before, no_quote_behind}
 use Rattle.gf_token.proofs.TextsOfLabels.{other_bytes}
-use Rattle.gf_token.proofs.scan.end_of_label.Goals.{
-  then-input-start-ne34-via-then-input-start-ne34,
-}
+use Rattle.gf_token.proofs.scan.end_of_label.Goals.{then-input-start-ne34-via-then-input-start-ne34}
 use Rattle.gf_token.proofs.scan.end_of_label.Goals.{
   then-input-start-ne34-via-else-input-start-ne34+then-input-text,
 }
 use Rattle.gf_token.proofs.scan.end_of_label.Goals.{
   else-input-quote-eq34-via-then-input-quote-eq34+else-eq,
 }
-use Rattle.gf_token.proofs.scan.end_of_label.Goals.{
-  else-input-quote-eq34-via-else-input-quote-eq34,
-}
+use Rattle.gf_token.proofs.scan.end_of_label.Goals.{else-input-quote-eq34-via-else-input-quote-eq34}
 use Rattle.gf_token.proofs.scan.end_of_label.Goals as goal
 
 pub returns-then-input-start-ne34 : goal.returns-then-input-start-ne34

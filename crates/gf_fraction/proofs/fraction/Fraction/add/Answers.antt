@@ -1,5 +1,4 @@
-use Rattle.std.proofs.Common.{arith}
-use Rattle.std.proofs.Common.{rules, ◌≡◌, ◌∙◌, to_z, of_z}
+use Rattle.std.proofs.Common.{arith, rules, ◌≡◌, ◌∙◌, to_z, of_z}
 use Rattle.std.specs.Int.{w128}
 use Rattle.std.proofs.lemmas.Int.{to_z-of_z, fits_signed_from_abs}
 use Rattle.std.proofs.lemmas.Result.{MatchResult-from_err}

@@ -1,14 +1,13 @@
-use Rattle.std.proofs.Common.{◌≡◌, subst, pos, not, to_z, of_z, ◌*◌, ◌^◌, ◌<◌}
+use Rattle.std.proofs.Common.{◌≡◌, subst, pos, not, to_z, of_z, ◌*◌, ◌^◌, ◌<◌, rules, arith}
 use Rattle.std.specs.Prelude.{int_lt}
 use Rattle.std.specs.Int.{w128}
-use Rattle.std.proofs.Common.{rules, arith}
 use Rattle.std.proofs.lemmas.Result.{MatchResult-from_err}
 use mathlib.Core.Bool.{beq}
 use Rattle.gf_fraction.specs.Fits.{ProductFits}
 use Rattle.gf_fraction.specs.Ratio.{IsFraction, signed}
 use Rattle.gf_fraction.proofs.Divisors.{HoldsCommon-self}
-use Rattle.gf_fraction.proofs.Products.{Multiplying, product_fraction}
-use Rattle.gf_fraction.proofs.Products.{product_value, product_within}
+use Rattle.gf_fraction.proofs.Products.{Multiplying, product_fraction, product_value}
+use Rattle.gf_fraction.proofs.Products.{product_within}
 use Rattle.gf_fraction.proofs.fraction.Fraction.mul.Goals as goal
 use Rattle.gf_fraction.proofs.fraction.Fraction.mul.Goals.{After-lowest-right, After-with_sign}
 

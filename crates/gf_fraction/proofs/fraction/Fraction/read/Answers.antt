@@ -1,5 +1,4 @@
-use Rattle.std.proofs.Common.{arith}
-use Rattle.std.proofs.Common.{◌≡◌, ◌∙◌, ℕ, List, Bool, ap, sym, Some}
+use Rattle.std.proofs.Common.{arith, ◌≡◌, ◌∙◌, ℕ, List, Bool, ap, sym, Some}
 use Rattle.std.proofs.lemmas.Result.{MatchResult-weaker}
 use Rattle.gf_fraction.specs.NumberScan.{after_sign, is_minus, scan}
 use Rattle.gf_fraction.specs.declared.read.Spelling.{Spelling}

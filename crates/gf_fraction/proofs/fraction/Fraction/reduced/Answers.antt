@@ -1,5 +1,4 @@
-use Rattle.std.proofs.Common.{arith}
-use Rattle.std.proofs.Common.{◌≡◌, pos, ap, ◌∙◌, to_z, of_z}
+use Rattle.std.proofs.Common.{arith, ◌≡◌, pos, ap, ◌∙◌, to_z, of_z}
 use Rattle.std.specs.Prelude.{unsigned_abs, int_lt}
 use Rattle.std.specs.Int.{w128}
 use Rattle.std.proofs.lemmas.Int.{to_z-of_z}
