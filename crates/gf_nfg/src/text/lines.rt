@@ -1,8 +1,7 @@
 //! The lines of payoffs of a canonical text, one for each profile.
 
-ghost use Rattle.std.specs.Prelude.{◌≡◌, ℕ, ◌+◌, ◌*◌, ◌<◌, ◌≤◌, ◌^◌, ◌++◌, IfOk};
-ghost use Rattle.std.specs.Prelude.{MatchOption, OnErr, OnOk, Some, length, map};
-ghost use Rattle.std.specs.Prelude.{slice_get, vec_capacity, vec_len};
+ghost use Rattle.std.specs.Prelude.{◌≡◌, ℕ, ◌*◌, ◌-◌, ◌<◌, ◌≤◌, [], ◌++◌, IfOk, OnErr, OnOk};
+ghost use Rattle.std.specs.Prelude.{Some, drop, get_or, length, map, slice_get, take};
 ghost use Rattle.std.specs.List.{AllByRecursion};
 ghost use Rattle.gf_fraction.specs.NumberText.{number_text};
 ghost use Rattle.gf_nfg.specs.Profiles.{numbers_from};
@@ -10,7 +9,7 @@ ghost use Rattle.gf_nfg.specs.TableParts.{kept_row};
 ghost use Rattle.gf_nfg.specs.TableText.{lines_text};
 ghost use Rattle.gf_nfg.specs.inner.TextParts.{Keeps, line_text, lines_with, others_text, row_text};
 
-use crate::table::pieces::piece;
+use crate::table::pieces::{piece, piece_at};
 use crate::table::rows::{Rows, Shared};
 use gf_fraction::Fraction;
 use std::alloc::{AllocError, Global};
@@ -43,6 +42,28 @@ fn write_row(payoffs: &[Fraction], out: &mut Vec<u8>) -> Result<(), AllocError>
             Ok(())
         }
     }
+}
+
+/// A copy of this many bytes, a length that is known, needs no call.
+const COPIED: usize = 48;
+
+/// Appends the bytes from `start` to `end`. If they are few, they are copied with those after them,
+/// which are then cut off.
+#[inline(always)]
+fn push_between(bytes: &[u8], start: usize, end: usize, out: &mut Vec<u8>) -> Result<(), AllocError>
+    requires ordered { start ≤ end }
+    requires within { end ≤ length bytes.now }
+    ensures text { OnOk result (out.new.items
+        ≡ out.old.items ++ take (end - start) (drop start bytes.now)) }
+    ensures kept { OnErr result (out.new.items ≡ out.old.items) }
+{
+    let len = end - start;
+    if len > COPIED || bytes.len() - start < COPIED {
+        return out.extend_from_slice(&bytes[start..end]);
+    }
+    out.extend_from_slice(&bytes[start..start + COPIED])?;
+    out.truncate(out.len() - (COPIED - len));
+    Ok(())
 }
 
 /// Lines, one after another, with the place where each ends.
@@ -90,37 +111,47 @@ impl Lines {
         piece(&self.text, &self.ends, number)
     }
 
-    /// How long the lines with these numbers are together, or `None` if that does not fit `usize`.
-    fn len_of(&self, numbers: &[u32]) -> Option<usize>
+    /// How much room it takes to append the lines with these numbers, one after another.
+    fn room(&self, numbers: &[u32]) -> usize
         requires { AllByRecursion (λ number. number < length self.now) numbers.now }
-        ensures { MatchOption result (2 ^ 64 ≤ length (lines_with self.now numbers.now))
-            (λ len. len ≡ length (lines_with self.now numbers.now)) }
     {
-        let mut len: usize = 0;
+        let mut room = COPIED;
         for number in numbers {
-            match len.checked_add(self.line(*number as usize).len()) {
-                Some(more) => len = more,
-                None => return None,
-            }
+            room = room.saturating_add(self.line(*number as usize).len());
         }
-        Some(len)
+        room
     }
 
-    /// Appends the lines with these numbers, for which there is room.
-    fn append(&self, numbers: &[u32], out: &mut Vec<u8>)
-        requires below { AllByRecursion (λ number. number < length self.now) numbers.now }
-        requires room { vec_len out.old + length (lines_with self.now numbers.now)
-            ≤ vec_capacity out.old }
-        ensures { out.new.items ≡ out.old.items ++ lines_with self.now numbers.now }
+    /// Appends the line with this number.
+    #[inline(always)]
+    fn append(&self, number: usize, out: &mut Vec<u8>) -> Result<(), AllocError>
+        requires { number < length self.now }
+        ensures text { OnOk result
+            (out.new.items ≡ out.old.items ++ get_or self.now number []) }
+        ensures kept { OnErr result (out.new.items ≡ out.old.items) }
     {
+        let own = piece_at(0, &self.ends, number);
+        push_between(&self.text, own.start, own.end, out)
+    }
+
+    /// Appends the lines with these numbers. Room for all of them is made once, so a text that is
+    /// too large is refused before it is begun.
+    fn append_all(&self, numbers: &[u32], out: &mut Vec<u8>) -> Result<(), AllocError>
+        requires { AllByRecursion (λ number. number < length self.now) numbers.now }
+        ensures text { OnOk result
+            (out.new.items ≡ out.old.items ++ lines_with self.now numbers.now) }
+        ensures kept { OnErr result (Keeps out.old.items out.new.items) }
+    {
+        out.reserve_exact(self.room(numbers))?;
         for number in numbers {
-            out.extend_from_slice(self.line(*number as usize)).unwrap();
+            self.append(*number as usize, out)?;
         }
+        Ok(())
     }
 }
 
 /// Appends a line of payoffs for each profile, if profiles share rows. The line of a row is made
-/// once, and so is room for all lines, so a text that is too large is refused before it is begun.
+/// once.
 fn write_shared(shared: Shared<'_>, out: &mut Vec<u8>) -> Result<(), AllocError>
     requires below { AllByRecursion (λ number. number < shared.rows) shared.numbers.now }
     requires kept { (number : ℕ) → number < shared.rows
@@ -131,10 +162,7 @@ fn write_shared(shared: Shared<'_>, out: &mut Vec<u8>) -> Result<(), AllocError>
     ensures kept { OnErr result (Keeps out.old.items out.new.items) }
 {
     let lines = Lines::of_rows(*out.allocator(), shared)?;
-    let len = lines.len_of(shared.numbers).ok_or(AllocError)?;
-    out.reserve_exact(len)?;
-    lines.append(shared.numbers, out);
-    Ok(())
+    lines.append_all(shared.numbers, out)
 }
 
 /// Appends a line of payoffs for each profile.
