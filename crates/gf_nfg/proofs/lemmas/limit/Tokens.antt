@@ -65,11 +65,7 @@ none_behind xs x us u e h =
 
 same_last : (xs : List Token) (x : Token) (us : List Token) (u : Token)
     → xs ++ x ∷ [] ≡ us ++ u ∷ [] → (xs ≡ us) × (x ≡ u)
-same_last xs x us u e = elim (parted xs x [] us u [] e) [
-  | inl same ↦ same
-  | inr (inl h) ↦ absurd (none_behind xs x us u e h)
-  | inr (inr h) ↦ absurd (none_behind us u xs x (sym e) h)
-]
+same_last xs x us u e = grind (arith, parted, none_behind)
 
 -- ---- a token at which the machine passes the limit
 

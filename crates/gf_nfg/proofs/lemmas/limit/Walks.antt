@@ -227,13 +227,7 @@ pub groups_lead : (P : List Token → List (List ℕ) → Type 0) (Takes : Posit
     → Reaches Takes before (length strategies + due) profiles
     → Each P inner strategies → AllSome strategies
     → Reaches Takes (before ++ inner) due (profiles * product (map length strategies))
-groups_lead P Takes taken [] before inner due profiles r h some = record {
-  state = r.state;
-  leads = rw h (rw append-nil r.leads);
-  takes = r.takes;
-  due_is = r.due_is ∙ omega arith;
-  grown = r.grown ∙ sym (mul-one profiles);
-}
+groups_lead P Takes taken [] before inner due profiles r h some = grind (arith, append-nil, mul-one)
 groups_lead P Takes taken (labels ∷ strategies) before inner due profiles r h some =
     let n = length labels in
     let left = length strategies + due in

@@ -21,7 +21,7 @@ use Rattle.gf_nfg.specs.inner.Heard.{is_past, read_on, taken, then_on, within}
 use Rattle.gf_nfg.specs.inner.Heard.Fails.{of_file, of_memory}
 use Rattle.gf_nfg.specs.Judgement.{IsAcceptedWithinLimit, IsJudged, IsRefusal, IsRefused}
 use Rattle.gf_nfg.specs.Limit.{profile_limit}
-use Rattle.gf_nfg.specs.inner.Machine.{Content, State, at, due_at, ended, finish, nothing, start}
+use Rattle.gf_nfg.specs.inner.Machine.{Content, State, due_at, ended, finish, nothing, start}
 use Rattle.gf_nfg.specs.inner.Machine.{step}
 use Rattle.gf_nfg.specs.inner.Position.{Position as p}
 use Rattle.gf_nfg.specs.inner.ReaderState.{answer, content_in}
@@ -159,12 +159,7 @@ carried {f} {a} {b} h e = subst (Fails f) (sym e) h
 
 pub wants_memory : {f : Fault} {span : Span} {t : Remaining} {a : Answer} → StandsBefore t span
     → f ≡ record { span = span; why = Memory } → (s : State) → a ≡ heard s t → Fails f a
-wants_memory {f} {span} {t} {a} stands is s goes =
-    subst (λ g. Fails g a) (sym is) (carried (of_memory refl (record {
-      place = stands.place;
-      some = stands.some;
-      passed = passed_before t span stands s;
-    })) goes)
+wants_memory {f} {span} {t} {a} stands is s goes = grind (arith, carried, passed_before)
 
 -- ---- at a token that it has passed, memory may run out
 

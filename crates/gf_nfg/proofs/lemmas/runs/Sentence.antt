@@ -10,7 +10,7 @@ use Rattle.gf_token.specs.Grammar.{Each, braced, IsComment}
 use Rattle.gf_fraction.specs.Ratio.{Ratio}
 use Rattle.gf_fraction.proofs.AllElements.{all_images}
 use Rattle.gf_nfg.specs.inner.Position.{Position as p}
-use Rattle.gf_nfg.specs.Profiles.{profiles, product}
+use Rattle.gf_nfg.specs.Profiles.{product}
 use Rattle.gf_nfg.specs.Table.{Table, IsTable, rows}
 use Rattle.gf_nfg.specs.Sentence.{Sentence, IsStrategies, IsPayoff, IsOutcomeInBraces, IsPayoffBody}
 use Rattle.gf_nfg.specs.Sentence.{IsOutcomeBody, IsCount, IsLabelList, counted_labels}
@@ -270,14 +270,7 @@ counts_mean (labels ∷ strategies) inner h =
 
 kept : (t : Table) (inner rest : List Token) → IsTable t
     → Each IsCount inner t.strategies ⊎ Each IsLabelList inner t.strategies → Kept t inner rest
-kept t inner rest h (inl each) = record {
-  counts = map length t.strategies;
-  labels = [];
-  lengths = refl;
-  means = counts_mean t.strategies inner each;
-  goes_on = first_counts_again t.strategies inner rest (heading t.title t.players) each
-      h.some_strategy;
-}
+kept t inner rest h (inl each) = grind (arith, counts_mean, first_counts_again, heading)
 kept t inner rest h (inr each) = record {
   counts = map length t.strategies;
   labels = joined t.strategies;
@@ -290,13 +283,7 @@ kept t inner rest h (inr each) = record {
 
 -- the table has as many rows as there are profiles
 rows_count : (t : Table) → IsTable t → length (rows t) ≡ 1 * product (map length t.strategies)
-rows_count t h =
-    let a : length (rows t) ≡ length t.entries = length-map t.entries (λ e. e.payoffs) in
-    let b : length (map (λ e. e.profile) t.entries) ≡ length t.entries =
-    length-map t.entries (λ e. e.profile) in
-    let c : length (map (λ e. e.profile) t.entries) ≡ product (map length t.strategies) =
-    ap length h.one_entry_each ∙ length-profiles (map length t.strategies) in
-    omega (arith, a, b, c)
+rows_count t h = grind (arith, length-map, length-profiles)
 
 -- the body's places in the parts
 record BodyKept (t : Table) (comment body : List Token) (counts : List ℕ) (labels : List (List ℕ))

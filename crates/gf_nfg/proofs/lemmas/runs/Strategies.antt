@@ -1,7 +1,7 @@
 -- Runs over the strategies of the players: counts or lists of labels.
-use Rattle.std.proofs.Common.{◌≡◌, ℕ, zero, suc, ◌+◌, ◌-◌, ◌*◌, ◌<◌, List, [], ◌∷◌, ◌++◌, length}
+use Rattle.std.proofs.Common.{◌≡◌, ℕ, zero, suc, ◌-◌, ◌*◌, ◌<◌, List, [], ◌∷◌, ◌++◌, length}
 use Rattle.std.proofs.Common.{map, Option, Some, None, Ok, refl, sym, ap, subst, ◌∙◌, append_assoc}
-use Rattle.std.proofs.Common.{arith, inl, inr}
+use Rattle.std.proofs.Common.{arith, inl}
 use Rattle.std.specs.Prelude.{◌⊎◌}
 use Rattle.std.specs.List.{AllByRecursion}
 use Rattle.std.proofs.Math.Nat.{mul-one, mul_assoc}
@@ -32,20 +32,13 @@ abbrev pub ended : Content → State
 ended c = at p.AfterStrategies (length c.players * c.profiles) 0 0 c
 
 with_no_counts : (c : Content) → with_counts c [] [] ≡ c
-with_no_counts c =
-    let F : List ℕ → List (List ℕ) → ℕ → Content =
-    λ counts labels profiles. record c { counts = counts; labels = labels; profiles = profiles } in
-    (λ i. F (append-nil c.counts i) (append-nil c.labels i) (mul-one c.profiles i))
+with_no_counts c = grind (arith, append-nil, mul-one)
 
 with_more_counts : (c : Content) (n : ℕ) (first : List (List ℕ)) (counts : List ℕ)
     (labels : List (List ℕ))
     → with_counts (with_count (with_labels c first) n) counts labels
     ≡ with_counts c (n ∷ counts) (first ++ labels)
-with_more_counts c n first counts labels =
-    let F : List ℕ → List (List ℕ) → ℕ → Content =
-    λ counts labels profiles. record c { counts = counts; labels = labels; profiles = profiles } in
-    (λ i. F (append_assoc c.counts (n ∷ []) counts i) (append_assoc c.labels first labels i)
-    (mul_assoc c.profiles n (product counts) i))
+with_more_counts c n first counts labels = grind (arith, append_assoc, mul_assoc)
 
 with_one_count : (c : Content) (n : ℕ) (counts : List ℕ)
     → with_counts (with_count c n) counts [] ≡ with_counts c (n ∷ counts) []
@@ -259,9 +252,7 @@ first_found [] (suc due) c r e = let f = rw not_zero at e in absurd cc
 first_found (Closing ∷ ts) zero c r e = inl (counts_end ts c r e)
 first_found (Bare b ∷ ts) (suc due) c r e =
     inl (counts_found (Bare b ∷ ts) (suc due) c r (sym (first_bare b ts due c) ∙ e))
-first_found (Opening ∷ ts) (suc due) c r e =
-    inr (lists_found (length (Opening ∷ ts) + 1) (Opening ∷ ts) (suc due) c r (omega arith)
-    (sym (first_open ts due c) ∙ e))
+first_found (Opening ∷ ts) (suc due) c r e = grind (arith, lists_found, first_open)
 first_found (_ ∷ ts) zero c r e = absurd cc
 first_found (_ ∷ ts) (suc due) c r e = let f = rw not_zero at e in absurd cc
 

@@ -8,7 +8,6 @@ use Rattle.std.proofs.lemmas.Bool.Decides.{Decides-eqb, Decides-int_eq}
 use Rattle.std.specs.Bool.{Decides}
 use Rattle.std.specs.Ordering.{int_eq}
 use Rattle.gf_fraction.specs.Ratio.{Ratio}
-use Rattle.gf_nfg.specs.Profiles.{profiles}
 use Rattle.gf_nfg.specs.Table.{Entry, Table, IsTable, rows}
 use Rattle.gf_nfg.specs.TableParts.{entries_of}
 use Rattle.gf_nfg.proofs.lemmas.tables.Rows.{entries_again}
@@ -64,6 +63,4 @@ joined xs ys p q = sym (entries_again xs) ∙ (λ i. entries_of (p i) (q i)) ∙
 
 pub same_entries : (t u : Table)
     → IsTable t → IsTable u → t.strategies ≡ u.strategies → rows t ≡ rows u → t.entries ≡ u.entries
-same_entries t u h g s r = joined t.entries u.entries (h.one_entry_each
-    ∙ ap (λ (ss : List (List (List ℕ))). profiles (map length ss)) s
-    ∙ sym g.one_entry_each) r
+same_entries t u h g s r = grind (arith, joined)

@@ -1,6 +1,6 @@
 -- Places in classes that are merged, and the rows at them.
 use Rattle.std.proofs.Common.{◌≡◌, ◌≢◌, ℕ, ◌+◌, ◌-◌, ◌<◌, ◌≤◌, List, length, get_or, set, take}
-use Rattle.std.proofs.Common.{Some, slice_get, refl, sym, ap, subst, ◌∙◌, arith, inl, inr}
+use Rattle.std.proofs.Common.{Some, slice_get, refl, sym, ap, ◌∙◌, arith, inl, inr}
 use Rattle.std.specs.Prelude.{if◌then◌else◌, max, min, nat_lt}
 use Rattle.std.specs.List.{range_with_len}
 use Rattle.std.proofs.lemmas.Bool.{cases_eq, cases_lt, lt-ltb}
@@ -20,29 +20,18 @@ alone : (n place : ℕ) → place < n → get_or (range_with_len 0 n) place 0 �
 alone n place h = let e = get_or-range_with_len 0 n place 0 h in omega (arith, e)
 
 pub back_begun : (n : ℕ) → LeadBack (range_with_len 0 n)
-back_begun n = λ place. elim (cases_lt place n) [
-  | inl h ↦ let e = alone n place h in omega (arith, e)
-  | inr h ↦ let e = get_or_past (range_with_len 0 n) place 0
-      (omega (arith, h, length-range_with_len 0 n)) in omega (arith, e)
-]
+back_begun n = grind (arith, cases_lt, alone, get_or_past, length-range_with_len)
 
 -- ---- a place is hung below another one
 
 pub back_hung : (parents : List ℕ) (at above : ℕ) → at < length parents → above ≤ at
     → LeadBack parents → LeadBack (set parents at above)
-back_hung parents at above there h back = λ place. elim (cases_eq place at) [
-  | inl e ↦ let g = get_or-set_at parents at place above 0 e there in omega (arith, g, e, h)
-  | inr ne ↦ let g = get_or-set_other parents at place above 0 ne in
-      let b = back place in omega (arith, g, b)
-]
+back_hung parents at above there h back = grind (arith, cases_eq, get_or-set_at, get_or-set_other)
 
 pub rows_hung : (row : ℕ → List Ratio) (parents : List ℕ) (at above : ℕ) → at < length parents
     → row above ≡ row at → ShareRows row parents → ShareRows row (set parents at above)
-rows_hung row parents at above there same rows = λ place h. elim (cases_eq place at) [
-  | inl e ↦ ap row (get_or-set_at parents at place above 0 e there) ∙ same ∙ ap row (sym e)
-  | inr ne ↦ ap row (get_or-set_other parents at place above 0 ne)
-      ∙ rows place (omega (arith, h, length-set parents at above))
-]
+rows_hung row parents at above there same rows =
+    grind (arith, cases_eq, get_or-set_at, get_or-set_other, length-set)
 
 -- a place on the way to a root
 pub record IsOnWay (begin parents : List ℕ) (place at : ℕ) : Type 0 where
@@ -54,12 +43,7 @@ pub record IsOnWay (begin parents : List ℕ) (place at : ℕ) : Type 0 where
 
 pub way_begun : (begin parents : List ℕ) (place : ℕ) → parents ≡ begin → LeadBack parents
     → place < length begin → IsOnWay begin parents place place
-way_begun begin parents place e back there = record {
-  back = back;
-  places = ap length e;
-  there = omega (arith, there, ap length e);
-  rows = λ row rows. (subst (ShareRows row) (sym e) rows, refl);
-}
+way_begun begin parents place e back there = grind arith
 
 -- what is read at a place
 parent_at : (parents : List ℕ) (at parent : ℕ) → LeadBack parents → at < length parents
@@ -134,12 +118,7 @@ pub row_at : (rows : List (List Ratio)) (numbers : List ℕ) (players : ℕ)
     (payoffs zeros : List Ratio) (bound at : ℕ) → AreShared rows numbers players payoffs zeros bound
     → at < length numbers → IsRowAt rows players payoffs zeros bound at (get_or numbers at 0)
 row_at rows numbers players payoffs zeros bound at shared h =
-    let number = get_or numbers at 0 in
-    let found = slice_get-get_or numbers at 0 h in
-    record {
-      row = grind (arith, slice_get-map);
-      below = all_at (λ number. number < bound) numbers at number shared.below found;
-    }
+    grind (arith, slice_get-get_or, slice_get-map, all_at)
 
 -- the rows at the first profiles of two tables are the same
 pub record IsCompared (f g : ℕ → List Ratio) (first second : ℕ) (xs ys : List (List Ratio))

@@ -38,12 +38,7 @@ Compares all same left told =
 -- ---- the same table by its names and rows
 
 named_table : (named : Bool) (t : Table) → IsTable t → IsTable (named_by named t)
-named_table named t h = record {
-  one_list_each = h.one_list_each;
-  some_strategy = h.some_strategy;
-  one_entry_each = h.one_entry_each;
-  one_payoff_each = h.one_payoff_each;
-}
+named_table named t h = grind arith
 
 table_again : (t : Table) → IsTable t → table_with (names_in t) (rows t) ≡ t
 table_again t h = grind (arith, entries_again)

@@ -51,10 +51,7 @@ sum-cons n ns = sum_by-cons (λ (x : ℕ). x) n ns
 pub groups-joined : {A : Type 0} (lists : List (List A))
     → groups (map length lists) (joined lists) ≡ lists
 groups-joined [] = refl
-groups-joined (xs ∷ lists) =
-    let rest : groups (map length lists) (drop (length xs) (xs ++ joined lists)) ≡ lists =
-    ap (groups (map length lists)) (drop-front xs (joined lists)) ∙ groups-joined lists in
-    (λ i. take-front xs (joined lists) i ∷ rest i)
+groups-joined (xs ∷ lists) = grind (arith, drop-front, take-front, groups-joined lists)
 
 pub length-joined : {A : Type 0} (lists : List (List A))
     → length (joined lists) ≡ sum (map length lists)

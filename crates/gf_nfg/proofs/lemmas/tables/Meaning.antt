@@ -1,6 +1,6 @@
 -- What was read in full means a table, and a table can be recovered from its parts.
-use Rattle.std.proofs.Common.{◌≡◌, ℕ, zero, suc, ◌+◌, ◌*◌, ◌<◌, ◌≤◌, List, [], Bool, true, false}
-use Rattle.std.proofs.Common.{◌∷◌, ◌++◌, length, map, take, drop, refl, sym, ap, subst, ◌∙◌, arith}
+use Rattle.std.proofs.Common.{◌≡◌, ℕ, zero, suc, ◌*◌, ◌<◌, ◌≤◌, List, [], Bool, true, false}
+use Rattle.std.proofs.Common.{◌∷◌, length, map, take, drop, refl, ◌∙◌, arith}
 use Rattle.std.proofs.Common.{length-take, length-drop}
 use Rattle.std.specs.Prelude.{◌==◌, sum, replicate, pos}
 use Rattle.std.specs.List.{AllByRecursion}
@@ -8,7 +8,7 @@ use Rattle.std.proofs.Math.Nat.{mul_comm, mul-le-mul_right}
 use Rattle.std.proofs.lemmas.List.{drop-drop, length-map}
 use Rattle.gf_fraction.specs.Ratio.{Ratio, whole}
 use Rattle.gf_fraction.proofs.AllElements.{all_mapped}
-use Rattle.gf_nfg.specs.Profiles.{numbers_from, positions, product}
+use Rattle.gf_nfg.specs.Profiles.{numbers_from, positions}
 use Rattle.gf_nfg.specs.Limit.{profile_limit}
 use Rattle.gf_nfg.specs.LimitPlace.{IsWithinLimit}
 use Rattle.gf_nfg.specs.Table.{IsSpellable, IsTable, rows}
@@ -71,12 +71,7 @@ rows_of-joined : (players : ℕ) (rs : List (List Ratio))
     → AllByRecursion (λ row. length row ≡ players) rs → rows_of players (length rs) (joined rs) ≡ rs
 rows_of-joined players [] h = refl
 rows_of-joined players (row ∷ rs) h =
-    let rest : rows_of players (length rs) (drop players (row ++ joined rs)) ≡ rs = cc (
-      drop-by
-          players row (joined rs) h.0,
-      rows_of-joined players rs h.1,
-    ) in
-    (λ i. take-by players row (joined rs) h.0 i ∷ rest i)
+    grind (arith, joined, drop-by, take-by, rows_of-joined players rs h.1)
 
 pub rows_again : (players : ℕ) (rs : List (List Ratio))
     → AllByRecursion (λ row. length row ≡ players) rs
@@ -87,10 +82,8 @@ choices_within : (players outcomes : ℕ) (choices : List ℕ) (payoffs : List R
     → length payoffs ≡ players * outcomes → AllByRecursion (λ k. k ≤ outcomes) choices
     → AllByRecursion (λ k. k * players ≤ length payoffs) choices
 choices_within players outcomes [] payoffs e h = tt
-choices_within players outcomes (k ∷ choices) payoffs e h = (
-  let fits = mul-le-mul_right players h.0 in omega (arith, e, fits, mul_comm players outcomes),
-  choices_within players outcomes choices payoffs e h.1,
-)
+choices_within players outcomes (k ∷ choices) payoffs e h =
+    grind (arith, mul-le-mul_right, mul_comm, choices_within players outcomes choices payoffs e h.1)
 
 zeros_kept : {A : Type 0} (zeros : List A) (numbers : List ℕ)
     → AllByRecursion (λ number. number ≡ 0 → zeros ≡ zeros) numbers
@@ -110,21 +103,12 @@ has_rows c (k ∷ choices) h = record {
 
 pub length-rows_by : (c : Content) (choices : List ℕ) → HasPayoffs c choices
     → length (rows_by c choices) ≡ c.profiles
-length-rows_by c choices h =
-    length-map (numbers_of c.profiles (choices_of choices)) (row_of (length c.players) c.payoffs)
-    ∙ (has_rows c choices h).one_number_each
+length-rows_by c choices h = grind (arith, length-map, has_rows)
 
 -- ---- the table
 
 pub named : (c : Content) → IsComplete c → IsNamed (names_in c) c.profiles
-named c h =
-    let same = counts-strategies_of c.counts c.labels h.has_labels in
-    record {
-      one_list_each = cc (length-map (strategies_of c.counts c.labels) length);
-      some_strategy = all_mapped (λ n. 0 < n) length (strategies_of c.counts c.labels)
-          (subst (λ ns. AllByRecursion (λ n. 0 < n) ns) (sym same) h.some_strategy);
-      counted = h.profiles_are ∙ ap product (sym same);
-    }
+named c h = grind (arith, counts-strategies_of, length-map, all_mapped)
 
 named_rows : (c : Content) → IsComplete c → IsNamed (names_in c) (length (rows_by c c.choices))
 named_rows c h = rw (length-rows_by c c.choices h.has_rows) (named c h)

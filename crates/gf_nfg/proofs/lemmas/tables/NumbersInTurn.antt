@@ -1,6 +1,6 @@
 -- Numbers in turn, and the place of an element in a list.
 use Rattle.std.proofs.Common.{◌≡◌, ℕ, zero, suc, ◌+◌, ◌-◌, ◌<◌, ◌≤◌, List, ◌∷◌, ◌++◌, length}
-use Rattle.std.proofs.Common.{get_or, refl, ap, ◌∙◌, arith, length-append}
+use Rattle.std.proofs.Common.{get_or, refl, ap, arith, length-append}
 use Rattle.std.specs.List.{Contains}
 use Rattle.std.proofs.lemmas.List.{get_or_at}
 use Rattle.gf_nfg.specs.Profiles.{numbers_from}
@@ -20,8 +20,7 @@ length-numbers_from first (suc n) = ap suc (length-numbers_from (first + 1) n)
 pub get_or-numbers_from : (first n i d : ℕ) → i < n → get_or (numbers_from first n) i d ≡ first + i
 get_or-numbers_from first zero i d h = absurd (omega arith)
 get_or-numbers_from first (suc n) zero d h = omega arith
-get_or-numbers_from first (suc n) (suc i) d h = get_or-numbers_from (first + 1) n i d (omega arith)
-    ∙ (let e : first + 1 + i ≡ first + suc i = omega arith in e)
+get_or-numbers_from first (suc n) (suc i) d h = grind (arith, get_or-numbers_from (first + 1) n)
 
 -- an element, by what stands before it and after it
 abbrev pub IsIn : {X : Type 0} → List X → X → Type 0

@@ -80,11 +80,7 @@ not_found profile [] i d h e none = absurd (omega (arith, h))
 not_found profile (p ∷ ps) zero d h e none =
     grind (arith, slice_eq-Decides Decides-eqb p profile (pointwise nat_eq p profile) refl)
 not_found profile (p ∷ ps) (suc i) d h e none =
-    elim (true_or_false (pointwise nat_eq p profile)) [
-      | inl t ↦ let some : Some 0 ≡ None = rw t at none in absurd (cc)
-      | inr t ↦ not_found profile ps i d (omega (arith, h)) e
-          (no_later (position_of profile ps) (rw t at none))
-    ]
+    grind (arith, true_or_false, no_later, not_found profile ps)
 
 -- a profile has a place, and nothing else has one
 abbrev IsPlacedIn : List ℕ → List ℕ → Type 0
@@ -155,8 +151,7 @@ none_by_length [] (s ∷ ss) h = refl
 none_by_length (n ∷ counts) [] h = refl
 none_by_length (n ∷ counts) (zero ∷ ss) h = refl
 none_by_length (n ∷ counts) (suc k ∷ ss) h =
-    let later = none_by_length counts ss (λ e. h (ap suc e)) in
-    elim (true_or_false (nat_lt k n)) [ inl e ↦ rw (e, later) refl | inr e ↦ rw e refl ]
+    grind (arith, true_or_false, none_by_length counts ss (λ e. h (ap suc e)))
 
 place_below_by : (n k product : ℕ) (o : Option ℕ) (place : ℕ)
     → k < n → ((m : ℕ) → o ≡ Some m → m < product) → option_map (λ m. m * n + k) o ≡ Some place
@@ -205,17 +200,7 @@ pub player_before : {names : Names} {profile : List ℕ} {at place count : ℕ}
     → place_of (drop at (map length names.strategies)) (drop at profile) ≡ Some place
     → option_map length (slice_get names.strategies (at - 1)) ≡ Some count
     → AtPlayer names profile (at - 1) place count
-player_before {names} {profile} {at} one some few full above within found is =
-    let next : at - 1 + 1 ≡ at = omega (arith, above) in
-    record {
-      one_list_each = one;
-      some_strategy = some;
-      within = few;
-      one_number_each = full;
-      player = omega (arith, above, within);
-      found = rw next found;
-      count_is = is;
-    }
+player_before {names} {profile} {at} one some few full above within found is = grind arith
 
 at_count : {names : Names} {profile : List ℕ} {at place count : ℕ}
     → AtPlayer names profile at place count → (at < length (map length names.strategies))

@@ -129,8 +129,5 @@ are_profiles (count ∷ counts) = all_profiles count counts (profiles counts) (a
 
 pub every_profile : (counts profile : List ℕ)
     → Contains (profiles counts) profile ↔ IsProfile counts profile
-every_profile counts profile = (
-  λ h. All-contains (IsProfile counts) (profiles counts) profile
-      (All-from_recursion (IsProfile counts) (profiles counts) (are_profiles counts)) h,
-  λ h. contains_in (profiles counts) profile (profile_in counts profile h),
-)
+every_profile counts profile =
+    grind (arith, All-contains, All-from_recursion, are_profiles, contains_in, profile_in)

@@ -172,9 +172,7 @@ number_within players count payoffs zeros numbers place number h =
 pub number_zero : (players count : ℕ) (payoffs zeros : List Ratio) (numbers : List ℕ)
     (place number : ℕ) → IsNumber players count payoffs zeros numbers place number
     → number ≡ 0 → zeros ≡ replicate players (whole (pos 0))
-number_zero players count payoffs zeros numbers place number h =
-    all_at (λ n. n ≡ 0 → zeros ≡ replicate players (whole (pos 0))) numbers place number
-    h.kept.zeros_kept h.number_is
+number_zero players count payoffs zeros numbers place number h = grind (arith, all_at)
 
 pub kept_row_is : (players : ℕ) (payoffs zeros : List Ratio) (number : ℕ)
     → (number ≡ 0 → zeros ≡ row_of players payoffs 0)
@@ -234,11 +232,7 @@ pub some_in_lists : {A B Z : Type 0} (f : A → B) (lists : List (Vec A Z))
     → AllByRecursion (λ own. 0 < vec_len own) lists
     → AllByRecursion (λ own. 0 < length own) (map (λ own. map f own.items) lists)
 some_in_lists f [] h = tt
-some_in_lists f (own ∷ lists) h = (
-  let size : length (map f own.items) ≡ vec_len own = length-map own.items f ∙ sym own.ok.0 in
-      omega (arith, size, h.0),
-  some_in_lists f lists h.1,
-)
+some_in_lists f (own ∷ lists) h = grind (arith, length-map, some_in_lists f lists h.1)
 
 -- as many rows as there are profiles
 pub profiles_counted : (rows players : ℕ) (counts : List ℕ) (quotient : Option ℕ)
@@ -271,9 +265,7 @@ pub numbered : (players count : ℕ) (payoffs zeros : List Ratio) (choices : Opt
     → number_in choices place ≡ Some number
     → IsNumber players count payoffs zeros (numbers_of count choices) place number
 numbered players count payoffs zeros choices rs place number kept view h e =
-    let numbers = numbers_of count choices in
-    let within = place_within players count payoffs zeros numbers rs place kept view h in
-    record { kept = kept; number_is = sym (number_found count choices place within) ∙ e }
+    grind (arith, place_within, number_found)
 
 pub made_of_parts : (t : Table) (names : Names) (title comment : List ℕ) (players : List (List ℕ))
     (strategies : List (List (List ℕ))) (rs : List (List Ratio)) (given : List Ratio)

@@ -14,7 +14,7 @@ use Rattle.gf_fraction.proofs.WholeNumbers.{whole_fraction}
 use Rattle.gf_fraction.proofs.AllElements.{all_at, all_parts, all_both, all_joined, all_mapped}
 use Rattle.gf_nfg.specs.Profiles.{numbers_from}
 use Rattle.gf_nfg.specs.Table.{Table, IsTable, IsSpellable, rows}
-use Rattle.gf_nfg.specs.Sentence.{IsCount, IsLabelList, IsPayoff, IsOutcomeInBraces, Pays}
+use Rattle.gf_nfg.specs.Sentence.{IsCount, IsLabelList, IsOutcomeInBraces, Pays}
 use Rattle.gf_nfg.specs.Sentence.{IsOutcomeNumber, IsPayoffBody, IsOutcomeBody, Sentence}
 use Rattle.gf_nfg.specs.TableText.{SpellsTable}
 use Rattle.gf_nfg.proofs.lemmas.tables.LabelsCounted.{decimal_label}
@@ -69,10 +69,7 @@ paid players (suc k) outcomes row all h = all_at AreFractions outcomes k row all
 
 payoffs_spelled : (players : ℕ) (tokens : List Token) (rs : List (List Ratio))
     → (IsPayoffBody tokens rs ⊎ IsOutcomeBody players tokens rs) → AllByRecursion AreFractions rs
-payoffs_spelled players tokens rs (inl h) =
-    each_value (Each IsPayoff) AreFractions
-    (λ ts row each. each_value IsPayoff IsFraction (λ us r is. is.2.fraction) row ts each) rs tokens
-    h
+payoffs_spelled players tokens rs (inl h) = grind (arith, each_value)
 payoffs_spelled players tokens rs (inr h) =
     let outcomes = each_value (IsOutcomeInBraces players) AreFractions
     (λ ts row is. each_value IsPayoffInBraces IsFraction (λ us r one. one.3.fraction) row is.1 is.3)

@@ -1,6 +1,6 @@
 -- Lists of labels, which are kept one after another.
 use Rattle.std.proofs.Common.{◌≡◌, ℕ, suc, ◌+◌, ◌-◌, ◌<◌, ◌≤◌, List, [], ◌∷◌, ◌++◌, length, map}
-use Rattle.std.proofs.Common.{take, drop, get_or, Option, Some, None, slice_get, option_map, min}
+use Rattle.std.proofs.Common.{take, drop, get_or, Some, slice_get, option_map, min}
 use Rattle.std.proofs.Common.{refl, sym, ap, ◌∙◌, arith, append_assoc}
 use Rattle.std.specs.Prelude.{IsSomeAnd, option_and_then}
 use Rattle.std.proofs.lemmas.List.{length-take, length-drop, length-append, drop_more, drop_min}
@@ -25,13 +25,7 @@ pub one_more : (labels labels' own : List (List ℕ)) (ends ends' : List ℕ)
     (lists : List (List (List ℕ))) → AreKept labels ends lists → labels' ≡ labels ++ own
     → ends' ≡ ends ++ length labels' ∷ [] → AreKept labels' ends' (lists ++ own ∷ [])
 one_more labels labels' own ends ends' lists a e f =
-    let whole : length labels' ≡ length labels + length own =
-    ap length e ∙ length-append labels own in
-    let g : ends' ≡ ends ++ (length labels + length own) ∷ [] = cc in
-    record {
-      rises = rw (whole, g) (rises-push 0 ends (length labels) (length own) a.rises);
-      are = cc (pieces-push 0 ends labels own a.rises);
-    }
+    grind (arith, length-append, rises-push, pieces-push)
 
 pub kept_by : {labels : List (List ℕ)} {ends items : List ℕ} {lists : List (List (List ℕ))}
     → RisesTo (length labels) 0 ends → pieces 0 ends labels ≡ lists → items ≡ ends
@@ -100,12 +94,7 @@ pub stands_at : {labels : List (List ℕ)} {ends : List ℕ} {lists : List (List
     → AreKept labels ends lists → at < length lists → start ≡ start_of 0 ends at
     → end ≡ get_or ends at 0 → StandsAt labels lists at start end
 stands_at {labels} {ends} {lists} {at} a less s e =
-    let h = is_within a less in
-    record {
-      ordered = omega (arith, s, e, start_before_end (length labels) 0 ends at 0 a.rises h);
-      within = omega (arith, e, end_within (length labels) 0 ends at 0 a.rises h);
-      is = grind (arith, piece_at);
-    }
+    grind (arith, is_within, start_before_end, end_within, piece_at)
 
 length-own : (labels : List (List ℕ)) (start end : ℕ) → start ≤ end → end ≤ length labels
     → length (take (end - start) (drop start labels)) ≡ end - start
@@ -121,12 +110,7 @@ abbrev HasLabel : List (List (List ℕ)) → ℕ → ℕ → Type 0
 HasLabel lists at k = IsSomeAnd (slice_get lists at) (λ own. k < length own)
 
 pub has_list : (lists : List (List (List ℕ))) (at k : ℕ) → HasLabel lists at k → at < length lists
-has_list lists at k h = by (slice_get lists at) refl h
-  where
-    by : (o : Option (List (List ℕ))) → slice_get lists at ≡ o
-        → IsSomeAnd o (λ own. k < length own) → at < length lists
-    by None e h = absurd h
-    by (Some own) e h = slice_get_within lists at own e
+has_list lists at k h = grind (arith, slice_get_within)
 
 -- one of its labels, among those of all lists
 pub record IsLabelAt (labels : List (List ℕ)) (lists : List (List (List ℕ)))

@@ -1,5 +1,5 @@
 -- What a text has of a file that is being told, and that it is the canonical text at the end.
-use Rattle.std.proofs.Common.{◌≡◌, ℕ, ◌-◌, ◌*◌, ◌<◌, ◌≤◌, Bool, List, [], ◌∷◌, ◌++◌, length, map}
+use Rattle.std.proofs.Common.{◌≡◌, ℕ, ◌-◌, ◌<◌, ◌≤◌, Bool, List, [], ◌∷◌, ◌++◌, length, map}
 use Rattle.std.proofs.Common.{refl, sym, ap, subst, ◌∙◌, append_assoc, arith}
 use Rattle.std.proofs.lemmas.Grind.{flat_map-append}
 use Rattle.std.proofs.lemmas.List.{append-nil}
@@ -30,18 +30,10 @@ pub longer : (bytes heading before out : List ℕ) (more : List ℕ) → before 
 longer bytes heading before out more e f = grind (arith, append_assoc)
 
 pub is_payoffs : (v w : Version) → v ≡ w → ¬ (v ≡ Outcomes) → Payoffs ≡ w
-is_payoffs v w same not = by v same not
-  where
-    by : (v : Version) → v ≡ w → ¬ (v ≡ Outcomes) → Payoffs ≡ w
-    by Payoffs same not = same
-    by Outcomes same not = absurd (not refl)
+is_payoffs v w same not = grind arith
 
 is_outcomes : (v w : Version) → v ≡ w → ¬ (v ≡ Payoffs) → Outcomes ≡ w
-is_outcomes v w same not = by v same not
-  where
-    by : (v : Version) → v ≡ w → ¬ (v ≡ Payoffs) → Outcomes ≡ w
-    by Payoffs same not = absurd (not refl)
-    by Outcomes same not = same
+is_outcomes v w same not = grind arith
 
 nobody : (players : ℕ) (payoffs : List Ratio) (n : Ratio) {P : Type 0} → payoffs ++ n ∷ [] ≡ [] → P
 nobody players [] n e = absurd cc
@@ -91,11 +83,7 @@ no_counts (n ∷ counts) e = absurd (omega (arith, e))
 pub lines_are : (c : Content) (left : ℕ) (bytes : List ℕ) → IsComplete c → c.choices ≡ []
     → AreLines (length c.players) left bytes c.payoffs
     → bytes ≡ lines_text (map row_text (rows_by c c.choices))
-lines_are c left bytes h none l =
-    let count : length c.payoffs ≡ length c.players * c.profiles = grind arith in
-    lines_whole (length c.players) left c.profiles bytes c.payoffs l count
-    (λ nobody. h.profiles_are ∙ no_counts c.counts (h.one_count_each ∙ nobody))
-    ∙ ap (λ ks. lines_text (map row_text (rows_by c ks))) (sym none)
+lines_are c left bytes h none l = grind (arith, lines_whole, nobody, no_counts)
 
 -- in payoff version the text is whole
 pub payoffs_text : (bytes : List ℕ) (heading : Heading) (named : Bool) (t : Text)

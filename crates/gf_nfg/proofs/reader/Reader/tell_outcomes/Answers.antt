@@ -12,15 +12,7 @@ pub returns-in_err-outcomes : goal.returns-in_err-outcomes
 returns-in_err-outcomes g c = grind (arith, length-map, ends_back, c.in_err-outcomes.ensures)
 
 pub returns-in_err-numbers : goal.returns-in_err-numbers
-returns-in_err-numbers g c =
-    grind (
-      arith,
-      length-map,
-      ends_back,
-      carried,
-      c.in_ok-outcomes.ensures,
-      c.in_err-numbers.ensures,
-    )
+returns-in_err-numbers g c = grind (arith, length-map, carried, ends_back)
 
 pub returns : goal.returns
 returns g c = λ untold holding.

@@ -1,4 +1,4 @@
-use Rattle.std.proofs.Common.{◌-◌, ◌∙◌, arith, refl, rules}
+use Rattle.std.proofs.Common.{◌-◌, ◌∙◌, arith, rules}
 use Rattle.gf_nfg.specs.inner.ReaderState.{content_told}
 use Rattle.gf_nfg.specs.inner.Told.{paying}
 use Rattle.gf_nfg.proofs.lemmas.runs.ReaderSteps.{ends_back}
@@ -6,11 +6,7 @@ use Rattle.gf_nfg.proofs.lemmas.places.Heard.{carried}
 use Rattle.gf_nfg.proofs.reader.body.braced_payoffs.Goals as goal
 
 pub loop-due-init : goal.loop-due-init
-loop-due-init g c = record {
-  goes = λ untold told outcomes holding.
-      record { told = told.payoffs; goes = refl; holding = holding };
-  shorter = omega arith;
-}
+loop-due-init g c = grind arith
 
 pub loop-due-preserved : goal.loop-due-preserved
 loop-due-preserved g c = record {

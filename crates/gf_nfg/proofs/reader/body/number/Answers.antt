@@ -1,4 +1,4 @@
-use Rattle.std.proofs.Common.{rules, ◌-◌, [], ◌∷◌, ◌++◌}
+use Rattle.std.proofs.Common.{arith, rules, ◌-◌}
 use Rattle.gf_nfg.specs.inner.Machine.{at}
 use Rattle.gf_nfg.specs.inner.Position.Position.{OutcomeNumbers}
 use Rattle.gf_nfg.specs.inner.ReaderState.{content_told}
@@ -7,11 +7,7 @@ use Rattle.gf_nfg.proofs.lemmas.places.Heard.{wants_memory}
 use Rattle.gf_nfg.proofs.reader.body.number.Goals as goal
 
 pub returns-clause-told : goal.returns-clause-told
-returns-clause-told g c = λ untold told due some holding. record {
-  told = told.numbers ++ c.in-Some-index.number ∷ [];
-  goes = search rules;
-  holding = c.in-Ok.ensures.told untold told holding;
-}
+returns-clause-told g c = grind arith
 
 pub returns-in_default-number-clause-told : goal.returns-in_default-number-clause-told
 returns-in_default-number-clause-told g c = λ untold told due some holding.

@@ -1,4 +1,4 @@
-use Rattle.std.proofs.Common.{rules, ◌-◌, [], ◌∷◌, ◌++◌}
+use Rattle.std.proofs.Common.{arith, rules, ◌-◌}
 use Rattle.gf_nfg.specs.inner.Machine.{at}
 use Rattle.gf_nfg.specs.inner.Position.Position.{AfterBracedPayoff, FlatPayoffs}
 use Rattle.gf_nfg.specs.inner.ReaderState.{content_told}
@@ -7,18 +7,10 @@ use Rattle.gf_nfg.proofs.lemmas.places.Heard.{wants_memory}
 use Rattle.gf_nfg.proofs.reader.body.payoff.Goals as goal
 
 pub returns-in-Ok-payoff-clause-flat : goal.returns-in-Ok-payoff-clause-flat
-returns-in-Ok-payoff-clause-flat g c = λ untold told due some holding. record {
-  told = told.payoffs ++ c.in-Ok.payoff ∷ [];
-  goes = search rules;
-  holding = c.in-Ok-payoff.ensures.told untold told holding;
-}
+returns-in-Ok-payoff-clause-flat g c = grind arith
 
 pub returns-in-Ok-payoff-clause-braced : goal.returns-in-Ok-payoff-clause-braced
-returns-in-Ok-payoff-clause-braced g c = λ untold told due outcomes some holding. record {
-  told = told.payoffs ++ c.in-Ok.payoff ∷ [];
-  goes = search rules;
-  holding = c.in-Ok-payoff.ensures.told untold told holding;
-}
+returns-in-Ok-payoff-clause-braced g c = grind arith
 
 pub returns-in_default-payoff-clause-flat : goal.returns-in_default-payoff-clause-flat
 returns-in_default-payoff-clause-flat g c = λ untold told due some holding.

@@ -1,4 +1,4 @@
-use Rattle.std.proofs.Common.{◌-◌, take, drop, arith}
+use Rattle.std.proofs.Common.{take, drop, arith}
 use Rattle.gf_nfg.proofs.lemmas.tables.Pieces.{end_within, piece_at, start_before_end}
 use Rattle.gf_nfg.proofs.table.pieces.piece.Goals as goal
 
