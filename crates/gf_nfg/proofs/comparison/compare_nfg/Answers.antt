@@ -1,9 +1,5 @@
-use Rattle.std.proofs.Common.{List, subst}
-use Rattle.gf_fraction.specs.Ratio.{Ratio}
-use Rattle.gf_nfg.specs.inner.ComparedTable.{IsCompared}
-use Rattle.gf_nfg.specs.inner.Meaning.{table_of}
-use Rattle.gf_nfg.specs.inner.ReaderState.{content_told}
-use Rattle.gf_nfg.specs.inner.ToldTable.{HasToldTable}
+use Rattle.gf_nfg.proofs.Common.{List, subst, Ratio, IsCompared, table_of, content_told}
+use Rattle.gf_nfg.proofs.Common.{HasToldTable}
 use Rattle.gf_nfg.proofs.lemmas.tables.Meaning.{within_limit}
 use Rattle.gf_nfg.proofs.comparison.compare_nfg.Goals as goal
 

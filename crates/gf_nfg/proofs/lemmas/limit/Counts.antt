@@ -1,18 +1,9 @@
 -- The limit place is where all files that begin with the tokens through it are above the limit.
-use Rattle.std.proofs.Common.{◌≡◌, ℕ, ◌<◌, List, [], ◌∷◌, ◌++◌, length, map, sym, ap, subst, ◌∙◌}
-use Rattle.std.proofs.Common.{append_assoc, arith, inl, inr}
-use Rattle.std.specs.Prelude.{codes, ◌↔◌}
-use Rattle.std.proofs.lemmas.List.{length-append, length-map}
-use Rattle.gf_token.specs.Token.{Token}
-use Rattle.gf_token.specs.Token.Token.{Opening, Closing, Text, Bare}
-use Rattle.gf_token.specs.Grammar.{braced}
-use Rattle.gf_token.specs.declared.fault.Span.{Span}
-use Rattle.gf_nfg.specs.Limit.{profile_limit}
-use Rattle.gf_nfg.specs.Table.{Table}
-use Rattle.gf_nfg.specs.Sentence.{Sentence}
-use Rattle.gf_token.specs.Place.{tokens_of}
-use Rattle.gf_nfg.specs.LimitByFiles.{StaysWithinLimit, IsLimitByFiles}
-use Rattle.gf_nfg.specs.LimitPlace.{GivesCounts, IsLimitPlace}
+use Rattle.gf_nfg.proofs.Common.{◌≡◌, ℕ, ◌<◌, List, [], ◌∷◌, ◌++◌, length, map, sym, ap, subst, ◌∙◌}
+use Rattle.gf_nfg.proofs.Common.{append_assoc, arith, inl, inr, codes, ◌↔◌, length-append}
+use Rattle.gf_nfg.proofs.Common.{length-map, Token, Opening, Closing, Text, Bare, braced, Span}
+use Rattle.gf_nfg.proofs.Common.{profile_limit, Table, Sentence, tokens_of, StaysWithinLimit}
+use Rattle.gf_nfg.proofs.Common.{IsLimitByFiles, GivesCounts, IsLimitPlace}
 use Rattle.gf_nfg.proofs.lemmas.limit.Products.{Strategies, PassesAtLast, by_counts}
 use Rattle.gf_nfg.proofs.lemmas.limit.Products.{entries_counted, past}
 use Rattle.gf_nfg.proofs.lemmas.limit.Walks.{headed, headed_on}

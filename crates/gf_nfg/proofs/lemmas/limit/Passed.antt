@@ -1,17 +1,11 @@
 -- Where the profiles pass their limit, and where they stay within it.
-use Rattle.std.proofs.Common.{◌≡◌, ℕ, ◌<◌, List, [], ◌∷◌, ◌++◌, sym, ap, subst, ◌∙◌, append_assoc}
-use Rattle.std.proofs.Common.{arith, inl, inr}
-use Rattle.gf_token.specs.Token.{Lexeme}
-use Rattle.gf_token.specs.TokenSpelling.{Spells}
-use Rattle.gf_token.specs.Place.{tokens_of, Begins, IsAccepted, IsOffendingPlace}
-use Rattle.gf_token.specs.declared.fault.Span.{Span}
-use Rattle.gf_token.proofs.Places.{PartsBefore, parts, first_and_rest, tokens_on, begins_front}
-use Rattle.gf_token.proofs.Places.{overtaken, same_span}
+use Rattle.gf_nfg.proofs.Common.{◌≡◌, ℕ, ◌<◌, List, [], ◌∷◌, ◌++◌, sym, ap, subst, ◌∙◌}
+use Rattle.gf_nfg.proofs.Common.{append_assoc, arith, inl, inr, Lexeme, Spells, tokens_of, Begins}
+use Rattle.gf_nfg.proofs.Common.{IsAccepted, IsOffendingPlace, Span, PartsBefore, parts}
+use Rattle.gf_nfg.proofs.Common.{first_and_rest, tokens_on, begins_front, overtaken, same_span}
+use Rattle.gf_nfg.proofs.Common.{same_tokens, IsStrategicFile, IsLimitPlace, BeginsPastLimit}
+use Rattle.gf_nfg.proofs.Common.{IsBareOrClosing, StaysWithinLimit}
 use Rattle.gf_token.proofs.Spans.{starts_later}
-use Rattle.gf_token.proofs.Spelled.{same_tokens}
-use Rattle.gf_nfg.specs.Sentence.{IsStrategicFile}
-use Rattle.gf_nfg.specs.LimitPlace.{IsLimitPlace}
-use Rattle.gf_nfg.specs.LimitByFiles.{BeginsPastLimit, IsBareOrClosing, StaysWithinLimit}
 use Rattle.gf_nfg.proofs.lemmas.limit.Counts.{limit_by_files}
 
 -- where the profiles pass their limit, files that go on do not stay within it

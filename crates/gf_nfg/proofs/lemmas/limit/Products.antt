@@ -1,15 +1,10 @@
 -- Products of counts, and with which count they pass the limit.
-use Rattle.std.proofs.Common.{◌≡◌, ℕ, zero, suc, ◌*◌, ◌<◌, ◌≤◌, List, [], ◌∷◌, ◌++◌, length, map}
-use Rattle.std.proofs.Common.{take, refl, sym, ap, subst, ◌∙◌, append_assoc, arith, inl, inr}
-use Rattle.std.specs.List.{AllByRecursion}
-use Rattle.std.proofs.Math.Nat.{mul-one, mul_assoc, mul-le-mul_left}
-use Rattle.std.proofs.Math.Seq.{take-append_seam}
-use Rattle.std.proofs.lemmas.Bool.{cases_lt}
-use Rattle.std.proofs.lemmas.List.{length-append, length-map, map-append, take-append-le}
-use Rattle.gf_fraction.proofs.AllElements.{all_parts, all_images, all_mapped}
-use Rattle.gf_nfg.specs.Limit.{profile_limit}
-use Rattle.gf_nfg.specs.Profiles.{product}
-use Rattle.gf_nfg.specs.Table.{Table, IsTable}
+use Rattle.gf_nfg.proofs.Common.{◌≡◌, ℕ, zero, suc, ◌*◌, ◌<◌, ◌≤◌, List, [], ◌∷◌, ◌++◌, length, map}
+use Rattle.gf_nfg.proofs.Common.{take, refl, sym, ap, subst, ◌∙◌, append_assoc, arith, inl, inr}
+use Rattle.gf_nfg.proofs.Common.{AllByRecursion, mul-one, mul_assoc, mul-le-mul_left}
+use Rattle.gf_nfg.proofs.Common.{take-append_seam, cases_lt, length-append, length-map, map-append}
+use Rattle.gf_nfg.proofs.Common.{take-append-le, all_parts, all_images, all_mapped, profile_limit}
+use Rattle.gf_nfg.proofs.Common.{product, Table, IsTable}
 use Rattle.gf_nfg.proofs.lemmas.tables.Lists.{product_above_zero}
 use Rattle.gf_nfg.proofs.lemmas.tables.Profiles.{length-profiles}
 

@@ -1,29 +1,17 @@
 -- No token makes the number of profiles smaller, so above their limit they stay there.
-use Rattle.std.proofs.Common.{◌≡◌, ℕ, zero, suc, ◌-◌, ◌*◌, ◌<◌, ◌≤◌, Bool, true, false, cond, List}
-use Rattle.std.proofs.Common.{[], ◌∷◌, ◌++◌, length, Option, Some, None, Result, Ok, Err, refl, sym}
-use Rattle.std.proofs.Common.{subst, ◌∙◌, arith}
-use Rattle.std.specs.Prelude.{◌==◌, nat_le}
-use Rattle.gf_nfg.specs.inner.Heard.{is_past}
-use Rattle.gf_token.specs.Token.{Token}
-use Rattle.gf_token.specs.Token.Token.{Opening, Closing, Comma, Text, Bare}
-use Rattle.gf_token.specs.declared.fault.What.{What}
-use Rattle.gf_token.specs.declared.fault.Why.{Why}
-use Rattle.gf_fraction.specs.Ratio.{Ratio}
-use Rattle.gf_fraction.specs.declared.fraction.NumberFault.{NumberFault}
-use Rattle.gf_nfg.specs.inner.Position.{Position, Position as p}
+use Rattle.gf_nfg.proofs.Common.{◌≡◌, ℕ, zero, suc, ◌-◌, ◌*◌, ◌<◌, ◌≤◌, Bool, true, false, cond}
+use Rattle.gf_nfg.proofs.Common.{List, [], ◌∷◌, ◌++◌, length, Option, Some, None, Result, Ok, Err}
+use Rattle.gf_nfg.proofs.Common.{refl, sym, subst, ◌∙◌, arith, ◌==◌, nat_le, is_past, Token}
+use Rattle.gf_nfg.proofs.Common.{Opening, Closing, Comma, Text, Bare, What, Why, Ratio, NumberFault}
+use Rattle.gf_nfg.proofs.Common.{Position, count_of, Table, Sentence, State, Content, step, step_at}
+use Rattle.gf_nfg.proofs.Common.{to, run, start, counted, listed, settled, paid, chosen}
+use Rattle.gf_nfg.proofs.Common.{at_strategies_end, at_first, at_count, at_list_opening, at_payoff}
+use Rattle.gf_nfg.proofs.Common.{at_flat_payoffs, at_after_comment, at_braced_payoff}
+use Rattle.gf_nfg.proofs.Common.{at_outcome_number, due_at, ended, ◌>>=◌, table_of, profile_limit}
+use Rattle.gf_nfg.proofs.Common.{BeginsWithinLimit, StaysWithinLimit, IsBareOrClosing, count_is}
+use Rattle.gf_nfg.specs.inner.Position.{Position as p}
 use Rattle.gf_fraction.specs.Computed.{number_of}
-use Rattle.gf_token.specs.Indices.{index_of, count_of}
-use Rattle.gf_nfg.specs.Table.{Table}
-use Rattle.gf_nfg.specs.Sentence.{Sentence}
-use Rattle.gf_nfg.specs.inner.Machine.{State, Content, step, step_at, to, run, start, counted}
-use Rattle.gf_nfg.specs.inner.Machine.{listed, settled, paid, chosen, at_strategies_end, at_first}
-use Rattle.gf_nfg.specs.inner.Machine.{at_count, at_list_opening, at_payoff, at_flat_payoffs}
-use Rattle.gf_nfg.specs.inner.Machine.{at_after_comment, at_braced_payoff, at_outcome_number}
-use Rattle.gf_nfg.specs.inner.Machine.{due_at, ended, ◌>>=◌}
-use Rattle.gf_nfg.specs.inner.Meaning.{table_of}
-use Rattle.gf_nfg.specs.Limit.{profile_limit}
-use Rattle.gf_nfg.specs.LimitByFiles.{BeginsWithinLimit, StaysWithinLimit, IsBareOrClosing}
-use Rattle.gf_token.proofs.ReadingIndices.{count_is}
+use Rattle.gf_token.specs.Indices.{index_of}
 use Rattle.gf_nfg.proofs.lemmas.tables.Meaning.{length-entries}
 use Rattle.gf_nfg.proofs.lemmas.runs.Sentence.{sentence_found, sentence_again}
 use Rattle.gf_nfg.proofs.lemmas.runs.Ends.{IsSettled, settled_ends}

@@ -1,19 +1,11 @@
 -- If counts pass the limit, the profiles of all files with them pass it.
-use Rattle.std.proofs.Common.{◌≡◌, ℕ, suc, ◌+◌, ◌-◌, ◌*◌, ◌<◌, ◌≤◌, List, [], ◌∷◌, ◌++◌, length}
-use Rattle.std.proofs.Common.{map, Ok, refl, sym, ap, subst, ◌∙◌, append_assoc, arith, inl, inr}
-use Rattle.std.specs.Prelude.{codes, ◌⊎◌}
-use Rattle.std.proofs.lemmas.List.{append-nil, length-append, length-map}
-use Rattle.gf_token.specs.Token.{Token}
-use Rattle.gf_token.specs.Token.Token.{Opening}
-use Rattle.gf_token.specs.Grammar.{Each}
-use Rattle.gf_fraction.proofs.AllElements.{all_parts}
-use Rattle.gf_nfg.specs.inner.Position.{Position, Position as p}
-use Rattle.gf_nfg.specs.Limit.{profile_limit}
-use Rattle.gf_nfg.specs.Profiles.{product}
-use Rattle.gf_nfg.specs.Sentence.{IsCount, IsLabelList}
-use Rattle.gf_nfg.specs.LimitByFiles.{BeginsPastLimit, IsBareOrClosing, StaysWithinLimit}
-use Rattle.gf_nfg.specs.LimitPlace.{GivesCounts}
-use Rattle.gf_nfg.specs.inner.Machine.{State, step}
+use Rattle.gf_nfg.proofs.Common.{◌≡◌, ℕ, suc, ◌+◌, ◌-◌, ◌*◌, ◌<◌, ◌≤◌, List, [], ◌∷◌, ◌++◌, length}
+use Rattle.gf_nfg.proofs.Common.{map, Ok, refl, sym, ap, subst, ◌∙◌, append_assoc, arith, inl, inr}
+use Rattle.gf_nfg.proofs.Common.{codes, ◌⊎◌, append-nil, length-append, length-map, Token, Opening}
+use Rattle.gf_nfg.proofs.Common.{Each, all_parts, Position, profile_limit, product, IsCount}
+use Rattle.gf_nfg.proofs.Common.{IsLabelList, BeginsPastLimit, IsBareOrClosing, StaysWithinLimit}
+use Rattle.gf_nfg.proofs.Common.{GivesCounts, State, step}
+use Rattle.gf_nfg.specs.inner.Position.{Position as p}
 use Rattle.gf_nfg.proofs.lemmas.places.Walk.{Leads, leads_on, leads_more, begins}
 use Rattle.gf_nfg.proofs.lemmas.limit.Stays.{makes_more, read_past, stays_within}
 use Rattle.gf_nfg.proofs.lemmas.limit.Products.{Strategies, PassesAtLast, PassesWith, by_strategies}

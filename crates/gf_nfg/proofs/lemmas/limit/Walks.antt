@@ -1,20 +1,12 @@
 -- Where a heading leads the machine, and the counts or lists of labels after it.
-use Rattle.std.proofs.Common.{◌≡◌, ℕ, zero, suc, ◌+◌, ◌-◌, ◌*◌, ◌<◌, List, [], ◌∷◌, ◌++◌, length}
-use Rattle.std.proofs.Common.{map, Some, Ok, refl, sym, ap, subst, ◌∙◌, append_assoc, arith, inl}
-use Rattle.std.proofs.Common.{inr}
-use Rattle.std.specs.Prelude.{codes, ◌⊎◌}
-use Rattle.std.proofs.Math.Nat.{mul-one, mul_assoc}
-use Rattle.std.proofs.lemmas.List.{append-nil, length-append}
-use Rattle.gf_token.specs.Token.{Token}
-use Rattle.gf_token.specs.Token.Token.{Opening, Closing, Text, Bare}
-use Rattle.gf_token.specs.Grammar.{Each, braced}
-use Rattle.gf_nfg.specs.inner.Position.{Position, Position as p}
-use Rattle.gf_nfg.specs.Profiles.{product}
-use Rattle.gf_token.specs.Indices.{count_of}
-use Rattle.gf_nfg.specs.Sentence.{IsCount, IsLabelList}
-use Rattle.gf_nfg.specs.inner.Machine.{State, Content, at, step, nothing, listed, with_title}
-use Rattle.gf_nfg.specs.inner.Machine.{with_players, with_labels, with_count}
-use Rattle.gf_token.proofs.ReadingIndices.{count_again}
+use Rattle.gf_nfg.proofs.Common.{◌≡◌, ℕ, zero, suc, ◌+◌, ◌-◌, ◌*◌, ◌<◌, List, [], ◌∷◌, ◌++◌, length}
+use Rattle.gf_nfg.proofs.Common.{map, Some, Ok, refl, sym, ap, subst, ◌∙◌, append_assoc, arith, inl}
+use Rattle.gf_nfg.proofs.Common.{inr, codes, ◌⊎◌, mul-one, mul_assoc, append-nil, length-append}
+use Rattle.gf_nfg.proofs.Common.{Token, Opening, Closing, Text, Bare, Each, braced, Position}
+use Rattle.gf_nfg.proofs.Common.{product, count_of, IsCount, IsLabelList, State, Content, at, step}
+use Rattle.gf_nfg.proofs.Common.{nothing, listed, with_title, with_players, with_labels, with_count}
+use Rattle.gf_nfg.proofs.Common.{count_again}
+use Rattle.gf_nfg.specs.inner.Position.{Position as p}
 use Rattle.gf_nfg.proofs.lemmas.tables.Lists.{length-counted_labels}
 use Rattle.gf_nfg.proofs.lemmas.runs.Common.{not_zero, pred_suc, with_no_players, with_more_players}
 use Rattle.gf_nfg.proofs.lemmas.runs.Common.{with_no_labels, with_more_labels}

@@ -1,27 +1,14 @@
 -- Two worked files: the counts of one pass the limit at the second count, those of the other
 -- nowhere.
-use Rattle.std.proofs.Common.{◌≡◌, ℕ, zero, suc, ◌<◌, ◌≤◌, List, [], ◌∷◌, ◌++◌, take, refl, sym, ap}
-use Rattle.std.proofs.Common.{subst, ◌∙◌, arith, inl}
-use Rattle.std.specs.Prelude.{codes}
+use Rattle.gf_nfg.proofs.Common.{◌≡◌, ℕ, zero, suc, ◌<◌, ◌≤◌, List, [], ◌∷◌, ◌++◌, take, refl, sym}
+use Rattle.gf_nfg.proofs.Common.{ap, subst, ◌∙◌, arith, inl, codes, map-append, Token, Lexeme}
+use Rattle.gf_nfg.proofs.Common.{lexeme, Opening, Closing, Text, Bare, Spells, Each, Gap, IsIndex}
+use Rattle.gf_nfg.proofs.Common.{Span, found, same_tokens, decimal_is_index, profile_limit, product}
+use Rattle.gf_nfg.proofs.Common.{IsCount, counted_labels, tokens_of, GivesCounts, IsLimitPlace}
+use Rattle.gf_nfg.proofs.Common.{State}
 use Rattle.std.specs.Fmt.{digits}
-use Rattle.std.proofs.lemmas.List.{map-append}
-use Rattle.gf_token.specs.Token.{Token, Lexeme, lexeme}
-use Rattle.gf_token.specs.Token.Token.{Opening, Closing, Text, Bare}
-use Rattle.gf_token.specs.TokenSpelling.{Spells}
-use Rattle.gf_token.specs.Grammar.{Each}
 use Rattle.gf_token.specs.inner.Lexing.{lex}
-use Rattle.gf_token.specs.inner.Lexing.Mode.{Gap}
-use Rattle.gf_token.specs.Index.{IsIndex}
-use Rattle.gf_token.specs.declared.fault.Span.{Span}
-use Rattle.gf_token.proofs.Spelled.{found, same_tokens}
-use Rattle.gf_token.proofs.SpelledNumbers.{decimal_is_index}
-use Rattle.gf_nfg.specs.Limit.{profile_limit}
-use Rattle.gf_nfg.specs.Profiles.{product}
-use Rattle.gf_nfg.specs.Sentence.{IsCount, counted_labels}
-use Rattle.gf_token.specs.Place.{tokens_of}
-use Rattle.gf_nfg.specs.LimitPlace.{GivesCounts, IsLimitPlace}
 use Rattle.gf_token.specs.Indices.{index_of}
-use Rattle.gf_nfg.specs.inner.Machine.{State}
 use Rattle.gf_nfg.proofs.lemmas.tables.Lists.{counts_back}
 use Rattle.gf_nfg.proofs.lemmas.places.Walk.{Leads}
 use Rattle.gf_nfg.proofs.lemmas.limit.Stays.{stays_within}

@@ -1,19 +1,7 @@
 -- Each list of bytes is a file within the limit, or it is refused.
-use Rattle.std.proofs.Common.{ℕ, List, Result, Ok, Err, length, inl, inr}
-use Rattle.std.specs.Prelude.{◌⊎◌}
-use Rattle.gf_token.specs.Token.{Lexeme}
-use Rattle.gf_token.specs.TokenSpelling.{Spells}
-use Rattle.gf_token.specs.declared.fault.Fault.{Fault}
-use Rattle.gf_token.specs.declared.fault.Span.{Span}
-use Rattle.gf_token.specs.declared.fault.Why.{Why}
-use Rattle.gf_token.proofs.Spelled.{spelled_once}
-use Rattle.gf_nfg.specs.inner.Heard.{read_on}
-use Rattle.gf_nfg.specs.Judgement.{IsRefused}
-use Rattle.gf_nfg.specs.LimitPlace.{IsWithinLimit}
-use Rattle.gf_nfg.specs.inner.Machine.{Content, start}
-use Rattle.gf_nfg.specs.inner.Meaning.{table_of}
-use Rattle.gf_nfg.specs.Table.{Table}
-use Rattle.gf_nfg.specs.TableText.{SpellsTable}
+use Rattle.gf_nfg.proofs.Common.{ℕ, List, Result, Ok, Err, length, inl, inr, ◌⊎◌, Lexeme, Spells}
+use Rattle.gf_nfg.proofs.Common.{Fault, Span, Why, spelled_once, read_on, IsRefused, IsWithinLimit}
+use Rattle.gf_nfg.proofs.Common.{Content, start, table_of, Table, SpellsTable}
 use Rattle.gf_nfg.proofs.lemmas.places.Heard.{IsAnswered, all_answered}
 use Rattle.gf_nfg.proofs.lemmas.tables.Meaning.{within_limit}
 

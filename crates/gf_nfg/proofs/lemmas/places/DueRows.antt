@@ -1,31 +1,19 @@
 -- The table of positions: what each row accepts and how it refuses the rest, and that the machine
 -- does so.
-use Rattle.std.proofs.Common.{◌≡◌, ℕ, zero, suc, ◌-◌, ◌<◌, Bool, true, false, cond, List, length}
-use Rattle.std.proofs.Common.{Option, Some, None, Result, Ok, Err, refl, sym, subst, arith, nat_eq}
-use Rattle.std.proofs.Common.{inl, inr}
-use Rattle.std.specs.Prelude.{◌⊎◌, ◌||◌, ◌==◌, if◌then◌else◌, not, codes, nat_le}
-use Rattle.std.specs.Cmp.Lexicographic.{pointwise}
-use Rattle.std.proofs.lemmas.Bool.Decides.{nat_tests}
-use Rattle.gf_token.specs.Token.{Token}
-use Rattle.gf_token.specs.Token.Token.{Opening, Closing, Comma, Text, Bare, Broken}
-use Rattle.gf_token.specs.Index.{IsIndex}
-use Rattle.gf_token.specs.NumberWhy.{why_of}
-use Rattle.gf_token.specs.declared.fault.What.{What}
+use Rattle.gf_nfg.proofs.Common.{◌≡◌, ℕ, zero, suc, ◌-◌, ◌<◌, Bool, true, false, cond, List, length}
+use Rattle.gf_nfg.proofs.Common.{Option, Some, None, Result, Ok, Err, refl, sym, subst, arith}
+use Rattle.gf_nfg.proofs.Common.{nat_eq, inl, inr, ◌⊎◌, ◌||◌, ◌==◌, if◌then◌else◌, not, codes}
+use Rattle.gf_nfg.proofs.Common.{nat_le, pointwise, nat_tests, Token, Opening, Closing, Comma, Text}
+use Rattle.gf_nfg.proofs.Common.{Bare, Broken, IsIndex, why_of, What, Why, Expected, BadIndex}
+use Rattle.gf_nfg.proofs.Common.{NoEntry, UnknownOutcome, Ratio, HasNumberFault, Reads, NumberFault}
+use Rattle.gf_nfg.proofs.Common.{number_is_computed, number_is, number_again, Position, Role, Suits}
+use Rattle.gf_nfg.proofs.Common.{Format, Version, Letter, Count, Payoff, OutcomeNumber, count_of}
+use Rattle.gf_nfg.proofs.Common.{State, step_at, counted, listed, paid, chosen, index_is}
+use Rattle.gf_nfg.proofs.Common.{index_again, count_is, count_again}
 use Rattle.gf_token.specs.declared.fault.What.TheVariants as what
-use Rattle.gf_token.specs.declared.fault.Why.{Why}
-use Rattle.gf_token.specs.declared.fault.Why.TheVariants.{Expected, BadIndex, NoEntry}
-use Rattle.gf_token.specs.declared.fault.Why.TheVariants.{UnknownOutcome}
-use Rattle.gf_fraction.specs.Ratio.{Ratio}
-use Rattle.gf_fraction.specs.NumberSpelling.{HasNumberFault, Reads}
 use Rattle.gf_fraction.specs.Computed.{number_of}
-use Rattle.gf_fraction.specs.declared.fraction.NumberFault.{NumberFault}
-use Rattle.gf_fraction.proofs.ComputedAnswers.{number_is_computed, number_is, number_again}
-use Rattle.gf_nfg.specs.inner.Position.{Position, Position as p}
-use Rattle.gf_nfg.specs.Due.{Role, Suits}
-use Rattle.gf_nfg.specs.Due.Role.{Format, Version, Letter, Count, Payoff, OutcomeNumber}
-use Rattle.gf_token.specs.Indices.{index_of, count_of}
-use Rattle.gf_nfg.specs.inner.Machine.{State, step_at, counted, listed, paid, chosen}
-use Rattle.gf_token.proofs.ReadingIndices.{index_is, index_again, count_is, count_again}
+use Rattle.gf_nfg.specs.inner.Position.{Position as p}
+use Rattle.gf_token.specs.Indices.{index_of}
 use Rattle.gf_nfg.proofs.lemmas.runs.Common.{same_bytes}
 
 -- Which tokens a row accepts, bare ones by their role, and the `What` of its E3.

@@ -1,19 +1,13 @@
 -- What a row names is due there, and no other token may follow than those that it accepts.
-use Rattle.std.proofs.Common.{◌≡◌, ℕ, zero, suc, Bool, true, false, List, [], ◌∷◌, length, map}
-use Rattle.std.proofs.Common.{arith, Option, Some, None, Result, Ok, Err, refl, subst, ap, inl, inr}
-use Rattle.std.specs.Prelude.{◌⊎◌, ◌↔◌, ◌==◌, if◌then◌else◌, not}
-use Rattle.gf_token.specs.Token.{Token}
-use Rattle.gf_token.specs.Token.Token.{Opening, Closing, Text, Bare, Broken}
-use Rattle.gf_token.specs.declared.fault.What.{What}
+use Rattle.gf_nfg.proofs.Common.{◌≡◌, ℕ, zero, suc, Bool, true, false, List, [], ◌∷◌, length, map}
+use Rattle.gf_nfg.proofs.Common.{arith, Option, Some, None, Result, Ok, Err, refl, subst, ap, inl}
+use Rattle.gf_nfg.proofs.Common.{inr, ◌⊎◌, ◌↔◌, ◌==◌, if◌then◌else◌, not, Token, Opening, Closing}
+use Rattle.gf_nfg.proofs.Common.{Text, Bare, Broken, What, Why, Expected, Position, MayFollow}
+use Rattle.gf_nfg.proofs.Common.{IsStrategicFile, Role, RoleIsDue, IsDue, Format, Version, Letter}
+use Rattle.gf_nfg.proofs.Common.{Count, Payoff, OutcomeNumber, State, Content, at, to, due_at}
+use Rattle.gf_nfg.proofs.Common.{ended, step, with_labels}
 use Rattle.gf_token.specs.declared.fault.What.TheVariants as what
-use Rattle.gf_token.specs.declared.fault.Why.{Why}
-use Rattle.gf_token.specs.declared.fault.Why.TheVariants.{Expected}
-use Rattle.gf_nfg.specs.inner.Position.{Position, Position as p}
-use Rattle.gf_token.specs.Place.{MayFollow}
-use Rattle.gf_nfg.specs.Sentence.{IsStrategicFile}
-use Rattle.gf_nfg.specs.Due.{Role, RoleIsDue, IsDue}
-use Rattle.gf_nfg.specs.Due.Role.{Format, Version, Letter, Count, Payoff, OutcomeNumber}
-use Rattle.gf_nfg.specs.inner.Machine.{State, Content, at, to, due_at, ended, step, with_labels}
+use Rattle.gf_nfg.specs.inner.Position.{Position as p}
 use Rattle.gf_nfg.proofs.lemmas.places.Walk.{Leads, walk, follows, refused, is_file}
 use Rattle.gf_nfg.proofs.lemmas.places.DueRows.{Row, Accepts, AcceptsBare, Answers, answers, no}
 use Rattle.gf_nfg.proofs.lemmas.places.DueRows.{row_at, unfilled, has_some, listed_in}

@@ -1,30 +1,18 @@
 -- What the machine answers to the tokens of an input is what the file means, or the refusal that is
 -- due; and at a place that it has passed, memory may be refused.
-use Rattle.std.proofs.Common.{◌≡◌, ℕ, ◌+◌, ◌<◌, ◌≤◌, Bool, true, false, List, [], ◌∷◌, ◌++◌, length}
-use Rattle.std.proofs.Common.{Option, None, Some, Result, Ok, Err, refl, sym, subst, ap, ◌∙◌, arith}
-use Rattle.std.specs.Prelude.{IfErr, if◌then◌else◌}
-use Rattle.gf_token.specs.Place.{tokens_of, IsSpanOf}
-use Rattle.gf_token.specs.Remaining.{AreInOrder, Remaining, StandsBefore}
-use Rattle.gf_token.specs.Token.{Token, Lexeme, lexeme}
-use Rattle.gf_token.specs.Token.Token.{Broken}
-use Rattle.gf_token.specs.TokenSpelling.{Spells}
-use Rattle.gf_token.specs.declared.fault.Fault.{Fault}
-use Rattle.gf_token.specs.declared.fault.Span.{Span}
-use Rattle.gf_token.specs.declared.fault.What.{What}
-use Rattle.gf_token.specs.declared.fault.Why.{Why}
-use Rattle.gf_token.specs.declared.fault.Why.TheVariants.{Memory, TooLong, TooManyProfiles}
-use Rattle.gf_token.specs.declared.fault.Why.TheVariants.{Unterminated}
-use Rattle.gf_token.proofs.Spelled.{same_tokens}
+use Rattle.gf_nfg.proofs.Common.{◌≡◌, ℕ, ◌+◌, ◌<◌, ◌≤◌, Bool, true, false, List, [], ◌∷◌, ◌++◌}
+use Rattle.gf_nfg.proofs.Common.{length, Option, None, Some, Result, Ok, Err, refl, sym, subst, ap}
+use Rattle.gf_nfg.proofs.Common.{◌∙◌, arith, IfErr, if◌then◌else◌, tokens_of, IsSpanOf, AreInOrder}
+use Rattle.gf_nfg.proofs.Common.{Remaining, StandsBefore, Token, Lexeme, lexeme, Broken, Spells}
+use Rattle.gf_nfg.proofs.Common.{Fault, Span, What, Why, Memory, TooLong, TooManyProfiles}
+use Rattle.gf_nfg.proofs.Common.{Unterminated, same_tokens, Answer, Fails, HasPassed}
+use Rattle.gf_nfg.proofs.Common.{HasPassedPlace, at_end, heard, is_past, read_on, taken, then_on}
+use Rattle.gf_nfg.proofs.Common.{within, IsAcceptedWithinLimit, IsJudged, IsRefusal, IsRefused}
+use Rattle.gf_nfg.proofs.Common.{profile_limit, Content, State, due_at, ended, finish, nothing}
+use Rattle.gf_nfg.proofs.Common.{start, step, answer, content_in}
 use Rattle.gf_token.proofs.TokensAhead.{in_order}
-use Rattle.gf_nfg.specs.inner.Heard.{Answer, Fails, HasPassed, HasPassedPlace, at_end, heard}
-use Rattle.gf_nfg.specs.inner.Heard.{is_past, read_on, taken, then_on, within}
 use Rattle.gf_nfg.specs.inner.Heard.Fails.{of_file, of_memory}
-use Rattle.gf_nfg.specs.Judgement.{IsAcceptedWithinLimit, IsJudged, IsRefusal, IsRefused}
-use Rattle.gf_nfg.specs.Limit.{profile_limit}
-use Rattle.gf_nfg.specs.inner.Machine.{Content, State, due_at, ended, finish, nothing, start}
-use Rattle.gf_nfg.specs.inner.Machine.{step}
 use Rattle.gf_nfg.specs.inner.Position.{Position as p}
-use Rattle.gf_nfg.specs.inner.ReaderState.{answer, content_in}
 use Rattle.gf_nfg.specs.declared.reader.Reader.{Reader}
 use Rattle.gf_nfg.proofs.lemmas.places.Judged.{accepted, broken, end_of, err, limit, only_expected}
 use Rattle.gf_nfg.proofs.lemmas.places.Judged.{refusal, refusal_end, span_of}

@@ -1,24 +1,12 @@
 -- Where the reader refuses, no file goes on, or each file that does is above the limit.
-use Rattle.std.proofs.Common.{◌≡◌, ℕ, ◌<◌, ◌≤◌, List, [], ◌∷◌, ◌++◌, length, Option, None, Some}
-use Rattle.std.proofs.Common.{Result, Ok, Err, refl, sym, subst, ◌∙◌, append_assoc, arith}
-use Rattle.std.proofs.lemmas.List.{append-nil, map-append}
-use Rattle.gf_token.specs.Token.{Token, Lexeme, lexeme}
-use Rattle.gf_token.specs.Token.Token.{Broken}
-use Rattle.gf_token.specs.TokenSpelling.{Spells}
-use Rattle.gf_token.specs.declared.fault.Fault.{Fault}
-use Rattle.gf_token.specs.declared.fault.Span.{Span}
-use Rattle.gf_token.specs.declared.fault.What.{What}
-use Rattle.gf_token.specs.declared.fault.Why.{Why}
-use Rattle.gf_token.specs.declared.fault.Why.TheVariants.{TooLong, Unterminated, Expected, Memory}
-use Rattle.gf_token.specs.declared.fault.Why.TheVariants.{TooManyProfiles}
-use Rattle.gf_nfg.specs.Limit.{profile_limit}
-use Rattle.gf_nfg.specs.Table.{Table}
-use Rattle.gf_nfg.specs.Sentence.{Sentence, IsStrategicFile}
-use Rattle.gf_nfg.specs.TableText.{SpellsTable}
-use Rattle.gf_token.specs.Place.{tokens_of, IsOffendingPlace}
-use Rattle.gf_nfg.specs.LimitPlace.{IsLimitPlace, IsWithinLimit}
-use Rattle.gf_nfg.specs.inner.Machine.{State, Content, step, finish, ended}
-use Rattle.gf_nfg.specs.Judgement.{IsRefusal, IsAcceptedWithinLimit, IsJudged}
+use Rattle.gf_nfg.proofs.Common.{◌≡◌, ℕ, ◌<◌, ◌≤◌, List, [], ◌∷◌, ◌++◌, length, Option, None, Some}
+use Rattle.gf_nfg.proofs.Common.{Result, Ok, Err, refl, sym, subst, ◌∙◌, append_assoc, arith}
+use Rattle.gf_nfg.proofs.Common.{append-nil, map-append, Token, Lexeme, lexeme, Broken, Spells}
+use Rattle.gf_nfg.proofs.Common.{Fault, Span, What, Why, TooLong, Unterminated, Expected, Memory}
+use Rattle.gf_nfg.proofs.Common.{TooManyProfiles, profile_limit, Table, Sentence, IsStrategicFile}
+use Rattle.gf_nfg.proofs.Common.{SpellsTable, tokens_of, IsOffendingPlace, IsLimitPlace}
+use Rattle.gf_nfg.proofs.Common.{IsWithinLimit, State, Content, step, finish, ended, IsRefusal}
+use Rattle.gf_nfg.proofs.Common.{IsAcceptedWithinLimit, IsJudged}
 use Rattle.gf_token.proofs.Places.{no_file as refused_no_file}
 use Rattle.gf_nfg.proofs.lemmas.limit.Counts.{limit_by_files}
 use Rattle.gf_nfg.proofs.lemmas.limit.Passed.{later, nowhere}

@@ -1,16 +1,8 @@
 -- What the tokens so far have led the machine to, and what follows from it for the whole input.
-use Rattle.std.proofs.Common.{◌≡◌, ℕ, List, [], ◌∷◌, ◌++◌, Result, Ok, arith, refl, sym, ap, subst}
-use Rattle.std.proofs.Common.{◌∙◌, append_assoc}
-use Rattle.std.proofs.lemmas.List.{map-append}
-use Rattle.gf_token.specs.Token.{Token, Lexeme}
-use Rattle.gf_token.specs.TokenSpelling.{Spells}
-use Rattle.gf_token.specs.declared.fault.Why.{Why}
-use Rattle.gf_token.proofs.Spelled.{same_tokens}
-use Rattle.gf_nfg.specs.Table.{Table}
-use Rattle.gf_nfg.specs.Sentence.{Sentence}
-use Rattle.gf_nfg.specs.TableText.{SpellsTable}
-use Rattle.gf_token.specs.Place.{tokens_of}
-use Rattle.gf_nfg.specs.inner.Machine.{State, Content, run, step, finish, start}
+use Rattle.gf_nfg.proofs.Common.{◌≡◌, ℕ, List, [], ◌∷◌, ◌++◌, Result, Ok, arith, refl, sym, ap}
+use Rattle.gf_nfg.proofs.Common.{subst, ◌∙◌, append_assoc, map-append, Token, Lexeme, Spells, Why}
+use Rattle.gf_nfg.proofs.Common.{same_tokens, Table, Sentence, SpellsTable, tokens_of, State}
+use Rattle.gf_nfg.proofs.Common.{Content, run, step, finish, start}
 use Rattle.gf_nfg.proofs.lemmas.runs.Sentence.{Read, sentence_found, one_table}
 use Rattle.gf_nfg.proofs.lemmas.places.Walk.{Leads, leads_more, leads_run}
 

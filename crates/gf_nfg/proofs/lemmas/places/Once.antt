@@ -1,20 +1,9 @@
 -- A strategic file is refused at one place, with one code.
-use Rattle.std.proofs.Common.{◌≡◌, ℕ, List, length, refl, sym, ap, subst, ◌∙◌, inl, inr}
-use Rattle.std.specs.Prelude.{◌⊎◌}
-use Rattle.gf_token.specs.Token.{Lexeme}
-use Rattle.gf_token.specs.Code.{code_of}
-use Rattle.gf_token.specs.Place.{tokens_of, IsSpanOf}
-use Rattle.gf_token.specs.declared.fault.Span.{Span}
-use Rattle.gf_token.specs.declared.fault.Why.{Why}
-use Rattle.gf_token.specs.declared.fault.Why.TheVariants.{Memory, TooManyProfiles, TooLong}
-use Rattle.gf_token.proofs.Places.{one_span, one_offending_place, one_code}
-use Rattle.gf_nfg.specs.Table.{Table}
-use Rattle.gf_nfg.specs.Sentence.{IsStrategicFile}
-use Rattle.gf_nfg.specs.TableText.{SpellsTable}
-use Rattle.gf_nfg.specs.LimitPlace.{IsLimitPlace, IsWithinLimit}
-use Rattle.gf_nfg.specs.Due.{IsDue}
-use Rattle.gf_nfg.specs.Reason.{Holds, IsReason}
-use Rattle.gf_nfg.specs.Judgement.{IsRefusal, IsJudged, IsRefused}
+use Rattle.gf_nfg.proofs.Common.{◌≡◌, ℕ, List, length, refl, sym, ap, subst, ◌∙◌, inl, inr, ◌⊎◌}
+use Rattle.gf_nfg.proofs.Common.{Lexeme, code_of, tokens_of, IsSpanOf, Span, Why, Memory}
+use Rattle.gf_nfg.proofs.Common.{TooManyProfiles, TooLong, one_span, one_offending_place, one_code}
+use Rattle.gf_nfg.proofs.Common.{Table, IsStrategicFile, SpellsTable, IsLimitPlace, IsWithinLimit}
+use Rattle.gf_nfg.proofs.Common.{IsDue, Holds, IsReason, IsRefusal, IsJudged, IsRefused}
 use Rattle.gf_nfg.proofs.lemmas.limit.Passed.{one_limit_place}
 use Rattle.gf_nfg.proofs.lemmas.places.Judged.{only_memory}
 

@@ -1,33 +1,18 @@
 -- The code of each refusal is the reason for it.
-use Rattle.std.proofs.Common.{◌≡◌, ℕ, ◌≤◌, Bool, true, false, List, [], ◌∷◌, ◌++◌, map, Option}
-use Rattle.std.proofs.Common.{Some, None, Ok, Err, refl, sym, subst, arith, inl, inr}
-use Rattle.std.specs.Prelude.{codes, nat_eq}
-use Rattle.std.specs.Cmp.Lexicographic.{pointwise}
-use Rattle.gf_token.specs.Token.{Token}
-use Rattle.gf_token.specs.Token.Token.{Opening, Closing, Comma, Text, Bare, Broken}
-use Rattle.gf_token.specs.Index.{IsIndex}
-use Rattle.gf_token.specs.Code.{code_of}
-use Rattle.gf_token.specs.NumberWhy.{why_of}
-use Rattle.gf_token.specs.declared.fault.What.{What}
+use Rattle.gf_nfg.proofs.Common.{◌≡◌, ℕ, ◌≤◌, Bool, true, false, List, [], ◌∷◌, ◌++◌, map, Option}
+use Rattle.gf_nfg.proofs.Common.{Some, None, Ok, Err, refl, sym, subst, arith, inl, inr, codes}
+use Rattle.gf_nfg.proofs.Common.{nat_eq, pointwise, Token, Opening, Closing, Comma, Text, Bare}
+use Rattle.gf_nfg.proofs.Common.{Broken, IsIndex, code_of, why_of, What, Why, Unterminated}
+use Rattle.gf_nfg.proofs.Common.{Expected, NotANumber, ZeroDenominator, NumberTooLarge, BadIndex}
+use Rattle.gf_nfg.proofs.Common.{NoEntry, UnknownOutcome, HasNumberFault, NumberFault, number_is}
+use Rattle.gf_nfg.proofs.Common.{same_fault, Begins, MayFollow, IsStrategicFile, Role, Suits}
+use Rattle.gf_nfg.proofs.Common.{RoleIsDue, IsDue, Format, Version, Letter, Count, Payoff}
+use Rattle.gf_nfg.proofs.Common.{OutcomeNumber, Applies, IsReason, count_of, Content, State, ended}
+use Rattle.gf_nfg.proofs.Common.{finish, step, index_is, index_again, count_is, count_again}
 use Rattle.gf_token.specs.declared.fault.What.TheVariants as what
-use Rattle.gf_token.specs.declared.fault.Why.{Why}
-use Rattle.gf_token.specs.declared.fault.Why.TheVariants.{Unterminated, Expected, NotANumber}
-use Rattle.gf_token.specs.declared.fault.Why.TheVariants.{ZeroDenominator, NumberTooLarge, BadIndex}
-use Rattle.gf_token.specs.declared.fault.Why.TheVariants.{NoEntry, UnknownOutcome}
-use Rattle.gf_fraction.specs.NumberSpelling.{HasNumberFault}
 use Rattle.gf_fraction.specs.Computed.{number_of, lowest_of, gcd_within}
-use Rattle.gf_fraction.specs.declared.fraction.NumberFault.{NumberFault}
 use Rattle.gf_fraction.specs.declared.fraction.NumberFault.TheVariants as number
-use Rattle.gf_fraction.proofs.ComputedAnswers.{number_is}
-use Rattle.gf_fraction.proofs.ReadingBack.{same_fault}
-use Rattle.gf_token.specs.Place.{Begins, MayFollow}
-use Rattle.gf_nfg.specs.Sentence.{IsStrategicFile}
-use Rattle.gf_nfg.specs.Due.{Role, Suits, RoleIsDue, IsDue}
-use Rattle.gf_nfg.specs.Due.Role.{Format, Version, Letter, Count, Payoff, OutcomeNumber}
-use Rattle.gf_nfg.specs.Reason.{Applies, IsReason}
-use Rattle.gf_token.specs.Indices.{index_of, count_of}
-use Rattle.gf_nfg.specs.inner.Machine.{Content, State, ended, finish, step}
-use Rattle.gf_token.proofs.ReadingIndices.{index_is, index_again, count_is, count_again}
+use Rattle.gf_token.specs.Indices.{index_of}
 use Rattle.gf_nfg.proofs.lemmas.runs.Ends.{zero_text, zero_number, zero_is_number, zero_is_index}
 use Rattle.gf_nfg.proofs.lemmas.places.Walk.{Leads, leads_on, begins, stops}
 use Rattle.gf_nfg.proofs.lemmas.places.DueRows.{Accepts, AcceptsBare, RefusesBare, RefusesClosing}

@@ -1,13 +1,8 @@
 -- Where tokens lead the machine, and what may follow them.
-use Rattle.std.proofs.Common.{◌≡◌, List, [], ◌∷◌, ◌++◌, Result, Ok, Err, refl, sym, ap, ◌∙◌}
-use Rattle.std.proofs.Common.{append_assoc}
-use Rattle.std.proofs.lemmas.List.{append-nil}
-use Rattle.gf_token.specs.Token.{Token}
-use Rattle.gf_token.specs.declared.fault.Why.{Why}
-use Rattle.gf_nfg.specs.Sentence.{Sentence, IsStrategicFile}
-use Rattle.gf_token.specs.Place.{Begins, MayFollow}
-use Rattle.gf_nfg.specs.inner.Machine.{State, Content, run, step, finish, start, ◌>>=◌}
-use Rattle.gf_nfg.specs.inner.Meaning.{table_of}
+use Rattle.gf_nfg.proofs.Common.{◌≡◌, List, [], ◌∷◌, ◌++◌, Result, Ok, Err, refl, sym, ap, ◌∙◌}
+use Rattle.gf_nfg.proofs.Common.{append_assoc, append-nil, Token, Why, Sentence, IsStrategicFile}
+use Rattle.gf_nfg.proofs.Common.{Begins, MayFollow, State, Content, run, step, finish, start, ◌>>=◌}
+use Rattle.gf_nfg.proofs.Common.{table_of}
 use Rattle.gf_nfg.proofs.lemmas.runs.Common.{ok_is}
 use Rattle.gf_nfg.proofs.lemmas.runs.Sentence.{sentence_found, sentence_again}
 use Rattle.gf_nfg.proofs.lemmas.runs.Ends.{ends}

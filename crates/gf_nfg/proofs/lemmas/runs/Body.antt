@@ -1,15 +1,10 @@
 -- Runs over the comment and the body.
-use Rattle.std.proofs.Common.{◌≡◌, ℕ, ◌+◌, ◌*◌, ◌≤◌, subst, arith, List, [], ◌∷◌, ◌++◌, length, Ok}
-use Rattle.std.proofs.Common.{refl, append_assoc, inl, inr}
-use Rattle.std.specs.Prelude.{◌⊎◌}
-use Rattle.std.specs.List.{AllByRecursion}
-use Rattle.gf_token.specs.Token.{Token}
-use Rattle.gf_token.specs.Token.Token.{Opening, Closing, Text, Bare}
-use Rattle.gf_token.specs.Grammar.{Each, braced, IsComment}
-use Rattle.gf_fraction.specs.Ratio.{Ratio}
+use Rattle.gf_nfg.proofs.Common.{◌≡◌, ℕ, ◌+◌, ◌*◌, ◌≤◌, subst, arith, List, [], ◌∷◌, ◌++◌, length}
+use Rattle.gf_nfg.proofs.Common.{Ok, refl, append_assoc, inl, inr, ◌⊎◌, AllByRecursion, Token}
+use Rattle.gf_nfg.proofs.Common.{Opening, Closing, Text, Bare, Each, braced, IsComment, Ratio}
+use Rattle.gf_nfg.proofs.Common.{IsPayoff, IsOutcomeInBraces, Content, at, run, with_comment}
+use Rattle.gf_nfg.proofs.Common.{with_payoffs, with_choices}
 use Rattle.gf_nfg.specs.inner.Position.{Position as p}
-use Rattle.gf_nfg.specs.Sentence.{IsPayoff, IsOutcomeInBraces}
-use Rattle.gf_nfg.specs.inner.Machine.{Content, at, run, with_comment, with_payoffs, with_choices}
 use Rattle.gf_nfg.proofs.lemmas.tables.Lists.{joined}
 use Rattle.gf_nfg.proofs.lemmas.runs.Payoffs.{flat_found, flat_again}
 use Rattle.gf_nfg.proofs.lemmas.runs.Outcomes.{Choices, IsChoice, greatest, outcomes_found}

@@ -1,15 +1,9 @@
 -- What the lemmas on runs of the machine share.
-use Rattle.std.proofs.Common.{◌≡◌, ℕ, suc, ◌-◌, Bool, true, false, cond, List, [], ◌∷◌, ◌++◌}
-use Rattle.std.proofs.Common.{Result, Ok, Err, refl, ap, append_assoc, arith, nat_eq, tests, rules}
-use Rattle.std.specs.Cmp.Lexicographic.{pointwise}
-use Rattle.std.proofs.lemmas.List.{append-nil}
-use Rattle.std.proofs.lemmas.Slice.Eq.{slice_eq-Decides}
-use Rattle.std.proofs.lemmas.Bool.Decides.{Decides-eqb}
-use Rattle.gf_token.specs.Token.{Token}
-use Rattle.gf_token.specs.declared.fault.Why.{Why}
-use Rattle.gf_fraction.specs.Ratio.{Ratio}
-use Rattle.gf_nfg.specs.inner.Machine.{State, Content, run, with_players, with_labels, with_payoffs}
-use Rattle.gf_nfg.specs.inner.Machine.{with_choices, ◌>>=◌}
+use Rattle.gf_nfg.proofs.Common.{◌≡◌, ℕ, suc, ◌-◌, Bool, true, false, cond, List, [], ◌∷◌, ◌++◌}
+use Rattle.gf_nfg.proofs.Common.{Result, Ok, Err, refl, ap, append_assoc, arith, nat_eq, tests}
+use Rattle.gf_nfg.proofs.Common.{rules, pointwise, append-nil, slice_eq-Decides, Decides-eqb, Token}
+use Rattle.gf_nfg.proofs.Common.{Why, Ratio, State, Content, run, with_players, with_labels}
+use Rattle.gf_nfg.proofs.Common.{with_payoffs, with_choices, ◌>>=◌}
 
 pub not_zero : (d : ℕ) → nat_eq (suc d) 0 ≡ false
 not_zero d = search (tests, rules)

@@ -1,19 +1,13 @@
 -- Each state of the machine can be completed.
-use Rattle.std.proofs.Common.{true, ◌≡◌, ℕ, zero, suc, ◌+◌, ◌-◌, ◌*◌, ◌<◌, List, [], ◌∷◌, length}
-use Rattle.std.proofs.Common.{Some, Ok, refl, ap, subst, ◌∙◌, arith, inl, inr}
-use Rattle.std.specs.Prelude.{nat_le, ◌⊎◌, codes, pos}
-use Rattle.std.proofs.Math.Nat.{mul-one}
-use Rattle.std.proofs.lemmas.Bool.{le-leb}
-use Rattle.std.proofs.lemmas.List.{length-append}
-use Rattle.gf_token.specs.Token.{Token}
-use Rattle.gf_token.specs.Token.Token.{Opening, Closing, Text, Bare}
-use Rattle.gf_fraction.specs.Ratio.{Ratio, whole}
-use Rattle.gf_nfg.specs.inner.Position.{Position, Position as p}
+use Rattle.gf_nfg.proofs.Common.{true, ◌≡◌, ℕ, zero, suc, ◌+◌, ◌-◌, ◌*◌, ◌<◌, List, [], ◌∷◌, length}
+use Rattle.gf_nfg.proofs.Common.{Some, Ok, refl, ap, subst, ◌∙◌, arith, inl, inr, nat_le, ◌⊎◌}
+use Rattle.gf_nfg.proofs.Common.{codes, pos, mul-one, le-leb, length-append, Token, Opening}
+use Rattle.gf_nfg.proofs.Common.{Closing, Text, Bare, Ratio, whole, Position, count_of, State}
+use Rattle.gf_nfg.proofs.Common.{Content, at, step, run, listed, with_title, with_labels}
+use Rattle.gf_nfg.proofs.Common.{with_count, with_payoffs, with_choices, next_outcome}
+use Rattle.gf_nfg.specs.inner.Position.{Position as p}
 use Rattle.gf_fraction.specs.Computed.{number_of, lowest_of, gcd_within}
-use Rattle.gf_token.specs.Indices.{index_of, count_of}
-use Rattle.gf_nfg.specs.inner.Machine.{State, Content, at, step, run, listed, with_title}
-use Rattle.gf_nfg.specs.inner.Machine.{with_labels, with_count, with_payoffs, with_choices}
-use Rattle.gf_nfg.specs.inner.Machine.{next_outcome}
+use Rattle.gf_token.specs.Indices.{index_of}
 use Rattle.gf_nfg.proofs.lemmas.runs.Common.{not_zero, pred_suc}
 
 -- it can be completed, to this many profiles

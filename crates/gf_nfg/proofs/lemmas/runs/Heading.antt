@@ -1,15 +1,10 @@
 -- Runs over the heading of a strategic file: its format, title and players.
-use Rattle.std.proofs.Common.{◌≡◌, ℕ, Bool, true, List, [], ◌∷◌, ◌++◌, length, map, Ok, refl, sym}
-use Rattle.std.proofs.Common.{ap, subst, append_assoc, arith, inl, inr, nat_eq}
-use Rattle.std.specs.Prelude.{codes, ◌||◌, ◌⊎◌}
-use Rattle.std.specs.Cmp.Lexicographic.{pointwise}
-use Rattle.gf_token.specs.Token.{Token}
-use Rattle.gf_token.specs.Token.Token.{Opening, Closing, Text, Bare}
+use Rattle.gf_nfg.proofs.Common.{◌≡◌, ℕ, Bool, true, List, [], ◌∷◌, ◌++◌, length, map, Ok, refl}
+use Rattle.gf_nfg.proofs.Common.{sym, ap, subst, append_assoc, arith, inl, inr, nat_eq, codes, ◌||◌}
+use Rattle.gf_nfg.proofs.Common.{◌⊎◌, pointwise, Token, Opening, Closing, Text, Bare, Expected}
+use Rattle.gf_nfg.proofs.Common.{braced, Content, at, run, start, nothing, with_title, with_players}
 use Rattle.gf_token.specs.declared.fault.What.TheVariants as what
-use Rattle.gf_token.specs.declared.fault.Why.TheVariants.{Expected}
-use Rattle.gf_token.specs.Grammar.{braced}
 use Rattle.gf_nfg.specs.inner.Position.{Position as p}
-use Rattle.gf_nfg.specs.inner.Machine.{Content, at, run, start, nothing, with_title, with_players}
 use Rattle.gf_nfg.proofs.lemmas.runs.Common.{guard_ok, same_bytes, with_no_players}
 use Rattle.gf_nfg.proofs.lemmas.runs.Common.{with_more_players}
 

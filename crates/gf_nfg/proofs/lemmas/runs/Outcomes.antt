@@ -1,20 +1,13 @@
 -- Runs over the outcomes in braces, and over the outcome numbers after them.
-use Rattle.std.proofs.Common.{◌≡◌, ℕ, zero, suc, ◌+◌, ◌-◌, ◌<◌, ◌≤◌, ◌^◌, min, false, List, [], ◌∷◌}
-use Rattle.std.proofs.Common.{◌++◌, length, Option, Some, Ok, refl, sym, ap, subst, ◌∙◌}
-use Rattle.std.proofs.Common.{append_assoc, arith}
-use Rattle.std.specs.List.{AllByRecursion}
-use Rattle.std.proofs.lemmas.List.{length-append}
-use Rattle.gf_token.specs.Token.{Token}
-use Rattle.gf_token.specs.Token.Token.{Opening, Closing, Text, Bare}
-use Rattle.gf_token.specs.Index.{IsIndex}
-use Rattle.gf_token.specs.Grammar.{Each, braced, IsPayoffInBraces}
-use Rattle.gf_fraction.specs.Ratio.{Ratio}
+use Rattle.gf_nfg.proofs.Common.{◌≡◌, ℕ, zero, suc, ◌+◌, ◌-◌, ◌<◌, ◌≤◌, ◌^◌, min, false, List, []}
+use Rattle.gf_nfg.proofs.Common.{◌∷◌, ◌++◌, length, Option, Some, Ok, refl, sym, ap, subst, ◌∙◌}
+use Rattle.gf_nfg.proofs.Common.{append_assoc, arith, AllByRecursion, length-append, Token, Opening}
+use Rattle.gf_nfg.proofs.Common.{Closing, Text, Bare, IsIndex, Each, braced, IsPayoffInBraces}
+use Rattle.gf_nfg.proofs.Common.{Ratio, IsOutcomeInBraces, State, Content, at, run, chosen}
+use Rattle.gf_nfg.proofs.Common.{with_payoffs, with_choices, next_outcome, ◌>>=◌, index_is}
+use Rattle.gf_nfg.proofs.Common.{index_again}
 use Rattle.gf_nfg.specs.inner.Position.{Position as p}
 use Rattle.gf_token.specs.Indices.{index_of}
-use Rattle.gf_nfg.specs.Sentence.{IsOutcomeInBraces}
-use Rattle.gf_nfg.specs.inner.Machine.{State, Content, at, run, chosen, with_payoffs, with_choices}
-use Rattle.gf_nfg.specs.inner.Machine.{next_outcome, ◌>>=◌}
-use Rattle.gf_token.proofs.ReadingIndices.{index_is, index_again}
 use Rattle.gf_nfg.proofs.lemmas.tables.Lists.{joined}
 use Rattle.gf_nfg.proofs.lemmas.runs.Common.{not_zero, pred_suc, ok_why, ok_is, with_no_payoffs}
 use Rattle.gf_nfg.proofs.lemmas.runs.Common.{with_more_payoffs, with_no_choices, with_more_choices}

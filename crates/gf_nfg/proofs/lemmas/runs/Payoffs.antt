@@ -1,19 +1,11 @@
 -- Runs over payoffs: the flat list, and one outcome's in braces.
-use Rattle.std.proofs.Common.{◌≡◌, ℕ, zero, suc, ◌-◌, Bool, true, false, List, [], ◌∷◌, ◌++◌}
-use Rattle.std.proofs.Common.{length, Result, Ok, Err, refl, sym, ap, subst, ◌∙◌, append_assoc, inl}
-use Rattle.std.proofs.Common.{inr}
-use Rattle.std.specs.Prelude.{◌⊎◌}
-use Rattle.gf_token.specs.Token.{Token}
-use Rattle.gf_token.specs.Token.Token.{Closing, Comma, Bare}
-use Rattle.gf_token.specs.Grammar.{Each, IsPayoffInBraces}
-use Rattle.gf_fraction.specs.Ratio.{Ratio}
-use Rattle.gf_fraction.specs.declared.fraction.NumberFault.{NumberFault}
-use Rattle.gf_nfg.specs.inner.Position.{Position, Position as p}
+use Rattle.gf_nfg.proofs.Common.{◌≡◌, ℕ, zero, suc, ◌-◌, Bool, true, false, List, [], ◌∷◌, ◌++◌}
+use Rattle.gf_nfg.proofs.Common.{length, Result, Ok, Err, refl, sym, ap, subst, ◌∙◌, append_assoc}
+use Rattle.gf_nfg.proofs.Common.{inl, inr, ◌⊎◌, Token, Closing, Comma, Bare, Each, IsPayoffInBraces}
+use Rattle.gf_nfg.proofs.Common.{Ratio, NumberFault, Position, number_is, number_again, IsPayoff}
+use Rattle.gf_nfg.proofs.Common.{State, Content, at, run, paid, with_payoffs, next_outcome, ◌>>=◌}
+use Rattle.gf_nfg.specs.inner.Position.{Position as p}
 use Rattle.gf_fraction.specs.Computed.{number_of}
-use Rattle.gf_fraction.proofs.ComputedAnswers.{number_is, number_again}
-use Rattle.gf_nfg.specs.Sentence.{IsPayoff}
-use Rattle.gf_nfg.specs.inner.Machine.{State, Content, at, run, paid, with_payoffs, next_outcome}
-use Rattle.gf_nfg.specs.inner.Machine.{◌>>=◌}
 use Rattle.gf_nfg.proofs.lemmas.runs.Common.{not_zero, pred_suc, ok_why, ok_is, with_no_payoffs}
 use Rattle.gf_nfg.proofs.lemmas.runs.Common.{with_more_payoffs}
 

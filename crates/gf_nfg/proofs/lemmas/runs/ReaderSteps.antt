@@ -1,25 +1,16 @@
 -- What the methods of the reader rest on: answers carried back, and steps with a test of what is
 -- due.
-use Rattle.std.proofs.Common.{◌≡◌, ℕ, ◌<◌, ◌-◌, ◌*◌, List, [], ◌∷◌, length, Result, Ok, Err, refl}
-use Rattle.std.proofs.Common.{sym, ap, subst, ◌∙◌, arith}
-use Rattle.std.specs.Prelude.{MatchResult}
-use Rattle.gf_token.specs.declared.label.Label.{Label}
-use Rattle.gf_token.specs.Remaining.{Remaining}
-use Rattle.gf_token.specs.Token.{Lexeme, lexeme}
-use Rattle.gf_token.specs.Token.Token.{Opening, Closing, Text}
-use Rattle.gf_token.specs.declared.fault.Fault.{Fault}
-use Rattle.gf_token.specs.declared.fault.Span.{Span}
-use Rattle.gf_nfg.specs.inner.Heard.{Answer, Fails, Goes, heard, read_on, then_on, within}
-use Rattle.gf_nfg.specs.inner.Machine.{Content, State, at, settled}
+use Rattle.gf_nfg.proofs.Common.{◌≡◌, ℕ, ◌<◌, ◌-◌, ◌*◌, List, [], ◌∷◌, length, Result, Ok, Err}
+use Rattle.gf_nfg.proofs.Common.{refl, sym, ap, subst, ◌∙◌, arith, MatchResult, Label, Remaining}
+use Rattle.gf_nfg.proofs.Common.{Lexeme, lexeme, Opening, Closing, Text, Fault, Span, Answer, Fails}
+use Rattle.gf_nfg.proofs.Common.{Goes, heard, read_on, then_on, within, Content, State, at, settled}
+use Rattle.gf_nfg.proofs.Common.{HasToldAll, body_answer, content_in, content_told, labels_of}
+use Rattle.gf_nfg.proofs.Common.{told_answer, Told, length-map}
 use Rattle.gf_nfg.specs.inner.Position.{Position as p}
-use Rattle.gf_nfg.specs.inner.ReaderState.{HasToldAll, body_answer, content_in, content_told}
-use Rattle.gf_nfg.specs.inner.ReaderState.{labels_of, told_answer}
-use Rattle.gf_nfg.specs.inner.Told.{Told}
 use Rattle.gf_nfg.specs.declared.table.heading.Heading.{Heading}
 use Rattle.gf_nfg.specs.declared.reader.Reader.{Reader}
 use Rattle.gf_nfg.specs.declared.reader.receive.Version.{Version}
 use Rattle.gf_nfg.specs.declared.reader.receive.Version.TheVariants as version
-use Rattle.std.proofs.lemmas.List.{length-map}
 use Rattle.gf_nfg.proofs.lemmas.places.Heard.{carried}
 
 -- ---- answers carried back

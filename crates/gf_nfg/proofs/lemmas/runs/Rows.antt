@@ -1,15 +1,9 @@
 -- The rows of both bodies: as the grammar has them, and as they were read.
-use Rattle.std.proofs.Common.{◌≡◌, ℕ, zero, suc, ◌*◌, ◌<◌, ◌≤◌, ◌^◌, List, [], ◌∷◌, ◌++◌, length}
-use Rattle.std.proofs.Common.{map, take, drop, refl, sym, ap, subst, ◌∙◌, append_assoc, arith}
-use Rattle.std.proofs.Common.{length-drop}
-use Rattle.std.specs.List.{AllByRecursion}
-use Rattle.std.proofs.Math.Nat.{mul-suc}
-use Rattle.std.proofs.lemmas.Option.{slice_get_within}
-use Rattle.gf_token.specs.Token.{Token}
-use Rattle.gf_token.specs.Grammar.{Each}
-use Rattle.gf_fraction.specs.Ratio.{Ratio}
-use Rattle.gf_nfg.specs.Sentence.{IsPayoff, IsOutcomeInBraces, IsOutcomeNumber, Pays}
-use Rattle.gf_nfg.specs.TableParts.{row_of}
+use Rattle.gf_nfg.proofs.Common.{◌≡◌, ℕ, zero, suc, ◌*◌, ◌<◌, ◌≤◌, ◌^◌, List, [], ◌∷◌, ◌++◌, length}
+use Rattle.gf_nfg.proofs.Common.{map, take, drop, refl, sym, ap, subst, ◌∙◌, append_assoc, arith}
+use Rattle.gf_nfg.proofs.Common.{length-drop, AllByRecursion, mul-suc, slice_get_within, Token}
+use Rattle.gf_nfg.proofs.Common.{Each, Ratio, IsPayoff, IsOutcomeInBraces, IsOutcomeNumber, Pays}
+use Rattle.gf_nfg.proofs.Common.{row_of}
 use Rattle.gf_nfg.proofs.lemmas.tables.Lists.{joined, get-joined}
 use Rattle.gf_nfg.proofs.lemmas.tables.Meaning.{rows_of}
 use Rattle.gf_nfg.proofs.lemmas.runs.Outcomes.{IsChoice, greatest}

@@ -1,23 +1,13 @@
 -- A run of the machine that succeeds has read a sentence, and each sentence is read.
-use Rattle.std.proofs.Common.{◌≡◌, ℕ, ◌*◌, ◌<◌, ◌≤◌, List, [], ◌∷◌, ◌++◌, length, map, Ok, refl}
-use Rattle.std.proofs.Common.{sym, ap, subst, ◌∙◌, append_assoc, arith, inl, inr}
-use Rattle.std.specs.Prelude.{codes, ◌⊎◌, sum}
-use Rattle.std.specs.List.{AllByRecursion}
-use Rattle.std.proofs.lemmas.List.{length-map}
-use Rattle.gf_token.specs.Token.{Token}
-use Rattle.gf_token.specs.Token.Token.{Opening, Closing, Text, Bare}
-use Rattle.gf_token.specs.Grammar.{Each, braced, IsComment}
-use Rattle.gf_fraction.specs.Ratio.{Ratio}
-use Rattle.gf_fraction.proofs.AllElements.{all_images}
+use Rattle.gf_nfg.proofs.Common.{◌≡◌, ℕ, ◌*◌, ◌<◌, ◌≤◌, List, [], ◌∷◌, ◌++◌, length, map, Ok, refl}
+use Rattle.gf_nfg.proofs.Common.{sym, ap, subst, ◌∙◌, append_assoc, arith, inl, inr, codes, ◌⊎◌}
+use Rattle.gf_nfg.proofs.Common.{sum, AllByRecursion, length-map, Token, Opening, Closing, Text}
+use Rattle.gf_nfg.proofs.Common.{Bare, Each, braced, IsComment, Ratio, all_images, product, Table}
+use Rattle.gf_nfg.proofs.Common.{IsTable, rows, Sentence, IsStrategies, IsPayoff, IsOutcomeInBraces}
+use Rattle.gf_nfg.proofs.Common.{IsPayoffBody, IsOutcomeBody, IsCount, IsLabelList, counted_labels}
+use Rattle.gf_nfg.proofs.Common.{Content, at, run, start, row_of, strategies_of, rows_by, table_of}
+use Rattle.gf_nfg.proofs.Common.{HasPayoffs, HasLabels, IsComplete}
 use Rattle.gf_nfg.specs.inner.Position.{Position as p}
-use Rattle.gf_nfg.specs.Profiles.{product}
-use Rattle.gf_nfg.specs.Table.{Table, IsTable, rows}
-use Rattle.gf_nfg.specs.Sentence.{Sentence, IsStrategies, IsPayoff, IsOutcomeInBraces, IsPayoffBody}
-use Rattle.gf_nfg.specs.Sentence.{IsOutcomeBody, IsCount, IsLabelList, counted_labels}
-use Rattle.gf_nfg.specs.inner.Machine.{Content, at, run, start}
-use Rattle.gf_nfg.specs.TableParts.{row_of}
-use Rattle.gf_nfg.specs.inner.Meaning.{strategies_of, rows_by, table_of, HasPayoffs, HasLabels}
-use Rattle.gf_nfg.specs.inner.Meaning.{IsComplete}
 use Rattle.gf_nfg.proofs.lemmas.tables.Lists.{joined, length-counted_labels, length-joined}
 use Rattle.gf_nfg.proofs.lemmas.tables.Lists.{length-joined_rows, product_above_zero}
 use Rattle.gf_nfg.proofs.lemmas.tables.Meaning.{is_table, rows-table_of, strategies_of-joined}

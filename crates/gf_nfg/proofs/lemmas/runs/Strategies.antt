@@ -1,21 +1,12 @@
 -- Runs over the strategies of the players: counts or lists of labels.
-use Rattle.std.proofs.Common.{◌≡◌, ℕ, zero, suc, ◌-◌, ◌*◌, ◌<◌, List, [], ◌∷◌, ◌++◌, length}
-use Rattle.std.proofs.Common.{map, Option, Some, None, Ok, refl, sym, ap, subst, ◌∙◌, append_assoc}
-use Rattle.std.proofs.Common.{arith, inl}
-use Rattle.std.specs.Prelude.{◌⊎◌}
-use Rattle.std.specs.List.{AllByRecursion}
-use Rattle.std.proofs.Math.Nat.{mul-one, mul_assoc}
-use Rattle.std.proofs.lemmas.List.{append-nil, length-append}
-use Rattle.gf_token.specs.Token.{Token}
-use Rattle.gf_token.specs.Token.Token.{Opening, Closing, Text, Bare}
-use Rattle.gf_token.specs.Grammar.{Each, braced}
+use Rattle.gf_nfg.proofs.Common.{◌≡◌, ℕ, zero, suc, ◌-◌, ◌*◌, ◌<◌, List, [], ◌∷◌, ◌++◌, length, map}
+use Rattle.gf_nfg.proofs.Common.{Option, Some, None, Ok, refl, sym, ap, subst, ◌∙◌, append_assoc}
+use Rattle.gf_nfg.proofs.Common.{arith, inl, ◌⊎◌, AllByRecursion, mul-one, mul_assoc, append-nil}
+use Rattle.gf_nfg.proofs.Common.{length-append, Token, Opening, Closing, Text, Bare, Each, braced}
+use Rattle.gf_nfg.proofs.Common.{product, count_of, IsCount, IsLabelList, counted_labels, State}
+use Rattle.gf_nfg.proofs.Common.{Content, at, run, counted, listed, opened, with_count, with_labels}
+use Rattle.gf_nfg.proofs.Common.{◌>>=◌, count_is, count_again}
 use Rattle.gf_nfg.specs.inner.Position.{Position as p}
-use Rattle.gf_nfg.specs.Profiles.{product}
-use Rattle.gf_token.specs.Indices.{count_of}
-use Rattle.gf_nfg.specs.Sentence.{IsCount, IsLabelList, counted_labels}
-use Rattle.gf_nfg.specs.inner.Machine.{State, Content, at, run, counted, listed, opened, with_count}
-use Rattle.gf_nfg.specs.inner.Machine.{with_labels, ◌>>=◌}
-use Rattle.gf_token.proofs.ReadingIndices.{count_is, count_again}
 use Rattle.gf_nfg.proofs.lemmas.tables.Lists.{joined, length-counted_labels}
 use Rattle.gf_nfg.proofs.lemmas.runs.Common.{not_zero, pred_suc, with_no_labels, with_more_labels}
 

@@ -1,17 +1,12 @@
 -- Lists that agree up to a place.
-use Rattle.std.proofs.Common.{◌≡◌, ℕ, zero, suc, ◌+◌, ◌≤◌, List, [], ◌∷◌, length, take, Some}
-use Rattle.std.proofs.Common.{slice_get, refl, sym, ap, ◌∙◌, arith}
-use Rattle.std.proofs.lemmas.List.{take_all}
-use Rattle.std.specs.Prelude.{Bool, ◌&&◌, map, not, nat_eq, true, false}
-use Rattle.std.proofs.lemmas.Slice.Eq.{slice_eq-Decides}
-use Rattle.std.proofs.lemmas.Bool.Decides.{Decides-eqb, Decides-int_eq}
+use Rattle.gf_nfg.proofs.Common.{◌≡◌, ℕ, zero, suc, ◌+◌, ◌≤◌, List, [], ◌∷◌, length, take, Some}
+use Rattle.gf_nfg.proofs.Common.{slice_get, refl, sym, ap, ◌∙◌, arith, take_all, Bool, ◌&&◌, map}
+use Rattle.gf_nfg.proofs.Common.{not, nat_eq, true, false, slice_eq-Decides, Decides-eqb}
+use Rattle.gf_nfg.proofs.Common.{Decides-int_eq, Ratio, Entry, Table, IsTable, rows, entries_of}
+use Rattle.gf_nfg.proofs.Common.{pointwise}
 use Rattle.std.specs.Bool.{Decides}
 use Rattle.std.specs.Ordering.{int_eq}
-use Rattle.gf_fraction.specs.Ratio.{Ratio}
-use Rattle.gf_nfg.specs.Table.{Entry, Table, IsTable, rows}
-use Rattle.gf_nfg.specs.TableParts.{entries_of}
 use Rattle.gf_nfg.proofs.lemmas.tables.Rows.{entries_again}
-use Rattle.std.specs.Cmp.Lexicographic.{pointwise}
 
 same_next : {A : Type 0} (xs ys : List A) (k : ℕ) (x y : A) → slice_get xs k ≡ Some x
     → slice_get ys k ≡ Some y → x ≡ y → take k xs ≡ take k ys → take (suc k) xs ≡ take (suc k) ys

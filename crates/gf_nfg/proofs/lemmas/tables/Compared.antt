@@ -1,23 +1,12 @@
 -- A file that was told whole is the same as a table exactly if no difference was found.
-use Rattle.std.proofs.Common.{◌≡◌, ℕ, Bool, false, List, [], ◌∷◌, ◌++◌, length, map, refl, sym, ap}
-use Rattle.std.proofs.Common.{◌∙◌, append-nil, arith, ◌+◌, Result, Ok, Err, IfOk, Some, drop}
-use Rattle.std.proofs.Common.{slice_get}
-use Rattle.std.specs.Prelude.{◌↔◌, IsTrue}
-use Rattle.std.proofs.Math.Nat.{mul_comm}
-use Rattle.std.proofs.lemmas.List.{length-map}
-use Rattle.gf_fraction.specs.Ratio.{Ratio}
-use Rattle.gf_nfg.specs.inner.ComparedTable.{ComparesBody, IsCompared}
-use Rattle.gf_nfg.specs.inner.Machine.{Content}
-use Rattle.gf_nfg.specs.inner.Meaning.{IsComplete, rows_by, table_of}
+use Rattle.gf_nfg.proofs.Common.{◌≡◌, ℕ, Bool, false, List, [], ◌∷◌, ◌++◌, length, map, refl, sym}
+use Rattle.gf_nfg.proofs.Common.{ap, ◌∙◌, append-nil, arith, ◌+◌, Result, Ok, Err, IfOk, Some, drop}
+use Rattle.gf_nfg.proofs.Common.{slice_get, ◌↔◌, IsTrue, mul_comm, length-map, Ratio, ComparesBody}
+use Rattle.gf_nfg.proofs.Common.{IsCompared, Content, IsComplete, rows_by, table_of, profiles}
+use Rattle.gf_nfg.proofs.Common.{content_in, content_of, content_told, content_with, SameTable}
+use Rattle.gf_nfg.proofs.Common.{IsTable, Table, rows, Names, table_with, named_by, names_by}
+use Rattle.gf_nfg.proofs.Common.{HasToldTable}
 use Rattle.gf_nfg.specs.inner.Meaning as meaning
-use Rattle.gf_nfg.specs.Profiles.{profiles}
-use Rattle.gf_nfg.specs.inner.ReaderState.{content_in, content_of, content_told, content_with}
-use Rattle.gf_nfg.specs.SameTable.{SameTable}
-use Rattle.gf_nfg.specs.Table.{IsTable, Table, rows}
-use Rattle.gf_nfg.specs.TableParts.{Names, table_with}
-use Rattle.gf_nfg.specs.TableText.{named_by}
-use Rattle.gf_nfg.specs.inner.TextParts.{names_by}
-use Rattle.gf_nfg.specs.inner.ToldTable.{HasToldTable}
 use Rattle.gf_nfg.specs.declared.comparison.Comparison.{Comparison}
 use Rattle.gf_nfg.specs.declared.table.heading.Heading.{Heading}
 use Rattle.gf_nfg.specs.declared.reader.receive.Version.{Version}

@@ -1,12 +1,9 @@
 -- Numbers as labels.
-use Rattle.std.proofs.Common.{◌≡◌, ℕ, ◌+◌, ◌-◌, ◌<◌, ◌^◌, true, false, List, [], ◌∷◌, ◌++◌, map}
-use Rattle.std.proofs.Common.{refl, arith, append_assoc}
-use Rattle.std.proofs.lemmas.Bool.Decides.{nat_tests}
-use Rattle.std.specs.Prelude.{decimal, ◌==◌}
+use Rattle.gf_nfg.proofs.Common.{◌≡◌, ℕ, ◌+◌, ◌-◌, ◌<◌, ◌^◌, true, false, List, [], ◌∷◌, ◌++◌, map}
+use Rattle.gf_nfg.proofs.Common.{refl, arith, append_assoc, nat_tests, decimal, ◌==◌}
+use Rattle.gf_nfg.proofs.Common.{is_spelling_after, IsLabel, numbers_from}
 use Rattle.std.specs.Str.Parse.{AllDigits}
 use Rattle.std.proofs.lemmas.Fmt.{decimal_is_IsNumeral_wide}
-use Rattle.gf_token.specs.LabelSpelling.{is_spelling_after, IsLabel}
-use Rattle.gf_nfg.specs.Profiles.{numbers_from}
 
 digits_label : (before : ℕ) (bytes : List ℕ) → (before == 92) ≡ false → AllDigits 10 bytes
     → is_spelling_after before bytes ≡ true

@@ -1,17 +1,11 @@
 -- Labels that are put together: one after another, or joined to one.
-use Rattle.std.proofs.Common.{◌≡◌, ℕ, ◌+◌, ◌-◌, ◌<◌, true, List, [], ◌∷◌, ◌++◌, map, length, subst}
-use Rattle.std.proofs.Common.{Some, slice_get, take, drop, get_or, refl, sym, arith, append_assoc}
-use Rattle.std.specs.Prelude.{Result, Ok, Err, OnOk, is_ok, sum}
-use Rattle.std.specs.List.{AllByRecursion, join_with_byte}
-use Rattle.std.proofs.lemmas.Bool.{and_from, and_parts}
-use Rattle.std.proofs.lemmas.List.{append-nil, take-append-drop, length-drop, length-map}
-use Rattle.std.proofs.lemmas.List.{length-take, map_push, take_more}
-use Rattle.std.proofs.lemmas.Option.{get_or_from_slice_get}
-use Rattle.gf_fraction.proofs.AllElements.{all_parts}
-use Rattle.gf_token.specs.Label.{label_of}
-use Rattle.gf_token.specs.LabelSpelling.{IsLabel, is_spelling_after}
-use Rattle.gf_token.specs.declared.label.Label.{Label}
-use Rattle.gf_nfg.specs.TableParts.{AreSpellings, RisesTo, pieces}
+use Rattle.gf_nfg.proofs.Common.{◌≡◌, ℕ, ◌+◌, ◌-◌, ◌<◌, true, List, [], ◌∷◌, ◌++◌, map, length}
+use Rattle.gf_nfg.proofs.Common.{subst, Some, slice_get, take, drop, get_or, refl, sym, arith}
+use Rattle.gf_nfg.proofs.Common.{append_assoc, Result, Ok, Err, OnOk, is_ok, sum, AllByRecursion}
+use Rattle.gf_nfg.proofs.Common.{join_with_byte, and_from, and_parts, append-nil, take-append-drop}
+use Rattle.gf_nfg.proofs.Common.{length-drop, length-map, length-take, map_push, take_more}
+use Rattle.gf_nfg.proofs.Common.{get_or_from_slice_get, all_parts, label_of, IsLabel}
+use Rattle.gf_nfg.proofs.Common.{is_spelling_after, Label, AreSpellings, RisesTo, pieces}
 use Rattle.gf_nfg.proofs.lemmas.tables.Lists.{sum-cons}
 use Rattle.gf_nfg.proofs.lemmas.tables.Pieces.{rises_within}
 

@@ -1,19 +1,11 @@
 -- Tables that are only compared: what is kept of their payoffs, and that it means the table.
-use Rattle.std.proofs.Common.{◌≡◌, ℕ, ℤ, ◌*◌, ◌<◌, List, [], ◌∷◌, length, map, refl, sym, ap, arith}
-use Rattle.std.proofs.Common.{subst, ◌∙◌}
-use Rattle.std.specs.Prelude.{Vec}
+use Rattle.gf_nfg.proofs.Common.{◌≡◌, ℕ, ℤ, ◌*◌, ◌<◌, List, [], ◌∷◌, length, map, refl, sym, ap}
+use Rattle.gf_nfg.proofs.Common.{arith, subst, ◌∙◌, Vec, mul_comm, Ratio, positions, product}
+use Rattle.gf_nfg.proofs.Common.{IsTable, Table, rows, IsHeld, Names, row_of, table_with, Content}
+use Rattle.gf_nfg.proofs.Common.{HasPayoffs, IsComplete, names_in, rows_by, table_of, payoffs_in}
+use Rattle.gf_nfg.proofs.Common.{content_in, content_of, content_told, HasToldTable}
 use Rattle.std.specs.Global.{Global}
-use Rattle.std.proofs.Math.Nat.{mul_comm}
-use Rattle.gf_fraction.specs.Ratio.{Ratio}
-use Rattle.gf_nfg.specs.Profiles.{positions, product}
-use Rattle.gf_nfg.specs.Table.{IsTable, Table, rows}
-use Rattle.gf_nfg.specs.TableParts.{IsHeld, Names, row_of, table_with}
 use Rattle.gf_nfg.specs.inner.ListedTable.{IsListed, IsListing, listed_rows}
-use Rattle.gf_nfg.specs.inner.Machine.{Content}
-use Rattle.gf_nfg.specs.inner.Meaning.{HasPayoffs, IsComplete, names_in, rows_by, table_of}
-use Rattle.gf_nfg.specs.inner.PayoffLists.{payoffs_in}
-use Rattle.gf_nfg.specs.inner.ReaderState.{content_in, content_of, content_told}
-use Rattle.gf_nfg.specs.inner.ToldTable.{HasToldTable}
 use Rattle.gf_nfg.specs.declared.reader.receive.Version.{Version}
 use Rattle.gf_nfg.specs.declared.reader.receive.Version.TheVariants.{Outcomes, Payoffs}
 use Rattle.gf_nfg.specs.declared.table.heading.Heading.{Heading}

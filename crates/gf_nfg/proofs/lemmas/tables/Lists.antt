@@ -1,14 +1,10 @@
 -- Lists that stand one after another, and their lengths.
-use Rattle.std.proofs.Common.{◌≡◌, ℕ, zero, suc, ◌+◌, ◌*◌, ◌<◌, List, [], ◌∷◌, ◌++◌, length, map}
-use Rattle.std.proofs.Common.{take, drop, Some, refl, ap, subst, ◌∙◌, arith}
-use Rattle.std.specs.Prelude.{decimal, sum, slice_get}
-use Rattle.std.specs.List.{AllByRecursion, flat_map}
-use Rattle.std.proofs.Math.Nat.{mul-suc, one-le-mul}
-use Rattle.std.proofs.lemmas.List.{length-append, length-map}
+use Rattle.gf_nfg.proofs.Common.{◌≡◌, ℕ, zero, suc, ◌+◌, ◌*◌, ◌<◌, List, [], ◌∷◌, ◌++◌, length, map}
+use Rattle.gf_nfg.proofs.Common.{take, drop, Some, refl, ap, subst, ◌∙◌, arith, decimal, sum}
+use Rattle.gf_nfg.proofs.Common.{slice_get, AllByRecursion, flat_map, mul-suc, one-le-mul}
+use Rattle.gf_nfg.proofs.Common.{length-append, length-map, positions, product, counted_labels}
+use Rattle.gf_nfg.proofs.Common.{groups}
 use Rattle.std.proofs.lemmas.List.Sums.{sum_by-cons}
-use Rattle.gf_nfg.specs.Profiles.{positions, product}
-use Rattle.gf_nfg.specs.Sentence.{counted_labels}
-use Rattle.gf_nfg.specs.TableParts.{groups}
 use Rattle.gf_nfg.proofs.lemmas.tables.NumbersInTurn.{length-numbers_from}
 
 abbrev pub joined : {A : Type 0} → List (List A) → List A

@@ -1,20 +1,10 @@
 -- A table that is made from labels and fractions.
-use Rattle.std.proofs.Common.{◌≡◌, ℕ, ◌*◌, ◌/◌, ◌<◌, ◌≤◌, List, [], ◌∷◌, length, map, refl, sym, ap}
-use Rattle.std.proofs.Common.{subst, ◌∙◌, arith}
-use Rattle.std.specs.Prelude.{Option, SomeIff, Vec, unwrap_or, vec_len}
-use Rattle.std.specs.List.{AllByRecursion, AllZip, flat_map}
-use Rattle.std.proofs.lemmas.List.{length-map}
-use Rattle.gf_token.specs.Label.{label_of}
-use Rattle.gf_token.specs.LabelSpelling.{IsLabel}
-use Rattle.gf_token.specs.declared.label.Label.{Label}
-use Rattle.gf_fraction.specs.Ratio.{Ratio, IsFraction}
-use Rattle.gf_fraction.proofs.AllElements.{all_both, all_joined, all_lists}
-use Rattle.gf_nfg.specs.Limit.{profile_limit}
-use Rattle.gf_nfg.specs.Profiles.{positions, product}
-use Rattle.gf_nfg.specs.Table.{IsSpellable, Table}
-use Rattle.gf_nfg.specs.TableAccess.{IsTableOf}
-use Rattle.gf_nfg.specs.TableParts.{AreParts, AreSpellings, IsHeld, IsNamed, Names, row_of}
-use Rattle.gf_nfg.specs.TableParts.{table_with}
+use Rattle.gf_nfg.proofs.Common.{◌≡◌, ℕ, ◌*◌, ◌/◌, ◌<◌, ◌≤◌, List, [], ◌∷◌, length, map, refl, sym}
+use Rattle.gf_nfg.proofs.Common.{ap, subst, ◌∙◌, arith, Option, SomeIff, Vec, unwrap_or, vec_len}
+use Rattle.gf_nfg.proofs.Common.{AllByRecursion, AllZip, flat_map, length-map, label_of, IsLabel}
+use Rattle.gf_nfg.proofs.Common.{Label, Ratio, IsFraction, all_both, all_joined, all_lists}
+use Rattle.gf_nfg.proofs.Common.{profile_limit, positions, product, IsSpellable, Table, IsTableOf}
+use Rattle.gf_nfg.proofs.Common.{AreParts, AreSpellings, IsHeld, IsNamed, Names, row_of, table_with}
 use Rattle.gf_nfg.proofs.lemmas.tables.LabelsJoined.{labels_spelled}
 use Rattle.gf_nfg.proofs.lemmas.tables.Rows.{counts_of_lists, full_rows, length-kept, made_of_parts}
 use Rattle.gf_nfg.proofs.lemmas.tables.Rows.{positions_have_rows, some_in_lists, profiles_counted}

@@ -1,21 +1,12 @@
 -- What was read in full means a table, and a table can be recovered from its parts.
-use Rattle.std.proofs.Common.{◌≡◌, ℕ, zero, suc, ◌*◌, ◌<◌, ◌≤◌, List, [], Bool, true, false}
-use Rattle.std.proofs.Common.{◌∷◌, length, map, take, drop, refl, ◌∙◌, arith}
-use Rattle.std.proofs.Common.{length-take, length-drop}
-use Rattle.std.specs.Prelude.{◌==◌, sum, replicate, pos}
-use Rattle.std.specs.List.{AllByRecursion}
-use Rattle.std.proofs.Math.Nat.{mul_comm, mul-le-mul_right}
-use Rattle.std.proofs.lemmas.List.{drop-drop, length-map}
-use Rattle.gf_fraction.specs.Ratio.{Ratio, whole}
-use Rattle.gf_fraction.proofs.AllElements.{all_mapped}
-use Rattle.gf_nfg.specs.Profiles.{numbers_from, positions}
-use Rattle.gf_nfg.specs.Limit.{profile_limit}
-use Rattle.gf_nfg.specs.LimitPlace.{IsWithinLimit}
-use Rattle.gf_nfg.specs.Table.{IsSpellable, IsTable, rows}
-use Rattle.gf_nfg.specs.TableParts.{Names, groups, numbers_of, row_of, IsHeld, IsNamed, HasRows}
-use Rattle.gf_nfg.specs.inner.Machine.{Content}
-use Rattle.gf_nfg.specs.inner.Meaning.{names_in, choices_of, strategies_of, rows_by, table_of}
-use Rattle.gf_nfg.specs.inner.Meaning.{HasPayoffs, HasLabels, IsComplete}
+use Rattle.gf_nfg.proofs.Common.{◌≡◌, ℕ, zero, suc, ◌*◌, ◌<◌, ◌≤◌, List, [], Bool, true, false, ◌∷◌}
+use Rattle.gf_nfg.proofs.Common.{length, map, take, drop, refl, ◌∙◌, arith, length-take}
+use Rattle.gf_nfg.proofs.Common.{length-drop, ◌==◌, sum, replicate, pos, AllByRecursion, mul_comm}
+use Rattle.gf_nfg.proofs.Common.{mul-le-mul_right, drop-drop, length-map, Ratio, whole, all_mapped}
+use Rattle.gf_nfg.proofs.Common.{numbers_from, positions, profile_limit, IsWithinLimit, IsSpellable}
+use Rattle.gf_nfg.proofs.Common.{IsTable, rows, Names, groups, numbers_of, row_of, IsHeld, IsNamed}
+use Rattle.gf_nfg.proofs.Common.{HasRows, Content, names_in, choices_of, strategies_of, rows_by}
+use Rattle.gf_nfg.proofs.Common.{table_of, HasPayoffs, HasLabels, IsComplete}
 use Rattle.gf_nfg.proofs.lemmas.tables.Lists.{joined, sum-cons, counts_back, groups-joined, take-by}
 use Rattle.gf_nfg.proofs.lemmas.tables.Lists.{drop-by}
 use Rattle.gf_nfg.proofs.lemmas.tables.Rows as kept

@@ -1,9 +1,7 @@
 -- Numbers in turn, and the place of an element in a list.
-use Rattle.std.proofs.Common.{◌≡◌, ℕ, zero, suc, ◌+◌, ◌-◌, ◌<◌, ◌≤◌, List, ◌∷◌, ◌++◌, length}
-use Rattle.std.proofs.Common.{get_or, refl, ap, arith, length-append}
-use Rattle.std.specs.List.{Contains}
-use Rattle.std.proofs.lemmas.List.{get_or_at}
-use Rattle.gf_nfg.specs.Profiles.{numbers_from}
+use Rattle.gf_nfg.proofs.Common.{◌≡◌, ℕ, zero, suc, ◌+◌, ◌-◌, ◌<◌, ◌≤◌, List, ◌∷◌, ◌++◌, length}
+use Rattle.gf_nfg.proofs.Common.{get_or, refl, ap, arith, length-append, Contains, get_or_at}
+use Rattle.gf_nfg.proofs.Common.{numbers_from}
 
 pub numbers_joined : (first m n : ℕ)
     → numbers_from first m ++ numbers_from (first + m) n ≡ numbers_from first (m + n)

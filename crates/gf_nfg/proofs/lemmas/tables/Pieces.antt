@@ -1,11 +1,9 @@
 -- Lists that are cut into pieces.
-use Rattle.std.proofs.Common.{◌≡◌, ℕ, zero, suc, ◌+◌, ◌-◌, ◌<◌, ◌≤◌, List, [], ◌∷◌, ◌++◌, length}
-use Rattle.std.proofs.Common.{take, drop, get_or, Some, slice_get, refl, ap, arith, true}
-use Rattle.std.proofs.lemmas.List.{take-append-le, drop-append-le, length-drop, length-append}
-use Rattle.std.proofs.lemmas.List.{take_all, drop_at}
-use Rattle.gf_fraction.proofs.AllElements.{all_both}
-use Rattle.gf_token.specs.LabelSpelling.{is_spelling, IsLabel}
-use Rattle.gf_nfg.specs.TableParts.{pieces, start_of, RisesTo, IsCut}
+use Rattle.gf_nfg.proofs.Common.{◌≡◌, ℕ, zero, suc, ◌+◌, ◌-◌, ◌<◌, ◌≤◌, List, [], ◌∷◌, ◌++◌, length}
+use Rattle.gf_nfg.proofs.Common.{take, drop, get_or, Some, slice_get, refl, ap, arith, true}
+use Rattle.gf_nfg.proofs.Common.{take-append-le, drop-append-le, length-drop, length-append}
+use Rattle.gf_nfg.proofs.Common.{take_all, drop_at, all_both, is_spelling, IsLabel, pieces}
+use Rattle.gf_nfg.proofs.Common.{start_of, RisesTo, IsCut}
 
 pub start_of_suc : (from : ℕ) (ends : List ℕ) (k d : ℕ) → k < length ends
     → start_of from ends (suc k) ≡ get_or ends k d

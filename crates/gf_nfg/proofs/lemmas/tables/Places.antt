@@ -1,23 +1,13 @@
 -- The places of profiles.
-use Rattle.std.proofs.Common.{◌≡◌, ℕ, zero, suc, ◌+◌, ◌-◌, ◌*◌, ◌<◌, ◌≤◌, Bool, true, false, nat_eq}
-use Rattle.std.proofs.Common.{nat_lt, List, [], ◌∷◌, length, map, drop, get_or, Option, Some, None}
-use Rattle.std.proofs.Common.{slice_get, option_map, refl, sym, ap, subst, ◌∙◌, arith, inl, inr}
-use Rattle.std.specs.Prelude.{◌⊎◌, cond, option_and_then}
-use Rattle.std.specs.List.{AllByRecursion}
-use Rattle.std.specs.Cmp.Lexicographic.{pointwise}
-use Rattle.std.proofs.lemmas.List.{drop_more, get_or_default}
-use Rattle.std.proofs.lemmas.Option.{slice_get-map, slice_get_within, get_or_from_slice_get}
-use Rattle.std.proofs.lemmas.Bool.Decides.{Decides-eqb, nat_tests}
-use Rattle.std.proofs.lemmas.Slice.Eq.{slice_eq-Decides}
-use Rattle.std.proofs.Math.Nat.{mul_comm, mul-le-mul_right}
-use Rattle.gf_fraction.specs.Ratio.{Ratio}
-use Rattle.gf_fraction.proofs.AllElements.{all_images}
-use Rattle.gf_nfg.specs.Limit.{profile_limit}
-use Rattle.gf_nfg.specs.ProfilePlaces.{IsProfile, place}
-use Rattle.gf_nfg.specs.Profiles.{product, profiles}
-use Rattle.gf_nfg.specs.Table.{Table, rows}
-use Rattle.gf_nfg.specs.TableAccess.{payoffs_at}
-use Rattle.gf_nfg.specs.TableParts.{Names, entries_of, place_of, table_with}
+use Rattle.gf_nfg.proofs.Common.{◌≡◌, ℕ, zero, suc, ◌+◌, ◌-◌, ◌*◌, ◌<◌, ◌≤◌, Bool, true, false}
+use Rattle.gf_nfg.proofs.Common.{nat_eq, nat_lt, List, [], ◌∷◌, length, map, drop, get_or, Option}
+use Rattle.gf_nfg.proofs.Common.{Some, None, slice_get, option_map, refl, sym, ap, subst, ◌∙◌}
+use Rattle.gf_nfg.proofs.Common.{arith, inl, inr, ◌⊎◌, cond, option_and_then, AllByRecursion}
+use Rattle.gf_nfg.proofs.Common.{pointwise, drop_more, get_or_default, slice_get-map}
+use Rattle.gf_nfg.proofs.Common.{slice_get_within, get_or_from_slice_get, Decides-eqb, nat_tests}
+use Rattle.gf_nfg.proofs.Common.{slice_eq-Decides, mul_comm, mul-le-mul_right, Ratio, all_images}
+use Rattle.gf_nfg.proofs.Common.{profile_limit, IsProfile, place, product, profiles, Table, rows}
+use Rattle.gf_nfg.proofs.Common.{payoffs_at, Names, entries_of, place_of, table_with}
 use Rattle.gf_nfg.proofs.lemmas.tables.Profiles.{every_profile, place_at as stands_at}
 use Rattle.gf_nfg.proofs.lemmas.runs.Common.{same_bytes}
 use Rattle.gf_nfg.proofs.lemmas.tables.Rows.{matched}

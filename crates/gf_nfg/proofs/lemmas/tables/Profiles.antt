@@ -1,16 +1,10 @@
 -- Each choice of one strategy for each player is among the profiles once, and at its place.
-use Rattle.std.proofs.Common.{◌≡◌, ℕ, zero, suc, ◌+◌, ◌-◌, ◌*◌, ◌<◌, ◌≤◌, List, [], ◌∷◌, ◌++◌}
-use Rattle.std.proofs.Common.{length, map, drop, get_or, refl, ap, ◌∙◌, append_assoc, arith}
-use Rattle.std.proofs.Common.{length-append}
-use Rattle.std.specs.Prelude.{◌↔◌}
-use Rattle.std.specs.List.{AllByRecursion, Contains, flat_map}
-use Rattle.std.proofs.Math.Nat.{mul-suc}
-use Rattle.std.proofs.lemmas.Grind.{flat_map-append}
-use Rattle.std.proofs.lemmas.List.{length-map, map-append, get_or-map}
+use Rattle.gf_nfg.proofs.Common.{◌≡◌, ℕ, zero, suc, ◌+◌, ◌-◌, ◌*◌, ◌<◌, ◌≤◌, List, [], ◌∷◌, ◌++◌}
+use Rattle.gf_nfg.proofs.Common.{length, map, drop, get_or, refl, ap, ◌∙◌, append_assoc, arith}
+use Rattle.gf_nfg.proofs.Common.{length-append, ◌↔◌, AllByRecursion, Contains, flat_map, mul-suc}
+use Rattle.gf_nfg.proofs.Common.{flat_map-append, length-map, map-append, get_or-map, all_both}
+use Rattle.gf_nfg.proofs.Common.{numbers_from, positions, profiles, product, IsProfile, place}
 use Rattle.std.proofs.lemmas.List.Elements.{All-contains, All-from_recursion}
-use Rattle.gf_fraction.proofs.AllElements.{all_both}
-use Rattle.gf_nfg.specs.Profiles.{numbers_from, positions, profiles, product}
-use Rattle.gf_nfg.specs.ProfilePlaces.{IsProfile, place}
 use Rattle.gf_nfg.proofs.lemmas.tables.NumbersInTurn.{numbers_joined, length-numbers_from}
 use Rattle.gf_nfg.proofs.lemmas.tables.NumbersInTurn.{get_or-numbers_from, IsIn, number_in}
 use Rattle.gf_nfg.proofs.lemmas.tables.NumbersInTurn.{contains_in}

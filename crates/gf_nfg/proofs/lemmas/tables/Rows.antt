@@ -1,23 +1,16 @@
 -- The rows of a table.
-use Rattle.std.proofs.Common.{◌≡◌, ℕ, zero, suc, ◌+◌, ◌*◌, ◌<◌, ◌≤◌, List, [], ◌∷◌, ◌++◌, length}
-use Rattle.std.proofs.Common.{map, take, drop, Option, Some, None, slice_get, option_map, refl, sym}
-use Rattle.std.proofs.Common.{ap, ◌∙◌, arith}
-use Rattle.std.specs.Prelude.{pos, replicate, IsSome, SomeIff, unwrap_or, vec_len, Vec, ◌/◌}
-use Rattle.std.specs.List.{AllByRecursion, flat_map}
-use Rattle.std.proofs.lemmas.List.{length-take, length-drop, length-map, length-replicate, take_all}
-use Rattle.std.proofs.lemmas.List.{drop-drop}
-use Rattle.std.proofs.Math.Nat.{mul-div_cancel, mul-le-mul_left, mul-le-mul_right, one-le-mul}
-use Rattle.std.proofs.lemmas.Option.{slice_get-map}
+use Rattle.gf_nfg.proofs.Common.{◌≡◌, ℕ, zero, suc, ◌+◌, ◌*◌, ◌<◌, ◌≤◌, List, [], ◌∷◌, ◌++◌, length}
+use Rattle.gf_nfg.proofs.Common.{map, take, drop, Option, Some, None, slice_get, option_map, refl}
+use Rattle.gf_nfg.proofs.Common.{sym, ap, ◌∙◌, arith, pos, replicate, IsSome, SomeIff, unwrap_or}
+use Rattle.gf_nfg.proofs.Common.{vec_len, Vec, ◌/◌, AllByRecursion, flat_map, length-take}
+use Rattle.gf_nfg.proofs.Common.{length-drop, length-map, length-replicate, take_all, drop-drop}
+use Rattle.gf_nfg.proofs.Common.{mul-div_cancel, mul-le-mul_left, mul-le-mul_right, one-le-mul}
+use Rattle.gf_nfg.proofs.Common.{slice_get-map, Ratio, whole, all_at, profile_limit, numbers_from}
+use Rattle.gf_nfg.proofs.Common.{positions, product, profiles, Entry, Table, IsTable, rows}
+use Rattle.gf_nfg.proofs.Common.{IsTableOf, Names, entries_of, kept_row, table_with, row_of}
+use Rattle.gf_nfg.proofs.Common.{number_in, numbers_of, IsNamed, HasRows}
 use Rattle.gf_nfg.proofs.lemmas.tables.Profiles.{length-profiles}
 use Rattle.gf_nfg.proofs.lemmas.tables.NumbersInTurn.{length-numbers_from}
-use Rattle.gf_fraction.specs.Ratio.{Ratio, whole}
-use Rattle.gf_fraction.proofs.AllElements.{all_at}
-use Rattle.gf_nfg.specs.Limit.{profile_limit}
-use Rattle.gf_nfg.specs.Profiles.{numbers_from, positions, product, profiles}
-use Rattle.gf_nfg.specs.Table.{Entry, Table, IsTable, rows}
-use Rattle.gf_nfg.specs.TableAccess.{IsTableOf}
-use Rattle.gf_nfg.specs.TableParts.{Names, entries_of, kept_row, table_with, row_of, number_in}
-use Rattle.gf_nfg.specs.TableParts.{numbers_of, IsNamed, HasRows}
 
 pub length-entries_of : (ps : List (List ℕ)) (rs : List (List Ratio)) → length ps ≡ length rs
     → length (entries_of ps rs) ≡ length rs

@@ -1,14 +1,8 @@
 -- Tables that are the same are equal.
-use Rattle.std.proofs.Common.{◌≡◌, ℕ, ◌<◌, List, [], length, map, get_or, sym, ap, subst, ◌∙◌}
-use Rattle.std.proofs.Common.{arith}
-use Rattle.std.specs.Prelude.{◌↔◌, Bool, IsTrue}
-use Rattle.std.specs.List.{Contains}
-use Rattle.std.proofs.lemmas.List.{length-map, get_or-map, get_or_default, same_lists}
-use Rattle.gf_fraction.specs.Ratio.{Ratio}
-use Rattle.gf_nfg.specs.Profiles.{profiles}
-use Rattle.gf_nfg.specs.Table.{Entry, Table, IsTable, rows}
-use Rattle.gf_nfg.specs.TableParts.{Names}
-use Rattle.gf_nfg.specs.SameTable.{SamePlay, SameTable}
+use Rattle.gf_nfg.proofs.Common.{◌≡◌, ℕ, ◌<◌, List, [], length, map, get_or, sym, ap, subst, ◌∙◌}
+use Rattle.gf_nfg.proofs.Common.{arith, ◌↔◌, Bool, IsTrue, Contains, length-map, get_or-map}
+use Rattle.gf_nfg.proofs.Common.{get_or_default, same_lists, Ratio, profiles, Entry, Table, IsTable}
+use Rattle.gf_nfg.proofs.Common.{rows, Names, SamePlay, SameTable}
 use Rattle.gf_nfg.proofs.lemmas.tables.Agreement as agrees
 use Rattle.gf_nfg.proofs.lemmas.tables.Profiles.{profiles_distinct}
 

@@ -1,22 +1,14 @@
 -- What a file means is a table that a file can hold.
-use Rattle.std.proofs.Common.{ℕ, zero, suc, pos, ◌+◌, ◌^◌, ◌<◌, List, [], ◌∷◌, ◌++◌, length, map}
-use Rattle.std.proofs.Common.{replicate, sym, ap, subst, ◌∙◌, arith, inl, inr}
-use Rattle.std.specs.Prelude.{◌⊎◌, decimal}
-use Rattle.std.specs.List.{AllByRecursion, flat_map}
-use Rattle.gf_token.specs.LabelSpelling.{IsLabel}
-use Rattle.gf_token.specs.Token.{Token}
-use Rattle.gf_token.specs.Token.Token.{Closing, Text}
-use Rattle.gf_token.specs.TokenSpelling.{IsSpelled}
-use Rattle.gf_token.specs.Grammar.{Each, braced, IsPayoffInBraces}
+use Rattle.gf_nfg.proofs.Common.{ℕ, zero, suc, pos, ◌+◌, ◌^◌, ◌<◌, List, [], ◌∷◌, ◌++◌, length, map}
+use Rattle.gf_nfg.proofs.Common.{replicate, sym, ap, subst, ◌∙◌, arith, inl, inr, ◌⊎◌, decimal}
+use Rattle.gf_nfg.proofs.Common.{AllByRecursion, flat_map, IsLabel, Token, Closing, Text, IsSpelled}
+use Rattle.gf_nfg.proofs.Common.{Each, braced, IsPayoffInBraces, Ratio, IsFraction, whole, all_at}
+use Rattle.gf_nfg.proofs.Common.{all_parts, all_both, all_joined, all_mapped, numbers_from, Table}
+use Rattle.gf_nfg.proofs.Common.{IsTable, IsSpellable, rows, IsCount, IsLabelList}
+use Rattle.gf_nfg.proofs.Common.{IsOutcomeInBraces, Pays, IsOutcomeNumber, IsPayoffBody}
+use Rattle.gf_nfg.proofs.Common.{IsOutcomeBody, Sentence, SpellsTable}
 use Rattle.gf_token.proofs.SpelledTokens.{AllSpelled, all_spelled, braced_spelled, comment_spelled}
-use Rattle.gf_fraction.specs.Ratio.{Ratio, IsFraction, whole}
 use Rattle.gf_fraction.proofs.WholeNumbers.{whole_fraction}
-use Rattle.gf_fraction.proofs.AllElements.{all_at, all_parts, all_both, all_joined, all_mapped}
-use Rattle.gf_nfg.specs.Profiles.{numbers_from}
-use Rattle.gf_nfg.specs.Table.{Table, IsTable, IsSpellable, rows}
-use Rattle.gf_nfg.specs.Sentence.{IsCount, IsLabelList, IsOutcomeInBraces, Pays}
-use Rattle.gf_nfg.specs.Sentence.{IsOutcomeNumber, IsPayoffBody, IsOutcomeBody, Sentence}
-use Rattle.gf_nfg.specs.TableText.{SpellsTable}
 use Rattle.gf_nfg.proofs.lemmas.tables.LabelsCounted.{decimal_label}
 
 -- ---- labels

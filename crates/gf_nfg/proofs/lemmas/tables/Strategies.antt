@@ -1,15 +1,11 @@
 -- Lists of labels, which are kept one after another.
-use Rattle.std.proofs.Common.{◌≡◌, ℕ, suc, ◌+◌, ◌-◌, ◌<◌, ◌≤◌, List, [], ◌∷◌, ◌++◌, length, map}
-use Rattle.std.proofs.Common.{take, drop, get_or, Some, slice_get, option_map, min}
-use Rattle.std.proofs.Common.{refl, sym, ap, ◌∙◌, arith, append_assoc}
-use Rattle.std.specs.Prelude.{IsSomeAnd, option_and_then}
-use Rattle.std.proofs.lemmas.List.{length-take, length-drop, length-append, drop_more, drop_min}
-use Rattle.std.proofs.lemmas.List.{drop-drop, length-map, take-map, take_min, drop-map, get_or-take}
-use Rattle.std.proofs.lemmas.List.{get_or-drop}
-use Rattle.std.proofs.lemmas.Option.{slice_get-get_or, slice_get_within}
-use Rattle.gf_nfg.specs.Sentence.{counted_labels}
-use Rattle.gf_nfg.specs.inner.Meaning.{strategies_of}
-use Rattle.gf_nfg.specs.TableParts.{groups, pieces, start_of, RisesTo}
+use Rattle.gf_nfg.proofs.Common.{◌≡◌, ℕ, suc, ◌+◌, ◌-◌, ◌<◌, ◌≤◌, List, [], ◌∷◌, ◌++◌, length, map}
+use Rattle.gf_nfg.proofs.Common.{take, drop, get_or, Some, slice_get, option_map, min, refl, sym}
+use Rattle.gf_nfg.proofs.Common.{ap, ◌∙◌, arith, append_assoc, IsSomeAnd, option_and_then}
+use Rattle.gf_nfg.proofs.Common.{length-take, length-drop, length-append, drop_more, drop_min}
+use Rattle.gf_nfg.proofs.Common.{drop-drop, length-map, take-map, take_min, drop-map, get_or-take}
+use Rattle.gf_nfg.proofs.Common.{get_or-drop, slice_get-get_or, slice_get_within, counted_labels}
+use Rattle.gf_nfg.proofs.Common.{strategies_of, groups, pieces, start_of, RisesTo}
 use Rattle.gf_nfg.proofs.lemmas.tables.Pieces.{length-pieces, piece_at, pieces-push, rises-push}
 use Rattle.gf_nfg.proofs.lemmas.tables.Pieces.{start_before_end, end_within}
 

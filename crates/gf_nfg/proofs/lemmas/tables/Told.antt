@@ -1,12 +1,6 @@
 -- What was told of a file, and was kept or written, means its table.
-use Rattle.std.proofs.Common.{◌≡◌, ℕ, List, subst}
-use Rattle.gf_nfg.specs.LimitPlace.{IsWithinLimit}
-use Rattle.gf_nfg.specs.inner.Machine.{Content}
-use Rattle.gf_nfg.specs.inner.Meaning.{IsComplete, table_of}
-use Rattle.gf_nfg.specs.inner.ReaderState.{content_of, content_told}
-use Rattle.gf_nfg.specs.TableText.{SpellsTable}
-use Rattle.gf_nfg.specs.inner.Told.{Told}
-use Rattle.gf_nfg.specs.inner.ToldTable.{HasToldTable}
+use Rattle.gf_nfg.proofs.Common.{◌≡◌, ℕ, List, subst, IsWithinLimit, Content, IsComplete, table_of}
+use Rattle.gf_nfg.proofs.Common.{content_of, content_told, SpellsTable, Told, HasToldTable}
 use Rattle.gf_nfg.specs.declared.table.heading.Heading.{Heading}
 use Rattle.gf_nfg.specs.declared.reader.receive.Kept.{Kept}
 use Rattle.gf_nfg.proofs.lemmas.tables.Meaning.{within_limit}

@@ -1,21 +1,14 @@
 -- Worked tables, each computed: the machine of the reader reads their files to them; and their
 -- texts.
-use Rattle.std.proofs.Common.{◌≡◌, ℕ, List, map, Result, Ok, Err, refl, arith}
+use Rattle.gf_nfg.proofs.Common.{◌≡◌, ℕ, List, map, Result, Ok, Err, refl, arith, Token, Gap, Why}
+use Rattle.gf_nfg.proofs.Common.{found, Content, run, start, table_of, Table, table_text}
+use Rattle.gf_nfg.proofs.Common.{SpellsTable, selten, selten_by_counts, selten_by_outcomes}
+use Rattle.gf_nfg.proofs.Common.{selten_text, no_players, no_players_text}
 use Rattle.std.specs.Fmt.{digits}
 use Rattle.gf_fraction.specs.Computed.{gcd_within, lowest_of, number_of}
 use Rattle.gf_fraction.specs.NumberText.{number_text}
-use Rattle.gf_token.specs.Token.{Token}
 use Rattle.gf_token.specs.Indices.{index_of}
 use Rattle.gf_token.specs.inner.Lexing.{lex}
-use Rattle.gf_token.specs.inner.Lexing.Mode.{Gap}
-use Rattle.gf_token.specs.declared.fault.Why.{Why}
-use Rattle.gf_token.proofs.Spelled.{found}
-use Rattle.gf_nfg.specs.inner.Machine.{Content, run, start}
-use Rattle.gf_nfg.specs.inner.Meaning.{table_of}
-use Rattle.gf_nfg.specs.Table.{Table}
-use Rattle.gf_nfg.specs.TableText.{table_text, SpellsTable}
-use Rattle.gf_nfg.specs.WorkedTables.{selten, selten_by_counts, selten_by_outcomes, selten_text}
-use Rattle.gf_nfg.specs.WorkedTables.{no_players, no_players_text}
 use Rattle.gf_nfg.proofs.lemmas.runs.Sentence.{sentence_found}
 
 -- ---- texts

@@ -1,17 +1,11 @@
 -- Lines of payoffs that come one after another.
-use Rattle.std.proofs.Common.{◌≡◌, ℕ, ◌+◌, ◌-◌, ◌*◌, ◌%◌, ◌<◌, List, [], ◌∷◌, ◌++◌, length, map}
-use Rattle.std.proofs.Common.{refl, sym, ap, ◌∙◌, append_assoc, arith}
-use Rattle.std.specs.List.{AllByRecursion}
-use Rattle.std.proofs.lemmas.Grind.{flat_map-append}
-use Rattle.std.proofs.lemmas.List.{append-nil, length-append, map-append}
+use Rattle.gf_nfg.proofs.Common.{◌≡◌, ℕ, ◌+◌, ◌-◌, ◌*◌, ◌%◌, ◌<◌, List, [], ◌∷◌, ◌++◌, length, map}
+use Rattle.gf_nfg.proofs.Common.{refl, sym, ap, ◌∙◌, append_assoc, arith, AllByRecursion}
+use Rattle.gf_nfg.proofs.Common.{flat_map-append, append-nil, length-append, map-append, Ratio}
+use Rattle.gf_nfg.proofs.Common.{positions, row_of, lines_text, row_text, AreLaid, AreLines}
+use Rattle.gf_nfg.proofs.Common.{begun_text}
 use Rattle.std.proofs.lemmas.Nat.{mod-mul-add}
-use Rattle.gf_fraction.specs.Ratio.{Ratio}
 use Rattle.gf_fraction.specs.NumberText.{number_text}
-use Rattle.gf_nfg.specs.Profiles.{positions}
-use Rattle.gf_nfg.specs.TableParts.{row_of}
-use Rattle.gf_nfg.specs.TableText.{lines_text}
-use Rattle.gf_nfg.specs.inner.TextParts.{row_text}
-use Rattle.gf_nfg.specs.inner.ToldText.{AreLaid, AreLines, begun_text}
 use Rattle.gf_nfg.proofs.lemmas.tables.Lists.{joined, length-joined_rows}
 use Rattle.gf_nfg.proofs.lemmas.tables.Meaning.{rows_again}
 

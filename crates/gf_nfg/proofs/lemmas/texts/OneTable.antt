@@ -1,24 +1,14 @@
 -- The canonical text of a table spells that table, so different tables have different texts.
-use Rattle.std.proofs.Common.{◌≡◌, ℕ, List, [], ◌∷◌, ◌++◌, map, refl, sym, ap, subst, inl, inr}
-use Rattle.std.proofs.Common.{arith}
-use Rattle.std.specs.Prelude.{◌↔◌, codes}
-use Rattle.std.specs.List.{AllByRecursion, flat_map}
+use Rattle.gf_nfg.proofs.Common.{◌≡◌, ℕ, List, [], ◌∷◌, ◌++◌, map, refl, sym, ap, subst, inl, inr}
+use Rattle.gf_nfg.proofs.Common.{arith, ◌↔◌, codes, AllByRecursion, flat_map, IsLabel, Token, Text}
+use Rattle.gf_nfg.proofs.Common.{Bare, Each, braced, number_spelled, Ratio, IsFraction}
+use Rattle.gf_nfg.proofs.Common.{written_is_read, all_weaker, all_parts, all_lists, Table, IsTable}
+use Rattle.gf_nfg.proofs.Common.{IsSpellable, rows, IsLabelList, IsPayoff, IsPayoffBody, Sentence}
+use Rattle.gf_nfg.proofs.Common.{row_text, spaced, list_text, quoted, table_text, SpellsTable}
+use Rattle.gf_nfg.proofs.Common.{SameTable}
 use Rattle.std.proofs.lemmas.List.Concat.{flat_map_single}
-use Rattle.gf_token.specs.LabelSpelling.{IsLabel}
-use Rattle.gf_token.specs.Token.{Token}
-use Rattle.gf_token.specs.Token.Token.{Text, Bare}
-use Rattle.gf_token.specs.Grammar.{Each, braced}
 use Rattle.gf_token.proofs.Grammar.{each_group}
-use Rattle.gf_token.proofs.SpelledNumbers.{number_spelled}
-use Rattle.gf_fraction.specs.Ratio.{Ratio, IsFraction}
 use Rattle.gf_fraction.specs.NumberText.{number_text}
-use Rattle.gf_fraction.proofs.ReadingBack.{written_is_read}
-use Rattle.gf_fraction.proofs.AllElements.{all_weaker, all_parts, all_lists}
-use Rattle.gf_nfg.specs.Table.{Table, IsTable, IsSpellable, rows}
-use Rattle.gf_nfg.specs.Sentence.{IsLabelList, IsPayoff, IsPayoffBody, Sentence}
-use Rattle.gf_nfg.specs.inner.TextParts.{row_text}
-use Rattle.gf_nfg.specs.TableText.{spaced, list_text, quoted, table_text, SpellsTable}
-use Rattle.gf_nfg.specs.SameTable.{SameTable}
 use Rattle.gf_nfg.proofs.lemmas.places.Led.{spells_one_table}
 use Rattle.gf_nfg.proofs.lemmas.texts.Spelled.{Tells, Says, says_label, says_bare, says_both}
 use Rattle.gf_nfg.proofs.lemmas.texts.Spelled.{says_spaced, says_list, tells_line, tells_lines}

@@ -1,16 +1,12 @@
 -- Canonical text, piece by piece.
-use Rattle.std.proofs.Common.{◌≡◌, ℕ, zero, suc, ◌+◌, ◌<◌, ◌≤◌, List, [], ◌∷◌, ◌++◌, length, map}
-use Rattle.std.proofs.Common.{drop, get_or, Some, slice_get, option_map, refl, sym, ap}
-use Rattle.std.proofs.Common.{append_assoc, arith, length-take}
-use Rattle.std.specs.Prelude.{codes, option_and_then, Err, Ok, OnErr, Result}
-use Rattle.std.proofs.lemmas.List.{at_drop_more, append-nil, drop_all, take-append-le}
-use Rattle.std.proofs.lemmas.List.{take-append-drop, take_all}
-use Rattle.std.proofs.lemmas.Option.{slice_get-get_or, unwrap_or-slice_get}
-use Rattle.gf_fraction.specs.Ratio.{Ratio}
+use Rattle.gf_nfg.proofs.Common.{◌≡◌, ℕ, zero, suc, ◌+◌, ◌<◌, ◌≤◌, List, [], ◌∷◌, ◌++◌, length, map}
+use Rattle.gf_nfg.proofs.Common.{drop, get_or, Some, slice_get, option_map, refl, sym, ap}
+use Rattle.gf_nfg.proofs.Common.{append_assoc, arith, length-take, codes, option_and_then, Err, Ok}
+use Rattle.gf_nfg.proofs.Common.{OnErr, Result, at_drop_more, append-nil, drop_all, take-append-le}
+use Rattle.gf_nfg.proofs.Common.{take-append-drop, take_all, slice_get-get_or, unwrap_or-slice_get}
+use Rattle.gf_nfg.proofs.Common.{Ratio, Names, own_of, list_text, spaced, lines_text, Keeps}
+use Rattle.gf_nfg.proofs.Common.{others_text, row_text}
 use Rattle.gf_fraction.specs.NumberText.{number_text}
-use Rattle.gf_nfg.specs.TableParts.{Names, own_of}
-use Rattle.gf_nfg.specs.TableText.{list_text, spaced, lines_text}
-use Rattle.gf_nfg.specs.inner.TextParts.{Keeps, others_text, row_text}
 
 -- each item and a space, and the closing brace
 abbrev pub items_text : List (List ℕ) → List ℕ

@@ -1,16 +1,10 @@
 -- Lines of rows that profiles share.
-use Rattle.std.proofs.Common.{◌≡◌, ℕ, ◌+◌, ◌*◌, ◌/◌, ◌<◌, ◌≤◌, List, [], ◌∷◌, ◌++◌, length, map}
-use Rattle.std.proofs.Common.{◌-◌, get_or, take, append_assoc, length-take-le, refl, sym, ap, ◌∙◌}
-use Rattle.std.proofs.Common.{arith, length-append}
-use Rattle.std.specs.List.{AllByRecursion}
-use Rattle.std.proofs.Math.Nat.{le-div_iff_mul-le}
-use Rattle.std.proofs.Math.Seq.{take-append-add}
-use Rattle.std.proofs.lemmas.List.{get_or-map, length-map, map-append, take-take}
-use Rattle.gf_fraction.specs.Ratio.{Ratio}
-use Rattle.gf_nfg.specs.Profiles.{numbers_from}
-use Rattle.gf_nfg.specs.inner.TextParts.{line_text, lines_with, row_text}
-use Rattle.gf_nfg.specs.TableParts.{RisesTo, kept_row, pieces, row_of}
-use Rattle.gf_nfg.specs.TableText.{lines_text}
+use Rattle.gf_nfg.proofs.Common.{◌≡◌, ℕ, ◌+◌, ◌*◌, ◌/◌, ◌<◌, ◌≤◌, List, [], ◌∷◌, ◌++◌, length, map}
+use Rattle.gf_nfg.proofs.Common.{◌-◌, get_or, take, append_assoc, length-take-le, refl, sym, ap}
+use Rattle.gf_nfg.proofs.Common.{◌∙◌, arith, length-append, AllByRecursion, le-div_iff_mul-le}
+use Rattle.gf_nfg.proofs.Common.{take-append-add, get_or-map, length-map, map-append, take-take}
+use Rattle.gf_nfg.proofs.Common.{Ratio, numbers_from, line_text, lines_with, row_text, RisesTo}
+use Rattle.gf_nfg.proofs.Common.{kept_row, pieces, row_of, lines_text}
 use Rattle.gf_nfg.proofs.lemmas.tables.NumbersInTurn.{get_or-numbers_from, length-numbers_from}
 use Rattle.gf_nfg.proofs.lemmas.tables.NumbersInTurn.{numbers_joined}
 use Rattle.gf_nfg.proofs.lemmas.tables.Rows.{kept_row_is}

@@ -1,16 +1,10 @@
 -- Which tokens a text spells that consists of pieces with whitespace between them.
-use Rattle.std.proofs.Common.{◌≡◌, ℕ, ◌+◌, true, false, List, [], ◌∷◌, ◌++◌, length, map, refl, ap}
-use Rattle.std.proofs.Common.{append_assoc, arith}
-use Rattle.std.specs.Prelude.{codes}
-use Rattle.std.specs.List.{AllByRecursion, flat_map}
+use Rattle.gf_nfg.proofs.Common.{◌≡◌, ℕ, ◌+◌, true, false, List, [], ◌∷◌, ◌++◌, length, map, refl}
+use Rattle.gf_nfg.proofs.Common.{ap, append_assoc, arith, codes, AllByRecursion, flat_map, IsLabel}
+use Rattle.gf_nfg.proofs.Common.{Token, Lexeme, lexeme, spelling, Opening, Closing, Text, Bare}
+use Rattle.gf_nfg.proofs.Common.{IsSpelled, MayPrecede, GoesOn, Spells, braced, wider, spaced}
+use Rattle.gf_nfg.proofs.Common.{list_text, quoted, lines_text}
 use Rattle.gf_token.specs.Byte.{is_space, is_bare}
-use Rattle.gf_token.specs.LabelSpelling.{IsLabel}
-use Rattle.gf_token.specs.Token.{Token, Lexeme, lexeme, spelling}
-use Rattle.gf_token.specs.Token.Token.{Opening, Closing, Text, Bare}
-use Rattle.gf_token.specs.TokenSpelling.{IsSpelled, MayPrecede, GoesOn, Spells}
-use Rattle.gf_token.specs.Grammar.{braced}
-use Rattle.gf_token.proofs.Spelled.{wider}
-use Rattle.gf_nfg.specs.TableText.{spaced, list_text, quoted, lines_text}
 
 -- from any place on, the bytes spell these tokens
 abbrev pub Tells : List ℕ → List Token → Type 0

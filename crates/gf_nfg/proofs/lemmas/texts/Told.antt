@@ -1,20 +1,12 @@
 -- What a text has of a file that is being told, and that it is the canonical text at the end.
-use Rattle.std.proofs.Common.{◌≡◌, ℕ, ◌-◌, ◌<◌, ◌≤◌, Bool, List, [], ◌∷◌, ◌++◌, length, map}
-use Rattle.std.proofs.Common.{refl, sym, ap, subst, ◌∙◌, append_assoc, arith}
-use Rattle.std.proofs.lemmas.Grind.{flat_map-append}
-use Rattle.std.proofs.lemmas.List.{append-nil}
-use Rattle.gf_fraction.specs.Ratio.{Ratio}
+use Rattle.gf_nfg.proofs.Common.{◌≡◌, ℕ, ◌-◌, ◌<◌, ◌≤◌, Bool, List, [], ◌∷◌, ◌++◌, length, map}
+use Rattle.gf_nfg.proofs.Common.{refl, sym, ap, subst, ◌∙◌, append_assoc, arith, flat_map-append}
+use Rattle.gf_nfg.proofs.Common.{append-nil, Ratio, Content, IsComplete, names_in, rows_by}
+use Rattle.gf_nfg.proofs.Common.{table_of, product, IsWithinLimit, content_of, content_told, Table}
+use Rattle.gf_nfg.proofs.Common.{rows, SpellsTable, lines_text, list_text, named_by, quoted}
+use Rattle.gf_nfg.proofs.Common.{table_text, first_line, heading_text, names_by, row_text}
+use Rattle.gf_nfg.proofs.Common.{HasToldTable, AreLines, HasBody, HasText}
 use Rattle.gf_fraction.specs.NumberText.{number_text}
-use Rattle.gf_nfg.specs.inner.Machine.{Content}
-use Rattle.gf_nfg.specs.inner.Meaning.{IsComplete, names_in, rows_by, table_of}
-use Rattle.gf_nfg.specs.Profiles.{product}
-use Rattle.gf_nfg.specs.LimitPlace.{IsWithinLimit}
-use Rattle.gf_nfg.specs.inner.ReaderState.{content_of, content_told}
-use Rattle.gf_nfg.specs.Table.{Table, rows}
-use Rattle.gf_nfg.specs.TableText.{SpellsTable, lines_text, list_text, named_by, quoted, table_text}
-use Rattle.gf_nfg.specs.inner.TextParts.{first_line, heading_text, names_by, row_text}
-use Rattle.gf_nfg.specs.inner.ToldTable.{HasToldTable}
-use Rattle.gf_nfg.specs.inner.ToldText.{AreLines, HasBody, HasText}
 use Rattle.gf_nfg.specs.declared.table.heading.Heading.{Heading}
 use Rattle.gf_nfg.specs.declared.text.Text.{Text}
 use Rattle.gf_nfg.specs.declared.reader.receive.Version.{Version}

@@ -1,5 +1,4 @@
-use Rattle.gf_nfg.specs.inner.Meaning.{table_of}
-use Rattle.gf_nfg.specs.inner.ReaderState.{content_told}
+use Rattle.gf_nfg.proofs.Common.{table_of, content_told}
 use Rattle.gf_nfg.proofs.lemmas.tables.Meaning.{within_limit}
 use Rattle.gf_nfg.proofs.read.check_nfg.Goals as goal
 

@@ -1,6 +1,4 @@
-use Rattle.std.proofs.Common.{◌∙◌}
-use Rattle.gf_nfg.specs.inner.Meaning.{table_of}
-use Rattle.gf_nfg.specs.inner.ReaderState.{content_told}
+use Rattle.gf_nfg.proofs.Common.{◌∙◌, table_of, content_told}
 use Rattle.gf_nfg.proofs.lemmas.places.Judged.{memory_at_end}
 use Rattle.gf_nfg.proofs.lemmas.places.Led.{spells_one_table}
 use Rattle.gf_nfg.proofs.lemmas.tables.Meaning.{within_limit}

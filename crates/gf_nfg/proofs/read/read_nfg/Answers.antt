@@ -1,6 +1,4 @@
-use Rattle.std.proofs.Common.{arith, ◌∙◌}
-use Rattle.gf_nfg.specs.inner.Meaning.{table_of}
-use Rattle.gf_nfg.specs.inner.ReaderState.{content_of}
+use Rattle.gf_nfg.proofs.Common.{arith, ◌∙◌, table_of, content_of}
 use Rattle.gf_nfg.proofs.lemmas.places.Judged.{memory_at_end}
 use Rattle.gf_nfg.proofs.lemmas.places.Led.{spells_one_table}
 use Rattle.gf_nfg.proofs.lemmas.tables.Spelled.{spelled_is_spellable}

@@ -1,6 +1,4 @@
-use Rattle.std.proofs.Common.{arith, ◌∙◌, ap, sym}
-use Rattle.gf_nfg.specs.inner.Heard.{Answer}
-use Rattle.gf_nfg.specs.inner.ReaderState.{content_told}
+use Rattle.gf_nfg.proofs.Common.{arith, ◌∙◌, ap, sym, Answer, content_told}
 use Rattle.gf_nfg.proofs.lemmas.places.Heard.{answer_judged, answer_read, carried, heard_begun}
 use Rattle.gf_nfg.proofs.lemmas.places.Heard.{refused_why}
 use Rattle.gf_nfg.proofs.lemmas.places.Judged.{only_memory}

@@ -1,9 +1,5 @@
-use Rattle.std.proofs.Common.{◌≡◌, ◌∙◌, ap, rules, sym}
-use Rattle.std.specs.Prelude.{◌↔◌, IsTrue}
-use Rattle.gf_nfg.specs.inner.ReaderState.{content_told}
-use Rattle.gf_nfg.specs.inner.Meaning.{table_of}
-use Rattle.gf_nfg.specs.SameTable.{SameTable}
-use Rattle.gf_nfg.specs.TableText.{named_by}
+use Rattle.gf_nfg.proofs.Common.{◌≡◌, ◌∙◌, ap, rules, sym, ◌↔◌, IsTrue, content_told, table_of}
+use Rattle.gf_nfg.proofs.Common.{SameTable, named_by}
 use Rattle.gf_nfg.specs.declared.reader.receive.Version.TheVariants.{Payoffs}
 use Rattle.gf_nfg.proofs.lemmas.tables.Compared.{if_ok, in_turn_compared, payoffs_compared}
 use Rattle.gf_nfg.proofs.lemmas.tables.Compared.{rows_compared, rows_kept}

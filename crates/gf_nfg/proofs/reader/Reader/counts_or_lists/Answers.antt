@@ -1,6 +1,5 @@
-use Rattle.std.proofs.Common.{arith, rules, ◌≡◌, ◌<◌, ◌-◌, ◌∙◌, ap, sym, length}
-use Rattle.gf_nfg.specs.inner.Position.Position.{FirstStrategies}
-use Rattle.gf_nfg.specs.inner.ReaderState.{answer, content_in}
+use Rattle.gf_nfg.proofs.Common.{arith, rules, ◌≡◌, ◌<◌, ◌-◌, ◌∙◌, ap, sym, length, FirstStrategies}
+use Rattle.gf_nfg.proofs.Common.{answer, content_in}
 use Rattle.gf_nfg.proofs.lemmas.places.Heard.{carried}
 use Rattle.gf_nfg.proofs.lemmas.runs.ReaderSteps.{counts_end, first_opens, goes_back, goes_from}
 use Rattle.gf_nfg.proofs.lemmas.runs.ReaderSteps.{goes_to, lists_end}

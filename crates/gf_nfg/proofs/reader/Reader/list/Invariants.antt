@@ -1,5 +1,4 @@
-use Rattle.std.proofs.Common.{◌≡◌, ℕ, length}
-use Rattle.gf_nfg.specs.inner.ReaderState.{HasMore, labels_of, list_answer}
+use Rattle.gf_nfg.proofs.Common.{◌≡◌, ℕ, length, HasMore, labels_of, list_answer}
 use Rattle.gf_nfg.proofs.reader.Reader.list.Given as goal
 
 abbrev pub invariant-loop-strategy : goal.invariant-loop-strategy

@@ -1,6 +1,4 @@
-use Rattle.std.proofs.Common.{◌≡◌, ◌≤◌, ◌-◌}
-use Rattle.gf_nfg.specs.inner.Position.Position.{BeforeList}
-use Rattle.gf_nfg.specs.inner.ReaderState.{HasMore, answer}
+use Rattle.gf_nfg.proofs.Common.{◌≡◌, ◌≤◌, ◌-◌, BeforeList, HasMore, answer}
 use Rattle.gf_nfg.proofs.reader.Reader.lists.Given as goal
 
 abbrev pub invariant-loop-due : goal.invariant-loop-due

@@ -1,8 +1,4 @@
-use Rattle.std.proofs.Common.{rules, [], ◌∷◌}
-use Rattle.gf_token.specs.Label.{label_of}
-use Rattle.gf_nfg.specs.inner.Machine.{at, with_players}
-use Rattle.gf_nfg.specs.inner.Position.Position.{InPlayers}
-use Rattle.gf_nfg.specs.inner.ReaderState.{content_in}
+use Rattle.gf_nfg.proofs.Common.{rules, [], ◌∷◌, label_of, at, with_players, InPlayers, content_in}
 use Rattle.gf_nfg.proofs.lemmas.places.Heard.{wants_memory}
 use Rattle.gf_nfg.proofs.lemmas.runs.ReaderSteps.{goes_back}
 use Rattle.gf_nfg.proofs.reader.Reader.players.Goals as goal

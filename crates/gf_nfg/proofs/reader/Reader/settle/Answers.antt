@@ -1,7 +1,4 @@
-use Rattle.std.proofs.Common.{rules}
-use Rattle.gf_nfg.specs.inner.Machine.{at, with_count}
-use Rattle.gf_nfg.specs.inner.Position.Position.{BeforeList, Counts}
-use Rattle.gf_nfg.specs.inner.ReaderState.{content_in}
+use Rattle.gf_nfg.proofs.Common.{rules, at, with_count, BeforeList, Counts, content_in}
 use Rattle.gf_nfg.proofs.lemmas.places.Heard.{wants_memory}
 use Rattle.gf_nfg.proofs.reader.Reader.settle.Goals as goal
 

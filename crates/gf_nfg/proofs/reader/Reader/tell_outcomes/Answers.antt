@@ -1,8 +1,5 @@
-use Rattle.std.proofs.Common.{◌∙◌, refl, arith}
-use Rattle.std.proofs.lemmas.List.{length-map}
-use Rattle.gf_token.specs.Label.{label_of}
-use Rattle.gf_nfg.specs.inner.ReaderState.{content_told}
-use Rattle.gf_nfg.specs.inner.Told.{choosing, paying, told_heading}
+use Rattle.gf_nfg.proofs.Common.{◌∙◌, refl, arith, length-map, label_of, content_told, choosing}
+use Rattle.gf_nfg.proofs.Common.{paying, told_heading}
 use Rattle.gf_nfg.specs.declared.reader.receive.Version.TheVariants.{Outcomes}
 use Rattle.gf_nfg.proofs.lemmas.places.Heard.{carried}
 use Rattle.gf_nfg.proofs.lemmas.runs.ReaderSteps.{all_told, ends_back, no_payoffs}

@@ -1,6 +1,4 @@
-use Rattle.std.proofs.Common.{◌-◌, ◌∙◌, arith, rules}
-use Rattle.gf_nfg.specs.inner.ReaderState.{content_told}
-use Rattle.gf_nfg.specs.inner.Told.{paying}
+use Rattle.gf_nfg.proofs.Common.{◌-◌, ◌∙◌, arith, rules, content_told, paying}
 use Rattle.gf_nfg.proofs.lemmas.runs.ReaderSteps.{ends_back}
 use Rattle.gf_nfg.proofs.lemmas.places.Heard.{carried}
 use Rattle.gf_nfg.proofs.reader.body.braced_payoffs.Goals as goal

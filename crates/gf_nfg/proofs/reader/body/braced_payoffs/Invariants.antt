@@ -1,7 +1,4 @@
-use Rattle.std.proofs.Common.{◌≤◌, ℕ, length}
-use Rattle.gf_nfg.specs.inner.Position.Position.{BracedPayoff}
-use Rattle.gf_nfg.specs.inner.ReaderState.{HasTold, told_answer}
-use Rattle.gf_nfg.specs.inner.Told.{Told, paying}
+use Rattle.gf_nfg.proofs.Common.{◌≤◌, ℕ, length, BracedPayoff, HasTold, told_answer, Told, paying}
 use Rattle.gf_nfg.proofs.reader.body.braced_payoffs.Given as goal
 
 abbrev pub invariant-loop-due : goal.invariant-loop-due

@@ -1,8 +1,4 @@
-use Rattle.std.proofs.Common.{arith, rules, ◌-◌}
-use Rattle.gf_nfg.specs.inner.Machine.{at}
-use Rattle.gf_nfg.specs.inner.Position.Position.{OutcomeNumbers}
-use Rattle.gf_nfg.specs.inner.ReaderState.{content_told}
-use Rattle.gf_nfg.specs.inner.Told.{with_number}
+use Rattle.gf_nfg.proofs.Common.{arith, rules, ◌-◌, at, OutcomeNumbers, content_told, with_number}
 use Rattle.gf_nfg.proofs.lemmas.places.Heard.{wants_memory}
 use Rattle.gf_nfg.proofs.reader.body.number.Goals as goal
 

@@ -1,5 +1,4 @@
-use Rattle.std.proofs.Common.{◌∙◌, arith, refl, rules}
-use Rattle.gf_nfg.specs.inner.Told.{choosing}
+use Rattle.gf_nfg.proofs.Common.{◌∙◌, arith, refl, rules, choosing}
 use Rattle.gf_nfg.proofs.lemmas.runs.ReaderSteps.{ends_back}
 use Rattle.gf_nfg.proofs.lemmas.places.Heard.{carried}
 use Rattle.gf_nfg.proofs.reader.body.numbers.Goals as goal

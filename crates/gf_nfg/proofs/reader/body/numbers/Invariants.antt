@@ -1,6 +1,4 @@
-use Rattle.gf_nfg.specs.inner.Position.Position.{OutcomeNumbers}
-use Rattle.gf_nfg.specs.inner.ReaderState.{HasTold, told_answer}
-use Rattle.gf_nfg.specs.inner.Told.{Told, choosing}
+use Rattle.gf_nfg.proofs.Common.{OutcomeNumbers, HasTold, told_answer, Told, choosing}
 use Rattle.gf_nfg.proofs.reader.body.numbers.Given as goal
 
 abbrev pub invariant-loop-due : goal.invariant-loop-due

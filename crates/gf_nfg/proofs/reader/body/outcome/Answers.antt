@@ -1,10 +1,5 @@
-use Rattle.std.proofs.Common.{◌≡◌, ◌∙◌, rules}
-use Rattle.gf_token.specs.Label.{label_of}
-use Rattle.gf_nfg.specs.inner.Heard.{Fails}
-use Rattle.gf_nfg.specs.inner.Machine.{next_outcome}
-use Rattle.gf_nfg.specs.inner.Position.Position.{BracedPayoff, InOutcomes}
-use Rattle.gf_nfg.specs.inner.ReaderState.{told_answer}
-use Rattle.gf_nfg.specs.inner.Told.{paying}
+use Rattle.gf_nfg.proofs.Common.{◌≡◌, ◌∙◌, rules, label_of, Fails, next_outcome, BracedPayoff}
+use Rattle.gf_nfg.proofs.Common.{InOutcomes, told_answer, paying}
 use Rattle.gf_nfg.proofs.lemmas.places.Heard.{carried}
 use Rattle.gf_nfg.proofs.lemmas.runs.ReaderSteps.{ends_back, outcome_named}
 use Rattle.gf_nfg.proofs.reader.body.outcome.Goals as goal

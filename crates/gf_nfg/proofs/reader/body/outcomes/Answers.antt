@@ -1,8 +1,5 @@
-use Rattle.std.proofs.Common.{◌≡◌, ◌∙◌, ap, refl, rules}
-use Rattle.gf_nfg.specs.inner.Machine.{next_outcome}
-use Rattle.gf_nfg.specs.inner.Position.Position.{InOutcomes, OutcomeName}
-use Rattle.gf_nfg.specs.inner.ReaderState.{told_answer}
-use Rattle.gf_nfg.specs.inner.Told.{paying}
+use Rattle.gf_nfg.proofs.Common.{◌≡◌, ◌∙◌, ap, refl, rules, next_outcome, InOutcomes, OutcomeName}
+use Rattle.gf_nfg.proofs.Common.{told_answer, paying}
 use Rattle.gf_nfg.proofs.lemmas.places.Heard.{carried}
 use Rattle.gf_nfg.proofs.lemmas.runs.ReaderSteps.{ends_back}
 use Rattle.gf_nfg.proofs.reader.body.outcomes.Goals as goal

@@ -1,7 +1,5 @@
-use Rattle.std.proofs.Common.{◌≡◌, length}
-use Rattle.gf_nfg.specs.inner.Position.Position.{InOutcomes}
-use Rattle.gf_nfg.specs.inner.ReaderState.{HasTold, content_told, told_answer}
-use Rattle.gf_nfg.specs.inner.Told.{Told, paying}
+use Rattle.gf_nfg.proofs.Common.{◌≡◌, length, InOutcomes, HasTold, content_told, told_answer, Told}
+use Rattle.gf_nfg.proofs.Common.{paying}
 use Rattle.gf_nfg.proofs.reader.body.outcomes.Given as goal
 
 abbrev pub invariant-loop-tokens : goal.invariant-loop-tokens

@@ -1,8 +1,5 @@
-use Rattle.std.proofs.Common.{arith, rules, ◌-◌}
-use Rattle.gf_nfg.specs.inner.Machine.{at}
-use Rattle.gf_nfg.specs.inner.Position.Position.{AfterBracedPayoff, FlatPayoffs}
-use Rattle.gf_nfg.specs.inner.ReaderState.{content_told}
-use Rattle.gf_nfg.specs.inner.Told.{with_payoff}
+use Rattle.gf_nfg.proofs.Common.{arith, rules, ◌-◌, at, AfterBracedPayoff, FlatPayoffs}
+use Rattle.gf_nfg.proofs.Common.{content_told, with_payoff}
 use Rattle.gf_nfg.proofs.lemmas.places.Heard.{wants_memory}
 use Rattle.gf_nfg.proofs.reader.body.payoff.Goals as goal
 

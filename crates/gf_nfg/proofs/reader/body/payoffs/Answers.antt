@@ -1,5 +1,4 @@
-use Rattle.std.proofs.Common.{◌∙◌, arith, refl, rules}
-use Rattle.gf_nfg.specs.inner.Told.{paying}
+use Rattle.gf_nfg.proofs.Common.{◌∙◌, arith, refl, rules, paying}
 use Rattle.gf_nfg.proofs.lemmas.runs.ReaderSteps.{ends_back}
 use Rattle.gf_nfg.proofs.lemmas.places.Heard.{carried}
 use Rattle.gf_nfg.proofs.reader.body.payoffs.Goals as goal

@@ -1,6 +1,4 @@
-use Rattle.gf_nfg.specs.inner.Position.Position.{FlatPayoffs}
-use Rattle.gf_nfg.specs.inner.ReaderState.{HasTold, told_answer}
-use Rattle.gf_nfg.specs.inner.Told.{Told, paying}
+use Rattle.gf_nfg.proofs.Common.{FlatPayoffs, HasTold, told_answer, Told, paying}
 use Rattle.gf_nfg.proofs.reader.body.payoffs.Given as goal
 
 abbrev pub invariant-loop-due : goal.invariant-loop-due

@@ -1,5 +1,4 @@
-use Rattle.std.proofs.Common.{subst}
-use Rattle.gf_nfg.specs.Table.{IsSpellable}
+use Rattle.gf_nfg.proofs.Common.{subst, IsSpellable}
 use Rattle.gf_nfg.proofs.lemmas.tables.Rows.{is_table}
 use Rattle.gf_nfg.proofs.table.Table.names.Goals as goal
 

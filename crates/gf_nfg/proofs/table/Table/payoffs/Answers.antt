@@ -1,5 +1,4 @@
-use Rattle.std.proofs.Common.{◌∙◌, sym, ap, arith, ℕ, Option, slice_get}
-use Rattle.std.specs.Prelude.{option_and_then}
+use Rattle.gf_nfg.proofs.Common.{◌∙◌, sym, ap, arith, ℕ, Option, slice_get, option_and_then}
 use Rattle.gf_nfg.proofs.lemmas.tables.Places.{payoffs_found, place_below}
 use Rattle.gf_nfg.proofs.table.Table.payoffs.Goals as goal
 

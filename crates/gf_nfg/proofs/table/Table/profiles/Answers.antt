@@ -1,5 +1,4 @@
-use Rattle.std.proofs.Common.{◌∙◌, sym, ap, subst, arith, length}
-use Rattle.gf_nfg.specs.Table.{IsSpellable}
+use Rattle.gf_nfg.proofs.Common.{◌∙◌, sym, ap, subst, arith, length, IsSpellable}
 use Rattle.gf_nfg.proofs.lemmas.tables.Rows.{is_table, length-entries}
 use Rattle.gf_nfg.proofs.table.Table.profiles.Goals as goal
 

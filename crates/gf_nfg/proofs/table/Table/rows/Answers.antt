@@ -1,5 +1,4 @@
-use Rattle.std.proofs.Common.{◌∙◌, sym, ap}
-use Rattle.gf_nfg.specs.Table.{rows}
+use Rattle.gf_nfg.proofs.Common.{◌∙◌, sym, ap, rows}
 use Rattle.gf_nfg.proofs.lemmas.tables.Rows.{rows-table_with}
 use Rattle.gf_nfg.proofs.table.Table.rows.Goals as goal
 

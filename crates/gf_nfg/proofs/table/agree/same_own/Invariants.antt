@@ -1,5 +1,4 @@
-use Rattle.std.proofs.Common.{◌≡◌, take}
-use Rattle.gf_nfg.specs.TableParts.{own_of}
+use Rattle.gf_nfg.proofs.Common.{◌≡◌, take, own_of}
 use Rattle.gf_nfg.proofs.table.agree.same_own.Given as goal
 
 abbrev pub invariant-loop-strategy : goal.invariant-loop-strategy

@@ -1,6 +1,4 @@
-use Rattle.std.proofs.Common.{◌≡◌, ◌++◌, map, take}
-use Rattle.std.specs.List.{join_with_byte}
-use Rattle.gf_token.specs.Label.{label_of}
+use Rattle.gf_nfg.proofs.Common.{◌≡◌, ◌++◌, map, take, join_with_byte, label_of}
 use Rattle.gf_nfg.proofs.table.labels.write_joined.Given as goal
 
 abbrev pub invariant-loop-at : goal.invariant-loop-at

@@ -1,5 +1,4 @@
-use Rattle.std.proofs.Common.{◌≡◌, length}
-use Rattle.std.specs.Prelude.{◌↔◌}
+use Rattle.gf_nfg.proofs.Common.{◌≡◌, length, ◌↔◌}
 use Rattle.gf_nfg.proofs.table.payoffs_in_turn.same_left.Given as goal
 
 abbrev pub invariant-loop-payoff : goal.invariant-loop-payoff

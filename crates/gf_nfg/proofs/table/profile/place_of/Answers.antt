@@ -1,5 +1,4 @@
-use Rattle.std.proofs.Common.{◌∙◌, arith}
-use Rattle.std.proofs.lemmas.List.{length-map}
+use Rattle.gf_nfg.proofs.Common.{◌∙◌, arith, length-map}
 use Rattle.gf_nfg.proofs.lemmas.tables.Places.{none_by_length, place_below, player_before}
 use Rattle.gf_nfg.proofs.lemmas.tables.Places.{strategy_out, strategy_in, strategy_fits}
 use Rattle.gf_nfg.proofs.table.profile.place_of.Goals as goal

@@ -1,5 +1,4 @@
-use Rattle.std.proofs.Common.{◌≡◌, Some, map, drop, length}
-use Rattle.gf_nfg.specs.TableParts.{place_of}
+use Rattle.gf_nfg.proofs.Common.{◌≡◌, Some, map, drop, length, place_of}
 use Rattle.gf_nfg.proofs.table.profile.place_of.Given as goal
 
 abbrev pub invariant-loop-at : goal.invariant-loop-at

@@ -1,10 +1,6 @@
-use Rattle.std.proofs.Common.{◌≡◌, ◌∷◌, ◌++◌, [], rules, ◌-◌, subst, sym}
+use Rattle.gf_nfg.proofs.Common.{◌≡◌, ◌∷◌, ◌++◌, [], rules, ◌-◌, subst, sym, names_in, content_in}
+use Rattle.gf_nfg.proofs.Common.{heading_text, names_by, with_payoff, HasBody}
 use Rattle.gf_fraction.specs.NumberText.{number_text}
-use Rattle.gf_nfg.specs.inner.Meaning.{names_in}
-use Rattle.gf_nfg.specs.inner.ReaderState.{content_in}
-use Rattle.gf_nfg.specs.inner.TextParts.{heading_text, names_by}
-use Rattle.gf_nfg.specs.inner.Told.{with_payoff}
-use Rattle.gf_nfg.specs.inner.ToldText.{HasBody}
 use Rattle.gf_nfg.specs.declared.reader.receive.Version.TheVariants.{Outcomes}
 use Rattle.gf_nfg.proofs.lemmas.texts.Told.{is_payoffs, line_ends, longer, one_more}
 use Rattle.gf_nfg.proofs.text.TextReceive.payoff.Goals as goal

@@ -1,11 +1,6 @@
-use Rattle.std.proofs.Common.{arith, ◌≡◌, ◌∙◌, ◌++◌, List, ℕ, Bool, ap, map, refl, rules, subst}
-use Rattle.gf_token.specs.declared.fault.Why.TheVariants.{Memory}
-use Rattle.gf_nfg.specs.inner.Meaning.{rows_by, table_of}
-use Rattle.gf_nfg.specs.inner.ReaderState.{content_of}
-use Rattle.gf_nfg.specs.TableText.{lines_text}
-use Rattle.gf_nfg.specs.inner.TextParts.{row_text}
-use Rattle.gf_nfg.specs.inner.ToldTable.{HasToldTable}
-use Rattle.gf_nfg.specs.inner.ToldText.{HasText}
+use Rattle.gf_nfg.proofs.Common.{arith, ◌≡◌, ◌∙◌, ◌++◌, List, ℕ, Bool, ap, map, refl, rules, subst}
+use Rattle.gf_nfg.proofs.Common.{Memory, rows_by, table_of, content_of, lines_text, row_text}
+use Rattle.gf_nfg.proofs.Common.{HasToldTable, HasText}
 use Rattle.gf_nfg.specs.declared.reader.receive.Version.TheVariants.{Payoffs}
 use Rattle.gf_nfg.proofs.lemmas.places.Judged.{memory_at_end}
 use Rattle.gf_nfg.proofs.lemmas.texts.Told.{outcomes_begin, payoffs_text, text_with}

@@ -1,7 +1,4 @@
-use Rattle.std.proofs.Common.{◌++◌, arith}
-use Rattle.gf_token.specs.Label.{label_of}
-use Rattle.gf_nfg.specs.TableParts.{own_of}
-use Rattle.gf_nfg.specs.TableText.{quoted}
+use Rattle.gf_nfg.proofs.Common.{◌++◌, arith, label_of, own_of, quoted}
 use Rattle.gf_nfg.proofs.lemmas.texts.Pieces.{item_written, kept_twice, list_closed, own_some}
 use Rattle.gf_nfg.proofs.lemmas.texts.Pieces.{own_strategy, rest_text}
 use Rattle.gf_nfg.proofs.text.write.write_own.Goals as goal

@@ -1,7 +1,4 @@
-use Rattle.std.proofs.Common.{◌≡◌, ◌++◌}
-use Rattle.gf_nfg.specs.TableParts.{own_of}
-use Rattle.gf_nfg.specs.TableText.{quoted}
-use Rattle.gf_nfg.specs.inner.TextParts.{Keeps}
+use Rattle.gf_nfg.proofs.Common.{◌≡◌, ◌++◌, own_of, quoted, Keeps}
 use Rattle.gf_nfg.proofs.lemmas.texts.Pieces.{rest_text}
 use Rattle.gf_nfg.proofs.text.write.write_own.Given as goal
 

@@ -1,6 +1,4 @@
-use Rattle.std.proofs.Common.{◌++◌, arith}
-use Rattle.gf_token.specs.Label.{label_of}
-use Rattle.gf_nfg.specs.TableText.{quoted}
+use Rattle.gf_nfg.proofs.Common.{◌++◌, arith, label_of, quoted}
 use Rattle.gf_nfg.proofs.lemmas.texts.Pieces.{item_written, kept_twice, list_closed, rest_text}
 use Rattle.gf_nfg.proofs.text.write.write_players.Goals as goal
 

@@ -1,6 +1,4 @@
-use Rattle.std.proofs.Common.{◌++◌, arith, map, List, ℕ}
-use Rattle.gf_nfg.specs.TableParts.{own_of}
-use Rattle.gf_nfg.specs.TableText.{list_text, quoted}
+use Rattle.gf_nfg.proofs.Common.{◌++◌, arith, map, List, ℕ, own_of, list_text, quoted}
 use Rattle.gf_nfg.proofs.lemmas.texts.Pieces.{item_written, kept_twice, list_closed, own_there}
 use Rattle.gf_nfg.proofs.lemmas.texts.Pieces.{rest_text}
 use Rattle.gf_nfg.proofs.text.write.write_strategies.Goals as goal

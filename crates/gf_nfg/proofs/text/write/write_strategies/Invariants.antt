@@ -1,6 +1,4 @@
-use Rattle.std.proofs.Common.{◌≡◌, ◌++◌, map}
-use Rattle.gf_nfg.specs.TableText.{list_text, quoted}
-use Rattle.gf_nfg.specs.inner.TextParts.{Keeps}
+use Rattle.gf_nfg.proofs.Common.{◌≡◌, ◌++◌, map, list_text, quoted, Keeps}
 use Rattle.gf_nfg.proofs.lemmas.texts.Pieces.{rest_text}
 use Rattle.gf_nfg.proofs.text.write.write_strategies.Given as goal
 

@@ -1,8 +1,6 @@
-use Rattle.std.proofs.Common.{◌≡◌, Ok, arith, refl, subst, sym}
-use Rattle.std.specs.List.{range_with_len}
+use Rattle.gf_nfg.proofs.Common.{◌≡◌, Ok, arith, refl, subst, sym, range_with_len, LeadBack}
 use Rattle.std.proofs.lemmas.Iterator.{YieldsList-from_range, items_from_collect}
 use Rattle.std.specs.declared.alloc.AllocError.{AllocError}
-use Rattle.gf_nfg.specs.inner.Classes.{LeadBack}
 use Rattle.gf_nfg.proofs.lemmas.tables.Classes.{back_begun}
 use Rattle.gf_nfg.proofs.table.classes.Classes.new.Goals as goal
 

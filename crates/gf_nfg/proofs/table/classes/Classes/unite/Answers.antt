@@ -1,5 +1,4 @@
-use Rattle.std.proofs.Common.{◌∙◌, ap, arith, length, subst, sym}
-use Rattle.gf_nfg.specs.inner.Classes.{ShareRows}
+use Rattle.gf_nfg.proofs.Common.{◌∙◌, ap, arith, length, subst, sym, ShareRows}
 use Rattle.gf_nfg.proofs.lemmas.tables.Classes.{rows_united}
 use Rattle.gf_nfg.proofs.table.classes.Classes.unite.Goals as goal
 

@@ -1,5 +1,4 @@
-use Rattle.std.proofs.Common.{arith}
-use Rattle.gf_token.specs.Label.{label_of}
+use Rattle.gf_nfg.proofs.Common.{arith, label_of}
 use Rattle.gf_nfg.proofs.lemmas.tables.LabelsJoined.{one_added}
 use Rattle.gf_nfg.proofs.table.labels.Labels.extend_by.Goals as goal
 

@@ -1,6 +1,4 @@
-use Rattle.std.proofs.Common.{◌≡◌, ◌∙◌, ◌++◌, ◌+◌, arith}
-use Rattle.std.specs.Prelude.{decimal}
-use Rattle.gf_token.specs.Label.{label_of}
+use Rattle.gf_nfg.proofs.Common.{◌≡◌, ◌∙◌, ◌++◌, ◌+◌, arith, decimal, label_of}
 use Rattle.gf_nfg.proofs.lemmas.tables.LabelsCounted.{decimal_label, counted_appended, counted_rest}
 use Rattle.gf_nfg.proofs.table.labels.Labels.extend_counted.Goals as goal
 

@@ -1,5 +1,4 @@
-use Rattle.std.proofs.Common.{arith}
-use Rattle.gf_fraction.proofs.AllElements.{all_at}
+use Rattle.gf_nfg.proofs.Common.{arith, all_at}
 use Rattle.gf_nfg.proofs.lemmas.tables.Pieces.{within_ends}
 use Rattle.gf_nfg.proofs.table.labels.Labels.label.Goals as goal
 

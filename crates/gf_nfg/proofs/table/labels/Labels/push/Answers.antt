@@ -1,5 +1,4 @@
-use Rattle.std.proofs.Common.{◌∙◌, ap, ◌++◌, ◌∷◌, [], ℕ}
-use Rattle.gf_token.specs.Label.{label_of}
+use Rattle.gf_nfg.proofs.Common.{◌∙◌, ap, ◌++◌, ◌∷◌, [], ℕ, label_of}
 use Rattle.gf_nfg.proofs.lemmas.tables.Pieces.{IsMore, cut_more, pieces-more}
 use Rattle.gf_nfg.proofs.table.labels.Labels.push.Goals as goal
 

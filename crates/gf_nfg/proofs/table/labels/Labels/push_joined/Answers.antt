@@ -1,6 +1,4 @@
-use Rattle.std.proofs.Common.{arith, ◌∙◌, ap, map, ◌++◌, ◌∷◌, [], ℕ}
-use Rattle.std.specs.List.{join_with_byte}
-use Rattle.gf_token.specs.Label.{label_of}
+use Rattle.gf_nfg.proofs.Common.{arith, ◌∙◌, ap, map, ◌++◌, ◌∷◌, [], ℕ, join_with_byte, label_of}
 use Rattle.gf_nfg.proofs.lemmas.tables.LabelsJoined.{where_ok}
 use Rattle.gf_nfg.proofs.lemmas.tables.Pieces.{IsMore, cut_more, pieces-more}
 use Rattle.gf_nfg.proofs.table.labels.Labels.push_joined.Goals as goal

@@ -1,6 +1,4 @@
-use Rattle.std.proofs.Common.{◌∙◌}
-use Rattle.gf_nfg.specs.TableParts.{table_with}
-use Rattle.gf_nfg.specs.inner.ReaderState.{content_of}
+use Rattle.gf_nfg.proofs.Common.{◌∙◌, table_with, content_of}
 use Rattle.gf_nfg.proofs.lemmas.tables.Meaning.{held}
 use Rattle.gf_nfg.proofs.table.parts.Parts.into_table.Goals as goal
 

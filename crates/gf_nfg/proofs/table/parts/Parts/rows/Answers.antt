@@ -1,8 +1,5 @@
-use Rattle.std.proofs.Common.{◌≡◌, ◌*◌, ◌∙◌, ◌≤◌, sym, subst, arith, length, ℕ}
-use Rattle.std.specs.List.{AllByRecursion}
-use Rattle.std.proofs.lemmas.List.{length-map}
-use Rattle.gf_token.specs.Label.{label_of}
-use Rattle.gf_nfg.specs.inner.ReaderState.{content_of}
+use Rattle.gf_nfg.proofs.Common.{◌≡◌, ◌*◌, ◌∙◌, ◌≤◌, sym, subst, arith, length, ℕ, AllByRecursion}
+use Rattle.gf_nfg.proofs.Common.{length-map, label_of, content_of}
 use Rattle.gf_nfg.proofs.lemmas.tables.Meaning.{count_chosen, lacking, none_chosen, present}
 use Rattle.gf_nfg.proofs.lemmas.tables.Meaning.{payoffs_in_turn, rows_chosen, some_chosen}
 use Rattle.gf_nfg.proofs.table.parts.Parts.rows.Goals as goal

@@ -1,6 +1,4 @@
-use Rattle.std.proofs.Common.{refl}
-use Rattle.std.specs.Prelude.{option_map}
-use Rattle.gf_nfg.specs.inner.PayoffLists.{rows_in}
+use Rattle.gf_nfg.proofs.Common.{refl, option_map, rows_in}
 use Rattle.gf_nfg.proofs.lemmas.tables.Compared.{next_row}
 use Rattle.gf_nfg.proofs.lemmas.tables.Meaning.{lacking}
 use Rattle.gf_nfg.proofs.table.payoffs_in_turn.PayoffsInTurn.next.Goals as goal

@@ -1,7 +1,4 @@
-use Rattle.std.proofs.Common.{◌≡◌, ◌++◌, ◌-◌, [], drop, length}
-use Rattle.std.specs.Prelude.{option_map}
-use Rattle.std.specs.List.{flat_map}
-use Rattle.gf_nfg.specs.inner.PayoffLists.{rows_in}
+use Rattle.gf_nfg.proofs.Common.{◌≡◌, ◌++◌, ◌-◌, [], drop, length, option_map, flat_map, rows_in}
 use Rattle.gf_nfg.proofs.table.payoffs_in_turn.PayoffsInTurn.next.Given as goal
 
 abbrev pub invariant-loop-self : goal.invariant-loop-self

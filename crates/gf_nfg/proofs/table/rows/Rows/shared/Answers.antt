@@ -1,7 +1,5 @@
-use Rattle.std.proofs.Common.{◌≡◌, ◌∙◌, ◌+◌, ◌/◌, arith, subst, sym, ap, length, option_map, List}
-use Rattle.std.proofs.Common.{ℕ}
-use Rattle.gf_fraction.specs.Ratio.{Ratio}
-use Rattle.gf_nfg.specs.TableParts.{AreShared, numbers_of}
+use Rattle.gf_nfg.proofs.Common.{◌≡◌, ◌∙◌, ◌+◌, ◌/◌, arith, subst, sym, ap, length, option_map}
+use Rattle.gf_nfg.proofs.Common.{List, ℕ, Ratio, AreShared, numbers_of}
 use Rattle.gf_nfg.proofs.lemmas.texts.SharedLines.{kept_rows_are, rows_below, rows_kept}
 use Rattle.gf_nfg.proofs.table.rows.Rows.shared.Goals as goal
 

@@ -1,5 +1,4 @@
-use Rattle.std.proofs.Common.{◌≡◌, map, take}
-use Rattle.gf_nfg.specs.Sentence.{counted_labels}
+use Rattle.gf_nfg.proofs.Common.{◌≡◌, map, take, counted_labels}
 use Rattle.gf_nfg.proofs.table.strategies.Strategies.counted.Given as goal
 
 abbrev pub invariant-loop-count : goal.invariant-loop-count

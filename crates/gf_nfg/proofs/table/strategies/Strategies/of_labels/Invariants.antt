@@ -1,6 +1,4 @@
-use Rattle.std.proofs.Common.{◌≡◌}
-use Rattle.std.specs.List.{AllByRecursion}
-use Rattle.gf_nfg.specs.TableParts.{AreSpellings}
+use Rattle.gf_nfg.proofs.Common.{◌≡◌, AllByRecursion, AreSpellings}
 use Rattle.gf_nfg.proofs.table.strategies.Strategies.of_labels.Given as goal
 
 abbrev pub invariant-loop-own : goal.invariant-loop-own

@@ -1,5 +1,4 @@
-use Rattle.std.proofs.Common.{◌≡◌, map, take}
-use Rattle.gf_token.specs.Label.{label_of}
+use Rattle.gf_nfg.proofs.Common.{◌≡◌, map, take, label_of}
 use Rattle.gf_nfg.proofs.table.strategies.Strategies.of_lists.Given as goal
 
 abbrev pub invariant-loop-own : goal.invariant-loop-own

@@ -1,5 +1,4 @@
-use Rattle.std.proofs.Common.{◌∙◌, ◌++◌, ◌∷◌, [], ap, map, ℕ}
-use Rattle.gf_token.specs.Label.{label_of}
+use Rattle.gf_nfg.proofs.Common.{◌∙◌, ◌++◌, ◌∷◌, [], ap, map, ℕ, label_of}
 use Rattle.gf_nfg.proofs.lemmas.tables.Strategies.{AreKept, one_more}
 use Rattle.gf_nfg.proofs.table.strategies.Strategies.with.Goals as goal
 

@@ -1,5 +1,4 @@
-use Rattle.std.proofs.Common.{◌∙◌, ◌++◌, ◌∷◌, [], ap, ℕ}
-use Rattle.gf_nfg.specs.Sentence.{counted_labels}
+use Rattle.gf_nfg.proofs.Common.{◌∙◌, ◌++◌, ◌∷◌, [], ap, ℕ, counted_labels}
 use Rattle.gf_nfg.proofs.lemmas.tables.Strategies.{AreKept, one_more}
 use Rattle.gf_nfg.proofs.table.strategies.Strategies.with_counted.Goals as goal
 

@@ -1,5 +1,4 @@
-use Rattle.std.proofs.Common.{arith}
-use Rattle.std.proofs.lemmas.Option.{get_or_from_slice_get}
+use Rattle.gf_nfg.proofs.Common.{arith, get_or_from_slice_get}
 use Rattle.gf_nfg.proofs.lemmas.tables.Pieces.{end_within, piece_at, start_before_end, within_ends}
 use Rattle.gf_nfg.proofs.text.lines.Lines.append.Goals as goal
 

@@ -1,5 +1,4 @@
-use Rattle.std.proofs.Common.{◌≡◌, ◌++◌, drop}
-use Rattle.gf_nfg.specs.inner.TextParts.{Keeps, lines_with}
+use Rattle.gf_nfg.proofs.Common.{◌≡◌, ◌++◌, drop, Keeps, lines_with}
 use Rattle.gf_nfg.proofs.text.lines.Lines.append_all.Given as goal
 
 abbrev pub invariant-loop-number : goal.invariant-loop-number
