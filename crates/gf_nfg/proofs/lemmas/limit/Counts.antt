@@ -113,19 +113,12 @@ place_by_files bytes span h =
 
 files_at_place : (bytes : List ℕ) (span : Span) → IsLimitPlace bytes span
     → IsLimitByFiles bytes span
-files_at_place bytes span h =
-    let passes : PassesAtLast h.counts = grind arith in
-    let l = limit_by_last (tokens_of h.before) h.lexeme.token h.counts h.gives passes in
-    record {
-      before = h.before;
-      lexeme = h.lexeme;
-      after = h.after;
-      spelled = h.spelled;
-      place = h.place;
-      grows = l.grows;
-      past = l.past;
-      first = l.first;
-    }
+files_at_place bytes span h = grind (
+  arith,
+  limit_by_last (tokens_of h.before) h.lexeme.token h.counts h.gives (grind arith),
+  PassesAtLast,
+  past,
+)
 
 pub limit_by_files : (bytes : List ℕ) (span : Span)
     → IsLimitPlace bytes span ↔ IsLimitByFiles bytes span

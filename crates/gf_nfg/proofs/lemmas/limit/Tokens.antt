@@ -46,9 +46,7 @@ parted [] x ys [] u vs e = inl (refl, cc)
 parted [] x ys (w ∷ us) u vs e = let first : w ≡ x = cc in inr (inl (us, (λ i. first i ∷ us)))
 parted (z ∷ xs) x ys [] u vs e = let first : z ≡ u = cc in inr (inr (xs, (λ i. first i ∷ xs)))
 parted (z ∷ xs) x ys (w ∷ us) u vs e =
-    let first : z ≡ w = cc in
-    let rest : xs ++ x ∷ ys ≡ us ++ u ∷ vs = cc in
-    parted_more z w xs x us u first (parted xs x ys us u vs rest)
+    grind (arith, parted_more z w xs x us u (cc) (parted xs x ys us u vs (cc)))
 
 none_behind : (xs : List Token) (x : Token) (us : List Token) (u : Token)
     → xs ++ x ∷ [] ≡ us ++ u ∷ [] → StandsIn xs x us → ⊥

@@ -148,8 +148,7 @@ labels_walk [] due from outcomes c = cc (with_no_labels c)
 labels_walk (label ∷ labels) due from outcomes c = grind (
   arith,
   with_more_labels,
-  labels_walk
-      labels due from outcomes (with_labels c (label ∷ [])),
+  labels_walk labels due from outcomes (with_labels c (label ∷ [])),
 )
 
 close_step : (s : State) (n k : ℕ) → n ≡ k → 0 < k

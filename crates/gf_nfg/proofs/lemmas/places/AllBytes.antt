@@ -1,5 +1,5 @@
 -- Each list of bytes is a file within the limit, or it is refused.
-use Rattle.gf_nfg.proofs.Common.{ℕ, List, Result, Ok, Err, length, inl, inr, ◌⊎◌, Lexeme, Spells}
+use Rattle.gf_nfg.proofs.Common.{arith, ℕ, List, Result, Ok, Err, length, inl, inr, ◌⊎◌, Lexeme, Spells}
 use Rattle.gf_nfg.proofs.Common.{Fault, Span, Why, spelled_once, read_on, IsRefused, IsWithinLimit}
 use Rattle.gf_nfg.proofs.Common.{Content, start, table_of, Table, SpellsTable}
 use Rattle.gf_nfg.proofs.lemmas.places.Heard.{IsAnswered, all_answered}
@@ -17,7 +17,4 @@ by_answer bytes all (Ok c) spelled a =
 by_answer bytes all (Err f) spelled a = inr (f.why, f.span, a)
 
 pub answered : (bytes : List ℕ) → Answered bytes
-answered bytes =
-    let spelled = spelled_once bytes in
-    by_answer bytes spelled.0 (read_on (length bytes) start spelled.0) spelled.1
-    (all_answered bytes spelled.0 spelled.1)
+answered bytes = grind (arith, spelled_once bytes, by_answer, all_answered)

@@ -19,9 +19,7 @@ pub led_more : (all rest : List Lexeme) (l : Lexeme) (s after : State)
 led_more all rest l s after h e = record {
   seen = h.seen ++ l ∷ [];
   parts = h.parts ∙ sym (append_assoc h.seen (l ∷ []) rest);
-  leads = subst (λ (ts : List Token). Leads ts after)
-      (sym (map-append (λ (x : Lexeme). x.token) h.seen (l ∷ [])))
-      (leads_more (tokens_of h.seen) l.token s after h.leads e);
+  leads = grind (arith, Leads, map-append, leads_more);
 }
 
 -- ---- the end

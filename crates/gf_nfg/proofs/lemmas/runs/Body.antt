@@ -38,9 +38,7 @@ flat_body ts due c r e = grind (arith, flat_found)
 body_found : (ts : List Token) (due : ℕ) (c r : Content)
     → run (at p.AfterComment due 0 0 c) ts ≡ Ok r → Body ts due c r
 body_found (Opening ∷ ts) due c r e =
-    let h = outcomes_found ts c r e in
-    let all : greatest (0 + length h.outcomes) ≡ greatest (length h.outcomes) = omega arith in
-    grind (arith, append_assoc, choices_found)
+    grind (arith, outcomes_found ts c r e, append_assoc, choices_found, greatest)
 body_found ts due c r e = flat_body ts due c r e
 
 -- the comment and the body
@@ -60,21 +58,19 @@ absent ts due c r none e = record {
   said = [];
   parts = refl;
   is_comment = inl (refl, refl);
-  is_body = subst (λ (said : List ℕ). Body ts due (with_comment c said) r) none
-      (body_found ts due c r e);
+  is_body = grind (arith, body_found);
 }
 
 pub comment_found : (ts : List Token) (c r : Content) → c.comment ≡ []
     → run (ended c) ts ≡ Ok r → Commented ts (length c.players * c.profiles) c r
-comment_found (Text said ∷ ts) c r none e =
-    record {
-      comment = Text said ∷ [];
-      body = ts;
-      said = said;
-      parts = refl;
-      is_comment = inr refl;
-      is_body = body_found ts (length c.players * c.profiles) (with_comment c said) r e;
-    }
+comment_found (Text said ∷ ts) c r none e = record {
+  comment = Text said ∷ [];
+  body = ts;
+  said = said;
+  parts = refl;
+  is_comment = inr refl;
+  is_body = grind (arith, body_found);
+}
 comment_found ts c r none e = absent ts (length c.players * c.profiles) c r none e
 
 -- ---- each body is read

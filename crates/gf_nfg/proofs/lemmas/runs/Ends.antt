@@ -232,8 +232,7 @@ ends_by : (s : State) → IsSettled s.position ⊎ (s.position ≡ p.InList)
 ends_by s (inl h) = let e = settled_ends s h in (e.0, e.1, e.2)
 ends_by s (inr h) = grind (
   arith,
-  list_ends (s.list_start + 1) s.due s.list_start s.outcomes
-      s.content (omega arith),
+  list_ends (s.list_start + 1) s.due s.list_start s.outcomes s.content (omega arith),
 )
 
 pub ends : (s : State) → (more : List Token) × (r : Content) × (run s more ≡ Ok r)

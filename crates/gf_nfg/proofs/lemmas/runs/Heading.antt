@@ -135,10 +135,9 @@ pub heading_again : (letter title : List ℕ) (players : List (List ℕ)) (rest 
     → run start (Bare (codes "NFG") ∷ Bare (codes "1") ∷ Bare letter
     ∷ Text title ∷ (braced (map Text players) ++ rest))
     ≡ run (at p.BeforeStrategies (length players) 0 0 (heading title players)) rest
-heading_again letter title players rest h =
-    cc (
-      letter_again letter (Text title ∷ (braced (map Text players) ++ rest)) h,
-      append_assoc
-          (map Text players) (Closing ∷ []) rest,
-      players_again players (with_title nothing title) rest,
-    )
+heading_again letter title players rest h = grind (
+  arith,
+  letter_again letter (Text title ∷ (braced (map Text players) ++ rest)) h,
+  append_assoc (map Text players) (Closing ∷ []) rest,
+  players_again players (with_title nothing title) rest,
+)

@@ -101,32 +101,24 @@ outcomes_more : (outcomes : List (List Ratio)) (list rest : List Token) (before 
     p.OutcomeNumbers c.profiles 0 (greatest (before + length outcomes))
     (with_payoffs c (joined outcomes))) rest
 outcomes_more [] list rest before c h = grind (arith, with_no_payoffs)
-outcomes_more (payoffs ∷ outcomes) list rest before c h =
-    let name = h.3.0 in
-    let inner = h.3.1 in
-    let after = h.1 ++ Closing ∷ rest in
-    let e : list ++ Closing ∷ rest ≡ Opening ∷ Text name ∷ (inner ++ Closing ∷ after) =
-    cc (append_assoc inner (Closing ∷ []) h.1, append_assoc inner (Closing ∷ h.1) (Closing ∷ rest))
-    in
-    let enter : run (at p.InOutcomes 0 0 (greatest before) c)
-    (Opening ∷ Text name ∷ (inner ++ Closing ∷ after)) ≡ run (at p.BracedPayoff (length payoffs) 0
-    (greatest before) c) (inner ++ Closing ∷ after) = cc in
-    let more : greatest ((before + 1) + length outcomes)
-    ≡ greatest (before + length (payoffs ∷ outcomes)) = omega arith in
-    cc (
-      braces_again payoffs inner after (greatest before) c h.3.3 false,
-      greatest_next before,
-      outcomes_more outcomes h.1 rest (before + 1) (with_payoffs c payoffs) h.4,
-      with_more_payoffs c payoffs (joined outcomes),
-    )
+outcomes_more (payoffs ∷ outcomes) list rest before c h = grind (
+  arith,
+  h.3.0,
+  h.3.1,
+  h.1 ++ Closing ∷ rest,
+  braces_again payoffs (h.3.1) (h.1 ++ Closing ∷ rest) (greatest before) c h.3.3 false,
+  greatest_next before,
+  outcomes_more outcomes h.1 rest (before + 1) (with_payoffs c payoffs) h.4,
+  with_more_payoffs c payoffs (joined outcomes),
+  append_assoc,
+  joined,
+)
 
 pub outcomes_again : (outcomes : List (List Ratio)) (list rest : List Token) (c : Content)
     → Each (IsOutcomeInBraces (length c.players)) list outcomes
     → run (at p.InOutcomes 0 0 0 c) (list ++ Closing ∷ rest) ≡ run (at p.OutcomeNumbers c.profiles 0
     (greatest (length outcomes)) (with_payoffs c (joined outcomes))) rest
-outcomes_again outcomes list rest c h =
-    let all : greatest (0 + length outcomes) ≡ greatest (length outcomes) = omega arith in
-    cc (outcomes_more outcomes list rest 0 c h)
+outcomes_again outcomes list rest c h = grind (arith, outcomes_more outcomes list rest 0 c h)
 
 -- ---- outcomes' numbers
 

@@ -58,18 +58,16 @@ pub record Counts (ts : List Token) (due : ℕ) (c r : Content) : Type 0 where
 
 counts_end : (ts : List Token) (c r : Content)
     → run (ended c) ts ≡ Ok r → Counts (Closing ∷ ts) 0 c r
-counts_end ts c r e =
-    record {
-      inner = [];
-      rest = ts;
-      more = [];
-      parts = refl;
-      each = refl;
-      count = refl;
-      positive = tt;
-      goes_on =
-          subst (λ (d : Content). run (ended d) ts ≡ Ok r) (sym (with_no_counts c)) e;
-    }
+counts_end ts c r e = record {
+  inner = [];
+  rest = ts;
+  more = [];
+  parts = refl;
+  each = refl;
+  count = refl;
+  positive = tt;
+  goes_on = grind (arith, with_no_counts);
+}
 
 count_more : (b : List ℕ) (n : ℕ) (ts : List Token) (due : ℕ) (c r : Content) → count_of b ≡ Some n
     → Counts ts due (with_count c n) r → Counts (Bare b ∷ ts) (suc due) c r
@@ -137,19 +135,14 @@ list_found (Text label ∷ ts) due c r before e =
       some = subst (λ (ls : List (List ℕ)). 0 < length ls) whole h.some;
       goes_on = cc;
     }
-list_found (Closing ∷ ts) due c r before e =
-    let s : State = at p.InList due (length c.labels) 0 (with_labels c before) in
-    let f : (listed s (length before) >>= λ after. run after ts) ≡ Ok r =
-    cc (behind_front c.labels before) in
-    let h = listed_found s (length before) ts r f in
-    let whole = sym (append-nil before) in
-    record {
-      labels = [];
-      rest = ts;
-      parts = refl;
-      some = subst (λ (ls : List (List ℕ)). 0 < length ls) whole h.0;
-      goes_on = cc;
-    }
+list_found (Closing ∷ ts) due c r before e = grind (
+  arith,
+  at p.InList due (length c.labels) 0 (with_labels c before),
+  sym (append-nil before),
+  behind_front,
+  listed_found,
+  append-nil,
+)
 list_found _ due c r before e = absurd cc
 
 -- what the lists still due and the closing brace read
@@ -165,38 +158,31 @@ pub record Lists (ts : List Token) (due : ℕ) (c r : Content) : Type 0 where
       ≡ Ok r
 
 lists_end : (ts : List Token) (c r : Content) → run (ended c) ts ≡ Ok r → Lists (Closing ∷ ts) 0 c r
-lists_end ts c r e =
-    record {
-      inner = [];
-      rest = ts;
-      more = [];
-      parts = refl;
-      each = refl;
-      count = refl;
-      positive = tt;
-      goes_on =
-          subst (λ (d : Content). run (ended d) ts ≡ Ok r) (sym (with_no_counts c)) e;
-    }
+lists_end ts c r e = record {
+  inner = [];
+  rest = ts;
+  more = [];
+  parts = refl;
+  each = refl;
+  count = refl;
+  positive = tt;
+  goes_on = grind (arith, with_no_counts);
+}
 
 list_more : (labels : List (List ℕ)) (ts rest : List Token) (due : ℕ) (c r : Content)
     → ts ≡ map Text labels ++ Closing ∷ rest → 0 < length labels
     → Lists rest due (with_count (with_labels c labels) (length labels)) r
     → Lists (Opening ∷ ts) (suc due) c r
-list_more labels ts rest due c r e some h =
-    record {
-      inner = braced (map Text labels) ++ h.inner;
-      rest = h.rest;
-      more = labels ∷ h.more;
-      parts = cc (
-        append_assoc (map Text labels) (Closing ∷ []) h.inner,
-        append_assoc
-            (map Text labels) (Closing ∷ h.inner) (Closing ∷ h.rest),
-      );
-      each = (braced (map Text labels), h.inner, refl, refl, h.each);
-      count = ap suc h.count;
-      positive = (some, h.positive);
-      goes_on = cc (with_more_counts c (length labels) labels (map length h.more) (joined h.more));
-    }
+list_more labels ts rest due c r e some h = record {
+  inner = braced (map Text labels) ++ h.inner;
+  rest = h.rest;
+  more = labels ∷ h.more;
+  parts = grind (arith, append_assoc);
+  each = grind arith;
+  count = ap suc h.count;
+  positive = (some, h.positive);
+  goes_on = grind (arith, with_more_counts, joined);
+}
 
 shorter : (labels : List (List ℕ)) (ts rest : List Token) (steps : ℕ)
     → ts ≡ map Text labels ++ Closing ∷ rest → length ts < steps → length rest < steps
@@ -275,30 +261,25 @@ counts_again : (strategies : List (List (List ℕ))) (inner rest : List Token) (
     → run (at p.Counts (length strategies) 0 0 c) (inner ++ Closing ∷ rest)
     ≡ run (ended (with_counts c (map length strategies) [])) rest
 counts_again [] inner rest c h some = rw h (cc (with_no_counts c))
-counts_again (labels ∷ strategies) inner rest c h some =
-    let k = first_count labels h.0 h.3 some.0 in
-    let e : inner ++ Closing ∷ rest ≡ Bare k.bytes ∷ (h.1 ++ Closing ∷ rest) =
-    ap (λ (x : List Token). x ++ Closing ∷ rest)
-    (h.2 ∙ ap (λ (x : List Token). x ++ h.1) k.token) in
-    cc (
-      counted_step k.bytes (length labels) (length strategies) c (h.1 ++ Closing ∷ rest)
-          k.counted,
-      counts_again strategies h.1 rest (with_count c (length labels)) h.4 some.1,
-      with_one_count c (length labels) (map length strategies),
-    )
+counts_again (labels ∷ strategies) inner rest c h some = grind (
+  arith,
+  first_count labels h.0 h.3 some.0,
+  counts_again strategies h.1 rest (with_count c (length labels)) h.4 some.1,
+  with_one_count c (length labels) (map length strategies),
+  counted_step,
+)
 
 pub first_counts_again : (strategies : List (List (List ℕ))) (inner rest : List Token)
     (c : Content) → Each IsCount inner strategies → AllSome strategies
     → run (at p.FirstStrategies (length strategies) 0 0 c) (inner ++ Closing ∷ rest)
     ≡ run (ended (with_counts c (map length strategies) [])) rest
 first_counts_again [] inner rest c h some = rw h (counts_again [] [] rest c refl tt)
-first_counts_again (labels ∷ strategies) inner rest c h some =
-    let b = h.3.0 in
-    let e : inner ++ Closing ∷ rest ≡ Bare b ∷ (h.1 ++ Closing ∷ rest) = cc in
-    cc (
-      first_bare b (h.1 ++ Closing ∷ rest) (length strategies) c,
-      counts_again (labels ∷ strategies) inner rest c h some,
-    )
+first_counts_again (labels ∷ strategies) inner rest c h some = grind (
+  arith,
+  h.3.0,
+  first_bare (h.3.0) (h.1 ++ Closing ∷ rest) (length strategies) c,
+  counts_again (labels ∷ strategies) inner rest c h some,
+)
 
 list_again : (labels before : List (List ℕ)) (rest : List Token) (due : ℕ) (c : Content)
     → 0 < length (before ++ labels)
@@ -346,10 +327,9 @@ pub first_lists_again : (lists : List (List (List ℕ))) (inner rest : List Toke
     → run (at p.FirstStrategies (length lists) 0 0 c) (inner ++ Closing ∷ rest)
     ≡ run (ended (with_counts c (map length lists) (joined lists))) rest
 first_lists_again [] inner rest c h some = rw h (lists_again [] [] rest c refl tt)
-first_lists_again (labels ∷ lists) inner rest c h some =
-    let e = braced_parts labels inner h.0 h.1 rest h.2 h.3 in
-    cc (
-      e,
-      first_open (map Text labels ++ Closing ∷ (h.1 ++ Closing ∷ rest)) (length lists) c,
-      lists_again (labels ∷ lists) inner rest c h some,
-    )
+first_lists_again (labels ∷ lists) inner rest c h some = cc (
+  braced_parts labels inner h.0 h.1 rest h.2 h.3,
+  (braced_parts labels inner h.0 h.1 rest h.2 h.3),
+  first_open (map Text labels ++ Closing ∷ (h.1 ++ Closing ∷ rest)) (length lists) c,
+  lists_again (labels ∷ lists) inner rest c h some,
+)

@@ -55,14 +55,13 @@ rows_counted t h = cc (length-map t.entries (λ e. e.payoffs), length-map t.entr
 -- payoffs of as many players and profiles are in the same rows
 rows_parted : (t u : Table) → IsTable t → IsTable u → t.players ≡ u.players
     → t.strategies ≡ u.strategies → joined (rows t) ≡ joined (rows u) → rows t ≡ rows u
-rows_parted t u ht hu players strategies same =
-    cc (
-      rows_counted t ht,
-      rows_counted u hu,
-      rows_again (length t.players) (rows t)
-          ht.one_payoff_each,
-      rows_again (length u.players) (rows u) hu.one_payoff_each,
-    )
+rows_parted t u ht hu players strategies same = grind (
+  arith,
+  rows_counted t ht,
+  rows_counted u hu,
+  rows_again (length t.players) (rows t) ht.one_payoff_each,
+  rows_again (length u.players) (rows u) hu.one_payoff_each,
+)
 
 payoffs_told : (c : Content) → IsComplete c → c.choices ≡ []
     → joined (rows (table_of c)) ≡ c.payoffs

@@ -81,8 +81,7 @@ pub one_added : (old labels next others : List (List ℕ)) (at : ℕ) (x : List 
     → next ≡ labels ++ x ∷ [] → next ≡ old ++ take (at + 1) others
 one_added old labels next others at x within found h e = grind (
   arith,
-  append_assoc old
-      (take at others) (x ∷ []),
+  append_assoc old (take at others) (x ∷ []),
   take,
   get_or_from_slice_get others,
   take_more others,

@@ -52,11 +52,8 @@ pub pieces-push : {A : Type 0} (from : ℕ) (ends : List ℕ) (items more : List
     → pieces from (ends ++ (length items + length more) ∷ []) (items ++ more)
     ≡ pieces from ends items ++ more ∷ []
 pieces-push from [] items more h = grind (arith, drop_at, take_all)
-pieces-push from (end ∷ ends) items more h = cc (
-  take_part (end - from) from items more (omega
-      (arith, h.0, (rises_within (length items) end ends h.1))),
-  pieces-push end ends items more h.1,
-)
+pieces-push from (end ∷ ends) items more h =
+    grind (arith, pieces-push end ends items more h.1, take_part, rises_within)
 
 pub rises-push : (from : ℕ) (ends : List ℕ) (whole more : ℕ) → RisesTo whole from ends
     → RisesTo (whole + more) from (ends ++ (whole + more) ∷ [])

@@ -207,8 +207,7 @@ pub strategy_out : {names : Names} {profile : List ℕ} {at place count : ℕ}
 strategy_out {names} {profile} {at} {place} {count} a out = grind (
   arith,
   at_count a,
-  none_before
-      (map length names.strategies) profile,
+  none_before (map length names.strategies) profile,
   place_none (map length names.strategies) profile,
 )
 

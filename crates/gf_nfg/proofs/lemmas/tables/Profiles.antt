@@ -55,8 +55,7 @@ places_are : (counts : List ℕ)
 places_are [] = refl
 places_are (count ∷ counts) = grind (
   arith,
-  places_all count counts (profiles counts) 0
-      (places_are counts),
+  places_all count counts (profiles counts) 0 (places_are counts),
   length-firsts count (profiles counts),
 )
 

@@ -134,8 +134,7 @@ numbered_from players payoffs k (suc n) = grind (
   take players (drop (k * players) payoffs),
   numbered_from players payoffs (suc k) n,
   drop-drop players (k * players) payoffs,
-  take_two
-      players (n * players) (drop (k * players) payoffs),
+  take_two players (n * players) (drop (k * players) payoffs),
 )
 
 -- rows of the profiles in turn are the payoffs
@@ -144,8 +143,7 @@ pub rows_in_turn : (players count : ℕ) (payoffs : List Ratio) → length payof
 rows_in_turn players count payoffs h = grind (
   arith,
   numbered_from players payoffs 0 count,
-  take_all
-      (count * players) payoffs (omega (arith, h)),
+  take_all (count * players) payoffs (omega (arith, h)),
 )
 
 -- ---- one row
@@ -270,12 +268,11 @@ pub made_of_parts : (t : Table) (names : Names) (title comment : List ℕ) (play
     } → IsNamed names (length rs) → AllByRecursion (λ row. length row ≡ length names.players) rs
     → flat_map (λ row. row) rs ≡ given → t ≡ table_with names rs
     → IsTableOf t title comment players strategies given
-made_of_parts t names title comment players strategies rs given is named full in_turn made =
-    record {
-      title_is = ap (λ (u : Table). u.title) made ∙ ap (λ (n : Names). n.title) is;
-      comment_is = ap (λ (u : Table). u.comment) made ∙ ap (λ (n : Names). n.comment) is;
-      players_are = ap (λ (u : Table). u.players) made ∙ ap (λ (n : Names). n.players) is;
-      strategies_are = ap (λ (u : Table). u.strategies) made ∙ ap (λ (n : Names). n.strategies) is;
-      payoffs_are = cc (rows-table_with names rs named.counted);
-      is_table = rw made (is_table names rs named full);
-    }
+made_of_parts t names title comment players strategies rs given is named full in_turn made = record {
+  title_is = grind arith;
+  comment_is = grind arith;
+  players_are = grind arith;
+  strategies_are = grind arith;
+  payoffs_are = cc (rows-table_with names rs named.counted);
+  is_table = rw made (is_table names rs named full);
+}

@@ -25,13 +25,12 @@ all_more P (r ∷ rows) row all p = (all.0, all_more P rows row all.1 p)
 line_more : (full : List (List Ratio)) (row : List Ratio)
     → lines_text (map row_text full) ++ (row_text row ++ 10 ∷ [])
     ≡ lines_text (map row_text (full ++ row ∷ []))
-line_more full row =
-    cc (
-      append-nil (row_text row ++ 10 ∷ []),
-      flat_map-append (λ (line : List ℕ). line ++ 10 ∷ [])
-          (map row_text full) (row_text row ∷ []),
-      map-append row_text full (row ∷ []),
-    )
+line_more full row = grind (
+  arith,
+  append-nil (row_text row ++ 10 ∷ []),
+  map-append row_text full (row ∷ []),
+  flat_map-append,
+)
 
 module _ (players left : ℕ) (bytes out : List ℕ) (payoffs : List Ratio) (n : Ratio) where
   -- a row gets longer

@@ -135,9 +135,7 @@ is_sentence t table h = record {
 }
 
 pub text_reads_back : (t : Table) → IsTable t → IsSpellable t → SpellsTable (table_text t) t
-text_reads_back t table h =
-    let told = tells_table t h 0 in
-    (told.0, told.1, subst (λ tokens. Sentence tokens t) (sym told.2) (is_sentence t table h))
+text_reads_back t table h = grind (arith, tells_table t h 0, is_sentence)
 
 pub tables_of_files : (t : Table)
     → ((bytes : List ℕ) × SpellsTable bytes t) ↔ (IsTable t × IsSpellable t)
@@ -163,6 +161,4 @@ equal_texts t u ht st hu su =
 pub equal_texts_of_files : (a b : List ℕ) (t u : Table) → SpellsTable a t → SpellsTable b u
     → (table_text t ≡ table_text u) ↔ SameTable t u
 equal_texts_of_files a b t u h k =
-    let s = spelled_is_spellable a t h in
-    let r = spelled_is_spellable b u k in
-    equal_texts t u s.0 s.1 r.0 r.1
+    grind (arith, spelled_is_spellable a t h, spelled_is_spellable b u k, equal_texts)
