@@ -1,7 +1,8 @@
 //! The lines of payoffs of a canonical text, one for each profile.
 
-ghost use Rattle.std.specs.Prelude.{◌≡◌, ℕ, ◌*◌, ◌-◌, ◌<◌, ◌≤◌, [], ◌++◌, IfOk, OnErr, OnOk};
-ghost use Rattle.std.specs.Prelude.{Some, drop, get_or, length, map, slice_get, take};
+ghost use Rattle.std.specs.Prelude.{◌≡◌, ℕ, ◌+◌, ◌*◌, ◌-◌, ◌<◌, ◌≤◌, ◌^◌, [], ◌++◌, IfOk, OnErr};
+ghost use Rattle.std.specs.Prelude.{MatchOption, OnOk, Some, drop, get_or, length, map, slice_get};
+ghost use Rattle.std.specs.Prelude.{take, vec_capacity, vec_len};
 ghost use Rattle.std.specs.List.{AllByRecursion};
 ghost use Rattle.gf_fraction.specs.NumberText.{number_text};
 ghost use Rattle.gf_nfg.specs.Profiles.{numbers_from};
@@ -47,23 +48,25 @@ fn write_row(payoffs: &[Fraction], out: &mut Vec<u8>) -> Result<(), AllocError>
 /// A copy of this many bytes, a length that is known, needs no call.
 const COPIED: usize = 48;
 
-/// Appends the bytes from `start` to `end`. If they are few, they are copied with those after them,
-/// which are then cut off.
+/// Appends the bytes from `start` to `end`, for which there is room. If they are few, they are
+/// copied with those after them, which are then cut off.
 #[inline(always)]
-fn push_between(bytes: &[u8], start: usize, end: usize, out: &mut Vec<u8>) -> Result<(), AllocError>
+fn push_between(bytes: &[u8], start: usize, end: usize, out: &mut Vec<u8>)
     requires ordered { start ≤ end }
     requires within { end ≤ length bytes.now }
-    ensures text { OnOk result (out.new.items
-        ≡ out.old.items ++ take (end - start) (drop start bytes.now)) }
-    ensures kept { OnErr result (out.new.items ≡ out.old.items) }
+    requires room { vec_len out.old + (end - start) + 48 ≤ vec_capacity out.old }
+    ensures items { out.new.items
+        ≡ out.old.items ++ take (end - start) (drop start bytes.now) }
+    ensures capacity { vec_capacity out.old ≤ vec_capacity out.new }
 {
     let len = end - start;
     if len > COPIED || bytes.len() - start < COPIED {
-        return out.extend_from_slice(&bytes[start..end]);
+        out.extend_from_slice(&bytes[start..end]).unwrap();
+        return;
     }
-    out.extend_from_slice(&bytes[start..start + COPIED])?;
+    out.extend_from_slice(&bytes[start..start + COPIED])
+        .unwrap();
     out.truncate(out.len() - (COPIED - len));
-    Ok(())
 }
 
 /// Lines, one after another, with the place where each ends.
@@ -111,47 +114,51 @@ impl Lines {
         piece(&self.text, &self.ends, number)
     }
 
-    /// How much room it takes to append the lines with these numbers, one after another.
-    fn room(&self, numbers: &[u32]) -> usize
+    /// How much room it takes to append the lines with these numbers, one after another, or `None`
+    /// if that does not fit `usize`.
+    fn room(&self, numbers: &[u32]) -> Option<usize>
         requires { AllByRecursion (λ number. number < length self.now) numbers.now }
+        ensures { MatchOption result (2 ^ 64 ≤ 48 + length (lines_with self.now numbers.now))
+            (λ room. room ≡ 48 + length (lines_with self.now numbers.now)) }
     {
         let mut room = COPIED;
         for number in numbers {
-            room = room.saturating_add(self.line(*number as usize).len());
+            match room.checked_add(self.line(*number as usize).len()) {
+                Some(more) => room = more,
+                None => return None,
+            }
         }
-        room
+        Some(room)
     }
 
-    /// Appends the line with this number.
+    /// Appends the line with this number, for which there is room.
     #[inline(always)]
-    fn append(&self, number: usize, out: &mut Vec<u8>) -> Result<(), AllocError>
-        requires { number < length self.now }
-        ensures text { OnOk result
-            (out.new.items ≡ out.old.items ++ get_or self.now number []) }
-        ensures kept { OnErr result (out.new.items ≡ out.old.items) }
+    fn append(&self, number: usize, out: &mut Vec<u8>)
+        requires below { number < length self.now }
+        requires room { vec_len out.old + length (get_or self.now number []) + 48
+            ≤ vec_capacity out.old }
+        ensures items { out.new.items ≡ out.old.items ++ get_or self.now number [] }
+        ensures capacity { vec_capacity out.old ≤ vec_capacity out.new }
     {
         let own = piece_at(0, &self.ends, number);
-        push_between(&self.text, own.start, own.end, out)
+        push_between(&self.text, own.start, own.end, out);
     }
 
-    /// Appends the lines with these numbers. Room for all of them is made once, so a text that is
-    /// too large is refused before it is begun.
-    fn append_all(&self, numbers: &[u32], out: &mut Vec<u8>) -> Result<(), AllocError>
-        requires { AllByRecursion (λ number. number < length self.now) numbers.now }
-        ensures text { OnOk result
-            (out.new.items ≡ out.old.items ++ lines_with self.now numbers.now) }
-        ensures kept { OnErr result (Keeps out.old.items out.new.items) }
+    /// Appends the lines with these numbers, for which there is room.
+    fn append_all(&self, numbers: &[u32], out: &mut Vec<u8>)
+        requires below { AllByRecursion (λ number. number < length self.now) numbers.now }
+        requires room { vec_len out.old + (48 + length (lines_with self.now numbers.now))
+            ≤ vec_capacity out.old }
+        ensures { out.new.items ≡ out.old.items ++ lines_with self.now numbers.now }
     {
-        out.reserve_exact(self.room(numbers))?;
         for number in numbers {
-            self.append(*number as usize, out)?;
+            self.append(*number as usize, out);
         }
-        Ok(())
     }
 }
 
 /// Appends a line of payoffs for each profile, if profiles share rows. The line of a row is made
-/// once.
+/// once, and so is room for all lines, so a text that is too large is refused before it is begun.
 fn write_shared(shared: Shared<'_>, out: &mut Vec<u8>) -> Result<(), AllocError>
     requires below { AllByRecursion (λ number. number < shared.rows) shared.numbers.now }
     requires kept { (number : ℕ) → number < shared.rows
@@ -162,7 +169,10 @@ fn write_shared(shared: Shared<'_>, out: &mut Vec<u8>) -> Result<(), AllocError>
     ensures kept { OnErr result (Keeps out.old.items out.new.items) }
 {
     let lines = Lines::of_rows(*out.allocator(), shared)?;
-    lines.append_all(shared.numbers, out)
+    let room = lines.room(shared.numbers).ok_or(AllocError)?;
+    out.reserve_exact(room)?;
+    lines.append_all(shared.numbers, out);
+    Ok(())
 }
 
 /// Appends a line of payoffs for each profile.

@@ -5,6 +5,8 @@ use Rattle.gf_nfg.proofs.Common.{◌∙◌, arith, length-append, AllByRecursion
 use Rattle.gf_nfg.proofs.Common.{take-append-add, get_or-map, length-map, map-append, take-take}
 use Rattle.gf_nfg.proofs.Common.{Ratio, numbers_from, line_text, lines_with, row_text, RisesTo}
 use Rattle.gf_nfg.proofs.Common.{kept_row, pieces, row_of, lines_text}
+use Rattle.std.proofs.Common.{drop}
+use Rattle.std.proofs.lemmas.List.{drop_more}
 use Rattle.gf_nfg.proofs.lemmas.tables.NumbersInTurn.{get_or-numbers_from, length-numbers_from}
 use Rattle.gf_nfg.proofs.lemmas.tables.NumbersInTurn.{numbers_joined}
 use Rattle.gf_nfg.proofs.lemmas.tables.Rows.{kept_row_is}
@@ -71,6 +73,14 @@ cut_back old items len most h within =
     let e : length (old ++ take most items) - (most - len) ≡ length old + len =
     omega (arith, size, length-take-le most items within, h) in
     cc (e, take-append-add old (take most items) len, take-take len most items h)
+
+-- of lines that are chosen, that of the next number and the rest
+pub chosen_next : (lines : List (List ℕ)) (numbers : List ℕ) (at : ℕ) → at < length numbers
+    → (lines_with lines (drop at numbers)
+    ≡ get_or lines (get_or numbers at 0) [] ++ lines_with lines (drop (at + 1) numbers))
+    × (length (lines_with lines (drop at numbers)) ≡ length (get_or lines (get_or numbers at 0) [])
+    + length (lines_with lines (drop (at + 1) numbers)))
+chosen_next lines numbers at h = grind (arith, drop_more, length-append)
 
 line_there : (row : ℕ → List Ratio) (bound number : ℕ) → number < bound
     → get_or (map (λ n. line_text (row n)) (numbers_from 0 bound)) number []

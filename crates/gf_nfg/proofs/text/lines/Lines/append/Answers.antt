@@ -1,4 +1,5 @@
 use Rattle.gf_nfg.proofs.Common.{arith, get_or_from_slice_get}
+use Rattle.gf_nfg.proofs.lemmas.tables.Pieces.{length-piece}
 use Rattle.gf_nfg.proofs.lemmas.tables.Pieces.{end_within, piece_at, start_before_end, within_ends}
 use Rattle.gf_nfg.proofs.text.lines.Lines.append.Goals as goal
 
@@ -11,5 +12,8 @@ push_between-requires-clause-ordered c = grind (arith, within_ends, start_before
 pub push_between-requires-clause-within : goal.push_between-requires-clause-within
 push_between-requires-clause-within c = grind (arith, within_ends, end_within)
 
-pub returns-clause-text : goal.returns-clause-text
-returns-clause-text c = grind (arith, within_ends, piece_at, get_or_from_slice_get)
+pub push_between-requires-clause-room : goal.push_between-requires-clause-room
+push_between-requires-clause-room c = grind (arith, length-piece, start_before_end, within_ends)
+
+pub returns-clause-items : goal.returns-clause-items
+returns-clause-items c = grind (arith, within_ends, piece_at, get_or_from_slice_get)
