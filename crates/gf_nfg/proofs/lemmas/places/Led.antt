@@ -1,6 +1,6 @@
 -- What the tokens so far have led the machine to, and what follows from it for the whole input.
 use Rattle.gf_nfg.proofs.Common.{◌≡◌, ℕ, List, [], ◌∷◌, ◌++◌, Result, Ok, arith, refl, sym, ap}
-use Rattle.gf_nfg.proofs.Common.{subst, ◌∙◌, append_assoc, map-append, Token, Lexeme, Spells, Why}
+use Rattle.gf_nfg.proofs.Common.{◌∙◌, append_assoc, map-append, Lexeme, Spells, Why}
 use Rattle.gf_nfg.proofs.Common.{same_tokens, Table, Sentence, SpellsTable, tokens_of, State}
 use Rattle.gf_nfg.proofs.Common.{Content, run, step, finish, start}
 use Rattle.gf_nfg.proofs.lemmas.runs.Sentence.{Read, sentence_found, one_table}

@@ -1,5 +1,5 @@
 -- Runs over the comment and the body.
-use Rattle.gf_nfg.proofs.Common.{◌≡◌, ℕ, ◌+◌, ◌*◌, ◌≤◌, subst, arith, List, [], ◌∷◌, ◌++◌, length}
+use Rattle.gf_nfg.proofs.Common.{◌≡◌, ℕ, ◌*◌, ◌≤◌, arith, List, [], ◌∷◌, ◌++◌, length}
 use Rattle.gf_nfg.proofs.Common.{Ok, refl, append_assoc, inl, inr, ◌⊎◌, AllByRecursion, Token}
 use Rattle.gf_nfg.proofs.Common.{Opening, Closing, Text, Bare, Each, braced, IsComment, Ratio}
 use Rattle.gf_nfg.proofs.Common.{IsPayoff, IsOutcomeInBraces, Content, at, run, with_comment}

@@ -1,5 +1,5 @@
 -- The canonical text of a table spells that table, so different tables have different texts.
-use Rattle.gf_nfg.proofs.Common.{◌≡◌, ℕ, List, [], ◌∷◌, ◌++◌, map, refl, sym, ap, subst, inl, inr}
+use Rattle.gf_nfg.proofs.Common.{◌≡◌, ℕ, List, [], ◌∷◌, ◌++◌, map, refl, ap, subst, inl, inr}
 use Rattle.gf_nfg.proofs.Common.{arith, ◌↔◌, codes, AllByRecursion, flat_map, IsLabel, Token, Text}
 use Rattle.gf_nfg.proofs.Common.{Bare, Each, braced, number_spelled, Ratio, IsFraction}
 use Rattle.gf_nfg.proofs.Common.{written_is_read, all_weaker, all_parts, all_lists, Table, IsTable}
