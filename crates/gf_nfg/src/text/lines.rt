@@ -1,8 +1,8 @@
 //! The lines of payoffs of a canonical text, one for each profile.
 
-ghost use Rattle.std.specs.Prelude.{◌≡◌, ℕ, ◌+◌, ◌*◌, ◌-◌, ◌<◌, ◌≤◌, ◌^◌, [], ◌++◌, IfOk, OnErr};
-ghost use Rattle.std.specs.Prelude.{MatchOption, OnOk, Some, drop, get_or, length, map, slice_get};
-ghost use Rattle.std.specs.Prelude.{take, vec_capacity, vec_len};
+ghost use Rattle.std.specs.Prelude.{◌≡◌, ℕ, ◌+◌, ◌*◌, ◌<◌, ◌≤◌, ◌^◌, ◌++◌, IfOk};
+ghost use Rattle.std.specs.Prelude.{MatchOption, OnErr, OnOk, Some, length, map};
+ghost use Rattle.std.specs.Prelude.{slice_get, vec_capacity, vec_len};
 ghost use Rattle.std.specs.List.{AllByRecursion};
 ghost use Rattle.gf_fraction.specs.NumberText.{number_text};
 ghost use Rattle.gf_nfg.specs.Profiles.{numbers_from};
@@ -10,7 +10,7 @@ ghost use Rattle.gf_nfg.specs.TableParts.{kept_row};
 ghost use Rattle.gf_nfg.specs.TableText.{lines_text};
 ghost use Rattle.gf_nfg.specs.inner.TextParts.{Keeps, line_text, lines_with, others_text, row_text};
 
-use crate::table::pieces::{piece, piece_at};
+use crate::table::pieces::piece;
 use crate::table::rows::{Rows, Shared};
 use gf_fraction::Fraction;
 use std::alloc::{AllocError, Global};
@@ -43,30 +43,6 @@ fn write_row(payoffs: &[Fraction], out: &mut Vec<u8>) -> Result<(), AllocError>
             Ok(())
         }
     }
-}
-
-/// A copy of this many bytes, a length that is known, needs no call.
-const COPIED: usize = 48;
-
-/// Appends the bytes from `start` to `end`, for which there is room. If they are few, they are
-/// copied with those after them, which are then cut off.
-#[inline(always)]
-fn push_between(bytes: &[u8], start: usize, end: usize, out: &mut Vec<u8>)
-    requires ordered { start ≤ end }
-    requires within { end ≤ length bytes.now }
-    requires room { vec_len out.old + (end - start) + 48 ≤ vec_capacity out.old }
-    ensures items { out.new.items
-        ≡ out.old.items ++ take (end - start) (drop start bytes.now) }
-    ensures capacity { vec_capacity out.old ≤ vec_capacity out.new }
-{
-    let len = end - start;
-    if len > COPIED || bytes.len() - start < COPIED {
-        out.extend_from_slice(&bytes[start..end]).unwrap();
-        return;
-    }
-    out.extend_from_slice(&bytes[start..start + COPIED])
-        .unwrap();
-    out.truncate(out.len() - (COPIED - len));
 }
 
 /// Lines, one after another, with the place where each ends.
@@ -114,45 +90,31 @@ impl Lines {
         piece(&self.text, &self.ends, number)
     }
 
-    /// How much room it takes to append the lines with these numbers, one after another, or `None`
-    /// if that does not fit `usize`.
-    fn room(&self, numbers: &[u32]) -> Option<usize>
+    /// How long the lines with these numbers are together, or `None` if that does not fit `usize`.
+    fn len_of(&self, numbers: &[u32]) -> Option<usize>
         requires { AllByRecursion (λ number. number < length self.now) numbers.now }
-        ensures { MatchOption result (2 ^ 64 ≤ 48 + length (lines_with self.now numbers.now))
-            (λ room. room ≡ 48 + length (lines_with self.now numbers.now)) }
+        ensures { MatchOption result (2 ^ 64 ≤ length (lines_with self.now numbers.now))
+            (λ len. len ≡ length (lines_with self.now numbers.now)) }
     {
-        let mut room = COPIED;
+        let mut len: usize = 0;
         for number in numbers {
-            match room.checked_add(self.line(*number as usize).len()) {
-                Some(more) => room = more,
+            match len.checked_add(self.line(*number as usize).len()) {
+                Some(more) => len = more,
                 None => return None,
             }
         }
-        Some(room)
-    }
-
-    /// Appends the line with this number, for which there is room.
-    #[inline(always)]
-    fn append(&self, number: usize, out: &mut Vec<u8>)
-        requires below { number < length self.now }
-        requires room { vec_len out.old + length (get_or self.now number []) + 48
-            ≤ vec_capacity out.old }
-        ensures items { out.new.items ≡ out.old.items ++ get_or self.now number [] }
-        ensures capacity { vec_capacity out.old ≤ vec_capacity out.new }
-    {
-        let own = piece_at(0, &self.ends, number);
-        push_between(&self.text, own.start, own.end, out);
+        Some(len)
     }
 
     /// Appends the lines with these numbers, for which there is room.
-    fn append_all(&self, numbers: &[u32], out: &mut Vec<u8>)
+    fn append(&self, numbers: &[u32], out: &mut Vec<u8>)
         requires below { AllByRecursion (λ number. number < length self.now) numbers.now }
-        requires room { vec_len out.old + (48 + length (lines_with self.now numbers.now))
+        requires room { vec_len out.old + length (lines_with self.now numbers.now)
             ≤ vec_capacity out.old }
         ensures { out.new.items ≡ out.old.items ++ lines_with self.now numbers.now }
     {
         for number in numbers {
-            self.append(*number as usize, out);
+            out.extend_from_slice(self.line(*number as usize)).unwrap();
         }
     }
 }
@@ -169,9 +131,9 @@ fn write_shared(shared: Shared<'_>, out: &mut Vec<u8>) -> Result<(), AllocError>
     ensures kept { OnErr result (Keeps out.old.items out.new.items) }
 {
     let lines = Lines::of_rows(*out.allocator(), shared)?;
-    let room = lines.room(shared.numbers).ok_or(AllocError)?;
-    out.reserve_exact(room)?;
-    lines.append_all(shared.numbers, out);
+    let len = lines.len_of(shared.numbers).ok_or(AllocError)?;
+    out.reserve_exact(len)?;
+    lines.append(shared.numbers, out);
     Ok(())
 }
 

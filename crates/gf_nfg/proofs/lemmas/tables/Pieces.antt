@@ -1,6 +1,4 @@
 -- Lists that are cut into pieces.
-use Rattle.std.proofs.Common.{length-take-le}
-use Rattle.std.proofs.lemmas.Option.{get_or_from_slice_get}
 use Rattle.gf_nfg.proofs.Common.{◌≡◌, ℕ, zero, suc, ◌+◌, ◌-◌, ◌<◌, ◌≤◌, List, [], ◌∷◌, ◌++◌, length}
 use Rattle.gf_nfg.proofs.Common.{take, drop, get_or, Some, slice_get, refl, ap, arith, true}
 use Rattle.gf_nfg.proofs.Common.{take-append-le, drop-append-le, length-drop, length-append}
@@ -87,16 +85,3 @@ cut_more ends bytes more ends' bytes' m =
 pub within_ends : (ends bytes : List ℕ) (labels : List (List ℕ)) (at : ℕ)
     → pieces 0 ends bytes ≡ labels → at < length labels → at < length ends
 within_ends ends bytes labels at v h = grind (arith, length-pieces)
-
--- each piece is as long as its ends are apart
-pub length-piece : (ends bytes : List ℕ) (labels : List (List ℕ)) (at d : ℕ)
-    → pieces 0 ends bytes ≡ labels → RisesTo (length bytes) 0 ends → at < length labels
-    → length (get_or labels at []) ≡ get_or ends at d - start_of 0 ends at
-length-piece ends bytes labels at d v r h =
-    let here = within_ends ends bytes labels at v h in
-    let start = start_of 0 ends at in
-    let found = get_or_from_slice_get (pieces 0 ends bytes) at _ [] (piece_at 0 ends bytes at d here) in
-    let within = end_within (length bytes) 0 ends at d r here in
-    let fits : get_or ends at d - start ≤ length (drop start bytes) =
-    omega (arith, within, length-drop start bytes) in
-    cc (v, found, length-take-le (get_or ends at d - start) (drop start bytes) fits)

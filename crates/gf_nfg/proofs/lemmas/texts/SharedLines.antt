@@ -1,12 +1,16 @@
 -- Lines of rows that profiles share.
-use Rattle.gf_nfg.proofs.Common.{◌≡◌, ℕ, ◌+◌, ◌*◌, ◌/◌, ◌<◌, ◌≤◌, List, [], ◌∷◌, ◌++◌, length, map}
-use Rattle.gf_nfg.proofs.Common.{◌-◌, get_or, take, append_assoc, length-take-le, refl, sym, ap}
-use Rattle.gf_nfg.proofs.Common.{◌∙◌, arith, length-append, AllByRecursion, le-div_iff_mul-le}
-use Rattle.gf_nfg.proofs.Common.{take-append-add, get_or-map, length-map, map-append, take-take}
-use Rattle.gf_nfg.proofs.Common.{Ratio, numbers_from, line_text, lines_with, row_text, RisesTo}
-use Rattle.gf_nfg.proofs.Common.{kept_row, pieces, row_of, lines_text}
-use Rattle.std.proofs.Common.{drop}
-use Rattle.std.proofs.lemmas.List.{drop_more}
+use Rattle.std.proofs.Common.{◌≡◌, ℕ, ◌+◌, ◌*◌, ◌/◌, ◌<◌, ◌≤◌, List, [], ◌∷◌, ◌++◌, length, map}
+use Rattle.std.proofs.Common.{drop, get_or, Some, slice_get, append_assoc, refl, sym, ap, ◌∙◌}
+use Rattle.std.proofs.Common.{arith, length-append}
+use Rattle.std.specs.List.{AllByRecursion}
+use Rattle.std.proofs.Math.Nat.{le-div_iff_mul-le}
+use Rattle.std.proofs.lemmas.List.{drop_more, get_or-map, length-map, map-append}
+use Rattle.std.proofs.lemmas.Option.{get_or_from_slice_get}
+use Rattle.gf_fraction.specs.Ratio.{Ratio}
+use Rattle.gf_nfg.specs.Profiles.{numbers_from}
+use Rattle.gf_nfg.specs.inner.TextParts.{line_text, lines_with, row_text}
+use Rattle.gf_nfg.specs.TableParts.{RisesTo, kept_row, pieces, row_of}
+use Rattle.gf_nfg.specs.TableText.{lines_text}
 use Rattle.gf_nfg.proofs.lemmas.tables.NumbersInTurn.{get_or-numbers_from, length-numbers_from}
 use Rattle.gf_nfg.proofs.lemmas.tables.NumbersInTurn.{numbers_joined}
 use Rattle.gf_nfg.proofs.lemmas.tables.Rows.{kept_row_is}
@@ -64,23 +68,11 @@ line_made row text text1 text2 ends ends' number end r is e1 e2 here e3 m =
 
 -- ---- chosen lines
 
--- what was copied behind some items is cut off
-pub cut_back : (old items : List ℕ) (len most : ℕ) → len ≤ most → most ≤ length items
-    → take (length (old ++ take most items) - (most - len)) (old ++ take most items)
-    ≡ old ++ take len items
-cut_back old items len most h within =
-    let size = length-append old (take most items) in
-    let e : length (old ++ take most items) - (most - len) ≡ length old + len =
-    omega (arith, size, length-take-le most items within, h) in
-    cc (e, take-append-add old (take most items) len, take-take len most items h)
-
 -- of lines that are chosen, that of the next number and the rest
-pub chosen_next : (lines : List (List ℕ)) (numbers : List ℕ) (at : ℕ) → at < length numbers
-    → (lines_with lines (drop at numbers)
-    ≡ get_or lines (get_or numbers at 0) [] ++ lines_with lines (drop (at + 1) numbers))
-    × (length (lines_with lines (drop at numbers)) ≡ length (get_or lines (get_or numbers at 0) [])
-    + length (lines_with lines (drop (at + 1) numbers)))
-chosen_next lines numbers at h = grind (arith, drop_more, length-append)
+pub chosen_next : (lines : List (List ℕ)) (numbers : List ℕ) (at : ℕ) (line : List ℕ)
+    → at < length numbers → slice_get lines (get_or numbers at 0) ≡ Some line
+    → lines_with lines (drop at numbers) ≡ line ++ lines_with lines (drop (at + 1) numbers)
+chosen_next lines numbers at line h found = grind (arith, get_or_from_slice_get, drop_more)
 
 line_there : (row : ℕ → List Ratio) (bound number : ℕ) → number < bound
     → get_or (map (λ n. line_text (row n)) (numbers_from 0 bound)) number []

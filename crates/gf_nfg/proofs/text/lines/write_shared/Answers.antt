@@ -1,21 +1,31 @@
+use Rattle.std.proofs.Common.{◌<◌, ◌∙◌, ◌++◌, ap, subst, sym, ℕ, List}
+use Rattle.std.specs.List.{AllByRecursion}
 use Rattle.gf_nfg.specs.TableParts.{kept_row}
+use Rattle.gf_nfg.specs.inner.TextParts.{lines_with}
 use Rattle.gf_nfg.proofs.lemmas.texts.SharedLines.{lines_chosen, lines_counted}
 use Rattle.gf_nfg.proofs.text.lines.write_shared.Goals as goal
 
-pub room-requires : goal.room-requires
-room-requires c =
-    rw (lines_counted _ c.args.shared.rows _ c.in_ok-lines.ensures) c.requires.below
+pub len_of-requires : goal.len_of-requires
+len_of-requires c =
+    let s = c.args.shared in
+    let row = kept_row s.players s.payoffs.now s.zeros.now in
+    let size = lines_counted row s.rows c.in_ok-lines.lines c.in_ok-lines.ensures in
+    subst (λ (n : ℕ). AllByRecursion (λ number. number < n) s.numbers.now) (sym size)
+    c.requires.below
 
-pub append_all-requires-clause-below : goal.append_all-requires-clause-below
-append_all-requires-clause-below c =
-    rw (lines_counted _ c.args.shared.rows _ c.in_ok-lines.ensures) c.requires.below
+pub append-requires-clause-below : goal.append-requires-clause-below
+append-requires-clause-below c =
+    let s = c.args.shared in
+    let row = kept_row s.players s.payoffs.now s.zeros.now in
+    let size = lines_counted row s.rows c.in_ok-lines.lines c.in_ok-lines.ensures in
+    subst (λ (n : ℕ). AllByRecursion (λ number. number < n) s.numbers.now) (sym size)
+    c.requires.below
 
 pub returns-clause-text : goal.returns-clause-text
 returns-clause-text c =
     let s = c.args.shared in
     let row = kept_row s.players s.payoffs.now s.zeros.now in
-    rw (
-      ← lines_chosen row s.rows s.numbers.now c.requires.below,
-      ← c.in_ok-lines.ensures,
-      ← c.in_ok-reserve_exact.ensures.items,
-    ) c.append_all.ensures
+    let chosen =
+    ap (λ (ls : List (List ℕ)). lines_with ls s.numbers.now) c.in_ok-lines.ensures
+    ∙ lines_chosen row s.rows s.numbers.now c.requires.below in
+    c.append.ensures ∙ (λ i. c.in_ok-reserve_exact.ensures.items i ++ chosen i)

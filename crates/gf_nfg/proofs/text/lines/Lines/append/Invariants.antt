@@ -1,0 +1,12 @@
+use Rattle.std.proofs.Common.{◌≡◌, ◌+◌, ◌++◌, ◌≤◌, drop, length}
+use Rattle.std.specs.Prelude.{vec_capacity, vec_len}
+use Rattle.gf_nfg.specs.inner.TextParts.{lines_with}
+use Rattle.gf_nfg.proofs.text.lines.Lines.append.Given as goal
+
+abbrev pub invariant-loop-number : goal.invariant-loop-number
+invariant-loop-number l = record {
+  text : l.out.items ++ lines_with l.self (drop l.number-index l.numbers)
+      ≡ l.initial.out.items ++ lines_with l.self l.numbers;
+  room : vec_len l.out + length (lines_with l.self (drop l.number-index l.numbers))
+      ≤ vec_capacity l.out;
+}
