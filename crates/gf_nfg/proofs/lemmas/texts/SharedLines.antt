@@ -1,16 +1,10 @@
 -- Lines of rows that profiles share.
-use Rattle.std.proofs.Common.{◌≡◌, ℕ, ◌+◌, ◌*◌, ◌/◌, ◌<◌, ◌≤◌, List, [], ◌∷◌, ◌++◌, length, map}
-use Rattle.std.proofs.Common.{drop, get_or, Some, slice_get, append_assoc, refl, sym, ap, ◌∙◌}
-use Rattle.std.proofs.Common.{arith, length-append}
-use Rattle.std.specs.List.{AllByRecursion}
-use Rattle.std.proofs.Math.Nat.{le-div_iff_mul-le}
-use Rattle.std.proofs.lemmas.List.{drop_more, get_or-map, length-map, map-append}
-use Rattle.std.proofs.lemmas.Option.{get_or_from_slice_get}
-use Rattle.gf_fraction.specs.Ratio.{Ratio}
-use Rattle.gf_nfg.specs.Profiles.{numbers_from}
-use Rattle.gf_nfg.specs.inner.TextParts.{line_text, lines_with, row_text}
-use Rattle.gf_nfg.specs.TableParts.{RisesTo, kept_row, pieces, row_of}
-use Rattle.gf_nfg.specs.TableText.{lines_text}
+use Rattle.gf_nfg.proofs.Common.{◌≡◌, ℕ, ◌+◌, ◌*◌, ◌/◌, ◌<◌, ◌≤◌, List, [], ◌∷◌, ◌++◌, length, map}
+use Rattle.gf_nfg.proofs.Common.{drop, get_or, Some, slice_get, append_assoc, refl, sym, ap, ◌∙◌}
+use Rattle.gf_nfg.proofs.Common.{arith, length-append, AllByRecursion, le-div_iff_mul-le, drop_more}
+use Rattle.gf_nfg.proofs.Common.{get_or-map, length-map, map-append, get_or_from_slice_get, Ratio}
+use Rattle.gf_nfg.proofs.Common.{numbers_from, line_text, lines_with, row_text, RisesTo, kept_row}
+use Rattle.gf_nfg.proofs.Common.{pieces, row_of, lines_text}
 use Rattle.gf_nfg.proofs.lemmas.tables.NumbersInTurn.{get_or-numbers_from, length-numbers_from}
 use Rattle.gf_nfg.proofs.lemmas.tables.NumbersInTurn.{numbers_joined}
 use Rattle.gf_nfg.proofs.lemmas.tables.Rows.{kept_row_is}

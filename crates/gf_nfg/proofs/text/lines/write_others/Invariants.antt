@@ -1,5 +1,4 @@
-use Rattle.std.proofs.Common.{◌≡◌, ◌++◌, drop}
-use Rattle.gf_nfg.specs.inner.TextParts.{Keeps}
+use Rattle.gf_nfg.proofs.Common.{◌≡◌, ◌++◌, drop, Keeps}
 use Rattle.gf_nfg.proofs.lemmas.texts.Pieces.{payoffs_rest}
 use Rattle.gf_nfg.proofs.text.lines.write_others.Given as goal
 

@@ -1,5 +1,4 @@
-use Rattle.std.proofs.Common.{◌≡◌, ◌++◌}
-use Rattle.gf_nfg.specs.inner.TextParts.{Keeps}
+use Rattle.gf_nfg.proofs.Common.{◌≡◌, ◌++◌, Keeps}
 use Rattle.gf_nfg.proofs.lemmas.texts.Pieces.{lines_rest}
 use Rattle.gf_nfg.proofs.text.lines.write_rows.Given as goal
 

@@ -1,7 +1,5 @@
-use Rattle.std.proofs.Common.{◌<◌, ◌∙◌, ◌++◌, ap, subst, sym, ℕ, List}
-use Rattle.std.specs.List.{AllByRecursion}
-use Rattle.gf_nfg.specs.TableParts.{kept_row}
-use Rattle.gf_nfg.specs.inner.TextParts.{lines_with}
+use Rattle.gf_nfg.proofs.Common.{◌<◌, ◌∙◌, ◌++◌, ap, subst, sym, ℕ, List, AllByRecursion, kept_row}
+use Rattle.gf_nfg.proofs.Common.{lines_with}
 use Rattle.gf_nfg.proofs.lemmas.texts.SharedLines.{lines_chosen, lines_counted}
 use Rattle.gf_nfg.proofs.text.lines.write_shared.Goals as goal
 

@@ -1,6 +1,5 @@
-use Rattle.std.proofs.Common.{◌+◌, ◌∙◌, ◌++◌, sym, ap, arith, length, drop, length-append}
-use Rattle.std.proofs.Common.{append_assoc, List, ℕ}
-use Rattle.gf_nfg.specs.inner.TextParts.{lines_with}
+use Rattle.gf_nfg.proofs.Common.{◌+◌, ◌∙◌, ◌++◌, sym, ap, arith, length, drop, length-append}
+use Rattle.gf_nfg.proofs.Common.{append_assoc, List, ℕ, lines_with}
 use Rattle.gf_nfg.proofs.lemmas.texts.SharedLines.{chosen_next}
 use Rattle.gf_nfg.proofs.text.lines.Lines.append.Goals as goal
 

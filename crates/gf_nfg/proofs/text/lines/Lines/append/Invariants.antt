@@ -1,6 +1,5 @@
-use Rattle.std.proofs.Common.{◌≡◌, ◌+◌, ◌++◌, ◌≤◌, drop, length}
-use Rattle.std.specs.Prelude.{vec_capacity, vec_len}
-use Rattle.gf_nfg.specs.inner.TextParts.{lines_with}
+use Rattle.gf_nfg.proofs.Common.{◌≡◌, ◌+◌, ◌++◌, ◌≤◌, drop, length, vec_len, lines_with}
+use Rattle.std.specs.Prelude.{vec_capacity}
 use Rattle.gf_nfg.proofs.text.lines.Lines.append.Given as goal
 
 abbrev pub invariant-loop-number : goal.invariant-loop-number

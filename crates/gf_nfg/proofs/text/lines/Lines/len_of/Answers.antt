@@ -1,5 +1,4 @@
-use Rattle.std.proofs.Common.{◌+◌, ◌∙◌, ap, arith, length, drop, length-append}
-use Rattle.gf_nfg.specs.inner.TextParts.{lines_with}
+use Rattle.gf_nfg.proofs.Common.{◌+◌, ◌∙◌, ap, arith, length, drop, length-append, lines_with}
 use Rattle.gf_nfg.proofs.lemmas.texts.SharedLines.{chosen_next}
 use Rattle.gf_nfg.proofs.text.lines.Lines.len_of.Goals as goal
 

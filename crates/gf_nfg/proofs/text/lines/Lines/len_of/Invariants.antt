@@ -1,5 +1,4 @@
-use Rattle.std.proofs.Common.{◌≡◌, ◌+◌, drop, length}
-use Rattle.gf_nfg.specs.inner.TextParts.{lines_with}
+use Rattle.gf_nfg.proofs.Common.{◌≡◌, ◌+◌, drop, length, lines_with}
 use Rattle.gf_nfg.proofs.text.lines.Lines.len_of.Given as goal
 
 abbrev pub invariant-loop-number : goal.invariant-loop-number

@@ -1,5 +1,4 @@
-use Rattle.std.proofs.Common.{arith}
-use Rattle.gf_nfg.specs.TableParts.{kept_row}
+use Rattle.gf_nfg.proofs.Common.{arith, kept_row}
 use Rattle.gf_nfg.proofs.lemmas.texts.SharedLines.{line_made}
 use Rattle.gf_nfg.proofs.text.lines.Lines.of_rows.Goals as goal
 
