@@ -268,11 +268,12 @@ pub made_of_parts : (t : Table) (names : Names) (title comment : List ℕ) (play
     } → IsNamed names (length rs) → AllByRecursion (λ row. length row ≡ length names.players) rs
     → flat_map (λ row. row) rs ≡ given → t ≡ table_with names rs
     → IsTableOf t title comment players strategies given
-made_of_parts t names title comment players strategies rs given is named full in_turn made = record {
-  title_is = grind arith;
-  comment_is = grind arith;
-  players_are = grind arith;
-  strategies_are = grind arith;
-  payoffs_are = cc (rows-table_with names rs named.counted);
-  is_table = rw made (is_table names rs named full);
-}
+made_of_parts t names title comment players strategies rs given is named full in_turn made =
+    record {
+      title_is = grind arith;
+      comment_is = grind arith;
+      players_are = grind arith;
+      strategies_are = grind arith;
+      payoffs_are = cc (rows-table_with names rs named.counted);
+      is_table = rw made (is_table names rs named full);
+    }
