@@ -41,6 +41,7 @@ pub(crate) fn write_out(row: &mut Vec<Fraction>, players: usize) -> Result<(), A
 }
 
 /// Adds a row times a probability to a sum.
+#[tactic(auto, using(crate::proofs::lemmas::values::RowSums::weigh_steps))]
 pub(crate) fn weigh(
     sum: &mut Vec<Fraction>,
     chance: Fraction,

@@ -22,6 +22,7 @@ pub(crate) struct Digit {
 
 /// How many values the digits of a player's sets have together with those of the players before
 /// him, which have `faster` values; `None` above the greatest number.
+#[tactic(auto, using(crate::proofs::lemmas::rows::DigitsMade::value_steps))]
 fn values_with(actions: &[u32], faster: u64) -> Option<u64>
     ensures { IfSome result
         (λ values. (values ≡ width actions.now * faster) × (values < 2 ^ 64)) }

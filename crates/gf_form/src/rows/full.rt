@@ -17,6 +17,7 @@ use gf_tree::Game;
 use std::alloc::Global;
 
 /// What each player is paid at each profile.
+#[tactic(auto, using(crate::proofs::lemmas::strategies::PickedProfiles::full_steps))]
 pub(crate) fn full_rows(
     alloc: Global,
     game: &Game<'_>,

@@ -175,6 +175,7 @@ pub(crate) struct Paths<'d, 'g, 'a> {
 }
 
 /// The step of the digit at a set of a player, by the position of the set among his.
+#[tactic(auto, using(crate::proofs::lemmas::values::Walks::choice_steps))]
 fn step_at(steps: &[Vec<u64>], player: u32, position: u32) -> u64
     ensures { result ≡ unwrap_or (at_position
         (strategy_at (map (λ own. own.items) steps.now) player) position) 0 }
@@ -232,6 +233,7 @@ impl<'d, 'g, 'a> Paths<'d, 'g, 'a> {
     }
 
     /// Makes the next child of an open node of a player come next, if one is left.
+    #[tactic(auto, using(crate::proofs::lemmas::rows::PathsTold::choose_steps))]
     fn choose(
         &mut self,
         mut rest: Branches<'g, 'a>,

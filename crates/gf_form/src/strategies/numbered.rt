@@ -35,6 +35,7 @@ pub(crate) fn write_strategy(
 }
 
 /// Replaces a text by the label of a strategy: its actions, joined by `-`.
+#[tactic(auto, using(crate::proofs::lemmas::strategies::StrategiesByNumber::text_steps))]
 fn write_label(strategy: &[u32], text: &mut Vec<u8>) -> Result<(), AllocError>
     ensures text { OnOk result (text.new.items ≡ strategy_label strategy.now) }
     ensures label { OnOk result (IsLabel text.new.items) }
@@ -52,6 +53,7 @@ fn write_label(strategy: &[u32], text: &mut Vec<u8>) -> Result<(), AllocError>
 
 /// The labels of all strategies at sets with this many actions each, one by one; there are `whole`
 /// strategies.
+#[tactic(auto, using(crate::proofs::lemmas::strategies::StrategiesByNumber::label_steps))]
 fn labels_in_turn(alloc: Global, counts: &[u32], whole: u32) -> Result<Labels, AllocError>
     requires { whole ≡ product counts.now }
     ensures { IfOk result (λ labels. labels ≡ map strategy_label (all_choices counts.now)) }
@@ -69,6 +71,7 @@ fn labels_in_turn(alloc: Global, counts: &[u32], whole: u32) -> Result<Labels, A
 
 /// How many strategies there are at sets with this many actions each; `None` above the greatest
 /// number.
+#[tactic(auto, using(crate::proofs::lemmas::strategies::LabelsJoined::one_count_more))]
 fn strategy_count(counts: &[u32]) -> Option<u32>
     ensures { IfSome result (λ whole. whole ≡ product counts.now) }
 {
@@ -92,6 +95,7 @@ fn room_for(alloc: Global, firsts: &Labels, others: &Labels) -> Result<Labels, A
 }
 
 /// The labels of all strategies, from those at the first sets and those at the others.
+#[tactic(auto, using(crate::proofs::lemmas::strategies::LabelsJoined::joined_steps))]
 fn joined_labels(alloc: Global, firsts: &Labels, others: &Labels) -> Result<Labels, AllocError>
     ensures { IfOk result (λ labels. (counts behind : List ℕ) → 0 < length counts
         → 0 < length behind → firsts.now ≡ map strategy_label (all_choices counts)

@@ -22,6 +22,7 @@ use gf_tree::Game;
 use std::alloc::Global;
 
 /// Does an operation on the values so far.
+#[tactic(auto, using(crate::proofs::lemmas::values::Stacks::step_runs))]
 fn step(payoffs: &Payoffs<'_>, op: Op, values: &mut Values) -> Result<(), EvalFault>
     requires shape { operands op ≤ length (rows_on values.old) }
     requires rows { (g : Game) × ArePaid g (rows_of payoffs.now)

@@ -45,6 +45,7 @@ pub(crate) struct Walk<'c, 'g, 'a> {
 }
 
 /// The action that is chosen at a set of a player, by the position of the set among his.
+#[tactic(auto, using(crate::proofs::lemmas::values::Walks::choice_steps))]
 fn choice_of(choices: &[Vec<u32>], player: u32, position: u32) -> u32
     ensures { result ≡ unwrap_or (at_position
         (strategy_at (map (λ own. own.items) choices.now) player) position) 0 }
@@ -62,6 +63,7 @@ fn choice_of(choices: &[Vec<u32>], player: u32, position: u32) -> u32
 }
 
 /// The probability of the action at this position, or one if a player moves.
+#[tactic(auto, using(crate::proofs::lemmas::values::Walks::chance_steps))]
 pub(crate) fn chance_of(node: &Branch<'_, '_>, position: usize) -> Fraction
     ensures { result ≡ branch_chances node.now position }
 {
@@ -113,6 +115,7 @@ impl<'c, 'g, 'a> Walk<'c, 'g, 'a> {
     }
 
     /// Makes the child that is chosen at a node come next, and then the payoffs of the node.
+    #[tactic(auto, using(crate::proofs::lemmas::values::Walks::walk_steps))]
     fn follow(
         &mut self,
         node: Branch<'g, 'a>,
@@ -169,6 +172,7 @@ impl<'c, 'g, 'a> Walk<'c, 'g, 'a> {
     }
 
     /// Leaves a subtree, whose value is on the stack.
+    #[tactic(auto, using(crate::proofs::lemmas::values::Walks::walk_steps))]
     fn leave(&mut self) -> Result<Option<Op>, AllocError>
         requires { self.old.next ≡ None }
         ensures same { strategies_of_walk self.new ≡ strategies_of_walk self.old }

@@ -23,9 +23,8 @@ use Rattle.gf_form.proofs.lemmas.rows.RowsMade.{form_by_rows, rows_counted, rows
 
 all_first : {A B : Type 0} (P : A → Type 0) (Q : A → B → Type 0) (xs : List A) (ys : List B)
     → AllZip (λ x y. P x × Q x y) xs ys → AllByRecursion P xs
-all_first P Q [] ys h = grind arith
-all_first P Q (x ∷ xs) [] h = absurd h
 all_first P Q (x ∷ xs) (y ∷ ys) h = (h.0.0, all_first P Q xs ys h.1)
+all_first P Q xs ys h = grind arith
 
 pub full_row : (g : Game) (profile : List ℕ) (row : List Ratio) → ArePayoffsAt g profile row
     → length row ≡ length g.players

@@ -4,6 +4,7 @@ use Rattle.std.proofs.Common.{sym, ap, ◌∙◌, subst, arith}
 use Rattle.std.specs.Prelude.{◌==◌, filter}
 use Rattle.std.specs.List.{AllByRecursion, AllZip}
 use Rattle.std.proofs.lemmas.List.{length-map}
+use Rattle.std.proofs.lemmas.Result.{IfOk-weaker}
 use Rattle.gf_fraction.specs.Ratio.{Ratio}
 use Rattle.gf_fraction.proofs.AllElements.{all_images}
 use Rattle.gf_fraction.proofs.Products.{mul_above}
@@ -20,9 +21,8 @@ use Rattle.gf_form.proofs.lemmas.strategies.Choices.{length-all_choices}
 
 pub as_many : {A B : Type 0} (R : A → B → Type 0) (xs : List A) (ys : List B) → AllZip R xs ys
     → length xs ≡ length ys
-as_many R [] ys h = grind arith
-as_many R (x ∷ xs) [] h = absurd h
 as_many R (x ∷ xs) (y ∷ ys) h = ap suc (as_many R xs ys h.1)
+as_many R xs ys h = grind arith
 
 pub product_above : (players player : ℕ) (ss : List (Described SetKey InformationSet))
     → AllByRecursion (λ s. IsSet players s.key s.description) ss
@@ -58,14 +58,8 @@ module _ (labels : ℕ → List (List ℕ)) (R : List ℕ → List Ratio → Typ
   -- a form is a table if each player has a strategy, and each entry a payoff for each player
   pub table_by : ((player : ℕ) → 0 < length (labels player))
       → ((e : Entry) → Has t.entries e → length e.payoffs ≡ length (players_of g)) → IsTable t
-  table_by some each_row = record {
-    one_list_each = ap length form.strategies ∙ length-map (players_of g) labels ∙ as_players;
-    some_strategy = grind (arith, some_labels labels some (players_of g));
-    one_entry_each = form.profiles;
-    one_payoff_each = all_images (λ row. length row ≡ length t.players) (λ e. e.payoffs) t.entries
-        (all_of_each (λ e. length e.payoffs ≡ length t.players) t.entries
-        (λ e i. each_row e i ∙ as_players));
-  }
+  table_by some each_row =
+      grind (arith, length-map, as_players, some_strategy, some_labels, all_images, all_of_each)
 
 pub form_is_table : (g : Game) → IsGame g → (t : Table) → IsStrategicForm g t → IsTable t
 form_is_table g game t form =
@@ -73,3 +67,6 @@ form_is_table g game t form =
     (λ player. grind (arith, length-map, some_strategy))
     (λ e i. as_many _ e.payoffs (players_of g)
     (each (λ (d : Entry). ArePayoffsAt g d.profile d.payoffs) t.entries e form.payoffs i))
+
+-- what is passed on to the table
+pub ruleset table_steps = (length-map, IfOk-weaker)

@@ -47,14 +47,7 @@ pub one_form_by : (labels : ℕ → List (List ℕ)) (R : List ℕ → List Rati
     → ((profile : List ℕ)
     → Has (form_profiles labels g) profile → (a b : List Ratio) → R profile a → R profile b → a ≡ b)
     → (t u : Table) → IsFormBy labels R g t → IsFormBy labels R g u → t ≡ u
-one_form_by labels R g one t u h k =
-    let strategies = h.strategies ∙ sym k.strategies in
-    let listed : map (λ e. e.profile) t.entries ≡ form_profiles labels g = cc in
-    let entries =
-    same_entries R t.entries u.entries
-    (h.profiles ∙ ap (λ s. profiles (map length s)) strategies ∙ sym k.profiles)
-    (λ p i. one p (subst (λ ps. Has ps p) listed i)) h.payoffs k.payoffs in
-    grind arith
+one_form_by labels R g one t u h k = grind (arith, same_entries)
 
 some_entries : (R : List ℕ → List Ratio → Type 0) (ps : List (List ℕ))
     → ((p : List ℕ) → Has ps p → (row : List Ratio) × R p row)
@@ -104,8 +97,7 @@ one_row g choices (a ∷ row) others [] h k = absurd h
 one_row g choices [] others (player ∷ players) h k = absurd h
 one_row g choices (a ∷ row) [] (player ∷ players) h k = absurd k
 one_row g choices (a ∷ row) (b ∷ others) (player ∷ players) h k =
-    let first : a ≡ b = grind (arith, one_fraction) in
-    λ i. first i ∷ one_row g choices row others players h.1 k.1 i
+    grind (arith, one_fraction, one_row g choices row others players h.1 k.1)
 
 pub row_of : (g : Game) (choices : SetKey → ℕ) (players : List ℕ)
     → AllByRecursion (PaysFraction g choices) players
@@ -118,9 +110,8 @@ row_of g choices (player ∷ players) h =
 pub of_row : (g : Game) (choices : SetKey → ℕ) (row : List Ratio) (players : List ℕ)
     → AllZip (λ paid player. IsFraction paid × IsEqual paid (payoff g choices player)) row players
     → AllByRecursion (PaysFraction g choices) players
-of_row g choices row [] h = cc
-of_row g choices [] (player ∷ players) h = absurd h
 of_row g choices (paid ∷ row) (player ∷ players) h = grind (arith, of_row g choices row players h.1)
+of_row g choices row players h = grind arith
 
 -- ---- the strategic form
 

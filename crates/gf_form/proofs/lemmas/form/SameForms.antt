@@ -41,10 +41,9 @@ use Rattle.gf_form.proofs.lemmas.strategies.KnownSets.{own_set}
 choice_carried : (f : SetKey → SetKey) (keys : List SetKey) (strategy : List ℕ) (key : SetKey)
     → ((k : SetKey) → Has keys k → same_set (f k) (f key) ≡ same_set k key)
     → choice_at (map f keys) strategy (f key) ≡ choice_at keys strategy key
-choice_carried f [] strategy key h = refl
-choice_carried f (k ∷ keys) [] key h = refl
 choice_carried f (k ∷ keys) (action ∷ others) key h = λ i.
     if h k (inl refl) i then action else choice_carried f keys others key (λ x j. h x (inr j)) i
+choice_carried f keys others key h = grind arith
 
 module _ (g : Game) (r : Renumbering) (game : IsGame g) (is : IsRenumbering g r) where
   abbrev h : Game
@@ -166,13 +165,11 @@ module _ (g : Game) (r : Renumbering) (game : IsGame g) (is : IsRenumbering g r)
       → AllZip (λ paid player.
       IsFraction paid × IsEqual paid (payoff h (choices_by h (strategies_at h profile)) player))
       payoffs players
-  payoffs_carried profile [] players all = grind arith
-  payoffs_carried profile (paid ∷ payoffs) [] all = absurd all
   payoffs_carried profile (paid ∷ payoffs) (player ∷ players) all =
-      let same : payoff g (choices_by g (strategies_at g profile)) player
-      ≡ payoff h (choices_by h (strategies_at h profile)) player =
-      cc (payoff_carried (strategies_at g profile) player, strategies_at_carried profile) in
-      ((all.0.0, subst (IsEqual paid) same all.0.1), payoffs_carried profile payoffs players all.1)
+      let same = strategies_at_carried profile in
+      let others = payoffs_carried profile payoffs players all.1 in
+      grind (arith, payoff_carried (strategies_at g profile) player, same, others)
+  payoffs_carried profile payoffs players all = grind arith
 
   form_carried : (t : Table) → IsStrategicForm g t → IsStrategicForm h t
   form_carried t form = record {
@@ -218,10 +215,7 @@ pub same_values : (g h : Game)
     → IsGame g → IsGame h → SameGame g h → (all : List (List ℕ)) (player : ℕ) (value : Ratio)
     → IsValue g (choices_by g all) player g.tree value
     ↔ IsValue h (choices_by h all) player h.tree value
-same_values g h game game' same all player value = (
-  value_on g h game game' same all player value,
-  value_on h g game' game (same_back g h game same) all player value,
-)
+same_values g h game game' same all player value = grind (arith, value_on, same_back)
 
 pub same_forms : (g h : Game) → IsGame g → IsGame h → SameGame g h → (t : Table)
     → IsStrategicForm g t ↔ IsStrategicForm h t

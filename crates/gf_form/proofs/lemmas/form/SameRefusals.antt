@@ -26,18 +26,10 @@ module _ (g h : Game) (game : IsGame g) (game' : IsGame h) (same : SameGame g h)
 
   value_too : (profile : List ℕ) (player : ℕ) → HasBottomUpValue g profile player
       → HasBottomUpValue h profile player
-  value_too profile player has = (
-    has.0,
-    subst (λ all. IsValue h (choices_by h all) player h.tree has.0)
-        (same_strategies_at g h game game' same profile)
-        ((same_values g h game game' same (strategies_at g profile) player has.0).0 has.1),
-  )
+  value_too profile player has = grind (arith, same_strategies_at, same_values)
 
   pub values_too : (profile : List ℕ) → HasValues g profile → HasValues h profile
-  values_too profile all =
-      all_weaker (HasBottomUpValue g profile) (HasBottomUpValue h profile) (value_too profile)
-      (players_of h)
-      (subst (AllByRecursion (HasBottomUpValue g profile)) players_too all)
+  values_too profile all = grind (arith, all_weaker, value_too, players_too)
 
 -- the same position is the first, if the same holds for the same profiles
 pub first_too : (P Q : List ℕ → Type 0) (ps qs : List (List ℕ)) (position : ℕ) → ps ≡ qs
@@ -54,10 +46,7 @@ overflow_on g h game game' same position =
 
 pub same_overflow : (g h : Game) → IsGame g → IsGame h → SameGame g h → (position : ℕ)
     → OverflowsAt g position ↔ OverflowsAt h position
-same_overflow g h game game' same position = (
-  overflow_on g h game game' same position,
-  overflow_on h g game' game (same_back g h game same) position,
-)
+same_overflow g h game game' same position = grind (arith, overflow_on, same_back)
 
 pub same_count : (g h : Game) → IsGame g → IsGame h → SameGame g h
     → HasTooManyProfiles g ↔ HasTooManyProfiles h

@@ -88,10 +88,6 @@ pub step_same : (counts : List ℕ) (faster i n step after : ℕ) (steps next : 
 step_same counts faster i n step after steps next less is none after_is pushed h =
     let here = next_is counts i n 0 less is in grind (arith, width_same, append_assoc, steps_same)
 
-pub steps_done : (counts : List ℕ) (faster i step : ℕ) (steps : List ℕ) → length counts ≤ i
-    → StepsGo counts faster i step steps → steps ≡ steps_behind faster counts
-steps_done counts faster i step steps past h = grind (arith, append-nil, none_left)
-
 -- ---- what stands at the digits
 
 pub picked_on : (counts xs : List ℕ) (i n x : ℕ) (all next whole : List ℕ) → i < length counts
@@ -107,10 +103,6 @@ pub picked_past : (counts xs : List ℕ) (i n x : ℕ) (all next whole : List �
     → next ++ picked (drop (i + 1) counts) (drop (i + 1) xs) ≡ whole
 picked_past counts xs i n x all next whole less same is there none kept h =
     grind (arith, picked_same, next_is)
-
-pub all_picked : (counts xs : List ℕ) (i : ℕ) (all whole : List ℕ) → length counts ≤ i
-    → all ++ picked (drop i counts) (drop i xs) ≡ whole → all ≡ whole
-all_picked counts xs i all whole past h = grind (arith, append-nil, none_left)
 
 -- ---- player by player
 
@@ -143,22 +135,12 @@ pub player_values : (counts : List (List ℕ)) (i faster more whole : ℕ) (own 
 player_values counts i faster more whole own less is more_is h =
     grind (arith, mul_assoc, mul_comm, next_is)
 
-pub all_player_steps : (counts : List (List ℕ)) (i faster : ℕ) (all whole : List (List ℕ))
-    → length counts ≤ i → all ++ all_steps faster (drop i counts) ≡ whole → all ≡ whole
-all_player_steps counts i faster all whole past h = grind (arith, append-nil, none_left)
-
-pub all_player_values : (counts : List (List ℕ)) (i faster whole : ℕ) → length counts ≤ i
-    → product (map width (drop i counts)) * faster ≡ whole → faster ≡ whole
-all_player_values counts i faster whole past h = grind (arith, none_left)
-
 -- ---- the digits, from the last player to the first
-
-pub no_digits : (counts xs : List (List ℕ)) (i : ℕ) → length counts ≤ i
-    → [] ≡ at_digits (drop i counts) (drop i xs)
-no_digits counts xs i past = cc (none_left counts i past)
 
 pub digits_more : (counts xs : List (List ℕ)) (i : ℕ) (own x all next : List ℕ)
     → i < length counts → i < length xs → own ≡ get_or counts i [] → x ≡ get_or xs i []
     → next ≡ all ++ picked own x → all ≡ at_digits (drop (i + 1) counts) (drop (i + 1) xs)
     → next ≡ at_digits (drop i counts) (drop i xs)
 digits_more counts xs i own x all next less inside is there pushed h = grind (arith, next_is)
+
+pub ruleset value_steps = (values_more, values_same)

@@ -86,15 +86,6 @@ below_last all (p ∷ os) o rs = below_last all os o (open_nodes all p ++ rs)
 
 -- ---- the children that are left
 
-pub next_drawn : (all : List (List ℕ)) (g g' h : Game) (chances : ℕ → Ratio) (path : Path)
-    (k k' : ℕ) (ts ts' : List (Tree Node)) (t : Tree Node) (behind : List Reached)
-    → ts ≡ t ∷ ts' → g' ≡ g → h ≡ g → k' ≡ k + 1
-    → lot_nodes g (choices_by g all) path chances (k + 1) ts ++ behind
-    ≡ reached h (choices_by h all) (by_chance path (chances k')) t
-    ++ (lot_nodes g' (choices_by g' all) path chances (k' + 1) ts' ++ behind)
-next_drawn all g g' h chances path k k' ts ts' t behind e f i j =
-    rw (e, f, i, j) (simp append_assoc)
-
 pub next_chosen : (all : List (List ℕ)) (g g' h : Game) (path : Path) (step k k' : ℕ)
     (ts ts' : List (Tree Node)) (t : Tree Node) (behind : List Reached)
     → ts ≡ t ∷ ts' → g' ≡ g → h ≡ g → k' ≡ k + 1
@@ -120,3 +111,5 @@ pub last_pushed : (all : List (List ℕ)) (next : Option (Branch × Path)) (os i
     (o : Open) → next ≡ None → items ≡ os ++ o ∷ []
     → open_nodes all o ++ below all os [] ≡ next_nodes all next ++ below all items []
 last_pushed all next os items o nothing are = rw (nothing, are) (sym (below_last all os o []))
+
+pub ruleset choose_steps = (next_chosen, below_last)

@@ -1,11 +1,12 @@
 -- How many actions there are at a player's set, by its position among his.
-use Rattle.std.proofs.Common.{◌≡◌, ℕ, zero, suc, ◌+◌, ◌<◌, List, [], ◌∷◌, length, map, get_or}
-use Rattle.std.proofs.Common.{Option, Some, None, refl, sym, subst, arith}
+use Rattle.std.proofs.Common.{◌≡◌, ℕ, zero, suc, ◌+◌, ◌<◌, ◌≤◌, List, [], ◌∷◌, length, map}
+use Rattle.std.proofs.Common.{Option, Some, None, get_or, refl, sym, subst, ◌∙◌, arith}
 use Rattle.std.specs.Prelude.{◌==◌, option_map, slice_get}
 use Rattle.std.specs.List.{AllZip}
 use Rattle.std.proofs.lemmas.Slice.Zip.{AllZip-long}
 use Rattle.gf_nfg.proofs.lemmas.tables.NumbersInTurn.{get_or-numbers_from, length-numbers_from}
 use Rattle.gf_nfg.specs.Profiles.{positions}
+use Rattle.std.proofs.lemmas.List.{length-map}
 use Rattle.std.proofs.lemmas.Option.{slice_get-map}
 use Rattle.gf_token.specs.Positions.{at_position}
 use Rattle.gf_tree.specs.Description.{SetKey, InformationSet, same_set, set_of}
@@ -15,7 +16,9 @@ use Rattle.gf_tree.specs.Game.{Game, IsGame, set_at, used_sets}
 use Rattle.gf_tree.proofs.lemmas.games.FirstUses.{AreDistinct, first_uses_distinct, of_filter}
 use Rattle.gf_tree.proofs.lemmas.games.Lookups.{entry_at}
 use Rattle.gf_tree.proofs.lemmas.games.TreesOnce.{same_set_equality}
-use Rattle.gf_form.specs.Strategies.{action_counts}
+use Rattle.gf_form.specs.Strategies.{AreStrategies, action_counts, players_of}
+use Rattle.gf_form.proofs.lemmas.strategies.Choices.{IsChoice}
+use Rattle.gf_form.proofs.lemmas.values.PayoffsGiven.{zip_in_turn}
 use Rattle.gf_tree.proofs.lemmas.games.Members.{has_at}
 
 abbrev Known : Type 0
@@ -65,29 +68,50 @@ none_there g player position h = grind (arith, slice_get-map)
 
 -- ---- lists place by place
 
-pub zip_places : {A : Type 0} (R : A → ℕ → Type 0) (d : A) (xs : List A) (ys : List ℕ)
-    → length xs ≡ length ys → ((k : ℕ) → k < length xs → R (get_or xs k d) (get_or ys k 0))
-    → AllZip R xs ys
-zip_places R d [] [] e h = tt
-zip_places R d [] (y ∷ ys) e h = absurd (omega (arith, e))
-zip_places R d (x ∷ xs) [] e h = absurd (omega (arith, e))
-zip_places R d (x ∷ xs) (y ∷ ys) e h = (
+pub choice_by_places : (choice counts : List ℕ) → length choice ≡ length counts
+    → ((k : ℕ) → k < length choice
+    → (1 ≤ get_or choice k 0) × (get_or choice k 0 ≤ get_or counts k 0))
+    → IsChoice counts choice
+choice_by_places (x ∷ choice) (y ∷ counts) e h = (
   h 0 (omega arith),
-  zip_places R d xs ys (omega (arith, e)) (λ k less. h (suc k) (omega (arith, less))),
+  choice_by_places choice counts (omega (arith, e)) (λ k less. h (suc k) (omega (arith, less))),
 )
+choice_by_places choice counts e h = grind arith
 
-pub zip_at : {A B : Type 0} (R : A → B → Type 0) (d : A) (e : B) (xs : List A) (ys : List B)
+zip_at : {A B : Type 0} (R : A → B → Type 0) (d : A) (e : B) (xs : List A) (ys : List B)
     → AllZip R xs ys → (k : ℕ) → k < length xs → R (get_or xs k d) (get_or ys k e)
-zip_at R d e [] ys h k less = absurd (omega (arith, less))
-zip_at R d e (x ∷ xs) [] h k less = elim h [ ]
-zip_at R d e (x ∷ xs) (y ∷ ys) h zero less = h.0
 zip_at R d e (x ∷ xs) (y ∷ ys) h (suc k) less = zip_at R d e xs ys h.1 k (omega (arith, less))
+zip_at R d e xs ys h k less = grind arith
 
 -- numbered in turn from 1
-pub zip_counted : {A : Type 0} (R : A → ℕ → Type 0) (d : A) (xs : List A) (n : ℕ)
+zip_counted : {A : Type 0} (R : A → ℕ → Type 0) (d : A) (xs : List A) (n : ℕ)
     → AllZip R xs (positions n) → (k : ℕ) → k < length xs → R (get_or xs k d) (k + 1)
 zip_counted R d xs n h k less =
     let long = AllZip-long R xs (positions n) h in
     let there = get_or-numbers_from 1 n k 0 (omega (arith, less, long, length-numbers_from 1 n)) in
     let number : get_or (positions n) k 0 ≡ k + 1 = omega (arith, there) in
     subst (R (get_or xs k d)) number (zip_at R d 0 xs (positions n) h k less)
+
+pub choice_at : (choice counts : List ℕ) (k : ℕ) → IsChoice counts choice → k < length choice
+    → (1 ≤ get_or choice k 0) × (get_or choice k 0 ≤ get_or counts k 0)
+choice_at choice counts k h less = zip_at _ 0 0 choice counts h k less
+
+-- ---- strategies of all players
+
+pub are_all : (g : Game) (all : List (List ℕ)) → length all ≡ length g.players
+    → ((k : ℕ) → k < length all → IsChoice (action_counts g (suc k)) (get_or all k []))
+    → AreStrategies g all
+are_all g all count h =
+    rw (sym count) (zip_in_turn (λ own player. IsChoice (action_counts g player) own) [] all 1
+    (λ k less. let next : 1 + k ≡ suc k = omega arith in rw next (h k less)))
+
+pub as_many_strategies : (g : Game) (all : List (List ℕ)) → AreStrategies g all
+    → length all ≡ length g.players
+as_many_strategies g all h =
+    sym (AllZip-long _ all (players_of g) h) ∙ length-numbers_from 1 (length g.players)
+
+pub strategy_of : (g : Game) (all : List (List ℕ)) (k : ℕ) → AreStrategies g all → k < length all
+    → IsChoice (action_counts g (k + 1)) (get_or all k [])
+strategy_of g all k h less = grind (arith, zip_counted)
+
+pub ruleset strategy_steps = (are_all, as_many_strategies, length-map)

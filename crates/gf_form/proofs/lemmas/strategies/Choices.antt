@@ -28,9 +28,7 @@ place _ _ = 0
 numbers_above : (by first n : ℕ)
     → map (λ k. by + k) (numbers_from first n) ≡ numbers_from (by + first) n
 numbers_above by first zero = refl
-numbers_above by first (suc n) =
-    let e : by + (first + 1) ≡ by + first + 1 = omega arith in
-    λ i. (by + first) ∷ (numbers_above by (first + 1) n ∙ ap (λ (k : ℕ). numbers_from k n) e) i
+numbers_above by first (suc n) = grind (arith, numbers_above by (first + 1) n)
 
 -- ---- places
 

@@ -41,25 +41,15 @@ choice_within : (key : SetKey) (ss : List (Described SetKey InformationSet))
     → description_at same_set ss key ≡ Some set
     → (1 ≤ choice_at (map (λ s. s.key) ss) strategy key)
     × (choice_at (map (λ s. s.key) ss) strategy key ≤ length set.actions)
-choice_within key [] strategy set h is = absurd (none-some set is)
-choice_within key (s ∷ ss) [] set h is = absurd h
 choice_within key (s ∷ ss) (action ∷ others) set h is = within key s ss action others set
     (same_set s.key key) h.0 (choice_within key ss others set h.1) is
+choice_within key ss others set h is = grind arith
 
 -- a set is found among its owner's
 find_kept : {X : Type 0} (own test : X → Bool) → ((x : X) → test x ≡ true → own x ≡ true)
     → (xs : List X) → find test (filter own xs) ≡ find test xs
 find_kept own test owned [] = refl
-find_kept {X} own test owned (x ∷ xs) =
-    by_tests (own x) (test x) (owned x) refl (find_kept own test owned xs)
-  where
-    by_tests : (a b : Bool)
-        → (b ≡ true → a ≡ true) → test x ≡ b → find test (filter own xs) ≡ find test xs
-        → find test (cond a (x ∷ filter own xs) (filter own xs)) ≡ cond b (Some x) (find test xs)
-    by_tests true true h e others = ap (λ t. cond t (Some x) (find test (filter own xs))) e
-    by_tests true false h e others = cc (e, others)
-    by_tests false true h e others = absurd (true≢false (sym (h refl)))
-    by_tests false false h e others = others
+find_kept {X} own test owned (x ∷ xs) = grind (arith, find_kept own test owned xs)
 
 pub among_his : (g : Game) (key : SetKey)
     → description_at same_set (player_sets g key.player) key ≡ set_at g key
@@ -110,10 +100,9 @@ got xs s above within =
 are_strategies : (g : Game) (players profile : List ℕ)
     → IsProfile (map (λ player. length (strategies g player)) players) profile
     → AreStrategies g (map (λ p. strategy_at (strategies g p.0) p.1) (zip players profile)) players
-are_strategies g [] profile h = grind arith
-are_strategies g (player ∷ players) [] h = absurd h
 are_strategies g (player ∷ players) (s ∷ profile) h =
     (got (strategies g player) s h.0.0 h.0.1, are_strategies g players profile h.1)
+are_strategies g players profile h = grind arith
 
 pub profile_strategies : (g : Game) (profile : List ℕ) → Contains (full_profiles g) profile
     → AllZip (λ strategy player. Contains (strategies g player) strategy) (strategies_at g profile)

@@ -29,13 +29,11 @@ use Rattle.gf_form.proofs.lemmas.form.FormTables.{some_strategy}
 abbrev pub ArePositive : List ℕ → Type 0
 ArePositive counts = AllByRecursion (λ count. 0 < count) counts
 
-product_more : (counts : List ℕ) (i : ℕ) → i < length counts
+pub product_more : (counts : List ℕ) (i : ℕ) → i < length counts
     → product (take (suc i) counts) ≡ product (take i counts) * get_or counts i 0
-product_more [] i h = absurd (omega (arith, h))
-product_more (c ∷ counts) zero h = omega arith
 product_more (c ∷ counts) (suc i) h =
-    ap (λ (n : ℕ). c * n) (product_more counts i (omega (arith, h)))
-    ∙ sym (mul_assoc c (product (take i counts)) (get_or counts i 0))
+    grind (arith, mul_assoc, product_more counts i (omega (arith, h)))
+product_more counts i h = grind arith
 
 pub product_positive : (counts : List ℕ) → ArePositive counts → 0 < product counts
 product_positive [] h = omega arith
@@ -47,26 +45,10 @@ product_part counts zero h = product_positive counts h
 product_part [] (suc i) h = omega arith
 product_part (c ∷ counts) (suc i) h = mul-le-mul_left c (product_part counts i h.1)
 
-pub one_more : (counts kept next : List ℕ) (i own made more : ℕ) → i < length counts
-    → own ≡ get_or counts i 0 → kept ≡ take i counts → made ≡ product (take i counts)
-    → more ≡ made * own → next ≡ kept ++ own ∷ []
-    → (next ≡ take (i + 1) counts) × (more ≡ product (take (i + 1) counts))
-one_more counts kept next i own made more h is kept_is made_is more_is next_is =
-    grind (arith, take-suc counts i 0 h, add-one i, product_more counts i h)
-
-pub past_limit : (counts : List ℕ) (i own made : ℕ) → ArePositive counts → i < length counts
-    → own ≡ get_or counts i 0 → made ≡ product (take i counts) → profile_limit < made * own
-    → profile_limit < product counts
-past_limit counts i own made positive h is made_is past =
-    grind (arith, product_part counts (suc i) positive, product_more counts i h, length-map)
-
--- one of the numbers is above the limit
-pub past_alone : (counts : List ℕ) (i own made : ℕ) → ArePositive counts → i < length counts
-    → own ≡ get_or counts i 0 → made ≡ product (take i counts) → 0 < made
-    → profile_limit < own → profile_limit < product counts
-past_alone counts i own made positive h is made_is some past =
-    let more : 1 * own ≤ made * own = mul-le-mul some (omega arith) in
-    past_limit counts i own made positive h is made_is (omega (arith, more, past))
+pub product_within : (counts : List ℕ) (i : ℕ) → ArePositive counts → i < length counts
+    → product (take i counts) * get_or counts i 0 ≤ product counts
+product_within counts i positive h =
+    omega (arith, product_part counts (suc i) positive, product_more counts i h)
 
 -- ---- the sets of a player
 
@@ -75,15 +57,7 @@ positive_of : (players player : ℕ) (ss : List (Described SetKey InformationSet
     → ArePositive (map (λ s. length s.description.actions)
     (filter (λ s. s.key.player == player) ss))
 positive_of players player [] h = tt
-positive_of players player (s ∷ ss) h =
-    by (s.key.player == player) (positive_of players player ss h.1)
-  where
-    by : (b : Bool) → ArePositive (map (λ s. length s.description.actions)
-        (filter (λ s. s.key.player == player) ss))
-        → ArePositive (map (λ s. length s.description.actions) (cond b
-        (s ∷ filter (λ s. s.key.player == player) ss) (filter (λ s. s.key.player == player) ss)))
-    by true others = (h.0.some_action, others)
-    by false others = others
+positive_of players player (s ∷ ss) h = grind (arith, positive_of players player ss h.1)
 
 pub actions_positive : (g : Game) → IsGame g → (player : ℕ) → ArePositive (action_counts g player)
 actions_positive g game player = positive_of (length g.players) player g.sets game.each_set
@@ -95,9 +69,8 @@ count_at g player before = grind (arith, add-one, unwrap_or-slice_get)
 
 pub positive_at : (counts : List ℕ) (i : ℕ) → ArePositive counts → i < length counts
     → 0 < get_or counts i 0
-positive_at [] i h less = absurd (omega (arith, less))
-positive_at (c ∷ counts) zero h less = h.0
 positive_at (c ∷ counts) (suc i) h less = positive_at counts i h.1 (omega (arith, less))
+positive_at counts i h less = grind arith
 
 -- ---- the players
 
@@ -132,13 +105,9 @@ pub one_item_more : {A : Type 0} (all kept next : List A) (i : ℕ) (item d : A)
     → next ≡ take (i + 1) all
 one_item_more all kept next i item d h is kept_is next_is = cc (take-suc all i d h, add-one i)
 
-pub counted_sets : (g : Game) (player before count : ℕ) → count ≡ length (player_keys g player)
-    → before < count → before < length (action_counts g player)
-counted_sets g player before count is less = grind (arith, is, less, length-map)
-
-pub no_more_sets : (g : Game) (player before count : ℕ) → count ≡ length (player_keys g player)
-    → count ≤ before → length (action_counts g player) ≤ before
-no_more_sets g player before count is past = grind (arith, is, past, length-map)
+pub sets_counted : (g : Game) (player : ℕ)
+    → length (action_counts g player) ≡ length (player_keys g player)
+sets_counted g player = grind (arith, length-map)
 
 pub take_past : {A : Type 0} (i : ℕ) (xs : List A) → length xs ≤ i → take i xs ≡ xs
 take_past zero [] h = refl
@@ -163,5 +132,36 @@ pub some_counts : (g : Game) (player : ℕ) (o : Option (Vec ℕ Global × Profi
 some_counts g player None own count h e = absurd cc
 some_counts g player (Some x) own count h e = grind (arith, length-all_choices, length-map)
 
-pub too_many : (g : Game) → profile_limit < product (strategy_counts g) → HasTooManyProfiles g
-too_many g past = omega (arith, past, length-profiles (strategy_counts g))
+pub strategies_at_place : (g : Game) (before : ℕ) → before < length g.players
+    → get_or (strategy_counts g) before 0 ≡ length (strategies g (before + 1))
+strategies_at_place g before less =
+    of_player g (λ player. length (strategies g player)) before 0 less
+
+-- so many strategies of the players so far and of the next one
+pub too_many : (g : Game) → IsGame g → (before made own : ℕ) → before < length g.players
+    → made ≡ product (take before (strategy_counts g)) → own ≡ length (strategies g (before + 1))
+    → profile_limit < made * own → HasTooManyProfiles g
+too_many g game before made own less made_is own_is past =
+    let within = product_within (strategy_counts g) before (strategies_positive g game) in
+    grind (arith, within, strategies_at_place, as_many_players, length-profiles)
+
+-- and of the next one alone
+pub too_many_alone : (g : Game) → IsGame g → (before made : ℕ) → before < length g.players
+    → made ≡ product (take before (strategy_counts g)) → 0 < made
+    → profile_limit < length (strategies g (before + 1)) → HasTooManyProfiles g
+too_many_alone g game before made less made_is some past =
+    let own = length (strategies g (before + 1)) in
+    let more : 1 * own ≤ made * own = mul-le-mul some (omega arith) in
+    too_many g game before made own less made_is refl (omega (arith, more, past))
+
+pub ruleset count_steps = (
+  positive_at,
+  actions_positive,
+  count_at,
+  sets_counted,
+  product_within,
+  product_more,
+  take_past,
+  take-suc,
+  add-one,
+)

@@ -34,10 +34,7 @@ module _ (g : Game) (c : Counts) (counts : AreCounts g c) where
 
   count_of : (i : ℕ) → i < length c.actions.items
       → get_or c.strategies.items i 0 ≡ length (strategies g (i + 1))
-  count_of i less =
-      ap (λ (all : List ℕ). get_or all i 0) counts.strategies
-      ∙ of_player g (λ player. length (strategies g player)) i 0
-      (omega (arith, less, all_counted))
+  count_of i less = grind (arith, of_player, all_counted)
 
 -- what is read of the player at a place: how many strategies he has, and how many actions at each
 -- of his sets

@@ -20,9 +20,7 @@ digits_of n h =
     (λ k ds _ p. all_both (λ b. 48 ≤ b) ds ((48 + k % 10) ∷ []) p (omega arith, tt)) n h
 
 pub undashed_number : (n : ℕ) → n < 2 ^ 64 → AreUndashed (decimal n)
-undashed_number n h =
-    all_weaker (λ b. 48 ≤ b) (λ b. ¬ (b ≡ 45)) (λ b above e. omega (arith, above, e)) (decimal n)
-    (digits_of n h)
+undashed_number n h = grind (arith, all_weaker, digits_of)
 
 head_same : (x y : ℕ) (xs ys : List ℕ) → x ∷ xs ≡ y ∷ ys → x ≡ y
 head_same x y xs ys e = ap (λ (zs : List ℕ). get_or zs 0 0) e
@@ -34,9 +32,7 @@ cut [] [] us vs hx hy e = (refl, ap (drop 1) e)
 cut [] (y ∷ ys) us vs hx hy e = absurd (hy.0 (sym (head_same 45 y us (ys ++ 45 ∷ vs) e)))
 cut (x ∷ xs) [] us vs hx hy e = absurd (hx.0 (head_same x 45 (xs ++ 45 ∷ us) vs e))
 cut (x ∷ xs) (y ∷ ys) us vs hx hy e =
-    let h = head_same x y (xs ++ 45 ∷ us) (ys ++ 45 ∷ vs) e in
-    let r = cut xs ys us vs hx.1 hy.1 (ap (drop 1) e) in
-    (λ i. h i ∷ r.0 i, r.1)
+    grind (arith, head_same, cut xs ys us vs hx.1 hy.1 (ap (drop 1) e))
 
 same_texts : (xs ys : List (List ℕ)) → length xs ≡ length ys → AllByRecursion AreUndashed xs
     → AllByRecursion AreUndashed ys → join_with_byte 45 xs ≡ join_with_byte 45 ys → xs ≡ ys
@@ -59,10 +55,7 @@ module _ {X : Type 0} (text : X → List ℕ) (IsFine : X → Type 0)
   same_items [] [] hx hy e = refl
   same_items [] (y ∷ ys) hx hy e = absurd cc
   same_items (x ∷ xs) [] hx hy e = absurd cc
-  same_items (x ∷ xs) (y ∷ ys) hx hy e =
-      let first = one x y hx.0 hy.0 (ap (λ (ts : List (List ℕ)). get_or ts 0 []) e) in
-      let others = same_items xs ys hx.1 hy.1 (ap (drop 1) e) in
-      λ i. first i ∷ others i
+  same_items (x ∷ xs) (y ∷ ys) hx hy e = grind (arith, same_items xs ys hx.1 hy.1 (ap (drop 1) e))
 
   all_undashed : (xs : List X) → AllByRecursion IsFine xs
       → AllByRecursion AreUndashed (map text xs)
@@ -72,7 +65,4 @@ module _ {X : Type 0} (text : X → List ℕ) (IsFine : X → Type 0)
   pub same_joined : (xs ys : List X) → length xs ≡ length ys → AllByRecursion IsFine xs
       → AllByRecursion IsFine ys
       → join_with_byte 45 (map text xs) ≡ join_with_byte 45 (map text ys) → xs ≡ ys
-  same_joined xs ys n hx hy e =
-      same_items xs ys hx hy (same_texts (map text xs) (map text ys)
-      (length-map xs text ∙ n ∙ sym (length-map ys text)) (all_undashed xs hx) (all_undashed ys hy)
-      e)
+  same_joined xs ys n hx hy e = grind (arith, same_items, same_texts, length-map, all_undashed)

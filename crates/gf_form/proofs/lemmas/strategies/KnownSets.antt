@@ -30,7 +30,4 @@ set_is g game key set e = subst (Each (IsSet (length g.players) key)) e (each_se
 -- a player's key is that of one of the game's sets, which is his
 pub own_set : (g : Game) (player : ℕ) (key : SetKey) → Has (player_keys g player) key
     → (s : Described SetKey InformationSet) × Has g.sets s × (s.key ≡ key) × (key.player ≡ player)
-own_set g player key i =
-    let m =
-    mapped_from (λ (s : Described SetKey InformationSet). s.key) (player_sets g player) key i in
-    grind (arith, of_filter, eqb-true)
+own_set g player key i = grind (arith, mapped_from, of_filter, eqb-true)

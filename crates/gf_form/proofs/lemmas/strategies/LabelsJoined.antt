@@ -23,8 +23,7 @@ label_of_both [] b hf hb = absurd (omega (arith, hf))
 label_of_both (a ∷ f) [] hf hb = absurd (omega (arith, hb))
 label_of_both (a ∷ []) (c ∷ b) hf hb = refl
 label_of_both (a ∷ e ∷ f) (c ∷ b) hf hb =
-    ap (λ (bs : List ℕ). decimal a ++ 45 ∷ bs) (label_of_both (e ∷ f) (c ∷ b) (omega arith) hb)
-    ∙ sym (append_assoc (decimal a) (45 ∷ strategy_label (e ∷ f)) (45 ∷ strategy_label (c ∷ b)))
+    grind (arith, append_assoc, label_of_both (e ∷ f) (c ∷ b) (omega arith) hb)
 
 -- ---- numbers
 
@@ -35,12 +34,7 @@ both_choices [] ys [] b hf hb = (hb, omega arith)
 both_choices [] ys (a ∷ f) b hf hb = absurd hf
 both_choices (c ∷ xs) ys [] b hf hb = absurd hf
 both_choices (c ∷ xs) ys (a ∷ f) b hf hb =
-    let others = both_choices xs ys f b hf.1 hb in
-    let top = ap (λ (n : ℕ). (a - 1) * n) (product_joined xs ys) ∙ sym (mul_assoc (a - 1) (product
-    xs) (product ys)) in
-    let sums : ((a - 1) * product xs + place xs f) * product ys
-    ≡ (a - 1) * product xs * product ys + place xs f * product ys = omega arith in
-    ((hf.0, others.0), omega (arith, top, others.1, sums))
+    grind (arith, product_joined, mul_assoc, place, both_choices xs ys f b hf.1 hb)
 
 at_its_place : (counts s : List ℕ) → IsChoice counts s
     → (place counts s < product counts) × (get_or (all_choices counts) (place counts s) [] ≡ s)
@@ -66,23 +60,19 @@ joined_at xs ys i j hi hj =
 got : (xs : List (List ℕ)) (i : ℕ) (v : List ℕ)
     → slice_get (map strategy_label xs) i ≡ Some v → i < length xs
     → v ≡ strategy_label (get_or xs i [])
-got [] i v e less = absurd (omega (arith, less))
-got (x ∷ xs) zero v e less = sym (ap (λ o. unwrap_or o v) e)
 got (x ∷ xs) (suc i) v e less = got xs i v e (omega (arith, less))
+got xs i v e less = grind arith
 
 long : (counts : List ℕ) (n : ℕ) → n < product counts
     → length (get_or (all_choices counts) n []) ≡ length counts
-long counts n less =
-    choice_length counts (get_or (all_choices counts) n [])
-    (all_at (IsChoice counts) (all_choices counts) n [] (are_choices counts)
-    (omega (arith, less, length-all_choices counts)))
+long counts n less = grind (arith, choice_length, all_at, are_choices, length-all_choices)
 
 -- labels of strategies, made from this many first ones with all others, and from one more with this
 -- many
-abbrev pub AreJoined : List (List ℕ) → List (List ℕ) → List (List ℕ) → ℕ → ℕ → Type 0
-AreJoined firsts others labels i j = (xs ys : List ℕ) → 0 < length xs → 0 < length ys
-    → firsts ≡ map strategy_label (all_choices xs) → others ≡ map strategy_label (all_choices ys)
-    → labels ≡ map strategy_label (take (i * product ys + j) (all_choices (xs ++ ys)))
+pub record AreJoined (firsts others labels : List (List ℕ)) (i j : ℕ) : Type 0 where
+  pub are : (xs ys : List ℕ) → 0 < length xs → 0 < length ys
+      → firsts ≡ map strategy_label (all_choices xs) → others ≡ map strategy_label (all_choices ys)
+      → labels ≡ map strategy_label (take (i * product ys + j) (all_choices (xs ++ ys)))
 
 counted : (labels : List (List ℕ)) (counts : List ℕ)
     → labels ≡ map strategy_label (all_choices counts) → length labels ≡ product counts
@@ -93,42 +83,23 @@ pub one_joined_more : (firsts others labels next : List (List ℕ)) (i j : ℕ)
     → slice_get firsts i ≡ Some first → slice_get others j ≡ Some other
     → label ≡ first ++ 45 ∷ other → next ≡ labels ++ label ∷ []
     → AreJoined firsts others labels i j → AreJoined firsts others next i (j + 1)
-one_joined_more firsts others labels next i j first other label hi hj at_i at_j is more h xs ys hx
-    hy
-    f o =
-    let less_i : i < product xs = omega (arith, hi, counted firsts xs f) in
-    let less_j : j < product ys = omega (arith, hj, counted others ys o) in
-    let front = get_or (all_choices xs) i [] in
-    let back = get_or (all_choices ys) j [] in
-    let first_is = got (all_choices xs) i first
-    (subst (λ (l : List (List ℕ)). slice_get l i ≡ Some first) f at_i)
-    (omega (arith, less_i, length-all_choices xs)) in
-    let other_is = got (all_choices ys) j other
-    (subst (λ (l : List (List ℕ)). slice_get l j ≡ Some other) o at_j)
-    (omega (arith, less_j, length-all_choices ys)) in
-    let at = joined_at xs ys i j less_i less_j in
-    let label_is = is ∙ (λ k. first_is k ++ 45 ∷ other_is k) ∙ sym (label_of_both front back (omega
-    (arith, hx, long xs i less_i)) (omega (arith, hy, long ys j less_j))) in
-    let next_number : i * product ys + j + 1 ≡ i * product ys + (j + 1) = omega arith in
-    grind (arith, one_label_more, next_number)
+one_joined_more firsts others labels next i j first other label hi hj at_i at_j is more h =
+    grind (arith, counted, got, length-all_choices, joined_at, label_of_both, long, one_label_more)
 
 pub row_joined : (firsts others labels : List (List ℕ)) (i j : ℕ) → j ≡ length others
     → AreJoined firsts others labels i j → AreJoined firsts others labels (i + 1) 0
-row_joined firsts others labels i j end h xs ys hx hy f o =
-    let next : i * product ys + product ys ≡ (i + 1) * product ys + 0 = omega arith in
-    cc (h xs ys hx hy f o, end, counted others ys o, next)
+row_joined firsts others labels i j end h = record {
+  are = λ xs ys hx hy f o.
+      let next : i * product ys + product ys ≡ (i + 1) * product ys + 0 = omega arith in
+      cc (h.are xs ys hx hy f o, end, counted others ys o, next);
+}
 
 pub all_joined : (firsts others labels : List (List ℕ)) (i : ℕ) → i ≡ length firsts
     → AreJoined firsts others labels i 0 → (xs ys : List ℕ) → 0 < length xs → 0 < length ys
     → firsts ≡ map strategy_label (all_choices xs) → others ≡ map strategy_label (all_choices ys)
     → labels ≡ map strategy_label (all_choices (xs ++ ys))
 all_joined firsts others labels i end h xs ys hx hy f o =
-    let all = all_choices (xs ++ ys) in
-    let whole : i * product ys ≡ product (xs ++ ys) =
-    ap (λ (n : ℕ). n * product ys) (end ∙ counted firsts xs f) ∙ sym (product_joined xs ys) in
-    h xs ys hx hy f o
-    ∙ ap (map strategy_label) (take_past (i * product ys + 0) all
-    (omega (arith, whole, length-all_choices (xs ++ ys))))
+    grind (arith, counted, product_joined, take_past, length-all_choices)
 
 -- ---- how many
 
@@ -141,3 +112,5 @@ one_count_more counts i whole more less h is =
     ∙ sym (product_joined (take i counts) (get_or counts i 0 ∷ []))
     ∙ sym (ap product (take-suc counts i 0 less))
     ∙ ap (λ (n : ℕ). product (take n counts)) (sym (add-one i))
+
+pub ruleset joined_steps = (one_joined_more, row_joined, all_joined)

@@ -13,9 +13,8 @@ Each P o = MatchOption o ⊤ P
 
 pub each_got : {A : Type 0} (P : A → Type 0) (xs : List A) (i : ℕ) → AllByRecursion P xs
     → Each P (slice_get xs i)
-each_got P [] i h = tt
-each_got P (x ∷ xs) zero h = h.0
 each_got P (x ∷ xs) (suc i) h = each_got P xs i h.1
+each_got P xs i h = grind arith
 
 pub each_at : {A : Type 0} (P : A → Type 0) (xs : List A) (position : ℕ) → AllByRecursion P xs
     → Each P (at_position xs position)
@@ -24,12 +23,7 @@ each_at P xs position h = grind (arith, each_got)
 pub each_found : {A : Type 0} (P : A → Type 0) (test : A → Bool) (xs : List A) → AllByRecursion P xs
     → Each (λ x. P x × (test x ≡ true)) (find test xs)
 each_found P test [] h = tt
-each_found {A} P test (x ∷ xs) h = by_test (test x) refl (each_found P test xs h.1)
-  where
-    by_test : (b : Bool) → test x ≡ b → Each (λ y. P y × (test y ≡ true)) (find test xs)
-        → Each (λ y. P y × (test y ≡ true)) (cond b (Some x) (find test xs))
-    by_test true e others = (h.0, e)
-    by_test false e others = others
+each_found {A} P test (x ∷ xs) h = grind (arith, each_found P test xs h.1)
 
 pub each_mapped : {A B : Type 0} (P : B → Type 0) (f : A → B) (o : Option A) → Each (λ x. P (f x)) o
     → Each P (option_map f o)
@@ -61,6 +55,4 @@ next_strategy xs i = ap (λ o. unwrap_or o []) (next_position xs i) ∙ unwrap_o
 
 pub strategy_before : {A : Type 0} (xs : List (List A)) (position : ℕ) → 1 ≤ position
     → strategy_at xs position ≡ get_or xs (position - 1) []
-strategy_before xs position above =
-    let place : position ≡ 1 + (position - 1) = omega arith in
-    ap (strategy_at xs) place ∙ next_strategy xs (position - 1)
+strategy_before xs position above = grind (arith, next_strategy xs (position - 1))

@@ -12,6 +12,9 @@ use Rattle.gf_nfg.specs.ProfilePlaces.{IsProfile, place}
 use Rattle.gf_nfg.proofs.lemmas.tables.Profiles.{are_profiles, every_profile, length-profiles}
 use Rattle.gf_nfg.proofs.lemmas.tables.Profiles.{place_at}
 use Rattle.gf_tree.specs.Game.{Game}
+use Rattle.gf_form.specs.inner.strategies.Counted.{AreCounts}
+use Rattle.gf_form.specs.declared.strategies.counts.Counts.{Counts}
+use Rattle.gf_nfg.proofs.lemmas.tables.NumbersInTurn.{length-numbers_from}
 use Rattle.gf_form.specs.inner.strategies.ProfileNumbers.{AreBelow, AreProfileNumbers}
 use Rattle.gf_form.specs.inner.strategies.ProfileNumbers.{numbered_profiles, numbers_with}
 use Rattle.gf_form.specs.Strategies.{AreStrategies, action_counts, full_profiles, players_of}
@@ -69,10 +72,9 @@ profiles_next count counts rest some below = grind (arith, mul_comm, below, mod-
 -- what the factors of a number that is above another are
 pub some_factor : (counts : List ℕ) (number i : ℕ) → number < product counts → i < length counts
     → 0 < get_or counts i 0
-some_factor [] number i h less = absurd (omega (arith, less))
-some_factor (c ∷ counts) number zero h less = (positive_parts c (product counts) number h).0
 some_factor (c ∷ counts) number (suc i) h less =
     some_factor counts 0 i (positive_parts c (product counts) number h).1 (omega (arith, less))
+some_factor counts number i h less = grind arith
 
 -- ---- full profiles
 
@@ -86,9 +88,7 @@ full_profile g [] (own ∷ picked) profile h k = absurd h
 full_profile g (player ∷ players) [] profile h k = absurd h
 full_profile g (player ∷ players) (own ∷ picked) [] h k = absurd k
 full_profile g (player ∷ players) (own ∷ picked) (s ∷ profile) h k =
-    let less = all_at (λ number. number < length (strategies g player)) own (s - 1) 0 h.0
-    (omega (arith, k.0.0, k.0.1)) in
-    ((omega arith, omega (arith, less)), full_profile g players picked profile h.1 k.1)
+    grind (arith, all_at, full_profile g players picked profile h.1 k.1)
 
 pub picked_full : (g : Game) (picked : List (List ℕ)) → AreNumbers g picked → (profile : List ℕ)
     → Contains (profiles (map length picked)) profile
@@ -103,10 +103,9 @@ picked_full g picked numbers profile there =
 chosen : (g : Game) (all : List (List ℕ)) (players : List ℕ)
     → AllZip (λ strategy player. Contains (strategies g player) strategy) all players
     → AllZip (λ strategy player. IsChoice (action_counts g player) strategy) all players
-chosen g [] players h = grind arith
-chosen g (strategy ∷ all) [] h = absurd h
 chosen g (strategy ∷ all) (player ∷ players) h =
     ((every_choice (action_counts g player) strategy).0 h.0, chosen g all players h.1)
+chosen g all players h = grind arith
 
 pub are_strategies : (g : Game) (number : ℕ) → number < length (full_profiles g)
     → AreStrategies g (strategies_at g (get_or (full_profiles g) number []))
@@ -140,11 +139,9 @@ all_sums_below count size own (rest ∷ rests) h k =
 
 pub numbers_within : (counts : List ℕ) (picked : List (List ℕ)) → AreBelow counts picked
     → AllByRecursion (λ number. number < product counts) (numbers_with counts picked)
-numbers_within [] picked h = grind arith
-numbers_within (count ∷ counts) [] h = absurd h
 numbers_within (count ∷ counts) (own ∷ picked) h =
-    all_sums_below count (product counts) own (numbers_with counts picked) h.0
-    (numbers_within counts picked h.1)
+    grind (arith, all_sums_below, numbers_within counts picked h.1)
+numbers_within counts picked h = grind arith
 
 -- the profiles of one player more
 
@@ -168,10 +165,7 @@ by_all_sums : (count : ℕ) (counts own rests : List ℕ)
     ≡ flat_map (λ rest. joined own (get_or (profiles counts) rest [])) rests
 by_all_sums count counts own [] h k = refl
 by_all_sums count counts own (rest ∷ rests) h k =
-    map-append (λ number. get_or (profiles (count ∷ counts)) number [])
-    (map (λ number. number + count * rest) own)
-    (flat_map (λ rest. map (λ number. number + count * rest) own) rests)
-    ∙ (λ i. by_sums count counts rest own k.0 h i ++ by_all_sums count counts own rests h k.1 i)
+    grind (arith, map-append, by_sums, by_all_sums count counts own rests h k.1)
 
 by_positions : (all : List ℕ) (picked : List (List ℕ)) (others own : List ℕ) (k : ℕ)
     → ((i : ℕ) → get_or all (k + i) 0 ≡ get_or own i 0)
@@ -227,22 +221,18 @@ pub player_at : (counts : List ℕ) (picked : List (List ℕ)) (i : ℕ) → Are
     → i < length counts
     → AllByRecursion (λ number. number < get_or counts i 0) (get_or picked i [])
     × AreBelow (drop (suc i) counts) (drop (suc i) picked)
-player_at [] picked i h less = absurd (omega (arith, less))
-player_at (count ∷ counts) [] i h less = absurd h
-player_at (count ∷ counts) (own ∷ picked) zero h less = h
 player_at (count ∷ counts) (own ∷ picked) (suc i) h less =
     player_at counts picked i h.1 (omega (arith, less))
+player_at counts picked i h less = grind arith
 
 pub numbers_next : (counts : List ℕ) (picked : List (List ℕ)) (i : ℕ) → AreBelow counts picked
     → i < length counts
     → flat_map (λ rest. map (λ number. number + get_or counts i 0 * rest) (get_or picked i []))
     (numbers_with (drop (suc i) counts) (drop (suc i) picked))
     ≡ numbers_with (drop i counts) (drop i picked)
-numbers_next [] picked i h less = absurd (omega (arith, less))
-numbers_next (count ∷ counts) [] i h less = absurd h
-numbers_next (count ∷ counts) (own ∷ picked) zero h less = refl
 numbers_next (count ∷ counts) (own ∷ picked) (suc i) h less =
     numbers_next counts picked i h.1 (omega (arith, less))
+numbers_next counts picked i h less = grind arith
 
 pub no_less : (counts : List ℕ) (i : ℕ) → 0 < product counts
     → product (drop i counts) ≤ product counts
@@ -311,3 +301,16 @@ pub numbered_at : (g : Game) (numbers : List ℕ) (i : ℕ) → i < length numbe
     × (get_or (numbered_profiles g numbers) i []
     ≡ get_or (full_profiles g) (get_or numbers i 0) [])
 numbered_at g numbers i less = grind (arith, less, length-map, get_or-map)
+
+pub ruleset sum_steps = (sums_fit, all_at)
+
+-- those of all profiles, by what is counted of a game
+module _ (g : Game) (counts : Counts) (numbers given : List ℕ) (are : AreCounts g counts)
+    (same : given ≡ numbers) (is : numbers ≡ numbers_from 0 counts.profiles.count) where
+  pub counted_numbers : AreProfileNumbers g given
+  counted_numbers = grind (arith, are.profiles, all_are_numbers)
+
+  pub all_counted : numbered_profiles g given ≡ full_profiles g
+  all_counted = grind (arith, are.profiles, all_numbered)
+
+pub ruleset full_steps = (counted_numbers, all_counted, length-numbers_from)

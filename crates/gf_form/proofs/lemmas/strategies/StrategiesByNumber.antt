@@ -16,14 +16,15 @@ use Rattle.std.proofs.lemmas.List.{append-nil, get_or_default, length-append, ma
 use Rattle.gf_nfg.specs.Profiles.{product}
 use Rattle.gf_form.specs.inner.strategies.LabelTexts.{IsPlain}
 use Rattle.gf_form.specs.Strategies.{all_choices, strategy_label}
+use Rattle.gf_fraction.proofs.AllElements.{all_both}
+use Rattle.gf_form.proofs.lemmas.strategies.CountedActions.{take_past}
 use Rattle.gf_form.proofs.lemmas.strategies.Choices.{IsChoice, are_choices, every_choice}
 use Rattle.gf_form.proofs.lemmas.strategies.Choices.{length-all_choices, place, place_at}
 
 pub all_at : {A : Type 0} (P : A → Type 0) (xs : List A) (i : ℕ) (d : A) → AllByRecursion P xs
     → i < length xs → P (get_or xs i d)
-all_at P [] i d h less = absurd (omega (arith, less))
-all_at P (x ∷ xs) zero d h less = h.0
 all_at P (x ∷ xs) (suc i) d h less = all_at P xs i d h.1 (omega (arith, less))
+all_at P xs i d h less = grind arith
 
 choices_next : (count : ℕ) (counts : List ℕ) (rest : ℕ) → 0 < product counts
     → rest < count * product counts
@@ -115,9 +116,7 @@ dashed_more strategy i action less is =
 pub dash_last : (action : ℕ) (strategy : List ℕ)
     → dashed (action ∷ strategy) ≡ strategy_label (action ∷ strategy) ++ 45 ∷ []
 dash_last action [] = append-nil (decimal action ++ 45 ∷ [])
-dash_last action (next ∷ strategy) =
-    ap (λ (bs : List ℕ). (decimal action ++ 45 ∷ []) ++ bs) (dash_last next strategy)
-    ∙ simp append_assoc
+dash_last action (next ∷ strategy) = grind (arith, dash_last next strategy, append_assoc)
 
 -- without that dash it is the label
 pub dash_removed : (strategy bytes new : List ℕ) (n : ℕ) → bytes ≡ dashed strategy
@@ -131,9 +130,8 @@ dash_removed (action ∷ strategy) bytes new n is counted rest =
 
 pub all_taken : {A : Type 0} (P : A → Type 0) (n : ℕ) (xs : List A) → AllByRecursion P xs
     → AllByRecursion P (take n xs)
-all_taken P zero xs h = tt
-all_taken P (suc n) [] h = tt
 all_taken P (suc n) (x ∷ xs) h = (h.0, all_taken P n xs h.1)
+all_taken P n xs h = grind arith
 
 -- ---- the labels so far
 
@@ -156,10 +154,7 @@ one_label_more counts labels next number label strategy less is label_is labels_
 
 pub plain_digits : (bytes : List ℕ) → AllDigits 10 bytes → AllByRecursion IsPlain bytes
 plain_digits [] h = tt
-plain_digits (b ∷ bytes) h =
-    let no_quote : (b == 34) ≡ false = let d = h.0 in grind (arith, nat_tests) in
-    let no_backslash : (b == 92) ≡ false = let d = h.0 in grind (arith, nat_tests) in
-    ((no_quote, no_backslash), plain_digits bytes h.1)
+plain_digits (b ∷ bytes) h = grind (arith, nat_tests, plain_digits bytes h.1)
 
 pub plain_number : (n : ℕ) → n < 2 ^ 32 → AllByRecursion IsPlain (decimal n)
 plain_number n h =
@@ -173,3 +168,10 @@ plain_behind before (b ∷ bytes) e h = grind (arith, plain_behind b bytes h.0.1
 
 pub plain_label : (bytes : List ℕ) → AllByRecursion IsPlain bytes → IsLabel bytes
 plain_label bytes h = plain_behind 34 bytes refl h
+
+-- ---- what the steps of the code need
+
+pub ruleset text_steps =
+    (dashed_more, all_both, plain_number, dash_removed, take_past, plain_label, all_taken)
+
+pub ruleset label_steps = (one_label_more, length-all_choices, take_past)

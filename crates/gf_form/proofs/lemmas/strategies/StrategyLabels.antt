@@ -22,8 +22,7 @@ small_choice [] [] small h = (tt, refl)
 small_choice [] (a ∷ choice) small h = absurd h
 small_choice (n ∷ counts) [] small h = absurd h
 small_choice (n ∷ counts) (a ∷ choice) small h =
-    let r = small_choice counts choice small.1 h.1 in
-    ((omega (arith, h.0.1, small.0), r.0), ap suc r.1)
+    grind (arith, small_choice counts choice small.1 h.1)
 
 pub labels_differ : (counts : List ℕ) (i j : ℕ) → AreSmall counts → i < length (all_choices counts)
     → j < length (all_choices counts)

@@ -5,7 +5,8 @@ use Rattle.std.proofs.Common.{◌∙◌}
 use Rattle.std.proofs.Math.ListN.{drop_of_length-le, set}
 use Rattle.std.proofs.Math.Seq.{drop-cons}
 use Rattle.std.proofs.lemmas.Grind.{get_or_default_zero}
-use Rattle.std.proofs.lemmas.List.{append-nil, length-set, take_more_set}
+use Rattle.std.proofs.Math.Nat.{mod-lt}
+use Rattle.std.proofs.lemmas.List.{append-nil, length-map, length-set, take_more_set}
 use Rattle.gf_nfg.specs.Profiles.{product}
 use Rattle.gf_nfg.proofs.lemmas.tables.Profiles.{length-profiles}
 use Rattle.gf_tree.specs.Game.{Game}
@@ -13,8 +14,9 @@ use Rattle.gf_form.specs.inner.strategies.Counted.{AreCounts}
 use Rattle.gf_form.specs.Strategies.{all_choices, full_profiles}
 use Rattle.gf_form.specs.declared.strategies.counts.Counts.{Counts}
 use Rattle.gf_form.proofs.lemmas.strategies.CountedActions.{strategy_counts, take_past}
-use Rattle.gf_form.proofs.lemmas.strategies.CountsGiven.{all_counted, strategies_counted}
-use Rattle.gf_form.proofs.lemmas.strategies.NumberedProfiles.{numbered}
+use Rattle.gf_form.proofs.lemmas.strategies.CountsGiven.{all_counted, read_whole}
+use Rattle.gf_form.proofs.lemmas.strategies.CountsGiven.{strategies_counted}
+use Rattle.gf_form.proofs.lemmas.strategies.NumberedProfiles.{numbered, numbered_strategies}
 use Rattle.gf_form.proofs.lemmas.strategies.PickedProfiles.{some_factor}
 
 -- those of the players so far are written
@@ -23,16 +25,13 @@ pub record Written (actions : List (List ℕ)) (number i rest : ℕ) (all : List
   pub as_long : length all ≡ length actions
   pub wanted : take i all ++ numbered (drop i actions) rest ≡ numbered actions number
 
-pub first_written : (actions : List (List ℕ)) (number : ℕ) (all : List (List ℕ))
-    → length all ≡ length actions → Written actions number 0 number all
-first_written actions number all as_long = record { as_long = as_long; wanted = refl }
-
-pub one_written : (actions : List (List ℕ)) (number i rest whole : ℕ) (all next : List (List ℕ))
+pub one_written : (actions : List (List ℕ)) (number i rest whole : ℕ) (all : List (List ℕ))
     (own : List ℕ) → i < length actions → whole ≡ product (get_or actions i [])
-    → own ≡ get_or (all_choices (get_or actions i [])) (rest % whole) [] → next ≡ set all i own
-    → Written actions number i rest all → Written actions number (i + 1) (rest / whole) next
-one_written actions number i rest whole all next own less whole_is own_is next_is h = record {
-  as_long = ap length next_is ∙ length-set all i own ∙ h.as_long;
+    → own ≡ get_or (all_choices (get_or actions i [])) (rest % whole) []
+    → Written actions number i rest all
+    → Written actions number (i + 1) (rest / whole) (set all i own)
+one_written actions number i rest whole all own less whole_is own_is h = record {
+  as_long = length-set all i own ∙ h.as_long;
   wanted = (λ j. more j ++ numbered (drop (add-one i j) actions) (rest / whole_is j))
       ∙ append_assoc (take i all) (own ∷ []) left
       ∙ (λ j. take i all ++ own_is j ∷ left)
@@ -47,8 +46,8 @@ one_written actions number i rest whole all next own less whole_is own_is next_i
     left : List (List ℕ)
     left = numbered (drop (suc i) actions) (rest / product here)
 
-    more : take (i + 1) next ≡ take i all ++ own ∷ []
-    more = ap (take (i + 1)) next_is ∙ take_more_set all i own (omega (arith, less, h.as_long))
+    more : take (i + 1) (set all i own) ≡ take i all ++ own ∷ []
+    more = take_more_set all i own (omega (arith, less, h.as_long))
 
 pub last_written : (actions : List (List ℕ)) (number i rest : ℕ) (all : List (List ℕ))
     → Written actions number i rest all → length actions ≤ i → all ≡ numbered actions number
@@ -67,3 +66,13 @@ some_strategy g c counts number i whole less within is =
   where
     inside : i < length c.strategies.items
     inside = omega (arith, within, all_counted g c counts, strategies_counted g c counts)
+
+pub ruleset written_steps = (
+  some_strategy,
+  read_whole,
+  mod-lt,
+  last_written,
+  numbered_strategies,
+  length-map,
+  length-profiles,
+)

@@ -306,9 +306,4 @@ module _ (g : Game) (game : IsGame g) (spellable : IsSpellable g) (player : ℕ)
 
   pub one_value : (x y : Ratio)
       → IsValue g choices player g.tree x → IsValue g choices player g.tree y → x ≡ y
-  one_value x y hx hy =
-      let ex = value_is_payoff x hx in
-      let ey = value_is_payoff y hy in
-      one_fraction x y (payoff g choices player).num (payoff g choices player).den
-      (value_is_fraction g.tree x hx) (value_is_fraction g.tree y hy) ex.right ex.crosswise
-      ey.crosswise
+  one_value x y hx hy = grind (arith, value_is_payoff, one_fraction, value_is_fraction)

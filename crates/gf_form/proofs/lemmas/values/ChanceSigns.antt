@@ -23,10 +23,9 @@ HasSign a = Each IsNotNegative a.probability
 lottery_signs : (actions : List Action) (ps : List Ratio) (sum : Ratio)
     → map (λ a. a.probability) actions ≡ map Some ps → AddToOne sum ps
     → AllByRecursion HasSign actions
-lottery_signs [] ps sum e adds = tt
-lottery_signs (a ∷ actions) [] sum e adds = grind arith
 lottery_signs (a ∷ actions) (p ∷ ps) sum e adds =
     grind (arith, lottery_signs actions ps adds.1.0 (ap (drop 1) e) adds.1.2, ints)
+lottery_signs actions ps sum e adds = grind arith
 
 size_is : (z : ℤ) → pos 0 ≤ℤ z → z ≡ pos (unsigned_abs z)
 size_is z h = omega (arith, ints, h)

@@ -56,9 +56,7 @@ module _ (choices : SetKey → ℕ) where
     none_later : (k : ℕ) (ts : Trees Node) → choices key < k → followed n k ts ≡ []
     none_later k none less = refl
     none_later k (more t ts) less =
-        let differs : ¬ (choices key ≡ k) = λ same. omega arith in
-        parts n k t ts ∙ (λ i. followed_other choices n k (is_other k differs) (plays t) i
-        ++ none_later (k + 1) ts (omega arith) i)
+        grind (arith, parts, followed_other, is_other, none_later (k + 1) ts (omega arith))
 
     pub only_this : (k : ℕ) (t : Tree Node) (ts : Trees Node) → choices key ≡ k
         → followed n k (more t ts) ≡ map (from_node n k) (followed_in t)

@@ -70,10 +70,7 @@ module _ (g : Game) (game : IsGame g) (spellable : IsSpellable g) where
   -- the actions of a set are those of its player
   sets_have : (key : SetKey)
       → Each (λ set. AreActions key.player set.actions × (0 < length set.actions)) (set_at g key)
-  sets_have key =
-      each_weaker (IsSet (length g.players) key)
-      (λ set. AreActions key.player set.actions × (0 < length set.actions)) (set_at g key)
-      (λ set is. (is.actions, is.some_action)) (each_set g game key)
+  sets_have key = grind (arith, each_set g game key)
 
   -- what is so of each set is so of this one
   pub actions_at : (key : SetKey) (set : InformationSet) → set_at g key ≡ Some set

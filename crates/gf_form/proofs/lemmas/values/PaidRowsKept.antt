@@ -67,15 +67,13 @@ row_of_outcome g game spellable number outcome e = record {
 
 snoc_before : {A : Type 0} (xs : List A) (x : A) (k : ℕ) → k < length xs
     → slice_get (xs ++ x ∷ []) k ≡ slice_get xs k
-snoc_before [] x k h = absurd (omega (arith, h))
-snoc_before (y ∷ xs) x zero h = refl
 snoc_before (y ∷ xs) x (suc k) h = snoc_before xs x k (omega (arith, h))
+snoc_before xs x k h = grind arith
 
 snoc_last : {A : Type 0} (xs : List A) (x : A) (k : ℕ) → k ≡ length xs
     → slice_get (xs ++ x ∷ []) k ≡ Some x
-snoc_last [] x k h = grind arith
-snoc_last (y ∷ xs) x zero h = absurd (omega (arith, h))
 snoc_last (y ∷ xs) x (suc k) h = snoc_last xs x k (omega (arith, h))
+snoc_last xs x k h = grind arith
 
 -- the row at a position is that of the outcome there
 pub record IsPaidAt (g : Game) (row : List Ratio) (position : ℕ) : Type 0 where
@@ -134,3 +132,5 @@ all_rows g rows are = record {
       | inl more ↦ past position more
       | inr within ↦ are.each position within
     ]
+
+pub ruleset row_steps = (row_there, no_row)

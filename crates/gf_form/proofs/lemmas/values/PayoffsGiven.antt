@@ -2,6 +2,7 @@
 use Rattle.std.proofs.Common.{get_or, ◌≡◌, ℕ, zero, suc, ◌+◌, ◌<◌, List, [], ◌∷◌, Some, None}
 use Rattle.std.proofs.Common.{length, sym, subst, ◌∙◌, arith}
 use Rattle.std.specs.List.{AllByRecursion, AllZip}
+use Rattle.std.proofs.lemmas.List.{length-map}
 use Rattle.gf_fraction.specs.Ratio.{Ratio, IsFraction}
 use Rattle.gf_fraction.specs.Rational.{IsEqual, zero_ratio}
 use Rattle.gf_nfg.specs.Profiles.{numbers_from, positions}
@@ -45,11 +46,9 @@ all_in_turn P (suc n) first h =
 
 one_in_turn : (P : ℕ → Type 0) (n first k : ℕ) → AllByRecursion P (numbers_from first n) → k < n
     → P (first + k)
-one_in_turn P zero first k h less = absurd (omega (arith, less))
-one_in_turn P (suc n) first zero h less = grind arith
 one_in_turn P (suc n) first (suc k) h less =
-    let next : first + 1 + k ≡ first + suc k = omega arith in
-    subst P next (one_in_turn P n (first + 1) k h.1 (omega (arith, less)))
+    grind (arith, one_in_turn P n (first + 1) k h.1 (omega (arith, less)))
+one_in_turn P n first k h less = grind arith
 
 -- ---- values and payoffs
 
@@ -63,10 +62,7 @@ module _ (g : Game) (game : IsGame g) (spellable : IsSpellable g) (choices : Set
 
   has_value : (row : List Ratio) → AreValues row → (k : ℕ) → k < length g.players
       → IsValue g choices (1 + k) g.tree (at_place row k)
-  has_value row h k less =
-      let next : suc k ≡ 1 + k = omega arith in
-      subst (λ (player : ℕ). IsValue g choices player g.tree (at_place row k)) next
-      (computed_value g spellable choices (suc k) g.tree (at_place row k) (h k less)).0
+  has_value row h k less = grind (arith, computed_value)
 
   pub are_payoffs : (row : List Ratio) → length row ≡ length g.players
       → AllByRecursion IsFraction row → AreValues row → ArePayoffs g choices row
@@ -94,3 +90,5 @@ module _ (g : Game) (game : IsGame g) (spellable : IsSpellable g) (choices : Set
       let is = subst (λ (player : ℕ). IsValue g choices player g.tree v.0) next v.1 in
       let some = (value_computed g spellable choices (suc k) g.tree v.0 is).0 in
       let both : None ≡ Some v.0 = sym none ∙ some in cc
+
+pub ruleset payoff_steps = (are_payoffs, lacks_value, length-map)

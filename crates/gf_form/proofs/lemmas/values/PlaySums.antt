@@ -38,16 +38,12 @@ module _ (choices : SetKey → ℕ) (n : Node) (k : ℕ) where
       → filter (follows choices) (map (from_node n k) ps)
       ≡ map (from_node n k) (filter (follows choices) ps)
   followed_chosen e [] = refl
-  followed_chosen e (p ∷ ps) = kept (is_chosen choices (record { node = n; taken = k }))
-      (follows choices p) p (filter (follows choices) (map (from_node n k) ps))
-      (filter (follows choices) ps) e (followed_chosen e ps)
+  followed_chosen e (p ∷ ps) = grind (arith, kept, followed_chosen e ps)
 
   pub followed_other : is_chosen choices (record { node = n; taken = k }) ≡ false → (ps : List Play)
       → filter (follows choices) (map (from_node n k) ps) ≡ []
   followed_other e [] = refl
-  followed_other e (p ∷ ps) =
-      dropped (is_chosen choices (record { node = n; taken = k })) (follows choices p)
-      (from_node n k p) (filter (follows choices) (map (from_node n k) ps)) e (followed_other e ps)
+  followed_other e (p ∷ ps) = grind (arith, dropped, followed_other e ps)
 
 module _ (g : Game) (spellable : IsSpellable g) where
   abbrev pub weight : List Play → Ratio
@@ -78,9 +74,7 @@ module _ (g : Game) (spellable : IsSpellable g) (player : ℕ) where
   worth ps = total (map (λ play. times (play_probability g play) (play_payoff g player play)) ps)
 
   pub all_worth_above : (ps : List Play) → IsAbove (worth ps)
-  all_worth_above ps =
-      total_above (λ play. times (play_probability g play) (play_payoff g player play))
-      (worth_above g spellable player) ps
+  all_worth_above ps = grind (arith, total_above, worth_above)
 
   module _ (n : Node) (k : ℕ) where
     abbrev r : Ratio

@@ -133,12 +133,6 @@ abbrev pub IsDefined : Option Ratio → Type 0
 IsDefined None = ⊥
 IsDefined (Some r) = Unit {0}
 
-plus_defined : (x y : Option Ratio) → IsDefined (plus_of x y) → IsDefined x × IsDefined y
-plus_defined x y h = grind arith
-
-times_defined : (p : Ratio) (x : Option Ratio) → IsDefined (times_of p x) → IsDefined x
-times_defined p x h = grind arith
-
 -- if a value is left, all values on the stack were defined
 defined : (g : Game) (player : ℕ) (ops : List Op) (st : List (Option Ratio)) (r : Ratio)
     → run g player ops st ≡ Some r ∷ [] → AllByRecursion IsDefined st
@@ -150,13 +144,10 @@ defined g player (Nothing ∷ ops) st r h = (defined g player ops (None ∷ st) 
 defined g player (Weigh p ∷ ops) [] r h = absurd cc
 defined g player (Weigh p ∷ ops) (x ∷ []) r h = absurd cc
 defined g player (Weigh p ∷ ops) (x ∷ sum ∷ st) r h =
-    let later = defined g player ops (plus_of sum (times_of p x) ∷ st) r h in
-    let both = plus_defined sum (times_of p x) later.0 in
-    (times_defined p x both.1, (both.0, later.1))
+    grind (arith, defined g player ops (plus_of sum (times_of p x) ∷ st) r h)
 defined g player (Pay position ∷ ops) [] r h = absurd cc
 defined g player (Pay position ∷ ops) (x ∷ st) r h =
-    let later = defined g player ops (plus_of (Some (paid g player position)) x ∷ st) r h in
-    ((plus_defined (Some (paid g player position)) x later.0).1, later.1)
+    grind (arith, defined g player ops (plus_of (Some (paid g player position)) x ∷ st) r h)
 
 pub stays_undefined : (g : Game) (player : ℕ) (ops : List Op) (st : List (Option Ratio))
     (v : Option Ratio) → run g player ops (None ∷ st) ≡ v ∷ [] → v ≡ None

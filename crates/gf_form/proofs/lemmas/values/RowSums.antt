@@ -6,6 +6,7 @@ use Rattle.std.specs.List.{AllByRecursion}
 use Rattle.std.proofs.Math.ListN.{set, length-set}
 use Rattle.std.proofs.lemmas.Bool.{cases_lt, eqb-true}
 use Rattle.std.proofs.lemmas.List.{get_or_default, get_or_past, get_or-set_other, get_or-set_same}
+use Rattle.std.proofs.lemmas.Int.{fits_signed_from_abs, to_z-of_z}
 use Rattle.std.specs.Prelude.{◌==◌}
 use Rattle.gf_fraction.specs.Fits.{IsProduct, IsSum, ProductFits, SumFits}
 use Rattle.gf_fraction.specs.Computed.{sum_of}
@@ -28,9 +29,8 @@ fraction_at (x ∷ row) (suc k) h = fraction_at row k h.1
 
 all_set : (row : List Ratio) (i : ℕ) (x : Ratio) → AllByRecursion IsFraction row → IsFraction x
     → AllByRecursion IsFraction (set row i x)
-all_set [] i x h f = grind arith
-all_set (y ∷ row) zero x h f = (f, h.1)
 all_set (y ∷ row) (suc i) x h f = (h.0, all_set row i x h.1 f)
+all_set row i x h f = grind arith
 
 -- ---- rows that are added so far
 
@@ -77,9 +77,8 @@ place_is row i x h e = get_or_default row i zero_ratio x h ∙ sym e
 
 pub read_again : (row : List Ratio) (i : ℕ)
     → at_place row i ≡ get_or row i (at_place row i)
-read_again [] i = grind arith
-read_again (x ∷ row) zero = refl
 read_again (x ∷ row) (suc i) = read_again row i
+read_again row i = grind arith
 
 read_fraction : (row : List Ratio) (i : ℕ) (x : Ratio) → AllByRecursion IsFraction row
     → i < length row → x ≡ get_or row i x → IsFraction x
@@ -137,9 +136,7 @@ module _ (chance : Ratio) (sum row : List Ratio) (i : ℕ) (s x : Ratio)
 
   pub not_paid : (old : Ratio) → at_place sum i ≡ old → ¬ (SumFits x s)
       → plus_of (Some (at_place row i)) (Some old) ≡ None
-  not_paid old same none =
-      (λ j. sum_of (there j) ((sym same ∙ here) j))
-      ∙ sum_of-none x s x_fraction s_fraction none
+  not_paid old same none = grind (arith, there, here, sum_of-none, x_fraction, s_fraction)
 
   pub is_paid : (t : Ratio) → SumFits x s → IsFraction t × IsSum t x s
       → plus_of (Some (at_place row i)) (Some (at_place sum i)) ≡ Some t
@@ -174,3 +171,15 @@ pub nothing_paid : (row payoffs : List Ratio) → AllByRecursion IsFraction row
     → sum_of (at_place payoffs k) (at_place row k) ≡ Some (at_place row k)
 nothing_paid row payoffs f h k =
     cc (empty_row payoffs h k, zero_plus (at_place row k) (fraction_at row k f))
+
+-- ---- what the steps of the code need
+
+pub ruleset weigh_steps = (
+  nothing_weighed,
+  to_z-of_z,
+  fits_signed_from_abs,
+  empty_row,
+  not_multiplied,
+  read_again,
+  not_weighed,
+)

@@ -4,6 +4,8 @@ use Rattle.std.proofs.Common.{Global, refl, sym, ap, subst, arith, ◌+◌, ◌�
 use Rattle.std.specs.Prelude.{Err, IsErrOf, option_to_list}
 use Rattle.std.specs.List.{AllByRecursion}
 use Rattle.std.proofs.lemmas.List.{map-append}
+use Rattle.std.proofs.lemmas.Result.{on_ok_weaker}
+use Rattle.gf_form.proofs.lemmas.values.ProgramRuns.{stays_undefined}
 use Rattle.gf_fraction.specs.Ratio.{IsFraction, Ratio}
 use Rattle.gf_fraction.specs.Rational.{zero_ratio}
 use Rattle.gf_fraction.proofs.AllElements.{all_parts}
@@ -111,9 +113,7 @@ pub nothing_pays : (players k : ℕ) (rows : List (List Ratio)) (payoffs : List 
     → 1 ≤ length rows → AreRows players rows → length payoffs ≡ 0
     → PaysTo (at_place payoffs k) (column k rows) (column k rows)
 nothing_pays players k rows [] some h none =
-    subst (λ (payoff : Ratio). PaysTo payoff (column k rows) (column k rows)) (sym (empty_at k))
-    (zero_pays (column k rows) (omega (arith, some, counted k rows))
-    (some_fractions players k rows [] h tt))
+    grind (arith, empty_at, zero_pays, counted, some_fractions)
 nothing_pays players k rows (x ∷ payoffs) some h none = absurd (omega (arith, none))
 
 -- ---- the operands of an operation
@@ -148,3 +148,5 @@ begin_runs g k ops old new n = cc (empty_at k, n, column_last k old [] [])
 
 pub same_fault : {T U E : Type 0} (x y : E) → IsErrOf {T = T} (Err x) y → IsErrOf {T = U} (Err x) y
 same_fault x y h = let same : x ≡ y = cc in ap Err same
+
+pub ruleset step_runs = (on_ok_weaker, push_runs, begin_runs, stays_undefined)

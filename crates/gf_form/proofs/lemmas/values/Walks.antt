@@ -44,10 +44,8 @@ module _ (g : Game) (choices : SetKey → ℕ) where
 
   child_list : (ts : Trees Node) (position : ℕ)
       → child_code g choices position ts ≡ option_code g choices (at_position (list_of ts) position)
-  child_list none position = grind arith
-  child_list (more t ts) zero = refl
-  child_list (more t ts) (suc zero) = refl
   child_list (more t ts) (suc (suc position)) = child_list ts (suc position)
+  child_list ts position = grind arith
 
   over_some : (own : ℕ) (o : Option SetKey) (below : SetKey → List Op) (key : SetKey)
       → o ≡ Some key → code_over own o below ≡ below key ++ Pay own ∷ []
@@ -75,14 +73,6 @@ opened_last all (p ∷ os) o ops = opened_last all os o (open_code all p ++ ops)
 
 -- ---- the children that are left
 
-pub next_of : (all : List (List ℕ)) (g g' h : Game) (chances : ℕ → Ratio) (k k' : ℕ)
-    (ts ts' : List (Tree Node)) (t : Tree Node) (own : ℕ) (behind : List Op)
-    → ts ≡ t ∷ ts' → g' ≡ g → h ≡ g → k' ≡ k + 1
-    → (list_code g (choices_by g all) chances (k + 1) ts ++ Pay own ∷ []) ++ behind
-    ≡ code h (choices_by h all) t ++ (Weigh (chances k')
-    ∷ ((list_code g' (choices_by g' all) chances (k' + 1) ts' ++ Pay own ∷ []) ++ behind))
-next_of all g g' h chances k k' ts ts' t own behind e f i j = grind (arith, append_assoc)
-
 pub first_of : (all : List (List ℕ)) (g g' : Game) (chances : ℕ → Ratio) (k : ℕ)
     (ts ts' : List (Tree Node)) → g' ≡ g → ts' ≡ ts → k ≡ 0
     → list_code g (choices_by g all) chances 1 ts
@@ -94,22 +84,16 @@ first_of all g g' chances k ts ts' e f h = rw (e, f, h) refl
 pub choice_there : (keys : List SetKey) (strategy : List ℕ) (position : ℕ) (key : SetKey)
     → AreDistinct keys → at_position keys position ≡ Some key
     → choice_at keys strategy key ≡ unwrap_or (at_position strategy position) 0
-choice_there keys strategy zero key d h = absurd cc
-choice_there [] strategy (suc k) key d h = absurd cc
-choice_there (s ∷ keys) [] (suc k) key d h = refl
-choice_there (s ∷ keys) (action ∷ others) (suc zero) key d h = grind arith
 choice_there (s ∷ keys) (action ∷ others) (suc (suc k)) key d h =
-    let other : same_set s key ≡ false = false_from_ne_true (same_set s key)
-    (λ t. d.0 (subst (Has keys) (sym ((same_set_equality s key).0 t)) (has_at keys k key h))) in
-    rw other (choice_there keys others (suc k) key d.1 h)
+    let later = choice_there keys others (suc k) key d.1 h in
+    grind (arith, same_set_equality s key, has_at keys k key h, later)
+choice_there keys others k key d h = grind arith
 
 pub choice_is : (g : Game) (all : List (List ℕ)) (player position : ℕ) (key : SetKey) → IsGame g
     → key.player ≡ player → at_position (player_keys g player) position ≡ Some key
     → choices_by g all key ≡ unwrap_or (at_position (strategy_at all player) position) 0
 choice_is g all player position key game his at =
-    let distinct = subst AreDistinct (sym (sets_by_first_use g player game)) (first_uses_distinct
-    same_set same_set_equality (sets_of player (used_sets g.tree))) in
-    cc (his, choice_there (player_keys g player) (strategy_at all player) position key distinct at)
+    grind (arith, sets_by_first_use, first_uses_distinct, same_set_equality, choice_there)
 
 -- ---- the probability of an action
 
@@ -135,7 +119,7 @@ no_action held position some past = grind (arith, at_index, slice_get-map, slice
 
 pub no_strategy : (choices : List (Vec ℕ Global)) (player position : ℕ) → ¬ (player ≡ 0)
     → length choices ≤ player - 1
-    → 0 ≡ unwrap_or (at_position (strategy_at (map (λ own. own.items) choices) player) position) 0
+    → unwrap_or (at_position (strategy_at (map (λ own. own.items) choices) player) position) 0 ≡ 0
 no_strategy choices player position some past =
     grind (arith, at_index, slice_get_past, append_assoc, length-map, length-append, eq-eqb)
 
@@ -158,7 +142,7 @@ pub nothing_there : (choices : List (Vec ℕ Global)) (player position : ℕ) (o
     (items : List ℕ) → ¬ (player ≡ 0) → ¬ (position ≡ 0)
     → player - 1 < length choices → own ≡ get_or choices (player - 1) own → items ≡ own.items
     → length items ≤ position - 1
-    → 0 ≡ unwrap_or (at_position (strategy_at (map (λ own. own.items) choices) player) position) 0
+    → unwrap_or (at_position (strategy_at (map (λ own. own.items) choices) player) position) 0 ≡ 0
 nothing_there choices player position own items some at within is are past =
     grind (arith, strategy_there, are, at_index, slice_get_past)
 
@@ -182,11 +166,17 @@ listed_smaller : (ts : Trees Node) (k : ℕ) (t : Tree Node) → slice_get (list
     → length (flatten t) < suc (length (flatten_all ts))
 listed_smaller none k t h = absurd cc
 listed_smaller (more u ts) zero t h = grind (arith, length-append (flatten u) (flatten_all ts))
-listed_smaller (more u ts) (suc k) t h =
-    let less = listed_smaller ts k t h in
-    omega (arith, less, length-append (flatten u) (flatten_all ts))
+listed_smaller (more u ts) (suc k) t h = grind (arith, length-append, listed_smaller ts k t h)
 
 pub child_smaller : (t child : Tree Node) (position : ℕ)
     → at_position (child_trees t) position ≡ Some child
     → length (flatten child) < length (flatten t)
 child_smaller (branch n ts) child position h = grind (arith, listed_smaller)
+
+-- ---- what the steps of the code need
+
+pub ruleset choice_steps = (no_strategy, action_there, nothing_there)
+
+pub ruleset walk_steps = (opened_last, followed, not_followed, child_smaller)
+
+pub ruleset chance_steps = (chance_is, held_action, no_action)

@@ -180,10 +180,7 @@ module _ (g : Game) (game : IsGame g) (spellable : IsSpellable g) (choices : Set
   pub some_play_in : HasActions g choices → (t : Tree Node)
       → AllByRecursion (HasChildren g) (flatten t)
       → (play : Play) × Has (plays t) play × (follows choices play ≡ true)
-  some_play_in actions t children =
-      let one = first_of (followed_in choices t) (tree_whole actions t children) in
-      let there = of_filter (follows choices) (plays t) one.0 one.1 in
-      (one.0, there.0, there.1)
+  some_play_in actions t children = grind (arith, first_of, followed_in, tree_whole, of_filter)
 
   pub some_play : HasActions g choices
       → (play : Play) × Contains (plays g.tree) play × (follows choices play ≡ true)

@@ -1,10 +1,10 @@
-use Rattle.std.proofs.Common.{◌≡◌, ◌<◌, ◌≤◌, ◌*◌, ◌^◌, ◌∷◌, ◌∙◌, ℕ, List, [], Vec, Global}
-use Rattle.std.proofs.Common.{ap, arith, get_or, length, map, refl, subst, sym}
+use Rattle.std.proofs.Common.{◌≡◌, ◌<◌, ◌*◌, ◌∷◌, ◌∙◌, ℕ, List, [], Vec, Global}
+use Rattle.std.proofs.Common.{ap, arith, get_or, length, map, refl, sym}
 use Rattle.std.proofs.lemmas.List.{length-map, map-append}
 use Rattle.gf_nfg.specs.Profiles.{product}
 use Rattle.gf_form.specs.inner.rows.DigitSteps.{all_steps, steps_behind, width}
 use Rattle.gf_form.proofs.lemmas.strategies.CountsGiven.{actions_in, own_read}
-use Rattle.gf_form.proofs.lemmas.rows.DigitsMade.{all_player_steps, all_player_values, player_steps}
+use Rattle.gf_form.proofs.lemmas.rows.DigitsMade.{player_steps}
 use Rattle.gf_form.proofs.lemmas.rows.DigitsMade.{player_values}
 use Rattle.gf_form.proofs.rows.digits.steps_of_all.Goals as goal
 
@@ -39,23 +39,4 @@ loop-own-preserved c =
       player_values (actions_in counts) i values c.in-Some.more
           (product (map width (actions_in counts))) own inside is more_is c.loop-own.invariant.1,
       c.in-Some.ensures.1,
-    )
-
-pub returns : goal.returns
-returns c =
-    let counts = c.args.counts.now in
-    let past : length (actions_in counts) ≤ c.loop-own.own-index =
-    omega (
-      arith,
-      c.loop-own-test.false,
-      ap length c.deref-own-items.ensures.value,
-      length-map counts.actions.items (λ (own : Vec ℕ Global). own.items),
-    ) in (
-      all_player_steps (actions_in counts) c.loop-own.own-index c.loop-own.values
-          (map (λ (own : Vec ℕ Global). own.items) c.loop-own.steps.items)
-          (all_steps 1 (actions_in counts)) past c.loop-own.invariant.0,
-      subst (λ (n : ℕ). n < 2 ^ 64)
-          (all_player_values (actions_in counts) c.loop-own.own-index c.loop-own.values
-          (product (map width (actions_in counts))) past c.loop-own.invariant.1)
-          c.loop-own.invariant.2,
     )

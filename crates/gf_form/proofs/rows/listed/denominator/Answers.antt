@@ -1,11 +1,8 @@
-use Rattle.std.proofs.Common.{subst, sym, ℕ}
-use Rattle.std.specs.Int.{◌∣◌}
 use Rattle.std.proofs.Math.Nat.{dvd-mul_right}
 use Rattle.std.proofs.lemmas.Nat.Gcd.{dvd_trans}
 use Rattle.gf_form.proofs.rows.listed.denominator.Goals as goal
 
 pub returns-in-Some-checked_mul : goal.returns-in-Some-checked_mul
 returns-in-Some-checked_mul c =
-    dvd_trans c.args.path.den
-    (subst (λ (n : ℕ). c.args.path.den ∣ n) (sym c.in-Some-checked_mul.ensures.1)
+    dvd_trans c.args.path.den (rw c.in-Some-checked_mul.ensures.1
     (dvd-mul_right c.args.path.den c.loop-payoff.least)) c.served.ensures

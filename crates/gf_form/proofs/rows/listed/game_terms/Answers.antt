@@ -1,5 +1,4 @@
 use Rattle.std.proofs.Common.{◌∙◌, ℕ, List, ap, length, map, subst, sym}
-use Rattle.std.specs.List.Sorted.{IsNonDecreasingBy}
 use Rattle.std.proofs.lemmas.List.{length-map}
 use Rattle.std.proofs.lemmas.Result.{IfOk-weaker}
 use Rattle.gf_token.specs.Label.{label_of}
@@ -14,10 +13,7 @@ use Rattle.gf_form.specs.declared.rows.paths.Reached.{Reached}
 use Rattle.gf_form.specs.declared.rows.terms.Terms.{Terms}
 use Rattle.gf_form.proofs.lemmas.rows.SummedNodes.{demands_of, terms_of_sums}
 use Rattle.gf_form.proofs.rows.listed.game_terms.Goals as goal
-
-pub listed-requires : goal.listed-requires
-listed-requires c =
-    subst (IsNonDecreasingBy demands_of) (sym c.deref.ensures.value) c.in_ok-nodes.ensures.ordered
+use Rattle.std.proofs.Common.{arith}
 
 pub returns-clause-terms : goal.returns-clause-terms
 returns-clause-terms c =

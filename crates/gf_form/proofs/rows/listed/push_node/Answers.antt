@@ -1,6 +1,6 @@
-use Rattle.std.proofs.Common.{◌≡◌, ◌∙◌, ◌*◌, ◌<◌, ◌∷◌, ◌++◌, [], ℕ, ℤ, ap, arith, get_or, length}
+use Rattle.std.proofs.Common.{◌≡◌, ◌∙◌, ◌<◌, ◌∷◌, ◌++◌, [], ℕ, ℤ, ap, arith, get_or}
 use Rattle.std.proofs.Common.{◌/◌, refl, subst}
-use Rattle.std.proofs.Common.{lit<, of_z, pos, sym, to_z, Vec, Global}
+use Rattle.std.proofs.Common.{lit<, of_z, pos, to_z, Vec, Global}
 use Rattle.std.specs.Int.{w128}
 use Rattle.std.proofs.Math.Nat.{pos_of_dvd_of_pos}
 use Rattle.std.proofs.lemmas.Int.{fits_signed_from_abs, to_z-of_z}
@@ -21,42 +21,30 @@ in_bits : (z : ℤ) → IsWithin z → to_z w128 (of_z w128 z) ≡ z
 in_bits z small = to_z-of_z w128 z (fits_signed_from_abs w128 z small)
 
 pub nonzero_div-times : goal.nonzero_div-times
-nonzero_div-times c =
-    let some =
-    pos_of_dvd_of_pos c.denominator-den.ensures (omega (arith, c.if-den-eq0.false)) in
-    omega (arith, some)
+nonzero_div-times c = grind (arith, pos_of_dvd_of_pos)
 
 pub loop-place-preserved : goal.loop-place-preserved
 loop-place-preserved c =
-    let path = c.args.node.path in
     let pays = λ (k : ℕ). at_place (row_at (rows_of c.args.payoffs.now) c.args.node.outcome) k in
-    let times = c.if-den-eq0.times in
-    let place = c.loop-place.place in
-    let size = c.loop-place.size in
-    let fits = c.loop-place.fits in
-    let old = c.args.terms.now.numbers.items in
     let now = c.loop-place.terms.numbers.items in
     let inv = c.loop-place.invariant in
     elim c.match-share_of.branch [
       | in-Some+in_ok-push w ↦
-          let share = w.in-Some.share in
           let small = w.in-Some.ensures.within in
           let is = w.in_ok-push.ensures.items
-          ∙ ap (λ (z : ℤ). now ++ z ∷ []) (in_bits share.amount small) in
-          let next = w.max-size.result in
+          ∙ ap (λ (z : ℤ). now ++ z ∷ []) (in_bits w.in-Some.share.amount small) in
           rw (w.terms-is, w.fits-is, w.size-is) (record {
-            filling = one_filled path pays times size place fits old now w.push.new.self.items
-                share.amount small is inv.filling next (omega (arith, w.max-size.ensures))
-                (is_number path c.payoff_at-payoff.result (pays place) times next share
+            filling = one_filled _ pays _ _ _ _ _ now _ _ small is inv.filling w.max-size.result
+                (omega (arith, w.max-size.ensures))
+                (is_number _ _ (pays c.loop-place.place) _ w.max-size.result _
                 c.payoff_at-payoff.ensures w.in-Some.ensures.share
                 (omega (arith, w.max-size.ensures)));
             heads = inv.heads;
             players = inv.players;
           })
       | in_default+in_ok-push-2 w ↦ rw (w.terms-is, w.fits-is, w.size-is) (record {
-        filling = none_known path pays times size place fits old now
-            w.push-in_default.new.self.items (pos 0) (lit< tt) w.in_ok-push-2.ensures.items
-            inv.filling size;
+        filling = none_known _ pays _ _ _ _ _ now _ (pos 0) (lit< tt) w.in_ok-push-2.ensures.items
+            inv.filling c.loop-place.size;
         heads = inv.heads;
         players = inv.players;
       })
@@ -107,17 +95,16 @@ returns-clause-term c =
 
 pub returns-clause-shaped : goal.returns-clause-shaped
 returns-clause-shaped c =
-    let node = c.args.node in
-    let old = c.args.terms.now in
     let inv = c.loop-place.invariant in
-    let head : Head =
-    record { demands = node.path.demands; den = c.if-fits.den; size = c.loop-place.size } in
-    let all : c.loop-place.place ≡ old.players =
-    omega (arith, c.loop-place-test.false, c.loop-place.auto.place-end) in
-    let made = is_pushed old head inv.filling.row c.push-2.new.self.items
-    c.loop-place.terms.numbers.items c.requires inv.filling.within (inv.filling.one_each ∙ all)
-    (c.in_ok-push-3.ensures.items ∙ ap (λ (v : Vec Head Global). v.items ++ head ∷ []) inv.heads)
-    inv.filling.is in record {
-      count = made.count ∙ ap (λ (n : ℕ). length c.push-2.new.self.items * n) (sym inv.players);
-      within = made.within;
-    }
+    let head : Head = record {
+      demands = c.args.node.path.demands;
+      den = c.if-fits.den;
+      size =
+          c.loop-place.size;
+    } in
+    let all : c.loop-place.place ≡ c.args.terms.now.players = omega
+    (arith, c.loop-place-test.false, c.loop-place.auto.place-end) in
+    let made = is_pushed c.args.terms.now head _ c.push-2.new.self.items _ c.requires
+    inv.filling.within (inv.filling.one_each ∙ all)
+    (cc (c.in_ok-push-3.ensures.items, inv.heads)) inv.filling.is in
+    record { count = grind (arith, made.count, inv.players); within = made.within }

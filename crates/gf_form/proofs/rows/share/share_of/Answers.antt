@@ -9,15 +9,14 @@ use Rattle.gf_form.proofs.lemmas.rows.NodeTerms.{zero_share}
 use Rattle.gf_form.proofs.rows.share.share_of.Goals as goal
 
 -- what fits 128 bits is kept
+
 in_bits : (z y : ℤ) → z ≡ y → FitsSigned w128 y → to_z w128 (of_z w128 z) ≡ y
 in_bits z y is fits = ap (λ (x : ℤ). to_z w128 (of_z w128 x)) is ∙ to_z-of_z w128 y fits
 
 pub returns-then-eq-clause-share : goal.returns-then-eq-clause-share
 returns-then-eq-clause-share c =
-    let same : c.args.payoff ≡ c.zero.result =
-    (Decides-ratio c.args.payoff c.zero.result).0 (sym c.eq.ensures ∙ c.if-eq.true) in
-    zero_share c.args.path c.args.payoff c.args.times (record { amount = pos 0; bound = 0 })
-    (same ∙ c.zero.ensures.value) refl refl
+    let same = (Decides-ratio c.args.payoff c.zero.result).0 (sym c.eq.ensures ∙ c.if-eq.true) in
+    zero_share _ _ _ _ (same ∙ c.zero.ensures.value) refl refl
 
 pub returns-clause-share : goal.returns-clause-share
 returns-clause-share c =

@@ -12,6 +12,4 @@ returns-clause-paid c = λ k.
 
 pub returns-clause-row : goal.returns-clause-row
 returns-clause-row c =
-    row_of_outcome c.args.game.now c.requires.is_game c.requires.spellable c.in-Some.number
-    (outcome_with (label_of c.in-Some-outcome.field-0-0) c.in-Some-outcome.payoffs.now)
-    (sym c.in-Some-outcome.ensures)
+    row_of_outcome _ c.requires.is_game c.requires.spellable _ _ (sym c.in-Some-outcome.ensures)

@@ -1,16 +1,15 @@
-use Rattle.std.proofs.Common.{◌≡◌, ◌+◌, ◌-◌, ◌<◌, ◌≤◌, ◌^◌, ◌∙◌, ℕ, List, []}
-use Rattle.std.proofs.Common.{Option, Some, Vec, Global, ap, arith, drop, get_or, length, map}
+use Rattle.std.proofs.Common.{◌≡◌, ◌+◌, ◌-◌, ◌<◌, ◌^◌, ◌∙◌, ℕ, List}
+use Rattle.std.proofs.Common.{Option, Some, Vec, Global, ap, arith, drop, length, map}
 use Rattle.std.proofs.Common.{subst, sym}
 use Rattle.std.specs.Prelude.{IfSome}
 use Rattle.std.proofs.lemmas.List.{length-map}
 use Rattle.gf_nfg.specs.Profiles.{product}
 use Rattle.gf_form.specs.inner.rows.DigitSteps.{all_steps, at_digits, width}
 use Rattle.gf_form.specs.declared.strategies.counts.Counts.{Counts}
-use Rattle.gf_form.specs.declared.rows.digits.Digit.{Digit}
 use Rattle.gf_form.specs.declared.rows.digits.Digits.{Digits}
 use Rattle.gf_form.proofs.lemmas.strategies.CountsGiven.{actions_in, own_read}
 use Rattle.gf_form.proofs.lemmas.rows.DigitPlaces.{steps_have_shape}
-use Rattle.gf_form.proofs.lemmas.rows.DigitsMade.{as_many_steps, digits_more, no_digits, shape_at}
+use Rattle.gf_form.proofs.lemmas.rows.DigitsMade.{as_many_steps, digits_more, shape_at}
 use Rattle.gf_form.proofs.lemmas.rows.GameDigits.{AreMade, has_digits}
 use Rattle.gf_form.proofs.rows.digits.Digits.new.Goals as goal
 
@@ -35,90 +34,51 @@ as_many counts steps h =
     ∙ as_many_steps (actions_in counts) 1
     ∙ length-map counts.actions.items (λ (own : Vec ℕ Global). own.items)
 
-pub loop-place-init : goal.loop-place-init
-loop-place-init c =
-    let counts = c.args.counts.now in
-    let past : length (actions_in counts) ≤ c.len-place.result =
-    omega (
-      arith,
-      c.len-place.ensures,
-      length-map counts.actions.items (λ (own : Vec ℕ Global). own.items),
-    ) in (
-      ap (map (λ (digit : Digit). digit.step)) c.new-digits.ensures.items
-          ∙ no_digits (actions_in counts) (steps_in c.in-Some.steps) c.len-place.result past,
-      ap (map (λ (digit : Digit). digit.actions)) c.new-digits.ensures.items
-          ∙ no_digits (actions_in counts) (actions_in counts) c.len-place.result past,
-    )
-
 pub index-requires-in-loop-place : goal.index-requires-in-loop-place
-index-requires-in-loop-place c =
-    let counts = c.args.counts.now in
-    let h = made (actions_in counts) c.in_ok-steps.field-0 c.in-Some.steps c.in_ok-steps.ensures
-    c.in-Some.is in
-    omega (
-      arith,
-      c.loop-place.auto.place,
-      c.loop-place-test.true,
-      c.len-place.ensures,
-      as_many counts c.in-Some.steps h,
-    )
+index-requires-in-loop-place c = grind (arith, made, actions_in, as_many)
 
 pub push_digits-requires : goal.push_digits-requires
 push_digits-requires c =
-    let counts = c.args.counts.now in
-    let steps = c.in-Some.steps in
+    let counts = actions_in c.args.counts.now in
     let i = c.loop-place.place - 1 in
-    let h = made (actions_in counts) c.in_ok-steps.field-0 steps c.in_ok-steps.ensures
-    c.in-Some.is in
-    let less : i < length counts.actions.items =
+    let h = made counts _ _ c.in_ok-steps.ensures c.in-Some.is in
+    let less : i < length c.args.counts.now.actions.items =
     omega (arith, c.loop-place.auto.place, c.loop-place-test.true, c.len-place.ensures) in
-    let inside : i < length steps.items = omega (arith, less, as_many counts steps h) in
-    let within : i < length (actions_in counts) =
-    omega (arith, less, length-map counts.actions.items (λ (own : Vec ℕ Global). own.items)) in
-    ap length (own_read steps.items i c.index-in-loop-place.result.now
-    c.deref-in-loop-place.result.now inside c.index-in-loop-place.ensures
-    c.deref-in-loop-place.ensures.value)
-    ∙ ap (λ (all : List (List ℕ)). length (get_or all i [])) h.0
-    ∙ shape_at (actions_in counts) (all_steps 1 (actions_in counts))
-    (steps_have_shape (actions_in counts) 1) i within
-    ∙ sym (ap length (own_read counts.actions.items i c.index.result.now c.deref.result.now less
-    c.index.ensures c.deref.ensures.value))
+    let is = own_read _ i _ _ less c.index.ensures c.deref.ensures.value in
+    let there = own_read c.in-Some.steps.items i _ _
+    (omega (arith, less, as_many c.args.counts.now c.in-Some.steps h))
+    c.index-in-loop-place.ensures c.deref-in-loop-place.ensures.value in
+    grind (
+      arith,
+      is,
+      there,
+      h.0,
+      shape_at counts (all_steps 1 counts) (steps_have_shape counts 1)
+          i,
+      length-map,
+    )
 
 pub loop-place-preserved : goal.loop-place-preserved
 loop-place-preserved c =
-    let counts = c.args.counts.now in
-    let steps = c.in-Some.steps in
-    let place = c.loop-place.place in
-    let i = place - 1 in
-    let own = c.deref.result.now in
-    let x = c.deref-in-loop-place.result.now in
-    let old = c.loop-place.digits.items in
-    let new = c.push_digits.new.digits.items in
-    let h = made (actions_in counts) c.in_ok-steps.field-0 steps c.in_ok-steps.ensures
-    c.in-Some.is in
-    let less : i < length counts.actions.items =
+    let counts = actions_in c.args.counts.now in
+    let steps = steps_in c.in-Some.steps in
+    let i = c.loop-place.place - 1 in
+    let h = made counts _ _ c.in_ok-steps.ensures c.in-Some.is in
+    let less : i < length c.args.counts.now.actions.items =
     omega (arith, c.loop-place.auto.place, c.loop-place-test.true, c.len-place.ensures) in
-    let inside : i < length steps.items = omega (arith, less, as_many counts steps h) in
-    let within : i < length (actions_in counts) =
-    omega (arith, less, length-map counts.actions.items (λ (own : Vec ℕ Global). own.items)) in
-    let behind : i < length (steps_in steps) =
-    omega (arith, inside, length-map steps.items (λ (own : Vec ℕ Global). own.items)) in
-    let is = own_read counts.actions.items i c.index.result.now own less c.index.ensures
-    c.deref.ensures.value in
-    let there = own_read steps.items i c.index-in-loop-place.result.now x inside
-    c.index-in-loop-place.ensures c.deref-in-loop-place.ensures.value in
-    let next : place ≡ i + 1 = omega (arith, c.loop-place-test.true) in (
-      digits_more (actions_in counts) (steps_in steps) i own x
-          (map (λ (digit : Digit). digit.step) old) (map (λ (digit : Digit). digit.step) new)
-          within behind is there c.in_ok-push_digits.ensures.steps
-          (c.loop-place.invariant.0
-          ∙ ap (λ (n : ℕ). at_digits (drop n (actions_in counts)) (drop n (steps_in steps))) next),
-      digits_more (actions_in counts) (actions_in counts) i own own
-          (map (λ (digit : Digit). digit.actions) old)
-          (map (λ (digit : Digit). digit.actions) new) within within is is
-          c.in_ok-push_digits.ensures.actions
-          (c.loop-place.invariant.1
-          ∙ ap (λ (n : ℕ). at_digits (drop n (actions_in counts)) (drop n (actions_in counts)))
+    let inside : i < length c.in-Some.steps.items = omega
+    (arith, less, as_many c.args.counts.now c.in-Some.steps h) in
+    let within : i < length counts = grind (arith, length-map) in
+    let is = own_read _ i _ _ less c.index.ensures c.deref.ensures.value in
+    let there = own_read _ i _ _ inside c.index-in-loop-place.ensures
+    c.deref-in-loop-place.ensures.value in
+    let next : c.loop-place.place ≡ i + 1 = omega (arith, c.loop-place-test.true) in (
+      digits_more counts steps i _ _ _ _ within (grind (arith, length-map)) is there
+          c.in_ok-push_digits.ensures.steps
+          (c.loop-place.invariant.0 ∙ ap (λ (n : ℕ). at_digits (drop n counts) (drop n steps))
+          next),
+      digits_more counts counts i _ _ _ _ within within is is c.in_ok-push_digits.ensures.actions
+          (c.loop-place.invariant.1 ∙ ap (λ (n : ℕ). at_digits (drop n counts) (drop n counts))
           next),
     )
 
