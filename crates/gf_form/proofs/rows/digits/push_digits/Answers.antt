@@ -15,18 +15,14 @@ loop-place-preserved c =
     elim c.if-actions-place-gt1.branch [
       | then-actions-place-gt1+in_ok-push w ↦ (
         picked_on _ _ c.loop-place.place _ _ (map step_in old) _ _ c.loop-place-test.true c.requires
-            refl refl
-            w.if-actions-place-gt1.true (grind (arith, map-append)) c.loop-place.invariant.0,
+            refl refl w.if-actions-place-gt1.true (grind (arith, map-append)) c.loop-place.invariant.0,
         picked_on _ _ c.loop-place.place _ _ (map actions_in old) _ _ c.loop-place-test.true refl
-            refl refl w.if-actions-place-gt1.true
-            (grind (arith, map-append)) c.loop-place.invariant.1,
+            refl refl w.if-actions-place-gt1.true (grind (arith, map-append)) c.loop-place.invariant.1,
       )
       | else-actions-place-gt1 w ↦ (
         picked_past _ _ c.loop-place.place _ _ (map step_in old) _ _ c.loop-place-test.true
-            c.requires refl refl
-            w.if-actions-place-gt1.false (grind arith) c.loop-place.invariant.0,
+            c.requires refl refl w.if-actions-place-gt1.false (grind arith) c.loop-place.invariant.0,
         picked_past _ _ c.loop-place.place _ _ (map actions_in old) _ _ c.loop-place-test.true refl
-            refl refl w.if-actions-place-gt1.false
-            (grind arith) c.loop-place.invariant.1,
+            refl refl w.if-actions-place-gt1.false (grind arith) c.loop-place.invariant.1,
       )
     ]

@@ -12,8 +12,8 @@ loop-count-preserved c faster is =
       | then-count-gt1+in_ok-push w ↦
           step_more _ faster i (get_or c.args.actions.now i 0) c.loop-count.step _
           c.loop-count.steps.items _ c.loop-count-test.true refl w.if-count-gt1.true
-          (cc (w.step-is, w.from.ensures)) (cc
-          (w.steps-is, w.in_ok-push.ensures.items, w.from.ensures)) go
+          (cc (w.step-is, w.from.ensures))
+          (cc (w.steps-is, w.in_ok-push.ensures.items, w.from.ensures)) go
       | else-count-gt1+in_ok-push-2 w ↦
           step_same _ faster i (get_or c.args.actions.now i 0) c.loop-count.step _
           c.loop-count.steps.items _ c.loop-count-test.true refl w.if-count-gt1.false w.step-is

@@ -18,7 +18,7 @@ loop-node-preserved c =
 
 pub returns-clause-terms : goal.returns-clause-terms
 returns-clause-terms c g are =
-    let all : c.loop-node.node-index ≡ length c.args.nodes.now = omega
-    (arith, c.loop-node-test.false, c.loop-node.auto.node-index-end) in
+    let all : c.loop-node.node-index ≡ length c.args.nodes.now =
+    omega (arith, c.loop-node-test.false, c.loop-node.auto.node-index-end) in
     let told = c.loop-node.invariant.listing.told g are in
     rw take-length at (rw all at told)

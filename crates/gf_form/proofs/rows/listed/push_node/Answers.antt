@@ -102,8 +102,8 @@ returns-clause-shaped c =
       size =
           c.loop-place.size;
     } in
-    let all : c.loop-place.place ≡ c.args.terms.now.players = omega
-    (arith, c.loop-place-test.false, c.loop-place.auto.place-end) in
+    let all : c.loop-place.place ≡ c.args.terms.now.players =
+    omega (arith, c.loop-place-test.false, c.loop-place.auto.place-end) in
     let made = is_pushed c.args.terms.now head _ c.push-2.new.self.items _ c.requires
     inv.filling.within (inv.filling.one_each ∙ all)
     (cc (c.in_ok-push-3.ensures.items, inv.heads)) inv.filling.is in

@@ -7,8 +7,8 @@ use Rattle.gf_form.proofs.rows.shares.add_up.Goals.{in-Some, in-None}
 
 pub loop-place-init : goal.loop-place-init
 loop-place-init c =
-    let some : nat_eq c.args.nodes.now.len 0 ≡ false = sym c.is_empty.ensures
-    ∙ c.if-is_empty.false in
+    let some : nat_eq c.args.nodes.now.len 0 ≡ false =
+    sym c.is_empty.ensures ∙ c.if-is_empty.false in
     first_adding _ c.requires (omega (arith, eqb-false _ 0 some, c.args.nodes.now.ok.0)) _
     c.index-last.ensures
 

@@ -12,8 +12,8 @@ strategy_labels-requires c = grind (arith, read_whole)
 pub loop-place-preserved : goal.loop-place-preserved
 loop-place-preserved c g counts =
     let place = c.loop-place.place in
-    let less : place < length g.players = omega
-    (arith, c.loop-place-test.true, all_counted g c.args.counts.now counts) in
+    let less : place < length g.players =
+    omega (arith, c.loop-place-test.true, all_counted g c.args.counts.now counts) in
     let own =
     read_actions g _ counts _ _ _ _
     (record {

@@ -23,6 +23,6 @@ loop-place-preserved c =
     c.write_strategy.new.strategy)
     (one_written (actions_in c.args.counts.now) _ _ c.loop-place.rest _ _
     c.write_strategy.new.strategy.items (grind (arith, length-map)) (whole ∙ ap product actions)
-    (c.in_ok-write_strategy.ensures
-    ∙ ap (λ (own : List ℕ). get_or (all_choices own) (c.loop-place.rest % c.index-whole.result.now)
-    []) actions) c.loop-place.invariant)
+    (c.in_ok-write_strategy.ensures ∙ ap (λ (own : List ℕ).
+    get_or (all_choices own) (c.loop-place.rest % c.index-whole.result.now) []) actions)
+    c.loop-place.invariant)

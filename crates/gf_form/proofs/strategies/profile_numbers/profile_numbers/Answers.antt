@@ -13,8 +13,8 @@ lists all = map (λ own. own.items) all
 pub with_player-requires-clause-own : goal.with_player-requires-clause-own
 with_player-requires-clause-own c =
     let i = c.loop-place.place - 1 in
-    let less : i < length c.args.counts.now = omega
-    (arith, c.loop-place.auto.place, c.loop-place-test.true) in
+    let less : i < length c.args.counts.now =
+    omega (arith, c.loop-place.auto.place, c.loop-place-test.true) in
     let own = own_read c.args.picked.now i _ _ (omega (arith, less, c.requires.as_many))
     c.index-picked-place.is
     c.deref.ensures.value in

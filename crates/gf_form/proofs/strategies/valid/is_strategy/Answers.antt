@@ -15,8 +15,9 @@ returns c = (λ _. grind (arith, choice_by_places, length-map), λ _. refl)
 pub returns-then-action-eq0 : goal.returns-then-action-eq0
 returns-then-action-eq0 c = (
   λ f. absurd cc,
-  λ all. let here = choice_at c.args.strategy.now _ c.loop-before.before all
-      c.loop-before-test.true in absurd (grind (arith, count_at)),
+  λ all.
+      let here = choice_at c.args.strategy.now _ c.loop-before.before all c.loop-before-test.true in
+      absurd (grind (arith, count_at)),
 )
 
 pub loop-before-preserved : goal.loop-before-preserved

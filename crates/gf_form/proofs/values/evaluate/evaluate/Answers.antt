@@ -14,13 +14,9 @@ loop-walk-init c =
     let g = c.args.game.now in
     let choices = choices_by g (map (λ own. own.items) c.args.choices.now) in (
       grind (arith, c.in_ok-clear.ensures),
-      λ k. grind (
-        arith,
-        append-nil,
-        code_runs g choices (suc k) g.tree [] [],
-        c.new-walk.ensures,
-        c.in_ok-clear.ensures,
-      ),
+      λ k.
+          let runs = code_runs g choices (suc k) g.tree [] [] in
+          grind (arith, append-nil, runs, c.new-walk.ensures, c.in_ok-clear.ensures),
       c.requires.payoffs,
     )
 

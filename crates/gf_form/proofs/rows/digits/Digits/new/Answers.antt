@@ -48,15 +48,8 @@ push_digits-requires c =
     let there = own_read c.in-Some.steps.items i _ _
     (omega (arith, less, as_many c.args.counts.now c.in-Some.steps h))
     c.index-in-loop-place.ensures c.deref-in-loop-place.ensures.value in
-    grind (
-      arith,
-      is,
-      there,
-      h.0,
-      shape_at counts (all_steps 1 counts) (steps_have_shape counts 1)
-          i,
-      length-map,
-    )
+    let shape = shape_at counts (all_steps 1 counts) (steps_have_shape counts 1) i in
+    grind (arith, is, there, h.0, shape, length-map)
 
 pub loop-place-preserved : goal.loop-place-preserved
 loop-place-preserved c =
@@ -66,8 +59,8 @@ loop-place-preserved c =
     let h = made counts _ _ c.in_ok-steps.ensures c.in-Some.is in
     let less : i < length c.args.counts.now.actions.items =
     omega (arith, c.loop-place.auto.place, c.loop-place-test.true, c.len-place.ensures) in
-    let inside : i < length c.in-Some.steps.items = omega
-    (arith, less, as_many c.args.counts.now c.in-Some.steps h) in
+    let inside : i < length c.in-Some.steps.items =
+    omega (arith, less, as_many c.args.counts.now c.in-Some.steps h) in
     let within : i < length counts = grind (arith, length-map) in
     let is = own_read _ i _ _ less c.index.ensures c.deref.ensures.value in
     let there = own_read _ i _ _ inside c.index-in-loop-place.ensures

@@ -29,32 +29,18 @@ loop-before-preserved c =
     let before = c.loop-before.before in
     let own = some_counts g (before + 1) _ _ _ c.in_ok-own.ensures c.in-Some.is in
     let less : before < length g.players = grind (arith, length-map) in
-    let inside : before < length (strategy_counts g) = omega
-    (arith, less, as_many_players g (λ player. length (strategies g player))) in
-    let there = strategies_at_place g before less in (
-      grind (
-        arith,
-        one_item_more (map (action_counts g) (players_of g))
-            (map (λ (own : Vec ℕ Global). own.items) c.loop-before.actions.items)
-            (map (λ (own : Vec ℕ Global). own.items) c.push.new.self.items) before c.in-Some.own.items
-            [],
-        of_player,
-        as_many_players,
-        map-append,
-        own.0,
-        less,
-      ),
+    let inside : before < length (strategy_counts g) =
+    omega (arith, less, as_many_players g (λ player. length (strategies g player))) in
+    let there = strategies_at_place g before less in
+    let listed = one_item_more (map (action_counts g) (players_of g))
+    (map (λ (own : Vec ℕ Global). own.items) c.loop-before.actions.items)
+    (map (λ (own : Vec ℕ Global). own.items) c.push.new.self.items) before c.in-Some.own.items [] in
+    let more = product_more (strategy_counts g) before inside in
+    let made = c.in-Some-times.ensures.0 in (
+      grind (arith, listed, of_player, as_many_players, map-append, own.0, less),
       one_item_more (strategy_counts g) _ _ before _ 0 inside (own.1 ∙ sym there)
           c.loop-before.invariant.1 c.in_ok-push-2.ensures.items,
-      cc (
-        product_more (strategy_counts g) before inside,
-        add-one before,
-        there,
-        own.1,
-        c.loop-before.invariant.2,
-        c.in-Some-times.ensures.0,
-        c.in_ok-push-2.ensures.items,
-      ),
+      cc (more, add-one before, there, own.1, c.loop-before.invariant.2, made),
     )
 
 pub returns : goal.returns

@@ -22,8 +22,8 @@ returns-in-Err-clause-overflow c h =
 
 pub returns-clause-rows : goal.returns-clause-rows
 returns-clause-rows c players are is =
-    let last = last_row players _ _ _ (popped _ _ _ _ c.pop.ensures.items c.unwrap-row.ensures)
-    are in
+    let on_top = popped _ _ _ _ c.pop.ensures.items c.unwrap-row.ensures in
+    let last = last_row players _ _ _ on_top are in
     one_more_row players _ _ _ (pushed _ _ _ c.in_ok-push.ensures.items) last.0
     (c.in_default.ensures.row players is last.1)
 

@@ -15,12 +15,8 @@ returns-else-player-eq0-clause-left c =
     let g = game_of b in
     let all = strategies_of_walk c.args.self.now in
     let m = c.in-Some.ensures.mover in
-    IfOk-weaker c.follow.result _ _ (λ op e. grind (
-      arith,
-      e,
-      code_of_player g (choices_by g all) (tree_of b) m.0 m.1,
-      m.2,
-      choice_is g all
-          c.in-Some.player c.in-Some.position m.0 c.in-Some.ensures.is_game m.2 m.3,
-    ))
+    let code = code_of_player g (choices_by g all) (tree_of b) m.0 m.1 in
+    let choice = choice_is g all c.in-Some.player c.in-Some.position m.0 c.in-Some.ensures.is_game
+    m.2 m.3 in
+    IfOk-weaker c.follow.result _ _ (λ op e. grind (arith, e, code, m.2, choice))
     c.follow.ensures.left
