@@ -1,7 +1,7 @@
 -- Games that a renumbering carries to each other have the same payoffs, bottom-up values and
 -- strategic form.
-use Rattle.std.proofs.Common.{◌≡◌, ℕ, true, List, [], ◌∷◌, Option, Some, None, arith, MatchOption}
-use Rattle.std.proofs.Common.{map, refl, ap, ◌∙◌, subst, inl, inr}
+use Rattle.std.proofs.Common.{◌≡◌, ℕ, true, List, ◌∷◌, Option, Some, None, arith, MatchOption}
+use Rattle.std.proofs.Common.{map, refl, ap, ◌∙◌, inl, inr}
 use Rattle.std.specs.Prelude.{◌↔◌, ◌==◌, ◌||◌, option_map, option_and_then, unwrap_or}
 use Rattle.std.specs.Prelude.{if◌then◌else◌}
 use Rattle.std.specs.List.{AllZip}

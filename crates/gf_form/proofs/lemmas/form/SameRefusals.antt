@@ -1,18 +1,15 @@
 -- Games that are the same have the same profiles, and no table for the same reason.
-use Rattle.std.proofs.Common.{◌≡◌, ℕ, List, length, ap, subst, arith}
+use Rattle.std.proofs.Common.{◌≡◌, ℕ, List, length, ap, arith}
 use Rattle.std.specs.Prelude.{◌↔◌}
-use Rattle.std.specs.List.{AllByRecursion}
 use Rattle.gf_fraction.proofs.AllElements.{all_weaker}
 use Rattle.gf_nfg.specs.Profiles.{positions}
 use Rattle.gf_tree.specs.Game.{Game, IsGame}
 use Rattle.gf_tree.proofs.lemmas.games.Members.{map_same}
 use Rattle.gf_tree.specs.SameGame.{SameGame}
 use Rattle.gf_tree.proofs.lemmas.games.Same.{same_back}
-use Rattle.gf_form.specs.BottomUp.{IsValue}
 use Rattle.gf_form.specs.Refusal.{HasBottomUpValue, HasTooManyProfiles, HasValues, IsFirstWithout}
 use Rattle.gf_form.specs.Refusal.{OverflowsAt}
-use Rattle.gf_form.specs.Strategies.{choices_by, full_profiles, players_of, strategies}
-use Rattle.gf_form.specs.Strategies.{strategies_at}
+use Rattle.gf_form.specs.Strategies.{full_profiles, players_of, strategies}
 use Rattle.gf_form.proofs.lemmas.form.SameForms.{same_strategies, same_strategies_at, same_values}
 
 module _ (g h : Game) (game : IsGame g) (game' : IsGame h) (same : SameGame g h) where

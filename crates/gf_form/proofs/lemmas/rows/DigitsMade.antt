@@ -5,7 +5,6 @@ use Rattle.std.proofs.Common.{arith}
 use Rattle.std.proofs.Math.ListN.{drop_of_length-le}
 use Rattle.std.proofs.Math.Nat.{mul-div_cancel_left, mul_assoc, mul_comm}
 use Rattle.std.proofs.Math.Seq.{drop-cons}
-use Rattle.std.proofs.lemmas.List.{append-nil}
 use Rattle.gf_nfg.specs.Profiles.{product}
 use Rattle.gf_form.specs.inner.rows.DigitSteps.{all_steps, at_digits, picked, steps_behind, width}
 use Rattle.gf_form.proofs.lemmas.rows.DigitPlaces.{HasShape}

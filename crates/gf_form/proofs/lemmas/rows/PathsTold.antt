@@ -14,7 +14,7 @@ use Rattle.gf_tree.specs.Subtrees.{child_trees, list_of, root_node}
 use Rattle.gf_tree.specs.declared.game.branch.Branch.{Branch}
 use Rattle.gf_form.specs.inner.rows.PathsLeft.{any_nodes, below, lot_nodes, next_nodes, open_nodes}
 use Rattle.gf_form.specs.inner.rows.PathsLeft.{nodes_beneath, option_nodes, taken}
-use Rattle.gf_form.specs.inner.rows.ReachedNodes.{by_action, by_any, by_chance, by_choice, by_lot}
+use Rattle.gf_form.specs.inner.rows.ReachedNodes.{by_action, by_any, by_choice, by_lot}
 use Rattle.gf_form.specs.inner.rows.ReachedNodes.{demanded, over_set, reached}
 use Rattle.gf_form.specs.Strategies.{choices_by}
 use Rattle.gf_form.specs.inner.values.Values.{chances_at}

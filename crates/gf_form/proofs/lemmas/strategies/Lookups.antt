@@ -1,6 +1,6 @@
 -- What is found in a list whose elements all have a property.
-use Rattle.std.proofs.Common.{◌≡◌, ℕ, zero, suc, Bool, true, false, cond, List, [], ◌∷◌, Option}
-use Rattle.std.proofs.Common.{Some, MatchOption, refl, ap, ◌∙◌, ◌≤◌, ◌-◌, ◌+◌, get_or, arith}
+use Rattle.std.proofs.Common.{◌≡◌, ℕ, suc, Bool, true, List, [], ◌∷◌, Option}
+use Rattle.std.proofs.Common.{MatchOption, ap, ◌∙◌, ◌≤◌, ◌-◌, ◌+◌, get_or, arith}
 use Rattle.std.specs.Prelude.{option_map, unwrap_or, option_and_then, slice_get, ⊤}
 use Rattle.std.specs.List.{AllByRecursion, find}
 use Rattle.std.proofs.lemmas.Option.{unwrap_or-slice_get}

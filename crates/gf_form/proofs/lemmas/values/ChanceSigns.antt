@@ -1,5 +1,5 @@
 -- No probability of a chance move is negative.
-use Rattle.std.proofs.Common.{◌≡◌, ℕ, ℤ, pos, List, [], ◌∷◌, length, map, Option, Some, ap, drop}
+use Rattle.std.proofs.Common.{◌≡◌, ℕ, ℤ, pos, List, ◌∷◌, length, map, Option, Some, ap, drop}
 use Rattle.std.proofs.Common.{sym, subst, arith}
 use Rattle.std.specs.Prelude.{◌≤ℤ◌, option_and_then, unsigned_abs}
 use Rattle.std.specs.List.{AllByRecursion}

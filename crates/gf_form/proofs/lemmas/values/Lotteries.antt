@@ -11,12 +11,12 @@ use Rattle.gf_fraction.proofs.Rationals.{plus_zero, plus_assoc, IsAbove, plus_ab
 use Rattle.gf_fraction.proofs.Chains.{◌then◌, plus_left}
 use Rattle.gf_token.specs.Positions.{at_position}
 use Rattle.gf_nfg.specs.Profiles.{numbers_from}
-use Rattle.gf_tree.specs.Description.{Action, SetKey, InformationSet, AddToOne, AreActions, IsSet}
+use Rattle.gf_tree.specs.Description.{Action, SetKey, InformationSet, AddToOne, AreActions}
 use Rattle.gf_tree.specs.Game.{Node, Game, IsGame, set_at}
 use Rattle.gf_tree.specs.Spellable.{IsSpellable}
 use Rattle.gf_form.specs.Payoff.{action_at, probability}
 use Rattle.gf_form.proofs.lemmas.values.Denominators.{probability_above}
-use Rattle.gf_form.proofs.lemmas.strategies.Lookups.{Each, each_at, each_weaker, next_position}
+use Rattle.gf_form.proofs.lemmas.strategies.Lookups.{Each, each_at, next_position}
 use Rattle.gf_form.proofs.lemmas.strategies.KnownSets.{each_set}
 
 total_list : (ps : List Ratio) → AllByRecursion IsAbove ps → IsAbove (total ps)

@@ -1,6 +1,6 @@
 -- The rows of payoffs that are kept, each at its position.
 use Rattle.std.proofs.Common.{◌≡◌, ℕ, zero, suc, ◌+◌, ◌-◌, ◌<◌, ◌≤◌, true, List, [], ◌∷◌, ◌++◌}
-use Rattle.std.proofs.Common.{length, map, get_or, slice_get, inl, inr, subst, Some, Bor, refl, sym}
+use Rattle.std.proofs.Common.{length, map, get_or, slice_get, inl, inr, subst, Some, Bor, sym}
 use Rattle.std.proofs.Common.{arith}
 use Rattle.std.specs.Prelude.{◌==◌, unwrap_or}
 use Rattle.std.specs.List.{AllByRecursion, find}

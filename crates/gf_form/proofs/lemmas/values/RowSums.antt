@@ -1,6 +1,6 @@
 -- Rows that are added up, number by number.
 use Rattle.std.proofs.Common.{◌≡◌, ℕ, zero, suc, ◌+◌, ◌<◌, ◌≤◌, List, [], ◌∷◌, Option, Some, None}
-use Rattle.std.proofs.Common.{length, get_or, refl, sym, ap, subst, ◌∙◌, arith, ◌⊎◌, inl, inr, pos}
+use Rattle.std.proofs.Common.{length, get_or, sym, ap, subst, ◌∙◌, arith, ◌⊎◌, inl, inr, pos}
 use Rattle.std.proofs.Common.{true}
 use Rattle.std.specs.List.{AllByRecursion}
 use Rattle.std.proofs.Math.ListN.{set, length-set}

@@ -1,6 +1,6 @@
 -- Rows that are put onto a stack and taken from it.
 use Rattle.std.proofs.Common.{◌≡◌, ℕ, ◌<◌, List, [], ◌∷◌, ◌++◌, length, map, Option, Some, Vec}
-use Rattle.std.proofs.Common.{Global, refl, sym, ap, subst, arith, ◌+◌, ◌≤◌, suc}
+use Rattle.std.proofs.Common.{Global, refl, ap, subst, arith, ◌+◌, ◌≤◌, suc}
 use Rattle.std.specs.Prelude.{Err, IsErrOf, option_to_list}
 use Rattle.std.specs.List.{AllByRecursion}
 use Rattle.std.proofs.lemmas.List.{map-append}

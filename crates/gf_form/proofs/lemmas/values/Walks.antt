@@ -1,7 +1,7 @@
 -- The operations of a tree, given by a walk through its branches.
-use Rattle.std.proofs.Common.{◌≡◌, ℕ, zero, suc, ◌+◌, ◌-◌, ◌<◌, false, List, [], ◌∷◌, ◌++◌, length}
+use Rattle.std.proofs.Common.{◌≡◌, ℕ, zero, suc, ◌+◌, ◌-◌, ◌<◌, List, [], ◌∷◌, ◌++◌, length}
 use Rattle.std.proofs.Common.{map, slice_get, Option, Some, None, MatchOption, option_map, refl}
-use Rattle.std.proofs.Common.{sym, subst, append_assoc, arith, ◌≤◌, get_or, Vec, Global}
+use Rattle.std.proofs.Common.{append_assoc, arith, ◌≤◌, get_or, Vec, Global}
 use Rattle.std.specs.Prelude.{option_and_then, unwrap_or}
 use Rattle.std.proofs.lemmas.Bool.{eq-eqb, false_from_ne_true}
 use Rattle.std.proofs.lemmas.List.{length-append, length-map}
@@ -15,22 +15,21 @@ use Rattle.gf_token.specs.Positions.{at_position}
 use Rattle.gf_tree.specs.Tree.{Tree, Trees}
 use Rattle.gf_tree.specs.Tree.Tree.{branch}
 use Rattle.gf_tree.specs.Tree.Trees.{none, more}
-use Rattle.gf_tree.specs.Description.{Action, SetKey, same_set}
-use Rattle.gf_tree.specs.FirstUse.{player_keys, sets_of}
-use Rattle.gf_tree.specs.Game.{Game, IsGame, Node, set_at, used_sets}
+use Rattle.gf_tree.specs.Description.{Action, SetKey}
+use Rattle.gf_tree.specs.FirstUse.{player_keys}
+use Rattle.gf_tree.specs.Game.{Game, IsGame, Node, set_at}
 use Rattle.gf_tree.specs.PrefixOrder.{flatten, flatten_all}
 use Rattle.gf_tree.specs.Subtrees.{child_trees, list_of, root_node}
 use Rattle.gf_tree.proofs.lemmas.games.FirstUses.{AreDistinct, first_uses_distinct}
 use Rattle.gf_tree.proofs.lemmas.games.PlayerSets.{sets_by_first_use}
 use Rattle.gf_tree.proofs.lemmas.games.TreesOnce.{same_set_equality}
-use Rattle.gf_tree.proofs.lemmas.games.Uses.{Has}
 use Rattle.gf_form.specs.inner.values.CodeLeft.{list_code, open_code, opened, option_code}
 use Rattle.gf_form.specs.inner.values.Program.{chance_code, child_code, code, code_over}
 use Rattle.gf_form.specs.inner.values.Program.{paid_at_node}
 use Rattle.gf_form.specs.Strategies.{choice_at, choices_by, strategy_at}
 use Rattle.gf_form.specs.inner.values.Values.{chances_at}
 use Rattle.gf_form.specs.declared.values.op.Op.{Op}
-use Rattle.gf_form.specs.declared.values.op.Op.TheVariants.{Begin, Nothing, Weigh, Pay}
+use Rattle.gf_form.specs.declared.values.op.Op.TheVariants.{Begin, Nothing, Pay}
 use Rattle.gf_form.specs.declared.values.walk.Open.{Open}
 use Rattle.gf_tree.proofs.lemmas.games.Members.{has_at}
 

@@ -12,17 +12,19 @@ loop-place-preserved c =
     let step_in = λ (digit : Digit). digit.step in
     let actions_in = λ (digit : Digit). digit.actions in
     let old = c.loop-place.digits.items in
+    let inside = c.loop-place-test.true in
+    let told = c.loop-place.invariant in
     elim c.if-actions-place-gt1.branch [
       | then-actions-place-gt1+in_ok-push w ↦ (
-        picked_on _ _ c.loop-place.place _ _ (map step_in old) _ _ c.loop-place-test.true c.requires
-            refl refl w.if-actions-place-gt1.true (grind (arith, map-append)) c.loop-place.invariant.0,
-        picked_on _ _ c.loop-place.place _ _ (map actions_in old) _ _ c.loop-place-test.true refl
-            refl refl w.if-actions-place-gt1.true (grind (arith, map-append)) c.loop-place.invariant.1,
+        picked_on _ _ c.loop-place.place _ _ (map step_in old) _ _ inside c.requires refl refl
+            w.if-actions-place-gt1.true (grind (arith, map-append)) told.0,
+        picked_on _ _ c.loop-place.place _ _ (map actions_in old) _ _ inside refl refl refl
+            w.if-actions-place-gt1.true (grind (arith, map-append)) told.1,
       )
       | else-actions-place-gt1 w ↦ (
-        picked_past _ _ c.loop-place.place _ _ (map step_in old) _ _ c.loop-place-test.true
-            c.requires refl refl w.if-actions-place-gt1.false (grind arith) c.loop-place.invariant.0,
-        picked_past _ _ c.loop-place.place _ _ (map actions_in old) _ _ c.loop-place-test.true refl
-            refl refl w.if-actions-place-gt1.false (grind arith) c.loop-place.invariant.1,
+        picked_past _ _ c.loop-place.place _ _ (map step_in old) _ _ inside c.requires refl refl
+            w.if-actions-place-gt1.false (grind arith) told.0,
+        picked_past _ _ c.loop-place.place _ _ (map actions_in old) _ _ inside refl refl refl
+            w.if-actions-place-gt1.false (grind arith) told.1,
       )
     ]

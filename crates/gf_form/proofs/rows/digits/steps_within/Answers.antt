@@ -1,4 +1,4 @@
-use Rattle.std.proofs.Common.{◌+◌, get_or, refl}
+use Rattle.std.proofs.Common.{get_or, refl}
 use Rattle.gf_form.proofs.lemmas.rows.DigitsMade.{step_more, step_same}
 use Rattle.gf_form.proofs.rows.digits.steps_within.Goals as goal
 use Rattle.gf_form.proofs.rows.digits.steps_within.Goals.{then-count-gt1+in_ok-push}

@@ -11,9 +11,8 @@ use Rattle.gf_form.specs.inner.values.Rows.{ArePaid}
 use Rattle.gf_form.specs.Strategies.{choices_by}
 use Rattle.gf_form.specs.declared.rows.paths.Reached.{Reached}
 use Rattle.gf_form.specs.declared.rows.terms.Terms.{Terms}
-use Rattle.gf_form.proofs.lemmas.rows.SummedNodes.{demands_of, terms_of_sums}
+use Rattle.gf_form.proofs.lemmas.rows.SummedNodes.{terms_of_sums}
 use Rattle.gf_form.proofs.rows.listed.game_terms.Goals as goal
-use Rattle.std.proofs.Common.{arith}
 
 pub returns-clause-terms : goal.returns-clause-terms
 returns-clause-terms c =

@@ -1,5 +1,4 @@
-use Rattle.std.proofs.Common.{◌≡◌, ◌+◌, ◌++◌, ◌∷◌, ◌∙◌, [], ℕ, List, ap, arith}
-use Rattle.gf_nfg.specs.Profiles.{numbers_from}
+use Rattle.std.proofs.Common.{arith}
 use Rattle.gf_nfg.proofs.lemmas.tables.NumbersInTurn.{numbers_joined}
 use Rattle.gf_form.proofs.strategies.profile_numbers.numbers_below.Goals as goal
 
