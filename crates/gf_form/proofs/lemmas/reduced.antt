@@ -3,11 +3,12 @@ pub mod Coming
 pub mod FirstNumbers
 pub mod FirstStrategies
 pub mod FirstsPicked
-pub mod HighestLevels
-pub mod LeftVisits
-pub mod LevelsKept
-pub mod MetSets
+pub mod LevelsChosen
+pub mod Marks
+pub mod NodeSets
 pub mod OnlyStrategies
+pub mod OwnDemands
+pub mod OwnDigits
 pub mod ReducedForms
 pub mod ReducedPays
 pub mod ReducedStrategies
@@ -15,8 +16,7 @@ pub mod ReducedTables
 pub mod ReducedText
 pub mod ReducedValues
 pub mod Reducing
-pub mod RelevantSets
 pub mod SameReduced
-pub mod Skips
+pub mod SearchEnds
+pub mod SearchSteps
 pub mod Surveys
-pub mod VisitsMet

@@ -1,9 +1,9 @@
 pub mod Comes
 pub mod Firsts
 pub mod Levels
+pub mod OwnDigits
 pub mod Relevance
+pub mod Search
 pub mod Shown
-pub mod Skips
 pub mod Survey
-pub mod TellsRelevance
 pub mod Visits

@@ -1,28 +1,18 @@
 //! The visits of a player to his sets: the ways to come to them, as far as his own moves
 //! distinguish them.
 
-ghost use Rattle.std.specs.Prelude.{◌≡◌, [], IfOk};
-ghost use Rattle.gf_form.specs.inner.reduced.Visits.{Meets, chosen, visits_of};
-ghost use Rattle.gf_form.specs.declared.reduced.visits.Visit.{Visit};
+ghost use Rattle.std.specs.Prelude.{◌≡◌, [], OnOk};
+ghost use Rattle.gf_form.specs.inner.reduced.Visits.{Meets, visits_of};
 
 use indexmap::IndexSet;
 use std::alloc::{AllocError, Global};
 
-/// The last move of a player before a node. Everything is 0 if he has not moved.
-#[derive(Clone, Copy, PartialEq, Eq, Hash)]
-pub(crate) struct Move {
-    /// The number of the visit on which he moved, from 1.
-    pub visit: usize,
-    /// The position of its set among his, from 1.
-    pub set: u32,
-    /// The position of the action, from 1.
-    pub action: usize,
-}
-
-/// A way to come to a set: after this move, and so after all moves before it.
+/// A way to come to a set.
 #[derive(Clone, Copy, PartialEq, Eq, Hash)]
 pub(crate) struct Visit {
-    pub last: Move,
+    /// The choices that it demands of the player, by the digits of his sets.
+    pub demands: u64,
+    /// The position of the set among his, from 1.
     pub set: u32,
 }
 
@@ -30,19 +20,6 @@ pub(crate) struct Visit {
 #[derive(Drop)]
 pub(crate) struct Visits {
     visits: IndexSet<Visit>,
-}
-
-/// What a strategy chooses at a set, by its position from 1; 0 if there is no such set.
-pub(crate) fn action_at(strategy: &[u32], position: u32) -> u32
-    ensures { result ≡ chosen strategy.now position }
-{
-    if position == 0 {
-        return 0;
-    }
-    match strategy.get(position as usize - 1) {
-        Some(action) => *action,
-        None => 0,
-    }
 }
 
 impl Visits {
@@ -55,14 +32,12 @@ impl Visits {
         }
     }
 
-    /// The number of a visit, from 1. A new one comes last.
-    pub(crate) fn meet(&mut self, visit: Visit) -> Result<usize, AllocError>
-        ensures { IfOk result (Meets (visits_of self.old) visit (visits_of self.new)) }
+    /// Adds a visit, unless it is there.
+    pub(crate) fn meet(&mut self, visit: Visit) -> Result<(), AllocError>
+        ensures { OnOk result (Meets (visits_of self.old) visit (visits_of self.new)) }
     {
-        let (place, _) = self.visits.insert_full(visit)?;
-        let count = self.visits.len();
-        prove!(place < count);
-        Ok(place + 1)
+        self.visits.insert_full(visit)?;
+        Ok(())
     }
 
     /// The visits, in order.

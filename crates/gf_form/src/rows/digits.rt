@@ -1,7 +1,8 @@
 //! Sets at which a player has a choice, as the digits of a number: 0 if any action will do, and
 //! otherwise the action's position.
 
-ghost use Rattle.std.specs.Prelude.{◌≡◌, ◌<◌, ◌*◌, ◌^◌, ◌++◌, ℕ, IfOk, IfSome, OnOk, length, map};
+ghost use Rattle.std.specs.Prelude.{◌≡◌, ◌<◌, ◌≤◌, ◌*◌, ◌^◌, ◌++◌, ℕ, IfOk, IfSome, MatchOption};
+ghost use Rattle.std.specs.Prelude.{OnOk, length, map};
 ghost use Rattle.gf_nfg.specs.Profiles.{product};
 ghost use Rattle.gf_tree.specs.Game.{Game, IsGame};
 ghost use Rattle.gf_form.specs.inner.strategies.Counted.{AreCounts};
@@ -23,8 +24,8 @@ pub(crate) struct Digit {
 /// How many values the digits of a player's sets have together with those of the players before
 /// him, which have `faster` values; `None` above the greatest number.
 #[tactic(auto, using(crate::proofs::lemmas::rows::DigitsMade::value_steps))]
-fn values_with(actions: &[u32], faster: u64) -> Option<u64>
-    ensures { IfSome result
+pub(crate) fn values_with(actions: &[u32], faster: u64) -> Option<u64>
+    ensures { MatchOption result (2 ^ 64 ≤ width actions.now * faster)
         (λ values. (values ≡ width actions.now * faster) × (values < 2 ^ 64)) }
 {
     let mut values = faster;
@@ -38,7 +39,11 @@ fn values_with(actions: &[u32], faster: u64) -> Option<u64>
 
 /// The step of each of a player's sets, if his digits and those of the players before him have this
 /// many values together.
-fn steps_within(alloc: Global, actions: &[u32], values: u64) -> Result<Vec<u64>, AllocError>
+pub(crate) fn steps_within(
+    alloc: Global,
+    actions: &[u32],
+    values: u64,
+) -> Result<Vec<u64>, AllocError>
     ensures { IfOk result (λ steps. (faster : ℕ) → values ≡ width actions.now * faster
         → steps.items ≡ steps_behind faster actions.now) }
 {

@@ -29,7 +29,7 @@ abbrev pub pack : List ℕ → List ℕ → ℕ
 pack (n ∷ faster) (d ∷ ds) = d * product (spans faster) + pack faster ds
 pack _ _ = 0
 
-spans_above : (actions : List ℕ) → 0 < product (spans actions)
+pub spans_above : (actions : List ℕ) → 0 < product (spans actions)
 spans_above [] = omega arith
 spans_above (n ∷ faster) =
     mul_above (n + 1) (product (spans faster)) (omega arith) (spans_above faster)

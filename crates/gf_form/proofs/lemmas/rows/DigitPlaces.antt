@@ -122,7 +122,7 @@ all_steps_are (own ∷ others) faster f e =
 
 -- ---- the digit of a set
 
-own_digit : (counts xs faster fast : List ℕ) (f j : ℕ) → f ≡ product (spans faster)
+pub own_digit : (counts xs faster fast : List ℕ) (f j : ℕ) → f ≡ product (spans faster)
     → length xs ≡ length counts → j < length counts
     → ¬ (get_or (steps_behind f counts) j 0 ≡ 0)
     → IsDigitOf (picked counts counts ++ faster) (picked counts xs ++ fast)
@@ -164,7 +164,7 @@ digit_of (own ∷ others) (x ∷ xs) faster fast f (suc i) j e same less some =
 
 -- ---- sets without a digit
 
-own_alone : (counts : List ℕ) (f j : ℕ) → 0 < f → get_or (steps_behind f counts) j 0 ≡ 0
+pub own_alone : (counts : List ℕ) (f j : ℕ) → 0 < f → get_or (steps_behind f counts) j 0 ≡ 0
     → get_or counts j 0 ≤ 1
 own_alone [] f j some e = omega arith
 own_alone (zero ∷ counts) f zero some e = omega arith

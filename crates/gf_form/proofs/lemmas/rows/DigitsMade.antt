@@ -3,11 +3,11 @@ use Rattle.std.proofs.Common.{◌≡◌, ℕ, zero, suc, ◌+◌, ◌*◌, ◌/�
 use Rattle.std.proofs.Common.{length, map, get_or, drop, refl, sym, ap, ◌∙◌, append_assoc, add-one}
 use Rattle.std.proofs.Common.{arith}
 use Rattle.std.proofs.Math.ListN.{drop_of_length-le}
-use Rattle.std.proofs.Math.Nat.{mul-div_cancel_left, mul_assoc, mul_comm}
+use Rattle.std.proofs.Math.Nat.{mul-div_cancel_left, mul-le-mul, mul_assoc, mul_comm}
 use Rattle.std.proofs.Math.Seq.{drop-cons}
 use Rattle.gf_nfg.specs.Profiles.{product}
 use Rattle.gf_form.specs.inner.rows.DigitSteps.{all_steps, at_digits, picked, steps_behind, width}
-use Rattle.gf_form.proofs.lemmas.rows.DigitPlaces.{HasShape}
+use Rattle.gf_form.proofs.lemmas.rows.DigitPlaces.{HasShape, width_positive}
 
 -- ---- a set with a digit, and one without
 
@@ -53,6 +53,19 @@ values_more counts i n values whole less is some h =
     ap (λ (v : ℕ). width later * v) (mul_comm values (n + 1))
     ∙ sym (mul_assoc (width later) (n + 1) values)
     ∙ ap (λ (w : ℕ). w * values) (grind (arith, mul_comm, width_more, next_is)) ∙ h
+
+-- a product that does not fit
+pub values_past : (counts : List ℕ) (i n values whole limit : ℕ) → i < length counts
+    → n ≡ get_or counts i 0 → 1 < n → width (drop i counts) * values ≡ whole
+    → limit ≤ values * (n + 1) → limit ≤ whole
+values_past counts i n values whole limit less is some h past =
+    let later = drop (i + 1) counts in
+    omega (
+      arith,
+      values_more counts i n values whole less is some h,
+      past,
+      mul-le-mul (width_positive later) past,
+    )
 
 pub values_same : (counts : List ℕ) (i n values whole : ℕ) → i < length counts
     → n ≡ get_or counts i 0 → n ≤ 1 → width (drop i counts) * values ≡ whole

@@ -1,0 +1,308 @@
+-- A search for first strategies: what it finds where it goes no further.
+use Rattle.std.proofs.Common.{◌≡◌, ℕ, zero, suc, ◌+◌, ◌-◌, ◌<◌, ◌≤◌, Bool, true, false, List, []}
+use Rattle.std.proofs.Common.{◌∷◌, ◌++◌, Some, length, drop, get_or, map, take, slice_get, refl, sym}
+use Rattle.std.proofs.Common.{ap, subst, ◌∙◌, arith, add-one, append-nil, inl, inr, ◌⊎◌}
+use Rattle.std.specs.Prelude.{◌==◌, ◌||◌, ◌&&◌, filter}
+use Rattle.std.specs.List.{AllByRecursion, list_any}
+use Rattle.std.proofs.Math.Bool.{and-true}
+use Rattle.std.proofs.Math.ListN.{drop_of_length-le}
+use Rattle.std.proofs.Math.Seq.{take-length}
+use Rattle.std.proofs.lemmas.Bool.{cases_lt, false_from_ne_true, or_from, or_parts}
+use Rattle.std.proofs.lemmas.List.{get_or-map, get_or-take, get_or_append_left, length-map}
+use Rattle.std.proofs.lemmas.List.{length-take-le}
+use Rattle.std.proofs.lemmas.Option.{slice_get-get_or, slice_get_within}
+use Rattle.gf_nfg.specs.Profiles.{product}
+use Rattle.gf_tree.specs.Description.{InformationSet, SetKey}
+use Rattle.gf_tree.specs.FiniteMap.{Described}
+use Rattle.gf_tree.specs.FirstUse.{player_keys, player_sets}
+use Rattle.gf_tree.specs.Game.{Game, IsGame}
+use Rattle.gf_form.specs.Reduced.{is_relevant, reduced, reduced_label, reduced_labels}
+use Rattle.gf_form.specs.Strategies.{action_counts, all_choices, choice_at, strategies}
+use Rattle.gf_form.specs.inner.rows.Demands.{meets}
+use Rattle.gf_form.specs.inner.rows.DigitSteps.{picked}
+use Rattle.gf_form.specs.inner.reduced.Firsts.{AreFirstsOf}
+use Rattle.gf_form.specs.inner.reduced.Levels.{IsLevel, can_be_met, is_left}
+use Rattle.gf_form.specs.inner.reduced.OwnDigits.{digits_from, own_steps}
+use Rattle.gf_form.specs.inner.reduced.Relevance.{FindRelevance}
+use Rattle.gf_form.specs.inner.reduced.Search.{AreFoundTo, AreOpen, IsSearchBy, IsShut, IsUnderBy}
+use Rattle.gf_form.specs.inner.reduced.Search.{digit_at}
+use Rattle.gf_form.specs.inner.reduced.Shown.{chooses_first, is_first, relevant_sets}
+use Rattle.gf_form.specs.inner.reduced.Visits.{AreActions, is_met, is_met_on}
+use Rattle.gf_form.specs.declared.reduced.digits.OwnDigit.{OwnDigit}
+use Rattle.gf_form.specs.declared.reduced.level.Level.{Level}
+use Rattle.gf_form.specs.declared.reduced.visits.Visit.{Visit}
+use Rattle.gf_form.proofs.lemmas.rows.DigitChoices.{choice_at_number}
+use Rattle.gf_form.proofs.lemmas.strategies.Choices.{length-all_choices}
+use Rattle.gf_form.proofs.lemmas.strategies.CountedActions.{take_past}
+use Rattle.gf_tree.proofs.lemmas.games.Members.{map_twice}
+use Rattle.gf_form.proofs.lemmas.reduced.FirstNumbers.{AreFirst, chooses_all, first_where}
+use Rattle.gf_form.proofs.lemmas.reduced.FirstNumbers.{passed_by}
+use Rattle.gf_form.proofs.lemmas.reduced.FirstStrategies.{flags_fit, reduced_strategies_are}
+
+-- ---- sets that can be met
+
+unmet_by : (position : ℕ) (steps choices : List ℕ) (visits : List Visit)
+    → list_any (λ (v : Visit). v.set == position) visits ≡ false
+    → is_met position steps choices visits ≡ false
+unmet_by position steps choices [] e = refl
+unmet_by position steps choices (v ∷ visits) e =
+    let parts = or_parts (v.set == position)
+    (list_any (λ (v : Visit). v.set == position) visits) e in
+    or_from (is_met_on position steps choices v) (is_met position steps choices visits)
+    (ap (λ b. b && meets steps choices v.demands) parts.0)
+    (unmet_by position steps choices visits parts.1)
+
+unmet_left : (position : ℕ) (steps choices : List ℕ) (level : Level)
+    → can_be_met position level ≡ false → is_left position steps choices level ≡ false
+unmet_left position steps choices level e =
+    let known = get_or level.known.items (position - 1) false in
+    let parts = or_parts known
+    (list_any (λ (v : Visit). v.set == position) level.visits.items) e in
+    or_from known (is_met position steps choices level.visits.items) parts.0
+    (unmet_by position steps choices level.visits.items parts.1)
+
+-- with no digit left, each visit comes about
+met_all : (position : ℕ) (visits : List Visit) → is_met position [] [] visits
+    ≡ list_any (λ (v : Visit). v.set == position) visits
+met_all position [] = refl
+met_all position (v ∷ visits) = λ i. and-true (v.set == position) i || met_all position visits i
+
+-- ---- flags
+
+-- flags that are each that of the item there
+flags_are : {A : Type 0} (test : A → Bool) (xs : List A) (flags : List Bool)
+    → length flags ≡ length xs
+    → ((k : ℕ) (x : A) → slice_get xs k ≡ Some x → get_or flags k false ≡ test x)
+    → flags ≡ map test xs
+flags_are test [] [] e h = refl
+flags_are test [] (f ∷ flags) e h = absurd (omega (arith, e))
+flags_are test (x ∷ xs) [] e h = absurd (omega (arith, e))
+flags_are test (x ∷ xs) (f ∷ flags) e h =
+    λ i. h 0 x refl i ∷ flags_are test xs flags (omega (arith, e)) (λ k y at. h (suc k) y at) i
+
+pub sets_counted : (g : Game) (player : ℕ)
+    → length (action_counts g player) ≡ length (player_keys g player)
+sets_counted g player =
+    length-map (player_sets g player)
+    (λ (s : Described SetKey InformationSet). length s.description.actions)
+    ∙ sym (length-map (player_sets g player) (λ (s : Described SetKey InformationSet). s.key))
+
+-- ---- digits
+
+-- a set with several actions has a digit
+digit_there : (p : ℕ) (counts : List ℕ) (k : ℕ) → k < length counts → 1 < get_or counts k 0
+    → (j : ℕ) × (j < length (digits_from p counts))
+    × ((digit_at (digits_from p counts) j).place ≡ p + k)
+digit_there p [] k less several = absurd (omega (arith, less))
+digit_there p (zero ∷ counts) zero less several = absurd (omega (arith, several))
+digit_there p (suc zero ∷ counts) zero less several = absurd (omega (arith, several))
+digit_there p (suc (suc n) ∷ counts) zero less several = (0, omega arith, omega arith)
+digit_there p (zero ∷ counts) (suc k) less several =
+    let d = digit_there (p + 1) counts k (omega (arith, less)) several in
+    (d.0, d.1, omega (arith, d.2))
+digit_there p (suc zero ∷ counts) (suc k) less several =
+    let d = digit_there (p + 1) counts k (omega (arith, less)) several in
+    (d.0, d.1, omega (arith, d.2))
+digit_there p (suc (suc n) ∷ counts) (suc k) less several =
+    let d = digit_there (p + 1) counts k (omega (arith, less)) several in
+    (suc d.0, omega (arith, d.1), omega (arith, d.2))
+
+module _ (g : Game) (game : IsGame g) (player : ℕ) (digits : List OwnDigit) (strategy : List ℕ)
+    (search : IsSearchBy (action_counts g player) digits strategy) (level : Level)
+    (depth number count : ℕ) (met : List Bool)
+    (marks : (place : ℕ) → get_or met place false ≡ can_be_met (suc place) level) where
+  abbrev counts : List ℕ
+  counts = action_counts g player
+
+  abbrev keys : List SetKey
+  keys = player_keys g player
+
+  abbrev all : List (List ℕ)
+  all = strategies g player
+
+  abbrev Under : Type 0
+  Under = IsUnderBy g player counts digits strategy level depth number count
+
+  no_key : SetKey
+  no_key = record { player = 0; number = 0 }
+
+  -- ---- a set that cannot be met any more
+
+  module _ (u : Under) (shut : IsShut digits depth strategy met) where
+    abbrev q : ℕ
+    q = (digit_at digits shut.digit).place
+
+    early : q < u.place
+    early = u.early shut.digit shut.early
+
+    among : q < length keys
+    among = omega (arith, early, u.within, sets_counted g player)
+
+    not_first : (k : ℕ) → number ≤ k → k < number + count
+        → is_first g player (get_or all k []) ≡ false
+    not_first k from before = false_from_ne_true (is_first g player s) (λ first.
+        shut.moved (sym there ∙ first_where (relevant_sets g player s) s q (sym fit) first
+        (omega (arith, among, length-map keys (is_relevant g (choice_at keys s)))) flag))
+      where
+        s : List ℕ
+        s = get_or all k []
+
+        later : List ℕ
+        later = get_or (all_choices (drop u.place counts)) (k - number) []
+
+        is : s ≡ take u.place strategy ++ later
+        is =
+            let sum : k ≡ number + (k - number) = omega (arith, from) in
+            ap (λ (i : ℕ). get_or all i []) sum
+            ∙ u.numbered (k - number) (omega (arith, from, before))
+
+        fit : length (relevant_sets g player s) ≡ length s
+        fit = flags_fit g game player k
+            (omega (arith, before, u.end, length-all_choices counts))
+
+        there : get_or s q 0 ≡ get_or strategy q 0
+        there =
+            ap (λ (l : List ℕ). get_or l q 0) is
+            ∙ get_or_append_left (take u.place strategy) later 0 q
+            (omega (
+              arith,
+              early,
+              length-take-le u.place strategy
+                  (omega (arith, u.within, search.wide)),
+            ))
+            ∙ get_or-take u.place strategy q 0 early
+
+        flag : get_or (relevant_sets g player s) q false ≡ false
+        flag =
+            get_or-map (is_relevant g (choice_at keys s)) keys q no_key false among
+            ∙ ap (λ (l : List ℕ). is_relevant g (choice_at keys l) (get_or keys q no_key)) is
+            ∙ u.relevant later (suc q) (get_or keys q no_key)
+            (choice_at_number (drop u.place counts) (k - number)
+            (omega (arith, from, before, u.counted)))
+            (slice_get-get_or keys q no_key among)
+            ∙ unmet_left (suc q) (own_steps (drop u.place counts))
+            (picked (drop u.place counts) later) level (sym (marks q) ∙ shut.unmet)
+
+    -- none is found under the choices
+    pub none_found : (numbers : List ℕ) (labels : List (List ℕ))
+        → AreFoundTo g player numbers labels number
+        → AreFoundTo g player numbers labels (number + count)
+    none_found numbers labels found =
+        let first : AreFirst (is_first g player) all [] numbers number =
+        record { are = found.are; within = found.before } in
+        let passed = passed_by (is_first g player) all [] numbers number count first
+        (omega (arith, u.end, length-all_choices counts)) not_first in
+        record { are = passed.are; before = passed.within; labelled = found.labelled }
+
+  -- ---- no digit left
+
+  module _ (u : Under) (end : u.place ≡ length counts) (deep : depth ≡ length digits)
+      (opened : AreOpen digits depth strategy met) (counted : length met ≡ length counts) where
+    none_left : drop u.place counts ≡ []
+    none_left =
+        let past : length counts ≤ u.place = omega (arith, end) in drop_of_length-le counts past
+
+    pub one_under : count ≡ 1
+    one_under = u.counted ∙ ap product none_left
+
+    taken : take u.place strategy ≡ strategy
+    taken = ap (λ (n : ℕ). take n strategy) (end ∙ sym search.wide) ∙ take-length strategy
+
+    pub strategy_is : strategy ≡ get_or all number []
+    strategy_is =
+        let same : number + 0 ≡ number = omega arith in
+        sym (ap (λ (i : ℕ). get_or all i []) (sym same) ∙ u.numbered 0 (omega (arith, one_under))
+        ∙ (λ i. taken i ++ get_or (all_choices (none_left i)) 0 []) ∙ append-nil strategy)
+
+    pub marked : met ≡ relevant_sets g player strategy
+    marked = flags_are (is_relevant g (choice_at keys strategy)) keys met
+        (counted ∙ sets_counted g player)
+        (λ k key there. marks k ∙ sym (by k key there))
+      where
+        by : (k : ℕ) (key : SetKey) → slice_get keys k ≡ Some key
+            → is_relevant g (choice_at keys strategy) key ≡ can_be_met (suc k) level
+        by k key there =
+            ap (λ (l : List ℕ). is_relevant g (choice_at keys l) key)
+            (sym (append-nil (take u.place strategy) ∙ taken))
+            ∙ u.relevant [] (suc k) key (subst (λ (own : List ℕ). AreActions own []) (sym none_left)
+            tt) there
+            ∙ ap (λ (own : List ℕ). is_left (suc k) (own_steps own) (picked own []) level) none_left
+            ∙ ap (λ b. get_or level.known.items (suc k - 1) false || b)
+            (met_all (suc k) level.visits.items)
+
+    pub first_is : is_first g player strategy ≡ true
+    first_is =
+        subst (λ (flags : List Bool). chooses_first flags strategy ≡ true) marked
+        (chooses_all met strategy (λ k less unset.
+        by k (omega (arith, less, search.wide)) unset (cases_lt 1 (get_or counts k 0))))
+      where
+        by : (k : ℕ) → k < length counts → get_or met k false ≡ false
+            → (1 < get_or counts k 0) ⊎ (get_or counts k 0 ≤ 1) → get_or strategy k 0 ≡ 1
+        by k less unset (inr one) = search.alone k less one
+        by k less unset (inl several) =
+            let d = digit_there 0 counts k less several in
+            let place : (digit_at digits d.0).place ≡ k =
+            ap (λ (ds : List OwnDigit). (digit_at ds d.0).place) search.digits_are
+            ∙ omega (arith, d.2) in
+            ap (λ (n : ℕ). get_or strategy n 0) (sym place)
+            ∙ opened d.0 (omega (arith, d.1, deep, ap length search.digits_are))
+            (ap (λ (n : ℕ). get_or met n false) place ∙ unset)
+
+-- ---- the whole search
+
+-- nothing is chosen yet
+pub under_all : (g : Game) (player : ℕ) (digits : List OwnDigit) (strategy : List ℕ) (level : Level)
+    (visits : List Visit) (whole : ℕ) → FindRelevance g player visits
+    → level.visits.items ≡ visits
+    → ((place : ℕ) → get_or level.known.items place false ≡ false)
+    → IsLevel (length (action_counts g player)) level
+    → digits ≡ digits_from 0 (action_counts g player) → whole ≡ product (action_counts g player)
+    → IsUnderBy g player (action_counts g player) digits strategy level 0 0 whole
+under_all g player digits strategy level visits whole find visits_are unknown levelled digits_are
+    whole_is = record {
+      place = 0;
+      within = omega arith;
+      deep = omega arith;
+      early = λ k before. absurd (omega (arith, before));
+      left = digits_are;
+      chosen = tt;
+      counted = whole_is;
+      end = omega (arith, whole_is);
+      numbered = λ k less.
+          let same : 0 + k ≡ k = omega arith in
+          ap (λ (i : ℕ). get_or (all_choices (action_counts g player)) i []) same;
+      levelled = levelled;
+      relevant = λ later position key actions there.
+          find.relevant later position key actions there
+          ∙ (λ i. sym (unknown (position - 1)) i
+          || is_met position (own_steps (action_counts g player))
+          (picked (action_counts g player) later) (sym visits_are i));
+    }
+
+module _ (g : Game) (game : IsGame g) (player : ℕ) (numbers : List ℕ) (labels : List (List ℕ))
+    (whole : ℕ) (whole_is : whole ≡ product (action_counts g player))
+    (found : AreFoundTo g player numbers labels whole) where
+  abbrev each_of : List (List ℕ)
+  each_of = strategies g player
+
+  past : whole ≡ length each_of
+  past = omega (arith, whole_is, length-all_choices (action_counts g player))
+
+  pub firsts_are : AreFirstsOf g numbers player
+  firsts_are = (
+    sym (map_twice (reduced g player) (λ number. get_or each_of number []) numbers)
+        ∙ ap (map (reduced g player)) (found.are
+        ∙ ap (filter (is_first g player)) (take_past whole each_of (omega (arith, past))))
+        ∙ sym (reduced_strategies_are g game player),
+    subst (λ (n : ℕ). AllByRecursion (λ number. number < n) numbers) past found.before,
+  )
+
+  pub labels_are : labels ≡ reduced_labels g player
+  labels_are =
+      found.labelled
+      ∙ sym (map_twice reduced_label (λ number. reduced g player (get_or each_of number [])) numbers)
+      ∙ ap (map reduced_label) firsts_are.0
+
+-- none is found before the search
+pub none_yet : (g : Game) (player : ℕ) → AreFoundTo g player [] [] 0
+none_yet g player = record { are = refl; before = tt; labelled = refl }

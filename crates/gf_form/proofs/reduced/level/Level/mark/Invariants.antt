@@ -1,0 +1,5 @@
+use Rattle.gf_form.proofs.lemmas.reduced.Marks.{MarkedTo}
+use Rattle.gf_form.proofs.reduced.level.Level.mark.Given as goal
+
+abbrev pub invariant-loop-visit : goal.invariant-loop-visit
+invariant-loop-visit l = MarkedTo l.self l.visit-index l.met.items

@@ -1,0 +1,108 @@
+//! What is left of a player's visits after choices at the slower digits.
+
+ghost use Rattle.std.specs.Prelude.{◌≡◌, ◌<◌, ◌+◌, ◌*◌, ◌^◌, false, [], IfOk, OnOk, get_or, length};
+ghost use Rattle.std.specs.Prelude.{ℕ, suc};
+ghost use Rattle.gf_form.specs.inner.reduced.Levels.{IsChosen, IsLevel, can_be_met, left_of};
+ghost use Rattle.gf_form.specs.inner.reduced.Visits.{AreWithin};
+
+use crate::reduced::visits::Visit;
+use std::alloc::{AllocError, Global};
+
+/// The visits that the choices so far allow.
+#[derive(Drop)]
+pub(crate) struct Level {
+    /// Those to sets that are not known to be met, with their demands at the digits that are left.
+    pub visits: Vec<Visit>,
+    /// Whether each set is known to be met, whatever is chosen at the digits that are left.
+    pub known: Vec<bool>,
+}
+
+/// The demands that are left if this action is chosen at the slowest digit, with this step; `None`
+/// if they demand another one there.
+fn left_of(demands: u64, step: u64, action: u64) -> Option<u64>
+    requires { action * step + step < 2 ^ 64 }
+    ensures { result ≡ left_of step action demands }
+{
+    let lowest = action * step;
+    if demands < step {
+        Some(demands)
+    } else if demands >= lowest && demands < lowest + step {
+        Some(demands - lowest)
+    } else {
+        None
+    }
+}
+
+impl Level {
+    /// No visits.
+    pub(crate) fn none(alloc: Global) -> Level
+        ensures visits { result.visits.items ≡ [] }
+        ensures known { result.known.items ≡ [] }
+    {
+        Level {
+            visits: Vec::new(alloc),
+            known: Vec::new(alloc),
+        }
+    }
+
+    /// These visits to this many sets, before any choice.
+    pub(crate) fn of_visits(
+        alloc: Global,
+        visits: &[Visit],
+        sets: usize,
+    ) -> Result<Level, AllocError>
+        requires { AreWithin sets visits.now }
+        ensures visits { IfOk result (λ level. level.visits.items ≡ visits.now) }
+        ensures unknown { IfOk result (λ level. (place : ℕ)
+            → get_or level.known.items place false ≡ false) }
+        ensures level { IfOk result (IsLevel sets) }
+    {
+        let mut level = Level::none(alloc);
+        level.visits.extend_from_slice(visits)?;
+        level.known.resize(sets, false)?;
+        Ok(level)
+    }
+
+    /// Replaces this by what is left of another level if this action is chosen at its slowest
+    /// digit, with this step.
+    pub(crate) fn choose(&mut self, from: &Level, step: u64, action: u64) -> Result<(), AllocError>
+        requires fits { action * step + step < 2 ^ 64 }
+        requires level { IsLevel (length from.now.known.items) from.now }
+        ensures chosen { OnOk result (IsChosen step action from.now self.new) }
+        ensures level { OnOk result (IsLevel (length from.now.known.items) self.new) }
+    {
+        self.visits.clear();
+        self.known.clear();
+        self.known.extend_from_slice(&from.known)?;
+        for visit in &from.visits {
+            let place = visit.set as usize - 1;
+            if self.known[place] {
+                continue;
+            }
+            match left_of(visit.demands, step, action) {
+                None => {}
+                Some(0) => self.known[place] = true,
+                Some(demands) => self.visits.push(Visit {
+                    demands,
+                    set: visit.set,
+                })?,
+            }
+        }
+        Ok(())
+    }
+
+    /// Replaces flags by whether each set can be met.
+    pub(crate) fn mark(&self, met: &mut Vec<bool>) -> Result<(), AllocError>
+        requires { IsLevel (length self.now.known.items) self.now }
+        ensures counted { OnOk result (length met.new.items ≡ length self.now.known.items) }
+        ensures marks { OnOk result ((place : ℕ)
+            → get_or met.new.items place false ≡ can_be_met (suc place) self.now) }
+    {
+        met.clear();
+        met.extend_from_slice(&self.known)?;
+        for visit in &self.visits {
+            met[visit.set as usize - 1] = true;
+        }
+        Ok(())
+    }
+}
