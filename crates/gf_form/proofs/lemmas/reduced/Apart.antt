@@ -4,8 +4,8 @@ use Rattle.std.proofs.Common.{Some, None, length, map, refl, sym, ap, ◌∙◌,
 use Rattle.std.specs.Prelude.{◌==◌, ◌||◌, ◌&&◌, not, if◌then◌else◌}
 use Rattle.std.specs.List.{AllByRecursion, Contains, list_all, list_any}
 use Rattle.std.specs.Option.{option_map_or}
-use Rattle.std.proofs.lemmas.Bool.{and_from, and_parts, cases_Bool, or_left, or_right}
-use Rattle.std.proofs.lemmas.Bool.{eqb-true, eq-eqb, ne_eqb, false≢true}
+use Rattle.std.proofs.lemmas.Bool.{and_from, and_parts, cases_Bool}
+use Rattle.std.proofs.lemmas.Bool.{eqb-true, false≢true}
 use Rattle.gf_fraction.proofs.AllElements.{all_parts}
 use Rattle.gf_tree.specs.Tree.{Tree, Trees}
 use Rattle.gf_tree.specs.Tree.Tree.{branch}
@@ -36,14 +36,7 @@ PassesBy key steps = (before : List Step) × (node : Node) × (taken : ℕ) × (
 from_any : {X : Type 0} (test : X → Bool) (xs : List X) → list_any test xs ≡ true
     → (x : X) × Has xs x × (test x ≡ true)
 from_any test [] h = absurd (false≢true h)
-from_any test (x ∷ xs) h = by_test (test x) refl h (from_any test xs)
-  where
-    by_test : (b : Bool) → test x ≡ b → (test x || list_any test xs) ≡ true
-        → (list_any test xs ≡ true → (y : _) × Has xs y × (test y ≡ true))
-        → (y : _) × Has (x ∷ xs) y × (test y ≡ true)
-    by_test true e h others = (x, inl refl, e)
-    by_test false e h others =
-        let o = others (subst (λ b. (b || list_any test xs) ≡ true) e h) in (o.0, inr o.1, o.2)
+from_any test (x ∷ xs) h = grind (arith, from_any test xs)
 
 -- ---- a choice for everybody
 
@@ -74,15 +67,7 @@ module _ (g : Game) (game : IsGame g) (spellable : IsSpellable g) (player : ℕ)
       → option_map_or (λ key. key.player == 0 || everybody key == k) o true ≡ true
       → option_map_or (λ key. not (key.player == player) || c key == k) o true ≡ true
   step_own None k h = refl
-  step_own (Some key) k h = by_owner (key.player == player) refl h
-    where
-      by_owner : (b : Bool) → (key.player == player) ≡ b
-          → (key.player == 0 || (if b then c key else 1) == k) ≡ true → (not b || c key == k) ≡ true
-      by_owner false e h = refl
-      by_owner true e h =
-          let own : key.player ≡ player = eqb-true key.player player e in
-          let chance : (key.player == 0) ≡ false = ne_eqb key.player 0 (λ z. omega arith) in
-          subst (λ b. (b || c key == k) ≡ true) chance h
+  step_own (Some key) k h = grind arith
 
   steps_own : (steps : List Step) → list_all (is_chosen everybody) steps ≡ true
       → list_all (is_own_choice c player) steps ≡ true
@@ -190,9 +175,7 @@ module _ (g : Game) (game : IsGame g) (spellable : IsSpellable g) (player : ℕ)
           (goes_on_in ts n (k + 1) both.1 later p i h)
 
     pub passing_play : is_relevant g c key ≡ true → Goes (plays g.tree)
-    passing_play relevant =
-        let one = from_any (λ p. comes_to c key p.steps) (plays g.tree) relevant in
-        goes_on g.tree game.children one.0 one.1 one.2
+    passing_play relevant = grind (arith, from_any, goes_on)
 
 -- ---- strategies that agree with the same plays
 
@@ -203,24 +186,15 @@ module _ (player : ℕ) (d : SetKey → ℕ) (key : SetKey) (own : key.player �
 
   comes_through : (before : List Step) → list_all (is_own_choice d player) (through before) ≡ true
       → comes_to d key (through before) ≡ true
-  comes_through [] h = or_left _ _
-      (ap (λ o. option_map_or (same_set key) o false) at ∙ (same_set_equality key key).1 refl)
+  comes_through [] h = grind arith
   comes_through (s ∷ before) h =
       let both =
       and_parts (is_own_choice d player s) (list_all (is_own_choice d player) (through before)) h in
-      or_right _ _ (and_from _ _ (subst (λ p. is_own_choice d p s ≡ true) (sym own) both.0)
-      (comes_through before both.1))
+      grind (arith, comes_through before both.1)
 
   chosen_through : (before : List Step) → list_all (is_own_choice d player) (through before) ≡ true
       → d key ≡ k
-  chosen_through [] h =
-      let both = and_parts (is_own_choice d player (record { node = n; taken = k }))
-      (list_all (is_own_choice d player) rest) h in
-      let here : (not (key.player == player) || d key == k) ≡ true =
-      sym (ap (λ o. option_map_or (λ key. not (key.player == player) || d key == k) o true) at)
-      ∙ both.0 in
-      eqb-true (d key) k
-      (subst (λ b. (not b || d key == k) ≡ true) (eq-eqb key.player player own) here)
+  chosen_through [] h = grind arith
   chosen_through (s ∷ before) h = chosen_through before (and_parts (is_own_choice d player s)
       (list_all (is_own_choice d player) (through before)) h).1
 
@@ -243,23 +217,7 @@ module _ (g : Game) (game : IsGame g) (spellable : IsSpellable g) (player : ℕ)
       → (key : SetKey) → key.player ≡ player → is_relevant g (chosen s) key ≡ true
       → (is_relevant g (chosen t) key ≡ true) × (chosen s key ≡ chosen t key)
   relevant_too s t his alike key own relevant =
-      let one = passing_play g game spellable player above s his key own relevant in
-      let before = one.3.0 in
-      let by_s : list_all (is_own_choice (chosen s) player)
-      (through player (chosen s) key own one.3.1 one.3.2 one.3.3 one.3.5 before) ≡ true =
-      ap (list_all (is_own_choice (chosen s) player)) (sym one.3.4) ∙ one.2 in
-      let by_t : list_all (is_own_choice (chosen t) player)
-      (through player (chosen t) key own one.3.1 one.3.2 one.3.3 one.3.5 before)
-      ≡ true =
-      ap (list_all (is_own_choice (chosen t) player)) (sym one.3.4)
-      ∙ sym (alike one.0 (contains (plays g.tree) one.0 one.1))
-      ∙ one.2 in
-      let comes : comes_to (chosen t) key one.0.steps ≡ true = ap (comes_to (chosen t) key) one.3.4
-      ∙ comes_through player (chosen t) key own one.3.1 one.3.2 one.3.3 one.3.5 before by_t in (
-        any_has (λ p. comes_to (chosen t) key p.steps) (plays g.tree) one.0 one.1 comes,
-        chosen_through player (chosen s) key own one.3.1 one.3.2 one.3.3 one.3.5 before by_s ∙ sym
-            (chosen_through player (chosen t) key own one.3.1 one.3.2 one.3.3 one.3.5 before by_t),
-      )
+      grind (arith, any_has, chosen_through, comes_through, contains, passing_play)
 
   pub agree_reduced : (s t : List ℕ) → Contains (strategies g player) s
       → Contains (strategies g player) t → AgreeAlike s t → reduced g player s ≡ reduced g player t

@@ -52,12 +52,7 @@ module _ (g : Game) (game : IsGame g) (choices : SetKey → ℕ) (key : SetKey) 
       → come (map (from_node n k) ps)
       ≡ (is_own_choice choices key.player (record { node = n; taken = k })
       && come ps)
-  any_below n k [] other =
-      none_chosen (is_own_choice choices key.player (record { node = n; taken = k }))
-    where
-      none_chosen : (b : Bool) → false ≡ (b && false)
-      none_chosen true = refl
-      none_chosen false = refl
+  any_below n k [] other = grind arith
   any_below n k (p ∷ ps) other =
       let move = is_own_choice choices key.player (record { node = n; taken = k }) in
       (λ i. (other i || (move && comes_to choices key p.steps)) || any_below n k ps other i)

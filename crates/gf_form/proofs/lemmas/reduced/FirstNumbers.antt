@@ -1,11 +1,11 @@
 -- The numbers of the first strategies, one after another, and flags that say which are first.
 use Rattle.std.proofs.Common.{◌≡◌, ℕ, zero, suc, ◌+◌, ◌<◌, ◌≤◌, Bool, true, false, List, [], ◌∷◌}
-use Rattle.std.proofs.Common.{◌++◌, length, map, get_or, take, refl, sym, ap, subst, ◌∙◌}
+use Rattle.std.proofs.Common.{◌++◌, length, map, get_or, take, refl, ap, subst, ◌∙◌}
 use Rattle.std.proofs.Common.{add-one, arith}
 use Rattle.std.specs.Prelude.{◌==◌, ◌||◌, filter}
 use Rattle.std.specs.List.{AllByRecursion}
 use Rattle.std.proofs.Math.Seq.{take-suc}
-use Rattle.std.proofs.lemmas.Bool.{and_from, and_parts, eq-eqb, eqb-true}
+use Rattle.std.proofs.lemmas.Bool.{and_from, and_parts, eq-eqb}
 use Rattle.std.proofs.lemmas.List.{append-nil, map-append}
 use Rattle.std.proofs.lemmas.List.Elements.{filter-append}
 use Rattle.gf_fraction.proofs.AllElements.{all_both}
@@ -30,9 +30,7 @@ pub first_where : (flags : List Bool) (s : List ℕ) (k : ℕ) → length s ≡ 
     → get_or s k 0 ≡ 1
 first_where [] s k es h less f = absurd (omega (arith, less))
 first_where (flag ∷ flags) [] k es h less f = absurd (omega (arith, es))
-first_where (flag ∷ flags) (a ∷ s) zero es h less f =
-    let here = (and_parts (flag || a == 1) (chooses_first flags s) h).0 in
-    eqb-true a 1 (subst (λ b. (b || a == 1) ≡ true) f here)
+first_where (flag ∷ flags) (a ∷ s) zero es h less f = grind arith
 first_where (flag ∷ flags) (a ∷ s) (suc k) es h less f =
     first_where flags s k (omega (arith, es))
     (and_parts (flag || a == 1) (chooses_first flags s) h).1 (omega (arith, less)) f
@@ -59,30 +57,18 @@ module _ {A : Type 0} (test : A → Bool) (all : List A) (d : A) (i : ℕ) (less
 
   pub first_kept : (numbers next : List ℕ) → AreFirst test all d numbers i
       → test (get_or all i d) ≡ true → next ≡ numbers ++ i ∷ [] → AreFirst test all d next (i + 1)
-  first_kept numbers next h passes is = record {
-    are = ap (map (λ number. get_or all number d)) is
-        ∙ map-append (λ number. get_or all number d) numbers (i ∷ [])
-        ∙ ap (λ (l : List A). l ++ get_or all i d ∷ []) h.are
-        ∙ sym (next_item ∙ rw passes refl);
-    within = subst (AllByRecursion (λ number. number < i + 1)) (sym is)
-        (all_both (λ number. number < i + 1) numbers (i ∷ []) (wider numbers h.within)
-        (omega arith, tt));
-  }
+  first_kept numbers next h passes is = grind (arith, all_both, map-append, next_item, wider)
 
   pub first_left : (numbers : List ℕ) → AreFirst test all d numbers i
       → test (get_or all i d) ≡ false → AreFirst test all d numbers (i + 1)
-  first_left numbers h fails = record {
-    are = h.are ∙ sym (next_item ∙ rw fails (append-nil (filter test (take i all))));
-    within = wider numbers h.within;
-  }
+  first_left numbers h fails = grind (arith, append-nil, next_item, wider)
 
 -- items that do not pass are left out
 pub passed_by : {A : Type 0} (test : A → Bool) (all : List A) (d : A) (numbers : List ℕ) (i m : ℕ)
     → AreFirst test all d numbers i → i + m ≤ length all
     → ((k : ℕ) → i ≤ k → k < i + m → test (get_or all k d) ≡ false)
     → AreFirst test all d numbers (i + m)
-passed_by test all d numbers i zero h within fails =
-    let same : i ≡ i + 0 = omega arith in subst (AreFirst test all d numbers) same h
+passed_by test all d numbers i zero h within fails = grind arith
 passed_by test all d numbers i (suc m) h within fails =
     let next : i + m + 1 ≡ i + suc m = omega arith in
     subst (AreFirst test all d numbers) next
@@ -95,6 +81,4 @@ passed_by test all d numbers i (suc m) h within fails =
 pub one_image_more : {A : Type 0} (f : ℕ → A) (numbers next : List ℕ) (images more : List A) (n : ℕ)
     (image : A) → images ≡ map f numbers → image ≡ f n → next ≡ numbers ++ n ∷ []
     → more ≡ images ++ image ∷ [] → more ≡ map f next
-one_image_more f numbers next images more n image are is next_is more_is =
-    more_is ∙ (λ i. are i ++ is i ∷ []) ∙ sym (map-append f numbers (n ∷ []))
-    ∙ ap (map f) (sym next_is)
+one_image_more f numbers next images more n image are is next_is more_is = grind (arith, map-append)

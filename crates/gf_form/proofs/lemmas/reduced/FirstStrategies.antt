@@ -1,8 +1,8 @@
 -- The first of the strategies that reduce to the same one: it has the first action wherever no
 -- choice matters.
-use Rattle.std.proofs.Common.{◌≡◌, ℕ, zero, suc, ◌+◌, ◌-◌, ◌*◌, ◌<◌, ◌≤◌, Bool, true, false}
+use Rattle.std.proofs.Common.{◌≡◌, ℕ, zero, suc, ◌+◌, ◌<◌, ◌≤◌, Bool, true, false}
 use Rattle.std.proofs.Common.{List, [], ◌∷◌, ◌++◌, Some, None, length, map, get_or, drop}
-use Rattle.std.proofs.Common.{refl, sym, ap, subst, ◌∙◌, append-nil, append_assoc, arith, cond, inl}
+use Rattle.std.proofs.Common.{refl, sym, ap, subst, ◌∙◌, append-nil, append_assoc, arith, inl}
 use Rattle.std.proofs.Common.{inr}
 use Rattle.std.specs.Prelude.{◌==◌, ◌||◌, filter, if◌then◌else◌, unwrap_or}
 use Rattle.std.specs.List.{list_any}
@@ -14,7 +14,7 @@ use Rattle.std.proofs.lemmas.List.Elements.{filter-append}
 use Rattle.gf_nfg.specs.Profiles.{numbers_from, product}
 use Rattle.gf_tree.specs.Description.{SetKey, same_set}
 use Rattle.gf_tree.specs.FiniteMap.{first_uses}
-use Rattle.gf_tree.specs.FirstUse.{player_keys, player_sets}
+use Rattle.gf_tree.specs.FirstUse.{player_keys}
 use Rattle.gf_tree.specs.Game.{Game, IsGame}
 use Rattle.gf_tree.proofs.lemmas.games.FirstUses.{AreDistinct}
 use Rattle.gf_tree.proofs.lemmas.stores.KnownKeys.{known_more, more_known, used_before}
@@ -45,9 +45,7 @@ module _ {A B : Type 0} (same : B → B → Bool) (tells : IsEquality same) (f :
   ranked : (xs : List A) (k m : ℕ) (x : A) → map rank xs ≡ numbers_from k m → Has xs x → k ≤ rank x
   ranked [] k m x e i = absurd i
   ranked (y ∷ xs) k zero x e i = absurd cc
-  ranked (y ∷ xs) k (suc m) x e (inl q) =
-      let first : rank y ≡ k = ap (λ l. get_or l 0 0) e in
-      omega (arith, first, ap rank q)
+  ranked (y ∷ xs) k (suc m) x e (inl q) = grind arith
   ranked (y ∷ xs) k (suc m) x e (inr i) = omega (arith, ranked xs (k + 1) m x (ap (drop 1) e) i)
 
   -- one more
@@ -107,14 +105,19 @@ module _ {A B : Type 0} (same : B → B → Bool) (tells : IsEquality same) (f :
   first_images before (y ∷ rest) k (suc m) is ranks below h =
       let first : rank y ≡ k = ap (λ l. get_or l 0 0) ranks in
       let others : map rank rest ≡ numbers_from (k + 1) m = ap (drop 1) ranks in
-      first_images (before ++ y ∷ []) rest (k + 1) m (append_assoc before (y ∷ []) rest ∙ is) others
-      (λ x i. elim (in_either before (y ∷ []) x i) [
+      cc (first_images (before ++ y ∷ []) rest (k + 1) m (append_assoc before (y ∷ []) rest ∙ is)
+      others (λ x i. elim (in_either before (y ∷ []) x i) [
         | inl j ↦ omega (arith, below x j)
-        | inr (inl q) ↦ omega (arith, ap rank q, first)
+        | inr
+            (inl q) ↦ omega (arith, ap rank q, first)
         | inr (inr j) ↦ absurd j
-      ])
-      (grown before rest y is (λ x i. omega (arith, below x i, first))
-      (λ x i. omega (arith, ranked rest (k + 1) m x others i, first)) h)
+      ]) (grown before rest y is
+      (λ x i. omega (arith, below x i, first)) (λ x i. omega (
+        arith,
+        ranked rest (k + 1) m x others
+            i,
+        first,
+      )) h))
 
   pub first_of_each : (n : ℕ) → map rank all ≡ numbers_from 0 n
       → first_uses same (map f all) ≡ map f (filter is_first all)
@@ -150,14 +153,9 @@ first_choice [] [] (a ∷ s) e h = absurd h
 first_choice (n ∷ counts) [] s e h = absurd (omega (arith, e))
 first_choice (n ∷ counts) (flag ∷ flags) [] e h = absurd h
 first_choice (n ∷ counts) (true ∷ flags) (a ∷ s) e h =
-    let others = first_choice counts flags s (omega (arith, e)) h.1 in
-    ((h.0, others.0), omega (arith, others.1))
+    grind (arith, first_choice counts flags s (omega (arith, e)) h.1)
 first_choice (n ∷ counts) (false ∷ flags) (a ∷ s) e h =
-    let others = first_choice counts flags s (omega (arith, e)) h.1 in
-    let none : (1 - 1) * product counts ≡ 0 = omega arith in (
-      ((omega arith, omega (arith, h.0.0, h.0.1)), others.0),
-      omega (arith, others.1, none),
-    )
+    grind (arith, first_choice counts flags s (omega (arith, e)) h.1)
 
 -- two such strategies that are shown alike are one
 one_shown : (counts : List ℕ) (fs gs : List Bool) (s t : List ℕ) → length fs ≡ length counts
@@ -191,18 +189,7 @@ choice_first : (relevant : SetKey → Bool) (keys : List SetKey) (s : List ℕ) 
     → choice_at keys (first_of (map relevant keys) s) key ≡ choice_at keys s key
 choice_first relevant [] s key h = refl
 choice_first relevant (k ∷ keys) [] key h = refl
-choice_first relevant (k ∷ keys) (a ∷ s) key h =
-    by (same_set k key) refl (choice_first relevant keys s key h)
-  where
-    by : (b : Bool) → same_set k key ≡ b
-        → choice_at keys (first_of (map relevant keys) s) key ≡ choice_at keys s key
-        → (if same_set k key then (if relevant k then a else 1)
-        else choice_at keys (first_of (map relevant keys) s) key)
-        ≡ (if same_set k key then a else choice_at keys s key)
-    by true e others =
-        let here : relevant k ≡ true = ap relevant ((same_set_equality k key).0 e) ∙ h in
-        rw (e, here) refl
-    by false e others = rw e others
+choice_first relevant (k ∷ keys) (a ∷ s) key h = grind (arith, choice_first relevant keys s key h)
 
 -- what is shown, by keys
 shown_by : (relevant : SetKey → Bool) (keys : List SetKey) (s : List ℕ) → AreDistinct keys
@@ -214,15 +201,16 @@ shown_by relevant (k ∷ keys) [] d e = absurd (omega (arith, e))
 shown_by relevant (k ∷ keys) (a ∷ s) d e =
     let here : (if same_set k k then a else choice_at keys s k) ≡ a =
     ap (λ b. if b then a else choice_at keys s k) ((same_set_equality k k).1 refl) in
-    λ i. (if relevant k then Some (here i) else None)
-    ∷ (map_same
-    (λ key. if relevant key then Some (choice_at (k ∷ keys) (a ∷ s) key) else None)
-    (λ key. if relevant key then Some (choice_at keys s key) else None) keys
-    (λ key m.
-    let other : same_set k key ≡ false = false_from_ne_true (same_set k key)
-    (λ t. d.0 (subst (Has keys) (sym ((same_set_equality k key).0 t)) m)) in
-    ap (λ b. if relevant key then Some (if b then a else choice_at keys s key) else None) other)
-    ∙ shown_by relevant keys s d.1 (omega (arith, e))) i
+    grind (
+      arith,
+      Has,
+      false_from_ne_true,
+      here,
+      map_same,
+      same_set_equality,
+      shown_by relevant keys
+          s d.1 (omega (arith, e)),
+    )
 
 -- ---- the strategies of a player
 
@@ -235,12 +223,7 @@ choice_length (n ∷ counts) (a ∷ s) h = ap suc (choice_length counts s h.1)
 pub filter_fewer : {A : Type 0} (test : A → Bool) (xs : List A)
     → length (filter test xs) ≤ length xs
 filter_fewer test [] = omega arith
-filter_fewer test (x ∷ xs) = by_test (test x) (filter_fewer test xs)
-  where
-    by_test : (b : Bool) → length (filter test xs) ≤ length xs
-        → length (cond b (x ∷ filter test xs) (filter test xs)) ≤ suc (length xs)
-    by_test true h = omega (arith, h)
-    by_test false h = omega (arith, h)
+filter_fewer test (x ∷ xs) = grind (arith, filter_fewer test xs)
 
 module _ (g : Game) (game : IsGame g) (player : ℕ) where
   abbrev keys : List SetKey
@@ -250,8 +233,7 @@ module _ (g : Game) (game : IsGame g) (player : ℕ) where
   counts = action_counts g player
 
   keys_counted : length keys ≡ length counts
-  keys_counted = length-map (player_sets g player) (λ s. s.key)
-      ∙ sym (length-map (player_sets g player) (λ s. length s.description.actions))
+  keys_counted = grind (arith, length-map)
 
   flags_counted : (s : List ℕ) → length (relevant_sets g player s) ≡ length counts
   flags_counted s = length-map keys (is_relevant g (choice_at keys s)) ∙ keys_counted
@@ -275,16 +257,17 @@ module _ (g : Game) (game : IsGame g) (player : ℕ) where
       let t = first_of flags s in
       let choice = is_choice s i in
       let first = first_choice counts flags s (flags_counted s) choice in
-      let alike : relevant_sets g player t ≡ flags =
-      map_same (is_relevant g (choice_at keys t)) relevant keys
-      (λ key m. sym (relevance_same g player (choice_at keys s) (choice_at keys t)
-      (λ k h. sym (choice_first relevant keys s k h)) key (own_set g player key m).3)) in (
-        t,
-        has (strategies g player) t ((every_choice counts t).1 first.0),
-        ap (λ flags. chooses_first flags t) alike ∙ first_chooses flags s,
-        reduced_shown t first.0 ∙ ap (λ flags. shown flags t) alike ∙ shown_first flags s
-            ∙ sym (reduced_shown s choice),
-        first.1,
+      grind (
+        arith,
+        choice_first,
+        every_choice,
+        first_chooses,
+        has,
+        map_same,
+        own_set,
+        reduced_shown,
+        relevance_same,
+        shown_first,
       )
 
   only_first : (s t : List ℕ) → Has (strategies g player) s → Has (strategies g player) t
@@ -304,10 +287,7 @@ module _ (g : Game) (game : IsGame g) (player : ℕ) where
 
   -- no more than all strategies
   pub fewer_reduced : length (reduced_strategies g player) ≤ length (strategies g player)
-  fewer_reduced =
-      let firsts = filter (is_first g player) (strategies g player) in
-      let counted = ap length reduced_strategies_are ∙ length-map firsts (reduced g player) in
-      omega (arith, counted, filter_fewer (is_first g player) (strategies g player))
+  fewer_reduced = grind (arith, filter_fewer, length-map, reduced_strategies_are)
 
   -- what the strategy with a number, from 0, reduces to
   pub reduced_shown_at : (number : ℕ) → number < length (strategies g player)

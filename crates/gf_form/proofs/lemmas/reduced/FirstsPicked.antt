@@ -23,9 +23,9 @@ use Rattle.gf_tree.proofs.lemmas.games.Uses.{Has, all_of_each, contains, each, h
 use Rattle.gf_form.specs.inner.reduced.Firsts.{AreFirsts, AreFirstsOf, IsPaidAt}
 use Rattle.gf_form.specs.inner.rows.ProfileRows.{AreRowsAt}
 use Rattle.gf_form.specs.Reduced.{AreReducedPayoffsAt, IsReducedForm, reduced, reduced_at}
-use Rattle.gf_form.specs.Reduced.{reduced_by, reduced_label}
+use Rattle.gf_form.specs.Reduced.{reduced_by}
 use Rattle.gf_form.specs.Reduced.{reduced_labels, reduced_profiles, reduced_strategies}
-use Rattle.gf_form.specs.Refusal.{HasBottomUpValue, HasReducedValues, HasValues}
+use Rattle.gf_form.specs.Refusal.{HasReducedValues, HasValues}
 use Rattle.gf_form.specs.Refusal.{IsFirstWithout, ReducedOverflowsAt}
 use Rattle.gf_form.specs.StrategicForm.{ArePayoffsAt, IsFormBy}
 use Rattle.gf_form.specs.Strategies.{full_profiles, players_of, strategies, strategy_at}
@@ -81,13 +81,7 @@ fewer_of g game (player ∷ players) =
 
 -- no more profiles than those of all strategies
 pub fewer_profiles : (g : Game) → IsGame g → length (reduced_profiles g) ≤ length (full_profiles g)
-fewer_profiles g game =
-    omega (
-      arith,
-      fewer_of g game (players_of g),
-      length-profiles (map (λ player. length (reduced_strategies g player)) (players_of g)),
-      length-profiles (strategy_counts g),
-    )
+fewer_profiles g game = grind (arith, fewer_of, length-profiles, strategy_counts)
 
 pub few_firsts : (g : Game) → IsGame g → (firsts : List (List ℕ)) → AreFirsts g firsts
     → length (full_profiles g) ≤ profile_limit → product (map length firsts) ≤ profile_limit
@@ -113,10 +107,7 @@ one_player_more g firsts next own place less h own_are next_is =
     ∙ sym (take-suc (players_of g) place 0
     (omega (arith, less, length-numbers_from 1 (length g.players))))
     ∙ ap (λ (n : ℕ). take n (players_of g)) (sym (add-one place)) in
-    subst (λ (players : List ℕ). AllZip (AreFirstsOf g) next players) one
-    (subst (λ (all : List (List ℕ)).
-    AllZip (AreFirstsOf g) all (take place (players_of g) ++ (place + 1) ∷ [])) (sym next_is)
-    (zip_more (AreFirstsOf g) firsts (take place (players_of g)) own (place + 1) h own_are))
+    grind (arith, zip_more)
 
 -- ---- what profiles reduce to
 
@@ -151,13 +142,7 @@ module _ (g : Game) (firsts : List (List ℕ)) (are : AreFirsts g firsts) where
       → Contains (full_profiles g) (full_at firsts profile)
       × (reduced_by g (full_at firsts profile) ≡ reduced_at g profile)
   full_there profile i =
-      let there : Contains (profiles (map length firsts)) profile =
-      contains (profiles (map length firsts)) profile
-      (subst (λ (ps : List (List ℕ)). Has ps profile) (sym their_profiles) i) in (
-        picked_full g firsts (are_numbers g firsts are) profile there,
-        reduces g (players_of g) firsts profile are
-            ((every_profile (map length firsts) profile).0 there),
-      )
+      grind (arith, Has, are_numbers, contains, every_profile, picked_full, reduces, their_profiles)
 
   -- ---- rows
 
@@ -176,28 +161,17 @@ module _ (g : Game) (firsts : List (List ℕ)) (are : AreFirsts g firsts) where
   pub reduced_rows : (payoffs : List Ratio)
       → AreRowsAt (ArePayoffsAt g) (picked_profiles firsts) payoffs
       → AreRowsAt (IsPaidAt g) (reduced_profiles g) payoffs
-  reduced_rows payoffs h = record {
-    rows = h.rows;
-    joined = h.joined;
-    right = rows_over (reduced_profiles g) h.rows (λ profile i. i)
-        (subst (λ (ps : List (List ℕ)). AllZip (ArePayoffsAt g) (map (full_at firsts) ps) h.rows)
-        their_profiles h.right);
-  }
+  reduced_rows payoffs h = grind (arith, full_at, rows_over, their_profiles)
 
   -- ---- values
 
   values_too : (p q : List ℕ) → Contains (full_profiles g) p → Contains (full_profiles g) q
       → reduced_by g p ≡ reduced_by g q → HasValues g p → HasValues g q
-  values_too p q hp hq e values =
-      all_weaker (HasBottomUpValue g p) (HasBottomUpValue g q)
-      (λ player value. (value.0, (reduced_value g player p q value.0 hp hq e).0 value.1))
-      (players_of g) values
+  values_too p q hp hq e values = grind (arith, all_weaker, reduced_value)
 
   at_all : (profile : List ℕ) → Has (reduced_profiles g) profile
       → HasValues g (full_at firsts profile) → HasReducedValues g profile
-  at_all profile i values full there e =
-      let at = full_there profile i in
-      values_too (full_at firsts profile) full at.0 there (at.1 ∙ sym e) values
+  at_all profile i values full there e = grind (arith, full_at, full_there, values_too)
 
   pub reduced_values : AllByRecursion (HasValues g) (picked_profiles firsts)
       → AllByRecursion (HasReducedValues g) (reduced_profiles g)
@@ -227,8 +201,7 @@ module _ (g : Game) (firsts : List (List ℕ)) (are : AreFirsts g firsts) where
       ≡ Some (full_at firsts profile))
   image_there ps zero profile there = absurd cc
   image_there [] (suc k) profile there = absurd cc
-  image_there (p ∷ ps) (suc zero) profile there =
-      let same : p ≡ profile = cc in (inl same, ap (λ (q : List ℕ). Some (full_at firsts q)) same)
+  image_there (p ∷ ps) (suc zero) profile there = grind arith
   image_there (p ∷ ps) (suc (suc k)) profile there =
       let other = image_there ps (suc k) profile there in (inr other.0, other.1)
 
@@ -245,8 +218,7 @@ module _ (g : Game) (firsts : List (List ℕ)) (are : AreFirsts g firsts) where
       record {
         profile = one.0;
         there = one.2;
-        overflows = λ values. o.overflows (subst (HasValues g) one.3
-            (values (full_at firsts one.0) at.0 at.1));
+        overflows = grind arith;
         first = λ earlier other before is.
             let image = image_there ps earlier other is in
             at_all other image.0 (o.first earlier (full_at firsts other) before
@@ -260,9 +232,7 @@ reduced_form_profiles g = ap profiles (counts_are g (players_of g))
 
 pub some_reduced_label : (g : Game) → IsGame g → (player : ℕ)
     → 0 < length (reduced_labels g player)
-some_reduced_label g game player =
-    subst (λ (n : ℕ). 0 < n) (sym (length-map (reduced_strategies g player) reduced_label))
-    (some_reduced_strategy g game player)
+some_reduced_label g game player = grind (arith, length-map, some_reduced_strategy)
 
 pub paid_full : (g : Game) (profile : List ℕ) (row : List Ratio) → IsPaidAt g profile row
     → length row ≡ length g.players

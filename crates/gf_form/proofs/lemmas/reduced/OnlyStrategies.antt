@@ -2,11 +2,11 @@
 use Rattle.std.proofs.Common.{◌≡◌, ℕ, zero, suc, ◌+◌, ◌*◌, ◌<◌, ◌≤◌, Bool, true, false, cond, List}
 use Rattle.std.proofs.Common.{[], ◌∷◌, Option, Some, None, MatchOption, length, map, get_or}
 use Rattle.std.proofs.Common.{refl, sym, ap, subst, ◌∙◌, arith, inl, inr}
-use Rattle.std.specs.Prelude.{◌==◌, ◌||◌, ◌&&◌, codes, decimal, filter, find, not, option_map}
+use Rattle.std.specs.Prelude.{◌||◌, ◌&&◌, codes, decimal, filter, find, option_map}
 use Rattle.std.specs.Prelude.{unwrap_or}
-use Rattle.std.specs.List.{AllByRecursion, Contains, cons_option, filter_map, join_with_byte}
+use Rattle.std.specs.List.{AllByRecursion, Contains, filter_map, join_with_byte}
 use Rattle.std.specs.Option.{option_map_or}
-use Rattle.std.proofs.lemmas.Bool.{eq-eqb, eqb-true, or_left, or_right}
+use Rattle.std.proofs.lemmas.Bool.{or_left, or_right}
 use Rattle.std.proofs.lemmas.List.{get_or_default, length-map}
 use Rattle.std.proofs.lemmas.Option.{none-some}
 use Rattle.gf_fraction.proofs.AllElements.{all_parts}
@@ -14,7 +14,7 @@ use Rattle.gf_nfg.specs.Profiles.{product}
 use Rattle.gf_tree.specs.Description.{SetKey, InformationSet, same_set}
 use Rattle.gf_tree.specs.FiniteMap.{Described, description_at}
 use Rattle.gf_tree.specs.FirstUse.{player_keys, player_sets}
-use Rattle.gf_tree.specs.Game.{Game, HasChildren, IsGame, Node, set_at, used_sets}
+use Rattle.gf_tree.specs.Game.{Game, HasChildren, IsGame, Node, set_at}
 use Rattle.gf_tree.specs.PrefixOrder.{Entry, flatten, flatten_all}
 use Rattle.gf_tree.specs.Tree.{Tree, Trees, count}
 use Rattle.gf_tree.specs.Tree.Tree.{branch}
@@ -44,13 +44,9 @@ use Rattle.gf_form.proofs.lemmas.strategies.KnownSets.{own_set}
 
 both_one : (a b : ℕ) → a * b ≡ 1 → (a ≡ 1) × (b ≡ 1)
 both_one zero b e = absurd (omega (arith, e))
-both_one (suc zero) b e =
-    let same : suc zero * b ≡ b = omega arith in (refl, omega (arith, e, same))
-both_one (suc (suc a)) zero e =
-    let same : suc (suc a) * zero ≡ 0 = omega arith in absurd (omega (arith, e, same))
-both_one (suc (suc a)) (suc b) e =
-    let large : suc (suc a) * suc b ≡ suc (suc b) + a * suc b + b = omega arith in
-    absurd (omega (arith, e, large))
+both_one (suc zero) b e = grind arith
+both_one (suc (suc a)) zero e = grind arith
+both_one (suc (suc a)) (suc b) e = grind arith
 
 one_action : (key : SetKey) (ss : List (Described SetKey InformationSet)) (set : InformationSet)
     → product (map (λ s. length s.description.actions) ss) ≡ 1
@@ -74,14 +70,7 @@ one_action key (s ∷ ss) set h is =
 from_filter_map : {X Y : Type 0} (f : X → Option Y) (xs : List X) (y : Y) → Has (filter_map f xs) y
     → (x : X) × Has xs x × (f x ≡ Some y)
 from_filter_map f [] y h = absurd h
-from_filter_map {X} {Y} f (x ∷ xs) y h = by (f x) refl h (from_filter_map f xs y)
-  where
-    by : (o : Option Y) → f x ≡ o → Has (cons_option o (filter_map f xs)) y
-        → (Has (filter_map f xs) y → (z : X) × Has xs z × (f z ≡ Some y))
-        → (z : X) × Has (x ∷ xs) z × (f z ≡ Some y)
-    by None e h others = let z = others h in (z.0, inr z.1, z.2)
-    by (Some w) e (inl q) others = (x, inl refl, e ∙ ap Some q)
-    by (Some w) e (inr h) others = let z = others h in (z.0, inr z.1, z.2)
+from_filter_map {X} {Y} f (x ∷ xs) y h = grind (arith, from_filter_map f xs y)
 
 node_of : (g : Game) → IsGame g → (player : ℕ) (key : SetKey) → Has (player_keys g player) key
     → (e : Entry Node) × Has (flatten g.tree) e × (e.node.set ≡ Some key)
@@ -90,9 +79,7 @@ node_of g game player key i =
     let known : Has (map (λ (s : Described SetKey InformationSet). s.key) g.sets) key =
     subst (Has (map (λ (s : Described SetKey InformationSet). s.key) g.sets)) s.2
     (has_map (λ (s : Described SetKey InformationSet). s.key) g.sets s.0 s.1) in
-    from_filter_map (λ (e : Entry Node). e.node.set) (flatten g.tree) key
-    (was_used same_set (used_sets g.tree) key
-    (subst (λ keys. Has keys key) game.one_entry_each_set known))
+    grind (arith, Has, from_filter_map, was_used)
 
 -- ---- choices come to each set whose owner has one action at each of his
 
@@ -105,26 +92,7 @@ module _ (g : Game) (choices : SetKey → ℕ) (key : SetKey)
   chosen_child : (n : Node) (own : SetKey) (m : ℕ) → n.set ≡ Some own
       → option_map (λ set. length set.actions) (set_at g own) ≡ Some m
       → (k : ℕ) → 1 ≤ k → k ≤ m → IsChosen n k
-  chosen_child n own m at known k above within =
-      ap (λ o. option_map_or (λ key'. not (key'.player == key.player) || choices key' == k) o true)
-      at
-      ∙ by_owner (own.player == key.player) refl
-    where
-      by_set : own.player ≡ key.player → (o : Option InformationSet) → set_at g own ≡ o
-          → option_map (λ set. length set.actions) o ≡ Some m → choices own ≡ k
-      by_set his None e c = absurd cc
-      by_set his (Some set) e c =
-          let same : length set.actions ≡ m = cc in
-          let o = one own set his e in
-          omega (arith, o.0, o.1, same, above, within)
-
-      by_owner : (b : Bool) → (own.player == key.player) ≡ b
-          → (not (own.player == key.player) || choices own == k) ≡ true
-      by_owner false e = ap (λ b. not b || choices own == k) e
-      by_owner true e =
-          or_right (not (own.player == key.player)) (choices own == k)
-          (eq-eqb (choices own) k
-          (by_set (eqb-true own.player key.player e) (set_at g own) refl known))
+  chosen_child n own m at known k above within = grind arith
 
   mutual
     comes_there : (t : Tree Node) → AllByRecursion (HasChildren g) (flatten t) → (e : Entry Node)
@@ -184,8 +152,7 @@ all_shown : {A : Type 0} (xs : List A) (s : List ℕ) → length xs ≡ length s
 all_shown [] [] e = refl
 all_shown [] (a ∷ s) e = absurd (omega (arith, e))
 all_shown (x ∷ xs) [] e = absurd (omega (arith, e))
-all_shown (x ∷ xs) (a ∷ s) e =
-    ap (λ (l : List (Option ℕ)). Some a ∷ l) (all_shown xs s (omega (arith, e)))
+all_shown (x ∷ xs) (a ∷ s) e = cc (all_shown xs s (omega (arith, e)))
 
 all_chosen : {A : Type 0} (xs : List A) (s : List ℕ) → chooses_first (map (λ x. true) xs) s ≡ true
 all_chosen [] s = refl
@@ -206,11 +173,7 @@ module _ (g : Game) (game : IsGame g) (player : ℕ)
   counted = length-all_choices (action_counts g player) ∙ one
 
   only_there : Contains (strategies g player) only
-  only_there = (
-    0,
-    omega (arith, counted),
-    get_or_default (strategies g player) 0 only [] (omega (arith, counted)),
-  )
+  only_there = grind (arith, counted, get_or_default)
 
   all_relevant : (key : SetKey) → Has (player_keys g player) key
       → is_relevant g (choice_at (player_keys g player) only) key ≡ true
@@ -232,8 +195,7 @@ module _ (g : Game) (game : IsGame g) (player : ℕ)
       g.tree game.children node.0 node.1 node.2
 
   all_flags : relevant_sets g player only ≡ map (λ key. true) (player_keys g player)
-  all_flags = map_same (is_relevant g (choice_at (player_keys g player) only)) (λ key. true)
-      (player_keys g player) all_relevant
+  all_flags = grind (arith, all_relevant, map_same)
 
   only_shown : reduced g player only ≡ map Some only
   only_shown =

@@ -2,11 +2,11 @@
 -- profile reduces to one.
 use Rattle.std.proofs.Common.{◌≡◌, ℕ, zero, suc, ◌≤◌, List, [], ◌∷◌, Option, Some, None}
 use Rattle.std.proofs.Common.{length, map, refl, sym, ap, ◌∙◌, subst, arith, inl, inr}
-use Rattle.std.specs.Prelude.{◌↔◌, unwrap_or, zip}
+use Rattle.std.specs.Prelude.{◌↔◌, zip}
 use Rattle.std.specs.Bool.{Decides}
 use Rattle.std.specs.List.{AllZip, Contains}
 use Rattle.std.specs.Cmp.Lexicographic.{pointwise}
-use Rattle.std.proofs.lemmas.Bool.{eqb-true, eq-eqb, false≢true}
+use Rattle.std.proofs.lemmas.Bool.{false≢true}
 use Rattle.std.proofs.lemmas.List.{length-map}
 use Rattle.std.proofs.lemmas.Slice.Eq.{slice_eq-Decides}
 use Rattle.gf_fraction.specs.Ratio.{Ratio, IsFraction}
@@ -21,7 +21,7 @@ use Rattle.gf_tree.proofs.lemmas.games.Members.{map_same, map_twice}
 use Rattle.gf_tree.proofs.lemmas.games.Uses.{Has, contains, has, has_map, mapped_from}
 use Rattle.gf_form.specs.Payoff.{payoff}
 use Rattle.gf_form.specs.Reduced.{AreReducedPayoffsAt, IsReducedForm, reduced}
-use Rattle.gf_form.specs.Reduced.{reduced_at, reduced_by, reduced_label}
+use Rattle.gf_form.specs.Reduced.{reduced_at, reduced_by}
 use Rattle.gf_form.specs.Reduced.{reduced_labels, reduced_strategies, same_choice}
 use Rattle.gf_form.specs.StrategicForm.{ArePayoffsAt, PaysFractions}
 use Rattle.gf_form.specs.Strategies.{choices_by, full_profiles, players_of}
@@ -59,12 +59,10 @@ choice_equality : (a b : Option ℕ) → Decides (same_choice a b) (a ≡ b)
 choice_equality None None = (λ h. refl, λ e. refl)
 choice_equality None (Some b) = (λ h. absurd (false≢true h), λ e. absurd cc)
 choice_equality (Some a) None = (λ h. absurd (false≢true h), λ e. absurd cc)
-choice_equality (Some a) (Some b) =
-    (λ h. ap Some (eqb-true a b h), λ e. eq-eqb a b (ap (λ o. unwrap_or o a) e))
+choice_equality (Some a) (Some b) = grind arith
 
 pub choices_equality : (a b : List (Option ℕ)) → Decides (pointwise same_choice a b) (a ≡ b)
-choices_equality a b =
-    slice_eq-Decides {E = same_choice} choice_equality a b (pointwise same_choice a b) refl
+choices_equality a b = grind (arith, choice_equality, slice_eq-Decides)
 
 module _ (g : Game) where
   -- a strategy at one position and a reduced strategy at the other, to which it reduces
@@ -132,11 +130,7 @@ module _ (g : Game) where
 
   pub counts_are : (players : List ℕ)
       → map length (map (reduced_labels g) players) ≡ reduced_counts players
-  counts_are players =
-      map_twice length (reduced_labels g) players
-      ∙ map_same (λ player. length (reduced_labels g player))
-      (λ player. length (reduced_strategies g player)) players
-      (λ player i. length-map (reduced_strategies g player) reduced_label)
+  counts_are players = grind (arith, length-map, map_same, map_twice)
 
   -- a full profile that reduces to a profile of the reduced form
   pub some_full : (profile : List ℕ) → Has (form_profiles (reduced_labels g) g) profile

@@ -5,7 +5,7 @@ use Rattle.std.proofs.Common.{get_or, drop, refl, sym, ap, ◌∙◌, subst, ari
 use Rattle.std.specs.Prelude.{◌==◌, ◌||◌, ◌&&◌, not, zip, filter}
 use Rattle.std.specs.List.{Contains, list_all}
 use Rattle.std.specs.Option.{option_map_or}
-use Rattle.std.proofs.lemmas.Bool.{and_parts, and_from, eqb-true, eqb-false, eq-eqb, ne_eqb}
+use Rattle.std.proofs.lemmas.Bool.{and_parts, and_from, eqb-false, eq-eqb}
 use Rattle.gf_fraction.specs.Rational.{times, total}
 use Rattle.gf_nfg.specs.Profiles.{numbers_from}
 use Rattle.gf_nfg.proofs.lemmas.tables.NumbersInTurn.{length-numbers_from}
@@ -24,20 +24,6 @@ use Rattle.gf_form.proofs.lemmas.strategies.Chosen.{profile_strategies}
 use Rattle.gf_form.proofs.lemmas.reduced.Reducing.{reduced_agree, same_answer}
 
 -- ---- choices of all players are those of each
-
-own_of_chosen : (c : SetKey → ℕ) (p : ℕ) (o : Option SetKey) (k : ℕ)
-    → 0 < p → option_map_or (λ key. key.player == 0 || c key == k) o true ≡ true
-    → option_map_or (λ key. not (key.player == p) || c key == k) o true ≡ true
-own_of_chosen c p None k above h = refl
-own_of_chosen c p (Some key) k above h = by_owner (key.player == p) refl
-  where
-    by_owner : (b : Bool) → (key.player == p) ≡ b → (not (key.player == p) || c key == k) ≡ true
-    by_owner false e = λ i. not (e i) || c key == k
-    by_owner true e =
-        let own = eqb-true key.player p e in
-        let personal : (key.player == 0) ≡ false = ne_eqb key.player 0 (λ z. omega arith) in
-        let taken : (c key == k) ≡ true = subst (λ b. (b || c key == k) ≡ true) personal h in
-        (λ i. not (e i) || c key == k) ∙ taken
 
 chosen_of_own : (c : SetKey → ℕ) (o : Option SetKey) (k : ℕ)
     → ((p : ℕ) → 0 < p → option_map_or (λ key. not (key.player == p) || c key == k) o true ≡ true)
@@ -58,8 +44,7 @@ pub all_own : (c : SetKey → ℕ) (p : ℕ) (steps : List Step)
 all_own c p [] above h = refl
 all_own c p (s ∷ steps) above h =
     let both = and_parts (is_chosen c s) (list_all (is_chosen c) steps) h in
-    and_from _ _ (own_of_chosen c p s.node.set s.taken above both.0)
-    (all_own c p steps above both.1)
+    grind (arith, all_own c p steps above both.1)
 
 all_chosen : (c : SetKey → ℕ) (steps : List Step)
     → ((p : ℕ) → 0 < p → list_all (is_own_choice c p) steps ≡ true)
@@ -80,16 +65,7 @@ module _ (g : Game) (all : List (List ℕ)) (p : ℕ) where
       → option_map_or (λ key. not (key.player == p) || choices_by g all key == k) o true
       ≡ option_map_or (λ key. not (key.player == p) || his key == k) o true
   his_step None k = refl
-  his_step (Some key) k = by_owner (key.player == p) refl
-    where
-      by_owner : (b : Bool) → (key.player == p) ≡ b
-          → (not (key.player == p) || choices_by g all key == k)
-          ≡ (not (key.player == p) || his key == k)
-      by_owner false e =
-          (λ i. not (e i) || choices_by g all key == k) ∙ sym (λ i. not (e i) || his key == k)
-      by_owner true e =
-          λ i. not (key.player == p) || choice_at (player_keys g (eqb-true key.player p e i))
-          (strategy_at all (eqb-true key.player p e i)) key == k
+  his_step (Some key) k = grind arith
 
   pub his_steps : (steps : List Step)
       → list_all (is_own_choice (choices_by g all) p) steps ≡ list_all (is_own_choice his p) steps
@@ -121,11 +97,7 @@ module _ (g : Game) where
   same_plays : (all others : List (List ℕ)) → AreReducedAlike all others
       → filter (follows (choices_by g all)) (plays g.tree)
       ≡ filter (follows (choices_by g others)) (plays g.tree)
-  same_plays all others alike =
-      filter_same (follows (choices_by g all)) (follows (choices_by g others)) (plays g.tree)
-      (λ play i. same_answer (follows (choices_by g all) play)
-      (follows (choices_by g others) play) (follows_too all others alike play i)
-      (follows_too others all (λ p above. sym (alike p above)) play i))
+  same_plays all others alike = grind (arith, filter_same, follows_too, same_answer)
 
   -- what the players' strategies reduce to
   abbrev reduce_all : List ℕ → List (List ℕ) → List (List (Option ℕ))
@@ -139,13 +111,9 @@ module _ (g : Game) where
   each_alike k zero (s ∷ all) others m n e i = absurd (omega arith)
   each_alike k (suc c) [] others m n e i = absurd (omega arith)
   each_alike k (suc c) (s ∷ all) [] m n e i = absurd (omega arith)
-  each_alike k (suc c) (s ∷ all) (t ∷ others) m n e zero =
-      let here : k ≡ k + 0 = omega arith in
-      subst (λ p. reduced g p s ≡ reduced g p t) here (ap (λ l. get_or l 0 []) e)
+  each_alike k (suc c) (s ∷ all) (t ∷ others) m n e zero = grind arith
   each_alike k (suc c) (s ∷ all) (t ∷ others) m n e (suc i) =
-      let next : k + 1 + i ≡ k + suc i = omega arith in
-      subst (λ p. reduced g p (get_or all i []) ≡ reduced g p (get_or others i [])) next
-      (each_alike (k + 1) c all others (omega arith) (omega arith) (ap (drop 1) e) i)
+      grind (arith, each_alike (k + 1) c all others (omega arith) (omega arith) (ap (drop 1) e) i)
 
   one_each : (profile : List ℕ) → Contains (full_profiles g) profile
       → length (strategies_at g profile) ≡ length g.players

@@ -1,6 +1,6 @@
 -- The reduced strategies of a player: what his strategies reduce to, each once, with labels that
 -- differ; and the profiles of the reduced form, to each of which some full profile reduces.
-use Rattle.std.proofs.Common.{◌≡◌, ℕ, zero, suc, ◌-◌, ◌^◌, ◌<◌, Bool, true, false}
+use Rattle.std.proofs.Common.{◌≡◌, ℕ, zero, suc, ◌-◌, ◌^◌, ◌<◌, Bool}
 use Rattle.std.proofs.Common.{List, [], ◌∷◌, Option, Some, None, MatchOption, length, map, get_or}
 use Rattle.std.proofs.Common.{drop, refl, sym, ap, subst, ◌∙◌, arith, inl, inr}
 use Rattle.std.specs.Prelude.{◌↔◌, ⊤, codes, decimal, if◌then◌else◌, zip}
@@ -10,7 +10,7 @@ use Rattle.std.proofs.lemmas.Fmt.{decimal_injective}
 use Rattle.std.proofs.lemmas.List.{length-map}
 use Rattle.gf_nfg.specs.ProfilePlaces.{IsProfile}
 use Rattle.gf_nfg.proofs.lemmas.tables.Profiles.{every_profile}
-use Rattle.gf_tree.specs.Description.{SetKey, same_set}
+use Rattle.gf_tree.specs.Description.{SetKey}
 use Rattle.gf_tree.specs.FirstUse.{player_keys}
 use Rattle.gf_tree.specs.Game.{Game}
 use Rattle.gf_tree.proofs.lemmas.games.FirstUses.{AreDistinct, first_uses_distinct, is_used}
@@ -42,10 +42,8 @@ one_place : {A : Type 0} (xs : List A) (i j : ℕ) (d : A) → AreDistinct xs �
     → j < length xs → get_or xs i d ≡ get_or xs j d → i ≡ j
 one_place [] i j d h hi hj e = absurd (omega (arith, hi))
 one_place (x ∷ xs) zero zero d h hi hj e = refl
-one_place (x ∷ xs) zero (suc j) d h hi hj e =
-    absurd (h.0 (subst (Has xs) (sym e) (there xs j d (omega (arith, hj)))))
-one_place (x ∷ xs) (suc i) zero d h hi hj e =
-    absurd (h.0 (subst (Has xs) e (there xs i d (omega (arith, hi)))))
+one_place (x ∷ xs) zero (suc j) d h hi hj e = grind (arith, Has, there)
+one_place (x ∷ xs) (suc i) zero d h hi hj e = grind (arith, Has, there)
 one_place (x ∷ xs) (suc i) (suc j) d h hi hj e =
     ap suc (one_place xs i j d h.1 (omega (arith, hi)) (omega (arith, hj)) e)
 
@@ -59,8 +57,7 @@ undashed_choice None small = (λ e. omega (arith, e), tt)
 undashed_choice (Some n) small = undashed_number n small
 
 no_star : (n : ℕ) → n < 2 ^ 64 → codes "*" ≡ decimal n → ⊥
-no_star n small e = let digit =
-    subst AreDigits (sym e) (digits_of n small) in omega (arith, digit.0)
+no_star n small e = grind (arith, AreDigits, digits_of)
 
 one_choice : (a b : Option ℕ) → IsSmallChoice a → IsSmallChoice b → choice_text a ≡ choice_text b
     → a ≡ b
@@ -73,12 +70,7 @@ small_at : (keys : List SetKey) (s : List ℕ) → AreSmall s → (key : SetKey)
     → choice_at keys s key < 2 ^ 64
 small_at [] s small key = omega arith
 small_at (k ∷ keys) [] small key = omega arith
-small_at (k ∷ keys) (a ∷ s) small key = by (same_set k key) (small_at keys s small.1 key)
-  where
-    by : (b : Bool) → choice_at keys s key < 2 ^ 64
-        → (if b then a else choice_at keys s key) < 2 ^ 64
-    by true others = small.0
-    by false others = others
+small_at (k ∷ keys) (a ∷ s) small key = grind (arith, small_at keys s small.1 key)
 
 small_choices : (relevant : SetKey → Bool) (choice : SetKey → ℕ)
     → ((key : SetKey) → choice key < 2 ^ 64) → (keys : List SetKey)
@@ -86,11 +78,7 @@ small_choices : (relevant : SetKey → Bool) (choice : SetKey → ℕ)
     (map (λ key. if relevant key then Some (choice key) else None) keys)
 small_choices relevant choice small [] = tt
 small_choices relevant choice small (k ∷ keys) =
-    (by (relevant k), small_choices relevant choice small keys)
-  where
-    by : (b : Bool) → IsSmallChoice (if b then Some (choice k) else None)
-    by true = small k
-    by false = tt
+    grind (arith, small_choices relevant choice small keys)
 
 -- ---- reduced strategies
 
@@ -104,11 +92,7 @@ module _ (g : Game) (player : ℕ) where
       (full : List ℕ) × Contains (strategies g player) full × (reduced g player full ≡ strategy)
 
   comes_from : (strategy : List (Option ℕ)) → Has all strategy → IsReducedTo strategy
-  comes_from strategy h =
-      let from = mapped_from (reduced g player) (strategies g player) strategy
-      (was_used (pointwise same_choice) (map (reduced g player) (strategies g player)) strategy
-      h) in
-      (from.0, contains (strategies g player) from.0 from.1, from.2)
+  comes_from strategy h = grind (arith, contains, mapped_from, was_used)
 
   pub each_comes : (strategy : List (Option ℕ)) → Contains all strategy ↔ IsReducedTo strategy
   each_comes strategy = (
@@ -153,9 +137,7 @@ module _ (g : Game) (player : ℕ) where
       let t = get_or all j [] in
       let hs = small_strategy small s (there all i [] hi) in
       let ht = small_strategy small t (there all j [] hj) in
-      each_once i j hi hj
-      (same_joined choice_text IsSmallChoice undashed_choice one_choice s t (hs.1 ∙ sym ht.1) hs.0
-      ht.0 e)
+      grind (arith, each_once, one_choice, same_joined, undashed_choice)
 
 -- ---- profiles
 

@@ -1,16 +1,15 @@
 -- The reduced form of a game is a table.
 use Rattle.std.proofs.Common.{◌≡◌, ℕ, ◌<◌, Bool, List, [], ◌∷◌}
 use Rattle.std.proofs.Common.{length, map, sym, ap, ◌∙◌, subst, arith}
-use Rattle.std.specs.Cmp.Lexicographic.{pointwise}
 use Rattle.std.proofs.lemmas.List.{length-map}
 use Rattle.gf_nfg.specs.Profiles.{profiles}
 use Rattle.gf_nfg.specs.Table.{Entry, IsTable, Table}
 use Rattle.gf_tree.specs.FiniteMap.{first_uses}
 use Rattle.gf_tree.specs.Game.{Game, IsGame}
 use Rattle.gf_tree.proofs.lemmas.games.Uses.{Has, each, has_map}
-use Rattle.gf_form.specs.Reduced.{AreReducedPayoffsAt, IsReducedForm, reduced, reduced_label}
-use Rattle.gf_form.specs.Reduced.{reduced_labels, reduced_strategies, same_choice}
-use Rattle.gf_form.specs.Strategies.{players_of, strategies}
+use Rattle.gf_form.specs.Reduced.{AreReducedPayoffsAt, IsReducedForm, reduced_label}
+use Rattle.gf_form.specs.Reduced.{reduced_labels, reduced_strategies}
+use Rattle.gf_form.specs.Strategies.{players_of}
 use Rattle.gf_form.proofs.lemmas.form.Forms.{form_profiles}
 use Rattle.gf_form.proofs.lemmas.form.FormTables.{as_many, some_strategy, table_by}
 use Rattle.gf_form.proofs.lemmas.reduced.ReducedForms.{some_full}
@@ -22,11 +21,7 @@ some_first same (k ∷ ks) h = omega arith
 
 pub some_reduced_strategy : (g : Game) → IsGame g → (player : ℕ)
     → 0 < length (reduced_strategies g player)
-some_reduced_strategy g game player =
-    let all = map (reduced g player) (strategies g player) in
-    let image : 0 < length all = subst (λ n. 0 < n)
-    (sym (length-map (strategies g player) (reduced g player))) (some_strategy g game player) in
-    some_first (pointwise same_choice) all image
+some_reduced_strategy g game player = grind (arith, length-map, some_first, some_strategy)
 
 module _ (g : Game) (game : IsGame g) (t : Table) (form : IsReducedForm g t) where
   listed : map (λ e. e.profile) t.entries ≡ form_profiles (reduced_labels g) g

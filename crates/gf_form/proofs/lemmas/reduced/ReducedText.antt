@@ -1,11 +1,11 @@
 -- The text of a reduced strategy, written choice by choice.
 use Rattle.std.proofs.Common.{◌≡◌, ℕ, zero, suc, ◌+◌, ◌-◌, ◌<◌, ◌≤◌, ◌^◌, Bool, true, false, List}
 use Rattle.std.proofs.Common.{[], ◌∷◌}
-use Rattle.std.proofs.Common.{◌++◌, Option, Some, None, length, get_or, take, refl, sym, ap, subst}
+use Rattle.std.proofs.Common.{◌++◌, Option, Some, None, length, get_or, take, refl, sym, ap}
 use Rattle.std.proofs.Common.{◌∙◌, append_assoc, add-one, arith}
 use Rattle.std.specs.Prelude.{if◌then◌else◌}
 use Rattle.std.specs.List.{AllByRecursion}
-use Rattle.std.proofs.Math.Seq.{take-append_seam, take-nil}
+use Rattle.std.proofs.Math.Seq.{take-append_seam}
 use Rattle.std.proofs.lemmas.List.{append-nil, length-append}
 use Rattle.gf_fraction.proofs.AllElements.{all_both}
 use Rattle.gf_form.specs.inner.strategies.LabelTexts.{IsPlain, choice_text}
@@ -35,8 +35,7 @@ next_marked : (flags : List Bool) (s : List ℕ) (i : ℕ) → i < length flags 
     ≡ marked (take i (shown flags s)) ++ (choice_text (choice_in flags s i) ++ 45 ∷ [])
 next_marked [] s i hf hs = absurd (omega (arith, hf))
 next_marked (f ∷ flags) [] i hf hs = absurd (omega (arith, hs))
-next_marked (f ∷ flags) (a ∷ s) zero hf hs =
-    append-nil (choice_text (if f then Some a else None) ++ 45 ∷ [])
+next_marked (f ∷ flags) (a ∷ s) zero hf hs = grind (arith, append-nil)
 next_marked (f ∷ flags) (a ∷ s) (suc i) hf hs =
     let first = choice_text (if f then Some a else None) ++ 45 ∷ [] in
     ap (λ (bs : List ℕ). first ++ bs)
@@ -62,14 +61,12 @@ length-shown (f ∷ flags) (a ∷ s) = omega (arith, length-shown flags s)
 
 pub all_marked : (flags : List Bool) (s bytes : List ℕ) (i : ℕ)
     → bytes ≡ marked (take i (shown flags s)) → length s ≤ i → bytes ≡ marked (shown flags s)
-all_marked flags s bytes i is past =
-    is ∙ ap marked (take_past i (shown flags s) (omega (arith, length-shown flags s, past)))
+all_marked flags s bytes i is past = grind (arith, length-shown, take_past)
 
 -- without the last dash it is the label
 pub mark_removed : (choices : List (Option ℕ)) (bytes new : List ℕ) (n : ℕ) → bytes ≡ marked choices
     → n ≡ length bytes → new ≡ take (n - 1) bytes → new ≡ reduced_label choices
-mark_removed [] bytes new n is counted rest =
-    rest ∙ ap (take (n - 1)) is ∙ take-nil (n - 1)
+mark_removed [] bytes new n is counted rest = cc
 mark_removed (choice ∷ choices) bytes new n is counted rest =
     let label = reduced_label (choice ∷ choices) in
     let whole : bytes ≡ label ++ 45 ∷ [] = is ∙ marked_last choice choices in
@@ -85,7 +82,4 @@ plain_choice false action small = ((refl, refl), tt)
 
 pub plain_more : (old choice new : List ℕ) → new ≡ (old ++ choice) ++ 45 ∷ []
     → AllByRecursion IsPlain choice → AllByRecursion IsPlain old → AllByRecursion IsPlain new
-plain_more old choice new is plain h =
-    subst (AllByRecursion IsPlain) (sym is)
-    (all_both IsPlain (old ++ choice) (45 ∷ []) (all_both IsPlain old choice h plain)
-    ((refl, refl), tt))
+plain_more old choice new is plain h = grind (arith, all_both)

@@ -1,27 +1,25 @@
 -- Full profiles that reduce to the same one have the same bottom-up values.
 use Rattle.std.proofs.Common.{◌≡◌, ℕ, zero, suc, ◌+◌, ◌<◌, Bool, true, false, List, []}
 use Rattle.std.proofs.Common.{◌∷◌, ◌++◌, Option, Some, None, MatchOption, map, refl}
-use Rattle.std.proofs.Common.{sym, ap, ◌∙◌, subst, arith, inl, append_assoc}
-use Rattle.std.specs.Prelude.{◌↔◌, ◌==◌, ◌||◌, ◌&&◌}
+use Rattle.std.proofs.Common.{sym, ◌∙◌, subst, arith, inl, append_assoc}
+use Rattle.std.specs.Prelude.{◌↔◌, ◌==◌}
 use Rattle.std.specs.Bool.{MatchBool}
 use Rattle.std.specs.List.{Contains, list_all}
-use Rattle.std.specs.Option.{option_map_or}
-use Rattle.std.proofs.lemmas.Bool.{and_from, and_parts, eq-eqb, eqb-false, or_left, or_right}
+use Rattle.std.proofs.lemmas.Bool.{and_from, and_parts, eqb-false}
 use Rattle.gf_fraction.specs.Ratio.{Ratio}
 use Rattle.gf_fraction.specs.Rational.{zero_ratio}
 use Rattle.gf_tree.specs.Tree.{Tree, Trees}
 use Rattle.gf_tree.specs.Tree.Tree.{branch}
 use Rattle.gf_tree.specs.Tree.Trees.{none, more}
-use Rattle.gf_tree.specs.Description.{SetKey, same_set}
+use Rattle.gf_tree.specs.Description.{SetKey}
 use Rattle.gf_tree.specs.Game.{Node, Game}
 use Rattle.gf_tree.proofs.lemmas.games.Members.{in_left, in_right}
-use Rattle.gf_tree.proofs.lemmas.games.TreesOnce.{same_set_equality}
 use Rattle.gf_tree.proofs.lemmas.games.Uses.{Has, has_map}
 use Rattle.gf_form.specs.BottomUp.{IsChanceValue, IsMoveValue}
 use Rattle.gf_form.specs.BottomUp.{IsTerminalValue, IsValue, IsChildValue}
 use Rattle.gf_form.specs.Plays.{Play, Step, from_node, is_chosen, plays, plays_from}
 use Rattle.gf_form.specs.Reduced.{comes_to, is_own_choice, reduced_by}
-use Rattle.gf_form.specs.Strategies.{choices_by, full_profiles, strategies_at, strategy_at}
+use Rattle.gf_form.specs.Strategies.{choices_by, full_profiles, strategies_at}
 use Rattle.gf_form.proofs.lemmas.reduced.ReducedPays.{AreReducedAlike, all_own, his, his_steps}
 use Rattle.gf_form.proofs.lemmas.reduced.ReducedPays.{reduced_alike}
 use Rattle.gf_form.proofs.lemmas.reduced.Reducing.{any_has, same_where_relevant}
@@ -81,17 +79,6 @@ module _ (g : Game) (c d : SetKey → ℕ) (player : ℕ) (agree : AgreeWhereCho
   ChildToo n ts = (position : ℕ) (value : Ratio) → IsChosen n position
       → IsChildValue g c player position ts value → IsChildValue g d player position ts value
 
-  at_chance : (n : Node) (key : SetKey) → n.set ≡ Some key → (key.player == 0) ≡ true → (k : ℕ)
-      → IsChosen n k
-  at_chance n key at e k =
-      ap (λ o. option_map_or (λ key. key.player == 0 || c key == k) o true) at
-      ∙ or_left (key.player == 0) (c key == k) e
-
-  at_choice : (n : Node) (key : SetKey) → n.set ≡ Some key → IsChosen n (c key)
-  at_choice n key at =
-      ap (λ o. option_map_or (λ own. own.player == 0 || c own == c key) o true) at
-      ∙ or_right (key.player == 0) (c key == c key) (eq-eqb (c key) (c key) refl)
-
   -- a node with a child stands on a play
   choice_too : (n : Node) (ts : Trees Node) (before : List Step)
       (key : SetKey) (position : ℕ) (value : Ratio)
@@ -112,22 +99,19 @@ module _ (g : Game) (c d : SetKey → ℕ) (player : ℕ) (agree : AgreeWhereCho
       (IsChildValue g c player (c key) ts below)
       → MatchBool b (IsChanceValue g d player n 1 zero_ratio ts below)
       (IsChildValue g d player (d key) ts below)
-  below_too n ts before key below on chosen at chance child true e v =
-      chance below (at_chance n key at e) v
+  below_too n ts before key below on chosen at chance child true e v = grind arith
   below_too n ts before key below on chosen at chance child false e v =
       let personal = eqb-false key.player 0 e in
       let same =
       choice_too n ts before key (c key) below on chosen at (omega (arith, personal)) v in
-      subst (λ position. IsChildValue g d player position ts below) same
-      (child (c key) below (at_choice n key at) v)
+      grind arith
 
   node_too : (n : Node) (ts : Trees Node) (value : Ratio) (before : List Step)
       → GoOn before (plays (branch n ts)) → list_all (is_chosen c) before ≡ true → ChanceToo n ts
       → ChildToo n ts
       → (o : Option SetKey) → n.set ≡ o → ValueAt c n ts value o → ValueAt d n ts value o
   node_too n ts value before on chosen chance child None at v = v
-  node_too n ts value before on chosen chance child (Some key) at v =
-      (v.0, below_too n ts before key v.0 on chosen at chance child (key.player == 0) refl v.1, v.2)
+  node_too n ts value before on chosen chance child (Some key) at v = grind (arith, below_too)
 
   from_first : (n : Node) (k : ℕ) (t : Tree Node) (ts : Trees Node) (before : List Step)
       → GoOn before (plays_from n k (more t ts))
@@ -140,8 +124,7 @@ module _ (g : Game) (c d : SetKey → ℕ) (player : ℕ) (agree : AgreeWhereCho
 
   from_others : (n : Node) (k : ℕ) (t : Tree Node) (ts : Trees Node) (before : List Step)
       → GoOn before (plays_from n k (more t ts)) → GoOn before (plays_from n (k + 1) ts)
-  from_others n k t ts before on p i =
-      on p (in_right (map (from_node n k) (plays t)) (plays_from n (k + 1) ts) p i)
+  from_others n k t ts before on p i = grind (arith, in_right)
 
   all_of : (n : Node) (ts : Trees Node) (before : List Step) → GoOn before (plays (branch n ts))
       → GoOn before (plays_from n 1 ts)
@@ -200,18 +183,12 @@ module _ (g : Game) (c d : SetKey → ℕ) (player : ℕ) (agree : AgreeWhereCho
 comes_here : (choices : SetKey → ℕ) (key : SetKey) (n : Node) (k : ℕ) (rest before : List Step)
     → n.set ≡ Some key → list_all (is_own_choice choices key.player) before ≡ true
     → comes_to choices key (before ++ record { node = n; taken = k } ∷ rest) ≡ true
-comes_here choices key n k rest [] at h =
-    or_left (option_map_or (same_set key) n.set false)
-    (is_own_choice choices key.player (record { node = n; taken = k }) && comes_to choices key rest)
-    (ap (λ o. option_map_or (same_set key) o false) at ∙ (same_set_equality key key).1 refl)
+comes_here choices key n k rest [] at h = grind arith
 comes_here choices key n k rest (s ∷ before) at h =
     let both = and_parts (is_own_choice choices key.player s)
     (list_all (is_own_choice choices key.player) before) h in
     let on = before ++ record { node = n; taken = k } ∷ rest in
-    or_right (option_map_or (same_set key) s.node.set false)
-    (is_own_choice choices key.player s && comes_to choices key on)
-    (and_from (is_own_choice choices key.player s) (comes_to choices key on) both.0
-    (comes_here choices key n k rest before at both.1))
+    grind (arith, comes_here choices key n k rest before at both.1)
 
 module _ (g : Game) (all others : List (List ℕ)) (alike : AreReducedAlike g all others) where
   agree_where_chosen : AgreeWhereChosen g (choices_by g all) (choices_by g others)
@@ -223,8 +200,7 @@ module _ (g : Game) (all others : List (List ℕ)) (alike : AreReducedAlike g al
       record { steps = before ++ record { node = n; taken = k } ∷ rest; leaf = leaf } in
       let relevant = any_has (λ p. comes_to (his g all key.player) key p.steps) (plays g.tree) play
       there (comes_here (his g all key.player) key n k rest before at own) in
-      same_where_relevant g key.player (strategy_at all key.player) (strategy_at others key.player)
-      (alike key.player above) key relevant
+      grind (arith, same_where_relevant)
 
   pub alike_value : (player : ℕ) (value : Ratio) → IsValue g (choices_by g all) player g.tree value
       → IsValue g (choices_by g others) player g.tree value
@@ -236,8 +212,4 @@ pub reduced_value : (g : Game) (player : ℕ) (p q : List ℕ) (value : Ratio)
     → Contains (full_profiles g) p → Contains (full_profiles g) q → reduced_by g p ≡ reduced_by g q
     → IsValue g (choices_by g (strategies_at g p)) player g.tree value
     ↔ IsValue g (choices_by g (strategies_at g q)) player g.tree value
-reduced_value g player p q value hp hq e = (
-  alike_value g (strategies_at g p) (strategies_at g q) (reduced_alike g p q hp hq e) player value,
-  alike_value g (strategies_at g q) (strategies_at g p) (reduced_alike g q p hq hp (sym e)) player
-      value,
-)
+reduced_value g player p q value hp hq e = grind (arith, alike_value, reduced_alike)

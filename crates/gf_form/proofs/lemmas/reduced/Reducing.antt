@@ -1,10 +1,11 @@
 -- Strategies that reduce to the same one agree with the same plays.
+use Rattle.std.proofs.Common.{arith}
 use Rattle.std.proofs.Common.{◌≡◌, ℕ, Bool, true, false, List, [], ◌∷◌, Option, Some, None}
 use Rattle.std.proofs.Common.{map, get_or, drop, refl, sym, ap, ◌∙◌, subst, inl, inr}
 use Rattle.std.specs.Prelude.{◌⊎◌, ◌==◌, ◌||◌, ◌&&◌, not, unwrap_or, if◌then◌else◌}
 use Rattle.std.specs.List.{Contains, list_all, list_any}
 use Rattle.std.specs.Option.{option_map_or}
-use Rattle.std.proofs.lemmas.Bool.{and_from, and_parts, eqb-true, false≢true, or_left, or_right}
+use Rattle.std.proofs.lemmas.Bool.{and_parts, false≢true, or_left, or_right}
 use Rattle.std.proofs.lemmas.Option.{none-some}
 use Rattle.gf_tree.specs.Description.{SetKey, same_set}
 use Rattle.gf_tree.specs.Game.{Game}
@@ -52,8 +53,7 @@ in_or_none (k ∷ keys) key = by_test (same_set k key) refl (in_or_none keys key
         → ((strategy : List ℕ) → choice_at keys strategy key ≡ 0) → (strategy : List ℕ)
         → choice_at (k ∷ keys) strategy key ≡ 0
     none_here b e others [] = refl
-    none_here b e others (action ∷ strategy) =
-        ap (λ t. if t then action else choice_at keys strategy key) e ∙ others strategy
+    none_here b e others (action ∷ strategy) = grind arith
 
     by_test : (b : Bool) → same_set k key ≡ b
         → Has keys key ⊎ ((strategy : List ℕ) → choice_at keys strategy key ≡ 0)
@@ -70,13 +70,7 @@ module _ (g : Game) (player : ℕ) where
       → (key : SetKey) → is_relevant g (chosen s) key ≡ true → chosen s key ≡ chosen t key
   same_where_relevant s t e key relevant =
       elim (in_or_none (player_keys g player) key) [
-        | inl i ↦
-            let shown =
-            mapped_alike (λ k. if is_relevant g (chosen s) k then Some (chosen s k) else None)
-            (λ k. if is_relevant g (chosen t) k then Some (chosen t k) else None)
-            (player_keys g player) key e i in
-            shown_alike (is_relevant g (chosen s) key) (is_relevant g (chosen t) key) (chosen s key)
-            (chosen t key) relevant shown
+        | inl i ↦ grind (arith, mapped_alike, shown_alike)
         | inr z ↦ z s ∙ sym (z t)
       ]
 
@@ -93,34 +87,16 @@ module _ (g : Game) (player : ℕ) where
         → (b ≡ true → c key ≡ d key)
         → (not (key.player == player) || c key == k) ≡ (not (key.player == player) || d key == k)
     own_move key k true e alike = λ i. not (key.player == player) || alike refl i == k
-    own_move key k false e alike =
-        (λ i. not (e i) || c key == k) ∙ sym (λ i. not (e i) || d key == k)
+    own_move key k false e alike = cc
 
     step_same : (s : Step) (rest : List Step) → IsRelevantBelow (s ∷ rest)
         → is_own_choice c player s ≡ is_own_choice d player s
-    step_same s rest relevant = by_set s.node.set refl
-      where
-        by_set : (o : Option SetKey) → s.node.set ≡ o
-            → option_map_or (λ key. not (key.player == player) || c key == s.taken) o true
-            ≡ option_map_or (λ key. not (key.player == player) || d key == s.taken) o true
-        by_set None at = refl
-        by_set (Some key) at =
-            let here : option_map_or (same_set key) s.node.set false ≡ true =
-            ap (λ o. option_map_or (same_set key) o false) at
-            ∙ (same_set_equality key key).1 refl in
-            let come : comes_to c key (s ∷ rest) ≡ true =
-            or_left (option_map_or (same_set key) s.node.set false)
-            (is_own_choice c key.player s && comes_to c key rest) here in
-            own_move key s.taken (key.player == player) refl
-            (λ own. same key (relevant key (eqb-true _ _ own) come))
+    step_same s rest relevant = grind arith
 
     -- after a move that he chooses, the rest is relevant too
     relevant_on : (s : Step) (rest : List Step) → IsRelevantBelow (s ∷ rest)
         → is_own_choice c player s ≡ true → IsRelevantBelow rest
-    relevant_on s rest relevant h key own come =
-        relevant key own (or_right (option_map_or (same_set key) s.node.set false)
-        (is_own_choice c key.player s && comes_to c key rest)
-        (and_from _ _ (subst (λ p. is_own_choice c p s ≡ true) (sym own) h) come))
+    relevant_on s rest relevant h key own come = grind arith
 
     comes_same : (key : SetKey) → key.player ≡ player → (rest : List Step) → IsRelevantBelow rest
         → comes_to c key rest ≡ comes_to d key rest
@@ -136,11 +112,8 @@ module _ (g : Game) (player : ℕ) where
             → (IsRelevantBelow rest → comes_to c key rest ≡ comes_to d key rest)
             → (is_own_choice c key.player s && comes_to c key rest)
             ≡ (is_own_choice d key.player s && comes_to d key rest)
-        by true e others = λ i. (his c ∙ step_same s rest relevant ∙ sym (his d)) i
-            && others (relevant_on s rest relevant e) i
-        by false e others =
-            (λ i. (his c ∙ e) i && comes_to c key rest)
-            ∙ sym (λ i. (his d ∙ sym (step_same s rest relevant) ∙ e) i && comes_to d key rest)
+        by true e others = grind arith
+        by false e others = grind arith
 
     rest_agrees : (rest : List Step)
         → IsRelevantBelow rest → list_all (is_own_choice c player) rest ≡ true
@@ -149,8 +122,7 @@ module _ (g : Game) (player : ℕ) where
     rest_agrees (s ∷ rest) relevant h =
         let both =
         and_parts (is_own_choice c player s) (list_all (is_own_choice c player) rest) h in
-        and_from _ _ (sym (step_same s rest relevant) ∙ both.0)
-        (rest_agrees rest (relevant_on s rest relevant both.0) both.1)
+        grind (arith, rest_agrees rest (relevant_on s rest relevant both.0) both.1)
 
     any_same : (p q : Play → Bool) (ps : List Play) → ((x : Play) → Has ps x → p x ≡ q x)
         → list_any p ps ≡ list_any q ps
@@ -169,9 +141,7 @@ module _ (g : Game) (player : ℕ) where
   agrees_too : (s t : List ℕ) (play : Play) → reduced g player s ≡ reduced g player t
       → Has (plays g.tree) play → agrees (chosen s) player play ≡ true
       → agrees (chosen t) player play ≡ true
-  agrees_too s t play e i h =
-      rest_agrees (chosen s) (chosen t) (same_where_relevant s t e) play.steps
-      (λ key own come. any_has (λ p. comes_to (chosen s) key p.steps) (plays g.tree) play i come) h
+  agrees_too s t play e i h = grind (arith, any_has, rest_agrees, same_where_relevant)
 
   pub reduced_agree : (s t : List ℕ) (play : Play) → reduced g player s ≡ reduced g player t
       → Contains (plays g.tree) play → agrees (choice_at (player_keys g player) s) player play

@@ -1,7 +1,8 @@
 -- Games that are the same have the same plays except for their numbers, and so the same reduced
 -- strategies and the same reduced form.
+use Rattle.std.proofs.Common.{arith}
 use Rattle.std.proofs.Common.{◌≡◌, ℕ, ◌+◌, Bool, true, false, List, [], ◌∷◌, ◌++◌}
-use Rattle.std.proofs.Common.{Option, Some, None, length, map, refl, sym, ap, ◌∙◌, subst}
+use Rattle.std.proofs.Common.{Option, Some, None, map, refl, sym, ap, ◌∙◌, subst}
 use Rattle.std.specs.Prelude.{◌↔◌, ◌==◌, ◌&&◌, ◌||◌, not, option_map, zip, if◌then◌else◌}
 use Rattle.std.specs.List.{AllByRecursion, AllZip, Contains, list_any}
 use Rattle.std.specs.Option.{option_map_or}
@@ -10,7 +11,6 @@ use Rattle.std.proofs.lemmas.List.{map-append}
 use Rattle.gf_fraction.specs.Ratio.{Ratio, IsFraction}
 use Rattle.gf_fraction.specs.Rational.{IsEqual}
 use Rattle.gf_fraction.proofs.AllElements.{all_both, all_images, all_parts, all_weaker}
-use Rattle.gf_nfg.specs.Profiles.{profiles}
 use Rattle.gf_nfg.specs.Table.{Table}
 use Rattle.gf_tree.specs.Tree.{Tree, Trees, map_tree, map_trees}
 use Rattle.gf_tree.specs.Tree.Tree.{branch}
@@ -34,12 +34,12 @@ use Rattle.gf_tree.proofs.lemmas.games.Uses.{Has, all_of_each}
 use Rattle.gf_form.specs.Payoff.{payoff}
 use Rattle.gf_form.specs.Plays.{Step, Play, from_node, plays, plays_from}
 use Rattle.gf_form.specs.Reduced.{AreReducedPayoffsAt, comes_to, IsReducedForm, is_relevant}
-use Rattle.gf_form.specs.Reduced.{reduced, reduced_at, reduced_by, reduced_label}
+use Rattle.gf_form.specs.Reduced.{reduced, reduced_at, reduced_by}
 use Rattle.gf_form.specs.Reduced.{reduced_profiles, reduced_strategies, same_choice}
 use Rattle.gf_form.specs.Refusal.{HasReducedValues, ReducedOverflowsAt}
 use Rattle.gf_form.specs.StrategicForm.{ArePayoffsAt}
 use Rattle.gf_form.specs.Strategies.{choice_at, choices_by, full_profiles, players_of}
-use Rattle.gf_form.specs.Strategies.{strategies, strategies_at, strategy_at}
+use Rattle.gf_form.specs.Strategies.{strategies, strategies_at}
 use Rattle.gf_form.proofs.lemmas.form.SameForms.{key_used, keys_carried, same_payoffs}
 use Rattle.gf_form.proofs.lemmas.form.SameForms.{same_strategies_at}
 use Rattle.gf_form.proofs.lemmas.form.SameForms.{strategies_carried, strategy_carried}
@@ -144,8 +144,7 @@ module _ (g : Game) (r : Renumbering) (game : IsGame g) (is : IsRenumbering g r)
         (option_map (renumbered_set r) o) true
         ≡ option_map_or (λ k. not (k.player == owner) || c k == taken) o true
     own_carried owner taken None all = refl
-    own_carried owner taken (Some k) all = λ i. not (k.player == owner)
-        || strategy_carried g r game is player strategy k (all k refl) i == taken
+    own_carried owner taken (Some k) all = grind (arith, strategy_carried)
 
     comes_carried : (key : SetKey) → Has (used_sets g.tree) key → (steps : List Step)
         → OnSteps HasUsed steps
@@ -159,23 +158,14 @@ module _ (g : Game) (r : Renumbering) (game : IsGame g) (is : IsRenumbering g r)
 
     relevant_carried : (key : SetKey) → Has (used_sets g.tree) key
         → is_relevant h d (renumbered_set r key) ≡ is_relevant g c key
-    relevant_carried key used =
-        ap (list_any (λ play. comes_to d (renumbered_set r key) play.steps))
-        (plays_carried (renumbered_node r) g.tree)
-        ∙ any_carried (carried_play (renumbered_node r))
-        (λ play. comes_to d (renumbered_set r key) play.steps)
-        (λ play. comes_to c key play.steps) (OnPlay HasUsed)
-        (λ play all. comes_carried key used play.steps all) (plays g.tree) all_used
+    relevant_carried key used = grind (arith, all_used, any_carried, comes_carried, plays_carried)
 
     -- ---- reduced strategies
 
     shown_carried : (key : SetKey) → Has (player_keys g player) key
         → (if is_relevant h d (renumbered_set r key) then Some (d (renumbered_set r key)) else None)
         ≡ (if is_relevant g c key then Some (c key) else None)
-    shown_carried key i =
-        let used = key_used g r game is player key i in
-        λ j. if relevant_carried key used j
-        then Some (strategy_carried g r game is player strategy key used j) else None
+    shown_carried key i = grind (arith, key_used, relevant_carried, strategy_carried)
 
     reduced_carried : reduced h player strategy ≡ reduced g player strategy
     reduced_carried =
@@ -198,38 +188,27 @@ module _ (g : Game) (r : Renumbering) (game : IsGame g) (is : IsRenumbering g r)
 module _ (g h : Game) (game : IsGame g) (game' : IsGame h) (same : SameGame g h) where
   pub same_reduced : (player : ℕ) (strategy : List ℕ)
       → reduced g player strategy ≡ reduced h player strategy
-  same_reduced player strategy = subst (λ k. reduced g player strategy ≡ reduced k player strategy)
-      (carried_is_renumbered same.0 g h game game' same.1)
-      (sym (reduced_carried g same.0 game same.1.renumbering player strategy))
+  same_reduced player strategy = grind (arith, carried_is_renumbered, reduced_carried)
 
   pub same_reduced_strategies : (player : ℕ)
       → reduced_strategies g player ≡ reduced_strategies h player
-  same_reduced_strategies player =
-      subst (λ k. reduced_strategies g player ≡ reduced_strategies k player)
-      (carried_is_renumbered same.0 g h game game' same.1)
-      (sym (reduced_strategies_carried g same.0 game same.1.renumbering player))
+  same_reduced_strategies player = grind (arith, carried_is_renumbered, reduced_strategies_carried)
 
   pub same_reduced_by : (profile : List ℕ) → reduced_by g profile ≡ reduced_by h profile
   same_reduced_by profile = λ i. map (λ p. same_reduced p.0 p.1 i)
       (zip (players_too g h game game' same i) (same_strategies_at g h game game' same profile i))
 
   same_reduced_at : (profile : List ℕ) → reduced_at g profile ≡ reduced_at h profile
-  same_reduced_at profile = λ i. map (λ p. strategy_at (same_reduced_strategies p.0 i) p.1)
-      (zip (players_too g h game game' same i) profile)
+  same_reduced_at profile = grind (arith, players_too, same_reduced_strategies)
 
   same_reduced_profiles : reduced_profiles g ≡ reduced_profiles h
-  same_reduced_profiles =
-      λ i. profiles (map (λ player. length (same_reduced_strategies player i))
-      (players_too g h game game' same i))
+  same_reduced_profiles = grind (arith, players_too, same_reduced_strategies)
 
   -- what holds at the full profiles that reduce to a profile
   at_full : (profile full : List ℕ) → Contains (full_profiles h) full
       → reduced_by h full ≡ reduced_at h profile
       → Contains (full_profiles g) full × (reduced_by g full ≡ reduced_at g profile)
-  at_full profile full there e = (
-    subst (λ ps. Contains ps full) (sym (same_profiles g h game game' same)) there,
-    same_reduced_by full ∙ e ∙ sym (same_reduced_at profile),
-  )
+  at_full profile full there e = grind (arith, same_profiles, same_reduced_at, same_reduced_by)
 
   reduced_values_too : (profile : List ℕ) → HasReducedValues g profile → HasReducedValues h profile
   reduced_values_too profile values full there e =
@@ -265,9 +244,7 @@ module _ (g h : Game) (game : IsGame g) (game' : IsGame h) (same : SameGame g h)
     title = form.title ∙ same.1.title;
     comment = form.comment ∙ same.1.comment;
     players = form.players ∙ same.1.players;
-    strategies = form.strategies ∙ (λ i. map
-        (λ player. map reduced_label (same_reduced_strategies player i))
-        (players_too g h game game' same i));
+    strategies = grind (arith, players_too, same_reduced_strategies);
     profiles = form.profiles;
     payoffs = all_weaker (λ e. AreReducedPayoffsAt g e.profile e.payoffs)
         (λ e. AreReducedPayoffsAt h e.profile e.payoffs)
@@ -276,10 +253,7 @@ module _ (g h : Game) (game : IsGame g) (game' : IsGame h) (same : SameGame g h)
 
 pub same_reduced_forms : (g h : Game) → IsGame g → IsGame h → SameGame g h → (t : Table)
     → IsReducedForm g t ↔ IsReducedForm h t
-same_reduced_forms g h game game' same t = (
-  reduced_form_on g h game game' same t,
-  reduced_form_on h g game' game (same_back g h game same) t,
-)
+same_reduced_forms g h game game' same t = grind (arith, reduced_form_on, same_back)
 
 reduced_overflow_on : (g h : Game) → IsGame g → IsGame h → SameGame g h → (position : ℕ)
     → ReducedOverflowsAt g position → ReducedOverflowsAt h position
@@ -290,7 +264,4 @@ reduced_overflow_on g h game game' same position =
 
 pub same_reduced_overflow : (g h : Game) → IsGame g → IsGame h → SameGame g h → (position : ℕ)
     → ReducedOverflowsAt g position ↔ ReducedOverflowsAt h position
-same_reduced_overflow g h game game' same position = (
-  reduced_overflow_on g h game game' same position,
-  reduced_overflow_on h g game' game (same_back g h game same) position,
-)
+same_reduced_overflow g h game game' same position = grind (arith, reduced_overflow_on, same_back)
