@@ -32,9 +32,9 @@ pub(crate) struct Player<'q, 'a> {
     pub digits: Vec<OwnDigit>,
 }
 
-/// A search for the first strategies of a player that reduce to each of his reduced ones. It chooses
-/// at one digit after another, the slowest first, and goes no further if a set at which it chose
-/// another action than the first cannot be met any more.
+/// A search for the first strategies of a player that reduce to each of his reduced ones. It
+/// chooses at one digit after another, the slowest first, and goes no further if a set at which it
+/// chose another action than the first cannot be met any more.
 #[derive(Drop)]
 pub(crate) struct Search {
     alloc: Global,

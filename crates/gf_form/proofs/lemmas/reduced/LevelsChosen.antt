@@ -158,7 +158,8 @@ module _ (step action : ℕ) (from : Level) (i : ℕ) (less : i < length from.vi
             || ((here.set == position) && true))
         by position met some true e =
             let same = eqb-true here.set position e in
-            let flag : get_or (set left.known.items (here.set - 1) true) (position - 1) false ≡ true =
+            let flag : get_or (set left.known.items (here.set - 1) true) (position - 1) false
+            ≡ true =
             get_or-set_at left.known.items (here.set - 1) (position - 1) true false
             (omega (arith, same)) (omega (arith, above, within, before.levelled.counted)) in
             rw (flag, e) (some_or (get_or left.known.items (position - 1) false || met))

@@ -1,6 +1,7 @@
 -- A search for first strategies: what it finds where it goes no further.
 use Rattle.std.proofs.Common.{◌≡◌, ℕ, zero, suc, ◌+◌, ◌-◌, ◌<◌, ◌≤◌, Bool, true, false, List, []}
-use Rattle.std.proofs.Common.{◌∷◌, ◌++◌, Some, length, drop, get_or, map, take, slice_get, refl, sym}
+use Rattle.std.proofs.Common.{◌∷◌, ◌++◌, Some, length, drop, get_or, map, take, slice_get, refl}
+use Rattle.std.proofs.Common.{sym}
 use Rattle.std.proofs.Common.{ap, subst, ◌∙◌, arith, add-one, append-nil, inl, inr, ◌⊎◌}
 use Rattle.std.specs.Prelude.{◌==◌, ◌||◌, ◌&&◌, filter}
 use Rattle.std.specs.List.{AllByRecursion, list_any}
@@ -300,7 +301,8 @@ module _ (g : Game) (game : IsGame g) (player : ℕ) (numbers : List ℕ) (label
   pub labels_are : labels ≡ reduced_labels g player
   labels_are =
       found.labelled
-      ∙ sym (map_twice reduced_label (λ number. reduced g player (get_or each_of number [])) numbers)
+      ∙ sym (map_twice reduced_label (λ number. reduced g player (get_or each_of number []))
+      numbers)
       ∙ ap (map reduced_label) firsts_are.0
 
 -- none is found before the search

@@ -1,7 +1,8 @@
 -- A search for first strategies, choice by choice: what is under the choices so far.
-use Rattle.std.proofs.Common.{◌≡◌, ℕ, zero, suc, ◌+◌, ◌-◌, ◌*◌, ◌/◌, ◌^◌, ◌<◌, ◌≤◌, Bool, true, false, List}
+use Rattle.std.proofs.Common.{◌≡◌, ℕ, zero, suc, ◌+◌, ◌-◌, ◌*◌, ◌/◌, ◌^◌, ◌<◌, ◌≤◌, Bool, true}
+use Rattle.std.proofs.Common.{false, List}
 use Rattle.std.proofs.Common.{[], ◌∷◌, ◌++◌, Some, length, drop, get_or, map, set, take, refl, sym}
-use Rattle.std.proofs.Common.{ap, subst, ◌∙◌, arith, add-one, append-nil, append_assoc, inl, inr, ◌⊎◌}
+use Rattle.std.proofs.Common.{ap, subst, ◌∙◌, arith, add-one, append_assoc, inl, inr, ◌⊎◌}
 use Rattle.std.specs.List.{AllByRecursion, AllZip}
 use Rattle.std.proofs.Math.Seq.{drop-cons, take-suc, take-suc-set}
 use Rattle.std.specs.Prelude.{◌==◌}
@@ -147,7 +148,13 @@ module _ (g : Game) (player : ℕ) (counts : List ℕ) (digits : List OwnDigit) 
               (let none : k ≡ (1 - 1) * product (rest (suc p)) + k = omega arith in
               ap (λ (i : ℕ). get_or (all_choices (1 ∷ rest (suc p))) i []) none)
               ∙ choices_row 1 (rest (suc p)) 1 k (omega arith) (omega arith)
-              (omega (arith, before, u.counted, ap product is, product_one 1 (rest (suc p)) refl)) in
+              (omega (
+                arith,
+                before,
+                u.counted,
+                ap product is,
+                product_one 1 (rest (suc p)) refl,
+              )) in
               u.numbered k before
               ∙ ap (λ (own : List ℕ). take p strategy ++ get_or (all_choices own) k []) is
               ∙ ap (λ (l : List ℕ). take p strategy ++ l) row
@@ -157,11 +164,13 @@ module _ (g : Game) (player : ℕ) (counts : List ℕ) (digits : List OwnDigit) 
           levelled = u.levelled;
           relevant = λ later position key actions there.
               ap (λ (l : List ℕ). is_relevant g (choice_at (player_keys g player) l) key)
-              (ap (λ (l : List ℕ). l ++ later) longer ∙ append_assoc (take p strategy) (1 ∷ []) later)
+              (ap (λ (l : List ℕ). l ++ later) longer
+              ∙ append_assoc (take p strategy) (1 ∷ []) later)
               ∙ u.relevant (1 ∷ later) position key
               (subst (λ (own : List ℕ). AreActions own (1 ∷ later)) (sym is)
               ((omega arith, omega arith), actions)) there
-              ∙ ap (λ (own : List ℕ). is_left position (own_steps own) (picked own (1 ∷ later)) level)
+              ∙ ap (λ (own : List ℕ). is_left position (own_steps own) (picked own (1 ∷ later))
+              level)
               is;
         },
         refl,
@@ -181,7 +190,11 @@ module _ (g : Game) (player : ℕ) (counts : List ℕ) (digits : List OwnDigit) 
   digits_at p (suc zero) later =
       inl (refl, ap (λ (n : ℕ). digits_from n later) (add-one p))
   digits_at p (suc (suc n)) later =
-      inr (inr (omega arith, ap (λ (k : ℕ). record { place = p; step = width later; actions = suc (suc n) } ∷ digits_from k later) (add-one p)))
+      inr (inr (
+        omega arith,
+        ap (λ (k : ℕ). record { place = p; step = width later; actions = suc (suc n) }
+            ∷ digits_from k later) (add-one p),
+      ))
 
   some_action : (p : ℕ) → p < length counts → 0 < get_or counts p 0
   some_action p less = positive_at counts p search.some less
@@ -462,10 +475,12 @@ module _ (g : Game) (player : ℕ) (counts : List ℕ) (digits : List OwnDigit) 
   step_fits a le =
       let n = get_or counts place_there 0 in
       let step = width (drop (suc place_there) counts) in
-      let fits = width_fits (drop place_there counts) (positive_behind counts place_there search.some)
+      let fits = width_fits (drop place_there counts)
+      (positive_behind counts place_there search.some)
       (omega (arith, digit_found.0.counted, digit_found.0.end, search.few)) in
       let is = ap width (drop-cons counts place_there 0 digit_found.1.1)
-      ∙ width_first n (drop (suc place_there) counts) (omega (arith, digit_found.1.2, digit_found.1.3)) in
+      ∙ width_first n (drop (suc place_there) counts)
+      (omega (arith, digit_found.1.2, digit_found.1.3)) in
       let more : a + 1 ≤ n + 1 = omega (arith, le, digit_found.1.2) in
       let row : (a + 1) * step ≡ a * step + step = omega arith in
       rw digit_found.1.4 (omega (arith, fits, is, mul-le-mul_right step more, row))
@@ -479,7 +494,8 @@ module _ (g : Game) (player : ℕ) (counts : List ℕ) (digits : List OwnDigit) 
 
     pub next_search : IsSearchBy counts digits with_choice
     next_search = subst (IsSearchBy counts digits) (sym at_place)
-        (searched g player counts digits strategy search level depth number count digit_found.0 d refl
+        (searched g player counts digits strategy search level depth number count digit_found.0 d
+        refl
         deep digit_found.1 digit_found.2 (before + 1) (omega arith) (omega (arith, less)))
 
     pub next_under : (left : Level) → IsLevel (length counts) left
@@ -499,8 +515,9 @@ module _ (g : Game) (player : ℕ) (counts : List ℕ) (digits : List OwnDigit) 
         left (suc depth) n (count / d.actions)) start
         (subst (λ (n : ℕ). IsUnderBy g player counts digits (set strategy place_there (before + 1))
         left (suc depth) (number + (before + 1 - 1) * others) n) (sym each_is)
-        (under_choice g player counts digits strategy search level depth number count digit_found.0 d refl
-        deep digit_found.1 digit_found.2 (before + 1) (omega arith) (omega (arith, less)) left levelled
+        (under_choice g player counts digits strategy search level depth number count digit_found.0
+        d refl deep digit_found.1 digit_found.2 (before + 1) (omega arith) (omega (arith, less))
+        left levelled
         chosen))))
 
     -- the choices before the digit stay as they are
@@ -509,9 +526,11 @@ module _ (g : Game) (player : ℕ) (counts : List ℕ) (digits : List OwnDigit) 
         → take p new ≡ take p with_choice)
         → take p new ≡ take p strategy
     still p is new kept =
-        let at : drop (depth + 1) digits ≡ digits_from (suc place_there) (drop (suc place_there) counts) =
+        let at : drop (depth + 1) digits
+        ≡ digits_from (suc place_there) (drop (suc place_there) counts) =
         ap (λ (n : ℕ). drop n digits) (add-one depth) ∙ digit_found.2 in
         let behind : p ≤ d.place =
         listed_behind p (drop p counts) d (drop (suc depth) digits) (sym is ∙ there) in
-        shorter new with_choice (suc place_there) p (omega (arith, behind, digit_found.1.0)) (kept (suc place_there) at)
+        shorter new with_choice (suc place_there) p (omega (arith, behind, digit_found.1.0))
+        (kept (suc place_there) at)
         ∙ take-set-le p strategy d.place (before + 1) behind

@@ -80,7 +80,8 @@ IsUnder p s level depth number count =
 
 -- a set at which the strategy has another action than the first, among those of the first digits,
 -- and that cannot be met
-pub record IsShut (digits : List OwnDigit) (depth : ℕ) (strategy : List ℕ) (met : List Bool) : Type 0
+pub record IsShut (digits : List OwnDigit) (depth : ℕ) (strategy : List ℕ) (met : List Bool)
+    : Type 0
   where
     pub digit : ℕ
     pub early : digit < depth

@@ -1,4 +1,4 @@
-use Rattle.std.proofs.Common.{◌≡◌, ◌+◌, ◌*◌, ◌/◌, ◌^◌, ◌<◌, ◌≤◌, ◌∙◌, [], ℕ, OnOk, ap, arith, drop, length}
+use Rattle.std.proofs.Common.{◌≡◌, ◌+◌, ◌*◌, ◌/◌, ◌^◌, ◌<◌, ◌≤◌, ◌∙◌, ℕ, OnOk, ap, arith, length}
 use Rattle.std.proofs.Common.{set, subst, sym, take}
 use Rattle.std.proofs.Math.ListN.{drop_of_length-le}
 use Rattle.std.proofs.lemmas.List.{get_or_default}
@@ -12,7 +12,8 @@ use Rattle.gf_form.proofs.lemmas.reduced.SearchEnds.{first_is, marked, none_foun
 use Rattle.gf_form.proofs.lemmas.reduced.SearchEnds.{strategy_is}
 use Rattle.gf_form.proofs.lemmas.reduced.SearchSteps.{all_rows, at_end, next_search, next_under}
 use Rattle.gf_form.proofs.lemmas.reduced.SearchSteps.{no_digit}
-use Rattle.gf_form.proofs.lemmas.reduced.SearchSteps.{place_inside, row_end, some_actions, step_fits}
+use Rattle.gf_form.proofs.lemmas.reduced.SearchSteps.{place_inside, row_end, some_actions}
+use Rattle.gf_form.proofs.lemmas.reduced.SearchSteps.{step_fits}
 use Rattle.gf_form.proofs.lemmas.reduced.SearchSteps.{still, under_kept}
 use Rattle.gf_form.proofs.reduced.first.Search.+push_below.Goals as goal
 
@@ -59,8 +60,8 @@ push_first-requires-clause-strategy t c =
     let end = at_end p.game.now p.number (action_counts p.game.now p.number) p.digits.items
     s.strategy.items c.requires.search c.args.level.now c.args.depth c.args.number c.args.count
     c.requires.under (drop_of_length-le p.digits.items past) in
-    strategy_is p.game.now c.players-players.ensures.is_game p.number p.digits.items s.strategy.items
-    c.requires.search c.args.level.now c.args.depth c.args.number c.args.count
+    strategy_is p.game.now c.players-players.ensures.is_game p.number p.digits.items
+    s.strategy.items c.requires.search c.args.level.now c.args.depth c.args.number c.args.count
     c.mark.new.met.items c.in_ok-mark.ensures.marks end.0 end.1 deep
     (subst (λ ds. AreOpen ds c.args.depth s.strategy.items c.mark.new.met.items)
     c.deref.ensures.value (c.is_open.ensures.«open» c.if-not-is_open.false))
@@ -154,8 +155,8 @@ index_mut-requires t c =
     c.args.number c.args.count u (i.2 u.place u.left) in
     let less : before < (digit_at digits depth).actions =
     subst (λ (d : OwnDigit). before < d.actions) d_is c.loop-before-test.true in
-    let inside = place_inside p.game.now p.number counts digits now i.0 level depth c.args.number c.args.count
-    v deep in
+    let inside = place_inside p.game.now p.number counts digits now i.0 level depth c.args.number
+    c.args.count v deep in
     omega (
       arith,
       inside,
@@ -183,8 +184,8 @@ choose-requires-clause-fits t c =
     c.args.number c.args.count u (i.2 u.place u.left) in
     let less : before < (digit_at digits depth).actions =
     subst (λ (d : OwnDigit). before < d.actions) d_is c.loop-before-test.true in
-    let fits = step_fits p.game.now p.number counts digits now i.0 level depth c.args.number c.args.count
-    v deep
+    let fits = step_fits p.game.now p.number counts digits now i.0 level depth c.args.number
+    c.args.count v deep
     (before + 1) (omega (arith, less)) in
     subst (λ (a : ℕ). a * c.index-digit.result.now.step + c.index-digit.result.now.step < 2 ^ 64)
     (sym c.from.ensures)
@@ -283,8 +284,8 @@ returns-clause-found t c =
     let now = c.loop-before.self.strategy.items in
     let v = under_kept p.game.now p.number counts digits s.strategy.items now level depth
     c.args.number c.args.count u (i.2 u.place u.left) in
-    let rows = all_rows p.game.now p.number counts digits now i.0 level depth c.args.number c.args.count
-    v deep in
+    let rows = all_rows p.game.now p.number counts digits now i.0 level depth c.args.number
+    c.args.count v deep in
     let end : c.loop-before.before ≡ c.index-digit.result.now.actions =
     omega (arith, c.loop-before-test.false, c.loop-before.auto.before-end) in
     subst (IsFound p c.loop-before.self)

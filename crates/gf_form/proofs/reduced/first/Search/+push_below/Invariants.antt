@@ -7,7 +7,8 @@ abbrev pub decreases-push_below : goal.decreases-push_below
 decreases-push_below l = length l.player.now.digits.items - l.depth
 
 abbrev pub invariant-loop-before : goal.invariant-loop-before
-invariant-loop-before l = IsSearch l.player l.self × IsFound l.player l.self (l.number + l.before * l.each)
+invariant-loop-before l = IsSearch l.player l.self
+    × IsFound l.player l.self (l.number + l.before * l.each)
     × ((place : ℕ) → drop l.depth l.player.digits.items
     ≡ digits_from place (drop place (counts_of l.player))
     → take place l.self.strategy.items ≡ take place l.fn.self.strategy.items)

@@ -38,7 +38,8 @@ loop-visit-preserved c =
     omega (arith, c.loop-visit-test.true, ap length vs) in
     let at = at_visit from i c.requires.level less in
     let is : left_of step action (get_or from.visits.items i no_visit).demands ≡ c.left_of.result =
-    ap (λ vs. left_of step action (get_or vs i no_visit).demands) (sym vs) ∙ sym c.left_of.ensures in
+    ap (λ vs. left_of step action (get_or vs i no_visit).demands) (sym vs)
+    ∙ sym c.left_of.ensures in
     elim c.match-left_of.branch [
       | in-None w ↦
           subst (ChosenTo step action from (i + 1)) (sym w.self-is)
