@@ -1,11 +1,8 @@
 //! Which of some terms count at an action of the slowest digit, by their places.
 
 ghost use Rattle.std.specs.Prelude.{◌+◌, ◌*◌, ◌<◌, ◌≤◌, ◌^◌, ℕ, List, length};
-ghost use Rattle.std.specs.List.Sorted.{IsNonDecreasingBy};
+ghost use Rattle.std.specs.List.Sorted.{IsNonDecreasing};
 ghost use Rattle.gf_form.specs.inner.rows.Entries.{AreChosen, AreWithin, CountsBelow};
-ghost use Rattle.gf_form.specs.declared.rows.terms.Head.{Head};
-
-use crate::rows::terms::Head;
 
 /// The terms that demand nothing at the slowest digit, and those that demand an action there.
 #[derive(Clone, Copy)]
@@ -17,17 +14,17 @@ pub(crate) struct Chosen {
     pub end: usize,
 }
 
-/// How many of these terms, in order of demands, come before a number. Quick if a guess is close.
-fn count_near(heads: &[Head], number: u64, guess: usize) -> usize
-    requires ordered { IsNonDecreasingBy (λ (h : Head). h.demands) heads.now }
-    requires within { guess ≤ length heads.now }
-    ensures { CountsBelow heads.now number result }
+/// How many of these demands, in order, are below a number. Quick if a guess is close.
+fn count_near(demands: &[u64], number: u64, guess: usize) -> usize
+    requires ordered { IsNonDecreasing demands.now }
+    requires within { guess ≤ length demands.now }
+    ensures { CountsBelow demands.now number result }
 {
     let mut count = guess;
-    while count > 0 && heads[count - 1].demands >= number {
+    while count > 0 && demands[count - 1] >= number {
         count -= 1;
     }
-    while count < heads.len() && heads[count].demands < number {
+    while count < demands.len() && demands[count] < number {
         count += 1;
     }
     count
@@ -36,7 +33,7 @@ fn count_near(heads: &[Head], number: u64, guess: usize) -> usize
 impl Chosen {
     /// No terms yet.
     pub(crate) fn none() -> Chosen
-        ensures { (heads : List Head) → AreWithin heads result }
+        ensures { (demands : List ℕ) → AreWithin demands result }
     {
         Chosen {
             free: 0,
@@ -45,19 +42,19 @@ impl Chosen {
         }
     }
 
-    /// The terms that count at this action of a digit with this step. Quick if these are those of
-    /// the action before it.
-    pub(crate) fn next(self, heads: &[Head], step: u64, action: u64) -> Chosen
-        requires ordered { IsNonDecreasingBy (λ (h : Head). h.demands) heads.now }
-        requires within { AreWithin heads.now self }
+    /// The terms with these demands that count at this action of a digit with this step. Quick if
+    /// these are those of the action before it.
+    pub(crate) fn next(self, demands: &[u64], step: u64, action: u64) -> Chosen
+        requires ordered { IsNonDecreasing demands.now }
+        requires within { AreWithin demands.now self }
         requires fits { action * step + step < 2 ^ 64 }
-        ensures chosen { AreChosen heads.now step action result }
-        ensures within { AreWithin heads.now result }
+        ensures chosen { AreChosen demands.now step action result }
+        ensures within { AreWithin demands.now result }
     {
         let lowest = action * step;
-        let free = count_near(heads, step, self.free);
-        let start = count_near(heads, lowest, self.end.max(free));
-        let end = count_near(heads, lowest + step, start);
+        let free = count_near(demands, step, self.free);
+        let start = count_near(demands, lowest, self.end.max(free));
+        let end = count_near(demands, lowest + step, start);
         Chosen { free, start, end }
     }
 }

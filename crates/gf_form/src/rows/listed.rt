@@ -6,6 +6,7 @@ ghost use Rattle.std.specs.Int.{◌∣◌};
 ghost use Rattle.std.specs.List.Sorted.{IsNonDecreasingBy};
 ghost use Rattle.gf_tree.specs.Game.{Game};
 ghost use Rattle.gf_form.specs.inner.rows.Entries.{AreOrdered, EndsBelow, IsShaped, entries};
+ghost use Rattle.gf_form.specs.inner.rows.Entries.{heads};
 ghost use Rattle.gf_form.specs.inner.rows.KeptNodes.{paid_reached};
 ghost use Rattle.gf_form.specs.inner.rows.ListedNodes.{AreTermsOf, IsTermMore};
 ghost use Rattle.gf_form.specs.inner.values.PaidRows.{rows_of};
@@ -99,7 +100,7 @@ fn push_node(
     }
     let demands = node.path.demands;
     let den = if fits { den } else { 0 };
-    terms.heads.push(Head { demands, den, size })?;
+    terms.push_head(Head { demands, den, size })?;
     Ok(())
 }
 
@@ -113,19 +114,20 @@ impl Terms {
             → AreTermsOf g players nodes (entries self.old)
             → AreTermsOf g players nodes (entries self.new)) }
         ensures ordered { OnOk result (AreOrdered self.old → AreOrdered self.new) }
-        ensures last { OnOk result ((demands : ℕ) → EndsBelow self.old.heads.items demands
-            → EndsBelow self.new.heads.items demands) }
+        ensures last { OnOk result ((demands : ℕ) → EndsBelow self.old.demands.items demands
+            → EndsBelow self.new.demands.items demands) }
         ensures shaped { OnOk result (IsShaped self.new) }
         ensures players { OnOk result ((self.new.players ≡ self.old.players)
             × (spare.new.players ≡ spare.old.players)) }
     {
-        let count = self.heads.len();
-        if count < 2 || self.heads[count - 1].demands != self.heads[count - 2].demands {
+        let count = self.demands.len();
+        if count < 2 || self.demands[count - 1] != self.demands[count - 2] {
             return Ok(());
         }
-        spare.clear();
+        spare.clear(0);
         spare.push_sum(self, count - 2, count - 1)?;
-        self.heads.truncate(count - 2);
+        self.demands.truncate(count - 2);
+        self.scaled.truncate(count - 2);
         self.numbers.truncate((count - 2) * self.players);
         self.push(spare, 0, 0)?;
         Ok(())
@@ -133,10 +135,14 @@ impl Terms {
 
     /// Whether all are over this denominator, and fit together.
     pub(crate) fn fit_over(&self, den: u128) -> bool
-        ensures { IsTrue result → FitOver den self.now.heads.items }
+        ensures { IsTrue result → FitOver den (heads self.now) }
     {
+        if den == 0 || den > LARGEST {
+            return false;
+        }
         let mut size: u128 = 0;
-        for head in &self.heads {
+        for place in 0..self.demands.len() {
+            let head = self.head(place);
             let Some(sum) = size.checked_add(head.size) else {
                 return false;
             };
@@ -145,7 +151,7 @@ impl Terms {
             }
             size = sum;
         }
-        den > 0 && den <= LARGEST
+        true
     }
 }
 
@@ -164,8 +170,8 @@ fn listed_over(
     ensures shaped { IfOk result (λ terms. IsShaped terms) }
     ensures players { IfOk result (λ terms. terms.players ≡ players) }
 {
-    let mut terms = Terms::new(alloc, players);
-    let mut spare = Terms::new(alloc, players);
+    let mut terms = Terms::new(alloc, players, 0);
+    let mut spare = Terms::new(alloc, players, 0);
     for node in nodes {
         push_node(&mut terms, *node, payoffs, common)?;
         terms.join_last(&mut spare)?;

@@ -24,20 +24,20 @@ impl Terms {
         requires ordered { AreOrdered from.now }
         requires some { 1 ≤ action }
         requires within { action * step + step < 2 ^ 64 }
-        requires chosen { AreChosen from.now.heads.items step action chosen }
+        requires chosen { AreChosen from.now.demands.items step action chosen }
         ensures merged { OnOk result
             (AreMerged step action (entries from.now) (entries self.new)) }
         ensures ordered { OnOk result (AreOrdered self.new) }
         ensures shaped { OnOk result (IsShaped self.new) }
         ensures players { self.new.players ≡ self.old.players }
     {
-        self.clear();
+        self.clear(from.den);
         let lowest = action * step;
         let mut free = 0;
         let mut own = chosen.start;
         while free < chosen.free && own < chosen.end {
-            let stays = from.heads[free].demands;
-            let goes = from.heads[own].demands - lowest;
+            let stays = from.demands[free];
+            let goes = from.demands[own] - lowest;
             if stays == goes {
                 self.push_sum(from, free, own)?;
                 free += 1;

@@ -87,7 +87,7 @@ impl Terms {
     /// zeros over this denominator.
     fn only(&self, start: usize, end: usize, den: u128) -> Option<Only<'_>>
         requires shaped { IsShaped self.now }
-        requires within { end ≤ length self.now.heads.items }
+        requires within { end ≤ length self.now.demands.items }
         ensures { IfSome result (λ only. IsOnly (part start end (entries self.now)) only) }
     {
         if start >= end {
@@ -104,7 +104,7 @@ impl Terms {
             return None;
         }
         Some(Only {
-            head: self.heads[start],
+            head: self.head(start),
             numbers: self.row(start),
         })
     }
@@ -113,17 +113,17 @@ impl Terms {
     /// `None` if that is not known to fit.
     pub(crate) fn pair(&self, chosen: Chosen) -> Option<Pair<'_>>
         requires shaped { IsShaped self.now }
-        requires within { AreWithin self.now.heads.items chosen }
+        requires within { AreWithin self.now.demands.items chosen }
         ensures last { IfSome result (λ pair. (action : ℕ) → 1 ≤ action
-            → AreChosen self.now.heads.items 1 action chosen
+            → AreChosen self.now.demands.items 1 action chosen
             → ComeToPair (1 ∷ []) (action ∷ []) (entries self.now) pair) }
-        ensures all { IfSome result (λ pair. chosen.free ≡ length self.now.heads.items
+        ensures all { IfSome result (λ pair. chosen.free ≡ length self.now.demands.items
             → chosen.end ≤ chosen.start → ComeToPair [] [] (entries self.now) pair) }
     {
         let den = if chosen.start < chosen.end {
-            self.heads[chosen.start].den
+            self.head(chosen.start).den
         } else if chosen.free > 0 {
-            self.heads[0].den
+            self.head(0).den
         } else {
             1
         };

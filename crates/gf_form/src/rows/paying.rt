@@ -1,8 +1,8 @@
 //! Terms that fit together, without those that add nothing.
 
 ghost use Rattle.std.specs.Prelude.{◌≡◌, IfOk, IsTrue, get_or, pos, ℕ};
-ghost use Rattle.gf_form.specs.inner.rows.Entries.{AreOrdered, IsShaped};
-ghost use Rattle.gf_form.specs.inner.rows.Paying.{SettleAsWell};
+ghost use Rattle.gf_form.specs.inner.rows.Entries.{AreOrdered, IsShaped, entries, heads};
+ghost use Rattle.gf_form.specs.inner.rows.Paying.{FitOver, Kept, SettleAsWell};
 
 use crate::rows::terms::Terms;
 use std::alloc::{AllocError, Global};
@@ -24,7 +24,7 @@ impl Terms {
     fn have_zeros(&self) -> bool
         requires shaped { IsShaped self.now }
     {
-        for place in 0..self.heads.len() {
+        for place in 0..self.demands.len() {
             if are_zero(self.row(place)) {
                 return true;
             }
@@ -32,7 +32,21 @@ impl Terms {
         false
     }
 
-    /// Those of these terms that add something, if all fit together over one denominator; else all.
+    /// Keeps one denominator for all terms, over which they fit together, and no sizes.
+    #[tactic(auto, using(crate::proofs::lemmas::rows::PayingTerms::kept_over))]
+    fn put_over(&mut self, alloc: Global, den: u128)
+        requires { FitOver den (heads self.old) }
+        ensures kept { Kept (entries self.old) (entries self.new) }
+        ensures demands { self.new.demands ≡ self.old.demands }
+        ensures shaped { IsShaped self.old → IsShaped self.new }
+        ensures players { self.new.players ≡ self.old.players }
+    {
+        self.scaled = Vec::new(alloc);
+        self.den = den;
+    }
+
+    /// Those of these terms that add something, over one denominator, if all fit together over it;
+    /// else all as they are.
     pub(crate) fn paying(self, alloc: Global) -> Result<Terms, AllocError>
         requires shaped { IsShaped self }
         requires ordered { AreOrdered self }
@@ -41,13 +55,22 @@ impl Terms {
         ensures ordered { IfOk result AreOrdered }
         ensures players { IfOk result (λ left. left.players ≡ self.players) }
     {
-        if !self.have_zeros() || self.heads.is_empty() || !self.fit_over(self.heads[0].den) {
-            return Ok(self);
+        let mut terms = self;
+        if terms.demands.is_empty() {
+            return Ok(terms);
         }
-        let mut left = Terms::new(alloc, self.players);
-        for place in 0..self.heads.len() {
-            if !are_zero(self.row(place)) {
-                left.push(&self, place, 0)?;
+        let den = terms.head(0).den;
+        if !terms.fit_over(den) {
+            return Ok(terms);
+        }
+        terms.put_over(alloc, den);
+        if !terms.have_zeros() {
+            return Ok(terms);
+        }
+        let mut left = Terms::new(alloc, terms.players, den);
+        for place in 0..terms.demands.len() {
+            if !are_zero(terms.row(place)) {
+                left.push(&terms, place, 0)?;
             }
         }
         Ok(left)

@@ -6,12 +6,12 @@ ghost use Rattle.std.specs.Prelude.{IfOk, List, OnOk, get_or, length, pos, true}
 ghost use Rattle.std.specs.List.{AllByRecursion};
 ghost use Rattle.gf_fraction.specs.Ratio.{IsWithin};
 ghost use Rattle.gf_form.specs.inner.rows.Entries.{HasNumbers, HasSum, IsShaped, entries, entry_at};
-ghost use Rattle.gf_form.specs.inner.rows.Entries.{lowered};
+ghost use Rattle.gf_form.specs.inner.rows.Entries.{heads, lowered};
 
 use crate::rows::sums::{combined, scale_of};
 use std::alloc::{AllocError, Global};
 
-/// What a term demands, and the denominator of its numbers.
+/// What a term demands, and what its numbers are over.
 #[derive(Clone, Copy)]
 pub(crate) struct Head {
     /// The choices that it demands, by their digits.
@@ -22,48 +22,184 @@ pub(crate) struct Head {
     pub size: u128,
 }
 
+/// What the numbers of a term are over, as in its head.
+#[derive(Clone, Copy)]
+pub(crate) struct Scaled {
+    pub den: u128,
+    pub size: u128,
+}
+
 /// Terms, each with a number for each player.
 #[derive(Drop)]
 pub(crate) struct Terms {
     pub players: usize,
-    pub heads: Vec<Head>,
+    /// The choices that each demands.
+    pub demands: Vec<u64>,
+    /// What the numbers of the first ones are over.
+    pub scaled: Vec<Scaled>,
+    /// The denominator of all others. Their sizes do not count, since all of them fit together.
+    pub den: u128,
     /// The numbers of one term after those of another.
     pub numbers: Vec<i128>,
 }
 
+/// Appends numbers that are sums of these, each times its factor; or says that one of them does not
+/// fit.
+#[inline]
+fn push_numbers(
+    numbers: &mut Vec<i128>,
+    first: &[i128],
+    second: &[i128],
+    by_first: u128,
+    by_second: u128,
+) -> Result<bool, AllocError>
+    requires alike { length first.now ≡ length second.now }
+    requires first { AllByRecursion IsWithin first.now }
+    requires second { AllByRecursion IsWithin second.now }
+    ensures { IfOk result (λ fits. HasNumbers first.now second.now by_first by_second fits
+        numbers.old.items numbers.new.items) }
+{
+    let mut fits = true;
+    for place in 0..first.len() {
+        match combined(first[place], by_first, second[place], by_second) {
+            Some(number) => numbers.push(number)?,
+            None => {
+                fits = false;
+                numbers.push(0)?;
+            }
+        }
+    }
+    Ok(fits)
+}
+
 impl Terms {
-    /// No terms.
-    pub(crate) fn new(alloc: Global, players: usize) -> Terms
+    /// No terms. Those to come are over this denominator, unless they are over others.
+    pub(crate) fn new(alloc: Global, players: usize, den: u128) -> Terms
         ensures none { entries result ≡ [] }
+        ensures demands { result.demands.items ≡ [] }
         ensures players { result.players ≡ players }
         ensures shaped { IsShaped result }
     {
         Terms {
             players,
-            heads: Vec::new(alloc),
+            demands: Vec::new(alloc),
+            scaled: Vec::new(alloc),
+            den,
             numbers: Vec::new(alloc),
         }
     }
 
-    /// No terms are left.
-    pub(crate) fn clear(&mut self)
-        ensures none { self.new.heads.items ≡ [] }
-        ensures no_numbers { self.new.numbers.items ≡ [] }
+    /// No terms are left. Those to come are over this denominator, unless they are over others.
+    pub(crate) fn clear(&mut self, den: u128)
+        ensures none { entries self.new ≡ [] }
         ensures players { self.new.players ≡ self.old.players }
+        ensures shaped { IsShaped self.new }
     {
-        self.heads.clear();
+        self.demands.clear();
+        self.scaled.clear();
         self.numbers.clear();
+        self.den = den;
     }
 
     /// The numbers of the term at this place, from 0.
     #[inline]
+    #[tactic(auto, using(crate::proofs::lemmas::rows::FlatRows::there))]
     pub(crate) fn row(&self, place: usize) -> &[i128]
         requires shaped { IsShaped self.now }
-        requires within { place < length self.now.heads.items }
+        requires within { place < length self.now.demands.items }
         ensures { result.now ≡ (entry_at self.now place).row }
     {
         let start = place * self.players;
         &self.numbers[start..start + self.players]
+    }
+
+    /// What the numbers of the term at this place, from 0, are over.
+    #[inline]
+    fn scaled_at(&self, place: usize) -> Scaled
+        ensures { result ≡ get_or self.now.scaled.items place
+            (record { den = self.now.den; size = 0 }) }
+    {
+        match self.scaled.get(place) {
+            Some(scaled) => *scaled,
+            None => Scaled {
+                den: self.den,
+                size: 0,
+            },
+        }
+    }
+
+    /// What the term at this place, from 0, demands, and what its numbers are over.
+    #[inline]
+    #[tactic(auto, using(crate::proofs::lemmas::rows::FlatRows::head_is))]
+    pub(crate) fn head(&self, place: usize) -> Head
+        requires { place < length self.now.demands.items }
+        ensures { result ≡ (entry_at self.now place).head }
+    {
+        let scaled = self.scaled_at(place);
+        Head {
+            demands: self.demands[place],
+            den: scaled.den,
+            size: scaled.size,
+        }
+    }
+
+    /// Notes of each term by itself what its numbers are over.
+    #[tactic(auto, using(crate::proofs::lemmas::rows::FlatRows::next_noted))]
+    fn note_all(&mut self) -> Result<(), AllocError>
+        requires { length self.old.scaled.items ≤ length self.old.demands.items }
+        ensures heads { heads self.new ≡ heads self.old }
+        ensures all { OnOk result (length self.new.scaled.items ≡ length self.new.demands.items) }
+        ensures demands { self.new.demands ≡ self.old.demands }
+        ensures numbers { self.new.numbers ≡ self.old.numbers }
+        ensures players { self.new.players ≡ self.old.players }
+    {
+        while self.scaled.len() < self.demands.len() {
+            self.scaled.push(Scaled {
+                den: self.den,
+                size: 0,
+            })?;
+        }
+        Ok(())
+    }
+
+    /// Appends a head, for the numbers that were appended last.
+    #[inline]
+    #[tactic(auto, using(crate::proofs::lemmas::rows::FlatRows::one_noted, crate::proofs::lemmas::rows::FlatRows::one_plain))]
+    pub(crate) fn push_head(&mut self, head: Head) -> Result<(), AllocError>
+        requires { length self.old.scaled.items ≤ length self.old.demands.items }
+        ensures heads { OnOk result (heads self.new ≡ heads self.old ++ head ∷ []) }
+        ensures demands { OnOk result
+            (self.new.demands.items ≡ self.old.demands.items ++ head.demands ∷ []) }
+        ensures scaled { OnOk result
+            (length self.new.scaled.items ≤ length self.new.demands.items) }
+        ensures numbers { self.new.numbers ≡ self.old.numbers }
+        ensures players { self.new.players ≡ self.old.players }
+    {
+        if head.den != self.den || head.size > 0 {
+            self.note_all()?;
+            self.scaled.push(Scaled {
+                den: head.den,
+                size: head.size,
+            })?;
+        }
+        self.demands.push(head.demands)?;
+        Ok(())
+    }
+
+    /// Appends a term with this head and the numbers of the term of a list at this place, from 0.
+    #[inline]
+    fn push_row(&mut self, from: &Terms, place: usize, head: Head) -> Result<(), AllocError>
+        requires players { self.old.players ≡ from.now.players }
+        requires shaped { IsShaped self.old × IsShaped from.now }
+        requires within { place < length from.now.demands.items }
+        ensures pushed { OnOk result (entries self.new ≡ entries self.old
+            ++ record { head = head; row = (entry_at from.now place).row } ∷ []) }
+        ensures players { self.new.players ≡ self.old.players }
+        ensures shaped { OnOk result (IsShaped self.new) }
+    {
+        self.numbers.extend_from_slice(from.row(place))?;
+        self.push_head(head)?;
+        Ok(())
     }
 
     /// Appends the term of a list at this place, from 0, with its demands lowered by this.
@@ -71,53 +207,16 @@ impl Terms {
     pub(crate) fn push(&mut self, from: &Terms, place: usize, less: u64) -> Result<(), AllocError>
         requires players { self.old.players ≡ from.now.players }
         requires shaped { IsShaped self.old × IsShaped from.now }
-        requires within { place < length from.now.heads.items }
+        requires within { place < length from.now.demands.items }
         requires less { less ≤ (entry_at from.now place).head.demands }
         ensures pushed { OnOk result (entries self.new
             ≡ entries self.old ++ lowered less (entry_at from.now place) ∷ []) }
         ensures players { self.new.players ≡ self.old.players }
         ensures shaped { OnOk result (IsShaped self.new) }
     {
-        let head = from.heads[place];
-        self.numbers.extend_from_slice(from.row(place))?;
-        self.heads.push(Head {
-            demands: head.demands - less,
-            den: head.den,
-            size: head.size,
-        })?;
-        Ok(())
-    }
-
-    /// Appends numbers that are sums of these, each times its factor; or says that one of them does
-    /// not fit.
-    #[inline]
-    fn push_numbers(
-        &mut self,
-        first: &[i128],
-        second: &[i128],
-        by_first: u128,
-        by_second: u128,
-    ) -> Result<bool, AllocError>
-        requires alike { length first.now ≡ length second.now }
-        requires first { AllByRecursion IsWithin first.now }
-        requires second { AllByRecursion IsWithin second.now }
-        ensures numbers { IfOk result
-            (λ fits. HasNumbers first.now second.now by_first by_second fits
-            self.old.numbers.items self.new.numbers.items) }
-        ensures heads { self.new.heads ≡ self.old.heads }
-        ensures players { self.new.players ≡ self.old.players }
-    {
-        let mut fits = true;
-        for place in 0..first.len() {
-            match combined(first[place], by_first, second[place], by_second) {
-                Some(number) => self.numbers.push(number)?,
-                None => {
-                    fits = false;
-                    self.numbers.push(0)?;
-                }
-            }
-        }
-        Ok(fits)
+        let mut head = from.head(place);
+        head.demands -= less;
+        self.push_row(from, place, head)
     }
 
     /// Appends the sum of two terms of a list, at these places, from 0, with the demands of the
@@ -131,28 +230,30 @@ impl Terms {
     ) -> Result<(), AllocError>
         requires players { self.old.players ≡ from.now.players }
         requires shaped { IsShaped self.old × IsShaped from.now }
-        requires first { first < length from.now.heads.items }
-        requires second { second < length from.now.heads.items }
+        requires first { first < length from.now.demands.items }
+        requires second { second < length from.now.demands.items }
         ensures sum { OnOk result (HasSum (entry_at from.now first) (entry_at from.now second)
             (entries self.old) (entries self.new)) }
         ensures players { self.new.players ≡ self.old.players }
         ensures shaped { OnOk result (IsShaped self.new) }
     {
-        let own = from.heads[first];
+        let own = from.head(first);
         let demands = own.demands;
-        let Some(scale) = scale_of(own, from.heads[second]) else {
-            self.numbers.extend_from_slice(from.row(first))?;
-            self.heads.push(Head {
+        let Some(scale) = scale_of(own, from.head(second)) else {
+            let unknown = Head {
                 demands,
                 den: 0,
                 size: 0,
-            })?;
+            };
+            self.push_row(from, first, unknown)?;
             return Ok(());
         };
-        let fits = self.push_numbers(from.row(first), from.row(second), scale.first, scale.second)?;
+        let one = from.row(first);
+        let other = from.row(second);
+        let fits = push_numbers(&mut self.numbers, one, other, scale.first, scale.second)?;
         let den = if fits { scale.den } else { 0 };
         let size = scale.size;
-        self.heads.push(Head { demands, den, size })?;
+        self.push_head(Head { demands, den, size })?;
         Ok(())
     }
 }

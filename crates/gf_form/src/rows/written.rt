@@ -203,7 +203,7 @@ impl Written {
         ensures written { OnOk result (AreWritten asked.now run.to self.new) }
         ensures refused { IsRightlyRefused asked.now result }
     {
-        let all = terms.heads.len();
+        let all = terms.demands.len();
         let alone = Chosen {
             free: all,
             start: all,
@@ -232,7 +232,7 @@ impl Written {
         let mut chosen = Chosen::none();
         for before in run.from..run.to {
             let action = u64::from(asked.numbers[before as usize] - run.first) + 1;
-            chosen = chosen.next(&terms.heads, 1, action);
+            chosen = chosen.next(&terms.demands, 1, action);
             self.push_row(asked, terms.pair(chosen), terms.players, before)?;
         }
         Ok(())
@@ -249,7 +249,7 @@ impl Written {
                 list.players = players;
                 list
             }
-            None => Terms::new(self.alloc, players),
+            None => Terms::new(self.alloc, players, 0),
         }
     }
 
@@ -306,7 +306,7 @@ impl Terms {
     ) -> Result<(Run, Chosen), AllocError>
         requires asked { IsAsked asked.now }
         requires some { run.from < run.to }
-        requires near { AreWithin terms.now.heads.items near }
+        requires near { AreWithin terms.now.demands.items near }
         requires within { run.to ≤ length asked.now.numbers.now }
         requires shaped { IsShaped terms.now }
         requires ordered { AreOrdered terms.now }
@@ -325,13 +325,13 @@ impl Terms {
         ensures count { IfOk result (λ next. next.0.count ≡ product (actions_at faster.now)) }
         ensures settles { IfOk result
             (λ next. SettleRows asked.now (actions_at faster.now) self.new next.0) }
-        ensures near { IfOk result (λ next. AreWithin terms.now.heads.items next.1) }
+        ensures near { IfOk result (λ next. AreWithin terms.now.demands.items next.1) }
     {
         let count = run.count / slowest.actions;
         let before = (asked.numbers[run.from as usize] - run.first) / count;
         let first = run.first + before * count;
         let action = u64::from(before) + 1;
-        let chosen = near.next(&terms.heads, slowest.step, action);
+        let chosen = near.next(&terms.demands, slowest.step, action);
         self.merge(terms, chosen, slowest.step, action)?;
         let from = run.from;
         let are_places = asked.are_places;

@@ -1,23 +1,24 @@
 -- Terms whose numbers stand one row after another.
-use Rattle.std.proofs.Common.{◌≡◌, ℕ, ℤ, zero, suc, ◌+◌, ◌-◌, ◌*◌, ◌<◌, ◌≤◌, ◌/◌, ◌+ℤ◌, ◌*ℤ◌, List}
+use Rattle.std.proofs.Common.{◌≡◌, ℕ, ℤ, zero, suc, ◌+◌, ◌*◌, ◌<◌, ◌≤◌, ◌/◌, ◌+ℤ◌, ◌*ℤ◌, List}
 use Rattle.std.proofs.Common.{[], ◌∷◌, ◌++◌, Bool, true, false, pos, inl, inr, ◌⊎◌, length, get_or}
 use Rattle.std.proofs.Common.{take, drop, refl, ap, sym, subst, ◌∙◌, arith, map}
 use Rattle.std.proofs.Math.Seq.{take-length, get_or-append_seam}
 use Rattle.std.specs.Int.{◌∣◌}
 use Rattle.std.proofs.Math.IntN.{zero-*ℤ}
 use Rattle.std.proofs.lemmas.Bool.{cases_lt}
-use Rattle.std.proofs.lemmas.List.{get_or_append_left, length-take-le, append_assoc, get_or_default}
+use Rattle.std.proofs.lemmas.List.{get_or_append_left, length-take-le, append_assoc}
 use Rattle.std.proofs.lemmas.List.{drop-append-le, drop-drop, take-append-drop, length-append}
 use Rattle.std.proofs.lemmas.List.{length-drop, map-append, take-append-le}
 use Rattle.std.proofs.lemmas.Nat.Gcd.{dvd_refl}
 use Rattle.gf_fraction.specs.Ratio.{IsWithin}
 use Rattle.gf_fraction.proofs.AllElements.{all_both, all_parts}
 use Rattle.std.specs.List.{AllByRecursion}
-use Rattle.gf_form.specs.inner.rows.Entries.{Entry, HasNumbers, HasSum, IsScale, IsShaped, IsSumOf}
-use Rattle.gf_form.specs.inner.rows.Entries.{entries, entries_of, entry_at, lowered, no_entry}
-use Rattle.gf_form.specs.inner.rows.Entries.{no_head, number_at}
+use Rattle.gf_form.specs.inner.rows.Entries.{Entry, HasNumbers, IsScale, IsShaped, IsSumOf}
+use Rattle.gf_form.specs.inner.rows.Entries.{entries, entries_of, entry_at, heads, heads_of}
+use Rattle.gf_form.specs.inner.rows.Entries.{no_entry, no_head, number_at}
 use Rattle.gf_form.specs.declared.rows.sums.Scale.{Scale}
 use Rattle.gf_form.specs.declared.rows.terms.Head.{Head}
+use Rattle.gf_form.specs.declared.rows.terms.Scaled.{Scaled}
 use Rattle.gf_form.specs.declared.rows.terms.Terms.{Terms}
 
 pub past : (xs : List ℤ) (k : ℕ) → length xs ≤ k → get_or xs k (pos 0) ≡ pos 0
@@ -57,51 +58,111 @@ pub entries_count : (p : ℕ) (hs : List Head) (ns : List ℤ)
 entries_count p [] ns = refl
 entries_count p (h ∷ hs) ns = ap suc (entries_count p hs (drop p ns))
 
-heads_in : (p : ℕ) (hs : List Head) (ns : List ℤ)
-    → map (λ (e : Entry). e.head) (entries_of p hs ns) ≡ hs
-heads_in p [] ns = refl
-heads_in p (h ∷ hs) ns = ap (λ (gs : List Head). h ∷ gs) (heads_in p hs (drop p ns))
+-- ---- heads
 
-pub heads_more : (after : Terms) (p : ℕ) (hs : List Head) (ns : List ℤ) (e : Entry)
-    → entries after ≡ entries_of p hs ns ++ e ∷ [] → after.heads.items ≡ hs ++ e.head ∷ []
-heads_more after p hs ns e is =
-    sym (heads_in after.players after.heads.items after.numbers.items)
-    ∙ ap (map (λ (f : Entry). f.head)) is
-    ∙ map-append (λ (f : Entry). f.head) (entries_of p hs ns) (e ∷ [])
-    ∙ ap (λ (gs : List Head). gs ++ e.head ∷ []) (heads_in p hs ns)
+pub heads_count : (den : ℕ) (ds : List ℕ) (ss : List Scaled)
+    → length (heads_of den ds ss) ≡ length ds
+heads_count den [] ss = refl
+heads_count den (d ∷ ds) [] = ap suc (heads_count den ds [])
+heads_count den (d ∷ ds) (s ∷ ss) = ap suc (heads_count den ds ss)
 
-pub shaped_more : (p : ℕ) (hs : List Head) (ns row : List ℤ) (h : Head)
-    → length ns ≡ length hs * p → length row ≡ p
-    → length (ns ++ row) ≡ length (hs ++ h ∷ []) * p
-shaped_more p hs ns row h shaped one_each =
-    let both = length-append ns row in
-    let heads : length (hs ++ h ∷ []) ≡ length hs + 1 = length-append hs (h ∷ []) in
-    let more : (length hs + 1) * p ≡ length hs * p + p = omega arith in
-    both ∙ omega (arith, shaped, one_each, more) ∙ ap (λ (n : ℕ). n * p) (sym heads)
+pub terms_count : (t : Terms) → length (entries t) ≡ length t.demands.items
+terms_count t =
+    entries_count t.players (heads t) t.numbers.items
+    ∙ heads_count t.den t.demands.items t.scaled.items
+
+head_there : (den : ℕ) (ds : List ℕ) (ss : List Scaled) (k : ℕ) → k < length ds
+    → get_or (heads_of den ds ss) k no_head ≡ record {
+      demands = get_or ds k 0;
+      den = (get_or ss k (record { den = den; size = 0 })).den;
+      size = (get_or ss k (record { den = den; size = 0 })).size;
+    }
+head_there den [] ss k less = absurd (omega (arith, less))
+head_there den (d ∷ ds) [] zero less = refl
+head_there den (d ∷ ds) [] (suc k) less =
+    grind (arith, get_or, head_there den ds [] k (omega (arith, less)))
+head_there den (d ∷ ds) (s ∷ ss) zero less = refl
+head_there den (d ∷ ds) (s ∷ ss) (suc k) less = head_there den ds ss k (omega (arith, less))
+
+-- one more of which nothing is noted
+pub one_plain : (den : ℕ) (ds : List ℕ) (ss : List Scaled) (d : ℕ) → length ss ≤ length ds
+    → heads_of den (ds ++ d ∷ []) ss
+    ≡ heads_of den ds ss ++ record { demands = d; den = den; size = 0 } ∷ []
+one_plain den [] [] d less = refl
+one_plain den [] (s ∷ ss) d less = absurd (omega (arith, less))
+one_plain den (e ∷ ds) [] d less = cc (one_plain den ds [] d (omega arith))
+one_plain den (e ∷ ds) (s ∷ ss) d less = cc (one_plain den ds ss d (omega (arith, less)))
+
+-- one more that is noted, as all are
+pub one_noted : (den : ℕ) (ds : List ℕ) (ss : List Scaled) (d : ℕ) (s : Scaled)
+    → length ss ≡ length ds → heads_of den (ds ++ d ∷ []) (ss ++ s ∷ [])
+    ≡ heads_of den ds ss ++ record { demands = d; den = s.den; size = s.size } ∷ []
+one_noted den [] [] d s all = refl
+one_noted den [] (t ∷ ss) d s all = absurd (omega (arith, all))
+one_noted den (e ∷ ds) [] d s all = absurd (omega (arith, all))
+one_noted den (e ∷ ds) (t ∷ ss) d s all = cc (one_noted den ds ss d s (omega (arith, all)))
+
+-- what is so for the next anyway is noted of it
+pub next_noted : (den : ℕ) (ds : List ℕ) (ss : List Scaled) → length ss < length ds
+    → heads_of den ds (ss ++ record { den = den; size = 0 } ∷ []) ≡ heads_of den ds ss
+next_noted den [] ss less = absurd (omega (arith, less))
+next_noted den (d ∷ ds) [] less = refl
+next_noted den (d ∷ ds) (s ∷ ss) less = cc (next_noted den ds ss (omega (arith, less)))
+
+demands_in : (den p : ℕ) (ds : List ℕ) (ss : List Scaled) (ns : List ℤ)
+    → map (λ (e : Entry). e.head.demands) (entries_of p (heads_of den ds ss) ns) ≡ ds
+demands_in den p [] ss ns = refl
+demands_in den p (d ∷ ds) [] ns = cc (demands_in den p ds [] (drop p ns))
+demands_in den p (d ∷ ds) (s ∷ ss) ns = cc (demands_in den p ds ss (drop p ns))
+
+pub demands_more : (after : Terms) (den p : ℕ) (ds : List ℕ) (ss : List Scaled) (ns : List ℤ)
+    (e : Entry) → entries after ≡ entries_of p (heads_of den ds ss) ns ++ e ∷ []
+    → after.demands.items ≡ ds ++ e.head.demands ∷ []
+demands_more after den p ds ss ns e is =
+    sym (demands_in after.den after.players after.demands.items after.scaled.items
+    after.numbers.items)
+    ∙ ap (map (λ (f : Entry). f.head.demands)) is
+    ∙ map-append (λ (f : Entry). f.head.demands) (entries_of p (heads_of den ds ss) ns) (e ∷ [])
+    ∙ ap (λ (es : List ℕ). es ++ e.head.demands ∷ []) (demands_in den p ds ss ns)
 
 -- a row is among the numbers
 pub row_within : (p count place : ℕ) → place < count → place * p + p ≤ count * p
 row_within p count place within = grind arith
 
--- what the code reads at a place
-abbrev pub head_at : Terms → ℕ → Head
-head_at t place = get_or t.heads.items place no_head
+-- ---- the term at a place
 
-pub entry_head : (t : Terms) (place : ℕ) → place < length t.heads.items
-    → (entry_at t place).head ≡ head_at t place
-entry_head t place within = grind (arith, entry_is)
+module _ (t : Terms) (place : ℕ) (within : place < length t.demands.items) where
+  pub there : entry_at t place ≡ record {
+    head = get_or (heads t) place no_head;
+    row = take t.players (drop (place * t.players) t.numbers.items);
+  }
+  there =
+      entry_is t.players (heads t) t.numbers.items place no_head
+      (omega (arith, within, heads_count t.den t.demands.items t.scaled.items))
+
+  pub head_is : (entry_at t place).head ≡ record {
+    demands = get_or t.demands.items place 0;
+    den = (get_or t.scaled.items place (record { den = t.den; size = 0 })).den;
+    size = (get_or t.scaled.items place (record { den = t.den; size = 0 })).size;
+  }
+  head_is =
+      ap (λ (e : Entry). e.head) there
+      ∙ head_there t.den t.demands.items t.scaled.items place within
+
+  pub entry_demands : (entry_at t place).head.demands ≡ get_or t.demands.items place 0
+  entry_demands = ap (λ (h : Head). h.demands) head_is
 
 -- ---- a term more
 
-pub row_length : (t : Terms) (place : ℕ) → IsShaped t → place < length t.heads.items
+pub row_length : (t : Terms) (place : ℕ) → IsShaped t → place < length t.demands.items
     → length (entry_at t place).row ≡ t.players
 row_length t place shaped within =
     let p = t.players in
     let ns = t.numbers.items in
-    let room = row_within p (length t.heads.items) place within in
+    let room = row_within p (length t.demands.items) place within in
     let left : p ≤ length (drop (place * p) ns) =
     omega (arith, room, shaped.count, length-drop (place * p) ns) in
-    ap (λ (e : Entry). length e.row) (entry_is p t.heads.items ns place no_head within)
+    ap (λ (e : Entry). length e.row) (there t place within)
     ∙ length-take-le p (drop (place * p) ns) left
 
 taken_within : (i : ℕ) (ns : List ℤ) → AllByRecursion IsWithin ns
@@ -110,40 +171,49 @@ taken_within i ns h =
     all_parts IsWithin (take i ns) (drop i ns)
     (subst (AllByRecursion IsWithin) (sym (take-append-drop i ns)) h)
 
-pub row_in_bound : (t : Terms) (place : ℕ) → IsShaped t → place < length t.heads.items
+pub row_in_bound : (t : Terms) (place : ℕ) → IsShaped t → place < length t.demands.items
     → AllByRecursion IsWithin (entry_at t place).row
 row_in_bound t place shaped within =
     let p = t.players in
     let ns = t.numbers.items in
     subst (λ (e : Entry). AllByRecursion IsWithin e.row)
-    (sym (entry_is p t.heads.items ns place no_head within))
+    (sym (there t place within))
     (taken_within p (drop (place * p) ns) (taken_within (place * p) ns shaped.within).1).0
 
--- a head and a row that were pushed
-pub record Pushed (to : Terms) (e : Entry) (heads : List Head) (numbers : List ℤ) : Type 0 where
-  pub pushed : entries_of to.players heads numbers ≡ entries to ++ e ∷ []
-  pub count : length numbers ≡ length heads * to.players
-  pub within : AllByRecursion IsWithin numbers
+-- the term of a head and a row that were pushed
+pub record Pushed (to after : Terms) (e : Entry) : Type 0 where
+  pub pushed : entries after ≡ entries to ++ e ∷ []
+  pub shaped : IsShaped after
 
-pub is_pushed : (to : Terms) (h : Head) (row : List ℤ) (heads : List Head) (numbers : List ℤ)
-    → IsShaped to → AllByRecursion IsWithin row → length row ≡ to.players
-    → heads ≡ to.heads.items ++ h ∷ [] → numbers ≡ to.numbers.items ++ row
-    → Pushed to (record { head = h; row = row }) heads numbers
-is_pushed to h row heads numbers shaped all one_each heads_are numbers_are = grind (
-  arith,
-  entry_more,
-  shaped_more,
-  all_both,
-)
+pub is_pushed : (to after : Terms) (h : Head) (row : List ℤ) → IsShaped to
+    → AllByRecursion IsWithin row → length row ≡ to.players → after.players ≡ to.players
+    → heads after ≡ heads to ++ h ∷ []
+    → after.demands.items ≡ to.demands.items ++ h.demands ∷ []
+    → length after.scaled.items ≤ length after.demands.items
+    → after.numbers.items ≡ to.numbers.items ++ row
+    → Pushed to after (record { head = h; row = row })
+is_pushed to after h row shaped within one_each players heads_are demands scaled is = record {
+  pushed = (λ i. entries_of (players i) (heads_are i) (is i))
+      ∙ entry_more to.players (heads to) to.numbers.items row h
+      (shaped.count ∙ ap (λ (n : ℕ). n * to.players)
+      (sym (heads_count to.den to.demands.items to.scaled.items))) one_each;
+  shaped = record {
+    count = all ∙ (λ i. sym grown i * sym players i);
+    within = subst (AllByRecursion IsWithin) (sym is)
+        (all_both IsWithin to.numbers.items row shaped.within within);
+    scaled = scaled;
+  };
+}
+  where
+    grown : length after.demands.items ≡ length to.demands.items + 1
+    grown = ap length demands ∙ length-append to.demands.items (h.demands ∷ [])
 
--- a head with lower demands, as the code makes it of another
-abbrev pub less_head : Head → ℕ → Head
-less_head h less = record { demands = h.demands - less; den = h.den; size = h.size }
-
-pub lowered_is : (from : Terms) (place less : ℕ) (h : Head) (row : List ℤ)
-    → place < length from.heads.items → h ≡ head_at from place → row ≡ (entry_at from place).row
-    → record { head = less_head h less; row = row } ≡ lowered less (entry_at from place)
-lowered_is from place less h row within is row_is = grind (arith, entry_head)
+    all : length after.numbers.items ≡ (length to.demands.items + 1) * to.players
+    all =
+        let both = length-append to.numbers.items row in
+        let more : (length to.demands.items + 1) * to.players
+        ≡ length to.demands.items * to.players + to.players = omega arith in
+        ap length is ∙ omega (arith, both, shaped.count, one_each, more)
 
 -- ---- two terms over one denominator
 
@@ -240,24 +310,3 @@ sum_made a b s fits demands row is sums den known above =
     (record { head = record { demands = demands; den = n; size = s.size }; row = row }))
     (sym k.1)
     (grind arith)
-
--- what the code reads at a place
-pub head_read : (t : Terms) (place : ℕ) (h : Head) → place < length t.heads.items
-    → h ≡ get_or t.heads.items place h → h ≡ head_at t place
-head_read t place h within is = is ∙ get_or_default t.heads.items place h no_head within
-
-pub has_sum : (to from : Terms) (first second den size : ℕ) (own : Head) (row : List ℤ)
-    (heads : List Head) (numbers : List ℤ) → first < length from.heads.items
-    → own ≡ head_at from first
-    → Pushed to (record {
-      head = record { demands = own.demands; den = den; size = size };
-      row = row;
-    }) heads numbers
-    → (0 < den → IsSumOf (entry_at from first) (entry_at from second) (record {
-      head = record { demands = own.demands; den = den; size = size };
-      row = row;
-    }))
-    → HasSum (entry_at from first) (entry_at from second) (entries to)
-    (entries_of to.players heads numbers)
-has_sum to from first second den size own row heads numbers within is made adds =
-    grind (arith, entry_head)

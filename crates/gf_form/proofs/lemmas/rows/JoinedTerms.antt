@@ -1,18 +1,20 @@
 -- Terms, when the last two become their sum.
 use Rattle.std.proofs.Common.{◌≡◌, ℕ, ℤ, zero, suc, ◌+◌, ◌-◌, ◌*◌, List, [], ◌∷◌, ◌++◌, ap, arith}
 use Rattle.std.proofs.Common.{drop, get_or, length, refl, subst, sym, take, ◌∙◌}
+use Rattle.std.proofs.Math.Seq.{take-nil}
 use Rattle.std.proofs.lemmas.List.{drop-take, get_or-take, get_or_default, length-take}
 use Rattle.std.proofs.lemmas.List.Sorted.{IsNonDecreasingBy-take}
 use Rattle.gf_tree.specs.Game.{Game}
 use Rattle.gf_form.specs.inner.rows.Entries.{AreOrdered, EndsBelow, Entry, HasSum, entries}
-use Rattle.gf_form.specs.inner.rows.Entries.{entries_of, entry_at, lowered, no_head}
+use Rattle.gf_form.specs.inner.rows.Entries.{entries_of, entry_at, heads, heads_of, lowered}
 use Rattle.gf_form.specs.inner.rows.ListedNodes.{AreTermsOf}
 use Rattle.gf_form.specs.declared.rows.paths.Reached.{Reached}
 use Rattle.gf_form.specs.declared.rows.terms.Head.{Head}
+use Rattle.gf_form.specs.declared.rows.terms.Scaled.{Scaled}
 use Rattle.gf_form.specs.declared.rows.terms.Terms.{Terms}
-use Rattle.gf_form.proofs.lemmas.rows.FlatRows.{entries_count, entry_head, head_at, heads_more}
+use Rattle.gf_form.proofs.lemmas.rows.FlatRows.{demands_more, entry_demands, terms_count}
 use Rattle.gf_form.proofs.lemmas.rows.ListedEntries.{one_term_less}
-use Rattle.gf_form.proofs.lemmas.rows.Merges.{below_more, ordered_more}
+use Rattle.gf_form.proofs.lemmas.rows.Merges.{below_more, demands_at, ordered_more}
 
 -- ---- the first ones of a list
 
@@ -36,6 +38,13 @@ entries_cut p (h ∷ hs) ns (suc n) =
     ∙ ap (λ (es : List Entry). record { head = h; row = take p ns } ∷ es)
     (entries_cut p hs (drop p ns) n)
 
+heads_cut : (den : ℕ) (ds : List ℕ) (ss : List Scaled) (n : ℕ)
+    → heads_of den (take n ds) (take n ss) ≡ take n (heads_of den ds ss)
+heads_cut den ds ss zero = refl
+heads_cut den [] ss (suc n) = refl
+heads_cut den (d ∷ ds) [] (suc n) = cc (heads_cut den ds [] n, take-nil {A = Scaled} n)
+heads_cut den (d ∷ ds) (s ∷ ss) (suc n) = cc (heads_cut den ds ss n)
+
 last_two : {X : Type 0} (xs : List X) (n : ℕ) (d : X) → length xs ≡ n + 2
     → xs ≡ take n xs ++ get_or xs n d ∷ get_or xs (n + 1) d ∷ []
 last_two [] n d two = absurd (omega (arith, two))
@@ -51,28 +60,31 @@ pub record Joined (old after : Terms) : Type 0 where
   pub terms : (g : Game) (players : ℕ) (nodes : List Reached)
       → AreTermsOf g players nodes (entries old) → AreTermsOf g players nodes (entries after)
   pub ordered : AreOrdered old → AreOrdered after
-  pub last : (demands : ℕ) → EndsBelow old.heads.items demands
-      → EndsBelow after.heads.items demands
+  pub last : (demands : ℕ) → EndsBelow old.demands.items demands
+      → EndsBelow after.demands.items demands
 
-module _ (old spare sums after : Terms) (n last : ℕ) (two : length old.heads.items ≡ n + 2)
-    (next : last ≡ n + 1)
-    (same : (head_at old n).demands ≡ (head_at old last).demands)
-    (none : spare.heads.items ≡ [])
+module _ (old spare sums after : Terms) (n last : ℕ) (two : length old.demands.items ≡ n + 2)
+    (next : last ≡ n + 1) (same : demands_at old n ≡ demands_at old last)
+    (none : entries spare ≡ [])
     (has : HasSum (entry_at old n) (entry_at old last) (entries spare) (entries sums))
-    (is : entries after ≡ entries_of old.players (take n old.heads.items)
+    (is : entries after ≡ entries_of old.players
+    (heads_of old.den (take n old.demands.items) (take n old.scaled.items))
     (take (n * old.players) old.numbers.items) ++ lowered 0 (entry_at sums 0) ∷ []) where
   sum_is : lowered 0 (entry_at sums 0) ≡ has.sum
   sum_is = grind arith
 
   all_are : entries after ≡ take n (entries old) ++ has.sum ∷ []
   all_are =
-      is ∙ (λ i. entries_cut old.players old.heads.items old.numbers.items n i ++ sum_is i ∷ [])
+      is ∙ (λ i. entries_of old.players (heads_cut old.den old.demands.items old.scaled.items n i)
+      (take (n * old.players) old.numbers.items) ++ sum_is i ∷ [])
+      ∙ ap (λ (es : List Entry). es ++ has.sum ∷ [])
+      (entries_cut old.players (heads old) old.numbers.items n)
 
-  heads_are : after.heads.items ≡ take n old.heads.items ++ has.sum.head ∷ []
-  heads_are = grind (arith, heads_more, sum_is)
+  grown : after.demands.items ≡ take n old.demands.items ++ has.sum.head.demands ∷ []
+  grown = grind (arith, demands_more, sum_is)
 
-  first : has.sum.head.demands ≡ (head_at old n).demands
-  first = has.demands ∙ ap (λ (h : Head). h.demands) (entry_head old n (omega (arith, two)))
+  first : has.sum.head.demands ≡ demands_at old n
+  first = has.demands ∙ entry_demands old n (omega (arith, two))
 
   joined_terms : (g : Game) (players : ℕ) (nodes : List Reached)
       → AreTermsOf g players nodes (entries old) → AreTermsOf g players nodes (entries after)
@@ -80,33 +92,32 @@ module _ (old spare sums after : Terms) (n last : ℕ) (two : length old.heads.i
       subst (AreTermsOf g players nodes) (sym all_are)
       (one_term_less g players nodes (take n (entries old)) (entry_at old n)
       (entry_at old last) has.sum has.demands
-      (grind (arith, first, entry_head))
+      (grind (arith, first, entry_demands))
       has.adds
-      (grind (arith, last_two, entries_count)))
+      (grind (arith, last_two, terms_count)))
 
   joined_ordered : AreOrdered old → AreOrdered after
   joined_ordered sorted =
-      ordered_more (take n old.heads.items) after.heads.items has.sum.head heads_are
-      (IsNonDecreasingBy-take (λ (h : Head). h.demands) n old.heads.items sorted) below
+      ordered_more (take n old.demands.items) after.demands.items has.sum.head.demands grown
+      (IsNonDecreasingBy-take (λ (d : ℕ). d) n old.demands.items sorted) below
     where
-      below : EndsBelow (take n old.heads.items) has.sum.head.demands
+      below : EndsBelow (take n old.demands.items) has.sum.head.demands
       below d some =
-          let count : length (take n old.heads.items) ≡ n =
-          length-take n old.heads.items ∙ omega (arith, two) in
-          let there = ap (λ (h : Head). h.demands)
-          (ap (λ (k : ℕ). get_or (take n old.heads.items) (k - 1) d) count
-          ∙ get_or-take n old.heads.items (n - 1) d (omega (arith, some, count))) in
-          let up = sorted (n - 1) n no_head (omega arith) (omega (arith, two)) in
+          let count : length (take n old.demands.items) ≡ n =
+          length-take n old.demands.items ∙ omega (arith, two) in
+          let there = ap (λ (k : ℕ). get_or (take n old.demands.items) (k - 1) d) count
+          ∙ get_or-take n old.demands.items (n - 1) d (omega (arith, some, count)) in
+          let up = sorted (n - 1) n 0 (omega arith) (omega (arith, two)) in
           grind (arith, get_or_default, first)
 
-  joined_last : (demands : ℕ) → EndsBelow old.heads.items demands
-      → EndsBelow after.heads.items demands
+  joined_last : (demands : ℕ) → EndsBelow old.demands.items demands
+      → EndsBelow after.demands.items demands
   joined_last demands ends =
-      let least = ends no_head (omega (arith, two)) in
-      let place : length old.heads.items - 1 ≡ last = omega (arith, two, next) in
-      let there : (get_or old.heads.items (length old.heads.items - 1) no_head).demands
-      ≡ (head_at old last).demands = cc in
-      below_more (take n old.heads.items) after.heads.items has.sum.head demands heads_are
+      let least = ends 0 (omega (arith, two)) in
+      let place : length old.demands.items - 1 ≡ last = omega (arith, two, next) in
+      let there : get_or old.demands.items (length old.demands.items - 1) 0
+      ≡ demands_at old last = cc in
+      below_more (take n old.demands.items) after.demands.items has.sum.head.demands demands grown
       (omega (arith, first, same, there, least))
 
   pub joined : Joined old after

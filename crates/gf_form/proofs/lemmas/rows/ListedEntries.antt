@@ -144,7 +144,7 @@ pub record Listing (rows : List (List Ratio)) (players : ℕ) (rs : List Reached
   pub told : (g : Game) → ArePaid g rows → AreTermsOf g players (take at rs) (entries terms)
   pub ordered : AreOrdered terms
   pub next : (d : Reached) → at < length rs
-      → EndsBelow terms.heads.items (get_or rs at d).path.demands
+      → EndsBelow terms.demands.items (get_or rs at d).path.demands
   pub shaped : IsShaped terms
   pub players_are : terms.players ≡ players
 
@@ -156,7 +156,8 @@ module _ (rows : List (List Ratio)) (players : ℕ) (rs : List Reached)
       → ((g : Game) (players : ℕ) (nodes : List Reached) → AreTermsOf g players nodes (entries new)
       → AreTermsOf g players nodes (entries after))
       → (AreOrdered new → AreOrdered after)
-      → ((demands : ℕ) → EndsBelow new.heads.items demands → EndsBelow after.heads.items demands)
+      → ((demands : ℕ) → EndsBelow new.demands.items demands
+      → EndsBelow after.demands.items demands)
       → Listing rows players rs (at + 1) after
   node_listed shaped same_after same_new told ordered last = record {
     told = λ g are. told g players (take (at + 1) rs)
@@ -166,16 +167,16 @@ module _ (rows : List (List Ratio)) (players : ℕ) (rs : List Reached)
         (one_node_more g players (take at rs) (entries old) r more.term
         (subst (λ (n : ℕ). IsTermOf g n r more.term) before.players_are (more.says g are))
         (before.told g are))));
-    ordered = ordered (ordered_more old.heads.items new.heads.items more.term.head more.heads
-        before.ordered ends);
+    ordered = ordered (ordered_more old.demands.items new.demands.items more.term.head.demands
+        more.grown before.ordered ends);
     next = λ d there. last (get_or rs (at + 1) d).path.demands
-        (below_more old.heads.items new.heads.items more.term.head
-        (get_or rs (at + 1) d).path.demands more.heads (up d there));
+        (below_more old.demands.items new.demands.items more.term.head.demands
+        (get_or rs (at + 1) d).path.demands more.grown (up d there));
     shaped = shaped;
     players_are = same_after ∙ same_new ∙ before.players_are;
   }
     where
-      ends : EndsBelow old.heads.items more.term.head.demands
+      ends : EndsBelow old.demands.items more.term.head.demands
       ends = grind arith
 
       up : (d : Reached) → at + 1 < length rs

@@ -1,7 +1,7 @@
 -- Rows at the fastest digit, as what at most two terms come to.
 use Rattle.std.proofs.Common.{◌≡◌, ℕ, suc, ◌+◌, ◌-◌, ◌*◌, ◌/◌, ◌<◌, ◌≤◌, ◌^◌, List, [], ◌∷◌, ◌++◌}
 use Rattle.std.proofs.Common.{◌⊎◌, inl, inr, Some, drop, get_or, length, lit<, map, take, refl, ap}
-use Rattle.std.proofs.Common.{sym, subst, ◌∙◌, arith, true, Option}
+use Rattle.std.proofs.Common.{subst, ◌∙◌, arith, true, Option}
 use Rattle.std.specs.Prelude.{IfSome, ◌==◌}
 use Rattle.std.proofs.Math.Seq.{get_or-append_seam, take-length}
 use Rattle.std.proofs.lemmas.Bool.{cases_lt, eqb-true}
@@ -32,7 +32,7 @@ use Rattle.gf_form.specs.declared.rows.sums.Scale.{Scale}
 use Rattle.gf_form.specs.declared.rows.terms.Terms.{Terms}
 use Rattle.gf_form.specs.declared.rows.written.Asked.{Asked}
 use Rattle.gf_form.specs.declared.rows.written.Run.{Run}
-use Rattle.gf_form.proofs.lemmas.rows.FlatRows.{entries_count, entry_head, head_at}
+use Rattle.gf_form.proofs.lemmas.rows.FlatRows.{terms_count}
 use Rattle.gf_form.proofs.lemmas.rows.MergedEntries.{first_parts}
 use Rattle.gf_form.proofs.lemmas.rows.Merges.{part_next, part_past, ranges}
 use Rattle.gf_form.proofs.lemmas.rows.SettledRows.{choice_first}
@@ -41,16 +41,13 @@ use Rattle.gf_form.proofs.lemmas.values.RowSums.{fraction_at}
 
 -- ---- one term, or none
 
-pub one_only : (t : Terms) (start end : ℕ) (only : Only) → end ≤ length t.heads.items
-    → start < end → end - start ≤ 1 → only.head ≡ head_at t start
+pub one_only : (t : Terms) (start end : ℕ) (only : Only) → end ≤ length t.demands.items
+    → start < end → end - start ≤ 1 → only.head ≡ (entry_at t start).head
     → only.numbers.now ≡ (entry_at t start).row → IsOnly (part start end (entries t)) only
 one_only t start end only within some one head row den above divides =
     let es = entries t in
-    let count = entries_count t.players t.heads.items t.numbers.items in
-    let e : entry_of only ≡ entry_at t start =
-    let h : only.head ≡ (entry_at t start).head =
-    head ∙ sym (entry_head t start (omega (arith, some, within))) in
-    λ i. record { head = h i; row = row i } in
+    let count = terms_count t in
+    let e : entry_of only ≡ entry_at t start = λ i. record { head = head i; row = row i } in
     let all : part start end es ≡ entry_of only ∷ [] = grind (arith, part_next, part_past) in
     grind arith
 
@@ -73,7 +70,7 @@ module _ (den less : ℕ) where
   low_size (e ∷ es) = ap (λ (n : ℕ). e.head.size * (den / e.head.den) + n) (low_size es)
 
 pub come_to_pair : (from : Terms) (action : ℕ) (chosen : Chosen) → 1 ≤ action
-    → AreChosen from.heads.items 1 action chosen → (first second : Only) (s : Scale)
+    → AreChosen from.demands.items 1 action chosen → (first second : Only) (s : Scale)
     → IsOnly (part 0 chosen.free (entries from)) first
     → IsOnly (part chosen.start chosen.end (entries from)) second → IsScale first.head second.head s
     → 0 < s.den → s.den < 2 ^ 127 → s.size < 2 ^ 127
@@ -97,7 +94,7 @@ come_to_pair from action chosen some are first second s only_first only_second i
     grind (arith, low_size, low_sum)
 
 -- all terms, if there is at most one, and none beside them
-pub come_alone : (from : Terms) (chosen : Chosen) → chosen.free ≡ length from.heads.items
+pub come_alone : (from : Terms) (chosen : Chosen) → chosen.free ≡ length from.demands.items
     → chosen.end ≤ chosen.start → (first second : Only) (s : Scale)
     → IsOnly (part 0 chosen.free (entries from)) first
     → IsOnly (part chosen.start chosen.end (entries from)) second → IsScale first.head second.head s
@@ -108,7 +105,7 @@ come_alone from chosen whole none first second s only_first only_second is above
     small =
     let es = entries from in
     let den = s.den in
-    let count = entries_count from.players from.heads.items from.numbers.items in
+    let count = terms_count from in
     let all : chosen.free - 0 ≡ length es = omega (arith, whole, count) in
     grind (arith, take-length, part_past)
 

@@ -1,7 +1,7 @@
 -- Terms that fit together over one denominator, and those of them that add something.
 use Rattle.std.proofs.Common.{◌≡◌, ℕ, ℤ, pos, ◌+◌, ◌*◌, ◌/◌, ◌<◌, ◌≤◌, ◌^◌, ◌+ℤ◌, ◌*ℤ◌, Bool}
-use Rattle.std.proofs.Common.{true, List, [], ◌∷◌, ◌++◌, length, get_or, take, drop, ap, sym, subst}
-use Rattle.std.proofs.Common.{◌∙◌, arith}
+use Rattle.std.proofs.Common.{true, List, [], ◌∷◌, ◌++◌, length, take, drop, ap, sym, subst}
+use Rattle.std.proofs.Common.{◌∙◌, arith, refl}
 use Rattle.std.specs.Prelude.{if◌then◌else◌}
 use Rattle.std.specs.Int.{◌∣◌}
 use Rattle.std.specs.List.{AllByRecursion}
@@ -14,21 +14,21 @@ use Rattle.gf_fraction.proofs.Integers.{*ℤ-cancel_right, *ℤ_assoc, *ℤ_righ
 use Rattle.gf_tree.specs.Game.{Game}
 use Rattle.gf_form.specs.inner.rows.Demands.{meets}
 use Rattle.gf_form.specs.inner.rows.Entries.{AreExactAt, AreOrdered, EndsBelow, Entry, IsShaped}
-use Rattle.gf_form.specs.inner.rows.Entries.{entries, entries_of, entry_at, lowered, no_head}
-use Rattle.gf_form.specs.inner.rows.Entries.{number_at, size_of_entries, sum_of_entries}
-use Rattle.gf_form.specs.inner.rows.Paying.{FitOver, SettleAsWell, sizes_of}
+use Rattle.gf_form.specs.inner.rows.Entries.{entries, entries_of, entry_at, heads, heads_of}
+use Rattle.gf_form.specs.inner.rows.Entries.{lowered, number_at, size_of_entries}
+use Rattle.gf_form.specs.inner.rows.Entries.{sum_of_entries}
+use Rattle.gf_form.specs.inner.rows.Paying.{FitOver, IsOver, Kept, SettleAsWell, sizes_of}
 use Rattle.gf_form.specs.inner.rows.SettledRows.{SettlesAt}
 use Rattle.gf_form.specs.declared.rows.terms.Head.{Head}
+use Rattle.gf_form.specs.declared.rows.terms.Scaled.{Scaled}
 use Rattle.gf_form.specs.declared.rows.terms.Terms.{Terms}
-use Rattle.gf_form.proofs.lemmas.rows.FlatRows.{entries_count, entry_head, head_at, heads_more}
-use Rattle.gf_form.proofs.lemmas.rows.FlatRows.{itself, none_taken}
+use Rattle.gf_form.proofs.lemmas.rows.FlatRows.{demands_more, entry_demands, heads_count, itself}
+use Rattle.gf_form.proofs.lemmas.rows.FlatRows.{none_taken, terms_count, there}
 use Rattle.gf_form.proofs.lemmas.rows.MergedEntries.{sum_append}
-use Rattle.gf_form.proofs.lemmas.rows.Merges.{below_more, lowered_none, ordered_more}
+use Rattle.gf_form.proofs.lemmas.rows.Merges.{below_more, demands_at, lowered_none}
+use Rattle.gf_form.proofs.lemmas.rows.Merges.{ordered_more}
 
 -- ---- all over one denominator
-
-abbrev pub IsOver : ℕ → Entry → Type 0
-IsOver den e = e.head.den ≡ den
 
 are_over : (den p : ℕ) (hs : List Head) (ns : List ℤ)
     → AllByRecursion (λ (h : Head). h.den ≡ den) hs
@@ -90,12 +90,6 @@ module _ (k den most : ℕ) (above : 0 < den) (steps choices : List ℕ) where
 
 -- ---- some of the terms
 
--- the second come to what the first come to
-pub record Kept (es left : List Entry) : Type 0 where
-  pub sums : (k den : ℕ) (steps choices : List ℕ) → sum_of_entries k den steps choices left
-      ≡ sum_of_entries k den steps choices es
-  pub among : (den : ℕ) → AllByRecursion (IsOver den) es → AllByRecursion (IsOver den) left
-
 kept_more : (es left : List Entry) (e : Entry) → Kept es left → Kept (es ++ e ∷ []) (left ++ e ∷ [])
 kept_more es left e before = record {
   sums = grind (arith, sum_append);
@@ -116,11 +110,11 @@ kept_zero es left e none before = record {
   among = λ den all. before.among den (all_parts (IsOver den) es (e ∷ []) all).0;
 }
 
-pub settled_as_well : (from left : Terms) (den : ℕ) → FitOver den from.heads.items
+pub settled_as_well : (from left : Terms) (den : ℕ) → FitOver den (heads from)
     → Kept (entries from) (entries left) → SettleAsWell from left
 settled_as_well from left den fit kept g number steps choices settles k less most above within exact
     small =
-    let hs = from.heads.items in
+    let hs = heads from in
     let ns = from.numbers.items in
     let all = are_over den from.players hs ns fit.dens in
     let base = settles k less den fit.above fit.within
@@ -153,50 +147,74 @@ pub record Paying (from : Terms) (i : ℕ) (left : Terms) : Type 0 where
   pub shaped : IsShaped left
   pub players : left.players ≡ from.players
   pub ordered : AreOrdered left
-  pub next : i < length from.heads.items → EndsBelow left.heads.items (head_at from i).demands
+  pub next : i < length from.demands.items → EndsBelow left.demands.items (demands_at from i)
 
 pub first_paying : (from left : Terms) → entries left ≡ [] → IsShaped left
     → left.players ≡ from.players → Paying from 0 left
-first_paying from left none shaped players = grind (arith, entries_count, none_taken)
+first_paying from left none shaped players = grind (arith, terms_count, none_taken)
 
 module _ (from : Terms) (i : ℕ) (left : Terms) (sorted : AreOrdered from)
-    (less : i < length from.heads.items) (before : Paying from i left) where
+    (less : i < length from.demands.items) (before : Paying from i left) where
   one_more : take (i + 1) (entries from) ≡ take i (entries from) ++ entry_at from i ∷ []
-  one_more = grind (arith, entries_count, take-suc)
+  one_more = grind (arith, terms_count, take-suc)
 
-  rises : i + 1 < length from.heads.items
-      → (head_at from i).demands ≤ (head_at from (i + 1)).demands
-  rises there = sorted i (i + 1) no_head (omega arith) there
+  rises : i + 1 < length from.demands.items → demands_at from i ≤ demands_at from (i + 1)
+  rises there = sorted i (i + 1) 0 (omega arith) there
 
   pub more_paying : (after : Terms) → entries after ≡ entries left
       ++ lowered 0 (entry_at from i) ∷ []
       → after.players ≡ left.players → IsShaped after → Paying from (i + 1) after
   more_paying after is players shaped =
       let e = entry_at from i in
-      let heads = heads_more after left.players left.heads.items left.numbers.items (lowered 0 e)
-      is in
-      let demands : (lowered 0 e).head.demands ≡ (head_at from i).demands =
-      grind (arith, lowered_none, entry_head) in
+      let grown = demands_more after left.den left.players left.demands.items left.scaled.items
+      left.numbers.items (lowered 0 e) is in
+      let demands : (lowered 0 e).head.demands ≡ demands_at from i =
+      grind (arith, lowered_none, entry_demands) in
       record {
         kept = grind (arith, one_more, lowered_none, kept_more);
         shaped = shaped;
         players = players ∙ before.players;
-        ordered = ordered_more left.heads.items after.heads.items (lowered 0 e).head heads
-            before.ordered
+        ordered = ordered_more left.demands.items after.demands.items (lowered 0 e).head.demands
+            grown before.ordered
             (λ d some. let le = before.next less d some in omega (arith, le, demands));
-        next = λ there. below_more left.heads.items after.heads.items (lowered 0 e).head
-            (head_at from (i + 1)).demands heads
+        next = λ there. below_more left.demands.items after.demands.items (lowered 0 e).head.demands
+            (demands_at from (i + 1)) grown
             (let le = rises there in omega (arith, le, demands));
       }
 
   pub same_paying : ((k : ℕ) → number_at k (entry_at from i) ≡ pos 0) → Paying from (i + 1) left
   same_paying none = grind (arith, one_more, kept_zero, rises)
 
-pub last_paying : (from left : Terms) (i den : ℕ) → i ≡ length from.heads.items
-    → FitOver den from.heads.items → Paying from i left → SettleAsWell from left
-last_paying from left i den all fit done =
-    let count = entries_count from.players from.heads.items from.numbers.items in
-    grind (arith, settled_as_well from left den fit (grind (arith, take-length)))
+-- those of terms that were put over one denominator
+pub last_paying : (from plain left : Terms) (i den : ℕ) → i ≡ length plain.demands.items
+    → FitOver den (heads from) → Kept (entries from) (entries plain) → Paying plain i left
+    → SettleAsWell from left
+last_paying from plain left i den all fit first done =
+    let second : Kept (entries plain) (entries left) =
+    grind (arith, terms_count, take-length) in
+    settled_as_well from left den fit (record {
+      sums = λ k own steps choices.
+          second.sums k own steps choices ∙ first.sums k own steps choices;
+      among = λ den over. second.among den (first.among den over);
+    })
+
+-- ---- one denominator for all
+
+pub kept_over : (den d p : ℕ) (ds : List ℕ) (ss : List Scaled) (ns : List ℤ)
+    → AllByRecursion (λ (h : Head). h.den ≡ den) (heads_of d ds ss)
+    → Kept (entries_of p (heads_of d ds ss) ns) (entries_of p (heads_of den ds []) ns)
+kept_over den d p [] ss ns all =
+    record { sums = λ k most steps choices. refl; among = λ most over. tt }
+kept_over den d p (c ∷ ds) [] ns all =
+    let rest = kept_over den d p ds [] (drop p ns) all.1 in record {
+      sums = λ k most steps choices. cc (all.0, rest.sums k most steps choices);
+      among = λ most over. (sym all.0 ∙ over.0, rest.among most over.1);
+    }
+kept_over den d p (c ∷ ds) (s ∷ ss) ns all =
+    let rest = kept_over den d p ds ss (drop p ns) all.1 in record {
+      sums = λ k most steps choices. cc (all.0, rest.sums k most steps choices);
+      among = λ most over. (sym all.0 ∙ over.0, rest.among most over.1);
+    }
 
 -- ---- whether they fit
 
@@ -210,12 +228,21 @@ sizes_append : (xs ys : List Head) → sizes_of (xs ++ ys) ≡ sizes_of xs + siz
 sizes_append [] ys = omega arith
 sizes_append (x ∷ xs) ys = omega (arith, sizes_append xs ys)
 
-pub more_fitting : (den size more : ℕ) (heads : List Head) (i : ℕ) (h : Head)
-    → i < length heads → h ≡ get_or heads i h → h.den ≡ den → more ≡ size + h.size
-    → more < 2 ^ 127 → Fitting den size heads i → Fitting den more heads (i + 1)
-more_fitting den size more heads i h less is same sum within before =
-    let taken : take (i + 1) heads ≡ take i heads ++ h ∷ [] = grind (arith, take-suc) in
+pub more_fitting : (den size more : ℕ) (t : Terms) (i : ℕ) → i < length t.demands.items
+    → (entry_at t i).head.den ≡ den → more ≡ size + (entry_at t i).head.size → more < 2 ^ 127
+    → Fitting den size (heads t) i → Fitting den more (heads t) (i + 1)
+more_fitting den size more t i less same sum within before =
+    let count = heads_count t.den t.demands.items t.scaled.items in
+    let head = ap (λ (e : Entry). e.head) (there t i less) in
+    let taken : take (i + 1) (heads t) ≡ take i (heads t) ++ (entry_at t i).head ∷ [] =
+    grind (arith, take-suc) in
     grind (arith, all_both, sizes_append)
+
+pub all_fit : (t : Terms) (den size i : ℕ) → i ≡ length t.demands.items
+    → Fitting den size (heads t) i → 0 < den → den < 2 ^ 127 → FitOver den (heads t)
+all_fit t den size i all done above within =
+    let count = heads_count t.den t.demands.items t.scaled.items in
+    grind (arith, take-length)
 
 -- ---- profiles
 

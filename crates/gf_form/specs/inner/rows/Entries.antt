@@ -3,11 +3,12 @@ use Rattle.std.specs.Prelude.{◌≡◌, ℕ, ℤ, pos, ◌+◌, ◌-◌, ◌*�
 use Rattle.std.specs.Prelude.{List, [], ◌∷◌, ◌++◌, drop, get_or, length, take, if◌then◌else◌}
 use Rattle.std.specs.Int.{◌∣◌}
 use Rattle.std.specs.List.{AllByRecursion}
-use Rattle.std.specs.List.Sorted.{IsNonDecreasingBy}
+use Rattle.std.specs.List.Sorted.{IsNonDecreasing}
 use Rattle.gf_fraction.specs.Ratio.{IsWithin}
 use Rattle.gf_form.specs.inner.rows.Demands.{meets}
 use Rattle.gf_form.specs.declared.rows.chosen.Chosen.{Chosen}
 use Rattle.gf_form.specs.declared.rows.terms.Head.{Head}
+use Rattle.gf_form.specs.declared.rows.terms.Scaled.{Scaled}
 use Rattle.gf_form.specs.declared.rows.terms.Terms.{Terms}
 use Rattle.gf_form.specs.declared.rows.sums.Scale.{Scale}
 
@@ -26,40 +27,51 @@ entries_of players [] numbers = []
 entries_of players (h ∷ hs) numbers =
     record { head = h; row = take players numbers } ∷ entries_of players hs (drop players numbers)
 
+-- heads of terms that demand this; those of which nothing is noted are over the denominator
+abbrev pub heads_of : ℕ → List ℕ → List Scaled → List Head
+heads_of den [] scaled = []
+heads_of den (d ∷ ds) [] = record { demands = d; den = den; size = 0 } ∷ heads_of den ds []
+heads_of den (d ∷ ds) (s ∷ ss) =
+    record { demands = d; den = s.den; size = s.size } ∷ heads_of den ds ss
+
+abbrev pub heads : Terms → List Head
+heads t = heads_of t.den t.demands.items t.scaled.items
+
 abbrev pub entries : Terms → List Entry
-entries t = entries_of t.players t.heads.items t.numbers.items
+entries t = entries_of t.players (heads t) t.numbers.items
 
 -- each term has a number within bounds for each player
 pub record IsShaped (t : Terms) : Type 0 where
-  pub count : length t.numbers.items ≡ length t.heads.items * t.players
+  pub count : length t.numbers.items ≡ length t.demands.items * t.players
   pub within : AllByRecursion IsWithin t.numbers.items
+  pub scaled : length t.scaled.items ≤ length t.demands.items
 
 -- no term demands less than the one before it
 abbrev pub AreOrdered : Terms → Type 0
-AreOrdered t = IsNonDecreasingBy (λ (h : Head). h.demands) t.heads.items
+AreOrdered t = IsNonDecreasing t.demands.items
+
+-- among demands in order, this many are below a number
+pub record CountsBelow (demands : List ℕ) (number count : ℕ) : Type 0 where
+  pub bound : count ≤ length demands
+  pub below : (k : ℕ) → k < count → get_or demands k 0 < number
+  pub above : (k : ℕ) → count ≤ k → k < length demands → number ≤ get_or demands k 0
+
+-- those that demand nothing at the slowest digit, with this step, and those that demand the action
+pub record AreChosen (demands : List ℕ) (step action : ℕ) (chosen : Chosen) : Type 0 where
+  pub free : CountsBelow demands step chosen.free
+  pub start : CountsBelow demands (action * step) chosen.start
+  pub end : CountsBelow demands (action * step + step) chosen.end
+
+abbrev pub AreWithin : List ℕ → Chosen → Type 0
+AreWithin demands chosen = (chosen.free ≤ length demands) × (chosen.end ≤ length demands)
+
+-- the last of these, if there is one, is no more
+abbrev pub EndsBelow : List ℕ → ℕ → Type 0
+EndsBelow demands n =
+    (d : ℕ) → 0 < length demands → get_or demands (length demands - 1) d ≤ n
 
 abbrev pub no_head : Head
 no_head = record { demands = 0; den = 0; size = 0 }
-
--- among heads in order of demands, this many come before a number
-pub record CountsBelow (heads : List Head) (number count : ℕ) : Type 0 where
-  pub bound : count ≤ length heads
-  pub below : (k : ℕ) → k < count → (get_or heads k no_head).demands < number
-  pub above : (k : ℕ) → count ≤ k → k < length heads → number ≤ (get_or heads k no_head).demands
-
--- those that demand nothing at the slowest digit, with this step, and those that demand the action
-pub record AreChosen (heads : List Head) (step action : ℕ) (chosen : Chosen) : Type 0 where
-  pub free : CountsBelow heads step chosen.free
-  pub start : CountsBelow heads (action * step) chosen.start
-  pub end : CountsBelow heads (action * step + step) chosen.end
-
-abbrev pub AreWithin : List Head → Chosen → Type 0
-AreWithin heads chosen = (chosen.free ≤ length heads) × (chosen.end ≤ length heads)
-
--- the last of these, if there is one, demands no more
-abbrev pub EndsBelow : List Head → ℕ → Type 0
-EndsBelow heads n =
-    (d : Head) → 0 < length heads → (get_or heads (length heads - 1) d).demands ≤ n
 
 abbrev pub no_entry : Entry
 no_entry = record { head = no_head; row = [] }

@@ -26,7 +26,7 @@ pub record IsTermOf (g : Game) (players : ℕ) (r : Reached) (e : Entry) : Type 
 pub record IsTermMore (rows : List (List Ratio)) (r : Reached) (old new : Terms) : Type 0 where
   pub term : Entry
   pub is : entries new ≡ entries old ++ term ∷ []
-  pub heads : new.heads.items ≡ old.heads.items ++ term.head ∷ []
+  pub grown : new.demands.items ≡ old.demands.items ++ term.head.demands ∷ []
   pub demands : term.head.demands ≡ r.path.demands
   pub says : (g : Game) → ArePaid g rows → IsTermOf g old.players r term
 

@@ -2,7 +2,7 @@
 use Rattle.std.specs.Prelude.{◌≡◌, ℕ, ◌+◌, ◌<◌, ◌^◌, List, [], ◌∷◌}
 use Rattle.std.specs.List.{AllByRecursion}
 use Rattle.gf_tree.specs.Game.{Game}
-use Rattle.gf_form.specs.inner.rows.Entries.{entries}
+use Rattle.gf_form.specs.inner.rows.Entries.{Entry, entries, sum_of_entries}
 use Rattle.gf_form.specs.inner.rows.SettledRows.{Settles}
 use Rattle.gf_form.specs.declared.rows.terms.Head.{Head}
 use Rattle.gf_form.specs.declared.rows.terms.Terms.{Terms}
@@ -17,6 +17,15 @@ pub record FitOver (den : ℕ) (heads : List Head) : Type 0 where
   pub within : den < 2 ^ 127
   pub dens : AllByRecursion (λ (h : Head). h.den ≡ den) heads
   pub sizes : sizes_of heads < 2 ^ 127
+
+abbrev pub IsOver : ℕ → Entry → Type 0
+IsOver den e = e.head.den ≡ den
+
+-- the second come to what the first come to, and are over one denominator if these are
+pub record Kept (es left : List Entry) : Type 0 where
+  pub sums : (k den : ℕ) (steps choices : List ℕ) → sum_of_entries k den steps choices left
+      ≡ sum_of_entries k den steps choices es
+  pub among : (den : ℕ) → AllByRecursion (IsOver den) es → AllByRecursion (IsOver den) left
 
 -- the second come to what is paid if the first do
 abbrev pub SettleAsWell : Terms → Terms → Type 0

@@ -9,6 +9,8 @@ invariant-loop-place l = record {
   filling : Filling l.node.path
       (λ (k : ℕ). at_place (row_at (rows_of l.payoffs) l.node.outcome) k) l.times l.size l.place
       l.fits l.fn.terms.numbers.items l.terms.numbers.items;
-  heads : l.terms.heads ≡ l.fn.terms.heads;
+  demands : l.terms.demands ≡ l.fn.terms.demands;
+  scaled : l.terms.scaled ≡ l.fn.terms.scaled;
+  den : l.terms.den ≡ l.fn.terms.den;
   players : l.terms.players ≡ l.fn.terms.players;
 }

@@ -1,7 +1,6 @@
 use Rattle.std.proofs.Common.{◌+◌, ◌*◌, ◌<◌, ◌^◌, ℕ, List, subst, sym}
 use Rattle.gf_form.specs.inner.rows.Entries.{AreChosen, AreMerged, entries}
 use Rattle.gf_form.specs.inner.rows.GameDigits.{actions_at}
-use Rattle.gf_form.specs.declared.rows.terms.Head.{Head}
 use Rattle.gf_form.proofs.lemmas.rows.SettledRows.{settled_next, some_stride, step_within}
 use Rattle.gf_form.proofs.lemmas.rows.SettledRows.{stride_is}
 use Rattle.gf_form.proofs.rows.terms.Terms.choose.Goals as goal
@@ -29,7 +28,7 @@ merge-requires-clause-within c =
 
 pub merge-requires-clause-chosen : goal.merge-requires-clause-chosen
 merge-requires-clause-chosen c =
-    subst (λ (hs : List Head). AreChosen hs c.args.slowest.step (c.from-action.result + 1)
+    subst (λ (ds : List ℕ). AreChosen ds c.args.slowest.step (c.from-action.result + 1)
     c.next-chosen.result) c.deref.ensures.value c.next-chosen.ensures.chosen
 
 pub returns-clause-count : goal.returns-clause-count

@@ -1,24 +1,34 @@
-use Rattle.std.proofs.Common.{◌≡◌, ◌+◌, ◌<◌, ◌∙◌, List, ap, arith, get_or, length, sym}
-use Rattle.std.proofs.lemmas.List.{get_or_default}
-use Rattle.gf_form.specs.inner.rows.Entries.{no_head}
+use Rattle.std.proofs.Common.{◌<◌, ◌∙◌, ap, arith, length, sym}
 use Rattle.gf_form.specs.declared.rows.terms.Head.{Head}
-use Rattle.gf_form.proofs.lemmas.rows.PayingTerms.{more_fitting}
+use Rattle.gf_form.proofs.lemmas.rows.PayingTerms.{all_fit, more_fitting}
 use Rattle.gf_form.proofs.rows.terms.Terms.fit_over.Goals as goal
 
-pub loop-head-preserved : goal.loop-head-preserved
-loop-head-preserved c =
-    let heads = c.args.self.now.heads.items in
-    let at = c.loop-head.head-index in
-    let value = c.deref-head-items.ensures.value in
-    let h = get_or heads at no_head in
-    let less : at < length heads = omega (arith, c.loop-head-test.true, ap length value) in
-    let size : c.in-Some.sum ≡ c.loop-head.size + h.size =
-    omega (
+pub loop-place-preserved : goal.loop-place-preserved
+loop-place-preserved c =
+    let t = c.args.self.now in
+    let place = c.loop-place.place in
+    let head = c.head-head.ensures in
+    let less : place < length t.demands.items = omega (
       arith,
-      c.in-Some.ensures,
-      ap (λ (hs : List Head). (get_or hs at no_head).size) value,
+      c.loop-place-test.true,
+      c.loop-place.auto.place-end,
+      c.len-place-end.ensures,
+      t.demands.ok.0,
     ) in
-    more_fitting c.args.den c.loop-head.size c.in-Some.sum heads at h less
-    (get_or_default heads at no_head h less)
-    (ap (λ (hs : List Head). (get_or hs at no_head).den) (sym value) ∙ c.if-head-den.false) size
-    (omega (arith, c.if-sum-gt-LARGEST.false)) c.loop-head.invariant
+    more_fitting c.args.den c.loop-place.size c.in-Some.sum t place less
+    (ap (λ (h : Head). h.den) (sym head) ∙ c.if-head-den.false)
+    (omega (arith, c.in-Some.ensures, ap (λ (h : Head). h.size) head))
+    (omega (arith, c.if-sum-gt-LARGEST.false)) c.loop-place.invariant
+
+pub returns : goal.returns
+returns c = λ _.
+    all_fit c.args.self.now c.args.den c.loop-place.size c.loop-place.place
+    (omega (
+      arith,
+      c.loop-place-test.false,
+      c.loop-place.auto.place-end,
+      c.len-place-end.ensures,
+      c.args.self.now.demands.ok.0,
+    ))
+    c.loop-place.invariant (omega (arith, c.if-den-eq0.false))
+    (omega (arith, c.if-den-gt-LARGEST.false))

@@ -1,8 +1,7 @@
-use Rattle.std.proofs.Common.{◌≡◌, ◌∙◌, ◌+◌, ◌-◌, ◌≤◌, ◌∷◌, ◌++◌, [], ap, arith, length, sym}
-use Rattle.gf_form.specs.inner.rows.Entries.{entries_of, entry_at, lowered}
-use Rattle.gf_form.specs.declared.rows.terms.Head.{Head}
-use Rattle.gf_form.proofs.lemmas.rows.FlatRows.{head_at, head_read}
+use Rattle.std.proofs.Common.{◌≡◌, ◌∙◌, ◌+◌, ◌-◌, ◌≤◌, ◌∷◌, ◌++◌, [], arith, length}
+use Rattle.gf_form.specs.inner.rows.Entries.{entries_of, entry_at, heads_of, lowered}
 use Rattle.gf_form.proofs.lemmas.rows.JoinedTerms.{Joined, joined}
+use Rattle.gf_form.proofs.lemmas.rows.Merges.{demands_at, demands_read}
 use Rattle.gf_form.proofs.rows.terms.Terms.join_last.Goals as goal
 
 all : (c : goal.In_ok-push) → Joined c.args.self.now c.push.new.self
@@ -10,22 +9,21 @@ all c =
     let old = c.args.self.now in
     let count = c.len-count.result in
     let some : 2 ≤ count = omega (arith, c.if-count-lt2.false) in
-    let two : length old.heads.items ≡ count - 2 + 2 =
-    omega (arith, some, c.len-count.ensures, old.heads.ok.0) in
+    let two : length old.demands.items ≡ count - 2 + 2 =
+    omega (arith, some, c.len-count.ensures, old.demands.ok.0) in
     let next : count - 1 ≡ count - 2 + 1 = omega (arith, some) in
-    let first = head_read old (count - 2) c.index-else-count-lt2.result.now
-    (omega (arith, two)) c.index-else-count-lt2.ensures in
-    let other = head_read old (count - 1) c.index.result.now (omega (arith, two, next))
+    let last = demands_read old (count - 1) c.index.result.now (omega (arith, two, next))
     c.index.ensures in
-    let same : (head_at old (count - 2)).demands ≡ (head_at old (count - 1)).demands =
-    sym (ap (λ (h : Head). h.demands) first) ∙ sym c.if-index.false
-    ∙ ap (λ (h : Head). h.demands) other in
+    let first = demands_read old (count - 2) c.index-else-count-lt2.result.now (omega (arith, two))
+    c.index-else-count-lt2.ensures in
+    let same : demands_at old (count - 2) ≡ demands_at old (count - 1) =
+    omega (arith, first, last, c.if-index.false) in
     let is = c.in_ok-push.ensures.pushed
-    ∙ (λ i. entries_of old.players (c.truncate.ensures.items i) (c.truncate-2.ensures.items i)
-    ++ lowered 0 (entry_at c.push_sum.new.self 0) ∷ []) in
+    ∙ (λ i. entries_of old.players
+    (heads_of old.den (c.truncate.ensures.items i) (c.truncate-2.ensures.items i))
+    (c.truncate-3.ensures.items i) ++ lowered 0 (entry_at c.push_sum.new.self 0) ∷ []) in
     joined old c.clear.new.self c.push_sum.new.self c.push.new.self (count - 2) (count - 1)
-    two next
-    same c.clear.ensures.none c.in_ok-push_sum.ensures.sum is
+    two next same c.clear.ensures.none c.in_ok-push_sum.ensures.sum is
 
 pub returns-clause-terms : goal.returns-clause-terms
 returns-clause-terms c = (all c).terms

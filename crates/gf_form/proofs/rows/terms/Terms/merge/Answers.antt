@@ -1,88 +1,73 @@
-use Rattle.std.proofs.Common.{◌*◌, ◌∙◌, ap, arith}
-use Rattle.gf_form.specs.declared.rows.terms.Head.{Head}
-use Rattle.gf_form.proofs.lemmas.rows.FlatRows.{entry_head, head_read}
+use Rattle.std.proofs.Common.{◌*◌, ◌∙◌, arith}
+use Rattle.gf_form.proofs.lemmas.rows.FlatRows.{entry_demands}
 use Rattle.gf_form.proofs.lemmas.rows.Merges.{both_go, first_merge, free_goes, last_merge, own_goes}
+use Rattle.gf_form.proofs.lemmas.rows.Merges.{demands_read}
 use Rattle.gf_form.proofs.rows.terms.Terms.merge.Goals as goal
 
 pub loop-free-init : goal.loop-free-init
 loop-free-init c =
     first_merge c.args.from.now c.args.step c.args.action c.args.chosen c.requires.some
-    c.requires.chosen c.clear.new.self c.clear.ensures.none c.clear.ensures.no_numbers
+    c.requires.chosen c.clear.new.self c.clear.ensures.none c.clear.ensures.shaped
     (c.clear.ensures.players ∙ c.requires.players)
 
 pub overflow_sub-goes : goal.overflow_sub-goes
 overflow_sub-goes c =
     let inv = c.loop-free.invariant in
     let least = inv.own_least c.loop-free.own (omega arith) c.if-own-chosen.true in
-    let own = head_read c.args.from.now c.loop-free.own c.index-in-loop-free.result.now
-    (omega (arith, c.if-own-chosen.true, inv.own_within)) c.index-in-loop-free.ensures in
-    omega (arith, least, ap (λ (h : Head). h.demands) own)
+    let own = demands_read c.args.from.now c.loop-free.own c.index.result.now
+    (omega (arith, c.if-own-chosen.true, inv.own_within)) c.index.ensures in
+    omega (arith, least, own)
 
 pub loop-free-preserved-then-stays-goes : goal.loop-free-preserved-then-stays-goes
 loop-free-preserved-then-stays-goes c =
     let inv = c.loop-free.invariant in
-    let free = head_read c.args.from.now c.loop-free.free c.index.result.now
-    (omega (arith, c.loop-free-test.true, inv.free_within)) c.index.ensures in
-    let own = head_read c.args.from.now c.loop-free.own c.index-in-loop-free.result.now
-    (omega (arith, c.if-own-chosen.true, inv.own_within)) c.index-in-loop-free.ensures in
+    let free = demands_read c.args.from.now c.loop-free.free c.index-stays.result.now
+    (omega (arith, c.loop-free-test.true, inv.free_within)) c.index-stays.ensures in
+    let own = demands_read c.args.from.now c.loop-free.own c.index.result.now
+    (omega (arith, c.if-own-chosen.true, inv.own_within)) c.index.ensures in
     both_go c.args.from.now c.args.step c.args.action (c.args.action * c.args.step)
     c.args.chosen.free c.args.chosen.end
     c.loop-free.free c.loop-free.own c.loop-free.self c.push_sum.new.self c.requires.ordered inv
     c.in_ok-push_sum.ensures.players c.in_ok-push_sum.ensures.shaped c.loop-free-test.true
     c.if-own-chosen.true
-    (omega (
-      arith,
-      c.if-stays-goes.true,
-      ap (λ (h : Head). h.demands) free,
-      ap (λ (h : Head). h.demands) own,
-    ))
+    (omega (arith, c.if-stays-goes.true, free, own))
     c.in_ok-push_sum.ensures.sum
 
 pub loop-free-preserved-then-stays-goes-2 : goal.loop-free-preserved-then-stays-goes-2
 loop-free-preserved-then-stays-goes-2 c =
     let inv = c.loop-free.invariant in
-    let free = head_read c.args.from.now c.loop-free.free c.index.result.now
-    (omega (arith, c.loop-free-test.true, inv.free_within)) c.index.ensures in
-    let own = head_read c.args.from.now c.loop-free.own c.index-in-loop-free.result.now
-    (omega (arith, c.if-own-chosen.true, inv.own_within)) c.index-in-loop-free.ensures in
+    let free = demands_read c.args.from.now c.loop-free.free c.index-stays.result.now
+    (omega (arith, c.loop-free-test.true, inv.free_within)) c.index-stays.ensures in
+    let own = demands_read c.args.from.now c.loop-free.own c.index.result.now
+    (omega (arith, c.if-own-chosen.true, inv.own_within)) c.index.ensures in
     free_goes c.args.from.now c.args.step c.args.action (c.args.action * c.args.step)
     c.args.chosen.free c.args.chosen.end
     c.loop-free.free c.loop-free.own c.loop-free.self c.push.new.self c.requires.ordered inv
     c.in_ok-push.ensures.players c.in_ok-push.ensures.shaped c.loop-free-test.true
-    (λ _. omega (
-      arith,
-      c.if-stays-goes-2.true,
-      ap (λ (h : Head). h.demands) free,
-      ap (λ (h : Head). h.demands) own,
-    ))
+    (λ _. omega (arith, c.if-stays-goes-2.true, free, own))
     c.in_ok-push.ensures.pushed
 
 pub push-requires-else-stays-goes-2-clause-less : goal.push-requires-else-stays-goes-2-clause-less
 push-requires-else-stays-goes-2-clause-less c =
     let inv = c.loop-free.invariant in
     let least = inv.own_least c.loop-free.own (omega arith) c.if-own-chosen.true in
-    let own = entry_head c.args.from.now c.loop-free.own
+    let own = entry_demands c.args.from.now c.loop-free.own
     (omega (arith, c.if-own-chosen.true, inv.own_within)) in
-    omega (arith, least, ap (λ (h : Head). h.demands) own)
+    omega (arith, least, own)
 
 pub loop-free-preserved : goal.loop-free-preserved
 loop-free-preserved c =
     let inv = c.loop-free.invariant in
-    let free = head_read c.args.from.now c.loop-free.free c.index.result.now
-    (omega (arith, c.loop-free-test.true, inv.free_within)) c.index.ensures in
-    let own = head_read c.args.from.now c.loop-free.own c.index-in-loop-free.result.now
-    (omega (arith, c.if-own-chosen.true, inv.own_within)) c.index-in-loop-free.ensures in
+    let free = demands_read c.args.from.now c.loop-free.free c.index-stays.result.now
+    (omega (arith, c.loop-free-test.true, inv.free_within)) c.index-stays.ensures in
+    let own = demands_read c.args.from.now c.loop-free.own c.index.result.now
+    (omega (arith, c.if-own-chosen.true, inv.own_within)) c.index.ensures in
     own_goes c.args.from.now c.args.step c.args.action (c.args.action * c.args.step)
     c.args.chosen.free c.args.chosen.end
     c.loop-free.free c.loop-free.own c.loop-free.self c.push-else-stays-goes-2.new.self
     c.requires.ordered inv c.in_ok-push-2.ensures.players c.in_ok-push-2.ensures.shaped
     c.if-own-chosen.true
-    (λ _. omega (
-      arith,
-      c.if-stays-goes-2.false,
-      ap (λ (h : Head). h.demands) free,
-      ap (λ (h : Head). h.demands) own,
-    ))
+    (λ _. omega (arith, c.if-stays-goes-2.false, free, own))
     c.in_ok-push-2.ensures.pushed
 
 pub loop-free-2-preserved : goal.loop-free-2-preserved
@@ -103,9 +88,9 @@ pub push-requires-in-loop-own-clause-less : goal.push-requires-in-loop-own-claus
 push-requires-in-loop-own-clause-less c =
     let inv = c.loop-own.invariant in
     let least = inv.own_least c.loop-own.own (omega arith) c.loop-own-test.true in
-    let own = entry_head c.args.from.now c.loop-own.own
+    let own = entry_demands c.args.from.now c.loop-own.own
     (omega (arith, c.loop-own-test.true, inv.own_within)) in
-    omega (arith, least, ap (λ (h : Head). h.demands) own)
+    omega (arith, least, own)
 
 pub loop-own-preserved : goal.loop-own-preserved
 loop-own-preserved c =

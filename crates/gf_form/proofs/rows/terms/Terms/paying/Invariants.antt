@@ -2,4 +2,4 @@ use Rattle.gf_form.proofs.lemmas.rows.PayingTerms.{Paying}
 use Rattle.gf_form.proofs.rows.terms.Terms.paying.Given as goal
 
 abbrev pub invariant-loop-place : goal.invariant-loop-place
-invariant-loop-place l = Paying l.self l.place l.left
+invariant-loop-place l = Paying l.terms l.place l.left

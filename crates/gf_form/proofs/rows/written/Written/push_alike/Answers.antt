@@ -12,5 +12,5 @@ push_row-requires-clause-paid c =
     pair
     (c.requires.settles before (omega (arith, c.loop-before.auto.before))
     (omega (arith, c.loop-before-test.true)))
-    (come (omega (arith, c.len-all.ensures, t.heads.ok.0)) (omega arith)))
+    (come (omega (arith, c.len-all.ensures, t.demands.ok.0)) (omega arith)))
     c.pair.ensures.all

@@ -1,6 +1,5 @@
-use Rattle.std.proofs.Common.{◌+◌, List, ap, arith, get_or, subst}
+use Rattle.std.proofs.Common.{◌+◌, ℕ, List, ap, arith, get_or, subst}
 use Rattle.gf_form.specs.inner.rows.Entries.{AreChosen}
-use Rattle.gf_form.specs.declared.rows.terms.Head.{Head}
 use Rattle.gf_form.proofs.lemmas.rows.PairRows.{paid_pair, some_weaker}
 use Rattle.gf_form.proofs.rows.written.Written.push_last.Goals as goal
 
@@ -18,6 +17,6 @@ push_row-requires-clause-paid c =
     (omega (arith, c.loop-before-test.true)))
     (ap (λ n. n + 1) c.from-action.ensures)
     (come action (omega arith)
-    (subst (λ (hs : List Head). AreChosen hs 1 action c.next-chosen.result)
+    (subst (λ (ds : List ℕ). AreChosen ds 1 action c.next-chosen.result)
     c.deref.ensures.value c.next-chosen.ensures.chosen)))
     c.pair.ensures.last

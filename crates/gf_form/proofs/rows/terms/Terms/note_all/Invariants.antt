@@ -1,0 +1,15 @@
+use Rattle.std.proofs.Common.{◌≡◌, ◌≤◌, ◌-◌, length}
+use Rattle.gf_form.specs.inner.rows.Entries.{heads}
+use Rattle.gf_form.proofs.rows.terms.Terms.note_all.Given as goal
+
+abbrev pub invariant-loop-self : goal.invariant-loop-self
+invariant-loop-self l = record {
+  heads : heads l.self ≡ heads l.fn.self;
+  within : length l.self.scaled.items ≤ length l.self.demands.items;
+  demands : l.self.demands ≡ l.fn.self.demands;
+  numbers : l.self.numbers ≡ l.fn.self.numbers;
+  players : l.self.players ≡ l.fn.self.players;
+}
+
+abbrev pub decreases-loop-self : goal.decreases-loop-self
+decreases-loop-self l = length l.self.demands.items - length l.self.scaled.items

@@ -1,0 +1,7 @@
+use Rattle.gf_form.proofs.lemmas.rows.FlatRows.{Adding}
+use Rattle.gf_form.proofs.rows.terms.push_numbers.Given as goal
+
+abbrev pub invariant-loop-place : goal.invariant-loop-place
+invariant-loop-place l =
+    Adding l.first l.second l.fn.by_first l.fn.by_second l.place l.fits l.fn.numbers.items
+    l.numbers.items
