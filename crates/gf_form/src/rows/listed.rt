@@ -124,7 +124,7 @@ impl Terms {
         if count < 2 || self.demands[count - 1] != self.demands[count - 2] {
             return Ok(());
         }
-        spare.clear(0);
+        spare.clear(self.den);
         spare.push_sum(self, count - 2, count - 1)?;
         self.demands.truncate(count - 2);
         self.scaled.truncate(count - 2);

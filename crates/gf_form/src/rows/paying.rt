@@ -40,6 +40,7 @@ impl Terms {
         ensures demands { self.new.demands ≡ self.old.demands }
         ensures shaped { IsShaped self.old → IsShaped self.new }
         ensures players { self.new.players ≡ self.old.players }
+        ensures den { self.new.den ≡ den }
     {
         self.scaled = Vec::new(alloc);
         self.den = den;

@@ -5,10 +5,10 @@ ghost use Rattle.std.specs.Prelude.{◌≡◌, ◌+◌, ◌*◌, ◌<◌, ◌≤
 ghost use Rattle.std.specs.Prelude.{IfOk, List, OnOk, get_or, length, pos, true};
 ghost use Rattle.std.specs.List.{AllByRecursion};
 ghost use Rattle.gf_fraction.specs.Ratio.{IsWithin};
-ghost use Rattle.gf_form.specs.inner.rows.Entries.{HasNumbers, HasSum, IsShaped, entries, entry_at};
-ghost use Rattle.gf_form.specs.inner.rows.Entries.{heads, lowered};
+ghost use Rattle.gf_form.specs.inner.rows.Entries.{AreAlike, HasNumbers, HasSum, IsShaped};
+ghost use Rattle.gf_form.specs.inner.rows.Entries.{entries, entry_at, heads, heads_of, lowered};
 
-use crate::rows::sums::{combined, scale_of};
+use crate::rows::sums::{Scale, combined, scale_of};
 use std::alloc::{AllocError, Global};
 
 /// What a term demands, and what its numbers are over.
@@ -42,6 +42,14 @@ pub(crate) struct Terms {
     /// The numbers of one term after those of another.
     pub numbers: Vec<i128>,
 }
+
+/// In place of a scale that is too large: no denominator is 0.
+const UNKNOWN: Scale = Scale {
+    den: 0,
+    size: 0,
+    first: 1,
+    second: 1,
+};
 
 /// Appends numbers that are sums of these, each times its factor; or says that one of them does not
 /// fit.
@@ -78,6 +86,7 @@ impl Terms {
         ensures none { entries result ≡ [] }
         ensures demands { result.demands.items ≡ [] }
         ensures players { result.players ≡ players }
+        ensures den { result.den ≡ den }
         ensures shaped { IsShaped result }
     {
         Terms {
@@ -93,6 +102,7 @@ impl Terms {
     pub(crate) fn clear(&mut self, den: u128)
         ensures none { entries self.new ≡ [] }
         ensures players { self.new.players ≡ self.old.players }
+        ensures den { self.new.den ≡ den }
         ensures shaped { IsShaped self.new }
     {
         self.demands.clear();
@@ -143,15 +153,19 @@ impl Terms {
         }
     }
 
-    /// Notes of each term by itself what its numbers are over.
-    #[tactic(auto, using(crate::proofs::lemmas::rows::FlatRows::next_noted))]
-    fn note_all(&mut self) -> Result<(), AllocError>
+    /// Notes what the next term is over, and so what each before it is over.
+    #[tactic(auto, using(crate::proofs::lemmas::rows::FlatRows::next_noted, crate::proofs::lemmas::rows::FlatRows::one_noted))]
+    fn note(&mut self, next: Scaled) -> Result<(), AllocError>
         requires { length self.old.scaled.items ≤ length self.old.demands.items }
-        ensures heads { heads self.new ≡ heads self.old }
-        ensures all { OnOk result (length self.new.scaled.items ≡ length self.new.demands.items) }
+        ensures heads { OnOk result ((demands : ℕ)
+            → heads_of self.new.den (self.new.demands.items ++ demands ∷ []) self.new.scaled.items
+            ≡ heads self.old
+            ++ record { demands = demands; den = next.den; size = next.size } ∷ []) }
+        ensures all { OnOk result
+            (length self.new.scaled.items ≡ length self.new.demands.items + 1) }
         ensures demands { self.new.demands ≡ self.old.demands }
         ensures numbers { self.new.numbers ≡ self.old.numbers }
-        ensures players { self.new.players ≡ self.old.players }
+        ensures alike { AreAlike self.new self.old }
     {
         while self.scaled.len() < self.demands.len() {
             self.scaled.push(Scaled {
@@ -159,12 +173,13 @@ impl Terms {
                 size: 0,
             })?;
         }
+        self.scaled.push(next)?;
         Ok(())
     }
 
     /// Appends a head, for the numbers that were appended last.
-    #[inline]
-    #[tactic(auto, using(crate::proofs::lemmas::rows::FlatRows::one_noted, crate::proofs::lemmas::rows::FlatRows::one_plain))]
+    #[inline(always)]
+    #[tactic(auto, using(crate::proofs::lemmas::rows::FlatRows::one_plain))]
     pub(crate) fn push_head(&mut self, head: Head) -> Result<(), AllocError>
         requires { length self.old.scaled.items ≤ length self.old.demands.items }
         ensures heads { OnOk result (heads self.new ≡ heads self.old ++ head ∷ []) }
@@ -173,11 +188,10 @@ impl Terms {
         ensures scaled { OnOk result
             (length self.new.scaled.items ≤ length self.new.demands.items) }
         ensures numbers { self.new.numbers ≡ self.old.numbers }
-        ensures players { self.new.players ≡ self.old.players }
+        ensures alike { AreAlike self.new self.old }
     {
         if head.den != self.den || head.size > 0 {
-            self.note_all()?;
-            self.scaled.push(Scaled {
+            self.note(Scaled {
                 den: head.den,
                 size: head.size,
             })?;
@@ -186,37 +200,48 @@ impl Terms {
         Ok(())
     }
 
-    /// Appends a term with this head and the numbers of the term of a list at this place, from 0.
-    #[inline]
-    fn push_row(&mut self, from: &Terms, place: usize, head: Head) -> Result<(), AllocError>
-        requires players { self.old.players ≡ from.now.players }
-        requires shaped { IsShaped self.old × IsShaped from.now }
+    /// Appends demands, for the numbers that were appended last, over what the term at this place
+    /// of an alike list, from 0, is over.
+    #[inline(always)]
+    #[tactic(auto, using(crate::proofs::lemmas::rows::FlatRows::one_plain, crate::proofs::lemmas::rows::FlatRows::head_is))]
+    fn push_like(&mut self, from: &Terms, place: usize, demands: u64) -> Result<(), AllocError>
+        requires scaled { length self.old.scaled.items ≤ length self.old.demands.items }
+        requires den { self.old.den ≡ from.now.den }
         requires within { place < length from.now.demands.items }
-        ensures pushed { OnOk result (entries self.new ≡ entries self.old
-            ++ record { head = head; row = (entry_at from.now place).row } ∷ []) }
-        ensures players { self.new.players ≡ self.old.players }
-        ensures shaped { OnOk result (IsShaped self.new) }
+        ensures heads { OnOk result (heads self.new ≡ heads self.old ++ record {
+          demands = demands;
+          den = (entry_at from.now place).head.den;
+          size = (entry_at from.now place).head.size;
+        } ∷ []) }
+        ensures demands { OnOk result
+            (self.new.demands.items ≡ self.old.demands.items ++ demands ∷ []) }
+        ensures scaled { OnOk result
+            (length self.new.scaled.items ≤ length self.new.demands.items) }
+        ensures numbers { self.new.numbers ≡ self.old.numbers }
+        ensures alike { AreAlike self.new self.old }
     {
-        self.numbers.extend_from_slice(from.row(place))?;
-        self.push_head(head)?;
+        if place < from.scaled.len() {
+            self.note(from.scaled[place])?;
+        }
+        self.demands.push(demands)?;
         Ok(())
     }
 
-    /// Appends the term of a list at this place, from 0, with its demands lowered by this.
+    /// Appends the term of an alike list at this place, from 0, with its demands lowered by this.
     #[inline]
     pub(crate) fn push(&mut self, from: &Terms, place: usize, less: u64) -> Result<(), AllocError>
-        requires players { self.old.players ≡ from.now.players }
+        requires alike { AreAlike self.old from.now }
         requires shaped { IsShaped self.old × IsShaped from.now }
         requires within { place < length from.now.demands.items }
         requires less { less ≤ (entry_at from.now place).head.demands }
         ensures pushed { OnOk result (entries self.new
             ≡ entries self.old ++ lowered less (entry_at from.now place) ∷ []) }
-        ensures players { self.new.players ≡ self.old.players }
+        ensures alike { AreAlike self.new self.old }
         ensures shaped { OnOk result (IsShaped self.new) }
     {
-        let mut head = from.head(place);
-        head.demands -= less;
-        self.push_row(from, place, head)
+        self.numbers.extend_from_slice(from.row(place))?;
+        self.push_like(from, place, from.demands[place] - less)?;
+        Ok(())
     }
 
     /// Appends the sum of two terms of a list, at these places, from 0, with the demands of the
@@ -234,26 +259,23 @@ impl Terms {
         requires second { second < length from.now.demands.items }
         ensures sum { OnOk result (HasSum (entry_at from.now first) (entry_at from.now second)
             (entries self.old) (entries self.new)) }
-        ensures players { self.new.players ≡ self.old.players }
+        ensures alike { AreAlike self.new self.old }
         ensures shaped { OnOk result (IsShaped self.new) }
     {
         let own = from.head(first);
-        let demands = own.demands;
-        let Some(scale) = scale_of(own, from.head(second)) else {
-            let unknown = Head {
-                demands,
-                den: 0,
-                size: 0,
-            };
-            self.push_row(from, first, unknown)?;
-            return Ok(());
+        let scale = match scale_of(own, from.head(second)) {
+            Some(scale) => scale,
+            None => UNKNOWN,
         };
         let one = from.row(first);
         let other = from.row(second);
         let fits = push_numbers(&mut self.numbers, one, other, scale.first, scale.second)?;
         let den = if fits { scale.den } else { 0 };
-        let size = scale.size;
-        self.push_head(Head { demands, den, size })?;
+        self.push_head(Head {
+            demands: own.demands,
+            den,
+            size: scale.size,
+        })?;
         Ok(())
     }
 }

@@ -6,6 +6,7 @@ use Rattle.std.proofs.Math.Seq.{take-length, get_or-append_seam}
 use Rattle.std.specs.Int.{◌∣◌}
 use Rattle.std.proofs.Math.IntN.{zero-*ℤ}
 use Rattle.std.proofs.lemmas.Bool.{cases_lt}
+use Rattle.std.proofs.lemmas.List.{get_or_past}
 use Rattle.std.proofs.lemmas.List.{get_or_append_left, length-take-le, append_assoc}
 use Rattle.std.proofs.lemmas.List.{drop-append-le, drop-drop, take-append-drop, length-append}
 use Rattle.std.proofs.lemmas.List.{length-drop, map-append, take-append-le}
@@ -151,6 +152,26 @@ module _ (t : Terms) (place : ℕ) (within : place < length t.demands.items) whe
 
   pub entry_demands : (entry_at t place).head.demands ≡ get_or t.demands.items place 0
   entry_demands = ap (λ (h : Head). h.demands) head_is
+
+-- one more that is over what the term at a place of an alike list is over
+module _ (to from : Terms) (place d : ℕ) (within : place < length from.demands.items) where
+  pub one_like : length from.scaled.items ≤ place → to.den ≡ from.den
+      → length to.scaled.items ≤ length to.demands.items
+      → heads_of to.den (to.demands.items ++ d ∷ []) to.scaled.items
+      ≡ heads to ++ record {
+        demands = d;
+        den = (entry_at from place).head.den;
+        size = (entry_at from place).head.size;
+      } ∷ []
+  one_like out same scaled =
+      let is = head_is from place within in
+      let none = get_or_past from.scaled.items place (record { den = from.den; size = 0 }) out in
+      let den : to.den ≡ (entry_at from place).head.den =
+      same ∙ sym (ap (λ (s : Scaled). s.den) none) ∙ sym (ap (λ (h : Head). h.den) is) in
+      let size : 0 ≡ (entry_at from place).head.size =
+      sym (ap (λ (s : Scaled). s.size) none) ∙ sym (ap (λ (h : Head). h.size) is) in
+      one_plain to.den to.demands.items to.scaled.items d scaled
+      ∙ (λ i. heads to ++ record { demands = d; den = den i; size = size i } ∷ [])
 
 -- ---- a term more
 

@@ -9,7 +9,8 @@ use Rattle.std.proofs.Math.Seq.{drop-cons, get_or-append_seam}
 use Rattle.std.proofs.lemmas.List.{drop-drop, get_or_default, length-append, take-append-drop}
 use Rattle.std.proofs.lemmas.List.{take_rest}
 use Rattle.std.proofs.lemmas.List.Sorted.{IsNonDecreasingBy-push, IsNonDecreasingBy-short}
-use Rattle.gf_form.specs.inner.rows.Entries.{AreChosen, AreMerged, AreOrdered, CountsBelow}
+use Rattle.gf_form.specs.inner.rows.Entries.{AreAlike, AreChosen, AreMerged, AreOrdered}
+use Rattle.gf_form.specs.inner.rows.Entries.{CountsBelow}
 use Rattle.gf_form.specs.inner.rows.Entries.{EndsBelow, Entry, HasSum, IsShaped, entries, entry_at}
 use Rattle.gf_form.specs.inner.rows.Entries.{lowered, no_entry, part}
 use Rattle.gf_form.specs.declared.rows.chosen.Chosen.{Chosen}
@@ -120,7 +121,7 @@ pub record Merges (from : Terms) (step action lowest free_end own_end : ℕ) (fr
       (part free free_end (entries from))
       (map (lowered lowest) (part own own_end (entries from)))
   pub shaped : IsShaped to
-  pub players : to.players ≡ from.players
+  pub alike : AreAlike to from
   pub ordered : AreOrdered to
   pub free_next : free < free_end → EndsBelow to.demands.items (demands_at from free)
   pub own_next : own < own_end → EndsBelow to.demands.items (demands_at from own - lowest)
@@ -130,9 +131,9 @@ pub record Merges (from : Terms) (step action lowest free_end own_end : ℕ) (fr
 
 pub first_merge : (from : Terms) (step action : ℕ) (chosen : Chosen) → 1 ≤ action
     → AreChosen from.demands.items step action chosen → (to : Terms) → entries to ≡ []
-    → IsShaped to → to.players ≡ from.players
+    → IsShaped to → AreAlike to from
     → Merges from step action (action * step) chosen.free chosen.end 0 chosen.start to
-first_merge from step action chosen some are to none shaped players =
+first_merge from step action chosen some are to none shaped alike =
     let es = entries from in
     let free = chosen.free in
     let start = chosen.start in
@@ -147,7 +148,7 @@ first_merge from step action chosen some are to none shaped players =
           (sym none)
           (subst (λ (n : ℕ). Merging step action es [] (take n es) own) (sym all) parts);
       shaped = shaped;
-      players = players;
+      alike = alike;
       ordered = IsNonDecreasingBy-short (λ (d : ℕ). d) to.demands.items
           (omega (arith, length_is));
       free_next = λ less d some. absurd (omega (arith, length_is, some));
@@ -174,7 +175,7 @@ lowered_none e = grind arith
 module _ (from : Terms) (step action lowest free_end own_end free own : ℕ) (to after : Terms)
     (sorted : AreOrdered from)
     (before : Merges from step action lowest free_end own_end free own to)
-    (players : after.players ≡ to.players) (shaped : IsShaped after) where
+    (alike : AreAlike after to) (shaped : IsShaped after) where
   abbrev frees : ℕ → List Entry
   frees i = part i free_end (entries from)
 
@@ -218,7 +219,7 @@ module _ (from : Terms) (step action lowest free_end own_end free own : ℕ) (to
         merging = subst (λ (made : List Entry). Made made (frees next_free) (owns next_own))
             (sym is) merging;
         shaped = shaped;
-        players = players ∙ before.players;
+        alike = (alike.0 ∙ before.alike.0, alike.1 ∙ before.alike.1);
         ordered = ordered_more to.demands.items after.demands.items e.head.demands grown
             before.ordered ends;
         free_next = λ next. below_more to.demands.items after.demands.items e.head.demands

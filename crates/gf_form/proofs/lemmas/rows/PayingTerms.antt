@@ -13,7 +13,7 @@ use Rattle.gf_fraction.proofs.AllElements.{all_both, all_parts}
 use Rattle.gf_fraction.proofs.Integers.{*ℤ-cancel_right, *ℤ_assoc, *ℤ_right_comm, add-*ℤ}
 use Rattle.gf_tree.specs.Game.{Game}
 use Rattle.gf_form.specs.inner.rows.Demands.{meets}
-use Rattle.gf_form.specs.inner.rows.Entries.{AreExactAt, AreOrdered, EndsBelow, Entry, IsShaped}
+use Rattle.gf_form.specs.inner.rows.Entries.{AreAlike, AreExactAt, AreOrdered, EndsBelow, Entry, IsShaped}
 use Rattle.gf_form.specs.inner.rows.Entries.{entries, entries_of, entry_at, heads, heads_of}
 use Rattle.gf_form.specs.inner.rows.Entries.{lowered, number_at, size_of_entries}
 use Rattle.gf_form.specs.inner.rows.Entries.{sum_of_entries}
@@ -145,13 +145,13 @@ settled_as_well from left den fit kept g number steps choices settles k less mos
 pub record Paying (from : Terms) (i : ℕ) (left : Terms) : Type 0 where
   pub kept : Kept (take i (entries from)) (entries left)
   pub shaped : IsShaped left
-  pub players : left.players ≡ from.players
+  pub alike : AreAlike left from
   pub ordered : AreOrdered left
   pub next : i < length from.demands.items → EndsBelow left.demands.items (demands_at from i)
 
 pub first_paying : (from left : Terms) → entries left ≡ [] → IsShaped left
-    → left.players ≡ from.players → Paying from 0 left
-first_paying from left none shaped players = grind (arith, terms_count, none_taken)
+    → AreAlike left from → Paying from 0 left
+first_paying from left none shaped alike = grind (arith, terms_count, none_taken)
 
 module _ (from : Terms) (i : ℕ) (left : Terms) (sorted : AreOrdered from)
     (less : i < length from.demands.items) (before : Paying from i left) where
@@ -163,8 +163,8 @@ module _ (from : Terms) (i : ℕ) (left : Terms) (sorted : AreOrdered from)
 
   pub more_paying : (after : Terms) → entries after ≡ entries left
       ++ lowered 0 (entry_at from i) ∷ []
-      → after.players ≡ left.players → IsShaped after → Paying from (i + 1) after
-  more_paying after is players shaped =
+      → AreAlike after left → IsShaped after → Paying from (i + 1) after
+  more_paying after is alike shaped =
       let e = entry_at from i in
       let grown = demands_more after left.den left.players left.demands.items left.scaled.items
       left.numbers.items (lowered 0 e) is in
@@ -173,7 +173,7 @@ module _ (from : Terms) (i : ℕ) (left : Terms) (sorted : AreOrdered from)
       record {
         kept = grind (arith, one_more, lowered_none, kept_more);
         shaped = shaped;
-        players = players ∙ before.players;
+        alike = (alike.0 ∙ before.alike.0, alike.1 ∙ before.alike.1);
         ordered = ordered_more left.demands.items after.demands.items (lowered 0 e).head.demands
             grown before.ordered
             (λ d some. let le = before.next less d some in omega (arith, le, demands));

@@ -46,6 +46,10 @@ pub record IsShaped (t : Terms) : Type 0 where
   pub within : AllByRecursion IsWithin t.numbers.items
   pub scaled : length t.scaled.items ≤ length t.demands.items
 
+-- for as many players, and over the same denominator unless they are over others
+abbrev pub AreAlike : Terms → Terms → Type 0
+AreAlike a b = (a.players ≡ b.players) × (a.den ≡ b.den)
+
 -- no term demands less than the one before it
 abbrev pub AreOrdered : Terms → Type 0
 AreOrdered t = IsNonDecreasing t.demands.items

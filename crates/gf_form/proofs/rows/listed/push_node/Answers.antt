@@ -83,7 +83,7 @@ made c =
     is_pushed old c.push_head.new.self head inv.filling.row c.requires inv.filling.within
     (inv.filling.one_each
     ∙ omega (arith, c.loop-place-test.false, c.loop-place.auto.place-end))
-    (after.players ∙ inv.players)
+    (after.alike.0 ∙ inv.players)
     (after.heads
     ∙ (λ i. heads_of (inv.den i) (inv.demands i).items (inv.scaled i).items ++ head ∷ []))
     (after.demands ∙ (λ i. (inv.demands i).items ++ head.demands ∷ []))

@@ -8,7 +8,7 @@ pub loop-free-init : goal.loop-free-init
 loop-free-init c =
     first_merge c.args.from.now c.args.step c.args.action c.args.chosen c.requires.some
     c.requires.chosen c.clear.new.self c.clear.ensures.none c.clear.ensures.shaped
-    (c.clear.ensures.players ∙ c.requires.players)
+    (c.clear.ensures.players ∙ c.requires.players, c.clear.ensures.den)
 
 pub overflow_sub-goes : goal.overflow_sub-goes
 overflow_sub-goes c =
@@ -28,7 +28,7 @@ loop-free-preserved-then-stays-goes c =
     both_go c.args.from.now c.args.step c.args.action (c.args.action * c.args.step)
     c.args.chosen.free c.args.chosen.end
     c.loop-free.free c.loop-free.own c.loop-free.self c.push_sum.new.self c.requires.ordered inv
-    c.in_ok-push_sum.ensures.players c.in_ok-push_sum.ensures.shaped c.loop-free-test.true
+    c.in_ok-push_sum.ensures.alike c.in_ok-push_sum.ensures.shaped c.loop-free-test.true
     c.if-own-chosen.true
     (omega (arith, c.if-stays-goes.true, free, own))
     c.in_ok-push_sum.ensures.sum
@@ -43,7 +43,7 @@ loop-free-preserved-then-stays-goes-2 c =
     free_goes c.args.from.now c.args.step c.args.action (c.args.action * c.args.step)
     c.args.chosen.free c.args.chosen.end
     c.loop-free.free c.loop-free.own c.loop-free.self c.push.new.self c.requires.ordered inv
-    c.in_ok-push.ensures.players c.in_ok-push.ensures.shaped c.loop-free-test.true
+    c.in_ok-push.ensures.alike c.in_ok-push.ensures.shaped c.loop-free-test.true
     (λ _. omega (arith, c.if-stays-goes-2.true, free, own))
     c.in_ok-push.ensures.pushed
 
@@ -65,7 +65,7 @@ loop-free-preserved c =
     own_goes c.args.from.now c.args.step c.args.action (c.args.action * c.args.step)
     c.args.chosen.free c.args.chosen.end
     c.loop-free.free c.loop-free.own c.loop-free.self c.push-else-stays-goes-2.new.self
-    c.requires.ordered inv c.in_ok-push-2.ensures.players c.in_ok-push-2.ensures.shaped
+    c.requires.ordered inv c.in_ok-push-2.ensures.alike c.in_ok-push-2.ensures.shaped
     c.if-own-chosen.true
     (λ _. omega (arith, c.if-stays-goes-2.false, free, own))
     c.in_ok-push-2.ensures.pushed
@@ -77,7 +77,7 @@ loop-free-2-preserved c =
       free_goes c.args.from.now c.args.step c.args.action (c.args.action * c.args.step)
           c.args.chosen.free c.args.chosen.end
           c.loop-free-2.free c.loop-free.own c.loop-free-2.self c.push-in-loop-free-2.new.self
-          c.requires.ordered inv c.in_ok-push-3.ensures.players c.in_ok-push-3.ensures.shaped
+          c.requires.ordered inv c.in_ok-push-3.ensures.alike c.in_ok-push-3.ensures.shaped
           c.loop-free-2-test.true
           (λ less. absurd (omega (arith, less, past)))
           c.in_ok-push-3.ensures.pushed,
@@ -98,7 +98,7 @@ loop-own-preserved c =
     own_goes c.args.from.now c.args.step c.args.action (c.args.action * c.args.step)
     c.args.chosen.free c.args.chosen.end
     c.loop-free-2.free c.loop-own.own c.loop-own.self c.push-in-loop-own.new.self
-    c.requires.ordered inv c.in_ok-push-4.ensures.players c.in_ok-push-4.ensures.shaped
+    c.requires.ordered inv c.in_ok-push-4.ensures.alike c.in_ok-push-4.ensures.shaped
     c.loop-own-test.true
     (λ less. absurd (omega (arith, less, c.loop-free-2-test.false)))
     c.in_ok-push-4.ensures.pushed

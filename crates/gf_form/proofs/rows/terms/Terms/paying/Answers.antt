@@ -9,7 +9,8 @@ use Rattle.gf_form.proofs.rows.terms.Terms.paying.Goals.{else-not-are_zero}
 
 pub loop-place-init : goal.loop-place-init
 loop-place-init c = first_paying c.put_over.new.self c.new-left.result c.new-left.ensures.none
-    c.new-left.ensures.shaped c.new-left.ensures.players
+    c.new-left.ensures.shaped
+    (c.new-left.ensures.players, c.new-left.ensures.den ∙ sym c.put_over.ensures.den)
 
 pub loop-place-preserved : goal.loop-place-preserved
 loop-place-preserved c =
@@ -22,7 +23,7 @@ loop-place-preserved c =
     elim c.if-not-are_zero.branch [
       | then-not-are_zero+in_ok-push w ↦ rw w.left-is
           (more_paying terms place c.loop-place.left ordered less c.loop-place.invariant
-          w.push.new.self w.in_ok-push.ensures.pushed w.in_ok-push.ensures.players
+          w.push.new.self w.in_ok-push.ensures.pushed w.in_ok-push.ensures.alike
           w.in_ok-push.ensures.shaped)
       | else-not-are_zero w ↦ rw w.left-is
           (same_paying terms place c.loop-place.left ordered less c.loop-place.invariant

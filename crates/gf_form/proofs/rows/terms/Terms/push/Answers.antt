@@ -1,12 +1,49 @@
-use Rattle.std.proofs.Common.{◌≡◌, ◌++◌, ◌∷◌, [], subst}
-use Rattle.std.specs.Prelude.{OnOk}
-use Rattle.gf_form.specs.declared.rows.terms.Head.{Head}
-use Rattle.gf_form.specs.inner.rows.Entries.{entries, entry_at, lowered}
+use Rattle.std.proofs.Common.{◌∙◌, ◌-◌, ◌++◌, ◌∷◌, [], ℤ, Global, List, Vec, ap, arith, sym}
+use Rattle.std.proofs.lemmas.List.{get_or_default}
+use Rattle.gf_form.specs.inner.rows.Entries.{entry_at, heads, lowered}
+use Rattle.gf_form.proofs.lemmas.rows.FlatRows.{Pushed, entry_demands, is_pushed, row_in_bound}
+use Rattle.gf_form.proofs.lemmas.rows.FlatRows.{row_length}
 use Rattle.gf_form.proofs.rows.terms.Terms.push.Goals as goal
 
+made : (c : goal.In_ok-push_like) → Pushed c.args.self.now c.push_like.new.self
+    (lowered c.args.less (entry_at c.args.from.now c.args.place))
+made c =
+    let from = c.args.from.now in
+    let place = c.args.place in
+    let shaped = c.requires.shaped.1 in
+    let within = c.requires.within in
+    let e = entry_at from place in
+    let after = c.in_ok-push_like.ensures in
+    let demands = c.index.ensures
+    ∙ get_or_default from.demands.items place c.index.result.now 0 within
+    ∙ sym (entry_demands from place within) in
+    is_pushed c.args.self.now c.push_like.new.self (lowered c.args.less e).head e.row
+    c.requires.shaped.0 (row_in_bound from place shaped within)
+    (row_length from place shaped within ∙ sym c.requires.alike.0) after.alike.0
+    (after.heads ∙ (λ i. heads c.args.self.now ++ record {
+      demands = demands i - c.args.less;
+      den = e.head.den;
+      size = e.head.size;
+    } ∷ []))
+    (after.demands ∙ (λ i. c.args.self.now.demands.items ++ (demands i - c.args.less) ∷ []))
+    after.scaled
+    (ap (λ (v : Vec ℤ Global). v.items) after.numbers ∙ c.in_ok-extend_from_slice.ensures.items
+    ∙ ap (λ (row : List ℤ). c.args.self.now.numbers.items ++ row) c.row.ensures)
+
+pub overflow_sub-index : goal.overflow_sub-index
+overflow_sub-index c =
+    let from = c.args.from.now in
+    let place = c.args.place in
+    omega (
+      arith,
+      c.requires.less,
+      c.index.ensures,
+      get_or_default from.demands.items place c.index.result.now 0 c.requires.within,
+      entry_demands from place c.requires.within,
+    )
+
 pub returns-clause-pushed : goal.returns-clause-pushed
-returns-clause-pushed c =
-    subst (λ (h : Head). OnOk c.push_row.result (entries c.push_row.new.self
-    ≡ entries c.args.self.now ++ lowered c.args.less
-    (record { head = h; row = (entry_at c.args.from.now c.args.place).row }) ∷ []))
-    c.head-head.ensures c.push_row.ensures.pushed
+returns-clause-pushed c = (made c).pushed
+
+pub returns-clause-shaped : goal.returns-clause-shaped
+returns-clause-shaped c = (made c).shaped

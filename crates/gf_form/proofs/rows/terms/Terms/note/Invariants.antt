@@ -1,6 +1,6 @@
 use Rattle.std.proofs.Common.{◌≡◌, ◌≤◌, ◌-◌, length}
-use Rattle.gf_form.specs.inner.rows.Entries.{heads}
-use Rattle.gf_form.proofs.rows.terms.Terms.note_all.Given as goal
+use Rattle.gf_form.specs.inner.rows.Entries.{AreAlike, heads}
+use Rattle.gf_form.proofs.rows.terms.Terms.note.Given as goal
 
 abbrev pub invariant-loop-self : goal.invariant-loop-self
 invariant-loop-self l = record {
@@ -8,7 +8,7 @@ invariant-loop-self l = record {
   within : length l.self.scaled.items ≤ length l.self.demands.items;
   demands : l.self.demands ≡ l.fn.self.demands;
   numbers : l.self.numbers ≡ l.fn.self.numbers;
-  players : l.self.players ≡ l.fn.self.players;
+  alike : AreAlike l.self l.fn.self;
 }
 
 abbrev pub decreases-loop-self : goal.decreases-loop-self
