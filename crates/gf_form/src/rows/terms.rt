@@ -203,7 +203,6 @@ impl Terms {
     /// Appends demands, for the numbers that were appended last, over what the term at this place
     /// of an alike list, from 0, is over.
     #[inline(always)]
-    #[tactic(auto, using(crate::proofs::lemmas::rows::FlatRows::one_plain, crate::proofs::lemmas::rows::FlatRows::head_is))]
     fn push_like(&mut self, from: &Terms, place: usize, demands: u64) -> Result<(), AllocError>
         requires scaled { length self.old.scaled.items ≤ length self.old.demands.items }
         requires den { self.old.den ≡ from.now.den }

@@ -64,8 +64,7 @@ entries_count p (h ∷ hs) ns = ap suc (entries_count p hs (drop p ns))
 pub heads_count : (den : ℕ) (ds : List ℕ) (ss : List Scaled)
     → length (heads_of den ds ss) ≡ length ds
 heads_count den [] ss = refl
-heads_count den (d ∷ ds) [] = ap suc (heads_count den ds [])
-heads_count den (d ∷ ds) (s ∷ ss) = ap suc (heads_count den ds ss)
+heads_count den (d ∷ ds) ss = grind (arith, heads_count den ds)
 
 pub terms_count : (t : Terms) → length (entries t) ≡ length t.demands.items
 terms_count t =
@@ -78,21 +77,16 @@ head_there : (den : ℕ) (ds : List ℕ) (ss : List Scaled) (k : ℕ) → k < le
       den = (get_or ss k (record { den = den; size = 0 })).den;
       size = (get_or ss k (record { den = den; size = 0 })).size;
     }
-head_there den [] ss k less = absurd (omega (arith, less))
-head_there den (d ∷ ds) [] zero less = refl
-head_there den (d ∷ ds) [] (suc k) less =
-    grind (arith, get_or, head_there den ds [] k (omega (arith, less)))
-head_there den (d ∷ ds) (s ∷ ss) zero less = refl
-head_there den (d ∷ ds) (s ∷ ss) (suc k) less = head_there den ds ss k (omega (arith, less))
+head_there den [] ss k less = grind arith
+head_there den (d ∷ ds) [] k less = grind (arith, get_or, head_there den ds [])
+head_there den (d ∷ ds) (s ∷ ss) k less = grind (arith, get_or, head_there den ds ss)
 
 -- one more of which nothing is noted
 pub one_plain : (den : ℕ) (ds : List ℕ) (ss : List Scaled) (d : ℕ) → length ss ≤ length ds
     → heads_of den (ds ++ d ∷ []) ss
     ≡ heads_of den ds ss ++ record { demands = d; den = den; size = 0 } ∷ []
-one_plain den [] [] d less = refl
-one_plain den [] (s ∷ ss) d less = absurd (omega (arith, less))
-one_plain den (e ∷ ds) [] d less = cc (one_plain den ds [] d (omega arith))
-one_plain den (e ∷ ds) (s ∷ ss) d less = cc (one_plain den ds ss d (omega (arith, less)))
+one_plain den [] ss d less = grind arith
+one_plain den (e ∷ ds) ss d less = grind (arith, one_plain den ds)
 
 -- one more that is noted, as all are
 pub one_noted : (den : ℕ) (ds : List ℕ) (ss : List Scaled) (d : ℕ) (s : Scaled)
@@ -106,15 +100,13 @@ one_noted den (e ∷ ds) (t ∷ ss) d s all = cc (one_noted den ds ss d s (omega
 -- what is so for the next anyway is noted of it
 pub next_noted : (den : ℕ) (ds : List ℕ) (ss : List Scaled) → length ss < length ds
     → heads_of den ds (ss ++ record { den = den; size = 0 } ∷ []) ≡ heads_of den ds ss
-next_noted den [] ss less = absurd (omega (arith, less))
-next_noted den (d ∷ ds) [] less = refl
-next_noted den (d ∷ ds) (s ∷ ss) less = cc (next_noted den ds ss (omega (arith, less)))
+next_noted den [] ss less = grind arith
+next_noted den (d ∷ ds) ss less = grind (arith, next_noted den ds)
 
 demands_in : (den p : ℕ) (ds : List ℕ) (ss : List Scaled) (ns : List ℤ)
     → map (λ (e : Entry). e.head.demands) (entries_of p (heads_of den ds ss) ns) ≡ ds
 demands_in den p [] ss ns = refl
-demands_in den p (d ∷ ds) [] ns = cc (demands_in den p ds [] (drop p ns))
-demands_in den p (d ∷ ds) (s ∷ ss) ns = cc (demands_in den p ds ss (drop p ns))
+demands_in den p (d ∷ ds) ss ns = grind (arith, demands_in den p ds)
 
 pub demands_more : (after : Terms) (den p : ℕ) (ds : List ℕ) (ss : List Scaled) (ns : List ℤ)
     (e : Entry) → entries after ≡ entries_of p (heads_of den ds ss) ns ++ e ∷ []
@@ -137,18 +129,14 @@ module _ (t : Terms) (place : ℕ) (within : place < length t.demands.items) whe
     head = get_or (heads t) place no_head;
     row = take t.players (drop (place * t.players) t.numbers.items);
   }
-  there =
-      entry_is t.players (heads t) t.numbers.items place no_head
-      (omega (arith, within, heads_count t.den t.demands.items t.scaled.items))
+  there = grind (arith, entry_is, heads_count)
 
   pub head_is : (entry_at t place).head ≡ record {
     demands = get_or t.demands.items place 0;
     den = (get_or t.scaled.items place (record { den = t.den; size = 0 })).den;
     size = (get_or t.scaled.items place (record { den = t.den; size = 0 })).size;
   }
-  head_is =
-      ap (λ (e : Entry). e.head) there
-      ∙ head_there t.den t.demands.items t.scaled.items place within
+  head_is = grind (arith, there, head_there)
 
   pub entry_demands : (entry_at t place).head.demands ≡ get_or t.demands.items place 0
   entry_demands = ap (λ (h : Head). h.demands) head_is
@@ -163,28 +151,14 @@ module _ (to from : Terms) (place d : ℕ) (within : place < length from.demands
         den = (entry_at from place).head.den;
         size = (entry_at from place).head.size;
       } ∷ []
-  one_like out same scaled =
-      let is = head_is from place within in
-      let none = get_or_past from.scaled.items place (record { den = from.den; size = 0 }) out in
-      let den : to.den ≡ (entry_at from place).head.den =
-      same ∙ sym (ap (λ (s : Scaled). s.den) none) ∙ sym (ap (λ (h : Head). h.den) is) in
-      let size : 0 ≡ (entry_at from place).head.size =
-      sym (ap (λ (s : Scaled). s.size) none) ∙ sym (ap (λ (h : Head). h.size) is) in
-      one_plain to.den to.demands.items to.scaled.items d scaled
-      ∙ (λ i. heads to ++ record { demands = d; den = den i; size = size i } ∷ [])
+  one_like out same scaled = grind (arith, one_plain, head_is, get_or_past)
 
 -- ---- a term more
 
 pub row_length : (t : Terms) (place : ℕ) → IsShaped t → place < length t.demands.items
     → length (entry_at t place).row ≡ t.players
 row_length t place shaped within =
-    let p = t.players in
-    let ns = t.numbers.items in
-    let room = row_within p (length t.demands.items) place within in
-    let left : p ≤ length (drop (place * p) ns) =
-    omega (arith, room, shaped.count, length-drop (place * p) ns) in
-    ap (λ (e : Entry). length e.row) (there t place within)
-    ∙ length-take-le p (drop (place * p) ns) left
+    grind (arith, there, row_within, length-drop, length-take-le)
 
 taken_within : (i : ℕ) (ns : List ℤ) → AllByRecursion IsWithin ns
     → AllByRecursion IsWithin (take i ns) × AllByRecursion IsWithin (drop i ns)
@@ -213,28 +187,12 @@ pub is_pushed : (to after : Terms) (h : Head) (row : List ℤ) → IsShaped to
     → length after.scaled.items ≤ length after.demands.items
     → after.numbers.items ≡ to.numbers.items ++ row
     → Pushed to after (record { head = h; row = row })
-is_pushed to after h row shaped within one_each players heads_are demands scaled is = record {
-  pushed = (λ i. entries_of (players i) (heads_are i) (is i))
-      ∙ entry_more to.players (heads to) to.numbers.items row h
-      (shaped.count ∙ ap (λ (n : ℕ). n * to.players)
-      (sym (heads_count to.den to.demands.items to.scaled.items))) one_each;
-  shaped = record {
-    count = all ∙ (λ i. sym grown i * sym players i);
-    within = subst (AllByRecursion IsWithin) (sym is)
-        (all_both IsWithin to.numbers.items row shaped.within within);
-    scaled = scaled;
-  };
-}
-  where
-    grown : length after.demands.items ≡ length to.demands.items + 1
-    grown = ap length demands ∙ length-append to.demands.items (h.demands ∷ [])
-
-    all : length after.numbers.items ≡ (length to.demands.items + 1) * to.players
-    all =
-        let both = length-append to.numbers.items row in
-        let more : (length to.demands.items + 1) * to.players
-        ≡ length to.demands.items * to.players + to.players = omega arith in
-        ap length is ∙ omega (arith, both, shaped.count, one_each, more)
+is_pushed to after h row shaped within one_each players heads_are demands scaled is =
+    let more : (length to.demands.items + 1) * to.players
+    ≡ length to.demands.items * to.players + to.players = omega arith in
+    let grown : length after.demands.items ≡ length to.demands.items + 1 =
+    grind (arith, length-append) in
+    grind (arith, entry_more, heads_count, all_both, length-append, grown, more)
 
 -- ---- two terms over one denominator
 

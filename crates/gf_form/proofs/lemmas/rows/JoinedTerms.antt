@@ -6,7 +6,7 @@ use Rattle.std.proofs.lemmas.List.{drop-take, get_or-take, get_or_default, lengt
 use Rattle.std.proofs.lemmas.List.Sorted.{IsNonDecreasingBy-take}
 use Rattle.gf_tree.specs.Game.{Game}
 use Rattle.gf_form.specs.inner.rows.Entries.{AreOrdered, EndsBelow, Entry, HasSum, entries}
-use Rattle.gf_form.specs.inner.rows.Entries.{entries_of, entry_at, heads, heads_of, lowered}
+use Rattle.gf_form.specs.inner.rows.Entries.{entries_of, entry_at, heads_of, lowered}
 use Rattle.gf_form.specs.inner.rows.ListedNodes.{AreTermsOf}
 use Rattle.gf_form.specs.declared.rows.paths.Reached.{Reached}
 use Rattle.gf_form.specs.declared.rows.terms.Head.{Head}
@@ -42,8 +42,7 @@ heads_cut : (den : ℕ) (ds : List ℕ) (ss : List Scaled) (n : ℕ)
     → heads_of den (take n ds) (take n ss) ≡ take n (heads_of den ds ss)
 heads_cut den ds ss zero = refl
 heads_cut den [] ss (suc n) = refl
-heads_cut den (d ∷ ds) [] (suc n) = cc (heads_cut den ds [] n, take-nil {A = Scaled} n)
-heads_cut den (d ∷ ds) (s ∷ ss) (suc n) = cc (heads_cut den ds ss n)
+heads_cut den (d ∷ ds) ss (suc n) = grind (arith, heads_cut den ds, take-nil)
 
 last_two : {X : Type 0} (xs : List X) (n : ℕ) (d : X) → length xs ≡ n + 2
     → xs ≡ take n xs ++ get_or xs n d ∷ get_or xs (n + 1) d ∷ []
@@ -74,11 +73,7 @@ module _ (old spare sums after : Terms) (n last : ℕ) (two : length old.demands
   sum_is = grind arith
 
   all_are : entries after ≡ take n (entries old) ++ has.sum ∷ []
-  all_are =
-      is ∙ (λ i. entries_of old.players (heads_cut old.den old.demands.items old.scaled.items n i)
-      (take (n * old.players) old.numbers.items) ++ sum_is i ∷ [])
-      ∙ ap (λ (es : List Entry). es ++ has.sum ∷ [])
-      (entries_cut old.players (heads old) old.numbers.items n)
+  all_are = grind (arith, is, heads_cut, entries_cut, sum_is)
 
   grown : after.demands.items ≡ take n old.demands.items ++ has.sum.head.demands ∷ []
   grown = grind (arith, demands_more, sum_is)

@@ -61,7 +61,7 @@ demands_at t place = get_or t.demands.items place 0
 
 pub demands_read : (t : Terms) (place d : ℕ) → place < length t.demands.items
     → d ≡ get_or t.demands.items place d → d ≡ demands_at t place
-demands_read t place d within is = is ∙ get_or_default t.demands.items place d 0 within
+demands_read t place d within is = grind (arith, get_or_default)
 
 module _ (from : Terms) (step action : ℕ) (some : 1 ≤ action) (chosen : Chosen)
     (are : AreChosen from.demands.items step action chosen) where

@@ -13,8 +13,9 @@ use Rattle.gf_fraction.proofs.AllElements.{all_both, all_parts}
 use Rattle.gf_fraction.proofs.Integers.{*ℤ-cancel_right, *ℤ_assoc, *ℤ_right_comm, add-*ℤ}
 use Rattle.gf_tree.specs.Game.{Game}
 use Rattle.gf_form.specs.inner.rows.Demands.{meets}
-use Rattle.gf_form.specs.inner.rows.Entries.{AreAlike, AreExactAt, AreOrdered, EndsBelow, Entry, IsShaped}
-use Rattle.gf_form.specs.inner.rows.Entries.{entries, entries_of, entry_at, heads, heads_of}
+use Rattle.gf_form.specs.inner.rows.Entries.{AreAlike, AreExactAt, AreOrdered, EndsBelow}
+use Rattle.gf_form.specs.inner.rows.Entries.{Entry, IsShaped, entries, entries_of, entry_at}
+use Rattle.gf_form.specs.inner.rows.Entries.{heads, heads_of}
 use Rattle.gf_form.specs.inner.rows.Entries.{lowered, number_at, size_of_entries}
 use Rattle.gf_form.specs.inner.rows.Entries.{sum_of_entries}
 use Rattle.gf_form.specs.inner.rows.Paying.{FitOver, IsOver, Kept, SettleAsWell, sizes_of}
@@ -232,17 +233,13 @@ pub more_fitting : (den size more : ℕ) (t : Terms) (i : ℕ) → i < length t.
     → (entry_at t i).head.den ≡ den → more ≡ size + (entry_at t i).head.size → more < 2 ^ 127
     → Fitting den size (heads t) i → Fitting den more (heads t) (i + 1)
 more_fitting den size more t i less same sum within before =
-    let count = heads_count t.den t.demands.items t.scaled.items in
-    let head = ap (λ (e : Entry). e.head) (there t i less) in
     let taken : take (i + 1) (heads t) ≡ take i (heads t) ++ (entry_at t i).head ∷ [] =
-    grind (arith, take-suc) in
+    grind (arith, take-suc, there, heads_count) in
     grind (arith, all_both, sizes_append)
 
 pub all_fit : (t : Terms) (den size i : ℕ) → i ≡ length t.demands.items
     → Fitting den size (heads t) i → 0 < den → den < 2 ^ 127 → FitOver den (heads t)
-all_fit t den size i all done above within =
-    let count = heads_count t.den t.demands.items t.scaled.items in
-    grind (arith, take-length)
+all_fit t den size i all done above within = grind (arith, heads_count, take-length)
 
 -- ---- profiles
 

@@ -21,10 +21,7 @@ in_bits : (z : ℤ) → IsWithin z → to_z w128 (of_z w128 z) ≡ z
 in_bits z small = to_z-of_z w128 z (fits_signed_from_abs w128 z small)
 
 pub nonzero_div-times : goal.nonzero_div-times
-nonzero_div-times c =
-    let some =
-    pos_of_dvd_of_pos c.denominator-den.ensures (omega (arith, c.if-den-eq0.false)) in
-    omega (arith, some)
+nonzero_div-times c = grind (arith, pos_of_dvd_of_pos)
 
 pub loop-place-preserved : goal.loop-place-preserved
 loop-place-preserved c =

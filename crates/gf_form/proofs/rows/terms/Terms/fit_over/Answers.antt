@@ -1,24 +1,9 @@
-use Rattle.std.proofs.Common.{◌<◌, ◌∙◌, ap, arith, length, sym}
-use Rattle.gf_form.specs.declared.rows.terms.Head.{Head}
+use Rattle.std.proofs.Common.{arith}
 use Rattle.gf_form.proofs.lemmas.rows.PayingTerms.{all_fit, more_fitting}
 use Rattle.gf_form.proofs.rows.terms.Terms.fit_over.Goals as goal
 
 pub loop-place-preserved : goal.loop-place-preserved
-loop-place-preserved c =
-    let t = c.args.self.now in
-    let place = c.loop-place.place in
-    let head = c.head-head.ensures in
-    let less : place < length t.demands.items = omega (
-      arith,
-      c.loop-place-test.true,
-      c.loop-place.auto.place-end,
-      c.len-place-end.ensures,
-      t.demands.ok.0,
-    ) in
-    more_fitting c.args.den c.loop-place.size c.in-Some.sum t place less
-    (ap (λ (h : Head). h.den) (sym head) ∙ c.if-head-den.false)
-    (omega (arith, c.in-Some.ensures, ap (λ (h : Head). h.size) head))
-    (omega (arith, c.if-sum-gt-LARGEST.false)) c.loop-place.invariant
+loop-place-preserved c = grind (arith, more_fitting)
 
 pub returns : goal.returns
 returns c = λ _.

@@ -12,12 +12,8 @@ all c =
     let two : length old.demands.items ≡ count - 2 + 2 =
     omega (arith, some, c.len-count.ensures, old.demands.ok.0) in
     let next : count - 1 ≡ count - 2 + 1 = omega (arith, some) in
-    let last = demands_read old (count - 1) c.index.result.now (omega (arith, two, next))
-    c.index.ensures in
-    let first = demands_read old (count - 2) c.index-else-count-lt2.result.now (omega (arith, two))
-    c.index-else-count-lt2.ensures in
     let same : demands_at old (count - 2) ≡ demands_at old (count - 1) =
-    omega (arith, first, last, c.if-index.false) in
+    grind (arith, demands_read) in
     let is = c.in_ok-push.ensures.pushed
     ∙ (λ i. entries_of old.players
     (heads_of old.den (c.truncate.ensures.items i) (c.truncate-2.ensures.items i))

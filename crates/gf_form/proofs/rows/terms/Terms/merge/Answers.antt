@@ -11,63 +11,41 @@ loop-free-init c =
     (c.clear.ensures.players ∙ c.requires.players, c.clear.ensures.den)
 
 pub overflow_sub-goes : goal.overflow_sub-goes
-overflow_sub-goes c =
-    let inv = c.loop-free.invariant in
-    let least = inv.own_least c.loop-free.own (omega arith) c.if-own-chosen.true in
-    let own = demands_read c.args.from.now c.loop-free.own c.index.result.now
-    (omega (arith, c.if-own-chosen.true, inv.own_within)) c.index.ensures in
-    omega (arith, least, own)
+overflow_sub-goes c = grind (arith, demands_read)
 
 pub loop-free-preserved-then-stays-goes : goal.loop-free-preserved-then-stays-goes
 loop-free-preserved-then-stays-goes c =
     let inv = c.loop-free.invariant in
-    let free = demands_read c.args.from.now c.loop-free.free c.index-stays.result.now
-    (omega (arith, c.loop-free-test.true, inv.free_within)) c.index-stays.ensures in
-    let own = demands_read c.args.from.now c.loop-free.own c.index.result.now
-    (omega (arith, c.if-own-chosen.true, inv.own_within)) c.index.ensures in
     both_go c.args.from.now c.args.step c.args.action (c.args.action * c.args.step)
     c.args.chosen.free c.args.chosen.end
     c.loop-free.free c.loop-free.own c.loop-free.self c.push_sum.new.self c.requires.ordered inv
     c.in_ok-push_sum.ensures.alike c.in_ok-push_sum.ensures.shaped c.loop-free-test.true
     c.if-own-chosen.true
-    (omega (arith, c.if-stays-goes.true, free, own))
+    (grind (arith, demands_read))
     c.in_ok-push_sum.ensures.sum
 
 pub loop-free-preserved-then-stays-goes-2 : goal.loop-free-preserved-then-stays-goes-2
 loop-free-preserved-then-stays-goes-2 c =
     let inv = c.loop-free.invariant in
-    let free = demands_read c.args.from.now c.loop-free.free c.index-stays.result.now
-    (omega (arith, c.loop-free-test.true, inv.free_within)) c.index-stays.ensures in
-    let own = demands_read c.args.from.now c.loop-free.own c.index.result.now
-    (omega (arith, c.if-own-chosen.true, inv.own_within)) c.index.ensures in
     free_goes c.args.from.now c.args.step c.args.action (c.args.action * c.args.step)
     c.args.chosen.free c.args.chosen.end
     c.loop-free.free c.loop-free.own c.loop-free.self c.push.new.self c.requires.ordered inv
     c.in_ok-push.ensures.alike c.in_ok-push.ensures.shaped c.loop-free-test.true
-    (λ _. omega (arith, c.if-stays-goes-2.true, free, own))
+    (λ _. grind (arith, demands_read))
     c.in_ok-push.ensures.pushed
 
 pub push-requires-else-stays-goes-2-clause-less : goal.push-requires-else-stays-goes-2-clause-less
-push-requires-else-stays-goes-2-clause-less c =
-    let inv = c.loop-free.invariant in
-    let least = inv.own_least c.loop-free.own (omega arith) c.if-own-chosen.true in
-    let own = entry_demands c.args.from.now c.loop-free.own
-    (omega (arith, c.if-own-chosen.true, inv.own_within)) in
-    omega (arith, least, own)
+push-requires-else-stays-goes-2-clause-less c = grind (arith, entry_demands)
 
 pub loop-free-preserved : goal.loop-free-preserved
 loop-free-preserved c =
     let inv = c.loop-free.invariant in
-    let free = demands_read c.args.from.now c.loop-free.free c.index-stays.result.now
-    (omega (arith, c.loop-free-test.true, inv.free_within)) c.index-stays.ensures in
-    let own = demands_read c.args.from.now c.loop-free.own c.index.result.now
-    (omega (arith, c.if-own-chosen.true, inv.own_within)) c.index.ensures in
     own_goes c.args.from.now c.args.step c.args.action (c.args.action * c.args.step)
     c.args.chosen.free c.args.chosen.end
     c.loop-free.free c.loop-free.own c.loop-free.self c.push-else-stays-goes-2.new.self
     c.requires.ordered inv c.in_ok-push-2.ensures.alike c.in_ok-push-2.ensures.shaped
     c.if-own-chosen.true
-    (λ _. omega (arith, c.if-stays-goes-2.false, free, own))
+    (λ _. grind (arith, demands_read))
     c.in_ok-push-2.ensures.pushed
 
 pub loop-free-2-preserved : goal.loop-free-2-preserved
@@ -85,12 +63,7 @@ loop-free-2-preserved c =
     )
 
 pub push-requires-in-loop-own-clause-less : goal.push-requires-in-loop-own-clause-less
-push-requires-in-loop-own-clause-less c =
-    let inv = c.loop-own.invariant in
-    let least = inv.own_least c.loop-own.own (omega arith) c.loop-own-test.true in
-    let own = entry_demands c.args.from.now c.loop-own.own
-    (omega (arith, c.loop-own-test.true, inv.own_within)) in
-    omega (arith, least, own)
+push-requires-in-loop-own-clause-less c = grind (arith, entry_demands)
 
 pub loop-own-preserved : goal.loop-own-preserved
 loop-own-preserved c =

@@ -8,9 +8,7 @@ use Rattle.gf_form.proofs.rows.terms.Terms.paying.Goals.{then-not-are_zero+in_ok
 use Rattle.gf_form.proofs.rows.terms.Terms.paying.Goals.{else-not-are_zero}
 
 pub loop-place-init : goal.loop-place-init
-loop-place-init c = first_paying c.put_over.new.self c.new-left.result c.new-left.ensures.none
-    c.new-left.ensures.shaped
-    (c.new-left.ensures.players, c.new-left.ensures.den ∙ sym c.put_over.ensures.den)
+loop-place-init c = grind (arith, first_paying)
 
 pub loop-place-preserved : goal.loop-place-preserved
 loop-place-preserved c =

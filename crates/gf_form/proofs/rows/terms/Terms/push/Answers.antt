@@ -31,16 +31,7 @@ made c =
     ∙ ap (λ (row : List ℤ). c.args.self.now.numbers.items ++ row) c.row.ensures)
 
 pub overflow_sub-index : goal.overflow_sub-index
-overflow_sub-index c =
-    let from = c.args.from.now in
-    let place = c.args.place in
-    omega (
-      arith,
-      c.requires.less,
-      c.index.ensures,
-      get_or_default from.demands.items place c.index.result.now 0 c.requires.within,
-      entry_demands from place c.requires.within,
-    )
+overflow_sub-index c = grind (arith, entry_demands, get_or_default)
 
 pub returns-clause-pushed : goal.returns-clause-pushed
 returns-clause-pushed c = (made c).pushed

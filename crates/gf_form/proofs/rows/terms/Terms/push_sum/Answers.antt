@@ -1,7 +1,5 @@
 use Rattle.std.proofs.Common.{◌≡◌, ◌∙◌, ◌<◌, ◌+ℤ◌, ◌*ℤ◌, ap, arith, get_or, length, pos, ℕ, ℤ}
 use Rattle.std.proofs.Common.{sym, true, subst, Vec, Global}
-use Rattle.std.specs.List.{AllByRecursion}
-use Rattle.gf_fraction.specs.Ratio.{IsWithin}
 use Rattle.gf_form.specs.inner.rows.Entries.{IsScale, entry_at}
 use Rattle.gf_form.specs.declared.rows.sums.Scale.{Scale}
 use Rattle.gf_form.specs.declared.rows.terms.Head.{Head}
@@ -12,21 +10,13 @@ use Rattle.gf_form.proofs.rows.terms.Terms.push_sum.Goals.{then-fits, else-fits}
 use Rattle.gf_form.proofs.rows.terms.Terms.push_sum.Goals.{in-Some, in-None}
 
 pub push_numbers-requires-clause-alike : goal.push_numbers-requires-clause-alike
-push_numbers-requires-clause-alike c =
-    let from = c.args.from.now in
-    ap length c.row-one.ensures ∙ row_length from c.args.first c.requires.shaped.1 c.requires.first
-    ∙ sym (ap length c.row-other.ensures
-    ∙ row_length from c.args.second c.requires.shaped.1 c.requires.second)
+push_numbers-requires-clause-alike c = grind (arith, row_length)
 
 pub push_numbers-requires-clause-first : goal.push_numbers-requires-clause-first
-push_numbers-requires-clause-first c =
-    subst (AllByRecursion IsWithin) (sym c.row-one.ensures)
-    (row_in_bound c.args.from.now c.args.first c.requires.shaped.1 c.requires.first)
+push_numbers-requires-clause-first c = grind (arith, row_in_bound)
 
 pub push_numbers-requires-clause-second : goal.push_numbers-requires-clause-second
-push_numbers-requires-clause-second c =
-    subst (AllByRecursion IsWithin) (sym c.row-other.ensures)
-    (row_in_bound c.args.from.now c.args.second c.requires.shaped.1 c.requires.second)
+push_numbers-requires-clause-second c = grind (arith, row_in_bound)
 
 made : (c : goal.In_ok-push_head) → Pushed c.args.self.now c.push_head.new.self (record {
   head = record {
