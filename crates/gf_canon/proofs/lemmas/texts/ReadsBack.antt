@@ -33,8 +33,7 @@ use Rattle.gf_tree.specs.FileNodes.{use_behind, node_behind, file_nodes}
 use Rattle.gf_canon.specs.GameText.{node_text, game_text}
 use Rattle.gf_canon.proofs.lemmas.texts.FileOf.{file_of, entries_behind, file_entries}
 use Rattle.gf_canon.proofs.lemmas.texts.FileOf.{file_nodes_are}
-use Rattle.gf_canon.proofs.lemmas.texts.Pieces.{Piece, texts, tokens_of, AllSaid, label, bare}
-use Rattle.gf_canon.proofs.lemmas.texts.Pieces.{listed, said_list, said_node}
+use Rattle.gf_canon.proofs.lemmas.texts.Pieces.{both, label, labels, line, list, said_node, word}
 
 -- ---- each node can be written
 
@@ -138,18 +137,6 @@ said_nodes g game can before (e ∷ es) among = (
 
 -- ---- the heading
 
-said_labels : (ls : List (List ℕ)) → AllByRecursion IsLabel ls → AllSaid (map label ls)
-said_labels [] h = tt
-said_labels (l ∷ ls) h = (says_label l h.0, said_labels ls h.1)
-
-labels_tokens : (ls : List (List ℕ)) → tokens_of (map label ls) ≡ map Text ls
-labels_tokens [] = refl
-labels_tokens (l ∷ ls) = ap (λ ts. Text l ∷ ts) (labels_tokens ls)
-
-abbrev heading_pieces : Game → List Piece
-heading_pieces g = bare (codes "EFG") ∷ bare (codes "2") ∷ bare (codes "R") ∷ label g.title
-    ∷ listed (map label g.players) ∷ []
-
 abbrev heading_text : Game → List ℕ
 heading_text g = spaced
     (codes "EFG" ∷ codes "2" ∷ codes "R" ∷ quoted g.title ∷ list_text (map quoted g.players) ∷ [])
@@ -159,28 +146,9 @@ heading_tokens g = Bare (codes "EFG") ∷ Bare (codes "2") ∷ Bare (codes "R") 
     ∷ braced (map Text g.players)
 
 said_heading : (g : Game) → IsSpellable g → Says (heading_text g) (heading_tokens g)
-said_heading g can =
-    let said : AllSaid (heading_pieces g) = (
-      says_bare (codes "EFG") (refl, (refl, (refl, tt))),
-      (
-        says_bare (codes "2") (refl, tt),
-        (
-          says_bare (codes "R") (refl, tt),
-          (
-            says_label g.title can.title,
-            (said_list (map label g.players) (said_labels g.players can.players), tt),
-          ),
-        ),
-      ),
-    ) in
-    let text : spaced (texts (heading_pieces g)) ≡ heading_text g =
-    ap (λ ts. spaced (codes "EFG" ∷ codes "2" ∷ codes "R" ∷ quoted g.title ∷ list_text ts ∷ []))
-    (map_twice (λ (p : Piece). p.text) label g.players) in
-    let tokens : tokens_of (heading_pieces g) ≡ heading_tokens g =
-    cc (append-nil (braced (tokens_of (map label g.players))), labels_tokens g.players) in
-    subst (λ ts. Says (heading_text g) ts) tokens
-    (subst (λ bs. Says bs (tokens_of (heading_pieces g))) text
-    (says_spaced (λ (p : Piece). p.text) (λ (p : Piece). p.tokens) (heading_pieces g) said))
+said_heading g can = line (both (word (codes "EFG") (refl, (refl, (refl, tt))))
+    (both (word (codes "2") (refl, tt)) (both (word (codes "R") (refl, tt))
+    (both (label g.title can.title) (list (labels g.players can.players))))))
 
 -- ---- the whole
 
