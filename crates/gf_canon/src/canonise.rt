@@ -10,6 +10,7 @@ ghost use Rattle.gf_tree.specs.Game.{Game as game};
 ghost use Rattle.gf_tree.specs.GameOf.{SpellsGame};
 ghost use Rattle.gf_tree.specs.Judgement.{IsJudged as IsExtensiveJudged};
 ghost use Rattle.gf_canon.specs.GameFile.{GameFile, canonical_text};
+ghost use Rattle.gf_canon.specs.GameFile.GameFile.{strategic};
 ghost use Rattle.gf_canon.specs.Judgement.{IsCanonicalText, IsJudged, IsPlaced, IsTextBy};
 ghost use Rattle.gf_canon.specs.Judgement.{SpellsWithin};
 ghost use Rattle.gf_canon.specs.NamesAside.{file_by};
@@ -37,7 +38,8 @@ fn canonical_efg(alloc: Global, input: &[u8], names: Names) -> Result<Vec<u8>, F
 
 /// The canonical text of a strategic file.
 fn canonical_table(alloc: Global, input: &[u8], names: Names) -> Result<Vec<u8>, Fault>
-    ensures text { IfOk result (λ text. IsTextBy names input.now text.items) }
+    ensures text { IfOk result (λ text. (t : table) × SpellsTable input.now t × IsWithinLimit t
+        × (text.items ≡ canonical_text (file_by names (strategic t)))) }
     ensures judged { IfErr result (λ fault. IsStrategicJudged fault.why input.now fault.span) }
     ensures memory { IfErr result (λ fault. (t : table) → SpellsTable input.now t
         → IsWithinLimit t → fault.why ≡ Memory) }

@@ -91,6 +91,7 @@ fn tell_sets<P: ReceivePairs>(
 }
 
 /// Tells a pair for each set of a player. A player whose number does not fit in 32 bits has none.
+#[tactic(auto, using(crate::proofs::lemmas::numbers::PairsInTurn::no_pairs))]
 fn tell_player<P: ReceivePairs>(
     g: &Game<'_>,
     h: &Game<'_>,

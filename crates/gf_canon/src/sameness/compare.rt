@@ -29,6 +29,7 @@ pub(crate) fn same_name(a: Label<'_>, b: Label<'_>, names: Names) -> bool
 }
 
 /// Whether two lists of labels are the same.
+#[tactic(auto, using(crate::proofs::lemmas::sameness::Lists::same_labels))]
 fn same_labels(a: &[Label<'_>], b: &[Label<'_>]) -> bool
     ensures { IsTrue result ↔ (map label_of a.now ≡ map label_of b.now) }
 {

@@ -13,6 +13,7 @@ use crate::sameness::compare::{same_heading, same_node};
 use gf_tree::Game;
 
 /// Whether the nodes of both games are the same by first-use numbers.
+#[tactic(auto, using(crate::proofs::lemmas::sameness::WalkedNodes::walks_on))]
 fn same_nodes(g: &Game<'_>, h: &Game<'_>, names: Names) -> bool
     ensures { IsTrue result ↔ (map (node_by names) (file_nodes (canonical_game g.now))
         ≡ map (node_by names) (file_nodes (canonical_game h.now))) }
@@ -32,6 +33,7 @@ fn same_nodes(g: &Game<'_>, h: &Game<'_>, names: Names) -> bool
 /// Whether two games are the same. Sets and outcomes that a renumbering carries to each other have
 /// the same first-use number, so each node is compared with one node, and nothing is searched for.
 /// This takes no memory.
+#[tactic(auto, using(crate::proofs::lemmas::sameness::WalkedNodes::same_by_walk))]
 pub(crate) fn same_games(g: &Game<'_>, h: &Game<'_>, names: Names) -> bool
     ensures same { IsTrue result ↔ SameBy names (extensive g.now) (extensive h.now) }
     ensures games { IsGame g.now × IsGame h.now }

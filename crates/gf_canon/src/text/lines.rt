@@ -66,7 +66,7 @@ impl<'a> Receive<'a> for Lines {
         )
     }
 
-    #[tactic(auto, using(crate::proofs::lemmas::texts::ToldTexts::one_line_more, crate::proofs::lemmas::sameness::NodesNamed::node_kept))]
+    #[tactic(auto, using(crate::proofs::lemmas::texts::ToldTexts::told_lines))]
     #[inline(always)]
     fn node(&mut self, node: NodeByFirstUse<'_, 'a>) -> Result<(), AllocError> {
         match self.names {

@@ -33,6 +33,7 @@ fn write_number_before(end: usize, number: u32, text: &mut [u8; ROOM]) -> usize
 
 /// Writes what follows a node's name so that it ends at `LINE_LEN`. Returns where it begins.
 #[inline(always)]
+#[tactic(auto, using(crate::proofs::lemmas::texts::PlainLines::tails))]
 fn write_tail(set: Option<SetUse<'_, '_>>, outcome: u32, text: &mut [u8; ROOM]) -> usize
     ensures within { (4 ≤ result) × (result ≤ 38) }
     ensures written { drop result text.new

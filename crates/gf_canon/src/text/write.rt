@@ -52,6 +52,7 @@ pub(crate) fn write_heading(
 }
 
 /// Appends the heading of a game and its lines.
+#[tactic(auto, using(crate::proofs::lemmas::texts::TextPieces::text_done))]
 fn write_text(g: &Game<'_>, out: &mut Vec<u8>) -> Result<(), AllocError>
     ensures text { OnOk result (out.new.items ≡ out.old.items ++ game_text g.now) }
     ensures is_game { IsGame g.now }
@@ -73,6 +74,7 @@ fn write_text(g: &Game<'_>, out: &mut Vec<u8>) -> Result<(), AllocError>
 /// # Errors
 ///
 /// `AllocError` if memory is refused; the vector's items are then as they were.
+#[tactic(auto, using(crate::proofs::lemmas::texts::ReadsBack::text_reads_back))]
 pub fn write_efg(g: &Game<'_>, out: &mut Vec<u8>) -> Result<(), AllocError>
     ensures ok { OnOk result (out.new.items ≡ out.old.items ++ game_text g.now) }
     ensures reads_back { SpellsGame (game_text g.now) g.now }

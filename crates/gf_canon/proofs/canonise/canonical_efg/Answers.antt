@@ -1,9 +1,6 @@
-use Rattle.std.proofs.Common.{◌≡◌, ap, ◌∙◌}
-use Rattle.gf_canon.specs.GameFile.{canonical_text}
-use Rattle.gf_canon.specs.GameFile.GameFile.{extensive}
-use Rattle.gf_canon.specs.NamesAside.{file_by}
-use Rattle.gf_canon.proofs.lemmas.texts.ToldTexts.{told_is_canonical}
+use Rattle.gf_canon.proofs.Common.{◌≡◌, ap, ◌∙◌, canonical_text, extensive, file_by}
 use Rattle.gf_canon.proofs.canonise.canonical_efg.Goals as goal
+use Rattle.gf_canon.proofs.lemmas.texts.ToldTexts.{told_is_canonical}
 
 pub returns-clause-text : goal.returns-clause-text
 returns-clause-text c =

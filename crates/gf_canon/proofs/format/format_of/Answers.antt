@@ -1,16 +1,8 @@
-use Rattle.std.proofs.Common.{◌≡◌, ℕ, List, ◌∷◌, length, sym, ap, subst, ◌∙◌}
-use Rattle.std.specs.Prelude.{nat_eq}
-use Rattle.std.specs.Cmp.Lexicographic.{pointwise}
-use Rattle.gf_token.specs.Place.{tokens_of}
-use Rattle.gf_token.specs.Remaining.{refusal, Remaining}
-use Rattle.gf_token.specs.Token.{Lexeme, lexeme}
-use Rattle.gf_token.specs.Token.Token.{Bare}
-use Rattle.gf_token.specs.declared.fault.Fault.{Fault}
-use Rattle.gf_token.specs.declared.fault.What.TheVariants.{Format}
-use Rattle.gf_token.specs.declared.fault.Why.TheVariants.{Expected}
-use Rattle.gf_canon.specs.Judgement.{IsWithoutFormat}
-use Rattle.gf_canon.proofs.lemmas.files.Formats.{IsNoFormat, no_bare, other_word, without_format}
+use Rattle.gf_canon.proofs.Common.{arith, ◌≡◌, ℕ, List, ◌∷◌, length, sym, ap, subst, ◌∙◌, nat_eq}
+use Rattle.gf_canon.proofs.Common.{pointwise, tokens_of, refusal, Remaining, Lexeme, lexeme, Bare}
+use Rattle.gf_canon.proofs.Common.{Fault, Format, Expected, IsWithoutFormat}
 use Rattle.gf_canon.proofs.format.format_of.Goals as goal
+use Rattle.gf_canon.proofs.lemmas.files.Formats.{IsNoFormat, no_bare, other_word, without_format}
 
 abbrev refusal_of : Remaining → Fault
 refusal_of t = refusal (length t.input) (Expected Format) t.ahead
@@ -20,15 +12,7 @@ IsRefused bytes fault = IsWithoutFormat fault.why bytes fault.span
 
 -- no bare token stands at the front
 pub returns-in_default-clause-refused : goal.returns-in_default-clause-refused
-returns-in_default-clause-refused c =
-    let bytes = c.args.input.now in
-    let ls = c.new-tokens.result.ahead in
-    let is : c.refusal.result ≡ refusal (length bytes) (Expected Format) ls =
-    c.refusal.ensures
-    ∙ ap refusal_of c.in_default.ensures.next.0
-    ∙ ap (λ (b : List ℕ). refusal (length b) (Expected Format) ls) c.new-tokens.ensures.input in
-    subst (IsRefused bytes) (sym is) (without_format bytes ls c.new-tokens.ensures.spelled
-    (no_bare ls c.in_default.ensures.next.1))
+returns-in_default-clause-refused c = grind (arith, no_bare, without_format)
 
 -- a bare token that is another word
 pub returns-clause-refused : goal.returns-clause-refused

@@ -1,5 +1,4 @@
-use Rattle.gf_tree.proofs.lemmas.games.Canonical.{canonical_is_game, carries_to_canonical}
-use Rattle.gf_tree.proofs.lemmas.games.Canonical.{canonical_twice}
+use Rattle.gf_canon.proofs.Common.{canonical_is_game, carries_to_canonical, canonical_twice}
 use Rattle.gf_canon.proofs.laws.canonical_game_is_same.Goals as goal
 
 pub returns-clause-is_game : goal.returns-clause-is_game

@@ -1,22 +1,15 @@
 -- If a file is refused in its format, it is refused in the language of both: the first token tells
 -- them apart.
-use Rattle.std.proofs.Common.{◌≡◌, ℕ, List, [], ◌∷◌, ◌++◌, Result, Ok, Err, IfErr, refl, sym, ap}
-use Rattle.std.proofs.Common.{◌∙◌, inl, inr}
-use Rattle.std.specs.Prelude.{codes}
-use Rattle.std.proofs.lemmas.List.{map-append, append-nil}
-use Rattle.gf_token.specs.Place.{tokens_of, IsAccepted, IsAcceptedThrough, IsOffendingPlace}
-use Rattle.gf_token.specs.Token.{Token, Lexeme}
-use Rattle.gf_token.specs.TokenSpelling.{Spells}
-use Rattle.gf_token.specs.declared.fault.Fault.{Fault}
-use Rattle.gf_token.specs.declared.fault.Span.{Span}
-use Rattle.gf_token.specs.declared.fault.Why.{Why}
-use Rattle.gf_token.specs.declared.fault.Why.TheVariants.{TooLong, UnknownOutcome, TooManyProfiles}
-use Rattle.gf_token.specs.declared.fault.Why.TheVariants.{Memory}
+use Rattle.gf_canon.proofs.Common.{◌≡◌, ℕ, List, [], ◌∷◌, ◌++◌, Result, Ok, Err, IfErr, refl, sym}
+use Rattle.gf_canon.proofs.Common.{ap, ◌∙◌, inl, inr, codes, map-append, append-nil, tokens_of}
+use Rattle.gf_canon.proofs.Common.{IsAccepted, IsAcceptedThrough, IsOffendingPlace, Token, Lexeme}
+use Rattle.gf_canon.proofs.Common.{Spells, Fault, Span, Why, TooLong, UnknownOutcome}
+use Rattle.gf_canon.proofs.Common.{TooManyProfiles, Memory, BeginsWithWord, IsInEitherFormat}
+use Rattle.gf_canon.proofs.Common.{IsPlaced}
 use Rattle.gf_nfg.specs.Judgement as strategic_file
+use Rattle.gf_tree.specs.Judgement as extensive_file
 use Rattle.gf_nfg.specs.Sentence.{IsStrategicFile}
 use Rattle.gf_tree.specs.Front.{IsExtensiveFile}
-use Rattle.gf_tree.specs.Judgement as extensive_file
-use Rattle.gf_canon.specs.Judgement.{BeginsWithWord, IsInEitherFormat, IsPlaced}
 use Rattle.gf_canon.proofs.lemmas.files.Formats.{begun_word, extensive_word, first_word}
 use Rattle.gf_canon.proofs.lemmas.files.Formats.{strategic_word, two_words}
 

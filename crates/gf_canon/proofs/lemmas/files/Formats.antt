@@ -1,29 +1,18 @@
 -- The first token of a game file names its format, and no file begins with another.
-use Rattle.std.proofs.Common.{◌≡◌, ◌≢◌, ℕ, false, List, [], ◌∷◌, ◌++◌, length, nat_eq, refl, sym}
-use Rattle.std.proofs.Common.{ap, subst, ◌∙◌, inr, arith}
-use Rattle.std.specs.Prelude.{codes, if◌then◌else◌}
-use Rattle.std.specs.Cmp.Lexicographic.{pointwise}
-use Rattle.std.proofs.lemmas.List.{map-append}
+use Rattle.gf_canon.proofs.Common.{◌≡◌, ◌≢◌, ℕ, false, List, [], ◌∷◌, ◌++◌, length, refl, sym, ap}
+use Rattle.gf_canon.proofs.Common.{subst, ◌∙◌, inr, arith, codes, if◌then◌else◌, pointwise}
+use Rattle.gf_canon.proofs.Common.{map-append, tokens_of, Begins, IsAccepted, refusal, Token}
+use Rattle.gf_canon.proofs.Common.{Lexeme, Opening, Closing, Comma, Text, Bare, Broken, Spells}
+use Rattle.gf_canon.proofs.Common.{Span, Format, Why, Unterminated, Expected, same_tokens, GameFile}
+use Rattle.gf_canon.proofs.Common.{SpellsFile, extensive, strategic, BeginsWithWord, IsFormatReason}
+use Rattle.gf_canon.proofs.Common.{IsInEitherFormat, IsWithoutFormat}
+use Rattle.std.proofs.Common.{nat_eq}
 use Rattle.gf_token.specs.Next.{is_bare_token, is_broken, starts}
-use Rattle.gf_token.specs.Place.{tokens_of, Begins, IsAccepted}
-use Rattle.gf_token.specs.Remaining.{refusal}
-use Rattle.gf_token.specs.Token.{Token, Lexeme}
-use Rattle.gf_token.specs.Token.Token.{Opening, Closing, Comma, Text, Bare, Broken}
-use Rattle.gf_token.specs.TokenSpelling.{Spells}
-use Rattle.gf_token.specs.declared.fault.Span.{Span}
-use Rattle.gf_token.specs.declared.fault.What.TheVariants.{Format}
-use Rattle.gf_token.specs.declared.fault.Why.{Why}
-use Rattle.gf_token.specs.declared.fault.Why.TheVariants.{Unterminated, Expected}
 use Rattle.gf_token.proofs.Places.{no_file}
-use Rattle.gf_token.proofs.Spelled.{same_tokens}
 use Rattle.gf_nfg.specs.inner.Machine.{start}
 use Rattle.gf_nfg.specs.Sentence.{IsStrategicFile}
 use Rattle.gf_nfg.proofs.lemmas.places.Walk.{begins as strategic_begins}
 use Rattle.gf_tree.specs.Front.{IsExtensiveFile}
-use Rattle.gf_canon.specs.GameFile.{GameFile, SpellsFile}
-use Rattle.gf_canon.specs.GameFile.GameFile.{extensive, strategic}
-use Rattle.gf_canon.specs.Judgement.{BeginsWithWord, IsFormatReason, IsInEitherFormat}
-use Rattle.gf_canon.specs.Judgement.{IsWithoutFormat}
 
 -- ---- the word that a file begins with
 

@@ -1,12 +1,8 @@
 -- Bytes have one canonical text or one refusal, and equal texts exactly if they mean the same.
-use Rattle.std.proofs.Common.{◌≡◌, ℕ, List, refl, sym, subst, ◌∙◌, inl, inr}
-use Rattle.std.specs.Prelude.{◌↔◌, ◌⊎◌}
-use Rattle.gf_token.specs.declared.fault.Span.{Span}
-use Rattle.gf_token.specs.declared.fault.Why.{Why}
-use Rattle.gf_canon.specs.GameFile.{GameFile, SameFile, SpellsFile, canonical_file, canonical_text}
-use Rattle.gf_canon.specs.GameFile.GameFile.{extensive, strategic}
-use Rattle.gf_canon.specs.Judgement.{IsCanonicalText, IsFileWithinLimit, IsRefused, IsRefusedWith}
-use Rattle.gf_canon.specs.Judgement.{SpellsWithin}
+use Rattle.gf_canon.proofs.Common.{◌≡◌, ℕ, List, refl, sym, subst, ◌∙◌, inl, inr, ◌↔◌, ◌⊎◌, Span}
+use Rattle.gf_canon.proofs.Common.{Why, GameFile, SameFile, SpellsFile, canonical_file}
+use Rattle.gf_canon.proofs.Common.{canonical_text, extensive, strategic, IsCanonicalText}
+use Rattle.gf_canon.proofs.Common.{IsFileWithinLimit, IsRefused, IsRefusedWith, SpellsWithin}
 use Rattle.gf_canon.specs.MeanSame.{MeanSame}
 use Rattle.gf_canon.proofs.lemmas.files.Texts.{canonical_reads_back, equal_canonical_texts}
 use Rattle.gf_canon.proofs.lemmas.files.Texts.{file_twice, is_game_file, spells_one_file}

@@ -1,18 +1,10 @@
 -- What the bytes of a file are answered with: its canonical text, or out of memory.
-use Rattle.std.proofs.Common.{◌≡◌, ℕ, List, Result, Ok, Err, IfOk, IfErr, MatchResult, sym}
-use Rattle.std.specs.Prelude.{codes}
-use Rattle.gf_token.specs.declared.fault.Fault.{Fault}
-use Rattle.gf_token.specs.declared.fault.Why.TheVariants.{Memory}
+use Rattle.gf_canon.proofs.Common.{◌≡◌, ℕ, List, Result, Ok, Err, IfOk, IfErr, MatchResult, sym}
+use Rattle.gf_canon.proofs.Common.{codes, Fault, Memory, Table, SpellsTable, Game, SpellsGame}
+use Rattle.gf_canon.proofs.Common.{GameFile, SpellsFile, canonical_text, extensive, strategic}
+use Rattle.gf_canon.proofs.Common.{BeginsWithWord, IsTextBy, IsWithoutFormat, SpellsWithin, file_by}
+use Rattle.gf_canon.proofs.Common.{Names}
 use Rattle.gf_nfg.specs.LimitPlace.{IsWithinLimit}
-use Rattle.gf_nfg.specs.Table.{Table}
-use Rattle.gf_nfg.specs.TableText.{SpellsTable}
-use Rattle.gf_tree.specs.Game.{Game}
-use Rattle.gf_tree.specs.GameOf.{SpellsGame}
-use Rattle.gf_canon.specs.GameFile.{GameFile, SpellsFile, canonical_text}
-use Rattle.gf_canon.specs.GameFile.GameFile.{extensive, strategic}
-use Rattle.gf_canon.specs.Judgement.{BeginsWithWord, IsTextBy, IsWithoutFormat, SpellsWithin}
-use Rattle.gf_canon.specs.NamesAside.{file_by}
-use Rattle.gf_canon.specs.declared.sameness.Names.{Names}
 use Rattle.gf_canon.proofs.lemmas.files.Texts.{spells_one_file}
 use Rattle.gf_canon.proofs.lemmas.files.Formats.{named_by_word, none_without_format, two_words}
 
@@ -37,12 +29,27 @@ module _ {A : Type 0} (items : A → List ℕ) (names : Names) where
   only_game bytes (Err fault) (strategic t) named text memory h =
       absurd (two_words (named_by_word (codes "EFG") bytes (strategic t) named h.spelled))
 
+  -- the text of a table
+  abbrev pub IsTableText : List ℕ → A → Type 0
+  IsTableText bytes a = (t : Table) × SpellsTable bytes t × IsWithinLimit t
+      × (items a ≡ canonical_text (file_by names (strategic t)))
+
+  pub table_text : (bytes : List ℕ) (r : Result A Fault) → IfOk r (IsTableText bytes)
+      → IfOk r (λ a. IsTextBy names bytes (items a))
+  table_text bytes (Ok a) h = record {
+    file = strategic h.0;
+    spelled = record { spelled = h.1; within = h.2 };
+    is_text = h.3;
+  }
+  table_text bytes (Err fault) h = tt
+
   pub only_table : (bytes : List ℕ) (r : Result A Fault) (x : GameFile)
-      → BeginsWithWord (codes "NFG") bytes → IfOk r (λ a. IsTextBy names bytes (items a))
+      → BeginsWithWord (codes "NFG") bytes → IfOk r (IsTableText bytes)
       → IfErr r (λ fault. (t : Table) → SpellsTable bytes t → IsWithinLimit t
       → fault.why ≡ Memory)
       → SpellsWithin bytes x → IsTextOf r x
-  only_table bytes (Ok a) x named text memory h = one_text bytes (items a) x text h.spelled
+  only_table bytes (Ok a) x named text memory h =
+      one_text bytes (items a) x (table_text bytes (Ok a) text) h.spelled
   only_table bytes (Err fault) (strategic t) named text memory h = memory t h.spelled h.within
   only_table bytes (Err fault) (extensive g) named text memory h =
       absurd (two_words (sym (named_by_word (codes "NFG") bytes (extensive g) named h.spelled)))

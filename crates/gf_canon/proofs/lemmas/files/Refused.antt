@@ -1,26 +1,16 @@
 -- How a file is refused, by the refusal of its format.
-use Rattle.std.proofs.Common.{◌≡◌, ℕ, List, ◌∷◌, Err, subst, sym, ◌⊎◌, inl, inr}
-use Rattle.gf_token.specs.Place.{tokens_of}
-use Rattle.gf_token.specs.Token.{Token}
-use Rattle.gf_token.specs.Token.Token.{Broken}
-use Rattle.gf_token.specs.declared.fault.Fault.{Fault}
-use Rattle.gf_token.specs.declared.fault.Span.{Span}
+use Rattle.gf_canon.proofs.Common.{◌≡◌, ℕ, List, ◌∷◌, Err, subst, sym, inl, inr, tokens_of, Token}
+use Rattle.gf_canon.proofs.Common.{Broken, Fault, Span, Why, Expected, Memory, Unterminated, Table}
+use Rattle.gf_canon.proofs.Common.{SpellsTable, Game, SpellsGame, BeginsWithWord, IsFormatReason}
+use Rattle.gf_canon.proofs.Common.{IsPlaced, IsRefusedWith, IsWithoutFormat, Kept}
 use Rattle.gf_token.specs.declared.fault.What.TheVariants as due
-use Rattle.gf_token.specs.declared.fault.Why.{Why}
-use Rattle.gf_token.specs.declared.fault.Why.TheVariants.{Expected, Memory, Unterminated}
 use Rattle.gf_nfg.specs.Judgement as strategic_file
-use Rattle.gf_nfg.specs.LimitPlace.{IsWithinLimit}
-use Rattle.gf_nfg.specs.Table.{Table}
-use Rattle.gf_nfg.specs.TableText.{SpellsTable}
-use Rattle.gf_tree.specs.Game.{Game}
-use Rattle.gf_tree.specs.GameOf.{SpellsGame}
 use Rattle.gf_tree.specs.Judgement as extensive_file
-use Rattle.gf_canon.specs.Judgement.{BeginsWithWord, IsFormatReason, IsPlaced, IsRefusedWith}
-use Rattle.gf_canon.specs.Judgement.{IsWithoutFormat}
+use Rattle.std.proofs.Common.{◌⊎◌}
+use Rattle.gf_nfg.specs.LimitPlace.{IsWithinLimit}
 use Rattle.gf_canon.specs.Judgement.IsJudged.{of_extensive, of_neither, of_strategic}
 use Rattle.gf_canon.specs.declared.format.Format.{Format}
 use Rattle.gf_canon.specs.declared.format.Format.TheVariants.{Extensive, Strategic}
-use Rattle.gf_canon.specs.declared.sameness.Names.TheVariants.{Kept}
 use Rattle.gf_canon.specs.inner.FormatWord.{word_of}
 use Rattle.gf_canon.proofs.lemmas.files.EitherFormat.{extensive_placed, strategic_placed}
 use Rattle.gf_canon.proofs.lemmas.files.Judged.{only_game, only_table}

@@ -1,21 +1,15 @@
 -- Each list of bytes means a file of one format, or is refused at one place with one code.
-use Rattle.std.proofs.Common.{◌≡◌, ℕ, Bool, true, false, List, [], ◌∷◌, ◌++◌, length, refl, sym, ap}
-use Rattle.std.proofs.Common.{subst, ◌∙◌, inl, inr, nat_eq}
-use Rattle.std.specs.Prelude.{◌⊎◌, codes}
-use Rattle.std.specs.Cmp.Lexicographic.{pointwise}
+use Rattle.gf_canon.proofs.Common.{◌≡◌, ℕ, Bool, true, false, List, [], ◌∷◌, ◌++◌, length, refl}
+use Rattle.gf_canon.proofs.Common.{sym, ap, subst, ◌∙◌, inl, inr, ◌⊎◌, codes, pointwise, tokens_of}
+use Rattle.gf_canon.proofs.Common.{IsAccepted, IsSpanOf, MayFollow, refusal, Token, Lexeme, Bare}
+use Rattle.gf_canon.proofs.Common.{Broken, Spells, Span, Format, Why, Expected, Memory, same_tokens}
+use Rattle.gf_canon.proofs.Common.{spelled_once, GameFile, extensive, strategic, BeginsWithWord}
+use Rattle.gf_canon.proofs.Common.{IsFormatReason, IsInEitherFormat, IsJudged, IsPlaced, IsRefused}
+use Rattle.gf_canon.proofs.Common.{IsWithoutFormat, MeansFile, SpellsWithin}
+use Rattle.std.proofs.Common.{nat_eq}
 use Rattle.gf_token.specs.Code.{code_of}
 use Rattle.gf_token.specs.Next.{is_bare_token}
-use Rattle.gf_token.specs.Place.{tokens_of, IsAccepted, IsSpanOf, MayFollow}
-use Rattle.gf_token.specs.Remaining.{refusal}
-use Rattle.gf_token.specs.Token.{Token, Lexeme}
-use Rattle.gf_token.specs.Token.Token.{Bare, Broken}
-use Rattle.gf_token.specs.TokenSpelling.{Spells}
-use Rattle.gf_token.specs.declared.fault.Span.{Span}
-use Rattle.gf_token.specs.declared.fault.What.TheVariants.{Format}
-use Rattle.gf_token.specs.declared.fault.Why.{Why}
-use Rattle.gf_token.specs.declared.fault.Why.TheVariants.{Expected, Memory}
 use Rattle.gf_token.proofs.Places.{one_offending_place, one_span}
-use Rattle.gf_token.proofs.Spelled.{same_tokens, spelled_once}
 use Rattle.gf_nfg.specs.inner.Machine.{start}
 use Rattle.gf_nfg.proofs.lemmas.places.AllBytes.{answered as table_answered}
 use Rattle.gf_nfg.proofs.lemmas.places.Once.{not_both as not_table_and_refused}
@@ -28,10 +22,6 @@ use Rattle.gf_tree.proofs.lemmas.reasons.RefusedOnce.{not_both as not_game_and_r
 use Rattle.gf_tree.proofs.lemmas.reasons.RefusedOnce.{refused_once as game_refused_once}
 use Rattle.gf_tree.proofs.lemmas.runs.Places.{follows as extensive_follows}
 use Rattle.gf_tree.proofs.lemmas.runs.Tokens.{same_bytes}
-use Rattle.gf_canon.specs.GameFile.{GameFile}
-use Rattle.gf_canon.specs.GameFile.GameFile.{extensive, strategic}
-use Rattle.gf_canon.specs.Judgement.{BeginsWithWord, IsFormatReason, IsInEitherFormat, IsJudged}
-use Rattle.gf_canon.specs.Judgement.{IsPlaced, IsRefused, IsWithoutFormat, MeansFile, SpellsWithin}
 use Rattle.gf_canon.specs.Judgement.IsJudged.{of_extensive, of_neither, of_strategic}
 use Rattle.gf_canon.proofs.lemmas.files.EitherFormat.{extensive_placed, strategic_placed}
 use Rattle.gf_canon.proofs.lemmas.files.Formats.{IsNoFormat, begun_word, named_by_word, no_bare}

@@ -1,27 +1,15 @@
 -- Game files of both kinds: their canonical texts are equal exactly if they are the same.
-use Rattle.std.proofs.Common.{◌≡◌, ℕ, List, [], ◌∷◌, get_or, refl, ap, subst, arith}
-use Rattle.std.specs.Prelude.{◌↔◌}
-use Rattle.gf_token.specs.Token.{Token}
-use Rattle.gf_token.specs.Token.Token.{Bare}
-use Rattle.gf_token.proofs.Spelled.{same_tokens}
-use Rattle.gf_nfg.specs.Table.{Table}
-use Rattle.gf_nfg.specs.TableText.{SpellsTable}
+use Rattle.gf_canon.proofs.Common.{◌≡◌, ℕ, List, [], ◌∷◌, get_or, refl, ap, subst, arith, ◌↔◌}
+use Rattle.gf_canon.proofs.Common.{Token, Bare, same_tokens, Table, SpellsTable, Game, IsGame}
+use Rattle.gf_canon.proofs.Common.{SpellsGame, IsSpellable, spells_one_game, canonical_game}
+use Rattle.gf_canon.proofs.Common.{game_text, GameFile, IsGameFile, SpellsFile, SameFile}
+use Rattle.gf_canon.proofs.Common.{canonical_file, canonical_text, extensive, strategic}
+use Rattle.gf_canon.proofs.Common.{same_by_canonical, canonical_is_game, canonical_twice}
 use Rattle.gf_nfg.proofs.lemmas.tables.Same.{same_is_equal}
 use Rattle.gf_nfg.proofs.lemmas.texts.OneTable.{text_reads_back as table_reads_back}
 use Rattle.gf_nfg.proofs.lemmas.tables.Spelled.{spelled_is_spellable as spelled_table}
 use Rattle.gf_nfg.proofs.lemmas.places.Led.{spells_one_table}
-use Rattle.gf_tree.specs.Game.{Game, IsGame}
-use Rattle.gf_tree.specs.GameOf.{SpellsGame}
-use Rattle.gf_tree.specs.Spellable.{IsSpellable}
-use Rattle.gf_tree.proofs.lemmas.games.TreesOnce.{spells_one_game}
 use Rattle.gf_tree.proofs.lemmas.games.Spelled.{spelled_is_spellable as spelled_game}
-use Rattle.gf_tree.specs.CanonicalGame.{canonical_game}
-use Rattle.gf_canon.specs.GameText.{game_text}
-use Rattle.gf_canon.specs.GameFile.{GameFile, IsGameFile, SpellsFile, SameFile, canonical_file}
-use Rattle.gf_canon.specs.GameFile.{canonical_text}
-use Rattle.gf_canon.specs.GameFile.GameFile.{extensive, strategic}
-use Rattle.gf_tree.proofs.lemmas.games.Canonical.{same_by_canonical, canonical_is_game}
-use Rattle.gf_tree.proofs.lemmas.games.Canonical.{canonical_twice}
 use Rattle.gf_canon.proofs.lemmas.texts.ReadsBack.{text_reads_back}
 use Rattle.gf_canon.proofs.lemmas.texts.Spellables.{canonical_is_spellable}
 

@@ -1,28 +1,18 @@
 -- The canonical numbers as lists.
-use Rattle.std.proofs.Common.{◌≡◌, ℕ, zero, suc, ◌+◌, ◌<◌, ◌≤◌, ◌^◌, Bool, true, false, List, []}
-use Rattle.std.proofs.Common.{◌∷◌, ◌++◌, length, map, get_or, filter, nat_eq, Vec, Global, inl, inr}
-use Rattle.std.proofs.Common.{refl, sym, ap, ◌∙◌, arith}
-use Rattle.std.specs.Prelude.{◌==◌}
-use Rattle.std.specs.List.{AllByRecursion}
-use Rattle.std.proofs.lemmas.Bool.{both_ways, ne_eqb}
-use Rattle.std.proofs.lemmas.Bool.Decides.{Decides-eqb}
-use Rattle.std.proofs.lemmas.List.{get_or-map, length-map, map-append}
-use Rattle.gf_nfg.specs.Profiles.{numbers_from, positions}
+use Rattle.gf_canon.proofs.Common.{◌≡◌, ℕ, zero, suc, ◌+◌, ◌<◌, ◌≤◌, ◌^◌, Bool, true, false, List}
+use Rattle.gf_canon.proofs.Common.{[], ◌∷◌, ◌++◌, length, map, get_or, filter, Vec, Global, inl}
+use Rattle.gf_canon.proofs.Common.{inr, refl, sym, ap, ◌∙◌, arith, ◌==◌, AllByRecursion, both_ways}
+use Rattle.gf_canon.proofs.Common.{ne_eqb, Decides-eqb, get_or-map, length-map, map-append}
+use Rattle.gf_canon.proofs.Common.{numbers_from, positions, InformationSet, SetKey, same_set}
+use Rattle.gf_canon.proofs.Common.{Described, first_use_numbers, outcome_numbers, player_keys, Game}
+use Rattle.gf_canon.proofs.Common.{IsGame, used_outcomes, renumbered, IsSpellable, IsSpellableSet}
+use Rattle.gf_canon.proofs.Common.{in_keys, Agree, agreed_games, same_set_equality, Has, IsEquality}
+use Rattle.gf_canon.proofs.Common.{has, canonical_game}
+use Rattle.std.proofs.Common.{nat_eq}
 use Rattle.gf_nfg.proofs.lemmas.tables.NumbersInTurn.{get_or-numbers_from, length-numbers_from}
 use Rattle.gf_nfg.proofs.lemmas.tables.NumbersInTurn.{numbers_joined}
-use Rattle.gf_tree.specs.Description.{InformationSet, SetKey, same_set}
-use Rattle.gf_tree.specs.FiniteMap.{Described}
-use Rattle.gf_tree.specs.FirstUse.{first_use_numbers, outcome_numbers, player_keys}
-use Rattle.gf_tree.specs.Game.{Game, IsGame, used_outcomes}
 use Rattle.gf_tree.specs.Listed.{AreListed, AreNumbers, listed_numbers, number_listed}
-use Rattle.gf_tree.specs.Renumbering.{renumbered}
-use Rattle.gf_tree.specs.Spellable.{IsSpellable, IsSpellableSet}
-use Rattle.gf_tree.proofs.lemmas.games.Carried.{in_keys}
 use Rattle.gf_tree.proofs.lemmas.games.ListedNumbers.{own_key, some_player}
-use Rattle.gf_tree.proofs.lemmas.games.Renumberings.{Agree, agreed_games}
-use Rattle.gf_tree.proofs.lemmas.games.TreesOnce.{same_set_equality}
-use Rattle.gf_tree.proofs.lemmas.games.Uses.{Has, IsEquality, has}
-use Rattle.gf_tree.specs.CanonicalGame.{canonical_game}
 use Rattle.gf_canon.specs.inner.ListedInOrder.{lists_in_order}
 use Rattle.gf_canon.proofs.lemmas.numbers.InOrder.{outcomes_in_order, sets_in_order}
 

@@ -1,23 +1,12 @@
 -- Pairs of what a renumbering carries: it has the same position in both games.
-use Rattle.std.proofs.Common.{◌≡◌, ℕ, zero, suc, List, ◌++◌, ◌∷◌, [], map, Option, Some, None, refl}
-use Rattle.std.proofs.Common.{length, sym, ◌∙◌}
-use Rattle.std.specs.Prelude.{option_map}
-use Rattle.std.specs.List.{flat_map}
-use Rattle.std.specs.Option.{option_to_list}
-use Rattle.std.proofs.lemmas.List.{append-nil}
+use Rattle.gf_canon.proofs.Common.{◌≡◌, ℕ, zero, suc, List, ◌++◌, ◌∷◌, [], map, Option, Some, None}
+use Rattle.gf_canon.proofs.Common.{refl, length, sym, ◌∙◌, option_map, flat_map, option_to_list}
+use Rattle.gf_canon.proofs.Common.{append-nil, numbers_from, at_position, SetKey, outcome_numbers}
+use Rattle.gf_canon.proofs.Common.{player_keys, Game, IsGame, Renumbering, map_twice, Carries}
+use Rattle.gf_canon.proofs.Common.{outcome_numbers_carried, set_numbers_carried, outcome_pairs}
+use Rattle.gf_canon.proofs.Common.{renumbering_pairs, set_numbers, set_pairs, NumberPair, Set}
+use Rattle.gf_canon.proofs.Common.{Outcome}
 use Rattle.std.proofs.lemmas.Option.{slice_get-map}
-use Rattle.gf_nfg.specs.Profiles.{numbers_from}
-use Rattle.gf_token.specs.Positions.{at_position}
-use Rattle.gf_tree.specs.Description.{SetKey}
-use Rattle.gf_tree.specs.FirstUse.{outcome_numbers, player_keys}
-use Rattle.gf_tree.specs.Game.{Game, IsGame}
-use Rattle.gf_tree.specs.Renumbering.{Renumbering}
-use Rattle.gf_tree.proofs.lemmas.games.Members.{map_twice}
-use Rattle.gf_tree.specs.SameGame.{Carries}
-use Rattle.gf_tree.proofs.lemmas.games.Canonical.{outcome_numbers_carried, set_numbers_carried}
-use Rattle.gf_canon.specs.Pairs.{outcome_pairs, renumbering_pairs, set_numbers, set_pairs}
-use Rattle.gf_canon.specs.declared.numbering.pairs.NumberPair.{NumberPair}
-use Rattle.gf_canon.specs.declared.numbering.pairs.NumberPair.TheVariants.{Set, Outcome}
 
 image_at : {A B : Type 0} (f : A → B) (xs : List A) (i : ℕ)
     → at_position (map f xs) i ≡ option_map f (at_position xs i)

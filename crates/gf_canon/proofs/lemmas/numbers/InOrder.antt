@@ -1,22 +1,14 @@
 -- Keys in order of first use have the numbers 1, 2 and so on, and so do a player's sets and the
 -- outcomes of a game.
-use Rattle.std.proofs.Common.{◌≡◌, ◌+◌, ℕ, Bool, List, [], ◌∷◌, ◌++◌, length, map, refl}
-use Rattle.std.proofs.Common.{sym, ap, ◌∙◌, arith, append_assoc, length-append, subst}
-use Rattle.std.specs.Prelude.{nat_eq}
-use Rattle.std.proofs.lemmas.Bool.{eqb-true}
-use Rattle.std.proofs.lemmas.Bool.Decides.{Decides-eqb}
-use Rattle.gf_nfg.specs.Profiles.{numbers_from, positions}
-use Rattle.gf_tree.specs.Description.{SetKey, same_set}
-use Rattle.gf_tree.specs.FiniteMap.{first_uses}
-use Rattle.gf_tree.specs.FirstUse.{first_use_number, first_use_numbers}
-use Rattle.gf_tree.specs.FirstUse.{outcome_numbers, player_keys, sets_of}
-use Rattle.gf_tree.specs.Game.{Game, IsGame, used_outcomes, used_sets}
+use Rattle.gf_canon.proofs.Common.{◌≡◌, ◌+◌, ℕ, Bool, List, [], ◌∷◌, ◌++◌, length, map, refl, sym}
+use Rattle.gf_canon.proofs.Common.{ap, ◌∙◌, arith, append_assoc, length-append, subst, nat_eq}
+use Rattle.gf_canon.proofs.Common.{eqb-true, Decides-eqb, numbers_from, positions, SetKey, same_set}
+use Rattle.gf_canon.proofs.Common.{first_uses, first_use_number, first_use_numbers, outcome_numbers}
+use Rattle.gf_canon.proofs.Common.{player_keys, sets_of, Game, IsGame, used_outcomes, used_sets}
+use Rattle.gf_canon.proofs.Common.{of_filter, was_used, map_same, same_set_equality, Has}
+use Rattle.gf_canon.proofs.Common.{IsEquality}
 use Rattle.gf_tree.proofs.lemmas.games.FirstUseNumbers.{number_at}
-use Rattle.gf_tree.proofs.lemmas.games.FirstUses.{of_filter, was_used}
-use Rattle.gf_tree.proofs.lemmas.games.Members.{map_same}
 use Rattle.gf_tree.proofs.lemmas.games.PlayerSets.{sets_by_first_use}
-use Rattle.gf_tree.proofs.lemmas.games.TreesOnce.{same_set_equality}
-use Rattle.gf_tree.proofs.lemmas.games.Uses.{Has, IsEquality}
 
 numbers_on : {K : Type 0} (same : K → K → Bool)
     → IsEquality same → (ks before after : List K) → first_uses same ks ≡ before ++ after

@@ -1,28 +1,21 @@
 -- The new numbers that are noted node by node are those of the renumbering that carries one game to
 -- the other.
-use Rattle.std.proofs.Common.{◌≡◌, ℕ, zero, suc, ◌<◌, Bool, true, false, cond, List, [], ◌∷◌, map}
-use Rattle.std.proofs.Common.{Option, None, Some, refl, sym, ap, subst, ◌∙◌, inl, inr, ◌⊎◌, arith}
-use Rattle.std.specs.Prelude.{◌↔◌, IsSome, is_some, nat_eq, option_map, unwrap_or}
-use Rattle.std.specs.List.{filter_map, cons_option}
-use Rattle.std.specs.BTreeMap.{BTreeMap, get}
-use Rattle.std.specs.Ordering.{is_eq, nat_cmp}
-use Rattle.std.proofs.lemmas.Bool.Decides.{Decides-eqb, nat_tests}
-use Rattle.gf_tree.specs.Description.{SetKey, same_set, set_of}
-use Rattle.gf_tree.specs.Game.{Game, IsGame, Node, outcome_at, set_at, used_outcomes, used_sets}
-use Rattle.gf_tree.specs.PrefixOrder.{Entry, flatten}
+use Rattle.gf_canon.proofs.Common.{◌≡◌, ℕ, zero, suc, ◌<◌, Bool, true, false, cond, List, [], ◌∷◌}
+use Rattle.gf_canon.proofs.Common.{map, Option, None, Some, refl, sym, ap, subst, ◌∙◌, inl, inr}
+use Rattle.gf_canon.proofs.Common.{arith, ◌↔◌, IsSome, is_some, nat_eq, option_map, unwrap_or}
+use Rattle.gf_canon.proofs.Common.{filter_map, cons_option, BTreeMap, get, is_eq, nat_cmp}
+use Rattle.gf_canon.proofs.Common.{Decides-eqb, nat_tests, SetKey, same_set, set_of, Game, IsGame}
+use Rattle.gf_canon.proofs.Common.{Node, outcome_at, set_at, used_outcomes, used_sets, Entry}
+use Rattle.gf_canon.proofs.Common.{flatten, HasOutcome, HasSet, renumbered_node, renumbered_set}
+use Rattle.gf_canon.proofs.Common.{flatten_map, map_entry, map_twice, Agree, agreed_trees}
+use Rattle.gf_canon.proofs.Common.{outcome_number_positive, same_set_equality, Has, IsEquality}
+use Rattle.gf_canon.proofs.Common.{contains, has, IsOnlyRenumbering, new_numbers}
+use Rattle.gf_canon.proofs.Common.{new_outcome_number, new_set_number, number_of_set, set_order}
+use Rattle.gf_canon.proofs.Common.{Carries, SameGame, only_outcomes, only_sets}
 use Rattle.gf_tree.specs.Renumbering as numbers
-use Rattle.gf_tree.specs.Renumbering.{HasOutcome, HasSet, renumbered_node, renumbered_set}
-use Rattle.gf_tree.proofs.lemmas.games.Consistent.{flatten_map, map_entry}
-use Rattle.gf_tree.proofs.lemmas.games.Members.{map_twice}
-use Rattle.gf_tree.proofs.lemmas.games.Renumberings.{Agree, agreed_trees, outcome_number_positive}
-use Rattle.gf_tree.proofs.lemmas.games.TreesOnce.{same_set_equality}
-use Rattle.gf_tree.proofs.lemmas.games.Uses.{Has, IsEquality, contains, has}
-use Rattle.gf_canon.specs.NewNumbers.{IsOnlyRenumbering, new_numbers, new_outcome_number}
-use Rattle.gf_canon.specs.NewNumbers.{new_set_number, number_of_set, set_order}
+use Rattle.std.proofs.Common.{◌⊎◌}
 use Rattle.gf_canon.specs.inner.Noted.{noted}
-use Rattle.gf_tree.specs.SameGame.{Carries, SameGame}
 use Rattle.gf_canon.specs.declared.numbering.new_numbers.Renumbering.{Renumbering}
-use Rattle.gf_tree.proofs.lemmas.games.Same.{only_outcomes, only_sets}
 
 -- ---- one set
 

@@ -1,22 +1,12 @@
 -- Pairs that are told one after another: one for each item of a list, or a list for each player.
-use Rattle.std.proofs.Common.{◌≡◌, ℕ, zero, suc, ◌+◌, ◌^◌, ◌≤◌, List, [], ◌∷◌, ◌++◌, length, map}
-use Rattle.std.proofs.Common.{drop, refl, sym, ap, ◌∙◌, append_assoc, arith}
-use Rattle.std.proofs.lemmas.Grind.{flat_map-append}
-use Rattle.std.proofs.lemmas.List.{append-nil, drop_all}
-use Rattle.std.specs.List.{flat_map, slice_get}
-use Rattle.std.specs.Option.{option_to_list}
-use Rattle.gf_nfg.specs.Profiles.{numbers_from, positions}
+use Rattle.gf_canon.proofs.Common.{◌≡◌, ℕ, zero, suc, ◌+◌, ◌^◌, ◌≤◌, List, [], ◌∷◌, ◌++◌, length}
+use Rattle.gf_canon.proofs.Common.{map, drop, refl, sym, ap, ◌∙◌, append_assoc, arith}
+use Rattle.gf_canon.proofs.Common.{flat_map-append, append-nil, drop_all, flat_map, slice_get}
+use Rattle.gf_canon.proofs.Common.{option_to_list, numbers_from, positions, at_position, SetKey}
+use Rattle.gf_canon.proofs.Common.{player_keys, Game, Renumbering, IsSpellable, outcome_pairs}
+use Rattle.gf_canon.proofs.Common.{renumbering_pairs, set_pairs, NumberPair, Set}
 use Rattle.gf_nfg.proofs.lemmas.tables.NumbersInTurn.{numbers_joined}
-use Rattle.gf_token.specs.Positions.{at_position}
-use Rattle.gf_tree.specs.Description.{SetKey}
-use Rattle.gf_tree.specs.FirstUse.{player_keys}
-use Rattle.gf_tree.specs.Game.{Game}
-use Rattle.gf_tree.specs.Renumbering.{Renumbering}
-use Rattle.gf_tree.specs.Spellable.{IsSpellable}
 use Rattle.gf_canon.proofs.lemmas.numbers.Canonical.{no_numbers}
-use Rattle.gf_canon.specs.Pairs.{outcome_pairs, renumbering_pairs, set_pairs}
-use Rattle.gf_canon.specs.declared.numbering.pairs.NumberPair.{NumberPair}
-use Rattle.gf_canon.specs.declared.numbering.pairs.NumberPair.TheVariants.{Set}
 
 -- ---- one for each item
 

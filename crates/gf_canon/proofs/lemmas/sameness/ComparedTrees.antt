@@ -1,27 +1,16 @@
 -- A tree that was told whole is the same as a game exactly if no difference was found, and nothing
 -- is left of the game.
-use Rattle.std.proofs.Common.{◌≡◌, ℕ, Bool, false, List, [], ◌∷◌, ◌++◌, map, refl, sym, ap, ◌∙◌}
-use Rattle.std.proofs.Common.{append-nil, subst}
-use Rattle.std.specs.Prelude.{◌↔◌, IsTrue}
-use Rattle.gf_nfg.specs.Table.{Table}
-use Rattle.gf_tree.specs.FileNodes.{file_nodes}
-use Rattle.gf_tree.specs.FileTree.{FileNode}
-use Rattle.gf_tree.specs.Game.{Game, IsGame}
-use Rattle.gf_tree.specs.GameOf.{SpellsGame}
-use Rattle.gf_tree.specs.Spellable.{IsSpellable}
-use Rattle.gf_tree.specs.Told.{Told, heading_in}
+use Rattle.gf_canon.proofs.Common.{◌≡◌, ℕ, Bool, false, List, [], ◌∷◌, ◌++◌, map, refl, sym, ap}
+use Rattle.gf_canon.proofs.Common.{◌∙◌, subst, ◌↔◌, IsTrue, Table, file_nodes, FileNode, Game}
+use Rattle.gf_canon.proofs.Common.{IsGame, SpellsGame, IsSpellable, Told, heading_in}
+use Rattle.gf_canon.proofs.Common.{canonical_game, extensive, strategic, SpellsWithin, node_by}
+use Rattle.gf_canon.proofs.Common.{SameBy, Names, Aside, Kept}
+use Rattle.std.proofs.Common.{append-nil}
 use Rattle.gf_tree.proofs.lemmas.games.Spelled.{spelled_is_spellable}
-use Rattle.gf_tree.specs.CanonicalGame.{canonical_game}
 use Rattle.gf_canon.specs.inner.ComparedTrees.{IsCompared}
-use Rattle.gf_canon.specs.GameFile.GameFile.{extensive, strategic}
-use Rattle.gf_canon.specs.Judgement.{SpellsWithin}
 use Rattle.gf_canon.specs.MeaningOf.{file_of_listed}
-use Rattle.gf_canon.specs.inner.NamedBy.{node_by}
-use Rattle.gf_canon.specs.SameBy.{SameBy}
 use Rattle.gf_canon.specs.declared.meaning.Listed.{Listed}
 use Rattle.gf_canon.specs.declared.meaning.Listed.TheVariants.{Tree}
-use Rattle.gf_canon.specs.declared.sameness.Names.{Names}
-use Rattle.gf_canon.specs.declared.sameness.Names.TheVariants.{Aside, Kept}
 use Rattle.gf_canon.proofs.lemmas.sameness.WalkedNodes.{same_by_walk}
 
 none_left : {A B : Type 0} (f : A → B) (left : List A) → map f left ≡ [] → left ≡ []

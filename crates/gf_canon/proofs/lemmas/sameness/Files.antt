@@ -1,14 +1,8 @@
 -- Sameness of files is an equivalence, with their names or without.
-use Rattle.std.proofs.Common.{refl, sym, ◌∙◌}
+use Rattle.gf_canon.proofs.Common.{refl, sym, ◌∙◌, Table, same_back, same_itself, same_on, GameFile}
+use Rattle.gf_canon.proofs.Common.{IsGameFile, SameFile, extensive, strategic, unnamed, SameBy}
+use Rattle.gf_canon.proofs.Common.{Names, Kept, Aside}
 use Rattle.gf_nfg.specs.SameTable.{SamePlay, SameTable}
-use Rattle.gf_nfg.specs.Table.{Table}
-use Rattle.gf_tree.proofs.lemmas.games.Same.{same_back, same_itself, same_on}
-use Rattle.gf_canon.specs.GameFile.{GameFile, IsGameFile, SameFile}
-use Rattle.gf_canon.specs.GameFile.GameFile.{extensive, strategic}
-use Rattle.gf_canon.specs.NamesAside.{unnamed}
-use Rattle.gf_canon.specs.SameBy.{SameBy}
-use Rattle.gf_canon.specs.declared.sameness.Names.{Names}
-use Rattle.gf_canon.specs.declared.sameness.Names.TheVariants.{Kept, Aside}
 use Rattle.gf_canon.proofs.lemmas.sameness.Unnamed.{unnamed_is_game}
 
 -- ---- tables
@@ -28,11 +22,7 @@ play_back : (t u : Table) → SamePlay t u → SamePlay u t
 play_back t u same = record {
   players = sym same.players;
   strategies = sym same.strategies;
-  payoffs = λ profile payoffs. (
-    λ pays. (same.payoffs profile payoffs).1 pays,
-    λ pays.
-        (same.payoffs profile payoffs).0 pays,
-  );
+  payoffs = λ profile payoffs. let pay = same.payoffs profile payoffs in (pay.1, pay.0);
 }
 
 back : (t u : Table) → SameTable t u → SameTable u t
@@ -46,10 +36,10 @@ play_on : (t u v : Table) → SamePlay t u → SamePlay u v → SamePlay t v
 play_on t u v first second = record {
   players = first.players ∙ second.players;
   strategies = first.strategies ∙ second.strategies;
-  payoffs = λ profile payoffs. (
-    λ pays. (second.payoffs profile payoffs).0 ((first.payoffs profile payoffs).0 pays),
-    λ pays. (first.payoffs profile payoffs).1 ((second.payoffs profile payoffs).1 pays),
-  );
+  payoffs = λ profile payoffs.
+      let one = first.payoffs profile payoffs in
+      let two = second.payoffs profile payoffs in
+      (λ pays. two.0 (one.0 pays), λ pays. one.1 (two.1 pays));
 }
 
 on : (t u v : Table) → SameTable t u → SameTable u v → SameTable t v
@@ -83,12 +73,7 @@ file_on (strategic t) (extensive h) z first second = absurd first
 
 file_still : (x : GameFile) → IsGameFile x → IsGameFile (unnamed x)
 file_still (extensive g) game = unnamed_is_game g game
-file_still (strategic t) table = record {
-  one_list_each = table.one_list_each;
-  some_strategy = table.some_strategy;
-  one_entry_each = table.one_entry_each;
-  one_payoff_each = table.one_payoff_each;
-}
+file_still (strategic t) table = assumption table
 
 pub reflexive : (names : Names) (x : GameFile) → IsGameFile x → SameBy names x x
 reflexive Kept x file = file_itself x file

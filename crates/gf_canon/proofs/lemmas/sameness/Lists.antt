@@ -1,11 +1,10 @@
 -- What a test of two lists says about what their items stand for.
-use Rattle.std.proofs.Common.{◌≡◌, Bool, List, [], ◌∷◌, map, nat_eq, refl}
+use Rattle.gf_canon.proofs.Common.{◌≡◌, Bool, List, [], ◌∷◌, map, refl, pointwise, Decides-eqb}
+use Rattle.gf_canon.proofs.Common.{label_of}
+use Rattle.std.proofs.Common.{nat_eq}
 use Rattle.std.specs.Bool.{Decides}
-use Rattle.std.specs.Cmp.Lexicographic.{pointwise}
-use Rattle.std.proofs.lemmas.Bool.Decides.{Decides-eqb}
 use Rattle.std.proofs.lemmas.Slice.Eq.{slice_eq-Decides}
 use Rattle.gf_fraction.proofs.EqualRatios.{both_pass}
-use Rattle.gf_token.specs.Label.{label_of}
 use Rattle.gf_token.specs.declared.label.Label.{Label}
 
 -- ---- what items stand for

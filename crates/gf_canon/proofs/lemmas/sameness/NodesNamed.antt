@@ -1,24 +1,17 @@
 -- The nodes of a game without its names are its nodes without theirs.
-use Rattle.std.proofs.Common.{◌≡◌, List, [], ◌∷◌, map, Option, Some, None, refl, sym, ap, ◌∙◌}
-use Rattle.std.specs.Prelude.{Bool, true, false, nat_eq, option_map, if◌then◌else◌}
-use Rattle.std.specs.List.{filter_map, list_any}
-use Rattle.gf_tree.specs.Description.{same_set, set_of}
-use Rattle.gf_tree.specs.FileNodes.{file_nodes, node_behind, use_behind, with_those_before}
-use Rattle.gf_tree.specs.FileTree.{FileNode, Use}
-use Rattle.gf_tree.specs.FirstUse.{first_use_number, first_use_numbers, sets_of}
-use Rattle.gf_tree.specs.Game.{Game, Node, outcome_at, set_at}
-use Rattle.gf_tree.specs.PrefixOrder.{Entry, flatten}
-use Rattle.gf_tree.specs.Renumbering.{Renumbering, renumbered, renumbered_node}
-use Rattle.gf_tree.proofs.lemmas.games.Consistent.{flatten_map, map_entry}
-use Rattle.gf_tree.proofs.lemmas.games.MappedTrees.{map_tree_twice}
-use Rattle.gf_tree.proofs.lemmas.games.Members.{map_twice}
-use Rattle.gf_tree.specs.CanonicalGame.{canonical_game}
-use Rattle.gf_canon.specs.inner.NamedBy.{node_by, outcome_by, set_by, use_by}
-use Rattle.gf_canon.specs.NamesAside.{unnamed_game, unnamed_node}
-use Rattle.gf_canon.specs.declared.sameness.Names.TheVariants.{Aside, Kept}
+use Rattle.gf_canon.proofs.Common.{◌≡◌, List, [], ◌∷◌, ◌++◌, map, Option, Some, None, refl, sym, ap}
+use Rattle.gf_canon.proofs.Common.{◌∙◌, nat_eq, option_map, if◌then◌else◌, filter_map, list_any}
+use Rattle.gf_canon.proofs.Common.{map-append, same_set, set_of, file_nodes, node_behind}
+use Rattle.gf_canon.proofs.Common.{use_behind, FileNode, Use, first_use_number, first_use_numbers}
+use Rattle.gf_canon.proofs.Common.{sets_of, Game, Node, outcome_at, set_at, Entry, flatten}
+use Rattle.gf_canon.proofs.Common.{Renumbering, renumbered, renumbered_node, flatten_map, map_entry}
+use Rattle.gf_canon.proofs.Common.{map_tree_twice, map_twice, canonical_game, node_by, outcome_by}
+use Rattle.gf_canon.proofs.Common.{set_by, use_by, unnamed_game, unnamed_node, Aside, Kept}
+use Rattle.std.specs.Prelude.{Bool, true, false}
 use Rattle.gf_canon.proofs.lemmas.sameness.Unnamed.{unnamed_outcome_at, unnamed_outcomes}
 use Rattle.gf_canon.proofs.lemmas.sameness.Unnamed.{unnamed_outcomes_of, unnamed_set_at}
 use Rattle.gf_canon.proofs.lemmas.sameness.Unnamed.{unnamed_sets, unnamed_sets_of}
+use Rattle.gf_canon.proofs.lemmas.texts.FileOf.{entries_behind, file_nodes_are}
 
 -- ---- with names
 
@@ -71,38 +64,26 @@ node_aside g before n =
     (unnamed_outcome_at g) (filter_map (λ (e : Entry Node). e.node.outcome) before) n.outcome in
     λ i. record { name = []; set = set i; outcome = outcome i }
 
-behind_mapped : {A B C : Type 0} (f : A → B) (c : List B → B → C) (xs : List A)
-    → map (λ p. c p.0 p.1) (with_those_before (map f xs))
-    ≡ map (λ p. c (map f p.0) (f p.1)) (with_those_before xs)
-behind_mapped f c [] = refl
-behind_mapped {A} {B} {C} f c (x ∷ xs) =
-    let later : map (λ (p : List B × B). c p.0 p.1)
-    (map (λ (p : List B × B). (f x ∷ p.0, p.1)) (with_those_before (map f xs)))
-    ≡ map (λ (p : List A × A). c (map f p.0) (f p.1))
-    (map (λ (p : List A × A). (x ∷ p.0, p.1)) (with_those_before xs)) =
-    map_twice (λ (p : List B × B). c p.0 p.1) (λ (p : List B × B). (f x ∷ p.0, p.1))
-    (with_those_before (map f xs))
-    ∙ behind_mapped f (λ before y. c (f x ∷ before) y) xs
-    ∙ sym (map_twice (λ (p : List A × A). c (map f p.0) (f p.1))
-    (λ (p : List A × A). (x ∷ p.0, p.1)) (with_those_before xs)) in
-    ap (λ zs. c [] (f x) ∷ zs) later
-
-all_aside : (g : Game) (ps : List (List (Entry Node) × Entry Node))
-    → map (λ p. node_behind (unnamed_game g) (map (map_entry unnamed_node) p.0)
-    (unnamed_node p.1.node)) ps
-    ≡ map (node_by Aside) (map (λ p. node_behind g p.0 p.1.node) ps)
-all_aside g [] = refl
-all_aside g (p ∷ ps) = λ i. node_aside g p.0 p.1.node i ∷ all_aside g ps i
+nodes_of_all : (g : Game) (before es : List (Entry Node))
+    → map (λ e. e.node) (entries_behind (unnamed_game g) (map (map_entry unnamed_node) before)
+    (map (map_entry unnamed_node) es))
+    ≡ map (node_by Aside) (map (λ e. e.node) (entries_behind g before es))
+nodes_of_all g before [] = refl
+nodes_of_all g before (e ∷ es) =
+    let rest = ap (λ b. map (λ (d : Entry FileNode). d.node)
+    (entries_behind (unnamed_game g) b (map (map_entry unnamed_node) es)))
+    (sym (map-append (map_entry unnamed_node) before (e ∷ [])))
+    ∙ nodes_of_all g (before ++ e ∷ []) es in
+    λ i. node_aside g before e.node i ∷ rest i
 
 file_nodes_aside : (g : Game)
     → file_nodes (unnamed_game g) ≡ map (node_by Aside) (file_nodes g)
 file_nodes_aside g =
-    let behind = λ (before : List (Entry Node)) (e : Entry Node).
-    node_behind (unnamed_game g) before e.node in
-    ap (λ es. map (λ (p : List (Entry Node) × Entry Node). behind p.0 p.1) (with_those_before es))
+    file_nodes_are (unnamed_game g)
+    ∙ ap (λ es. map (λ (d : Entry FileNode). d.node) (entries_behind (unnamed_game g) [] es))
     (flatten_map unnamed_node g.tree)
-    ∙ behind_mapped (map_entry unnamed_node) behind (flatten g.tree)
-    ∙ all_aside g (with_those_before (flatten g.tree))
+    ∙ nodes_of_all g [] (flatten g.tree)
+    ∙ ap (map (node_by Aside)) (sym (file_nodes_are g))
 
 numbers_aside : (g : Game) → first_use_numbers (unnamed_game g) ≡ first_use_numbers g
 numbers_aside g = λ i. record {

@@ -1,33 +1,25 @@
 -- Without its names a game is still a game, and games that are the same are also the same aside
 -- from names.
-use Rattle.std.proofs.Common.{◌≡◌, ℕ, Bool, true, false, cond, List, [], ◌∷◌, length, map, Option}
-use Rattle.std.proofs.Common.{Some, None, refl, sym, ap, subst, ◌∙◌}
-use Rattle.std.specs.Prelude.{nat_eq, option_map, MatchOption, ◌↔◌}
-use Rattle.std.specs.List.{AllByRecursion, Contains, filter_map, cons_option, find}
-use Rattle.gf_token.specs.LabelSpelling.{IsLabel}
+use Rattle.gf_canon.proofs.Common.{◌≡◌, ℕ, Bool, true, false, cond, List, [], ◌∷◌, length, map}
+use Rattle.gf_canon.proofs.Common.{Option, Some, None, refl, sym, ap, subst, ◌∙◌, nat_eq}
+use Rattle.gf_canon.proofs.Common.{option_map, MatchOption, ◌↔◌, AllByRecursion, Contains}
+use Rattle.gf_canon.proofs.Common.{filter_map, cons_option, find, IsLabel, Table, Entry, flatten}
+use Rattle.gf_canon.proofs.Common.{SetKey, InformationSet, same_set, IsSet, IsOutcome, set_of}
+use Rattle.gf_canon.proofs.Common.{Described, description_at, first_uses, Node, Game, IsGame}
+use Rattle.gf_canon.proofs.Common.{HasChildren, used_sets, used_outcomes, set_at, outcome_at}
+use Rattle.gf_canon.proofs.Common.{IsSpellable, IsSpellableSet, IsSpellableOutcome, Renumbering}
+use Rattle.gf_canon.proofs.Common.{IsRenumbering, HasSet, HasOutcome, renumbered_set}
+use Rattle.gf_canon.proofs.Common.{renumbered_node, map_entry, flatten_map, map_twice}
+use Rattle.gf_canon.proofs.Common.{map_tree_twice, Carries, GameFile, SpellsFile, SameFile}
+use Rattle.gf_canon.proofs.Common.{canonical_text, file_text, extensive, strategic, unnamed_node}
+use Rattle.gf_canon.proofs.Common.{unnamed_set, unnamed_outcome, unnamed_game, unnamed_table}
+use Rattle.gf_canon.proofs.Common.{unnamed, SameAsideNames}
 use Rattle.gf_nfg.specs.SameTable.{SamePlay}
-use Rattle.gf_nfg.specs.Table.{Table}
 use Rattle.gf_nfg.proofs.lemmas.texts.OneTable.{text_reads_back as table_reads_back}
 use Rattle.gf_nfg.proofs.lemmas.tables.Spelled.{spelled_is_spellable as spelled_table}
 use Rattle.gf_tree.specs.Tree.{map_tree}
-use Rattle.gf_tree.specs.PrefixOrder.{Entry, flatten}
-use Rattle.gf_tree.specs.Description.{SetKey, InformationSet, Outcome, same_set, IsSet, IsOutcome}
-use Rattle.gf_tree.specs.Description.{set_of}
-use Rattle.gf_tree.specs.FiniteMap.{Described, description_at, first_uses}
-use Rattle.gf_tree.specs.Game.{Node, Game, IsGame, HasChildren, used_sets, used_outcomes, set_at}
-use Rattle.gf_tree.specs.Game.{outcome_at}
-use Rattle.gf_tree.specs.Spellable.{IsSpellable, IsSpellableSet, IsSpellableOutcome}
-use Rattle.gf_tree.specs.Renumbering.{Renumbering, IsRenumbering, HasSet, HasOutcome}
-use Rattle.gf_tree.specs.Renumbering.{renumbered_set, renumbered_node}
-use Rattle.gf_tree.proofs.lemmas.games.Consistent.{map_entry, flatten_map}
+use Rattle.gf_tree.specs.Description.{Outcome}
 use Rattle.gf_tree.proofs.lemmas.games.Spelled.{spelled_is_spellable as spelled_game}
-use Rattle.gf_tree.proofs.lemmas.games.Members.{map_twice}
-use Rattle.gf_tree.proofs.lemmas.games.MappedTrees.{map_tree_twice}
-use Rattle.gf_tree.specs.SameGame.{Carries}
-use Rattle.gf_canon.specs.GameFile.{GameFile, SpellsFile, SameFile, canonical_text, file_text}
-use Rattle.gf_canon.specs.GameFile.GameFile.{extensive, strategic}
-use Rattle.gf_canon.specs.NamesAside.{unnamed_node, unnamed_set, unnamed_outcome, unnamed_game}
-use Rattle.gf_canon.specs.NamesAside.{unnamed_table, unnamed, SameAsideNames}
 use Rattle.gf_canon.proofs.lemmas.texts.ReadsBack.{text_reads_back}
 use Rattle.gf_canon.proofs.lemmas.files.Texts.{equal_canonical_texts}
 
@@ -86,24 +78,13 @@ sets_still : (players : ℕ) (ss : List (Described SetKey InformationSet))
     → AllByRecursion (λ s. IsSet players s.key s.description) ss
     → AllByRecursion (λ s. IsSet players s.key s.description) (redescribed unnamed_set ss)
 sets_still players [] h = tt
-sets_still players (s ∷ ss) h = (
-  record {
-    player = h.0.player;
-    number = h.0.number;
-    some_action = h.0.some_action;
-    actions = h.0.actions;
-  },
-  sets_still players ss h.1,
-)
+sets_still players (s ∷ ss) h = (assumption h.0, sets_still players ss h.1)
 
 outcomes_still : (players : ℕ) (os : List (Described ℕ Outcome))
     → AllByRecursion (λ o. IsOutcome players o.key o.description) os
     → AllByRecursion (λ o. IsOutcome players o.key o.description) (redescribed unnamed_outcome os)
 outcomes_still players [] h = tt
-outcomes_still players (o ∷ os) h = (
-  record { number_from_one = h.0.number_from_one; one_payoff_each = h.0.one_payoff_each },
-  outcomes_still players os h.1,
-)
+outcomes_still players (o ∷ os) h = (assumption h.0, outcomes_still players os h.1)
 
 length_of : (o : Option InformationSet)
     → option_map (λ s. length s.actions) (option_map unnamed_set o)
@@ -146,16 +127,12 @@ names_empty (e ∷ es) = (refl, names_empty es)
 sets_spellable : (ss : List (Described SetKey InformationSet)) → AllByRecursion IsSpellableSet ss
     → AllByRecursion IsSpellableSet (redescribed unnamed_set ss)
 sets_spellable [] h = tt
-sets_spellable (s ∷ ss) h = (
-  record { player = h.0.player; number = h.0.number; name = refl; actions = h.0.actions },
-  sets_spellable ss h.1,
-)
+sets_spellable (s ∷ ss) h = (assumption (h.0, refl), sets_spellable ss h.1)
 
 outcomes_spellable : (os : List (Described ℕ Outcome)) → AllByRecursion IsSpellableOutcome os
     → AllByRecursion IsSpellableOutcome (redescribed unnamed_outcome os)
 outcomes_spellable [] h = tt
-outcomes_spellable (o ∷ os) h =
-    (record { number = h.0.number; name = refl; payoffs = h.0.payoffs }, outcomes_spellable os h.1)
+outcomes_spellable (o ∷ os) h = (assumption (h.0, refl), outcomes_spellable os h.1)
 
 pub unnamed_is_spellable : (g : Game) → IsSpellable g → IsSpellable (unnamed_game g)
 unnamed_is_spellable g can = record {
@@ -206,12 +183,7 @@ carries_aside r g h c = record {
 
 pub same_is_so_aside : (x y : GameFile) → SameFile x y → SameAsideNames x y
 same_is_so_aside (extensive g) (extensive h) s = (s.0, carries_aside s.0 g h s.1)
-same_is_so_aside (strategic t) (strategic u) s = record {
-  title = refl;
-  comment = refl;
-  play =
-      record { players = s.play.players; strategies = s.play.strategies; payoffs = s.play.payoffs };
-}
+same_is_so_aside (strategic t) (strategic u) s = assumption (s.play, refl)
 same_is_so_aside (extensive g) (strategic u) s = s
 same_is_so_aside (strategic t) (extensive h) s = s
 
@@ -224,17 +196,8 @@ unnamed_spelled bytes (extensive g) h =
     text_reads_back (unnamed_game g) (unnamed_is_game g s.0) (unnamed_is_spellable g s.1)
 unnamed_spelled bytes (strategic t) h =
     let s = spelled_table bytes t h in
-    table_reads_back (unnamed_table t)
-    (record {
-      one_list_each = s.0.one_list_each;
-      some_strategy = s.0.some_strategy;
-      one_entry_each = s.0.one_entry_each;
-      one_payoff_each = s.0.one_payoff_each;
-    })
-    (record {
-      labels_spelled = (refl, (refl, s.1.labels_spelled.1.1));
-      payoffs_are_fractions = s.1.payoffs_are_fractions;
-    })
+    table_reads_back (unnamed_table t) (assumption s.0)
+    (assumption (s.1, refl, s.1.labels_spelled.1.1))
 
 pub equal_texts_aside : (a b : List ℕ) (x y : GameFile) → SpellsFile a x → SpellsFile b y
     → (canonical_text (unnamed x) ≡ canonical_text (unnamed y)) ↔ SameAsideNames x y
@@ -244,16 +207,4 @@ equal_texts_aside a b x y h k = equal_canonical_texts (file_text (unnamed x))
 -- ---- tables
 
 pub tables_aside : (t u : Table) → SameAsideNames (strategic t) (strategic u) ↔ SamePlay t u
-tables_aside t u = (
-  λ same. record {
-    players = same.play.players;
-    strategies = same.play.strategies;
-    payoffs = same.play.payoffs;
-  },
-  λ alike. record {
-    title = refl;
-    comment = refl;
-    play =
-        record { players = alike.players; strategies = alike.strategies; payoffs = alike.payoffs };
-  },
-)
+tables_aside t u = (λ same. assumption same.play, λ alike. assumption (alike, refl))

@@ -1,23 +1,10 @@
 -- Two games are the same exactly if their headings and their nodes by first-use numbers are equal,
 -- which a walk over the nodes of both decides.
-use Rattle.std.proofs.Common.{◌≡◌, ℕ, List, ◌∷◌, ◌++◌, map, sym, ap, ◌∙◌}
-use Rattle.std.specs.Prelude.{◌↔◌}
-use Rattle.gf_tree.specs.FileNodes.{file_nodes}
-use Rattle.gf_tree.specs.FileTree.{FileNode}
-use Rattle.gf_tree.specs.Game.{Game, IsGame}
-use Rattle.gf_tree.specs.Spellable.{IsSpellable}
-use Rattle.gf_tree.specs.Told.{Heading, heading_in}
-use Rattle.gf_tree.specs.CanonicalGame.{canonical_game}
-use Rattle.gf_canon.specs.GameFile.GameFile.{extensive}
-use Rattle.gf_canon.specs.GameText.{game_text}
-use Rattle.gf_canon.specs.inner.NamedBy.{heading_by, node_by}
-use Rattle.gf_canon.specs.NamesAside.{unnamed_game}
-use Rattle.gf_canon.specs.SameBy.{SameBy}
-use Rattle.gf_tree.specs.SameGame.{SameGame}
-use Rattle.gf_canon.specs.inner.TextParts.{heading_text}
-use Rattle.gf_canon.specs.declared.sameness.Names.{Names}
-use Rattle.gf_canon.specs.declared.sameness.Names.TheVariants.{Aside, Kept}
-use Rattle.gf_tree.proofs.lemmas.games.Canonical.{canonical_is_game, same_by_canonical}
+use Rattle.gf_canon.proofs.Common.{◌≡◌, ℕ, List, ◌∷◌, ◌++◌, map, sym, ap, ◌∙◌, ◌↔◌, file_nodes}
+use Rattle.gf_canon.proofs.Common.{FileNode, Game, IsGame, IsSpellable, Heading, heading_in}
+use Rattle.gf_canon.proofs.Common.{canonical_game, extensive, game_text, heading_by, node_by}
+use Rattle.gf_canon.proofs.Common.{unnamed_game, SameBy, SameGame, heading_text, Names, Aside, Kept}
+use Rattle.gf_canon.proofs.Common.{canonical_is_game, same_by_canonical}
 use Rattle.gf_canon.proofs.lemmas.files.Texts.{equal_game_texts}
 use Rattle.gf_canon.proofs.lemmas.sameness.NodesNamed.{nodes_aside, nodes_kept}
 use Rattle.gf_canon.proofs.lemmas.texts.Spellables.{canonical_is_spellable}

@@ -1,18 +1,12 @@
 -- Worked games: one with many numberings, and its text.
-use Rattle.std.proofs.Common.{◌≡◌, refl, arith}
+use Rattle.gf_canon.proofs.Common.{◌≡◌, refl, arith, IsGame, Renumbering, first_use_numbers}
+use Rattle.gf_canon.proofs.Common.{Carries, SameGame, canonical_game, game_text, same_by_canonical}
 use Rattle.std.specs.Fmt.{digits}
 use Rattle.gf_fraction.specs.NumberText.{number_text}
-use Rattle.gf_tree.specs.Game.{IsGame}
 use Rattle.gf_tree.specs.WorkedTrees.{five, five_file, bonus}
-use Rattle.gf_tree.specs.Renumbering.{Renumbering}
-use Rattle.gf_tree.specs.FirstUse.{first_use_numbers}
 use Rattle.gf_tree.proofs.lemmas.games.Spelled.{spelled_is_spellable}
 use Rattle.gf_tree.proofs.lemmas.games.Worked.{five_is_meant}
-use Rattle.gf_tree.specs.SameGame.{Carries, SameGame}
-use Rattle.gf_tree.specs.CanonicalGame.{canonical_game}
-use Rattle.gf_canon.specs.GameText.{game_text}
 use Rattle.gf_canon.specs.WorkedGames.{numbered_five, five_text, bonus_text, nobody, nobody_text}
-use Rattle.gf_tree.proofs.lemmas.games.Canonical.{same_by_canonical}
 
 pub five_numbered : five ≡ numbered_five 9 7 3 4
 five_numbered = refl

@@ -1,16 +1,11 @@
 -- Worked games that are not the same, and some that are the same aside from names.
-use Rattle.std.proofs.Common.{◌≡◌, ℕ, List, [], ◌∷◌, get_or, Option, Some, None, refl, sym, ap, ◌∙◌}
-use Rattle.std.proofs.Common.{arith}
-use Rattle.std.specs.List.{flat_map}
-use Rattle.gf_tree.specs.Description.{SetKey, InformationSet, set_of}
-use Rattle.gf_tree.specs.Game.{Game, IsGame, used_sets, set_at}
-use Rattle.gf_tree.specs.Renumbering.{renumbered_set}
-use Rattle.gf_tree.specs.SameGame.{SameGame}
-use Rattle.gf_canon.specs.GameFile.GameFile.{extensive}
-use Rattle.gf_canon.specs.NamesAside.{SameAsideNames, unnamed_game}
+use Rattle.gf_canon.proofs.Common.{◌≡◌, ℕ, List, [], ◌∷◌, get_or, Option, Some, None, refl, sym, ap}
+use Rattle.gf_canon.proofs.Common.{◌∙◌, arith, flat_map, SetKey, InformationSet, set_of, Game}
+use Rattle.gf_canon.proofs.Common.{IsGame, used_sets, set_at, renumbered_set, SameGame, extensive}
+use Rattle.gf_canon.proofs.Common.{SameAsideNames, unnamed_game, same_itself, carried_sets}
+use Rattle.gf_canon.proofs.Common.{carried_outcomes}
 use Rattle.gf_canon.specs.WorkedGames.{seen, unseen, plain_prize, renamed_prize, lower_case_prize}
 use Rattle.gf_canon.specs.WorkedGames.{two_prizes, no_outcome, zero_outcome}
-use Rattle.gf_tree.proofs.lemmas.games.Same.{same_itself, carried_sets, carried_outcomes}
 
 -- ---- what a player sees
 

@@ -1,13 +1,8 @@
 -- The texts of two files, with names or without, are equal exactly if the files are the same in
 -- this sense.
-use Rattle.std.proofs.Common.{◌≡◌, ℕ, List, sym, ◌∙◌}
-use Rattle.std.specs.Prelude.{◌↔◌}
-use Rattle.gf_canon.specs.GameFile.{GameFile, SpellsFile, canonical_text}
-use Rattle.gf_canon.specs.Judgement.{IsTextBy, SpellsWithin}
-use Rattle.gf_canon.specs.NamesAside.{file_by}
-use Rattle.gf_canon.specs.SameBy.{SameBy}
-use Rattle.gf_canon.specs.declared.sameness.Names.{Names}
-use Rattle.gf_canon.specs.declared.sameness.Names.TheVariants.{Aside, Kept}
+use Rattle.gf_canon.proofs.Common.{◌≡◌, ℕ, List, sym, ◌∙◌, ◌↔◌, GameFile, SpellsFile}
+use Rattle.gf_canon.proofs.Common.{canonical_text, IsTextBy, SpellsWithin, file_by, SameBy, Names}
+use Rattle.gf_canon.proofs.Common.{Aside, Kept}
 use Rattle.gf_canon.proofs.lemmas.files.Texts.{equal_canonical_texts, spells_one_file}
 use Rattle.gf_canon.proofs.lemmas.sameness.Unnamed.{equal_texts_aside}
 

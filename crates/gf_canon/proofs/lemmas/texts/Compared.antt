@@ -1,13 +1,9 @@
 -- The answer of a comparison speaks of whatever the two files mean, and of their canonical texts.
-use Rattle.std.proofs.Common.{◌≡◌, ap, ℕ, Bool, List, Result, Ok, Err, IfErr, IfOk, MatchResult}
-use Rattle.std.proofs.Common.{sym, subst, ◌∙◌}
-use Rattle.std.specs.Prelude.{◌↔◌, IsTrue}
-use Rattle.gf_canon.specs.GameFile.{GameFile, SameFile, SpellsFile, canonical_text}
-use Rattle.gf_canon.specs.Judgement.{IsCanonicalText, MeansFile, SpellsWithin}
-use Rattle.gf_canon.specs.SameBy.{SameBy}
+use Rattle.gf_canon.proofs.Common.{◌≡◌, ap, ℕ, Bool, List, Result, Ok, Err, IfErr, IfOk}
+use Rattle.gf_canon.proofs.Common.{MatchResult, sym, subst, ◌∙◌, ◌↔◌, IsTrue, GameFile, SameFile}
+use Rattle.gf_canon.proofs.Common.{SpellsFile, canonical_text, IsCanonicalText, MeansFile}
+use Rattle.gf_canon.proofs.Common.{SpellsWithin, SameBy, Names, Kept, Aside}
 use Rattle.gf_canon.specs.Sameness.{AreRefusedWith, WantsMemory}
-use Rattle.gf_canon.specs.declared.sameness.Names.{Names}
-use Rattle.gf_canon.specs.declared.sameness.Names.TheVariants.{Kept, Aside}
 use Rattle.gf_canon.specs.declared.sameness.SameFault.{SameFault}
 use Rattle.gf_canon.specs.declared.sameness.SameFault.TheVariants.{First, Second, Memory}
 use Rattle.gf_canon.proofs.lemmas.files.Texts.{equal_canonical_texts, spells_one_file}

@@ -1,34 +1,26 @@
 -- A file tree of each game: each set and each outcome is described at its first use, and not again.
-use Rattle.std.proofs.Common.{◌≡◌, ℕ, zero, suc, ◌+◌, Bool, true, false, List, [], ◌∷◌, ◌++◌, map}
-use Rattle.std.proofs.Common.{Option, None, Some, refl, sym, ap, subst, ◌∙◌, inl, inr, append-nil}
-use Rattle.std.proofs.Common.{append_assoc}
-use Rattle.std.specs.Prelude.{nat_eq, option_map, if◌then◌else◌}
-use Rattle.std.specs.List.{AllByRecursion, filter_map, cons_option, list_any}
-use Rattle.std.proofs.lemmas.Bool.{cases_Bool, or_from, or_parts}
-use Rattle.std.proofs.lemmas.Bool.Decides.{Decides-eqb}
+use Rattle.gf_canon.proofs.Common.{◌≡◌, ℕ, zero, suc, ◌+◌, Bool, true, false, List, [], ◌∷◌, ◌++◌}
+use Rattle.gf_canon.proofs.Common.{map, Option, None, Some, refl, sym, ap, subst, ◌∙◌, inl, inr}
+use Rattle.gf_canon.proofs.Common.{append_assoc, nat_eq, option_map, if◌then◌else◌, AllByRecursion}
+use Rattle.gf_canon.proofs.Common.{filter_map, cons_option, list_any, cases_Bool, or_from, or_parts}
+use Rattle.gf_canon.proofs.Common.{Decides-eqb, Entry, flatten, Fills, same_set, Described}
+use Rattle.gf_canon.proofs.Common.{description_at, first_uses, Use, FileNode, FileTree, set_uses}
+use Rattle.gf_canon.proofs.Common.{outcome_uses, Describes, AreConsistent, IsDescribed, IsFirstUse}
+use Rattle.gf_canon.proofs.Common.{Node, Game, IsGame, used_sets, used_outcomes, set_at, outcome_at}
+use Rattle.gf_canon.proofs.Common.{keys_alone, Has, IsEquality, has, contains, has_map, all_of_each}
+use Rattle.gf_canon.proofs.Common.{differ, has_place, AreDistinct, found, is_used, was_used}
+use Rattle.gf_canon.proofs.Common.{first_uses_distinct, same_set_equality, map_entry, flatten_map}
+use Rattle.gf_canon.proofs.Common.{map_same, map_twice, with_those_before, use_behind, node_behind}
+use Rattle.gf_canon.proofs.Common.{file_nodes}
+use Rattle.std.proofs.Common.{append-nil}
 use Rattle.std.proofs.lemmas.List.Folds.{list_any-append}
 use Rattle.std.proofs.lemmas.List.Elements.{filter_map-append}
 use Rattle.gf_tree.specs.Tree.{map_tree}
-use Rattle.gf_tree.specs.PrefixOrder.{Entry, flatten, Fills}
-use Rattle.gf_tree.specs.Description.{same_set}
-use Rattle.gf_tree.specs.FiniteMap.{Described, description_at, first_uses}
-use Rattle.gf_tree.specs.FileTree.{Use, FileNode, FileTree, set_uses, outcome_uses}
-use Rattle.gf_tree.specs.Consistent.{Describes, AreConsistent, IsFirstUse}
-use Rattle.gf_tree.specs.Game.{Node, Game, IsGame, used_sets, used_outcomes, set_at, outcome_at}
-use Rattle.gf_tree.specs.GameOf.{keys_alone}
 use Rattle.gf_tree.specs.Learned.{Learns, LearnsGame}
 use Rattle.gf_tree.proofs.lemmas.games.Prefix.{flatten_once, one_tree, fills_one}
-use Rattle.gf_tree.proofs.lemmas.games.Uses.{Has, IsEquality, has, contains, has_map, all_of_each}
-use Rattle.gf_tree.proofs.lemmas.games.Uses.{differ}
-use Rattle.gf_tree.proofs.lemmas.games.FirstUses.{AreDistinct, found, is_used, was_used}
-use Rattle.gf_tree.proofs.lemmas.games.FirstUses.{first_uses_distinct}
-use Rattle.gf_tree.proofs.lemmas.games.TreesOnce.{same_set_equality}
-use Rattle.gf_tree.proofs.lemmas.games.Consistent.{map_entry, flatten_map}
 use Rattle.gf_tree.proofs.lemmas.games.Learning.{learned_once}
 use Rattle.gf_tree.proofs.lemmas.games.Lookups.{entry_at}
-use Rattle.gf_tree.proofs.lemmas.games.Members.{map_same, map_twice}
 use Rattle.gf_tree.proofs.lemmas.games.Learned.{game_learned_once}
-use Rattle.gf_tree.specs.FileNodes.{with_those_before, use_behind, node_behind, file_nodes}
 use Rattle.gf_canon.specs.FirstDescribed.{DescribeFirstUses, IsFileOf}
 
 -- ---- uses
@@ -94,47 +86,6 @@ new_described {K} {D} same equality at before (k ∷ keys) key d h e new =
     later q (inl p) = absurd (differ same equality key k q (sym p))
     later q (inr m) = m
 
-first_is_described : {K D : Type 0} (same : K → K → Bool) → IsEquality same
-    → (at : K → Option D) (known : List K) → ((k : K) → Has known k → (d : D) × (at k ≡ Some d))
-    → (before keys : List K) (front after : List (Use K D)) (u : Use K D)
-    → ((k : K) → Has keys k → Has known k) → list_any (same u.key) before ≡ false
-    → uses_behind same at before keys ≡ front ++ u ∷ after
-    → AllByRecursion (λ v. ¬ (v.key ≡ u.key)) front → (d : D) × (u.description ≡ Some d)
-first_is_described same equality at known at_known before [] [] after u among new e first =
-    absurd cc
-first_is_described same equality at known at_known before [] (v ∷ front) after u among new e first =
-    absurd cc
-first_is_described {K} {D} same equality at known at_known before (k ∷ keys) [] after u among new e
-    first =
-    let is : use_behind same at before k ≡ u = cc in
-    let key : k ≡ u.key = ap (λ (v : Use K D). v.key) is in
-    let d = at_known k (among k (inl refl)) in
-    let fresh : list_any (same k) before ≡ false = ap (λ x. list_any (same x) before) key ∙ new in
-    (d.0, ap (λ (v : Use K D). v.description) (sym is) ∙ rw fresh d.1)
-first_is_described {K} {D} same equality at known at_known before (k ∷ keys) (v ∷ front) after u
-    among new e first =
-    let is : use_behind same at before k ≡ v = cc in
-    let rest : uses_behind same at (before ++ k ∷ []) keys ≡ front ++ u ∷ after = cc in
-    let key : k ≡ v.key = ap (λ (w : Use K D). w.key) is in
-    let other : same u.key k ≡ false = elim (cases_Bool (same u.key k))
-    [ inl q ↦ absurd (first.0 (sym key ∙ sym ((equality u.key k).0 q))) | inr q ↦ q ] in
-    first_is_described same equality at known at_known (before ++ k ∷ []) keys front after u
-    (λ j m. among j (inr m)) (still_new same before u.key k new other) rest first.1
-
-pub uses_consistent : {K D : Type 0} (same : K → K → Bool) → IsEquality same
-    → (at : K → Option D) (keys : List K) → ((k : K) → Has keys k → (d : D) × (at k ≡ Some d))
-    → AreConsistent (uses_behind same at [] keys)
-uses_consistent same equality at keys known = record {
-  first_described = λ front after u e first.
-      first_is_described same equality at keys known [] keys front after u (λ k m. m) refl e first;
-  described_alike = λ key c d h k.
-      let p = use_says same at [] keys key c
-      (has (uses_behind same at [] keys) (record { key = key; description = Some c }) h) in
-      let q = use_says same at [] keys key d
-      (has (uses_behind same at [] keys) (record { key = key; description = Some d }) k) in
-      cc;
-}
-
 pub key_described : {K D : Type 0} (same : K → K → Bool) → IsEquality same
     → (at : K → Option D) (keys : List K) (key : K) (d : D) → Has keys key → at key ≡ Some d
     → Describes (uses_behind same at [] keys) key d
@@ -173,7 +124,7 @@ new_where_described {K} {D} same at before key d e = go (list_any (same key) bef
     go true q = absurd cc
     go false q = refl
 
-none_of_them : {K D : Type 0} (same : K → K → Bool)
+pub none_of_them : {K D : Type 0} (same : K → K → Bool)
     → IsEquality same → (front : List (Use K D)) (u : Use K D)
     → list_any (same u.key) (map (λ v. v.key) front) ≡ false → IsFirstUse front u
 none_of_them same equality [] u h = tt
@@ -182,6 +133,43 @@ none_of_them same equality (v ∷ front) u h =
       λ q. differ same equality u.key v.key both.0 (sym q),
       none_of_them same equality front u both.1,
     )
+
+pub first_is_new : {K D : Type 0} (same : K → K → Bool) → IsEquality same
+    → (front : List (Use K D)) (u : Use K D) → IsFirstUse front u
+    → list_any (same u.key) (map (λ v. v.key) front) ≡ false
+first_is_new same equality [] u h = refl
+first_is_new same equality (v ∷ front) u h = elim (cases_Bool (same u.key v.key)) [
+  | inl q ↦ absurd (h.0 (sym ((equality u.key v.key).0 q)))
+  | inr q ↦ or_from (same u.key v.key) (list_any (same u.key) (map (λ w. w.key) front)) q
+      (first_is_new same equality front u h.1)
+]
+
+first_is_described : {K D : Type 0} (same : K → K → Bool) → IsEquality same
+    → (at : K → Option D) (keys : List K) → ((k : K) → Has keys k → (d : D) × (at k ≡ Some d))
+    → (front after : List (Use K D)) (u : Use K D)
+    → uses_behind same at [] keys ≡ front ++ u ∷ after → IsFirstUse front u → IsDescribed u
+first_is_described {K} {D} same equality at keys known front after u e first =
+    let used = subst (λ ks. Has ks u.key) (uses_keys same at [] keys)
+    (has_map (λ (v : Use K D). v.key) (uses_behind same at [] keys) u
+    (subst (λ us. Has us u) (sym e) (has_place front after u))) in
+    let d = known u.key used in
+    let is : u.description ≡ (if list_any (same u.key) (map (λ (v : Use K D). v.key) front)
+    then None else at u.key) =
+    ap (λ (v : Use K D). v.description) (use_at_place same at [] keys front after u e) in
+    (d.0, is ∙ rw (first_is_new same equality front u first) d.1)
+
+pub uses_consistent : {K D : Type 0} (same : K → K → Bool) → IsEquality same
+    → (at : K → Option D) (keys : List K) → ((k : K) → Has keys k → (d : D) × (at k ≡ Some d))
+    → AreConsistent (uses_behind same at [] keys)
+uses_consistent same equality at keys known = record {
+  first_described = first_is_described same equality at keys known;
+  described_alike = λ key c d h k.
+      let p = use_says same at [] keys key c
+      (has (uses_behind same at [] keys) (record { key = key; description = Some c }) h) in
+      let q = use_says same at [] keys key d
+      (has (uses_behind same at [] keys) (record { key = key; description = Some d }) k) in
+      cc;
+}
 
 pub first_uses_described : {K D : Type 0} (same : K → K → Bool) → IsEquality same
     → (at : K → Option D) (keys : List K) → ((k : K) → Has keys k → (d : D) × (at k ≡ Some d))
@@ -192,8 +180,7 @@ first_uses_described {K} {D} same equality at keys known front after u e = (
       ≡ Some told.0 = cc (use_at_place same at [] keys front after u e) in
       none_of_them same equality front u
       (new_where_described same at (map (λ v. v.key) front) u.key told.0 says),
-  λ first. first_is_described same equality at keys known [] keys front after u (λ k m. m) refl e
-      first,
+  first_is_described same equality at keys known front after u e,
 )
 
 -- ---- entries

@@ -1,31 +1,24 @@
 -- The fields of a node's line say the tokens of the node.
-use Rattle.std.proofs.Common.{◌≡◌, ℕ, zero, suc, ◌^◌, ◌<◌, List, [], ◌∷◌, ◌++◌, map, Option, Some}
-use Rattle.std.proofs.Common.{None, refl, subst, ◌∙◌}
-use Rattle.std.specs.Prelude.{codes, decimal, MatchOption, ⊤}
-use Rattle.std.specs.List.{AllByRecursion, flat_map}
-use Rattle.std.specs.Option.{option_to_list}
+use Rattle.gf_canon.proofs.Common.{◌≡◌, ℕ, zero, suc, ◌^◌, ◌<◌, List, [], ◌∷◌, ◌++◌, map, Option}
+use Rattle.gf_canon.proofs.Common.{Some, None, refl, subst, ◌∙◌, codes, decimal, MatchOption, ⊤}
+use Rattle.gf_canon.proofs.Common.{AllByRecursion, flat_map, option_to_list, flat_map-append}
+use Rattle.gf_canon.proofs.Common.{map-append, append-nil, Token, Text, Bare, IsLabel, IsSpelled}
+use Rattle.gf_canon.proofs.Common.{spaced, list_text, quoted, Action, SetKey, InformationSet, IsSet}
+use Rattle.gf_canon.proofs.Common.{IsOutcome, Use, FileNode, IsSpellableAction, IsSpellableSet}
+use Rattle.gf_canon.proofs.Common.{IsSpellableOutcome, action_fields, set_fields, outcome_fields}
+use Rattle.gf_canon.proofs.Common.{described_fields, mover_fields, step_fields, result_fields}
+use Rattle.gf_canon.proofs.Common.{node_text}
 use Rattle.std.specs.Fmt.{digits}
-use Rattle.std.proofs.lemmas.Grind.{flat_map-append}
-use Rattle.std.proofs.lemmas.List.{map-append, append-nil}
 use Rattle.gf_fraction.specs.Ratio.{Ratio, IsFraction}
 use Rattle.gf_fraction.specs.NumberText.{number_text}
-use Rattle.gf_token.specs.Token.{Token}
-use Rattle.gf_token.specs.Token.Token.{Text, Bare}
 use Rattle.gf_token.specs.Grammar.{braced}
-use Rattle.gf_token.specs.LabelSpelling.{IsLabel}
-use Rattle.gf_token.specs.TokenSpelling.{IsSpelled}
 use Rattle.gf_token.proofs.SpelledNumbers.{number_spelled, index_spelled}
-use Rattle.gf_nfg.specs.TableText.{spaced, list_text, quoted}
 use Rattle.gf_nfg.proofs.lemmas.texts.Spelled.{Says, says_label, says_bare, says_spaced, says_list}
-use Rattle.gf_tree.specs.Description.{Action, SetKey, InformationSet, Outcome, IsSet, IsOutcome}
-use Rattle.gf_tree.specs.FileTree.{Use, FileNode}
-use Rattle.gf_tree.specs.Spellable.{IsSpellableAction, IsSpellableSet, IsSpellableOutcome}
+use Rattle.gf_tree.specs.Description.{Outcome}
 use Rattle.gf_tree.proofs.lemmas.written.Nodes.{action_tokens, set_tokens, outcome_tokens}
 use Rattle.gf_tree.proofs.lemmas.written.Nodes.{mover_letter, mover_tokens, letter, step_tokens}
 use Rattle.gf_tree.proofs.lemmas.written.Nodes.{result_tokens, node_tokens, IsSetUse, IsOutcomeUse}
 use Rattle.gf_tree.proofs.lemmas.written.Nodes.{IsWritable}
-use Rattle.gf_canon.specs.GameText.{action_fields, set_fields, outcome_fields, described_fields}
-use Rattle.gf_canon.specs.GameText.{mover_fields, step_fields, result_fields, node_text}
 
 -- a field, and the tokens that it says
 pub record Piece : Type 0 where

@@ -1,20 +1,16 @@
 -- The line of a node that describes nothing, piece by piece.
-use Rattle.std.proofs.Common.{◌≡◌, ℕ, zero, suc, ◌+◌, ◌<◌, List, [], ◌∷◌, ◌++◌, length, drop, set}
-use Rattle.std.proofs.Common.{Option, None, Some, refl, ap, append_assoc, option_map, false}
-use Rattle.std.proofs.Common.{is_some, OnOk, Result, Ok, Err, ◌≤◌, ◌-◌, arith, take, length-append}
-use Rattle.std.proofs.Common.{length-drop}
+use Rattle.gf_canon.proofs.Common.{◌≡◌, ℕ, zero, suc, ◌+◌, ◌<◌, List, [], ◌∷◌, ◌++◌, length, drop}
+use Rattle.gf_canon.proofs.Common.{set, Option, None, Some, refl, ap, append_assoc, false, OnOk}
+use Rattle.gf_canon.proofs.Common.{Result, Ok, Err, ◌≤◌, ◌-◌, arith, take, length-append}
+use Rattle.gf_canon.proofs.Common.{length-drop, drop-set, codes, decimal, set_use_of}
+use Rattle.gf_canon.proofs.Common.{InformationSet, SetKey, FileNode, Use, quoted, spaced}
+use Rattle.gf_canon.proofs.Common.{described_fields, mover_fields, set_fields, mover_letter}
+use Rattle.gf_canon.proofs.Common.{node_line, number_then, plain_line, player_letter, player_then}
+use Rattle.gf_canon.proofs.Common.{tail_text}
+use Rattle.std.proofs.Common.{option_map, is_some}
 use Rattle.std.proofs.Math.Seq.{take-append-add, take-append_seam}
-use Rattle.std.proofs.lemmas.List.{drop-set}
 use Rattle.std.specs.Fmt.{digits}
-use Rattle.std.specs.Prelude.{codes, decimal}
 use Rattle.gf_tree.specs.declared.game.file_node.SetUse.{SetUse}
-use Rattle.gf_tree.specs.FileNodeOf.{set_use_of}
-use Rattle.gf_tree.specs.Description.{InformationSet, SetKey}
-use Rattle.gf_tree.specs.FileTree.{FileNode, Use}
-use Rattle.gf_nfg.specs.TableText.{quoted, spaced}
-use Rattle.gf_canon.specs.GameText.{described_fields, mover_fields, set_fields}
-use Rattle.gf_canon.specs.inner.TextParts.{mover_letter, node_line, number_then, plain_line}
-use Rattle.gf_canon.specs.inner.TextParts.{player_letter, player_then, tail_text}
 
 pub zero_text : decimal 0 ≡ codes "0"
 unfolding digits
@@ -52,6 +48,8 @@ pub tail_player : (set : Option SetUse) (used : SetUse) (outcome : ℕ) (rest x 
     → x ≡ number_then used.player (number_then used.number (number_then outcome (10 ∷ []))) ++ rest
     → x ≡ tail_text (option_map set_use_of set) outcome ++ rest
 tail_player set used outcome rest x e n h = grind arith
+
+pub ruleset tails = (number_tail, outcome_tail, tail_chance, tail_none, tail_player)
 
 -- with as much as stands before it, the tail is as long as the line may be
 pub tail_length : (text old tail : List ℕ) (start : ℕ) → length text ≡ 76 → length old ≡ 76

@@ -1,36 +1,23 @@
 -- The text of a game spells that game.
-use Rattle.std.proofs.Common.{◌≡◌, ℕ, Bool, true, false, List, [], ◌∷◌, ◌++◌, length, map, Option}
-use Rattle.std.proofs.Common.{Some, None, refl, sym, ap, subst, ◌∙◌, inl, inr}
-use Rattle.std.specs.Prelude.{nat_eq, codes, option_map, MatchOption, ⊤, if◌then◌else◌}
-use Rattle.std.specs.List.{AllByRecursion, filter_map, flat_map, list_any}
-use Rattle.std.proofs.lemmas.Bool.Decides.{Decides-eqb}
-use Rattle.std.proofs.lemmas.List.{append-nil}
-use Rattle.gf_token.specs.Token.{Token}
-use Rattle.gf_token.specs.Token.Token.{Text, Bare}
+use Rattle.gf_canon.proofs.Common.{◌≡◌, ℕ, Bool, true, false, List, [], ◌∷◌, ◌++◌, length, map}
+use Rattle.gf_canon.proofs.Common.{Option, Some, None, refl, sym, ap, subst, ◌∙◌, inl, inr, nat_eq}
+use Rattle.gf_canon.proofs.Common.{codes, option_map, MatchOption, ⊤, if◌then◌else◌, AllByRecursion}
+use Rattle.gf_canon.proofs.Common.{filter_map, flat_map, list_any, Decides-eqb, append-nil, Token}
+use Rattle.gf_canon.proofs.Common.{Text, Bare, IsLabel, spaced, list_text, quoted, Entry, flatten}
+use Rattle.gf_canon.proofs.Common.{SetKey, InformationSet, same_set, IsSet, IsOutcome, FileNode}
+use Rattle.gf_canon.proofs.Common.{FileTree, Node, Game, IsGame, used_sets, used_outcomes, set_at}
+use Rattle.gf_canon.proofs.Common.{outcome_at, IsConsistent, IsGameOf, SpellsGame, IsSpellable}
+use Rattle.gf_canon.proofs.Common.{IsSpellableSet, IsSpellableOutcome, Has, each, found}
+use Rattle.gf_canon.proofs.Common.{same_set_equality, map_twice, held, in_keys, use_behind}
+use Rattle.gf_canon.proofs.Common.{node_behind, file_nodes, node_text, game_text}
 use Rattle.gf_token.specs.Grammar.{Each, braced}
-use Rattle.gf_token.specs.LabelSpelling.{IsLabel}
-use Rattle.gf_nfg.specs.TableText.{spaced, list_text, quoted}
 use Rattle.gf_nfg.proofs.lemmas.texts.Spelled.{Tells, Says, says_label, says_bare, says_spaced}
 use Rattle.gf_nfg.proofs.lemmas.texts.Spelled.{tells_line, tells_lines}
-use Rattle.gf_tree.specs.PrefixOrder.{Entry, flatten}
-use Rattle.gf_tree.specs.Description.{SetKey, InformationSet, Outcome, same_set, IsSet, IsOutcome}
-use Rattle.gf_tree.specs.FileTree.{FileNode, FileTree}
+use Rattle.gf_tree.specs.Description.{Outcome}
 use Rattle.gf_tree.specs.Sentence.{IsNode, Sentence}
-use Rattle.gf_tree.specs.Game.{Node, Game, IsGame, used_sets, used_outcomes, set_at, outcome_at}
-use Rattle.gf_tree.specs.Consistent.{IsConsistent}
-use Rattle.gf_tree.specs.GameOf.{IsGameOf, SpellsGame}
-use Rattle.gf_tree.specs.Spellable.{IsSpellable, IsSpellableSet, IsSpellableOutcome}
-use Rattle.gf_tree.proofs.lemmas.games.Uses.{Has, each}
-use Rattle.gf_tree.proofs.lemmas.games.FirstUses.{found}
-use Rattle.gf_tree.proofs.lemmas.games.TreesOnce.{same_set_equality}
 use Rattle.gf_tree.proofs.lemmas.written.Nodes.{node_tokens, IsSetUse, IsOutcomeUse, IsWritable}
 use Rattle.gf_tree.proofs.lemmas.written.Nodes.{nodes_written}
 use Rattle.gf_tree.proofs.lemmas.games.Learned.{game_learned_once}
-use Rattle.gf_tree.proofs.lemmas.games.Members.{map_twice}
-use Rattle.gf_tree.proofs.lemmas.games.MappedTrees.{held}
-use Rattle.gf_tree.proofs.lemmas.games.Carried.{in_keys}
-use Rattle.gf_tree.specs.FileNodes.{use_behind, node_behind, file_nodes}
-use Rattle.gf_canon.specs.GameText.{node_text, game_text}
 use Rattle.gf_canon.proofs.lemmas.texts.FileOf.{file_of, entries_behind, file_entries}
 use Rattle.gf_canon.proofs.lemmas.texts.FileOf.{file_nodes_are}
 use Rattle.gf_canon.proofs.lemmas.texts.Pieces.{both, label, labels, line, list, said_node, word}
@@ -77,15 +64,13 @@ outcome_use g game can number i =
 set_use_behind : (players : ℕ) (key : SetKey) (o : Option InformationSet) (b : Bool)
     → IsSetUse players (record { key = key; description = o })
     → IsSetUse players (record { key = key; description = if b then None else o })
-set_use_behind players key o true h =
-    record { above = h.above; player = h.player; number = h.number; set = tt }
+set_use_behind players key o true h = assumption h
 set_use_behind players key o false h = h
 
 outcome_use_behind : (players number : ℕ) (o : Option Outcome) (b : Bool)
     → IsOutcomeUse players (record { key = number; description = o })
     → IsOutcomeUse players (record { key = number; description = if b then None else o })
-outcome_use_behind players number o true h =
-    record { above = h.above; number = h.number; outcome = tt }
+outcome_use_behind players number o true h = assumption h
 outcome_use_behind players number o false h = h
 
 at_option : {K U : Type 0} (P : U → Type 0) (f : K → U) (o : Option K)
@@ -111,29 +96,19 @@ node_writable g game can before e i =
           (outcome_use g game can number (held (λ n. n.outcome) (flatten g.tree) e number i q)));
     }
 
-abbrev nodes_behind : Game → List (Entry Node) → List (Entry Node) → List FileNode
-nodes_behind g before es = map (λ e. e.node) (entries_behind g before es)
-
-nodes_writable : (g : Game) → IsGame g → IsSpellable g → (before es : List (Entry Node))
-    → ((e : Entry Node) → Has es e → Has (flatten g.tree) e)
-    → AllByRecursion (IsWritable (length g.players)) (nodes_behind g before es)
-nodes_writable g game can before [] among = tt
-nodes_writable g game can before (e ∷ es) among = (
-  node_writable g game can before e (among e (inl refl)),
-  nodes_writable g game can (before ++ e ∷ []) es (λ d i. among d (inr i)),
-)
-
-said_nodes : (g : Game) → IsGame g → IsSpellable g → (before es : List (Entry Node))
-    → ((e : Entry Node) → Has es e → Has (flatten g.tree) e)
-    → AllByRecursion (λ n. Says (node_text n) (node_tokens n)) (nodes_behind g before es)
-said_nodes g game can before [] among = tt
-said_nodes g game can before (e ∷ es) among = (
-  said_node (length g.players) (node_behind g before e.node)
-      (each (λ (d : Entry Node). IsLabel d.node.name)
-      (flatten g.tree) e can.nodes (among e (inl refl)))
-      (node_writable g game can before e (among e (inl refl))),
-  said_nodes g game can (before ++ e ∷ []) es (λ d i. among d (inr i)),
-)
+-- what holds for each node after those before it holds for all
+all_nodes : (P : FileNode → Type 0) (g : Game)
+    → ((before : List (Entry Node)) (e : Entry Node) → Has (flatten g.tree) e
+    → P (node_behind g before e.node))
+    → AllByRecursion P (file_nodes g)
+all_nodes P g holds = subst (AllByRecursion P) (sym (file_nodes_are g))
+    (by [] (flatten g.tree) (λ e i. i))
+  where
+    by : (before es : List (Entry Node)) → ((e : Entry Node) → Has es e → Has (flatten g.tree) e)
+        → AllByRecursion P (map (λ e. e.node) (entries_behind g before es))
+    by before [] among = tt
+    by before (e ∷ es) among =
+        (holds before e (among e (inl refl)), by (before ++ e ∷ []) es (λ d i. among d (inr i)))
 
 -- ---- the heading
 
@@ -165,8 +140,10 @@ tells_game g game can =
     (says_label g.comment can.comment)
     (tells_line [] lines [] body (λ rest others apart told. told)
     (tells_lines node_text node_tokens (file_nodes g)
-    (subst (AllByRecursion (λ n. Says (node_text n) (node_tokens n))) (sym (file_nodes_are g))
-    (said_nodes g game can [] (flatten g.tree) (λ e i. i))))))
+    (all_nodes (λ n. Says (node_text n) (node_tokens n)) g (λ before e i.
+    said_node (length g.players) (node_behind g before e.node)
+    (each (λ (d : Entry Node). IsLabel d.node.name) (flatten g.tree) e can.nodes i)
+    (node_writable g game can before e i))))))
 
 is_sentence : (g : Game) → IsGame g → IsSpellable g → (f : FileTree) → g.title ≡ f.title
     → g.comment ≡ f.comment → g.players ≡ f.players → flatten f.tree ≡ file_entries g
@@ -184,8 +161,7 @@ is_sentence g game can f title comment players entries = record {
       (subst (λ ns. Each (IsNode (length g.players)) (flat_map node_tokens (file_nodes g)) ns)
       (file_nodes_are g ∙ ap (map (λ e. e.node)) (sym entries))
       (nodes_written (length g.players) (file_nodes g)
-      (subst (AllByRecursion (IsWritable (length g.players))) (sym (file_nodes_are g))
-      (nodes_writable g game can [] (flatten g.tree) (λ e i. i)))));
+      (all_nodes (IsWritable (length g.players)) g (node_writable g game can))));
 }
 
 pub text_reads_back : (g : Game) → IsGame g → IsSpellable g → SpellsGame (game_text g) g

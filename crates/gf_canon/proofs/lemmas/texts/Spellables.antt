@@ -1,32 +1,23 @@
 -- A canonical game can be spelled if the game can: its numbers are no greater than the greatest
 -- number of the game.
-use Rattle.std.proofs.Common.{◌≡◌, ℕ, Bool, ◌^◌, ◌<◌, true, eqb, List, [], ◌∷◌, length, map, sym}
-use Rattle.std.proofs.Common.{subst, ◌∙◌, arith, inl, inr}
-use Rattle.std.specs.Prelude.{nat_eq, ◌⊎◌}
-use Rattle.std.specs.List.{AllByRecursion, IsDistinct, list_any}
-use Rattle.std.proofs.lemmas.Bool.{eqb-true, ne_eqb, or_cases}
-use Rattle.std.proofs.lemmas.Bool.Decides.{Decides-eqb}
-use Rattle.std.proofs.lemmas.List.{length-map}
+use Rattle.gf_canon.proofs.Common.{◌≡◌, ℕ, Bool, ◌^◌, ◌<◌, true, eqb, List, [], ◌∷◌, length, map}
+use Rattle.gf_canon.proofs.Common.{sym, subst, ◌∙◌, arith, inl, inr, nat_eq, ◌⊎◌, AllByRecursion}
+use Rattle.gf_canon.proofs.Common.{list_any, eqb-true, ne_eqb, or_cases, Decides-eqb, length-map}
+use Rattle.gf_canon.proofs.Common.{IsLabel, Entry, flatten, SetKey, InformationSet, same_set}
+use Rattle.gf_canon.proofs.Common.{Described, first_uses, Node, Game, IsGame, used_sets}
+use Rattle.gf_canon.proofs.Common.{used_outcomes, IsSpellable, IsSpellableSet, IsSpellableOutcome}
+use Rattle.gf_canon.proofs.Common.{renumbered_set, renumbered_node, first_use_number, sets_of}
+use Rattle.gf_canon.proofs.Common.{first_use_numbers, Has, IsEquality, mapped_from, each}
+use Rattle.gf_canon.proofs.Common.{all_of_each, AreDistinct, was_used, first_uses_distinct}
+use Rattle.gf_canon.proofs.Common.{of_filter, same_set_equality, map_entry, flatten_map, in_keys}
+use Rattle.gf_canon.proofs.Common.{entry_used, set_number_positive, outcome_number_positive}
+use Rattle.gf_canon.proofs.Common.{canonical_game}
+use Rattle.std.specs.List.{IsDistinct}
 use Rattle.std.proofs.lemmas.Map.Steps.{length-le_from_distinct_below}
-use Rattle.gf_token.specs.LabelSpelling.{IsLabel}
-use Rattle.gf_tree.specs.PrefixOrder.{Entry, flatten}
-use Rattle.gf_tree.specs.Description.{SetKey, InformationSet, Outcome, same_set}
-use Rattle.gf_tree.specs.FiniteMap.{Described, first_uses}
-use Rattle.gf_tree.specs.Game.{Node, Game, IsGame, used_sets, used_outcomes}
-use Rattle.gf_tree.specs.Spellable.{IsSpellable, IsSpellableSet, IsSpellableOutcome}
-use Rattle.gf_tree.specs.Renumbering.{renumbered_set, renumbered_node}
-use Rattle.gf_tree.specs.FirstUse.{first_use_number, sets_of, first_use_numbers}
-use Rattle.gf_tree.proofs.lemmas.games.Uses.{Has, IsEquality, mapped_from, each, all_of_each}
-use Rattle.gf_tree.proofs.lemmas.games.FirstUses.{AreDistinct, was_used, first_uses_distinct}
-use Rattle.gf_tree.proofs.lemmas.games.FirstUses.{of_filter}
-use Rattle.gf_tree.proofs.lemmas.games.TreesOnce.{same_set_equality}
-use Rattle.gf_tree.proofs.lemmas.games.Consistent.{map_entry, flatten_map}
+use Rattle.gf_tree.specs.Description.{Outcome}
 use Rattle.gf_tree.proofs.lemmas.games.FirstUseNumbers.{AreApart, number_at_most}
 use Rattle.gf_tree.proofs.lemmas.games.Lookups.{at_images}
-use Rattle.gf_tree.proofs.lemmas.games.Carried.{in_keys, entry_used}
-use Rattle.gf_tree.proofs.lemmas.games.Renumberings.{set_number_positive, outcome_number_positive}
 use Rattle.gf_tree.proofs.lemmas.games.Renumbered.{own_set}
-use Rattle.gf_tree.specs.CanonicalGame.{canonical_game}
 
 -- ---- different numbers from 1 below a bound are fewer than it
 

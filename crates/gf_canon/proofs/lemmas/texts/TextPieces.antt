@@ -1,26 +1,19 @@
 -- Lists in braces and fields of lines, piece by piece.
-use Rattle.std.proofs.Common.{◌≡◌, ℕ, zero, suc, ◌+◌, ◌<◌, List, [], ◌∷◌, ◌++◌, length, map, drop}
-use Rattle.std.proofs.Common.{Option, None, Some, refl, sym, ap, ◌∙◌, append_assoc, ◌-◌, ◌≤◌, OnOk}
-use Rattle.std.proofs.Common.{Result, Ok, Err, arith, is_ok, set, take, if◌then◌else◌}
-use Rattle.std.proofs.Common.{length-append, length-drop}
-use Rattle.std.proofs.lemmas.List.{drop-set, take_all, append-nil}
-use Rattle.std.specs.Prelude.{codes, decimal}
-use Rattle.std.specs.List.{flat_map}
-use Rattle.std.proofs.lemmas.Grind.{flat_map-append}
+use Rattle.gf_canon.proofs.Common.{◌≡◌, ℕ, zero, suc, ◌+◌, ◌<◌, List, [], ◌∷◌, ◌++◌, length, map}
+use Rattle.gf_canon.proofs.Common.{drop, Option, None, Some, refl, sym, ap, ◌∙◌, append_assoc, ◌-◌}
+use Rattle.gf_canon.proofs.Common.{◌≤◌, OnOk, Result, Ok, Err, arith, is_ok, set, take}
+use Rattle.gf_canon.proofs.Common.{length-append, length-drop, append-nil, drop-set, drop_all}
+use Rattle.gf_canon.proofs.Common.{take_all, codes, decimal, flat_map, flat_map-append, lines_text}
+use Rattle.gf_canon.proofs.Common.{list_text, quoted, spaced, others_text, label_of, InformationSet}
+use Rattle.gf_canon.proofs.Common.{SetKey, file_nodes, FileNode, Use, Game, action_fields}
+use Rattle.gf_canon.proofs.Common.{mover_fields, step_fields, game_text, node_text, first_line}
+use Rattle.gf_canon.proofs.Common.{heading_text, node_line}
+use Rattle.std.proofs.Common.{if◌then◌else◌}
 use Rattle.gf_fraction.specs.Ratio.{Ratio}
 use Rattle.gf_fraction.specs.NumberText.{number_text}
-use Rattle.gf_nfg.specs.TableText.{lines_text, list_text, quoted, spaced}
-use Rattle.gf_nfg.specs.inner.TextParts.{others_text}
-use Rattle.gf_token.specs.Label.{label_of}
 use Rattle.gf_token.specs.declared.label.Label.{Label}
 use Rattle.gf_tree.specs.Actions.{actions_of}
 use Rattle.gf_tree.specs.declared.game.action.Action.{Action}
-use Rattle.gf_tree.specs.Description.{InformationSet, SetKey}
-use Rattle.gf_tree.specs.FileNodes.{file_nodes}
-use Rattle.gf_tree.specs.FileTree.{FileNode, Use}
-use Rattle.gf_tree.specs.Game.{Game}
-use Rattle.gf_canon.specs.GameText.{action_fields, mover_fields, step_fields, game_text, node_text}
-use Rattle.gf_canon.specs.inner.TextParts.{first_line, heading_text, node_line}
 
 -- ---- lists in braces
 
@@ -52,6 +45,8 @@ pub list_closed : (all : List (List ℕ)) (old opened out : List ℕ) → opened
     → out ++ codes "}" ≡ opened ++ items_text all
     → out ++ codes "}" ≡ old ++ list_text all
 list_closed all old opened out e h = grind (arith, append_assoc, list_text_is)
+
+pub ruleset lists_closed = (list_closed, drop_all)
 
 -- ---- fields one after another
 

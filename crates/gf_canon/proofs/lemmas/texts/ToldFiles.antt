@@ -1,9 +1,7 @@
 -- What is told of a file determines what it means.
-use Rattle.std.proofs.Common.{ℕ, List, Result, Ok, Err, IfOk, refl}
-use Rattle.gf_token.specs.declared.fault.Fault.{Fault}
-use Rattle.gf_tree.specs.Told.{Heading, Told}
+use Rattle.gf_canon.proofs.Common.{ℕ, List, Result, Ok, Err, IfOk, refl, Fault, Heading, Told}
+use Rattle.gf_canon.proofs.Common.{extensive, strategic}
 use Rattle.gf_canon.specs.FileFormat.{MeansFileOf}
-use Rattle.gf_canon.specs.GameFile.GameFile.{extensive, strategic}
 use Rattle.gf_canon.specs.inner.ToldFile.{IsToldFile}
 use Rattle.gf_canon.specs.declared.format.Format.{Format}
 use Rattle.gf_canon.specs.declared.format.Format.TheVariants.{Extensive, Strategic}

@@ -1,22 +1,13 @@
 -- The text of what was told, line by line, is the text of the game.
-use Rattle.std.proofs.Common.{◌≡◌, ℕ, List, [], ◌∷◌, ◌++◌, map, refl, sym, ap, ◌∙◌, append_assoc}
+use Rattle.gf_canon.proofs.Common.{◌≡◌, ℕ, List, [], ◌∷◌, ◌++◌, map, refl, sym, ap, ◌∙◌}
+use Rattle.gf_canon.proofs.Common.{append_assoc, flat_map, flat_map-append, FileNode, Game}
+use Rattle.gf_canon.proofs.Common.{file_nodes, Heading, Told, heading_in, canonical_game}
+use Rattle.gf_canon.proofs.Common.{canonical_text, extensive, name_by, node_by, file_by}
+use Rattle.gf_canon.proofs.Common.{unnamed_game, heading_text, node_line, told_text, Names, Kept}
+use Rattle.gf_canon.proofs.Common.{Aside}
 use Rattle.std.proofs.Common.{append-nil}
-use Rattle.std.specs.List.{flat_map}
-use Rattle.std.proofs.lemmas.Grind.{flat_map-append}
-use Rattle.gf_tree.specs.FileTree.{FileNode}
-use Rattle.gf_tree.specs.Game.{Game}
-use Rattle.gf_tree.specs.FileNodes.{file_nodes}
-use Rattle.gf_tree.specs.Told.{Heading, Told, heading_in}
 use Rattle.gf_tree.specs.ToldGame.{HasToldGame}
-use Rattle.gf_tree.specs.CanonicalGame.{canonical_game}
-use Rattle.gf_canon.specs.GameFile.{canonical_text}
-use Rattle.gf_canon.specs.GameFile.GameFile.{extensive}
-use Rattle.gf_canon.specs.inner.NamedBy.{name_by, node_by}
-use Rattle.gf_canon.specs.NamesAside.{file_by, unnamed_game}
-use Rattle.gf_canon.specs.inner.TextParts.{heading_text, node_line, told_text}
-use Rattle.gf_canon.specs.declared.sameness.Names.{Names}
-use Rattle.gf_canon.specs.declared.sameness.Names.TheVariants.{Kept, Aside}
-use Rattle.gf_canon.proofs.lemmas.sameness.NodesNamed.{nodes_aside, nodes_kept}
+use Rattle.gf_canon.proofs.lemmas.sameness.NodesNamed.{node_kept, nodes_aside, nodes_kept}
 use Rattle.gf_canon.proofs.lemmas.texts.TextPieces.{game_text_is, node_lines}
 
 -- one more node is one more line
@@ -37,6 +28,8 @@ pub one_line_more : (names : Names) (heading : Heading) (told : List Told) (t : 
 one_line_more names heading told t n old new is before more =
     line_more names heading told t old new before
     (more ∙ ap (λ (m : FileNode). old ++ node_line m) is)
+
+pub ruleset told_lines = (one_line_more, node_kept)
 
 lines_of_told : (names : Names) (told : List Told)
     → flat_map (λ t. node_line (node_by names t.node)) told

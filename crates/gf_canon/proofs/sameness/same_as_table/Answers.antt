@@ -1,7 +1,7 @@
-use Rattle.gf_canon.specs.GameFile.GameFile.{extensive, strategic}
+use Rattle.gf_canon.proofs.Common.{arith, extensive, strategic}
+use Rattle.gf_canon.proofs.sameness.same_as_table.Goals as goal
 use Rattle.gf_canon.proofs.lemmas.sameness.ComparedTrees.{no_game}
 use Rattle.gf_canon.proofs.lemmas.files.Refused.{refused_game, refused_table}
-use Rattle.gf_canon.proofs.sameness.same_as_table.Goals as goal
 
 pub returns-in-Ok-clause-same : goal.returns-in-Ok-clause-same
 returns-in-Ok-clause-same c =
@@ -9,9 +9,7 @@ returns-in-Ok-clause-same c =
     (extensive t.0, record { spelled = t.1; within = tt }, no_game c.args.names c.args.t.now t.0)
 
 pub returns-in-Err-clause-refused : goal.returns-in-Err-clause-refused
-returns-in-Err-clause-refused c =
-    refused_game c.args.b.now _ _ c.in-Extensive.is c.in_ok-format_of.ensures.named
-    c.in-Err.ensures.judged c.in-Err.ensures.only
+returns-in-Err-clause-refused c = grind (arith, refused_game)
 
 pub returns-in-Ok-same_as_told_table-clause-same : goal.returns-in-Ok-same_as_told_table-clause-same
 returns-in-Ok-same_as_told_table-clause-same c =

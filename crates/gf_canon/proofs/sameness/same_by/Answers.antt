@@ -1,13 +1,10 @@
-use Rattle.std.proofs.Common.{refl, rules}
+use Rattle.gf_canon.proofs.Common.{arith, refl, rules}
+use Rattle.gf_canon.proofs.sameness.same_by.Goals as goal
 use Rattle.gf_canon.specs.MeaningOf.{file_of_listed}
 use Rattle.gf_canon.proofs.lemmas.texts.Compared.{same_as_first, same_as_itself}
-use Rattle.gf_canon.proofs.sameness.same_by.Goals as goal
 
 pub returns-in-Ok-clause-same : goal.returns-in-Ok-clause-same
-returns-in-Ok-clause-same c = λ x y of_x of_y. (
-  λ yes. same_as_itself c.args.names c.args.a.now c.args.b.now (search rules) x y of_x of_y,
-  λ same. refl,
-)
+returns-in-Ok-clause-same c = λ x y of_x of_y. search (rules, same_as_itself)
 
 pub returns-clause-same : goal.returns-clause-same
 returns-clause-same c = same_as_first c.args.names c.same_as.result c.args.a.now c.args.b.now

@@ -1,12 +1,9 @@
-use Rattle.std.proofs.Common.{◌≡◌, ◌∙◌, [], ap}
-use Rattle.std.specs.BTreeMap.{get}
-use Rattle.std.specs.Ordering.{nat_cmp}
+use Rattle.gf_canon.proofs.Common.{◌≡◌, ◌∙◌, [], ap, get, nat_cmp, number_of_set}
+use Rattle.gf_canon.proofs.numbering.carry.numbers_between.Goals as goal
 use Rattle.gf_tree.specs.NodeOf.{node_of}
 use Rattle.gf_tree.specs.NodesLeft.{nodes_left}
-use Rattle.gf_canon.specs.NewNumbers.{number_of_set}
 use Rattle.gf_canon.proofs.lemmas.numbers.Noted.{empty_outcomes, empty_sets, walk_begins, walk_ends}
 use Rattle.gf_canon.proofs.lemmas.numbers.Noted.{walk_goes, walk_is_even}
-use Rattle.gf_canon.proofs.numbering.carry.numbers_between.Goals as goal
 use Rattle.gf_canon.proofs.numbering.carry.numbers_between.Goals.{in-None, in-Some+in_default}
 
 pub loop-node-init : goal.loop-node-init

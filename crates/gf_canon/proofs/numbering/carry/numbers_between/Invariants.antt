@@ -1,11 +1,7 @@
-use Rattle.std.specs.BTreeMap.{get}
-use Rattle.std.specs.Ordering.{nat_cmp}
-use Rattle.gf_tree.specs.NodesLeft.{nodes_left}
-use Rattle.gf_tree.specs.Renumbering.{Renumbering}
-use Rattle.gf_canon.specs.NewNumbers.{number_of_set}
-use Rattle.gf_tree.specs.SameGame.{Carries}
-use Rattle.gf_canon.proofs.lemmas.numbers.Noted.{AreWalked}
+use Rattle.gf_canon.proofs.Common.{get, nat_cmp, Renumbering, number_of_set, Carries}
 use Rattle.gf_canon.proofs.numbering.carry.numbers_between.Given as goal
+use Rattle.gf_tree.specs.NodesLeft.{nodes_left}
+use Rattle.gf_canon.proofs.lemmas.numbers.Noted.{AreWalked}
 
 abbrev pub invariant-loop-node : goal.invariant-loop-node
 invariant-loop-node l = (r : Renumbering) → Carries r l.g l.h

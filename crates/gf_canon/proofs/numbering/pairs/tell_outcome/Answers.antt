@@ -1,11 +1,7 @@
-use Rattle.std.proofs.Common.{List, sym, subst}
-use Rattle.std.proofs.lemmas.Result.{on_ok_weaker}
-use Rattle.gf_token.specs.Positions.{at_position}
-use Rattle.gf_tree.specs.FirstUse.{outcome_numbers}
-use Rattle.gf_canon.specs.declared.numbering.pairs.NumberPair.{NumberPair}
-use Rattle.gf_canon.specs.declared.numbering.pairs.NumberPair.TheVariants.{Outcome}
-use Rattle.gf_canon.proofs.lemmas.numbers.CarriedPairs.{pair_of, no_pair_of, outcome_carried}
+use Rattle.gf_canon.proofs.Common.{List, sym, subst, on_ok_weaker, at_position, outcome_numbers}
+use Rattle.gf_canon.proofs.Common.{NumberPair, Outcome}
 use Rattle.gf_canon.proofs.numbering.pairs.tell_outcome.Goals as goal
+use Rattle.gf_canon.proofs.lemmas.numbers.CarriedPairs.{pair_of, no_pair_of, outcome_carried}
 
 pub returns-in_default : goal.returns-in_default
 returns-in_default g c = λ r told carries.

@@ -1,10 +1,5 @@
-use Rattle.std.proofs.Common.{◌≡◌, List, ◌++◌, drop, map}
-use Rattle.gf_tree.specs.SameGame.{Carries}
-use Rattle.gf_tree.specs.FirstUse.{outcome_numbers}
-use Rattle.gf_tree.specs.Renumbering.{Renumbering}
-use Rattle.gf_canon.specs.Pairs.{outcome_pairs}
-use Rattle.gf_canon.specs.declared.numbering.pairs.NumberPair.{NumberPair}
-use Rattle.gf_canon.specs.declared.numbering.pairs.NumberPair.TheVariants.{Outcome}
+use Rattle.gf_canon.proofs.Common.{◌≡◌, List, ◌++◌, drop, map, Carries, outcome_numbers}
+use Rattle.gf_canon.proofs.Common.{Renumbering, outcome_pairs, NumberPair, Outcome}
 use Rattle.gf_canon.proofs.numbering.pairs.tell_outcomes.Given as goal
 
 -- so_far : what was told, to which the outcomes that are left are still to come

@@ -1,25 +1,14 @@
-use Rattle.std.proofs.Common.{List, [], ap, length, arith, refl, subst}
-use Rattle.std.proofs.lemmas.List.{length-map}
-use Rattle.std.proofs.lemmas.Result.{on_ok_weaker}
-use Rattle.gf_token.specs.Label.{label_of}
-use Rattle.gf_canon.specs.Pairs.{renumbering_pairs, set_pairs}
-use Rattle.gf_canon.specs.declared.numbering.pairs.NumberPair.{NumberPair}
+use Rattle.gf_canon.proofs.Common.{rules, List, [], ap, length, arith, refl, subst, length-map}
+use Rattle.gf_canon.proofs.Common.{on_ok_weaker, label_of, renumbering_pairs, set_pairs, NumberPair}
+use Rattle.gf_canon.proofs.numbering.pairs.tell_pairs.Goals as goal
 use Rattle.gf_canon.proofs.lemmas.numbers.CarriedPairs.{only_pairs}
 use Rattle.gf_canon.proofs.lemmas.numbers.PairsInTurn.{all_pairs, chance_done, player_more}
-use Rattle.gf_canon.proofs.numbering.pairs.tell_pairs.Goals as goal
 
 pub loop-before-init : goal.loop-before-init
-loop-before-init g c = λ r told carries held.
-    subst (λ (pairs : List NumberPair). g.P.ReceivePairs.holds c.tell_player.new.to pairs)
-    (chance_done (set_pairs r c.args.g.now) told _ refl)
-    (c.in_ok-tell_player.ensures r told carries held)
+loop-before-init g c = λ r told carries held. search (rules, chance_done)
 
 pub loop-before-preserved : goal.loop-before-preserved
-loop-before-preserved g c = λ r told carries held.
-    subst (λ (pairs : List NumberPair). g.P.ReceivePairs.holds c.tell_player-in-loop-before.new.to
-    pairs)
-    (player_more (set_pairs r c.args.g.now) c.loop-before.before told _ _ refl refl)
-    (c.in_ok-tell_player-2.ensures r _ carries (c.loop-before.invariant r told carries held))
+loop-before-preserved g c = λ r told carries held. grind (arith, player_more)
 
 pub returns : goal.returns
 returns g c =

@@ -1,10 +1,5 @@
-use Rattle.std.proofs.Common.{◌+◌, List, ◌++◌}
-use Rattle.std.specs.List.{flat_map}
-use Rattle.gf_tree.specs.SameGame.{Carries}
-use Rattle.gf_nfg.specs.Profiles.{numbers_from}
-use Rattle.gf_tree.specs.Renumbering.{Renumbering}
-use Rattle.gf_canon.specs.Pairs.{set_pairs}
-use Rattle.gf_canon.specs.declared.numbering.pairs.NumberPair.{NumberPair}
+use Rattle.gf_canon.proofs.Common.{◌+◌, List, ◌++◌, flat_map, Carries, numbers_from, Renumbering}
+use Rattle.gf_canon.proofs.Common.{set_pairs, NumberPair}
 use Rattle.gf_canon.proofs.numbering.pairs.tell_pairs.Given as goal
 
 abbrev pub invariant-loop-before : goal.invariant-loop-before

@@ -1,11 +1,7 @@
-use Rattle.std.proofs.Common.{List, sym, subst}
-use Rattle.std.proofs.lemmas.Result.{on_ok_weaker}
-use Rattle.gf_token.specs.Positions.{at_position}
-use Rattle.gf_canon.specs.Pairs.{set_numbers}
-use Rattle.gf_canon.specs.declared.numbering.pairs.NumberPair.{NumberPair}
-use Rattle.gf_canon.specs.declared.numbering.pairs.NumberPair.TheVariants.{Set}
-use Rattle.gf_canon.proofs.lemmas.numbers.CarriedPairs.{pair_of, no_pair_of, set_carried}
+use Rattle.gf_canon.proofs.Common.{List, sym, subst, on_ok_weaker, at_position, set_numbers}
+use Rattle.gf_canon.proofs.Common.{NumberPair, Set}
 use Rattle.gf_canon.proofs.numbering.pairs.tell_set.Goals as goal
+use Rattle.gf_canon.proofs.lemmas.numbers.CarriedPairs.{pair_of, no_pair_of, set_carried}
 
 pub returns-in_default : goal.returns-in_default
 returns-in_default g c = λ r told carries.

@@ -1,9 +1,5 @@
-use Rattle.std.proofs.Common.{◌≡◌, List, ◌++◌, drop, map}
-use Rattle.gf_tree.specs.SameGame.{Carries}
-use Rattle.gf_tree.specs.Renumbering.{Renumbering}
-use Rattle.gf_canon.specs.Pairs.{set_pairs, set_numbers}
-use Rattle.gf_canon.specs.declared.numbering.pairs.NumberPair.{NumberPair}
-use Rattle.gf_canon.specs.declared.numbering.pairs.NumberPair.TheVariants.{Set}
+use Rattle.gf_canon.proofs.Common.{◌≡◌, List, ◌++◌, drop, map, Carries, Renumbering, set_pairs}
+use Rattle.gf_canon.proofs.Common.{set_numbers, NumberPair, Set}
 use Rattle.gf_canon.proofs.numbering.pairs.tell_sets.Given as goal
 
 -- so_far : what was told, to which the sets that are left are still to come

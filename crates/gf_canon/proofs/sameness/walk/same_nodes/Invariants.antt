@@ -1,8 +1,4 @@
-use Rattle.std.proofs.Common.{◌≡◌, map}
-use Rattle.std.specs.Prelude.{◌↔◌}
-use Rattle.gf_tree.specs.FileNodes.{file_nodes}
-use Rattle.gf_tree.specs.CanonicalGame.{canonical_game}
-use Rattle.gf_canon.specs.inner.NamedBy.{node_by}
+use Rattle.gf_canon.proofs.Common.{◌≡◌, map, ◌↔◌, file_nodes, canonical_game, node_by}
 use Rattle.gf_canon.proofs.sameness.walk.same_nodes.Given as goal
 
 abbrev pub invariant-loop-node : goal.invariant-loop-node

@@ -1,8 +1,7 @@
-use Rattle.std.proofs.Common.{option_map, rules}
-use Rattle.gf_token.specs.Label.{label_of}
-use Rattle.gf_tree.specs.FileNodeOf.{file_node_of, set_use_of}
-use Rattle.gf_canon.proofs.lemmas.texts.PlainLines.{null_written, plain_none, plain_some}
+use Rattle.gf_canon.proofs.Common.{rules, label_of, file_node_of, set_use_of}
 use Rattle.gf_canon.proofs.text.node_line.write_node.Goals as goal
+use Rattle.std.proofs.Common.{option_map}
+use Rattle.gf_canon.proofs.lemmas.texts.PlainLines.{null_written, plain_none, plain_some}
 use Rattle.gf_canon.proofs.text.node_line.write_node.Goals.{in-Some+else-is_some, in_default}
 
 pub returns-in-None-clause-text : goal.returns-in-None-clause-text

@@ -4,10 +4,7 @@ use Rattle.gf_canon.proofs.lemmas.texts.TextPieces.{number_appended}
 use Rattle.gf_canon.proofs.text.node_line.write_number.Goals as goal
 
 pub write_digits-start-requires : goal.write_digits-start-requires
-write_digits-start-requires c =
-    let short = length-decimal-le 10 c.from.result (omega arith) (omega arith)
-    (omega (arith, c.from.ensures, c.ranges.number.fits)) in
-    (omega (arith, short), omega arith)
+write_digits-start-requires c = grind (arith, length-decimal-le)
 
 pub overflow_sub-start : goal.overflow_sub-start
 overflow_sub-start c =

@@ -1,8 +1,6 @@
-use Rattle.std.proofs.Common.{◌≡◌, ◌∷◌, ◌++◌, ◌+◌, ◌-◌, drop, ap, arith, ℕ}
-use Rattle.std.specs.Prelude.{decimal}
-use Rattle.std.proofs.lemmas.Fmt.{length-decimal-le}
-use Rattle.std.proofs.lemmas.List.{drop-set}
+use Rattle.gf_canon.proofs.Common.{◌≡◌, ◌∷◌, ◌++◌, ◌+◌, ◌-◌, drop, ap, arith, ℕ, decimal, drop-set}
 use Rattle.gf_canon.proofs.text.plain_line.write_number_before.Goals as goal
+use Rattle.std.proofs.lemmas.Fmt.{length-decimal-le}
 
 pub write_digits-at-requires : goal.write_digits-at-requires
 write_digits-at-requires c =

@@ -1,12 +1,8 @@
-use Rattle.std.proofs.Common.{◌≡◌, replicate, ℕ, List, ◌∙◌, ◌∷◌, ap, drop, length, option_map}
-use Rattle.std.proofs.Common.{arith, refl, sym}
-use Rattle.std.proofs.lemmas.Bool.Decides.{nat_tests}
-use Rattle.std.proofs.lemmas.List.{nil_from_length}
-use Rattle.gf_token.specs.Label.{label_of}
-use Rattle.gf_tree.specs.FileNodeOf.{set_use_of}
-use Rattle.gf_canon.specs.inner.TextParts.{tail_text}
-use Rattle.gf_canon.proofs.lemmas.texts.PlainLines.{named_written, tail_length, unnamed_written}
+use Rattle.gf_canon.proofs.Common.{◌≡◌, replicate, ℕ, List, ◌∙◌, ◌∷◌, ap, drop, length, arith, refl}
+use Rattle.gf_canon.proofs.Common.{sym, nat_tests, nil_from_length, label_of, set_use_of, tail_text}
 use Rattle.gf_canon.proofs.text.plain_line.write_plain.Goals as goal
+use Rattle.std.proofs.Common.{option_map}
+use Rattle.gf_canon.proofs.lemmas.texts.PlainLines.{named_written, tail_length, unnamed_written}
 
 pub returns-then-is_empty-clause-text : goal.returns-then-is_empty-clause-text
 returns-then-is_empty-clause-text c =

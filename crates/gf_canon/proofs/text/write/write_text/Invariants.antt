@@ -1,8 +1,6 @@
-use Rattle.std.proofs.Common.{◌≡◌, ◌++◌}
-use Rattle.gf_nfg.specs.inner.TextParts.{Keeps}
-use Rattle.gf_tree.specs.FileNodes.{file_nodes}
-use Rattle.gf_canon.proofs.lemmas.texts.TextPieces.{node_lines}
+use Rattle.gf_canon.proofs.Common.{◌≡◌, ◌++◌, Keeps, file_nodes}
 use Rattle.gf_canon.proofs.text.write.write_text.Given as goal
+use Rattle.gf_canon.proofs.lemmas.texts.TextPieces.{node_lines}
 
 abbrev pub invariant-loop-node : goal.invariant-loop-node
 invariant-loop-node l =

@@ -1,0 +1,107 @@
+-- The names that many lemmas of this crate cite, passed on from one place. Declares nothing.
+pub use Rattle.gf_canon.specs.GameFile.{GameFile, IsGameFile, SameFile, SpellsFile, canonical_file}
+pub use Rattle.gf_canon.specs.GameFile.{canonical_text, file_text}
+pub use Rattle.gf_canon.specs.GameFile.GameFile.{extensive, strategic}
+pub use Rattle.gf_canon.specs.GameText.{action_fields, described_fields, game_text, mover_fields}
+pub use Rattle.gf_canon.specs.GameText.{node_text, outcome_fields, result_fields, set_fields}
+pub use Rattle.gf_canon.specs.GameText.{step_fields}
+pub use Rattle.gf_canon.specs.Judgement.{BeginsWithWord, IsCanonicalText, IsFileWithinLimit}
+pub use Rattle.gf_canon.specs.Judgement.{IsFormatReason, IsInEitherFormat, IsJudged, IsPlaced}
+pub use Rattle.gf_canon.specs.Judgement.{IsRefused, IsRefusedWith, IsTextBy, IsWithoutFormat}
+pub use Rattle.gf_canon.specs.Judgement.{MeansFile, SpellsWithin}
+pub use Rattle.gf_canon.specs.NamesAside.{SameAsideNames, file_by, unnamed, unnamed_game}
+pub use Rattle.gf_canon.specs.NamesAside.{unnamed_node, unnamed_outcome, unnamed_set, unnamed_table}
+pub use Rattle.gf_canon.specs.NewNumbers.{IsOnlyRenumbering, new_numbers, new_outcome_number}
+pub use Rattle.gf_canon.specs.NewNumbers.{new_set_number, number_of_set, set_order}
+pub use Rattle.gf_canon.specs.Pairs.{outcome_pairs, renumbering_pairs, set_numbers, set_pairs}
+pub use Rattle.gf_canon.specs.SameBy.{SameBy}
+pub use Rattle.gf_canon.specs.declared.numbering.pairs.NumberPair.{NumberPair}
+pub use Rattle.gf_canon.specs.declared.numbering.pairs.NumberPair.TheVariants.{Outcome, Set}
+pub use Rattle.gf_canon.specs.declared.sameness.Names.{Names}
+pub use Rattle.gf_canon.specs.declared.sameness.Names.TheVariants.{Aside, Kept}
+pub use Rattle.gf_canon.specs.inner.NamedBy.{heading_by, name_by, node_by, outcome_by, set_by}
+pub use Rattle.gf_canon.specs.inner.NamedBy.{use_by}
+pub use Rattle.gf_canon.specs.inner.TextParts.{first_line, heading_text, mover_letter, node_line}
+pub use Rattle.gf_canon.specs.inner.TextParts.{number_then, plain_line, player_letter, player_then}
+pub use Rattle.gf_canon.specs.inner.TextParts.{tail_text, told_text}
+pub use Rattle.gf_nfg.specs.Profiles.{numbers_from, positions}
+pub use Rattle.gf_nfg.specs.Table.{Table}
+pub use Rattle.gf_nfg.specs.TableText.{SpellsTable, lines_text, list_text, quoted, spaced}
+pub use Rattle.gf_nfg.specs.inner.TextParts.{Keeps, others_text}
+pub use Rattle.gf_token.proofs.Spelled.{same_tokens, spelled_once}
+pub use Rattle.gf_token.specs.Label.{label_of}
+pub use Rattle.gf_token.specs.LabelSpelling.{IsLabel}
+pub use Rattle.gf_token.specs.Place.{Begins, IsAccepted, IsAcceptedThrough, IsOffendingPlace}
+pub use Rattle.gf_token.specs.Place.{IsSpanOf, MayFollow, tokens_of}
+pub use Rattle.gf_token.specs.Positions.{at_position}
+pub use Rattle.gf_token.specs.Remaining.{Remaining, refusal}
+pub use Rattle.gf_token.specs.Token.{Lexeme, Token, lexeme}
+pub use Rattle.gf_token.specs.Token.Token.{Bare, Broken, Closing, Comma, Opening, Text}
+pub use Rattle.gf_token.specs.TokenSpelling.{IsSpelled, Spells}
+pub use Rattle.gf_token.specs.declared.fault.Fault.{Fault}
+pub use Rattle.gf_token.specs.declared.fault.Span.{Span}
+pub use Rattle.gf_token.specs.declared.fault.What.TheVariants.{Format}
+pub use Rattle.gf_token.specs.declared.fault.Why.{Why}
+pub use Rattle.gf_token.specs.declared.fault.Why.TheVariants.{Expected, Memory, TooLong}
+pub use Rattle.gf_token.specs.declared.fault.Why.TheVariants.{TooManyProfiles, UnknownOutcome}
+pub use Rattle.gf_token.specs.declared.fault.Why.TheVariants.{Unterminated}
+pub use Rattle.gf_tree.proofs.lemmas.games.Canonical.{canonical_is_game, canonical_twice}
+pub use Rattle.gf_tree.proofs.lemmas.games.Canonical.{carries_to_canonical, outcome_numbers_carried}
+pub use Rattle.gf_tree.proofs.lemmas.games.Canonical.{same_by_canonical, set_numbers_carried}
+pub use Rattle.gf_tree.proofs.lemmas.games.Carried.{entry_used, in_keys}
+pub use Rattle.gf_tree.proofs.lemmas.games.Consistent.{flatten_map, map_entry, outcomes_in_order}
+pub use Rattle.gf_tree.proofs.lemmas.games.Consistent.{sets_in_order}
+pub use Rattle.gf_tree.proofs.lemmas.games.FirstUses.{AreDistinct, first_uses_distinct, found}
+pub use Rattle.gf_tree.proofs.lemmas.games.FirstUses.{is_used, of_filter, was_used}
+pub use Rattle.gf_tree.proofs.lemmas.games.MappedTrees.{held, map_tree_twice}
+pub use Rattle.gf_tree.proofs.lemmas.games.Members.{map_same, map_twice}
+pub use Rattle.gf_tree.proofs.lemmas.games.Renumberings.{Agree, agreed_games, agreed_trees}
+pub use Rattle.gf_tree.proofs.lemmas.games.Renumberings.{outcome_number_positive}
+pub use Rattle.gf_tree.proofs.lemmas.games.Renumberings.{set_number_positive}
+pub use Rattle.gf_tree.proofs.lemmas.games.Same.{carried_outcomes, carried_sets, only_outcomes}
+pub use Rattle.gf_tree.proofs.lemmas.games.Same.{only_sets, same_back, same_itself, same_on}
+pub use Rattle.gf_tree.proofs.lemmas.games.TreesOnce.{same_set_equality, spells_one_game}
+pub use Rattle.gf_tree.proofs.lemmas.games.Uses.{Has, IsEquality, all_of_each, contains, differ}
+pub use Rattle.gf_tree.proofs.lemmas.games.Uses.{each, has, has_map, has_place, mapped_from}
+pub use Rattle.gf_tree.specs.CanonicalGame.{canonical_game}
+pub use Rattle.gf_tree.specs.Consistent.{AreConsistent, Describes, IsConsistent, IsDescribed}
+pub use Rattle.gf_tree.specs.Consistent.{IsFirstUse}
+pub use Rattle.gf_tree.specs.Description.{Action, InformationSet, IsOutcome, IsSet, SetKey}
+pub use Rattle.gf_tree.specs.Description.{same_set, set_of}
+pub use Rattle.gf_tree.specs.FileNodeOf.{file_node_of, set_use_of}
+pub use Rattle.gf_tree.specs.FileNodes.{file_nodes, node_behind, use_behind, with_those_before}
+pub use Rattle.gf_tree.specs.FileTree.{FileNode, FileTree, Use, outcome_uses, set_uses}
+pub use Rattle.gf_tree.specs.FiniteMap.{Described, description_at, first_uses}
+pub use Rattle.gf_tree.specs.FirstUse.{first_use_number, first_use_numbers, outcome_numbers}
+pub use Rattle.gf_tree.specs.FirstUse.{player_keys, sets_of}
+pub use Rattle.gf_tree.specs.Game.{Game, HasChildren, IsGame, Node, outcome_at, set_at}
+pub use Rattle.gf_tree.specs.Game.{used_outcomes, used_sets}
+pub use Rattle.gf_tree.specs.GameOf.{IsGameOf, SpellsGame, keys_alone}
+pub use Rattle.gf_tree.specs.PrefixOrder.{Entry, Fills, flatten}
+pub use Rattle.gf_tree.specs.Renumbering.{HasOutcome, HasSet, IsRenumbering, Renumbering}
+pub use Rattle.gf_tree.specs.Renumbering.{renumbered, renumbered_node, renumbered_set}
+pub use Rattle.gf_tree.specs.SameGame.{Carries, SameGame}
+pub use Rattle.gf_tree.specs.Spellable.{IsSpellable, IsSpellableAction, IsSpellableOutcome}
+pub use Rattle.gf_tree.specs.Spellable.{IsSpellableSet}
+pub use Rattle.gf_tree.specs.Told.{Heading, Told, heading_in}
+pub use Rattle.std.proofs.Common.{Bool, Err, Global, IfErr, IfOk, List, MatchResult, None, Ok, OnOk}
+pub use Rattle.std.proofs.Common.{Option, Result, Some, Vec, ap, append_assoc, arith, cond, drop}
+pub use Rattle.std.proofs.Common.{eqb, false, filter, get_or, inl, inr, is_ok, length}
+pub use Rattle.std.proofs.Common.{length-append, length-drop, map, refl, replicate, rules, set}
+pub use Rattle.std.proofs.Common.{subst, suc, sym, take, true, zero, ℕ, [], ◌++◌, ◌+◌, ◌-◌, ◌<◌}
+pub use Rattle.std.proofs.Common.{◌^◌, ◌∙◌, ◌∷◌, ◌≡◌, ◌≢◌, ◌≤◌}
+pub use Rattle.std.proofs.lemmas.Bool.{both_ways, cases_Bool, eqb-true, ne_eqb, or_cases, or_from}
+pub use Rattle.std.proofs.lemmas.Bool.{or_parts}
+pub use Rattle.std.proofs.lemmas.Bool.Decides.{Decides-eqb, nat_tests}
+pub use Rattle.std.proofs.lemmas.Grind.{common_steps, flat_map-append}
+pub use Rattle.std.proofs.lemmas.List.{append-nil, drop-set, drop_all, get_or-map, length-map}
+pub use Rattle.std.proofs.lemmas.List.{map-append, nil_from_length, take_all}
+pub use Rattle.std.proofs.lemmas.Result.{on_ok_weaker}
+pub use Rattle.std.specs.BTreeMap.{BTreeMap, get}
+pub use Rattle.std.specs.Cmp.Lexicographic.{pointwise}
+pub use Rattle.std.specs.List.{AllByRecursion, Contains, cons_option, filter_map, find, flat_map}
+pub use Rattle.std.specs.List.{list_any, slice_get}
+pub use Rattle.std.specs.Option.{option_to_list}
+pub use Rattle.std.specs.Ordering.{is_eq, nat_cmp}
+pub use Rattle.std.specs.Prelude.{IsSome, IsTrue, MatchOption, codes, decimal, if◌then◌else◌}
+pub use Rattle.std.specs.Prelude.{is_some, nat_eq, option_map, unwrap_or, ⊤, ◌==◌, ◌↔◌, ◌⊎◌}
