@@ -4,6 +4,7 @@ use Rattle.std.proofs.Common.{◌∷◌}
 use Rattle.std.proofs.Common.{◌++◌, length, map, get_or, set, filter, refl, sym, ap, subst, ◌∙◌}
 use Rattle.std.proofs.Common.{arith}
 use Rattle.std.proofs.Common.{inl, inr}
+use Rattle.std.proofs.lemmas.Bool.{both_ways}
 use Rattle.std.proofs.lemmas.Bool.Decides.{Decides-eqb}
 use Rattle.std.proofs.lemmas.List.{append-nil, get_or-map, length-map, map-append, map-set}
 use Rattle.std.proofs.lemmas.List.Elements.{filter-append}
@@ -19,9 +20,6 @@ use Rattle.gf_run.specs.Duplicates.{same_hash}
 
 pub same_hash_equality : IsEquality same_hash
 same_hash_equality a b = slice_eq-Decides Decides-eqb a b (same_hash a b) refl
-
-not_both : (b : Bool) → b ≡ true → b ≡ false → ⊥
-not_both b h k = let e : true ≡ false = sym h ∙ k in absurd cc
 
 map_same : {X Y : Type 0} (f g : X → Y) → ((x : X) → f x ≡ g x) → (xs : List X)
     → map f xs ≡ map g xs
@@ -44,7 +42,7 @@ module _ {K : Type 0} (same : K → K → Bool) (equality : IsEquality same) whe
   same_sym a k false e = by (same a k) refl
     where
       by : (b : Bool) → same a k ≡ b → same a k ≡ false
-      by true f = absurd (not_both (same k a) ((equality k a).1 (sym ((equality a k).0 f))) e)
+      by true f = absurd (both_ways (same k a) e ((equality k a).1 (sym ((equality a k).0 f))))
       by false f = f
 
   -- ---- first uses, with one more use
@@ -58,8 +56,8 @@ module _ {K : Type 0} (same : K → K → Bool) (equality : IsEquality same) whe
       by : (b : Bool) → same a x ≡ b → (c : Bool) → same k x ≡ c
           → list_any (same k) (filter (λ y. not (same a y)) xs) ≡ list_any (same k) xs
           → list_any (same k) (filter (λ y. not (same a y)) (x ∷ xs)) ≡ list_any (same k) (x ∷ xs)
-      by true e true f more = absurd (not_both (same k a)
-          ((equality k a).1 ((equality k x).0 f ∙ sym ((equality a x).0 e))) apart)
+      by true e true f more = absurd (both_ways (same k a) apart
+          ((equality k a).1 ((equality k x).0 f ∙ sym ((equality a x).0 e))))
       by true e false f more = rw (e, f) more
       by false e true f more = rw (e, f) refl
       by false e false f more = rw (e, f) more
@@ -91,19 +89,16 @@ module _ {K : Type 0} (same : K → K → Bool) (equality : IsEquality same) whe
   -- ---- the place of a key
 
   -- a key stands at its place, or at none
-  pub has_place : (k : K) (ks : List K)
-      → ((list_any (same k) ks ≡ true) × (position_or_len (same k) ks < length ks))
+  abbrev pub HasPlace : K → List K → Type 0
+  HasPlace k ks =
+      ((list_any (same k) ks ≡ true) × (position_or_len (same k) ks < length ks))
       ⊎ ((list_any (same k) ks ≡ false) × (position_or_len (same k) ks ≡ length ks))
+
+  pub has_place : (k : K) (ks : List K) → HasPlace k ks
   has_place k [] = inr (refl, refl)
   has_place k (a ∷ ks) = by (same k a) refl (has_place k ks)
     where
-      by : (b : Bool) → same k a ≡ b
-          → ((list_any (same k) ks ≡ true) × (position_or_len (same k) ks < length ks))
-          ⊎ ((list_any (same k) ks ≡ false) × (position_or_len (same k) ks ≡ length ks))
-          → ((list_any (same k) (a ∷ ks) ≡ true)
-          × (position_or_len (same k) (a ∷ ks) < length (a ∷ ks)))
-          ⊎ ((list_any (same k) (a ∷ ks) ≡ false)
-          × (position_or_len (same k) (a ∷ ks) ≡ length (a ∷ ks)))
+      by : (b : Bool) → same k a ≡ b → HasPlace k ks → HasPlace k (a ∷ ks)
       by true e h = inl (rw e refl, rw e (omega arith))
       by false e (inl h) = inl (rw e h.0, rw e (omega (arith, h.1)))
       by false e (inr h) = inr (rw e h.0, rw e (omega (arith, h.1)))
@@ -112,12 +107,12 @@ module _ {K : Type 0} (same : K → K → Bool) (equality : IsEquality same) whe
   none_has k [] e h = h
   none_has k (a ∷ ks) e (inl q) =
       let yes : same k a ≡ true = (equality k a).1 (sym q) in
-      not_both (list_any (same k) (a ∷ ks)) (rw yes refl) e
+      both_ways (list_any (same k) (a ∷ ks)) e (rw yes refl)
   none_has k (a ∷ ks) e (inr m) = by (same k a) refl e (λ none. none_has k ks none m)
     where
       by : (b : Bool) → same k a ≡ b → list_any (same k) (a ∷ ks) ≡ false
           → (list_any (same k) ks ≡ false → ⊥) → ⊥
-      by true f none more = not_both (list_any (same k) (a ∷ ks)) (rw f refl) none
+      by true f none more = both_ways (list_any (same k) (a ∷ ks)) none (rw f refl)
       by false f none more = more (rw f at none)
 
   module _ {N : Type 0} (v : K → List N) (n : N) where
@@ -231,10 +226,7 @@ module _ (files : List HashedFile) (kept : KeptNames) (is : IsKeptOf files kept)
   more_there within named =
       by (has_place same_hash same_hash_equality f.hash kept.hashes)
     where
-      by : ((list_any (same_hash f.hash) kept.hashes ≡ true)
-          × (position_or_len (same_hash f.hash) kept.hashes < length kept.hashes))
-          ⊎ ((list_any (same_hash f.hash) kept.hashes ≡ false)
-          × (position_or_len (same_hash f.hash) kept.hashes ≡ length kept.hashes))
+      by : HasPlace same_hash same_hash_equality f.hash kept.hashes
           → IsKeptOf (files ++ f ∷ []) new
       by (inr h) = absurd (omega (arith, within, as_many, placed, h.1))
       by (inl h) =
@@ -256,10 +248,7 @@ module _ (files : List HashedFile) (kept : KeptNames) (is : IsKeptOf files kept)
   more_new past named =
       by (has_place same_hash same_hash_equality f.hash kept.hashes)
     where
-      by : ((list_any (same_hash f.hash) kept.hashes ≡ true)
-          × (position_or_len (same_hash f.hash) kept.hashes < length kept.hashes))
-          ⊎ ((list_any (same_hash f.hash) kept.hashes ≡ false)
-          × (position_or_len (same_hash f.hash) kept.hashes ≡ length kept.hashes))
+      by : HasPlace same_hash same_hash_equality f.hash kept.hashes
           → IsKeptOf (files ++ f ∷ []) new
       by (inl h) = absurd (omega (arith, past, as_many, placed, h.1))
       by (inr h) =

@@ -11,33 +11,27 @@ use Rattle.std.specs.List.{flat_map}
 use Rattle.std.specs.Prelude.{◌⊎◌}
 use Rattle.gf_run.specs.Duplicates.{empty_line, groups_status, groups_text, has_two, name_lines}
 
--- groups of two or more begin with one that has a name, if there are any
-first_named : (groups : List (List (List ℕ))) → (filter has_two groups ≡ [])
-    ⊎ ((name : List ℕ) × (names : List (List ℕ)) × (rest : List (List (List ℕ)))
-    × (filter has_two groups ≡ (name ∷ names) ∷ rest))
+-- there are none, or the first of them begins with a name
+abbrev BeginNamed : List (List (List ℕ)) → Type 0
+BeginNamed groups = (groups ≡ []) ⊎ ((name : List ℕ) × (names : List (List ℕ))
+    × (rest : List (List (List ℕ))) × (groups ≡ (name ∷ names) ∷ rest))
+
+first_named : (groups : List (List (List ℕ))) → BeginNamed (filter has_two groups)
 first_named [] = inl refl
 first_named ([] ∷ groups) = first_named groups
 first_named ((name ∷ names) ∷ groups) = by (has_two (name ∷ names)) refl (first_named groups)
   where
-    by : (b : Bool) → has_two (name ∷ names) ≡ b
-        → ((filter has_two groups ≡ [])
-        ⊎ ((n : List ℕ) × (ns : List (List ℕ)) × (rest : List (List (List ℕ)))
-        × (filter has_two groups ≡ (n ∷ ns) ∷ rest)))
-        → (filter has_two ((name ∷ names) ∷ groups) ≡ [])
-        ⊎ ((n : List ℕ) × (ns : List (List ℕ)) × (rest : List (List (List ℕ)))
-        × (filter has_two ((name ∷ names) ∷ groups) ≡ (n ∷ ns) ∷ rest))
+    by : (b : Bool) → has_two (name ∷ names) ≡ b → BeginNamed (filter has_two groups)
+        → BeginNamed (filter has_two ((name ∷ names) ∷ groups))
     by true e more = inr (name, names, filter has_two groups, rw e refl)
-    by false e (inl h) = inl (rw e h)
-    by false e (inr h) = inr (h.0, h.1, h.2, rw e h.3)
+    by false e more = rw e more
 
 line_after : (name : List ℕ) (names : List (List ℕ)) (rest : List ℕ)
     → empty_line (name_lines (name ∷ names) ++ rest) ≡ codes "\n"
 line_after [] names rest = refl
 line_after (byte ∷ name) names rest = refl
 
-one_more : (groups : List (List (List ℕ))) (group : List (List ℕ))
-    → ((groups ≡ []) ⊎ ((name : List ℕ) × (names : List (List ℕ)) × (rest : List (List (List ℕ)))
-    × (groups ≡ (name ∷ names) ∷ rest)))
+one_more : (groups : List (List (List ℕ))) (group : List (List ℕ)) → BeginNamed groups
     → groups_text (groups ++ group ∷ [])
     ≡ groups_text groups ++ empty_line (groups_text groups) ++ name_lines group
 one_more groups group (inl none) = rw none (append-nil (name_lines group))
@@ -123,9 +117,7 @@ pub status_of_none : (groups : List (List (List ℕ))) (text : List ℕ)
     → 0 ≡ groups_status (filter has_two groups)
 status_of_none groups text is empty = by (first_named groups)
   where
-    by : ((filter has_two groups ≡ []) ⊎ ((name : List ℕ) × (names : List (List ℕ))
-        × (rest : List (List (List ℕ))) × (filter has_two groups ≡ (name ∷ names) ∷ rest)))
-        → 0 ≡ groups_status (filter has_two groups)
+    by : BeginNamed (filter has_two groups) → 0 ≡ groups_status (filter has_two groups)
     by (inl none) = sym (ap (λ (gs : List (List (List ℕ))). groups_status gs) none)
     by (inr some) = absurd (omega (
       arith,
@@ -140,9 +132,7 @@ pub status_of_some : (groups : List (List (List ℕ))) (text : List ℕ)
     → 1 ≡ groups_status (filter has_two groups)
 status_of_some groups text is some = by (first_named groups)
   where
-    by : ((filter has_two groups ≡ []) ⊎ ((name : List ℕ) × (names : List (List ℕ))
-        × (rest : List (List (List ℕ))) × (filter has_two groups ≡ (name ∷ names) ∷ rest)))
-        → 1 ≡ groups_status (filter has_two groups)
+    by : BeginNamed (filter has_two groups) → 1 ≡ groups_status (filter has_two groups)
     by (inl none) = absurd (omega (
       arith,
       some,

@@ -2,7 +2,6 @@ pub mod Errors
 pub mod FaultLines
 pub mod FewPlayers
 pub mod FormTexts
-pub mod FoundDuplicates
 pub mod Grouped
 pub mod GroupsText
 pub mod Hashed

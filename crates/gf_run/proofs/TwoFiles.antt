@@ -1,5 +1,5 @@
 -- The answer about two files that are compared.
-use Rattle.std.proofs.Common.{◌≡◌, ℕ, Bool, true, false, List, sym, subst}
+use Rattle.std.proofs.Common.{◌≡◌, ℕ, Bool, false, List, sym, subst}
 use Rattle.std.specs.Prelude.{◌↔◌, IsTrue}
 use Rattle.gf_canon.specs.GameFile.{GameFile}
 use Rattle.gf_canon.specs.Judgement.{MeansFile, SpellsWithin}
@@ -22,9 +22,3 @@ compared names found same a b text says mean is_found is =
       same_exactly = says mean.0.0 mean.1.0 mean.0.1 mean.1.1;
       is_text = is;
     })
-
--- both mean files
-pub meant : (map : Bool) (names : Names) (same : Bool) (a b text : List ℕ)
-    → IsAnswerBy map names same a b text → MeansFile a × MeansFile b
-meant true names same a b text h = ((h.first, h.first_spelled), (h.second, h.second_spelled))
-meant false names same a b text h = ((h.first, h.first_spelled), (h.second, h.second_spelled))

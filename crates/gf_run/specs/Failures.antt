@@ -1,5 +1,6 @@
--- The count of failures that a reader or a writer keeps.
-use Rattle.std.specs.Prelude.{◌≡◌, ℕ, ◌+◌, ◌-◌, ◌^◌, ◌<◌, ◌≤◌, min, max, Result, MatchResult}
+-- The count of failures and the last error that a reader or a writer keeps.
+use Rattle.std.specs.Prelude.{◌≡◌, ℕ, ◌+◌, ◌-◌, ◌^◌, ◌<◌, ◌≤◌, min, max, Option, Some, Result}
+use Rattle.std.specs.Prelude.{MatchResult}
 use Rattle.std.specs.declared.io.Error.{Error}
 
 -- one more failure; a count at its greatest value stays there
@@ -19,3 +20,7 @@ CountsPush old answer new = MatchResult answer
 -- the count rose, or it was at its greatest value
 pub record HasRisen (old new : ℕ) : Type 0 where
   pub risen : next_count old ≤ new
+
+-- the last error after an answer
+abbrev pub KeepsLast : Option Error → Result ℕ Error → Option Error → Type 0
+KeepsLast old answer new = MatchResult answer (λ _. new ≡ old) (λ error. new ≡ Some error)

@@ -30,6 +30,8 @@ fn hash_of(alloc: Global, bytes: &[u8], names: Names) -> Result<[u8; 32], RunFau
 
 /// Reads a file whole, and returns the hash of its canonical text, with names or without.
 ///
+/// # Errors
+///
 /// - `Refused`, `Read`: as `perform` has them.
 /// - `Memory`: memory ran out while the input was read.
 pub fn read_hash<R: Source>(

@@ -72,8 +72,14 @@ fn files_listed<R: Inputs + Files + AllocGlobal>(
     Ok(files)
 }
 
-/// The files of a collection, in the order of their paths; for a folder, the game files below it,
-/// as `push_files` adds them.
+/// The files of a collection, in the order of their paths. For a folder these are the game files
+/// below it, each folder ordered by the bytes of its names; a folder that cannot be read whole is
+/// kept as a file.
+///
+/// # Errors
+///
+/// - `NotRead`: a list of names cannot be opened or read.
+/// - `Memory`: memory ran out.
 pub fn files_at<R: Inputs + Files + AllocGlobal>(
     rt: &R,
     paths: Paths,

@@ -15,7 +15,7 @@ use crate::asked::Job;
 use crate::fault::{RunFault, Which, answer_status};
 use crate::jobs::table::form_text;
 use crate::opening::read::Texts;
-use crate::texts::comparison::{Compared, answer_by};
+use crate::texts::comparison::{Compared, compare};
 use crate::texts::text::Text;
 use gf_canon::{Format, Names, canonical_by, check};
 use gf_form::Strategies;
@@ -135,25 +135,6 @@ pub(crate) fn table(alloc: Global, bytes: &[u8], reduced: bool) -> Result<Answer
             text: Text::Made(text),
         }),
         Err(fault) => Err(fault),
-    }
-}
-
-/// Whether two files are the same, and what is written about it: with their renumbering, or by
-/// names.
-pub(crate) fn compare(
-    alloc: Global,
-    a: &[u8],
-    b: &[u8],
-    map: bool,
-    names: Names,
-) -> Result<Compared, RunFault>
-    ensures answer { IfOk result (λ answer.
-        IsAnswerBy map names answer.same a.now b.now (bytes_of answer.text)) }
-    ensures fault { IfErr result (IsFaultOfFiles a.now b.now) }
-{
-    match answer_by(alloc, a, b, map, names) {
-        Ok(answer) => Ok(answer),
-        Err(fault) => Err(RunFault::from(fault)),
     }
 }
 

@@ -10,10 +10,10 @@ ghost use Rattle.gf_run.specs.RunOfTwo.{AnswersTwo, ReadsTwoUntil};
 ghost use Rattle.gf_run.specs.SameText.{IsAnswer, IsLine, IsLineAndMap};
 
 use crate::fault::RunFault;
-use crate::jobs::answer::compare;
 use crate::opening::read::read_both;
 use crate::streams::sink::{Sink, push_all};
 use crate::streams::source::Source;
+use crate::texts::comparison::compare;
 use gf_canon::Names;
 use std::alloc::Global;
 

@@ -1,7 +1,7 @@
 //! A reader or a writer with a count of its failures.
 
-ghost use Rattle.std.specs.Prelude.{◌≡◌};
-ghost use Rattle.gf_run.specs.Counted.{failures_of, inner_of};
+ghost use Rattle.std.specs.Prelude.{◌≡◌, None};
+ghost use Rattle.gf_run.specs.Counted.{failures_of, inner_of, last_of};
 ghost use Rattle.gf_run.specs.Failures.{CountsPull, CountsPush};
 
 use crate::streams::sink::Sink;
@@ -22,6 +22,7 @@ impl<T> Counted<T> {
     pub fn new(inner: T) -> Counted<T>
         ensures inner { inner_of result ≡ inner }
         ensures failures { failures_of result ≡ 0 }
+        ensures last { last_of result ≡ None }
     {
         Counted {
             inner,
@@ -54,6 +55,8 @@ impl<W: Write> Write for Counted<W> {
 impl<R: Read> Source for Counted<R> {
     ghost count = { failures_of };
 
+    ghost last = { last_of };
+
     ghost pull_gives = { λ old _ given new. CountsPull (failures_of old) given (failures_of new) };
 
     fn pull(&mut self, to: &mut [u8]) -> Result<usize, io::Error> {
@@ -76,6 +79,8 @@ impl<R: Read> Source for Counted<R> {
 
 impl<W: Write> Sink for Counted<W> {
     ghost count = { failures_of };
+
+    ghost last = { last_of };
 
     ghost push_gives = { λ old _ given new. CountsPush (failures_of old) given (failures_of new) };
 

@@ -1,10 +1,11 @@
 //! Writers that count their failures, and how an output is written whole.
 
-ghost use Rattle.std.specs.Prelude.{◌≡◌, ℕ, ◌<◌, ◌≤◌, List, Result, MatchResult, OnOk, OnErr, ⊤};
+ghost use Rattle.std.specs.Prelude.{◌≡◌, ℕ, ◌<◌, ◌≤◌, List, Option, Result, MatchResult, OnOk};
+ghost use Rattle.std.specs.Prelude.{OnErr, ⊤};
 ghost use Rattle.std.specs.Io.{WritesAtMost};
 ghost use Rattle.std.specs.Io.KnownBytes.{WriteAppends};
 ghost use Rattle.std.specs.declared.io.Error.{Error};
-ghost use Rattle.gf_run.specs.Failures.{CountsPush, HasRisen};
+ghost use Rattle.gf_run.specs.Failures.{CountsPush, HasRisen, KeepsLast};
 ghost use Rattle.gf_run.specs.Output.{IsOffer, IsWriteFault, IsWritten, Stops};
 ghost use Rattle.gf_run.specs.Turns.{Moves};
 
@@ -22,20 +23,25 @@ pub trait Sink: Write {
     /// it.
     ghost push_gives: { Self → List ℕ → Result ℕ Error → Self → Type 0 } = { λ _ _ _ _. ⊤ };
 
+    /// The last error so far.
+    ghost last: { Self → Option Error };
+
     /// Does what `write` does.
     fn push(&mut self, from: &[u8]) -> Result<usize, io::Error>
         ensures bound { WritesAtMost result from.now }
         ensures bytes { WriteAppends
             (Self.contents self.old) (Self.contents self.new) result from.now }
         ensures given { push_gives self.old from.now result self.new }
-        ensures counted { CountsPush (count self.old) result (count self.new) };
+        ensures counted { CountsPush (count self.old) result (count self.new) }
+        ensures last { KeepsLast (last self.old) result (last self.new) };
 
     /// How many errors `push` has returned, plus how many pushes took nothing, up to `u64::MAX`.
     fn failures(&self) -> u64
         ensures { result ≡ count self.now };
 
     /// The last error that `push` has returned.
-    fn last_error(&self) -> Option<io::Error>;
+    fn last_error(&self) -> Option<io::Error>
+        ensures { result ≡ last self.now };
 }
 
 /// A push that is repeated after an interruption. The sixteenth interruption in a row is a write

@@ -1,11 +1,11 @@
 //! Readers that count their failures, and how an input is read whole.
 
 ghost use Rattle.std.specs.Prelude.{◌≡◌, ℕ, ◌+◌, ◌<◌, ◌≤◌, List, length, ⊤};
-ghost use Rattle.std.specs.Prelude.{Result, MatchResult, IfOk, IfErr};
+ghost use Rattle.std.specs.Prelude.{Option, Result, MatchResult, IfOk, IfErr};
 ghost use Rattle.std.specs.Io.{ReadsAtMost};
 ghost use Rattle.std.specs.Io.KnownBytes.{ReadConsumes};
 ghost use Rattle.std.specs.declared.io.Error.{Error};
-ghost use Rattle.gf_run.specs.Failures.{CountsPull, HasRisen};
+ghost use Rattle.gf_run.specs.Failures.{CountsPull, HasRisen, KeepsLast};
 ghost use Rattle.gf_run.specs.Input.{HasLength, IsNotRead, IsReadWhole, limit, too_long};
 ghost use Rattle.gf_run.specs.declared.streams.source.TheConstants.{CHUNK};
 ghost use Rattle.gf_run.specs.Turns.{GivesUp, Moves};
@@ -32,20 +32,25 @@ pub trait Source: Read {
     /// state after it.
     ghost pull_gives: { Self → List ℕ → Result ℕ Error → Self → Type 0 } = { λ _ _ _ _. ⊤ };
 
+    /// The last error so far.
+    ghost last: { Self → Option Error };
+
     /// Does what `read` does.
     fn pull(&mut self, to: &mut [u8]) -> Result<usize, io::Error>
         ensures bound { ReadsAtMost result to.new }
         ensures bytes { ReadConsumes
             (Self.remaining self.old) (Self.remaining self.new) result to.new }
         ensures given { pull_gives self.old to.new result self.new }
-        ensures counted { CountsPull (count self.old) result (count self.new) };
+        ensures counted { CountsPull (count self.old) result (count self.new) }
+        ensures last { KeepsLast (last self.old) result (last self.new) };
 
     /// How many errors `pull` has returned, up to `u64::MAX`.
     fn failures(&self) -> u64
         ensures { result ≡ count self.now };
 
     /// The last error that `pull` has returned.
-    fn last_error(&self) -> Option<io::Error>;
+    fn last_error(&self) -> Option<io::Error>
+        ensures { result ≡ last self.now };
 }
 
 /// A pull that is repeated after an interruption. The sixteenth interruption in a row is a read

@@ -1,14 +1,16 @@
 //! What is written about two files that are compared.
 
-ghost use Rattle.std.specs.Prelude.{◌≡◌, ◌↔◌, ℕ, IfErr, IfOk, IsTrue, List, true};
+ghost use Rattle.std.specs.Prelude.{◌≡◌, ◌↔◌, ℕ, IfErr, IfOk, IsTrue, List, OnOk, true};
 ghost use Rattle.gf_canon.specs.GameFile.{SameFile};
-ghost use Rattle.gf_canon.specs.Judgement.{SpellsWithin};
+ghost use Rattle.gf_canon.specs.Judgement.{MeansFile, SpellsWithin};
 ghost use Rattle.gf_canon.specs.MeaningOf.{file_of};
 ghost use Rattle.gf_canon.specs.Sameness.{AreRefusedWith};
 ghost use Rattle.gf_run.specs.AnswerText.{bytes_of};
 ghost use Rattle.gf_run.specs.JobRun.{IsAnswerBy};
+ghost use Rattle.gf_run.specs.RunOfTwo.{IsFaultOfFiles};
 ghost use Rattle.gf_run.specs.SameText.{IsAnswer, IsLineAndMap, answer_line};
 
+use crate::fault::RunFault;
 use crate::texts::renumbering::pair_line;
 use crate::texts::text::Text;
 use gf_canon::{
@@ -73,7 +75,7 @@ impl ReceivePairs for PairLines {
 }
 
 /// The answer about two files that were read.
-fn answer_of(alloc: Global, a: &Meaning<'_>, b: &Meaning<'_>) -> Result<Compared, AllocError>
+fn compare_meanings(alloc: Global, a: &Meaning<'_>, b: &Meaning<'_>) -> Result<Compared, AllocError>
     ensures same { IfOk result (λ answer.
         IsTrue answer.same ↔ SameFile (file_of a.now) (file_of b.now)) }
     ensures text { IfOk result (λ answer.
@@ -90,18 +92,8 @@ fn answer_of(alloc: Global, a: &Meaning<'_>, b: &Meaning<'_>) -> Result<Compared
     }
 }
 
-/// The answer about two files that were read; the second is not needed any more.
-fn answer_at_end(alloc: Global, a: &Meaning<'_>, b: Meaning<'_>) -> Result<Compared, AllocError>
-    ensures same { IfOk result (λ answer.
-        IsTrue answer.same ↔ SameFile (file_of a.now) (file_of b.entry)) }
-    ensures text { IfOk result (λ answer.
-        IsLineAndMap (file_of a.now) (file_of b.entry) answer.same (bytes_of answer.text)) }
-{
-    answer_of(alloc, a, &b)
-}
-
-/// The answer about bytes whose meaning was read, and those of the second file.
-fn answer_beside(alloc: Global, first: &Meaning<'_>, b: &[u8]) -> Result<Compared, SameFault>
+/// The answer about a file that was read, and the bytes of another.
+fn compare_with(alloc: Global, first: &Meaning<'_>, b: &[u8]) -> Result<Compared, SameFault>
     ensures answer { IfOk result (λ answer. (a : List ℕ) → SpellsWithin a (file_of first.now)
         → IsAnswer SameFile IsLineAndMap answer.same a b.now (bytes_of answer.text)) }
     ensures refused { IfErr result (λ fault. (a : List ℕ) → SpellsWithin a (file_of first.now)
@@ -111,7 +103,7 @@ fn answer_beside(alloc: Global, first: &Meaning<'_>, b: &[u8]) -> Result<Compare
         Ok(second) => second,
         Err(fault) => return Err(SameFault::Second(fault)),
     };
-    match answer_at_end(alloc, first, second) {
+    match compare_meanings(alloc, first, &second) {
         Ok(answer) => Ok(answer),
         Err(_) => Err(SameFault::Memory),
     }
@@ -121,36 +113,36 @@ fn answer_beside(alloc: Global, first: &Meaning<'_>, b: &[u8]) -> Result<Compare
 /// carries the first to the second.
 ///
 /// Refused as by `same`.
-fn answer_with_map(alloc: Global, a: &[u8], b: &[u8]) -> Result<Compared, SameFault>
+fn compare_with_map(alloc: Global, a: &[u8], b: &[u8]) -> Result<Compared, SameFault>
     ensures answer { IfOk result (λ answer.
         IsAnswer SameFile IsLineAndMap answer.same a.now b.now (bytes_of answer.text)) }
     ensures refused { IfErr result (AreRefusedWith a.now b.now) }
 {
     match read_file(alloc, a) {
-        Ok(first) => answer_beside(alloc, &first, b),
+        Ok(first) => compare_with(alloc, &first, b),
         Err(fault) => Err(SameFault::First(fault)),
     }
 }
 
-/// Whether two files are the same, with their renumbering if `map` is true, otherwise by `names`.
+/// Whether two files are the same, and what is written about it: with their renumbering if `map`
+/// is true, otherwise by `names`.
 ///
 /// Refused as by `same_by`.
-pub fn answer_by(
+pub fn compare(
     alloc: Global,
     a: &[u8],
     b: &[u8],
     map: bool,
     names: Names,
-) -> Result<Compared, SameFault>
+) -> Result<Compared, RunFault>
     ensures answer { IfOk result (λ answer.
         IsAnswerBy map names answer.same a.now b.now (bytes_of answer.text)) }
-    ensures refused { IfErr result (AreRefusedWith a.now b.now) }
+    ensures mean { OnOk result (MeansFile a.now × MeansFile b.now) }
+    ensures fault { IfErr result (IsFaultOfFiles a.now b.now) }
 {
     if map {
-        return answer_with_map(alloc, a, b);
+        return Ok(compare_with_map(alloc, a, b)?);
     }
-    match same_by(alloc, a, b, names) {
-        Ok(same) => Ok(in_a_line(same)),
-        Err(fault) => Err(fault),
-    }
+    let same = same_by(alloc, a, b, names)?;
+    Ok(in_a_line(same))
 }

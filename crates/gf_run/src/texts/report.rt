@@ -74,7 +74,10 @@ pub(crate) fn line_of(fault: &RunFault) -> Line
 /// Writes the line of a fault: its code and the place of a refusal in bytes, after `A: ` or `B: `
 /// if it is about one of two inputs; or why a game has no table. This takes no memory.
 ///
-/// If the writer fails, a prefix of the line has been written.
+/// # Errors
+///
+/// `WriteFault` if the writer failed, was interrupted sixteen times in a row, or took nothing. A
+/// prefix of the line has been written then.
 pub fn write_fault<W: Sink>(fault: &RunFault, output: &mut W) -> Result<(), WriteFault>
     ensures all { OnOk result
         (IsWritten W.contents W.push_gives output.old output.new (fault_line fault.now)) }

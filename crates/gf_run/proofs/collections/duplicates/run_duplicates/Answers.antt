@@ -1,4 +1,6 @@
-use Rattle.gf_run.proofs.FoundDuplicates.{file_more, files_done}
+use Rattle.std.proofs.Common.{inr}
+use Rattle.std.proofs.lemmas.List.{drop_all}
+use Rattle.gf_run.proofs.Hashed.{left_at}
 use Rattle.gf_run.proofs.collections.duplicates.run_duplicates.Goals as goal
 
 pub loop-file-preserved : goal.loop-file-preserved
@@ -7,13 +9,15 @@ loop-file-preserved g c =
     let next = c.in-Ok.ensures.read now.0 now.1 in (
       next.0,
       next.1,
-      λ end rest. now.2 end (file_more _ _ _ _ _ _ _ _ _ _ _ _ _ c.args.files.now
-          c.loop-file.file-index c.file-item.result _ _ end c.loop-file-test.true c.file-item.is
-          next.2 rest),
+      λ end rest. now.2 end (rw (left_at c.args.files.now c.loop-file.file-index
+          c.file-item.result c.loop-file-test.true c.file-item.is) (inr (_, next.2, rest))),
     )
 
 pub returns : goal.returns
 returns g c =
     let now = c.loop-file.invariant in
-    now.2 _ (files_done _ _ _ _ _ _ _ _ _ _ _ _ _ c.args.files.now c.loop-file.file-index _ _
-    c.loop-file-test.false (c.write_groups.ensures now.0 now.1))
+    let write = c.write_groups in
+    now.2
+    (record { output = write.new.output; errors = write.new.errors; status = write.result })
+    (rw (drop_all c.loop-file.file-index c.args.files.now c.loop-file-test.false)
+    (write.ensures now.0 now.1))

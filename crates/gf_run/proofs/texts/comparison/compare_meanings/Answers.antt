@@ -1,6 +1,6 @@
 use Rattle.gf_canon.specs.MeaningOf.{file_of}
 use Rattle.gf_run.proofs.MapLines.{different_text, differs, same_text}
-use Rattle.gf_run.proofs.texts.comparison.answer_of.Goals as goal
+use Rattle.gf_run.proofs.texts.comparison.compare_meanings.Goals as goal
 
 pub returns-then-branch-clause-text : goal.returns-then-branch-clause-text
 returns-then-branch-clause-text c =
