@@ -78,7 +78,7 @@ choice_by_places (x ∷ choice) (y ∷ counts) e h = (
 )
 choice_by_places choice counts e h = grind arith
 
-zip_at : {A B : Type 0} (R : A → B → Type 0) (d : A) (e : B) (xs : List A) (ys : List B)
+pub zip_at : {A B : Type 0} (R : A → B → Type 0) (d : A) (e : B) (xs : List A) (ys : List B)
     → AllZip R xs ys → (k : ℕ) → k < length xs → R (get_or xs k d) (get_or ys k e)
 zip_at R d e (x ∷ xs) (y ∷ ys) h (suc k) less = zip_at R d e xs ys h.1 k (omega (arith, less))
 zip_at R d e xs ys h k less = grind arith
