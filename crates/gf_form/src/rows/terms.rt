@@ -154,7 +154,7 @@ impl Terms {
     }
 
     /// Notes what the next term is over, and so what each before it is over.
-    #[tactic(auto, using(crate::proofs::lemmas::rows::FlatRows::next_noted, crate::proofs::lemmas::rows::FlatRows::one_noted))]
+    #[tactic(auto, using(crate::proofs::lemmas::rows::FlatRows::noted))]
     fn note(&mut self, next: Scaled) -> Result<(), AllocError>
         requires { length self.old.scaled.items ≤ length self.old.demands.items }
         ensures heads { OnOk result ((demands : ℕ)

@@ -9,7 +9,7 @@ use Rattle.std.proofs.lemmas.Bool.{eq-eqb, eqb-false, eqb-true, ne_eqb}
 use Rattle.std.proofs.lemmas.Grind.{get_or-set_at}
 use Rattle.std.proofs.lemmas.List.{get_or-set_other, length-set, take_more}
 use Rattle.std.proofs.lemmas.List.Folds.{list_any-append}
-use Rattle.gf_form.specs.inner.reduced.Levels.{IsLevel, can_be_met}
+use Rattle.gf_form.specs.inner.reduced.Levels.{can_be_met}
 use Rattle.gf_form.specs.declared.reduced.level.Level.{Level}
 use Rattle.gf_form.specs.declared.reduced.visits.Visit.{Visit}
 use Rattle.gf_form.proofs.lemmas.reduced.LevelsChosen.{no_visit}

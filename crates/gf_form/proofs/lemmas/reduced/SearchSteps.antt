@@ -1,9 +1,8 @@
 -- A search for first strategies, choice by choice: what is under the choices so far.
 use Rattle.std.proofs.Common.{◌≡◌, ℕ, zero, suc, ◌+◌, ◌-◌, ◌*◌, ◌/◌, ◌^◌, ◌<◌, ◌≤◌, Bool, true}
 use Rattle.std.proofs.Common.{false, List}
-use Rattle.std.proofs.Common.{[], ◌∷◌, ◌++◌, Some, length, drop, get_or, map, set, take, refl, sym}
+use Rattle.std.proofs.Common.{[], ◌∷◌, ◌++◌, Some, length, drop, get_or, set, take, refl, sym}
 use Rattle.std.proofs.Common.{ap, subst, ◌∙◌, arith, add-one, append_assoc, inl, inr, ◌⊎◌}
-use Rattle.std.specs.List.{AllByRecursion, AllZip}
 use Rattle.std.proofs.Math.Seq.{drop-cons, take-suc, take-suc-set}
 use Rattle.std.specs.Prelude.{◌==◌}
 use Rattle.std.proofs.Math.Nat.{mul-div_cancel_left, mul-le-mul_right}

@@ -289,3 +289,6 @@ sum_made a b s fits demands row is sums den known above =
     (record { head = record { demands = demands; den = n; size = s.size }; row = row }))
     (sym k.1)
     (grind arith)
+
+-- what notes write out
+pub ruleset noted = (next_noted, one_noted)

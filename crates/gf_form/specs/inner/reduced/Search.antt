@@ -1,6 +1,6 @@
 -- A search for the first strategies of a player, digit by digit.
-use Rattle.std.specs.Prelude.{◌≡◌, ◌≤◌, ◌<◌, ◌+◌, ◌^◌, ◌||◌, ◌==◌, ℕ, Bool, true, false, List, []}
-use Rattle.std.specs.Prelude.{◌∷◌, ◌++◌, Some, drop, filter, get_or, length, map, take}
+use Rattle.std.specs.Prelude.{◌≡◌, ◌≤◌, ◌<◌, ◌+◌, ◌^◌, ℕ, Bool, false, List, []}
+use Rattle.std.specs.Prelude.{◌++◌, Some, drop, filter, get_or, length, map, take}
 use Rattle.std.specs.List.{AllByRecursion}
 use Rattle.gf_token.specs.Positions.{at_position}
 use Rattle.gf_nfg.specs.Profiles.{product}

@@ -1,4 +1,4 @@
-use Rattle.std.proofs.Common.{◌≡◌, ◌<◌, ◌∙◌, ◌++◌, ◌∷◌, [], Vec, Global, ap, arith, get_or, length}
+use Rattle.std.proofs.Common.{◌∙◌, Vec, Global, ap, arith, get_or, length}
 use Rattle.gf_form.specs.declared.reduced.digits.OwnDigit.{OwnDigit}
 use Rattle.gf_form.proofs.lemmas.reduced.OwnDigits.{digit_more, digit_past, steps_long}
 use Rattle.gf_form.proofs.reduced.digits.own_digits.Goals as goal

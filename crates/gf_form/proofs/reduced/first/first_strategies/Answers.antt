@@ -1,4 +1,4 @@
-use Rattle.std.proofs.Common.{◌≡◌, ◌<◌, ◌^◌, ◌+◌, ◌∙◌, ℕ, ap, arith, length, subst, sym}
+use Rattle.std.proofs.Common.{◌≡◌, ◌+◌, ◌∙◌, ℕ, ap, arith, length, subst, sym}
 use Rattle.gf_nfg.specs.Profiles.{product}
 use Rattle.gf_form.specs.Strategies.{action_counts}
 use Rattle.gf_form.specs.inner.reduced.Levels.{ArePositive, IsLevel}

@@ -12,7 +12,7 @@ use Rattle.gf_form.proofs.lemmas.reduced.SearchEnds.{first_is, marked, none_foun
 use Rattle.gf_form.proofs.lemmas.reduced.SearchEnds.{strategy_is}
 use Rattle.gf_form.proofs.lemmas.reduced.SearchSteps.{all_rows, at_end, next_search, next_under}
 use Rattle.gf_form.proofs.lemmas.reduced.SearchSteps.{no_digit}
-use Rattle.gf_form.proofs.lemmas.reduced.SearchSteps.{place_inside, row_end, some_actions}
+use Rattle.gf_form.proofs.lemmas.reduced.SearchSteps.{place_inside, some_actions}
 use Rattle.gf_form.proofs.lemmas.reduced.SearchSteps.{step_fits}
 use Rattle.gf_form.proofs.lemmas.reduced.SearchSteps.{still, under_kept}
 use Rattle.gf_form.proofs.reduced.first.Search.+push_below.Goals as goal

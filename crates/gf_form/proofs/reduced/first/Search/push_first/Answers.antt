@@ -1,4 +1,4 @@
-use Rattle.std.proofs.Common.{◌≡◌, ◌<◌, ◌∙◌, [], get_or, length, ap, sym}
+use Rattle.std.proofs.Common.{◌∙◌, [], get_or, length, ap, sym}
 use Rattle.gf_token.specs.Label.{label_of}
 use Rattle.gf_form.specs.Reduced.{reduced, reduced_label}
 use Rattle.gf_form.specs.Strategies.{strategies}
