@@ -16,22 +16,7 @@ use Rattle.gf_form.proofs.lemmas.reduced.LevelsChosen.{no_visit}
 
 flag_on : (flags : List Bool) (at place : ℕ) → at < length flags
     → get_or (set flags at true) place false ≡ (get_or flags place false || suc at == suc place)
-flag_on flags at place inside = by (place == at) refl
-  where
-    by : (b : Bool) → (place == at) ≡ b
-        → get_or (set flags at true) place false ≡ (get_or flags place false || suc at == suc place)
-    by true e =
-        let same = eqb-true place at e in
-        get_or-set_at flags at place true false same inside
-        ∙ sym (or-true (get_or flags place false))
-        ∙ ap (λ b. get_or flags place false || b)
-        (sym (eq-eqb (suc at) (suc place) (omega (arith, same))))
-    by false e =
-        let differs = eqb-false place at e in
-        get_or-set_other flags at place true false differs
-        ∙ sym (or-false (get_or flags place false))
-        ∙ ap (λ b. get_or flags place false || b)
-        (sym (ne_eqb (suc at) (suc place) (λ q. differs (omega (arith, q)))))
+flag_on flags at place inside = grind (arith, get_or-set_at, get_or-set_other, or-true, or-false)
 
 abbrev is_to : ℕ → Visit → Bool
 is_to position v = v.set == position
@@ -48,18 +33,15 @@ pub marked_more : (level : Level) (i : ℕ) (met next : List Bool) → MarkedTo 
     → next ≡ set met ((get_or level.visits.items i no_visit).set - 1) true
     → MarkedTo level (i + 1) next
 marked_more level i met next before less above within is = record {
-  counted = ap length is ∙ length-set met (here.set - 1) true ∙ before.counted;
+  counted = grind (arith, length-set, before.counted);
   marked = λ place.
-      let known = get_or level.known.items place false in
-      let earlier = list_any (is_to (suc place)) (take i level.visits.items) in
-      ap (λ (flags : List Bool). get_or flags place false) is
-      ∙ flag_on met (here.set - 1) place (omega (arith, above, within, before.counted))
-      ∙ (λ k. before.marked place k || own k == suc place)
-      ∙ or_assoc known earlier (here.set == suc place)
-      ∙ ap (λ b. known || b)
-      (sym (ap (list_any (is_to (suc place))) (take_more level.visits.items i no_visit less)
-      ∙ list_any-append (is_to (suc place)) (take i level.visits.items) (here ∷ [])
-      ∙ ap (λ b. earlier || b) (or-false (here.set == suc place))));
+      grind (
+        arith,
+        flag_on met (here.set - 1) place (omega (arith, above, within, before.counted)),
+        before.marked place,
+        take_more level.visits.items i no_visit less,
+        list_any-append,
+      );
 }
   where
     here : Visit
@@ -72,8 +54,4 @@ pub all_marked : (level : Level) (i : ℕ) (met : List Bool) → MarkedTo level 
     → i ≡ length level.visits.items → (place : ℕ)
     → get_or met place false ≡ can_be_met (suc place) level
 all_marked level i met m end place =
-    let at : place ≡ suc place - 1 = omega arith in
-    m.marked place
-    ∙ (λ k. get_or level.known.items (at k) false
-    || list_any (is_to (suc place)) ((ap (λ (n : ℕ). take n level.visits.items) end
-    ∙ take-length level.visits.items) k))
+    grind (arith, m.marked, take-length)

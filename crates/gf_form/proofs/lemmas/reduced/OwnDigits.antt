@@ -14,10 +14,8 @@ use Rattle.gf_form.proofs.lemmas.rows.DigitsMade.{next_is}
 width_square : (counts : List ℕ) → ArePositive counts
     → width counts ≤ product counts * product counts
 width_square [] h = omega arith
-width_square (zero ∷ counts) h = absurd (omega (arith, h.0))
-width_square (suc zero ∷ counts) h =
-    let same : suc zero * product counts ≡ product counts = omega arith in
-    rw same (width_square counts h.1)
+width_square (zero ∷ counts) h = grind arith
+width_square (suc zero ∷ counts) h = grind (arith, width_square counts)
 width_square (suc (suc n) ∷ counts) h =
     let first : suc (suc n) + 1 ≤ suc (suc n) * suc (suc n) = square n in
     omega (
@@ -41,41 +39,30 @@ width_fits counts h few =
 pub steps_long : (faster : ℕ) (counts : List ℕ)
     → length (steps_behind faster counts) ≡ length counts
 steps_long faster [] = refl
-steps_long faster (zero ∷ counts) = ap suc (steps_long faster counts)
-steps_long faster (suc zero ∷ counts) = ap suc (steps_long faster counts)
-steps_long faster (suc (suc n) ∷ counts) = ap suc (steps_long faster counts)
+steps_long faster (n ∷ counts) = grind (arith, steps_long faster counts)
 
 -- the step of the first set
 step_first : (n : ℕ) (later : List ℕ) → 1 < n
     → get_or (steps_behind 1 (n ∷ later)) 0 0 ≡ width later
-step_first zero later several = absurd (omega (arith, several))
-step_first (suc zero) later several = absurd (omega (arith, several))
-step_first (suc (suc n)) later several = omega arith
+step_first n later several = grind arith
 
 steps_later : (n : ℕ) (later : List ℕ) (i : ℕ)
     → get_or (steps_behind 1 (n ∷ later)) (suc i) 0 ≡ get_or (steps_behind 1 later) i 0
-steps_later zero later i = refl
-steps_later (suc zero) later i = refl
-steps_later (suc (suc n)) later i = refl
+steps_later n later i = grind arith
 
 step_there : (counts : List ℕ) (i : ℕ) → i < length counts → 1 < get_or counts i 0
     → get_or (steps_behind 1 counts) i 0 ≡ width (drop (suc i) counts)
-step_there [] i less several = absurd (omega (arith, less))
-step_there (n ∷ counts) zero less several = step_first n counts several
 step_there (n ∷ counts) (suc i) less several =
     steps_later n counts i ∙ step_there counts i (omega (arith, less)) several
+step_there counts i less several = grind (arith, step_first)
 
-from_several : (p n : ℕ) (later : List ℕ) → 1 < n → digits_from p (n ∷ later)
+pub from_several : (p n : ℕ) (later : List ℕ) → 1 < n → digits_from p (n ∷ later)
     ≡ record { place = p; step = width later; actions = n } ∷ digits_from (p + 1) later
-from_several p zero later several = absurd (omega (arith, several))
-from_several p (suc zero) later several = absurd (omega (arith, several))
-from_several p (suc (suc n)) later several = refl
+from_several p n later several = grind arith
 
 from_one : (p n : ℕ) (later : List ℕ) → n ≤ 1
     → digits_from p (n ∷ later) ≡ digits_from (p + 1) later
-from_one p zero later one = refl
-from_one p (suc zero) later one = refl
-from_one p (suc (suc n)) later one = absurd (omega (arith, one))
+from_one p n later one = grind arith
 
 -- the digits so far and those to come
 pub digit_more : (counts : List ℕ) (i step : ℕ) (made next : List OwnDigit) → i < length counts
@@ -84,25 +71,11 @@ pub digit_more : (counts : List ℕ) (i step : ℕ) (made next : List OwnDigit) 
     → made ++ digits_from i (drop i counts) ≡ digits_from 0 counts
     → next ++ digits_from (i + 1) (drop (i + 1) counts) ≡ digits_from 0 counts
 digit_more counts i step made next less several step_is is before =
-    let n = get_or counts i 0 in
-    let later = drop (i + 1) counts in
-    let own : OwnDigit = record { place = i; step = step; actions = n } in
-    let width_is : step ≡ width later =
-    step_is ∙ step_there counts i less several
-    ∙ ap (λ (k : ℕ). width (drop k counts)) (sym (add-one i)) in
-    ap (λ ds. ds ++ digits_from (i + 1) later) is
-    ∙ append_assoc made (own ∷ []) (digits_from (i + 1) later)
-    ∙ ap (λ ds. made ++ ds) (sym (ap (digits_from i) (next_is counts i n 0 less refl)
-    ∙ from_several i n later several
-    ∙ ap (λ (w : ℕ). record { place = i; step = w; actions = n } ∷ digits_from (i + 1) later)
-    (sym width_is)))
-    ∙ before
+    grind (arith, step_there, append_assoc, next_is, from_several)
 
 pub digit_past : (counts : List ℕ) (i : ℕ) (made next : List OwnDigit) → i < length counts
     → get_or counts i 0 ≤ 1 → next ≡ made
     → made ++ digits_from i (drop i counts) ≡ digits_from 0 counts
     → next ++ digits_from (i + 1) (drop (i + 1) counts) ≡ digits_from 0 counts
 digit_past counts i made next less one is before =
-    (λ k. is k ++ sym (ap (digits_from i) (next_is counts i (get_or counts i 0) 0 less refl)
-    ∙ from_one i (get_or counts i 0) (drop (i + 1) counts) one) k)
-    ∙ before
+    grind (arith, next_is, from_one)

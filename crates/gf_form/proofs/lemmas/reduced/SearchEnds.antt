@@ -39,6 +39,7 @@ use Rattle.gf_tree.proofs.lemmas.games.Members.{map_twice}
 use Rattle.gf_form.proofs.lemmas.reduced.FirstNumbers.{AreFirst, chooses_all, first_where}
 use Rattle.gf_form.proofs.lemmas.reduced.FirstNumbers.{passed_by}
 use Rattle.gf_form.proofs.lemmas.reduced.FirstStrategies.{flags_fit, reduced_strategies_are}
+use Rattle.gf_form.proofs.lemmas.reduced.SearchSteps.{at_end}
 
 -- ---- sets that can be met
 
@@ -47,26 +48,17 @@ unmet_by : (position : ℕ) (steps choices : List ℕ) (visits : List Visit)
     → is_met position steps choices visits ≡ false
 unmet_by position steps choices [] e = refl
 unmet_by position steps choices (v ∷ visits) e =
-    let parts = or_parts (v.set == position)
-    (list_any (λ (v : Visit). v.set == position) visits) e in
-    or_from (is_met_on position steps choices v) (is_met position steps choices visits)
-    (ap (λ b. b && meets steps choices v.demands) parts.0)
-    (unmet_by position steps choices visits parts.1)
+    grind (arith, unmet_by position steps choices visits)
 
 unmet_left : (position : ℕ) (steps choices : List ℕ) (level : Level)
     → can_be_met position level ≡ false → is_left position steps choices level ≡ false
-unmet_left position steps choices level e =
-    let known = get_or level.known.items (position - 1) false in
-    let parts = or_parts known
-    (list_any (λ (v : Visit). v.set == position) level.visits.items) e in
-    or_from known (is_met position steps choices level.visits.items) parts.0
-    (unmet_by position steps choices level.visits.items parts.1)
+unmet_left position steps choices level e = grind (arith, unmet_by)
 
 -- with no digit left, each visit comes about
 met_all : (position : ℕ) (visits : List Visit) → is_met position [] [] visits
     ≡ list_any (λ (v : Visit). v.set == position) visits
 met_all position [] = refl
-met_all position (v ∷ visits) = λ i. and-true (v.set == position) i || met_all position visits i
+met_all position (v ∷ visits) = grind (arith, met_all position visits)
 
 -- ---- flags
 
@@ -75,18 +67,14 @@ flags_are : {A : Type 0} (test : A → Bool) (xs : List A) (flags : List Bool)
     → length flags ≡ length xs
     → ((k : ℕ) (x : A) → slice_get xs k ≡ Some x → get_or flags k false ≡ test x)
     → flags ≡ map test xs
-flags_are test [] [] e h = refl
-flags_are test [] (f ∷ flags) e h = absurd (omega (arith, e))
-flags_are test (x ∷ xs) [] e h = absurd (omega (arith, e))
 flags_are test (x ∷ xs) (f ∷ flags) e h =
     λ i. h 0 x refl i ∷ flags_are test xs flags (omega (arith, e)) (λ k y at. h (suc k) y at) i
+flags_are test [] [] e h = refl
+flags_are test xs flags e h = absurd (omega (arith, e))
 
 pub sets_counted : (g : Game) (player : ℕ)
     → length (action_counts g player) ≡ length (player_keys g player)
-sets_counted g player =
-    length-map (player_sets g player)
-    (λ (s : Described SetKey InformationSet). length s.description.actions)
-    ∙ sym (length-map (player_sets g player) (λ (s : Described SetKey InformationSet). s.key))
+sets_counted g player = grind (arith, length-map)
 
 -- ---- digits
 
@@ -94,9 +82,6 @@ sets_counted g player =
 digit_there : (p : ℕ) (counts : List ℕ) (k : ℕ) → k < length counts → 1 < get_or counts k 0
     → (j : ℕ) × (j < length (digits_from p counts))
     × ((digit_at (digits_from p counts) j).place ≡ p + k)
-digit_there p [] k less several = absurd (omega (arith, less))
-digit_there p (zero ∷ counts) zero less several = absurd (omega (arith, several))
-digit_there p (suc zero ∷ counts) zero less several = absurd (omega (arith, several))
 digit_there p (suc (suc n) ∷ counts) zero less several = (0, omega arith, omega arith)
 digit_there p (zero ∷ counts) (suc k) less several =
     let d = digit_there (p + 1) counts k (omega (arith, less)) several in
@@ -107,6 +92,17 @@ digit_there p (suc zero ∷ counts) (suc k) less several =
 digit_there p (suc (suc n) ∷ counts) (suc k) less several =
     let d = digit_there (p + 1) counts k (omega (arith, less)) several in
     (suc d.0, omega (arith, d.1), omega (arith, d.2))
+digit_there p counts k less several = absurd (omega (arith, less, several))
+
+-- with all digits chosen there is one strategy, which is a first one
+pub record IsLast (g : Game) (player : ℕ) (strategy : List ℕ) (met : List Bool) (number count : ℕ)
+    : Type 0
+  where
+    pub one : count ≡ 1
+    pub within : number < length (strategies g player)
+    pub strategy_is : strategy ≡ get_or (strategies g player) number []
+    pub marked : met ≡ relevant_sets g player strategy
+    pub first : is_first g player strategy ≡ true
 
 module _ (g : Game) (game : IsGame g) (player : ℕ) (digits : List OwnDigit) (strategy : List ℕ)
     (search : IsSearchBy (action_counts g player) digits strategy) (level : Level)
@@ -163,15 +159,16 @@ module _ (g : Game) (game : IsGame g) (player : ℕ) (digits : List OwnDigit) (s
 
         there : get_or s q 0 ≡ get_or strategy q 0
         there =
-            ap (λ (l : List ℕ). get_or l q 0) is
-            ∙ get_or_append_left (take u.place strategy) later 0 q
-            (omega (
+            grind (
               arith,
+              is,
               early,
-              length-take-le u.place strategy
-                  (omega (arith, u.within, search.wide)),
-            ))
-            ∙ get_or-take u.place strategy q 0 early
+              u.within,
+              search.wide,
+              length-take-le,
+              get_or_append_left,
+              get_or-take,
+            )
 
         flag : get_or (relevant_sets g player s) q false ≡ false
         flag =
@@ -197,26 +194,32 @@ module _ (g : Game) (game : IsGame g) (player : ℕ) (digits : List OwnDigit) (s
 
   -- ---- no digit left
 
-  module _ (u : Under) (end : u.place ≡ length counts) (deep : depth ≡ length digits)
+  module _ (under : Under) (deep : depth ≡ length digits)
       (opened : AreOpen digits depth strategy met) (counted : length met ≡ length counts) where
+    abbrev last : (v : Under) × (v.place ≡ length counts)
+    last =
+        let past : length digits ≤ depth = omega (arith, deep) in
+        at_end search under (drop_of_length-le digits past)
+
+    abbrev u : Under
+    u = last.0
+
     none_left : drop u.place counts ≡ []
     none_left =
-        let past : length counts ≤ u.place = omega (arith, end) in drop_of_length-le counts past
+        let past : length counts ≤ u.place = omega (arith, last.1) in drop_of_length-le counts past
 
-    pub one_under : count ≡ 1
+    one_under : count ≡ 1
     one_under = u.counted ∙ ap product none_left
 
     taken : take u.place strategy ≡ strategy
-    taken = ap (λ (n : ℕ). take n strategy) (end ∙ sym search.wide) ∙ take-length strategy
+    taken = grind (arith, last.1, search.wide, take-length)
 
-    pub strategy_is : strategy ≡ get_or all number []
-    strategy_is =
-        let same : number + 0 ≡ number = omega arith in
-        sym (ap (λ (i : ℕ). get_or all i []) (sym same) ∙ u.numbered 0 (omega (arith, one_under))
-        ∙ (λ i. taken i ++ get_or (all_choices (none_left i)) 0 []) ∙ append-nil strategy)
+    number_is : strategy ≡ get_or all number []
+    number_is =
+        grind (arith, u.numbered 0 (omega (arith, one_under)), taken, none_left, append-nil)
 
-    pub marked : met ≡ relevant_sets g player strategy
-    marked = flags_are (is_relevant g (choice_at keys strategy)) keys met
+    marks_are : met ≡ relevant_sets g player strategy
+    marks_are = flags_are (is_relevant g (choice_at keys strategy)) keys met
         (counted ∙ sets_counted g player)
         (λ k key there. marks k ∙ sym (by k key there))
       where
@@ -231,9 +234,9 @@ module _ (g : Game) (game : IsGame g) (player : ℕ) (digits : List OwnDigit) (s
             ∙ ap (λ b. get_or level.known.items (suc k - 1) false || b)
             (met_all (suc k) level.visits.items)
 
-    pub first_is : is_first g player strategy ≡ true
+    first_is : is_first g player strategy ≡ true
     first_is =
-        subst (λ (flags : List Bool). chooses_first flags strategy ≡ true) marked
+        subst (λ (flags : List Bool). chooses_first flags strategy ≡ true) marks_are
         (chooses_all met strategy (λ k less unset.
         by k (omega (arith, less, search.wide)) unset (cases_lt 1 (get_or counts k 0))))
       where
@@ -242,12 +245,16 @@ module _ (g : Game) (game : IsGame g) (player : ℕ) (digits : List OwnDigit) (s
         by k less unset (inr one) = search.alone k less one
         by k less unset (inl several) =
             let d = digit_there 0 counts k less several in
-            let place : (digit_at digits d.0).place ≡ k =
-            ap (λ (ds : List OwnDigit). (digit_at ds d.0).place) search.digits_are
-            ∙ omega (arith, d.2) in
-            ap (λ (n : ℕ). get_or strategy n 0) (sym place)
-            ∙ opened d.0 (omega (arith, d.1, deep, ap length search.digits_are))
-            (ap (λ (n : ℕ). get_or met n false) place ∙ unset)
+            grind (arith, opened d.0, d.1, d.2, deep, search.digits_are)
+
+    pub at_last : IsLast g player strategy met number count
+    at_last = record {
+      one = one_under;
+      within = omega (arith, one_under, u.end, length-all_choices counts);
+      strategy_is = number_is;
+      marked = marks_are;
+      first = first_is;
+    }
 
 -- ---- the whole search
 
@@ -300,10 +307,11 @@ module _ (g : Game) (game : IsGame g) (player : ℕ) (numbers : List ℕ) (label
 
   pub labels_are : labels ≡ reduced_labels g player
   labels_are =
-      found.labelled
-      ∙ sym (map_twice reduced_label (λ number. reduced g player (get_or each_of number []))
-      numbers)
-      ∙ ap (map reduced_label) firsts_are.0
+      cc (
+        found.labelled,
+        map_twice reduced_label (λ number. reduced g player (get_or each_of number [])) numbers,
+        firsts_are.0,
+      )
 
 -- none is found before the search
 pub none_yet : (g : Game) (player : ℕ) → AreFoundTo g player [] [] 0
