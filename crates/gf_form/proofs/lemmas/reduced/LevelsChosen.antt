@@ -79,15 +79,7 @@ module _ (step action : ℕ) (from : Level) (i : ℕ) (less : i < length from.vi
     pub known_passed : 1 ≤ here.set → get_or left.known.items (here.set - 1) false ≡ true
         → ChosenTo step action from (i + 1) left
     known_passed above known = more left before.levelled (λ position steps choices some positive.
-        by position (meets (step ∷ steps) (action ∷ choices) here.demands)
-        (is_met position steps choices left.visits.items) (here.set == position) refl)
-      where
-        by : (position : ℕ) (own met here_is : Bool) → (here.set == position) ≡ here_is
-            → (get_or left.known.items (position - 1) false || met)
-            ≡ ((get_or left.known.items (position - 1) false || met)
-            || ((here.set == position) && own))
-        by position own met true e = grind (arith, eqb-true)
-        by position own met false e = grind (arith, or-false)
+        grind arith)
 
     -- it demands another action
     pub none_left : left_of step action here.demands ≡ None → ChosenTo step action from (i + 1) left
@@ -101,31 +93,17 @@ module _ (step action : ℕ) (from : Level) (i : ℕ) (less : i < length from.vi
         → next.visits.items ≡ left.visits.items → ChosenTo step action from (i + 1) next
     made_known next above within left_is known visits =
         more next (record {
-          counted = ap length known ∙ length-set left.known.items (here.set - 1) true
-              ∙ before.levelled.counted;
-          within = subst (AreWithin (length from.known.items)) (sym visits)
-              before.levelled.within;
+          counted = grind (arith, length-set, before.levelled.counted);
+          within = rw visits before.levelled.within;
         }) (λ position steps choices some positive.
         grind (
           arith,
-          by position (is_met position steps choices left.visits.items) some
-              (here.set == position) refl,
+          get_or-set_at left.known.items (here.set - 1) (position - 1) true false,
+          get_or-set_other left.known.items (here.set - 1) (position - 1) true false,
+          before.levelled.counted,
           meets_left step action here.demands steps choices,
           meets_none steps choices positive,
         ))
-      where
-        some_or : (a : Bool) → true ≡ (a || true)
-        some_or true = refl
-        some_or false = refl
-
-        by : (position : ℕ) (met : Bool) → 1 ≤ position → (here_is : Bool)
-            → (here.set == position) ≡ here_is
-            → (get_or (set left.known.items (here.set - 1) true) (position - 1) false || met)
-            ≡ ((get_or left.known.items (position - 1) false || met)
-            || ((here.set == position) && true))
-        by position met some true e =
-            grind (arith, eqb-true, get_or-set_at, before.levelled.counted)
-        by position met some false e = grind (arith, eqb-false, get_or-set_other, or-false)
 
     -- something more is demanded
     pub one_left : (next : Level) (demands : ℕ) → 1 ≤ here.set → here.set ≤ length from.known.items
@@ -137,9 +115,7 @@ module _ (step action : ℕ) (from : Level) (i : ℕ) (less : i < length from.vi
     one_left next demands above within left_is known visits =
         more next (record {
           counted = ap length known ∙ before.levelled.counted;
-          within = subst (AreWithin (length from.known.items)) (sym visits)
-              (all_both (λ (v : Visit). (1 ≤ v.set) × (v.set ≤ length from.known.items))
-              left.visits.items (one ∷ []) before.levelled.within ((above, within), tt));
+          within = grind (arith, all_both, before.levelled.within);
         }) (λ position steps choices some positive.
         grind (arith, list_any-append, meets_left step action here.demands steps choices))
       where

@@ -47,9 +47,6 @@ marked_more level i met next before less above within is = record {
     here : Visit
     here = get_or level.visits.items i no_visit
 
-    own : suc (here.set - 1) ≡ here.set
-    own = omega (arith, above)
-
 pub all_marked : (level : Level) (i : ℕ) (met : List Bool) → MarkedTo level i met
     → i ≡ length level.visits.items → (place : ℕ)
     → get_or met place false ≡ can_be_met (suc place) level

@@ -149,9 +149,7 @@ module _ (g : Game) (game : IsGame g) (player : ℕ) (digits : List OwnDigit) (s
 
         is : s ≡ take u.place strategy ++ later
         is =
-            let sum : k ≡ number + (k - number) = omega (arith, from) in
-            ap (λ (i : ℕ). get_or all i []) sum
-            ∙ u.numbered (k - number) (omega (arith, from, before))
+            grind (arith, u.numbered (k - number) (omega (arith, from, before)))
 
         fit : length (relevant_sets g player s) ≡ length s
         fit = flags_fit g game player k

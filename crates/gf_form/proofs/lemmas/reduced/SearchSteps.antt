@@ -125,50 +125,37 @@ module _ {g : Game} {player : ℕ} {counts : List ℕ} {digits : List OwnDigit} 
       × (v.place ≡ suc u.place)
   skip u less one =
       let p = u.place in
-      let only : get_or strategy p 0 ≡ 1 = search.alone p less (omega (arith, one)) in
-      let is : drop p counts ≡ 1 ∷ drop (suc p) counts = drop-cons counts p 0 less ∙ ap (λ n. n ∷ drop (suc p) counts) one in
+      let after = drop (suc p) counts in
+      let is : drop p counts ≡ 1 ∷ after = grind (arith, drop-cons counts p 0 less) in
       let longer : take (suc p) strategy ≡ take p strategy ++ 1 ∷ [] =
-      take-suc strategy p 0 (omega (arith, less, search.wide))
-      ∙ ap (λ (a : ℕ). take p strategy ++ a ∷ []) only in
+      grind (
+        arith,
+        take-suc strategy p 0 (omega (arith, less, search.wide)),
+        search.alone p less,
+      ) in
       let wider : take (suc p) counts ≡ take p counts ++ 1 ∷ [] =
-      take-suc counts p 0 less ∙ ap (λ (n : ℕ). take p counts ++ n ∷ []) one in (
+      grind (arith, take-suc counts p 0 less) in (
         record {
           place = suc p;
           within = omega (arith, less);
           deep = u.deep;
           early = λ k before. omega (arith, u.early k before);
-          left = u.left ∙ ap (digits_from p) is
-              ∙ ap (λ (n : ℕ). digits_from n (drop (suc p) counts)) (add-one p);
-          chosen = subst (λ (own : List ℕ). AreActions own (take (suc p) strategy)) (sym wider)
-              (subst (AreActions (take p counts ++ 1 ∷ [])) (sym longer)
-              (actions_more (take p counts) (take p strategy) 1 1 u.chosen (omega arith)
-              (omega arith)));
+          left = grind (arith, u.left);
+          chosen = rw (longer, wider) (actions_more (take p counts) (take p strategy) 1 1 u.chosen
+              (omega arith) (omega arith));
           counted = omega (arith, u.counted, ap product is);
           end = u.end;
           numbered = λ k before.
-              let row : get_or (all_choices (1 ∷ drop (suc p) counts)) k []
-              ≡ 1 ∷ get_or (all_choices (drop (suc p) counts)) k [] =
-              (let none : k ≡ 0 * product (drop (suc p) counts) + k = omega arith in
-              ap (λ (i : ℕ). get_or (all_choices (1 ∷ drop (suc p) counts)) i []) none)
-              ∙ choices_row 1 (drop (suc p) counts) 0 k (omega arith)
+              let row = choices_row 1 after 0 k (omega arith)
               (omega (arith, before, u.counted, ap product is)) in
-              u.numbered k before
-              ∙ ap (λ (own : List ℕ). take p strategy ++ get_or (all_choices own) k []) is
-              ∙ ap (λ (l : List ℕ). take p strategy ++ l) row
-              ∙ sym (append_assoc (take p strategy) (1 ∷ [])
-              (get_or (all_choices (drop (suc p) counts)) k []))
-              ∙ ap (λ (l : List ℕ). l ++ get_or (all_choices (drop (suc p) counts)) k []) (sym longer);
+              grind (arith, u.numbered k before, append_assoc);
           levelled = u.levelled;
           relevant = λ later position key actions there.
-              ap (λ (l : List ℕ). is_relevant g (choice_at (player_keys g player) l) key)
-              (ap (λ (l : List ℕ). l ++ later) longer
-              ∙ append_assoc (take p strategy) (1 ∷ []) later)
-              ∙ u.relevant (1 ∷ later) position key
-              (subst (λ (own : List ℕ). AreActions own (1 ∷ later)) (sym is)
-              ((omega arith, omega arith), actions)) there
-              ∙ ap (λ (own : List ℕ). is_left position (own_steps own) (picked own (1 ∷ later))
-              level)
-              is;
+              let whole : take (suc p) strategy ++ later ≡ take p strategy ++ 1 ∷ later =
+              grind (arith, append_assoc) in
+              let now = u.relevant (1 ∷ later) position key
+              (rw is ((omega arith, omega arith), actions)) there in
+              rw whole (rw is at now);
         },
         refl,
       )
@@ -286,38 +273,27 @@ module _ {g : Game} {player : ℕ} {counts : List ℕ} {digits : List OwnDigit} 
       deep = omega (arith, deep);
       early = λ k less. by_depth k less (k == depth) refl;
       left = later_digits;
-      chosen = subst (λ (own : List ℕ). AreActions own (take (suc q) chosen_there))
-          (sym (take-suc counts q 0 at.1))
-          (subst (AreActions (take q counts ++ n ∷ [])) (sym longer)
-          (actions_more (take q counts) (take q strategy) n a u.chosen (omega arith)
-          (omega (arith, inside))));
+      chosen = rw (take-suc counts q 0 at.1, longer) (actions_more (take q counts)
+          (take q strategy) n a u.chosen (omega arith) (omega (arith, inside)));
       counted = refl;
       end = omega (arith, u.end, before_end);
       numbered = λ k less.
-          let sum : number + before * product after + k ≡ number + (before * product after + k) =
-          omega arith in
-          ap (λ (i : ℕ). get_or (all_choices counts) i []) sum
-          ∙ u.numbered (before * product after + k) (omega (arith, less, before_end))
-          ∙ ap (λ (own : List ℕ). take q strategy ++ get_or (all_choices own)
-          (before * product after + k) []) is
-          ∙ ap (λ (l : List ℕ). take q strategy ++ l) (choices_row n after before k inside less)
-          ∙ sym (append_assoc (take q strategy) (a ∷ []) (get_or (all_choices after) k []))
-          ∙ ap (λ (l : List ℕ). l ++ get_or (all_choices after) k []) (sym longer);
+          let row = choices_row n after before k inside less in
+          let now = u.numbered (before * product after + k) (omega (arith, less, before_end)) in
+          grind (arith, is, longer, append_assoc);
       levelled = levelled;
       relevant = λ later position key actions found.
-          ap (λ (l : List ℕ). is_relevant g (choice_at (player_keys g player) l) key)
-          (ap (λ (l : List ℕ). l ++ later) longer ∙ append_assoc (take q strategy) (a ∷ []) later)
-          ∙ u.relevant (a ∷ later) position key
-          (subst (λ (own : List ℕ). AreActions own (a ∷ later)) (sym is)
-          ((omega arith, omega (arith, inside)), actions)) found
-          ∙ ap (λ (own : List ℕ). is_left position (own_steps own) (picked own (a ∷ later)) level)
-          is
-          ∙ several n later (omega (arith, at.2, at.3)) position
+          let now = u.relevant (a ∷ later) position key
+          (rw is ((omega arith, omega (arith, inside)), actions)) found in
+          let whole : take (suc q) chosen_there ++ later ≡ take q strategy ++ a ∷ later =
+          grind (arith, longer, append_assoc) in
+          let before_choice = rw is at now in
+          rw whole (before_choice ∙ several n later (omega (arith, at.2, at.3)) position
           ∙ ap (λ (step : ℕ). is_left position (step ∷ own_steps after) (a ∷ picked after later)
           level) (sym at.4)
           ∙ sym (choice position (own_steps after) (picked after later)
           (position_above (player_keys g player) position key found)
-          (steps_positive (picked after after)));
+          (steps_positive (picked after after))));
     }
       where
         by_depth : (k : ℕ) → k < depth + 1 → (b : Bool) → (k == depth) ≡ b
@@ -392,8 +368,7 @@ module _ {g : Game} {player : ℕ} {counts : List ℕ} {digits : List OwnDigit}
   some_actions = omega (arith, found.1.3)
 
   whole : count ≡ d.actions * others
-  whole = found.0.counted ∙ ap product (drop-cons counts place_there 0 found.1.1)
-      ∙ ap (λ (n : ℕ). n * others) (sym found.1.2)
+  whole = grind (arith, found.0.counted, drop-cons counts place_there 0 found.1.1, found.1.2)
 
   each_is : count / d.actions ≡ others
   each_is = ap (λ (n : ℕ). n / d.actions) whole ∙ mul-div_cancel_left others some_actions
