@@ -1,11 +1,10 @@
 -- What is left of a player's visits after a choice, visit by visit.
-use Rattle.std.proofs.Common.{◌≡◌, ℕ, ◌+◌, ◌-◌, ◌*◌, ◌<◌, ◌≤◌, Bool, true, false, List, [], ◌∷◌}
-use Rattle.std.proofs.Common.{◌++◌, Some, None, length, get_or, set, take, refl, sym, ap, subst}
+use Rattle.std.proofs.Common.{◌≡◌, ℕ, ◌+◌, ◌-◌, ◌<◌, ◌≤◌, true, false, List, [], ◌∷◌}
+use Rattle.std.proofs.Common.{◌++◌, Some, None, length, get_or, set, take, ap}
 use Rattle.std.proofs.Common.{◌∙◌, arith}
-use Rattle.std.specs.Prelude.{◌==◌, ◌||◌, ◌&&◌, nat_le, nat_lt, if◌then◌else◌}
+use Rattle.std.specs.Prelude.{◌||◌}
 use Rattle.std.specs.Option.{option_map_or}
-use Rattle.std.proofs.Math.Bool.{or-false, or_assoc}
-use Rattle.std.proofs.lemmas.Bool.{eqb-false, eqb-true, lt-ltb}
+use Rattle.std.proofs.Math.Bool.{or-false}
 use Rattle.std.proofs.lemmas.Grind.{get_or-set_at}
 use Rattle.std.proofs.lemmas.List.{get_or-set_other, length-set, take_more}
 use Rattle.std.proofs.lemmas.List.Folds.{list_any-append}
@@ -13,7 +12,7 @@ use Rattle.gf_fraction.proofs.AllElements.{all_both}
 use Rattle.gf_form.proofs.lemmas.strategies.StrategiesByNumber.{all_at}
 use Rattle.gf_form.specs.inner.rows.Demands.{meets}
 use Rattle.gf_form.specs.inner.reduced.Levels.{ArePositive, IsLevel, is_left, left_of}
-use Rattle.gf_form.specs.inner.reduced.Visits.{AreWithin, is_met, is_met_on}
+use Rattle.gf_form.specs.inner.reduced.Visits.{is_met, is_met_on}
 use Rattle.gf_form.specs.declared.reduced.level.Level.{Level}
 use Rattle.gf_form.specs.declared.reduced.visits.Visit.{Visit}
 
@@ -54,7 +53,7 @@ module _ (step action : ℕ) (from : Level) (i : ℕ) (less : i < length from.vi
       → is_met position steps choices (take (i + 1) from.visits.items)
       ≡ (is_met position steps choices (take i from.visits.items)
       || is_met_on position steps choices here)
-  met_more position steps choices = 
+  met_more position steps choices =
       grind (arith, take_more from.visits.items i no_visit less, list_any-append)
 
   module _ (left : Level) (before : ChosenTo step action from i left) where

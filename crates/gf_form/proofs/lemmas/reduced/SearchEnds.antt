@@ -3,23 +3,20 @@ use Rattle.std.proofs.Common.{◌≡◌, ℕ, zero, suc, ◌+◌, ◌-◌, ◌<�
 use Rattle.std.proofs.Common.{◌∷◌, ◌++◌, Some, length, drop, get_or, map, take, slice_get, refl}
 use Rattle.std.proofs.Common.{sym}
 use Rattle.std.proofs.Common.{ap, subst, ◌∙◌, arith, append-nil, inl, inr, ◌⊎◌}
-use Rattle.std.specs.Prelude.{◌==◌, ◌||◌, ◌&&◌, filter}
+use Rattle.std.specs.Prelude.{◌==◌, ◌||◌, filter}
 use Rattle.std.specs.List.{AllByRecursion, list_any}
-use Rattle.std.proofs.Math.Bool.{and-true}
 use Rattle.std.proofs.Math.ListN.{drop_of_length-le}
 use Rattle.std.proofs.Math.Seq.{take-length}
-use Rattle.std.proofs.lemmas.Bool.{cases_lt, false_from_ne_true, or_from, or_parts}
+use Rattle.std.proofs.lemmas.Bool.{cases_lt, false_from_ne_true}
 use Rattle.std.proofs.lemmas.List.{get_or-map, get_or-take, get_or_append_left, length-map}
 use Rattle.std.proofs.lemmas.List.{length-take-le}
 use Rattle.std.proofs.lemmas.Option.{slice_get-get_or}
 use Rattle.gf_nfg.specs.Profiles.{product}
-use Rattle.gf_tree.specs.Description.{InformationSet, SetKey}
-use Rattle.gf_tree.specs.FiniteMap.{Described}
-use Rattle.gf_tree.specs.FirstUse.{player_keys, player_sets}
+use Rattle.gf_tree.specs.Description.{SetKey}
+use Rattle.gf_tree.specs.FirstUse.{player_keys}
 use Rattle.gf_tree.specs.Game.{Game, IsGame}
 use Rattle.gf_form.specs.Reduced.{is_relevant, reduced, reduced_label, reduced_labels}
 use Rattle.gf_form.specs.Strategies.{action_counts, all_choices, choice_at, strategies}
-use Rattle.gf_form.specs.inner.rows.Demands.{meets}
 use Rattle.gf_form.specs.inner.rows.DigitSteps.{picked}
 use Rattle.gf_form.specs.inner.reduced.Firsts.{AreFirstsOf}
 use Rattle.gf_form.specs.inner.reduced.Levels.{IsLevel, can_be_met, is_left}
@@ -28,7 +25,7 @@ use Rattle.gf_form.specs.inner.reduced.Relevance.{FindRelevance}
 use Rattle.gf_form.specs.inner.reduced.Search.{AreFoundTo, AreOpen, IsSearchBy, IsShut, IsUnderBy}
 use Rattle.gf_form.specs.inner.reduced.Search.{digit_at}
 use Rattle.gf_form.specs.inner.reduced.Shown.{chooses_first, is_first, relevant_sets}
-use Rattle.gf_form.specs.inner.reduced.Visits.{AreActions, is_met, is_met_on}
+use Rattle.gf_form.specs.inner.reduced.Visits.{AreActions, is_met}
 use Rattle.gf_form.specs.declared.reduced.digits.OwnDigit.{OwnDigit}
 use Rattle.gf_form.specs.declared.reduced.level.Level.{Level}
 use Rattle.gf_form.specs.declared.reduced.visits.Visit.{Visit}

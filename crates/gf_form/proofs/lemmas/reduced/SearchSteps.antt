@@ -211,14 +211,16 @@ module _ {g : Game} {player : ℕ} {counts : List ℕ} {digits : List OwnDigit} 
       let v = further (length counts) u (omega arith) (cases_lt u.place (length counts)) in
       elim v.1 [
         | inl past ↦ (v.0, omega (arith, past, v.0.within))
-        | inr several ↦ absurd (let e = digits_there counts v.0.place none v.0.left several.0 several.1 in cc)
+        | inr several ↦
+            absurd (let e = digits_there counts v.0.place none v.0.left several.0 several.1 in cc)
       ]
 
   -- a choice at the digit
   module _ (u : IsUnderBy g player counts digits strategy level depth number count) (d : OwnDigit)
       (there : digit_at digits depth ≡ d)
       (deep : depth < length digits) (at : IsAt counts d u.place)
-      (later_digits : drop (depth + 1) digits ≡ digits_from (suc u.place) (drop (suc u.place) counts))
+      (later_digits : drop (depth + 1) digits
+      ≡ digits_from (suc u.place) (drop (suc u.place) counts))
       (before : ℕ) (within : before < d.actions) where
     abbrev a : ℕ
     a = before + 1

@@ -1,18 +1,11 @@
-use Rattle.std.proofs.Common.{◌≡◌, ◌+◌, ◌*◌, ◌/◌, ◌^◌, ◌<◌, ◌≤◌, ◌∙◌, ℕ, OnOk, ap, arith, length}
-use Rattle.std.proofs.Common.{refl, set, subst, sym, take}
-use Rattle.std.proofs.Math.ListN.{drop_of_length-le}
-use Rattle.std.proofs.lemmas.List.{get_or_default}
-use Rattle.gf_form.specs.Strategies.{action_counts}
+use Rattle.std.proofs.Common.{◌≡◌, ◌+◌, ◌*◌, ◌/◌, ◌^◌, ◌<◌, ◌∙◌, ℕ, OnOk, ap, arith}
+use Rattle.std.proofs.Common.{refl, subst, sym}
 use Rattle.gf_form.specs.inner.reduced.Levels.{IsChosen, IsLevel}
-use Rattle.gf_form.specs.inner.reduced.Search.{AreOpen, IsFound, IsSearchBy, IsShut, IsUnderBy}
-use Rattle.gf_form.specs.inner.reduced.Search.{digit_at}
-use Rattle.gf_form.specs.declared.reduced.digits.OwnDigit.{OwnDigit}
-use Rattle.gf_form.proofs.lemmas.strategies.Choices.{length-all_choices}
+use Rattle.gf_form.specs.inner.reduced.Search.{AreOpen, IsFound, IsShut}
 use Rattle.gf_form.proofs.lemmas.reduced.SearchEnds.{IsLast, at_last, none_found}
-use Rattle.gf_form.proofs.lemmas.reduced.SearchSteps.{all_rows, at_end, next_search, next_under}
+use Rattle.gf_form.proofs.lemmas.reduced.SearchSteps.{all_rows, next_search, next_under}
 use Rattle.gf_form.proofs.lemmas.reduced.SearchSteps.{place_inside, some_actions}
-use Rattle.gf_form.proofs.lemmas.reduced.SearchSteps.{step_fits}
-use Rattle.gf_form.proofs.lemmas.reduced.SearchSteps.{still}
+use Rattle.gf_form.proofs.lemmas.reduced.SearchSteps.{step_fits, still}
 use Rattle.gf_form.proofs.reduced.first.Search.+push_below.Goals as goal
 
 pub returns-then-not-is_open-clause-found : goal.returns-then-not-is_open-clause-found
