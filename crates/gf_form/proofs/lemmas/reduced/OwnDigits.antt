@@ -52,8 +52,7 @@ steps_later n later i = grind arith
 
 step_there : (counts : List ℕ) (i : ℕ) → i < length counts → 1 < get_or counts i 0
     → get_or (steps_behind 1 counts) i 0 ≡ width (drop (suc i) counts)
-step_there (n ∷ counts) (suc i) less several =
-    steps_later n counts i ∙ step_there counts i (omega (arith, less)) several
+step_there (n ∷ counts) (suc i) less several = grind (arith, steps_later, step_there counts i)
 step_there counts i less several = grind (arith, step_first)
 
 pub from_several : (p n : ℕ) (later : List ℕ) → 1 < n → digits_from p (n ∷ later)

@@ -307,7 +307,3 @@ module _ (g : Game) (game : IsGame g) (player : ℕ) (numbers : List ℕ) (label
         map_twice reduced_label (λ number. reduced g player (get_or each_of number [])) numbers,
         firsts_are.0,
       )
-
--- none is found before the search
-pub none_yet : (g : Game) (player : ℕ) → AreFoundTo g player [] [] 0
-none_yet g player = record { are = refl; before = tt; labelled = refl }

@@ -85,13 +85,10 @@ under_kept {g = g} {player = player} {counts = counts} other u same = record {
   chosen = subst (AreActions (take u.place counts)) (sym same) u.chosen;
   counted = u.counted;
   end = u.end;
-  numbered = λ k less.
-      u.numbered k less
-      ∙ ap (λ l. l ++ get_or (all_choices (drop u.place counts)) k []) (sym same);
+  numbered = λ k less. grind (arith, u.numbered k less);
   levelled = u.levelled;
   relevant = λ later position key actions there.
-      ap (λ l. is_relevant g (choice_at (player_keys g player) (l ++ later)) key) same
-      ∙ u.relevant later position key actions there;
+      rw same (u.relevant later position key actions there);
 }
 
 some_action : (counts : List ℕ) (p : ℕ) → ArePositive counts → p < length counts
