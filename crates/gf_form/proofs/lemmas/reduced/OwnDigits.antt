@@ -1,6 +1,6 @@
 -- The digits of one player's sets: they fit into 64 bits, and their steps.
 use Rattle.std.proofs.Common.{◌≡◌, ℕ, zero, suc, ◌+◌, ◌*◌, ◌^◌, ◌<◌, ◌≤◌, List, [], ◌∷◌, ◌++◌}
-use Rattle.std.proofs.Common.{length, drop, get_or, refl, ◌∙◌, arith}
+use Rattle.std.proofs.Common.{length, drop, get_or, refl, arith}
 use Rattle.std.proofs.Common.{append_assoc}
 use Rattle.std.proofs.Math.Nat.{mul-le-mul}
 use Rattle.gf_nfg.specs.Profiles.{product}

@@ -14,8 +14,7 @@ use Rattle.gf_nfg.specs.Profiles.{product}
 use Rattle.gf_tree.specs.Description.{SetKey}
 use Rattle.gf_tree.specs.FirstUse.{player_keys}
 use Rattle.gf_tree.specs.Game.{Game}
-use Rattle.gf_form.specs.Reduced.{is_relevant}
-use Rattle.gf_form.specs.Strategies.{all_choices, choice_at}
+use Rattle.gf_form.specs.Strategies.{all_choices}
 use Rattle.gf_form.specs.inner.rows.Demands.{spans, steps_of}
 use Rattle.gf_form.specs.inner.rows.DigitSteps.{picked, width}
 use Rattle.gf_form.specs.inner.reduced.Levels.{ArePositive, IsChosen, IsLevel, is_left}
