@@ -261,6 +261,20 @@ def moves_of_one_action(sets, count):
     return tree.game()
 
 
+def set_never_met(actions, count):
+    """A set with many actions, only after two choices that exclude each other, and many sets of one action."""
+    tree = Tree(1)
+    tree.move(1, 1)
+    tree.move(1, 1)
+    for number in range(3, count + 3):
+        tree.move(1, number, 1)
+    tree.end()
+    tree.move(1, 2, actions)
+    for _ in range(actions + 1):
+        tree.end()
+    return tree.game()
+
+
 def sets_in_conflict(sets):
     """The first nodes of late sets are out of reach, and others come after choices that exclude each other."""
     tree = Tree(1)
@@ -358,6 +372,7 @@ KNOWN = {
         partial(toss_that_never_comes, 17, 7, -1),
     ),
     "a wide tree": (partial(wide_tree, 500, 8, 20, without=["reduced"]), MOST_ROWS),
+    "a set that is never met": (partial(set_never_met, 2000, 1000), partial(set_never_met, 2, 1000)),
 }
 
 # The same of shapes that have a short way to the strategic form: the twin has to go the long way.
