@@ -56,7 +56,7 @@ pub use Rattle.gf_tree.specs.Tree.{Tree, Trees, count, map_tree, map_trees}
 pub use Rattle.gf_tree.specs.Tree.Tree.{branch}
 pub use Rattle.gf_tree.specs.Tree.Trees.{none, more}
 pub use Rattle.gf_tree.specs.declared.game.kept.Stored.{Stored}
-pub use Rattle.gf_tree.specs.inner.GameParts.{game_with}
+pub use Rattle.gf_tree.specs.inner.GameParts.{Parts, game_with}
 pub use Rattle.gf_tree.specs.inner.Machine.{Begun, Content, State, at, new_set_ends, shared, step}
 pub use Rattle.gf_tree.specs.inner.Machine.{after_node, node_letter, personal_node, Position}
 pub use Rattle.gf_tree.specs.inner.Machine.{nothing, begun, behind_set, outcome_number}

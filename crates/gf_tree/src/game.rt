@@ -12,7 +12,7 @@ ghost use Rattle.gf_tree.specs.PrefixOrder.{Fills, flatten};
 ghost use Rattle.gf_tree.specs.Description.{set_of};
 ghost use Rattle.gf_tree.specs.FirstUse.{outcome_numbers, player_keys};
 ghost use Rattle.gf_tree.specs.Game.{IsGame, outcome_at, set_at};
-ghost use Rattle.gf_tree.specs.inner.GameParts.{IsKeptAt, game_with};
+ghost use Rattle.gf_tree.specs.inner.GameParts.{IsKeptAt, IsListed, game_with, parts_of};
 ghost use Rattle.gf_tree.specs.Description.{outcome_with, set_with};
 ghost use Rattle.gf_tree.specs.KeptNodes.{AreAmong, entries_with};
 ghost use Rattle.gf_tree.specs.Movers.{IsMover};
@@ -29,9 +29,7 @@ use crate::game::branch::Branch;
 use crate::game::kept::{NodeList, Stored, child_count, outcome_number, skip, step};
 use crate::game::node::Node;
 use crate::game::nodes::Nodes;
-use crate::game::outcomes::Outcomes;
-use crate::game::sets::Sets;
-use crate::numbers::indexing::Indexing;
+use crate::game::parts::Parts;
 use crate::reader::receive::ToldHeading;
 use gf_fraction::Fraction;
 use gf_token::Label;
@@ -49,6 +47,7 @@ pub(crate) mod node_by_first_use;
 pub(crate) mod nodes;
 mod nodes_by_first_use;
 pub(crate) mod outcomes;
+pub(crate) mod parts;
 mod renumbering;
 pub(crate) mod sets;
 
@@ -60,79 +59,48 @@ pub use nodes_by_first_use::NodesByFirstUse;
 /// outcomes are those of the file.
 #[derive(Drop)]
 pub struct Game<'a> {
-    title: Label<'a>,
-    comment: Label<'a>,
-    players: Vec<Label<'a>>,
-    /// How its numbers are found.
-    indexing: Indexing<'a>,
-    sets: Sets<'a>,
-    outcomes: Outcomes<'a>,
+    parts: Parts<'a>,
     nodes: Vec<Stored<'a>>,
 }
 
 impl<'a> Model for Game<'a> {
     ghost use Rattle.std.specs.Prelude.{map};
-    ghost use Rattle.gf_token.specs.Label.{label_of};
     ghost use Rattle.gf_tree.specs.Game.{Game};
     ghost use Rattle.gf_tree.specs.GameCode.{game_code};
-    ghost use Rattle.gf_tree.specs.inner.GameParts.{IsHeld, game_with};
+    ghost use Rattle.gf_tree.specs.inner.GameParts.{IsHeld, game_with, parts_of};
     ghost use Rattle.gf_tree.specs.KeptNodes.{kept_of};
 
     ghost Value = { Game };
 
     ghost coded = { game_code };
 
-    ghost view = { λ g. game_with (label_of g.title) (label_of g.comment)
-        (map label_of g.players.items) g.sets.known g.outcomes.known (map kept_of g.nodes.items) };
+    ghost view = { λ g. game_with (parts_of g.parts) (map kept_of g.nodes.items) };
 
-    ghost invariant = { λ g. IsHeld (label_of g.title) (label_of g.comment)
-        (map label_of g.players.items) g.sets.known g.outcomes.known g.nodes.items };
+    ghost invariant = { λ g. IsHeld (parts_of g.parts) g.nodes.items };
 }
 
 impl<'a> Game<'a> {
     /// The game of these parts. The caller has to ensure that the nodes fill one tree.
-    pub(crate) fn new(
-        title: Label<'a>,
-        comment: Label<'a>,
-        players: Vec<Label<'a>>,
-        indexing: Indexing<'a>,
-        sets: Sets<'a>,
-        outcomes: Outcomes<'a>,
-        nodes: NodeList<'a>,
-    ) -> Game<'a>
-        requires placed { AreAmong (length sets.known) (length outcomes.known) nodes }
-        requires fills { Fills 1 (entries_with sets.known outcomes.known nodes) }
-        requires is_game { IsGame (game_with (label_of title) (label_of comment)
-            (map label_of players.items) sets.known outcomes.known nodes) }
-        requires spellable { IsSpellable (game_with (label_of title) (label_of comment)
-            (map label_of players.items) sets.known outcomes.known nodes) }
-        ensures { result ≡ game_with (label_of title.entry) (label_of comment.entry)
-            (map label_of players.entry.items) sets.entry.known outcomes.entry.known nodes.entry }
+    pub(crate) fn new(parts: Parts<'a>, nodes: NodeList<'a>) -> Game<'a>
+        requires { IsListed (parts_of parts) nodes }
+        ensures { result ≡ game_with (parts_of parts.entry) nodes.entry }
     {
-        let nodes = nodes.sized(&sets);
-        Game {
-            title,
-            comment,
-            players,
-            indexing,
-            sets,
-            outcomes,
-            nodes,
-        }
+        let nodes = nodes.sized(&parts.sets);
+        Game { parts, nodes }
     }
 
     /// The title.
     pub fn title(&self) -> Label<'a>
         ensures { label_of result ≡ self.now.title }
     {
-        self.title
+        self.parts.title
     }
 
     /// The comment, which is empty if the file has none.
     pub fn comment(&self) -> Label<'a>
         ensures { label_of result ≡ self.now.comment }
     {
-        self.comment
+        self.parts.comment
     }
 
     /// The names of the players, from the first to the last.
@@ -145,7 +113,7 @@ impl<'a> Game<'a> {
         ensures is_game { IsGame self.now }
         ensures spellable { IsSpellable self.now }
     {
-        &self.players
+        &self.parts.players
     }
 
     /// The title, the comment and the players.
@@ -157,9 +125,9 @@ impl<'a> Game<'a> {
         ensures spellable { IsSpellable self.now }
     {
         ToldHeading {
-            title: self.title,
-            comment: self.comment,
-            players: &self.players,
+            title: self.parts.title,
+            comment: self.parts.comment,
+            players: &self.parts.players,
         }
     }
 
@@ -169,8 +137,8 @@ impl<'a> Game<'a> {
         ensures { option_map (λ p. set_with (label_of p.0) (actions_of p.1.now)) result
             ≡ set_at self.now (set_of player number) }
     {
-        match self.sets.find(player, number) {
-            Some(place) => Some((self.sets.name(place), self.sets.actions(place))),
+        match self.parts.sets.find(player, number) {
+            Some(place) => Some((self.parts.sets.name(place), self.parts.sets.actions(place))),
             None => None,
         }
     }
@@ -181,8 +149,11 @@ impl<'a> Game<'a> {
         ensures { option_map (λ p. outcome_with (label_of p.0) p.1.now) result
             ≡ outcome_at self.now number }
     {
-        match self.outcomes.find(number) {
-            Some(place) => Some((self.outcomes.name(place), self.outcomes.payoffs(place))),
+        match self.parts.outcomes.find(number) {
+            Some(place) => Some((
+                self.parts.outcomes.name(place),
+                self.parts.outcomes.payoffs(place),
+            )),
             None => None,
         }
     }
@@ -192,8 +163,8 @@ impl<'a> Game<'a> {
         ensures count { result ≡ length (player_keys self.now player) }
         ensures few { result < 2 ^ 32 }
     {
-        let count = self.sets.count(player);
-        prove!(count <= self.sets.len());
+        let count = self.parts.sets.count(player);
+        prove!(count <= self.parts.sets.len());
         count
     }
 
@@ -203,7 +174,7 @@ impl<'a> Game<'a> {
         ensures { result
             ≡ at_position (map (λ key. key.number) (player_keys self.now player)) i }
     {
-        self.sets.number(player, i)
+        self.parts.sets.number(player, i)
     }
 
     /// How many outcomes there are. Outcome 0 does not count.
@@ -211,7 +182,7 @@ impl<'a> Game<'a> {
         ensures count { result ≡ length (outcome_numbers self.now) }
         ensures few { result < 2 ^ 32 }
     {
-        self.outcomes.len()
+        self.parts.outcomes.len()
     }
 
     /// The number of an outcome, by its position from 1 among the outcomes in order of first use.
@@ -219,7 +190,7 @@ impl<'a> Game<'a> {
     pub fn outcome_number(&self, i: usize) -> Option<u32>
         ensures { result ≡ at_position (outcome_numbers self.now) i }
     {
-        self.outcomes.at(i)
+        self.parts.outcomes.at(i)
     }
 
     /// The whole tree.
@@ -262,8 +233,8 @@ impl<'a> Game<'a> {
         let node = self.kept(at);
         Node {
             name: node.name,
-            step: step(&self.sets, node.set),
-            outcome: outcome_number(&self.outcomes, node.outcome),
+            step: step(&self.parts.sets, node.set),
+            outcome: outcome_number(&self.parts.outcomes, node.outcome),
         }
     }
 
@@ -272,7 +243,7 @@ impl<'a> Game<'a> {
         requires { at < length (subtrees self.now.tree) }
         ensures { result ≡ length (child_trees (subtree_at self.now.tree at)) }
     {
-        child_count(&self.sets, self.kept(at).set)
+        child_count(&self.parts.sets, self.kept(at).set)
     }
 
     /// The place of a child of the node at this place, by its own place, from 0, among the
@@ -315,8 +286,8 @@ impl<'a> Game<'a> {
             return None;
         }
         let place = set - 1;
-        let (player, _) = self.sets.key(place);
-        Some((player, self.sets.first_use_number(place)))
+        let (player, _) = self.parts.sets.key(place);
+        Some((player, self.parts.sets.first_use_number(place)))
     }
 
     /// The actions at the node at this place; none if the game ends there.
@@ -331,7 +302,7 @@ impl<'a> Game<'a> {
         if set == 0 {
             return &[];
         }
-        self.sets.actions(set - 1)
+        self.parts.sets.actions(set - 1)
     }
 
     /// The position of the outcome of the node at this place among the outcomes in order of first

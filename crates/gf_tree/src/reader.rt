@@ -29,6 +29,7 @@ pub(crate) mod told;
 use crate::game::kept::NodeList;
 use crate::game::listed_game::ListedGame;
 use crate::game::outcomes::Outcomes;
+use crate::game::parts::Parts;
 use crate::game::sets::Sets;
 use crate::numbers::indexing::Indexing;
 use gf_token::{Fault, Label, Span, Tokens};
@@ -101,14 +102,14 @@ impl<'a> Reader<'a> {
             × (run (length bytes) Format nothing tokens ≡ Ok (content_with self nodes)) }
         ensures { result ≡ game_of (content_with self.entry nodes.entry) }
     {
-        ListedGame::new(
-            self.title,
-            self.comment,
-            self.players,
-            self.indexing,
-            self.sets,
-            self.outcomes,
-            nodes,
-        )
+        let parts = Parts {
+            title: self.title,
+            comment: self.comment,
+            players: self.players,
+            indexing: self.indexing,
+            sets: self.sets,
+            outcomes: self.outcomes,
+        };
+        ListedGame::new(parts, nodes)
     }
 }

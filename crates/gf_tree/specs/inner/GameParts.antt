@@ -1,26 +1,43 @@
 -- A game as it is kept.
 use Rattle.std.specs.Prelude.{◌≡◌, ℕ, List, length, map}
+use Rattle.gf_token.specs.Label.{label_of}
 use Rattle.gf_tree.specs.PrefixOrder.{Fills}
 use Rattle.gf_tree.specs.FiniteMap.{Described}
 use Rattle.gf_tree.specs.Spellable.{IsSpellable}
 use Rattle.gf_tree.specs.declared.game.kept.Stored.{Stored}
+use Rattle.gf_tree.specs.declared.game.parts.Parts.{Parts as StoredParts}
 use Rattle.gf_tree.specs.Game.{Game, IsGame}
 use Rattle.gf_tree.specs.Subtrees.{child_trees, root_node, subtree_at, subtree_sizes}
 use Rattle.gf_tree.specs.Description.{SetKey, InformationSet, Outcome}
 use Rattle.gf_tree.specs.KeptNodes.{Kept, AreAmong, IsAmong, child_count, entries_with, kept_of}
 use Rattle.gf_tree.specs.KeptNodes.{node_with, sizes_of, tree_with}
 
--- the game of these parts
-abbrev pub game_with
-    : List ℕ → List ℕ → List (List ℕ) → List (Described SetKey InformationSet)
-    → List (Described ℕ Outcome) → List Kept → Game
-game_with title comment players sets outcomes nodes = record {
-  title = title;
-  comment = comment;
-  players = players;
-  tree = tree_with sets outcomes nodes;
-  sets = sets;
-  outcomes = outcomes;
+-- all of a game but its nodes
+pub record Parts : Type 0 where
+  pub title : List ℕ
+  pub comment : List ℕ
+  pub players : List (List ℕ)
+  pub sets : List (Described SetKey InformationSet)
+  pub outcomes : List (Described ℕ Outcome)
+
+abbrev pub parts_of : StoredParts → Parts
+parts_of p = record {
+  title = label_of p.title;
+  comment = label_of p.comment;
+  players = map label_of p.players.items;
+  sets = p.sets.known;
+  outcomes = p.outcomes.known;
+}
+
+-- the game of these parts and nodes
+abbrev pub game_with : Parts → List Kept → Game
+game_with p nodes = record {
+  title = p.title;
+  comment = p.comment;
+  players = p.players;
+  tree = tree_with p.sets p.outcomes nodes;
+  sets = p.sets;
+  outcomes = p.outcomes;
 }
 
 -- The nodes fill one tree, each has its set and its outcome, and its entry also has the size of its
@@ -33,22 +50,16 @@ pub record AreNodes
   pub sizes : sizes_of nodes ≡ subtree_sizes (tree_with sets outcomes (map kept_of nodes))
 
 -- The nodes fill one tree, and each has its set and its outcome.
-pub record IsListed
-    (title comment : List ℕ) (players : List (List ℕ))
-    (sets : List (Described SetKey InformationSet)) (outcomes : List (Described ℕ Outcome))
-    (nodes : List Kept) : Type 0 where
-  pub placed : AreAmong (length sets) (length outcomes) nodes
-  pub fills : Fills 1 (entries_with sets outcomes nodes)
-  pub is_game : IsGame (game_with title comment players sets outcomes nodes)
-  pub spellable : IsSpellable (game_with title comment players sets outcomes nodes)
+pub record IsListed (p : Parts) (nodes : List Kept) : Type 0 where
+  pub placed : AreAmong (length p.sets) (length p.outcomes) nodes
+  pub fills : Fills 1 (entries_with p.sets p.outcomes nodes)
+  pub is_game : IsGame (game_with p nodes)
+  pub spellable : IsSpellable (game_with p nodes)
 
-pub record IsHeld
-    (title comment : List ℕ) (players : List (List ℕ))
-    (sets : List (Described SetKey InformationSet)) (outcomes : List (Described ℕ Outcome))
-    (nodes : List Stored) : Type 0 where
-  pub nodes_are : AreNodes sets outcomes nodes
-  pub is_game : IsGame (game_with title comment players sets outcomes (map kept_of nodes))
-  pub spellable : IsSpellable (game_with title comment players sets outcomes (map kept_of nodes))
+pub record IsHeld (p : Parts) (nodes : List Stored) : Type 0 where
+  pub nodes_are : AreNodes p.sets p.outcomes nodes
+  pub is_game : IsGame (game_with p (map kept_of nodes))
+  pub spellable : IsSpellable (game_with p (map kept_of nodes))
 
 -- The node that is kept at a place of the tree.
 pub record IsKeptAt (g : Game) (at : ℕ) (n : Stored) : Type 0 where

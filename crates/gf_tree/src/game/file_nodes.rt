@@ -77,8 +77,8 @@ impl<'a> Game<'a> {
         ensures { result ≡ file_nodes self.now }
     {
         FileNodes {
-            sets: &self.sets,
-            outcomes: &self.outcomes,
+            sets: &self.parts.sets,
+            outcomes: &self.parts.outcomes,
             nodes: self.nodes.iter(),
             used_sets: 0,
             used_outcomes: 0,

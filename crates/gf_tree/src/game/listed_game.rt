@@ -5,7 +5,7 @@ ghost use Rattle.gf_token.specs.Label.{label_of};
 ghost use Rattle.gf_tree.specs.FileNodes.{file_nodes};
 ghost use Rattle.gf_tree.specs.FirstUse.{first_use_numbers};
 ghost use Rattle.gf_tree.specs.Game.{IsGame};
-ghost use Rattle.gf_tree.specs.inner.GameParts.{game_with};
+ghost use Rattle.gf_tree.specs.inner.GameParts.{IsListed, game_with, parts_of};
 ghost use Rattle.gf_tree.specs.KeptNodes.{AreAmong, entries_with};
 ghost use Rattle.gf_tree.specs.PrefixOrder.{Fills};
 ghost use Rattle.gf_tree.specs.Renumbering.{renumbered};
@@ -13,75 +13,40 @@ ghost use Rattle.gf_tree.specs.Spellable.{IsSpellable};
 ghost use Rattle.gf_tree.specs.Told.{heading_in, heading_of};
 
 use crate::game::kept::NodeList;
-use crate::game::outcomes::Outcomes;
-use crate::game::sets::Sets;
+use crate::game::parts::Parts;
 use crate::game::{Game, NodesByFirstUse};
-use crate::numbers::indexing::Indexing;
 use crate::reader::receive::ToldHeading;
-use gf_token::Label;
 use std::marker::Model;
 
 /// A game whose nodes can only be visited one after another, in prefix order. It is not known yet
 /// where the subtree of a node ends: `into_game` finds that out for all nodes.
 #[derive(Drop)]
 pub struct ListedGame<'a> {
-    title: Label<'a>,
-    comment: Label<'a>,
-    players: Vec<Label<'a>>,
-    /// How its numbers are found.
-    indexing: Indexing<'a>,
-    sets: Sets<'a>,
-    outcomes: Outcomes<'a>,
+    parts: Parts<'a>,
     nodes: NodeList<'a>,
 }
 
 impl<'a> Model for ListedGame<'a> {
-    ghost use Rattle.std.specs.Prelude.{map};
-    ghost use Rattle.gf_token.specs.Label.{label_of};
     ghost use Rattle.gf_tree.specs.Game.{Game};
     ghost use Rattle.gf_tree.specs.GameCode.{game_code};
-    ghost use Rattle.gf_tree.specs.inner.GameParts.{IsListed, game_with};
+    ghost use Rattle.gf_tree.specs.inner.GameParts.{IsListed, game_with, parts_of};
 
     ghost Value = { Game };
 
     ghost coded = { game_code };
 
-    ghost view = { λ g. game_with (label_of g.title) (label_of g.comment)
-        (map label_of g.players.items) g.sets.known g.outcomes.known g.nodes };
+    ghost view = { λ g. game_with (parts_of g.parts) g.nodes };
 
-    ghost invariant = { λ g. IsListed (label_of g.title) (label_of g.comment)
-        (map label_of g.players.items) g.sets.known g.outcomes.known g.nodes };
+    ghost invariant = { λ g. IsListed (parts_of g.parts) g.nodes };
 }
 
 impl<'a> ListedGame<'a> {
     /// The game of these parts. The caller has to ensure that the nodes fill one tree.
-    pub(crate) fn new(
-        title: Label<'a>,
-        comment: Label<'a>,
-        players: Vec<Label<'a>>,
-        indexing: Indexing<'a>,
-        sets: Sets<'a>,
-        outcomes: Outcomes<'a>,
-        nodes: NodeList<'a>,
-    ) -> ListedGame<'a>
-        requires placed { AreAmong (length sets.known) (length outcomes.known) nodes }
-        requires fills { Fills 1 (entries_with sets.known outcomes.known nodes) }
-        requires is_game { IsGame (game_with (label_of title) (label_of comment)
-            (map label_of players.items) sets.known outcomes.known nodes) }
-        requires spellable { IsSpellable (game_with (label_of title) (label_of comment)
-            (map label_of players.items) sets.known outcomes.known nodes) }
-        ensures { result ≡ game_with (label_of title.entry) (label_of comment.entry)
-            (map label_of players.entry.items) sets.entry.known outcomes.entry.known nodes.entry }
+    pub(crate) fn new(parts: Parts<'a>, nodes: NodeList<'a>) -> ListedGame<'a>
+        requires { IsListed (parts_of parts) nodes }
+        ensures { result ≡ game_with (parts_of parts.entry) nodes.entry }
     {
-        ListedGame {
-            title,
-            comment,
-            players,
-            indexing,
-            sets,
-            outcomes,
-            nodes,
-        }
+        ListedGame { parts, nodes }
     }
 
     /// The title, the comment and the players.
@@ -93,9 +58,9 @@ impl<'a> ListedGame<'a> {
         ensures spellable { IsSpellable self.now }
     {
         ToldHeading {
-            title: self.title,
-            comment: self.comment,
-            players: &self.players,
+            title: self.parts.title,
+            comment: self.parts.comment,
+            players: &self.parts.players,
         }
     }
 
@@ -103,21 +68,13 @@ impl<'a> ListedGame<'a> {
     pub fn nodes_by_first_use(&self) -> NodesByFirstUse<'_, 'a>
         ensures { result ≡ file_nodes (renumbered (first_use_numbers self.now) self.now) }
     {
-        NodesByFirstUse::new(&self.sets, &self.outcomes, self.nodes.iter())
+        NodesByFirstUse::new(&self.parts.sets, &self.parts.outcomes, self.nodes.iter())
     }
 
     /// The game, with the subtrees of its nodes.
     pub fn into_game(self) -> Game<'a>
         ensures { result ≡ self.entry }
     {
-        Game::new(
-            self.title,
-            self.comment,
-            self.players,
-            self.indexing,
-            self.sets,
-            self.outcomes,
-            self.nodes,
-        )
+        Game::new(self.parts, self.nodes)
     }
 }

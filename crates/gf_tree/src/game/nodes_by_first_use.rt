@@ -24,7 +24,7 @@ impl<'a> Game<'a> {
     pub fn nodes_by_first_use(&self) -> NodesByFirstUse<'_, 'a>
         ensures { result ≡ file_nodes (renumbered (first_use_numbers self.now) self.now) }
     {
-        NodesByFirstUse::new(&self.sets, &self.outcomes, self.nodes.iter())
+        NodesByFirstUse::new(&self.parts.sets, &self.parts.outcomes, self.nodes.iter())
     }
 }
 

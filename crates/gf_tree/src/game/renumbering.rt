@@ -9,6 +9,7 @@ ghost use Rattle.gf_tree.specs.Renumbering.{renumbered};
 
 use crate::game::Game;
 use crate::game::outcomes::Outcomes;
+use crate::game::parts::Parts;
 use crate::game::sets::Sets;
 use crate::numbers::indexing::Indexing;
 use std::alloc::{AllocError, Global};
@@ -68,9 +69,9 @@ impl<'a> Game<'a> {
             ≡ (listed_numbers self.now (map (λ own. own.items) sets.now) []).set s.key.player
             s.key.number) }
     {
-        let (player, _) = self.sets.key(place);
+        let (player, _) = self.parts.sets.key(place);
         let own = &sets[player as usize];
-        own[self.sets.first_use_number(place) as usize - 1]
+        own[self.parts.sets.first_use_number(place) as usize - 1]
     }
 
     /// The sets by their listed numbers.
@@ -81,11 +82,12 @@ impl<'a> Game<'a> {
             (listed_numbers self.now (map (λ own. own.items) sets.now) []) self.now).sets) }
         ensures small { IfOk result (λ r. AllByRecursion (λ s. s.key.number < 2 ^ 32) r.known) }
     {
+        let from = &self.parts.sets;
         let mut renumbered = Sets::new(alloc);
-        let mut indexing = self.indexing;
-        for place in 0..self.sets.len() as u32 {
+        let mut indexing = self.parts.indexing;
+        for place in 0..from.len() as u32 {
             let number = self.listed_number(sets, place);
-            add_set(&mut renumbered, &mut indexing, &self.sets, place, number)?;
+            add_set(&mut renumbered, &mut indexing, from, place, number)?;
         }
         Ok(renumbered)
     }
@@ -101,17 +103,12 @@ impl<'a> Game<'a> {
             ≡ (renumbered (listed_numbers self.now [] outcomes.now) self.now).outcomes) }
         ensures small { IfOk result (λ r. AllByRecursion (λ o. o.key < 2 ^ 32) r.known) }
     {
+        let from = &self.parts.outcomes;
         let mut renumbered = Outcomes::new(alloc);
-        let mut indexing = self.indexing;
-        for place in 0..self.outcomes.len() as u32 {
+        let mut indexing = self.parts.indexing;
+        for place in 0..from.len() as u32 {
             let number = outcomes[place as usize];
-            add_outcome(
-                &mut renumbered,
-                &mut indexing,
-                &self.outcomes,
-                place,
-                number,
-            )?;
+            add_outcome(&mut renumbered, &mut indexing, from, place, number)?;
         }
         Ok(renumbered)
     }
@@ -136,18 +133,18 @@ impl<'a> Game<'a> {
         ensures { IfOk result (λ game. game ≡ renumbered
             (listed_numbers self.now (map (λ own. own.items) sets.now) outcomes.now) self.now) }
     {
-        let players = Vec::from_clones(alloc, &self.players)?;
+        let players = Vec::from_clones(alloc, &self.parts.players)?;
         let sets = self.renumbered_sets(alloc, sets)?;
         let outcomes = self.renumbered_outcomes(alloc, outcomes)?;
         let nodes = Vec::from_clones(alloc, &self.nodes)?;
-        Ok(Game {
-            title: self.title,
-            comment: self.comment,
+        let parts = Parts {
+            title: self.parts.title,
+            comment: self.parts.comment,
             players,
-            indexing: self.indexing,
+            indexing: self.parts.indexing,
             sets,
             outcomes,
-            nodes,
-        })
+        };
+        Ok(Game { parts, nodes })
     }
 }

@@ -2,7 +2,7 @@
 use Rattle.gf_tree.proofs.Common.{◌≡◌, ℕ, ◌<◌, ◌^◌, List, [], ◌∷◌, length, map, sym, ap, subst, ◌∙◌}
 use Rattle.gf_tree.proofs.Common.{AllByRecursion, length-map, Entry, flatten, SetKey}
 use Rattle.gf_tree.proofs.Common.{InformationSet, Outcome, Described, Node, Game, IsGame}
-use Rattle.gf_tree.proofs.Common.{subtree_sizes, Stored, game_with, entries_with, kept_of}
+use Rattle.gf_tree.proofs.Common.{subtree_sizes, Stored, Parts, game_with, entries_with, kept_of}
 use Rattle.gf_tree.proofs.Common.{tree_with, Renumbering, IsRenumbering, renumbered}
 use Rattle.gf_tree.proofs.Common.{renumbered_node, IsSpellable, IsSpellableOutcome, IsSpellableSet}
 use Rattle.gf_token.specs.LabelSpelling.{IsLabel}
@@ -12,7 +12,7 @@ use Rattle.gf_tree.proofs.lemmas.games.Consistent.{map_entry, flatten_map}
 use Rattle.gf_tree.proofs.lemmas.games.Renumbered.{renumbered_is_game}
 use Rattle.gf_tree.proofs.lemmas.stores.RenumberedKept.{entries_mapped, fills_mapped, game_mapped}
 use Rattle.gf_tree.proofs.lemmas.stores.RenumberedKept.{outcome_image, set_image, sizes_mapped}
-use Rattle.gf_tree.proofs.lemmas.stores.RenumberedKept.{tree_mapped}
+use Rattle.gf_tree.proofs.lemmas.stores.RenumberedKept.{renumbered_parts, tree_mapped}
 
 pub its_game : (inside value : Game) → IsGame inside → inside ≡ value → IsGame value
 its_game inside value h e = subst IsGame e h
@@ -68,20 +68,16 @@ renumbered_spelled r g h sets outcomes = record {
 
 -- ---- it is held as it was
 
-module _ (title comment : List ℕ) (players : List (List ℕ))
-    (sets : List (Described SetKey InformationSet)) (outcomes : List (Described ℕ Outcome))
-    (nodes : List Stored)
-    (r : Renumbering) (held : IsHeld title comment players sets outcomes nodes) where
-  abbrev sets' : List (Described SetKey InformationSet)
-  sets' = map (set_image r) sets
+module _ (p : Parts) (nodes : List Stored) (r : Renumbering) (held : IsHeld p nodes) where
+  abbrev new : Parts
+  new = renumbered_parts r p
 
-  abbrev outcomes' : List (Described ℕ Outcome)
-  outcomes' = map (outcome_image r) outcomes
-
-  nodes_held : AreNodes sets' outcomes' nodes
+  nodes_held : AreNodes new.sets new.outcomes nodes
   nodes_held =
-      let sets_counted : length sets' ≡ length sets = length-map sets (set_image r) in
-      let outcomes_counted : length outcomes' ≡ length outcomes =
+      let sets = p.sets in
+      let outcomes = p.outcomes in
+      let sets_counted : length new.sets ≡ length sets = length-map sets (set_image r) in
+      let outcomes_counted : length new.outcomes ≡ length outcomes =
       length-map outcomes (outcome_image r) in
       record {
         placed = rw (sets_counted, outcomes_counted) held.nodes_are.placed;
@@ -93,17 +89,15 @@ module _ (title comment : List ℕ) (players : List (List ℕ))
             ∙ ap subtree_sizes (sym (tree_mapped r sets outcomes (map kept_of nodes)));
       }
 
-  pub renumbered_held :
-      IsRenumbering (game_with title comment players sets outcomes (map kept_of nodes)) r
-      → AllByRecursion (λ s. s.key.number < 2 ^ 32) sets'
-      → AllByRecursion (λ o. o.key < 2 ^ 32) outcomes'
-      → IsHeld title comment players sets' outcomes' nodes
-  renumbered_held new small_sets small_outcomes =
-      let g = game_with title comment players sets outcomes (map kept_of nodes) in
-      let is = game_mapped r sets outcomes title comment players (map kept_of nodes) in
+  pub renumbered_held : IsRenumbering (game_with p (map kept_of nodes)) r
+      → AllByRecursion (λ s. s.key.number < 2 ^ 32) new.sets
+      → AllByRecursion (λ o. o.key < 2 ^ 32) new.outcomes → IsHeld new nodes
+  renumbered_held is_new small_sets small_outcomes =
+      let g = game_with p (map kept_of nodes) in
+      let is = game_mapped r p (map kept_of nodes) in
       record {
         nodes_are = nodes_held;
-        is_game = subst IsGame (sym is) (renumbered_is_game g r held.is_game new);
+        is_game = subst IsGame (sym is) (renumbered_is_game g r held.is_game is_new);
         spellable = subst IsSpellable (sym is)
             (renumbered_spelled r g held.spellable small_sets small_outcomes);
       }

@@ -3,7 +3,7 @@
 use Rattle.gf_tree.proofs.Common.{◌≡◌, ℕ, List, [], ◌∷◌, ◌++◌, length, Ok, Err, refl, sym, ap}
 use Rattle.gf_tree.proofs.Common.{subst, ◌∙◌, Token, Lexeme, Spells, tokens_of, Fault, Span, Why}
 use Rattle.gf_tree.proofs.Common.{SetKey, InformationSet, Outcome, Described, Game, IsGame, Node}
-use Rattle.gf_tree.proofs.Common.{SpellsGame, game_with, IsRefusal, Kept, entries_with, game_of}
+use Rattle.gf_tree.proofs.Common.{SpellsGame, Parts, game_with, IsRefusal, Kept, entries_with, game_of}
 use Rattle.gf_tree.proofs.Common.{IsSpellable, Content, nothing, run, Format, Entry, Fills, heard}
 use Rattle.gf_token.specs.Place.{IsSpanOf}
 use Rattle.gf_token.specs.declared.fault.Why.TheVariants.{Memory, TooLong, UnknownOutcome}
@@ -123,26 +123,32 @@ memory_judged bytes before after span spelled place h = accepted bytes before af
 
 -- ---- the game of what was read, as it is kept
 
+abbrev pub read_parts : Content → Parts
+read_parts c = record {
+  title = c.title;
+  comment = c.comment;
+  players = c.players;
+  sets = c.sets;
+  outcomes = c.outcomes;
+}
+
 pub game_is_with : (c : Content) (nodes : List Kept)
     → c.nodes ≡ entries_with c.sets c.outcomes nodes
-    → game_of c ≡ game_with c.title c.comment c.players c.sets c.outcomes nodes
+    → game_of c ≡ game_with (read_parts c) nodes
 game_is_with c nodes kept = ap (λ (es : List (Entry Node)). game_of (record c { nodes = es })) kept
 
 -- these parts make a game, which is the one that the bytes spell
-pub record IsWhole (bytes : List ℕ) (title comment : List ℕ) (players : List (List ℕ))
-    (sets : List (Described SetKey InformationSet)) (outcomes : List (Described ℕ Outcome))
-    (nodes : List Kept) : Type 0 where
-  pub fills : Fills 1 (entries_with sets outcomes nodes)
-  pub is_game : IsGame (game_with title comment players sets outcomes nodes)
-  pub spellable : IsSpellable (game_with title comment players sets outcomes nodes)
-  pub spelled : SpellsGame bytes (game_with title comment players sets outcomes nodes)
-  pub only : (g : Game) → SpellsGame bytes g
-      → game_with title comment players sets outcomes nodes ≡ g
+pub record IsWhole (bytes : List ℕ) (p : Parts) (nodes : List Kept) : Type 0 where
+  pub fills : Fills 1 (entries_with p.sets p.outcomes nodes)
+  pub is_game : IsGame (game_with p nodes)
+  pub spellable : IsSpellable (game_with p nodes)
+  pub spelled : SpellsGame bytes (game_with p nodes)
+  pub only : (g : Game) → SpellsGame bytes g → game_with p nodes ≡ g
 
 pub whole : (bytes : List ℕ) (ls : List Lexeme) (c : Content) (nodes : List Kept)
     → Spells 0 bytes ls → run (length bytes) Format nothing ls ≡ Ok c
     → c.nodes ≡ entries_with c.sets c.outcomes nodes
-    → IsWhole bytes c.title c.comment c.players c.sets c.outcomes nodes
+    → IsWhole bytes (read_parts c) nodes
 whole bytes ls c nodes spelled e kept =
     let is = game_is_with c nodes kept in
     record {

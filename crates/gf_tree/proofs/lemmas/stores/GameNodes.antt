@@ -4,7 +4,7 @@ use Rattle.gf_tree.proofs.Common.{drop, get_or, slice_get, refl, sym, ap, subst,
 use Rattle.gf_tree.proofs.Common.{length-map, drop-map, map-append, Tree, Trees, count, branch}
 use Rattle.gf_tree.proofs.Common.{none, more, Entry, Fills, flatten, flatten_all, grow, Described}
 use Rattle.gf_tree.proofs.Common.{Node, IsGame, IsSpellable, subtree_sizes, Begin, skipped, Stored}
-use Rattle.gf_tree.proofs.Common.{SetKey, InformationSet, Outcome, game_with, Kept, IsAmong}
+use Rattle.gf_tree.proofs.Common.{SetKey, InformationSet, Outcome, Parts, game_with, Kept, IsAmong}
 use Rattle.gf_tree.proofs.Common.{AreAmong, entries_with, kept_of, tree_with}
 use Rattle.std.proofs.lemmas.List.{get_or-map}
 use Rattle.std.proofs.Math.Seq.{drop-cons}
@@ -12,7 +12,7 @@ use Rattle.gf_tree.specs.Grown.{root}
 use Rattle.gf_tree.specs.GrowsAgain.{root_grows_again}
 use Rattle.gf_tree.specs.Subtrees.{subtrees, subtrees_all, child_trees, list_of, root_node}
 use Rattle.gf_tree.specs.Subtrees.{subtree_at}
-use Rattle.gf_tree.specs.inner.GameParts.{AreNodes, IsHeld}
+use Rattle.gf_tree.specs.inner.GameParts.{AreNodes, IsHeld, IsListed}
 use Rattle.gf_tree.specs.KeptNodes.{child_count, child_counts, node_with, sizes_of}
 use Rattle.gf_tree.proofs.lemmas.games.Prefix.{one_tree}
 use Rattle.gf_tree.proofs.lemmas.stores.SubtreeSizes.{begin_first, counts_of, drop_suc, skips_to}
@@ -206,17 +206,10 @@ pub shaped : (sets : List (Described SetKey InformationSet))
     → counts_of (flatten (tree_with sets outcomes ns)) ≡ child_counts sets ns
 shaped sets outcomes ns h = grind (arith, counts_of, flatten_grown, counts_kept)
 
-pub made_held : (title comment : List ℕ) (players : List (List ℕ))
-    (sets : List (Described SetKey InformationSet)) (outcomes : List (Described ℕ Outcome))
-    (ns : List Kept) (nodes : List Stored)
-    → map kept_of nodes ≡ ns → AreAmong (length sets) (length outcomes) ns
-    → Fills 1 (entries_with sets outcomes ns)
-    → sizes_of nodes ≡ subtree_sizes (tree_with sets outcomes ns)
-    → IsGame (game_with title comment players sets outcomes ns)
-    → IsSpellable (game_with title comment players sets outcomes ns)
-    → IsHeld title comment players sets outcomes nodes
-made_held title comment players sets outcomes ns nodes e placed fills sizes game
-    spellable = grind arith
+pub made_held : (p : Parts) (ns : List Kept) (nodes : List Stored) → map kept_of nodes ≡ ns
+    → IsListed p ns → sizes_of nodes ≡ subtree_sizes (tree_with p.sets p.outcomes ns)
+    → IsHeld p nodes
+made_held p ns nodes e listed sizes = grind arith
 
 -- ---- the nodes from a place on
 

@@ -5,7 +5,7 @@ use Rattle.gf_tree.proofs.Common.{option_map, MatchOption, refl, sym, ap, subst,
 use Rattle.gf_tree.proofs.Common.{position, position_from, eqb-true, false_from_ne_true}
 use Rattle.gf_tree.proofs.Common.{Decides-eqb, position_from-zero, same_Some, slice_get-map}
 use Rattle.gf_tree.proofs.Common.{slice_get_within, drop-map, at_position, Tree, branch, more}
-use Rattle.gf_tree.proofs.Common.{flatten, Described, outcome_numbers, game_with, known_of}
+use Rattle.gf_tree.proofs.Common.{flatten, Described, outcome_numbers, Parts, game_with, known_of}
 use Rattle.gf_tree.proofs.Common.{subtree_sizes, Stored, Action, SetKey, InformationSet, Outcome}
 use Rattle.gf_tree.proofs.Common.{set_of, Game, IsGame, Node, set_at, used_outcomes, IsAmong}
 use Rattle.gf_tree.proofs.Common.{kept_of, tree_with, Begin, skipped}
@@ -144,12 +144,12 @@ position_is ns k n d h = grind (arith, position_from-zero, position_behind)
 
 -- ---- at the place of a node
 
-pub kept_there : (title comment : List ℕ) (players : List (List ℕ))
-    (sets : List (Described SetKey InformationSet)) (outcomes : List (Described ℕ Outcome))
-    (nodes : List Stored) (g : Game) (at : ℕ) (n : Stored) → AreNodes sets outcomes nodes
-    → game_with title comment players sets outcomes (map kept_of nodes) ≡ g
+pub kept_there : (p : Parts) (nodes : List Stored) (g : Game) (at : ℕ) (n : Stored)
+    → AreNodes p.sets p.outcomes nodes → game_with p (map kept_of nodes) ≡ g
     → at < length (subtrees g.tree) → n ≡ get_or nodes at n → IsKeptAt g at n
-kept_there title comment players sets outcomes nodes g at n are is h here =
+kept_there p nodes g at n are is h here =
+    let sets = p.sets in
+    let outcomes = p.outcomes in
     let tree : IsTreeOf sets outcomes nodes (tree_with sets outcomes (map kept_of nodes)) =
     record { are = are; is = refl } in
     let within : at < length (subtrees (tree_with sets outcomes (map kept_of nodes))) =

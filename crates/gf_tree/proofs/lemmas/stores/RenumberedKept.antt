@@ -2,7 +2,7 @@
 use Rattle.gf_tree.proofs.Common.{◌≡◌, ℕ, zero, suc, ◌+◌, List, [], ◌∷◌, map, Option, option_map}
 use Rattle.gf_tree.proofs.Common.{refl, ap, ◌∙◌, arith, slice_get-map, at_position, Tree, Trees}
 use Rattle.gf_tree.proofs.Common.{map_tree, map_trees, none, more, Entry, Fills, flatten, grow}
-use Rattle.gf_tree.proofs.Common.{Described, Node, subtree_sizes, game_with, SetKey, InformationSet}
+use Rattle.gf_tree.proofs.Common.{Described, Node, subtree_sizes, Parts, game_with, SetKey, InformationSet}
 use Rattle.gf_tree.proofs.Common.{Outcome, Kept, entries_with, tree_with, Renumbering, renumbered}
 use Rattle.gf_tree.proofs.Common.{renumbered_node, renumbered_set}
 use Rattle.gf_tree.specs.Grown.{first, others, root}
@@ -105,7 +105,13 @@ module _ (r : Renumbering) (sets : List (Described SetKey InformationSet))
       ≡ map_tree (renumbered_node r) (tree_with sets outcomes ns)
   tree_mapped ns = grind (arith, entries_mapped, grow_mapped, root_mapped)
 
-  pub game_mapped : (title comment : List ℕ) (players : List (List ℕ)) (ns : List Kept)
-      → game_with title comment players (map (set_image r) sets) (map (outcome_image r) outcomes) ns
-      ≡ renumbered r (game_with title comment players sets outcomes ns)
-  game_mapped title comment players ns = grind (arith, tree_mapped)
+-- the same parts by new numbers
+abbrev pub renumbered_parts : Renumbering → Parts → Parts
+renumbered_parts r p = record p {
+  sets = map (set_image r) p.sets;
+  outcomes = map (outcome_image r) p.outcomes;
+}
+
+pub game_mapped : (r : Renumbering) (p : Parts) (ns : List Kept)
+    → game_with (renumbered_parts r p) ns ≡ renumbered r (game_with p ns)
+game_mapped r p ns = grind (arith, tree_mapped)

@@ -10,8 +10,8 @@ use Rattle.gf_tree.proofs.game.Game.file_nodes.Goals as goal
 
 pub returns : goal.returns
 returns c =
-    let sets = c.self.inside.sets.known in
-    let outcomes = c.self.inside.outcomes.known in
+    let sets = c.self.inside.parts.sets.known in
+    let outcomes = c.self.inside.parts.outcomes.known in
     let nodes = map kept_of c.self.inside.nodes.items in
     let held = c.self.invariant in
     ap (λ (stored : List Stored). nodes_given sets outcomes 0 0 (map kept_of stored))

@@ -3,6 +3,5 @@ use Rattle.gf_tree.proofs.game.Game.kept.Goals as goal
 
 pub returns-clause-kept : goal.returns-clause-kept
 returns-clause-kept c =
-    kept_there _ _ _ c.self.inside.sets.known c.self.inside.outcomes.known
-    c.self.inside.nodes.items c.args.self.now c.args.at c.index.result.now
+    kept_there _ c.self.inside.nodes.items c.args.self.now c.args.at c.index.result.now
     c.self.invariant.nodes_are c.self.view_is c.requires c.index.ensures

@@ -11,7 +11,7 @@ found : (c : goal.After-first_use_number) → (game : IsGame c.args.self.now)
 found c game =
     found_in c.args.self.now game (map (λ own. own.items) c.args.sets.now) c.requires.listed.0
     c.requires.listed.1
-    c.self.inside.sets.known c.args.place c.first_use_number.result c.key-player.result.0
+    c.self.inside.parts.sets.known c.args.place c.first_use_number.result c.key-player.result.0
     c.key-player.result.1 c.index-sets-player.result.items
     (ap (λ (g : Game). g.sets) c.self.view_is) c.requires.within c.key-player.ensures
     c.first_use_number.ensures
@@ -33,7 +33,7 @@ returns c =
     let game = its_game _ _ c.self.invariant.is_game c.self.view_is in
     let r = found_in c.args.self.now game (map (λ own. own.items) c.args.sets.now)
     c.requires.listed.0 c.requires.listed.1
-    c.self.inside.sets.known c.args.place c.first_use_number.result c.key-player.result.0
+    c.self.inside.parts.sets.known c.args.place c.first_use_number.result c.key-player.result.0
     c.key-player.result.1 c.index-sets-player.result.items
     (ap (λ (g : Game). g.sets) c.self.view_is) c.requires.within c.key-player.ensures
     c.first_use_number.ensures

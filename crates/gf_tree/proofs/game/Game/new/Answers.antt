@@ -3,13 +3,12 @@ use Rattle.gf_tree.proofs.lemmas.stores.GameNodes.{made_held, shaped}
 use Rattle.gf_tree.proofs.game.Game.new.Goals as goal
 
 pub sized-nodes-requires-clause-tree : goal.sized-nodes-requires-clause-tree
-sized-nodes-requires-clause-tree c =
-    (tree_with c.args.sets.known c.args.outcomes.known c.args.nodes, shaped _ _ _ c.requires.fills)
+sized-nodes-requires-clause-tree c = (
+  tree_with c.args.parts.sets.known c.args.parts.outcomes.known c.args.nodes,
+  shaped _ _ _ c.requires.fills,
+)
 
 pub invariant_of-result : goal.invariant_of-result
 invariant_of-result c =
-    made_held _ _ _ _ _ c.args.nodes c.sized-nodes.result.items c.sized-nodes.ensures.kept
-    c.requires.placed c.requires.fills
-    (c.sized-nodes.ensures.sizes (tree_with c.args.sets.known c.args.outcomes.known c.args.nodes)
-    (shaped _ _ _ c.requires.fills))
-    c.requires.is_game c.requires.spellable
+    made_held _ c.args.nodes c.sized-nodes.result.items c.sized-nodes.ensures.kept c.requires
+    (c.sized-nodes.ensures.sizes _ (shaped _ _ _ c.requires.fills))

@@ -19,10 +19,10 @@ outcome_number-requires-clause-within c =
 
 pub outcome_number-requires-clause-positive : goal.outcome_number-requires-clause-positive
 outcome_number-requires-clause-positive c =
-    let outcomes = c.self.inside.outcomes.known in
+    let outcomes = c.self.inside.parts.outcomes.known in
     all_of_each (λ (o : Described ℕ Outcome). 0 < o.key) outcomes (λ o i.
     (each (λ (o : Described ℕ Outcome).
-    IsOutcome (length (map label_of c.self.inside.players.items)) o.key o.description)
+    IsOutcome (length (map label_of c.self.inside.parts.players.items)) o.key o.description)
     outcomes o c.self.invariant.is_game.each_outcome i).number_from_one)
 
 pub returns : goal.returns

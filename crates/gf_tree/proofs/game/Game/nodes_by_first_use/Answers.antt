@@ -13,8 +13,8 @@ use Rattle.gf_tree.proofs.game.Game.nodes_by_first_use.Goals as goal
 
 pub returns : goal.returns
 returns c =
-    let sets = c.self.inside.sets.known in
-    let outcomes = c.self.inside.outcomes.known in
+    let sets = c.self.inside.parts.sets.known in
+    let outcomes = c.self.inside.parts.outcomes.known in
     let nodes = map kept_of c.self.inside.nodes.items in
     let held = c.self.invariant in
     c.new.ensures ∙ ap (λ (stored : List Stored). map (λ t. t.node)

@@ -7,7 +7,7 @@ use Rattle.gf_tree.proofs.game.Game.outcome.Goals as goal
 
 pub returns-in-Some : goal.returns-in-Some
 returns-in-Some c =
-    let outcomes = c.self.inside.outcomes.known in
+    let outcomes = c.self.inside.parts.outcomes.known in
     let place = sym c.find.ensures ∙ c.in-Some.is in
     sym (outcome_in_parts (slice_get outcomes c.in-Some.place) _ _ c.name.ensures c.payoffs.ensures)
     ∙ sym (described_at nat_eq Decides-eqb c.args.number outcomes c.in-Some.place place)
@@ -15,7 +15,7 @@ returns-in-Some c =
 
 pub returns-in-None : goal.returns-in-None
 returns-in-None c =
-    let outcomes = c.self.inside.outcomes.known in
+    let outcomes = c.self.inside.parts.outcomes.known in
     sym (not_described nat_eq Decides-eqb c.args.number
     outcomes (sym c.find.ensures ∙ c.in-None.is))
     ∙ ap (λ (g : Game). outcome_at g c.args.number) c.self.view_is

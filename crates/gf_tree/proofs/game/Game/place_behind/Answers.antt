@@ -6,7 +6,7 @@ use Rattle.gf_tree.proofs.game.Game.place_behind.Goals as goal
 
 pub skip-requires-clause-trees : goal.skip-requires-clause-trees
 skip-requires-clause-trees c =
-    let tree : IsTreeOf c.self.inside.sets.known c.self.inside.outcomes.known
+    let tree : IsTreeOf c.self.inside.parts.sets.known c.self.inside.parts.outcomes.known
     c.self.inside.nodes.items c.args.self.now.tree =
     record { are = c.self.invariant.nodes_are; is = ap (λ (g : Game). g.tree) c.self.view_is } in
     rw (c.deref.ensures.value, sizes_beside _ _ _ _ tree)

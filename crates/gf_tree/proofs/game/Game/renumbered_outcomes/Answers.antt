@@ -28,7 +28,7 @@ pub loop-place-preserved : goal.loop-place-preserved
 loop-place-preserved c =
     outcome_added c.args.self.now (its_game _ _ c.self.invariant.is_game c.self.view_is)
     c.requires.0 c.args.outcomes.now c.requires.1
-    c.self.inside.outcomes.known c.loop-place.renumbered.known c.add_outcome.new.to.known
+    c.self.inside.parts.outcomes.known c.loop-place.renumbered.known c.add_outcome.new.to.known
     c.loop-place.place (get_or c.args.outcomes.now c.loop-place.place 0)
     (ap (λ (g : Game). g.outcomes) c.self.view_is) c.loop-place.invariant.0 (omega (
       arith,

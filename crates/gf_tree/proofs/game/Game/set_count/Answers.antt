@@ -12,7 +12,7 @@ prove-unreachable-requires c = omega (
   c.len.ensures.len,
   c.count-count.ensures,
   length-filter (λ (s : Described SetKey InformationSet). s.key.player == c.args.player)
-      c.self.inside.sets.known,
+      c.self.inside.parts.sets.known,
   count_by-le-length (λ (s : Described SetKey InformationSet). s.key.player == c.args.player)
-      c.self.inside.sets.known,
+      c.self.inside.parts.sets.known,
 )

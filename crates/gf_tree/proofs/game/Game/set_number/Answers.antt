@@ -12,7 +12,7 @@ pub returns : goal.returns
 returns c =
     let numbers =
     map_twice (λ (k : SetKey). k.number) (λ (s : Described SetKey InformationSet). s.key)
-    (known_of c.args.player c.self.inside.sets.known) in
+    (known_of c.args.player c.self.inside.parts.sets.known) in
     c.number.ensures ∙ ap (λ (ns : List ℕ). at_position ns c.args.i) (sym numbers) ∙ ap
     (λ (g : Game). at_position (map (λ key. key.number) (player_keys g c.args.player)) c.args.i)
     c.self.view_is

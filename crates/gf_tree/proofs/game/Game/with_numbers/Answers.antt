@@ -4,7 +4,7 @@ use Rattle.gf_token.specs.Label.{label_of}
 use Rattle.gf_tree.specs.Description.{SetKey, InformationSet, Outcome}
 use Rattle.gf_tree.specs.FiniteMap.{Described}
 use Rattle.gf_tree.specs.Game.{Game}
-use Rattle.gf_tree.specs.inner.GameParts.{game_with}
+use Rattle.gf_tree.specs.inner.GameParts.{game_with, parts_of}
 use Rattle.gf_tree.specs.KeptNodes.{kept_of}
 use Rattle.gf_tree.specs.Listed.{listed_numbers}
 use Rattle.gf_tree.specs.Renumbering.{IsRenumbering, renumbered}
@@ -17,21 +17,21 @@ pub invariant_of-result : goal.invariant_of-result
 invariant_of-result c =
     let r =
     listed_numbers c.args.self.now (map (λ own. own.items) c.args.sets.now) c.args.outcomes.now in
-    let players : c.in_ok-players.players.items ≡ c.self.inside.players.items =
+    let players : c.in_ok-players.players.items ≡ c.self.inside.parts.players.items =
     c.in_ok-players.ensures.items_if_clones_equal (λ x y h. h) ∙ c.deref.ensures.value in
     let nodes : c.in_ok-nodes.nodes.items ≡ c.self.inside.nodes.items =
     c.in_ok-nodes.ensures.items_if_clones_equal (λ x y h. h) ∙ c.deref-2.ensures.value in
-    let sets : c.in_ok-sets.sets.known ≡ map (set_image r) c.self.inside.sets.known =
+    let sets : c.in_ok-sets.sets.known ≡ map (set_image r) c.self.inside.parts.sets.known =
     c.in_ok-sets.ensures.known ∙ ap (λ (g : Game). map (set_image r) g.sets) (sym c.self.view_is) in
     let outcomes : c.in_ok-outcomes.outcomes.known
-    ≡ map (outcome_image r) c.self.inside.outcomes.known =
+    ≡ map (outcome_image r) c.self.inside.parts.outcomes.known =
     c.in_ok-outcomes.ensures.known
     ∙ ap (λ (g : Game). map (outcome_image r) g.outcomes) (sym c.self.view_is) in
     let new =
     listed_is_renumbering c.args.self.now (its_game _ _ c.self.invariant.is_game c.self.view_is)
     (map (λ own. own.items) c.args.sets.now) c.args.outcomes.now c.requires in
     rw (players, nodes, sets, outcomes)
-    (renumbered_held _ _ _ _ _ _ r c.self.invariant
+    (renumbered_held _ _ r c.self.invariant
     (subst (λ (g : Game). IsRenumbering g r) (sym c.self.view_is) new)
     (subst (AllByRecursion (λ (s : Described SetKey InformationSet). s.key.number < 2 ^ 32)) sets
     c.in_ok-sets.ensures.small)
@@ -42,20 +42,20 @@ pub returns : goal.returns
 returns c =
     let r =
     listed_numbers c.args.self.now (map (λ own. own.items) c.args.sets.now) c.args.outcomes.now in
-    let players : c.in_ok-players.players.items ≡ c.self.inside.players.items =
+    let players : c.in_ok-players.players.items ≡ c.self.inside.parts.players.items =
     c.in_ok-players.ensures.items_if_clones_equal (λ x y h. h) ∙ c.deref.ensures.value in
     let nodes : c.in_ok-nodes.nodes.items ≡ c.self.inside.nodes.items =
     c.in_ok-nodes.ensures.items_if_clones_equal (λ x y h. h) ∙ c.deref-2.ensures.value in
-    let sets : c.in_ok-sets.sets.known ≡ map (set_image r) c.self.inside.sets.known =
+    let sets : c.in_ok-sets.sets.known ≡ map (set_image r) c.self.inside.parts.sets.known =
     c.in_ok-sets.ensures.known ∙ ap (λ (g : Game). map (set_image r) g.sets) (sym c.self.view_is) in
     let outcomes : c.in_ok-outcomes.outcomes.known
-    ≡ map (outcome_image r) c.self.inside.outcomes.known =
+    ≡ map (outcome_image r) c.self.inside.parts.outcomes.known =
     c.in_ok-outcomes.ensures.known
     ∙ ap (λ (g : Game). map (outcome_image r) g.outcomes) (sym c.self.view_is) in
-    let title = label_of c.self.inside.title in
-    let comment = label_of c.self.inside.comment in
-    (λ i. game_with title comment (map label_of (players i)) (sets i) (outcomes i)
-    (map kept_of (nodes i)))
-    ∙ game_mapped r c.self.inside.sets.known c.self.inside.outcomes.known title comment
-    (map label_of c.self.inside.players.items) (map kept_of c.self.inside.nodes.items)
-    ∙ ap (renumbered r) c.self.view_is
+    let p = parts_of c.self.inside.parts in
+    (λ i. game_with (record p {
+      players = map label_of (players i);
+      sets = sets i;
+      outcomes = outcomes i;
+    }) (map kept_of (nodes i)))
+    ∙ game_mapped r p (map kept_of c.self.inside.nodes.items) ∙ ap (renumbered r) c.self.view_is

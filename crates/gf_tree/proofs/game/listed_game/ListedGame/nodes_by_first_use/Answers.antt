@@ -12,8 +12,8 @@ use Rattle.gf_tree.proofs.game.listed_game.ListedGame.nodes_by_first_use.Goals a
 
 pub returns : goal.returns
 returns c =
-    let sets = c.self.inside.sets.known in
-    let outcomes = c.self.inside.outcomes.known in
+    let sets = c.self.inside.parts.sets.known in
+    let outcomes = c.self.inside.parts.outcomes.known in
     let listed = c.self.invariant in
     c.new.ensures
     ∙ ap (λ (nodes : List Kept). map (λ t. t.node) (told_from sets outcomes 0 0 nodes))
