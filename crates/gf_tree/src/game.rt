@@ -137,8 +137,9 @@ impl<'a> Game<'a> {
         ensures { option_map (λ p. set_with (label_of p.0) (actions_of p.1.now)) result
             ≡ set_at self.now (set_of player number) }
     {
-        match self.parts.sets.find(player, number) {
-            Some(place) => Some((self.parts.sets.name(place), self.parts.sets.actions(place))),
+        let sets = &self.parts.sets;
+        match sets.find(player, number) {
+            Some(place) => Some((sets.name(place), sets.actions(place))),
             None => None,
         }
     }
@@ -149,11 +150,9 @@ impl<'a> Game<'a> {
         ensures { option_map (λ p. outcome_with (label_of p.0) p.1.now) result
             ≡ outcome_at self.now number }
     {
-        match self.parts.outcomes.find(number) {
-            Some(place) => Some((
-                self.parts.outcomes.name(place),
-                self.parts.outcomes.payoffs(place),
-            )),
+        let outcomes = &self.parts.outcomes;
+        match outcomes.find(number) {
+            Some(place) => Some((outcomes.name(place), outcomes.payoffs(place))),
             None => None,
         }
     }

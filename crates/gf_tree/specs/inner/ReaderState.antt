@@ -71,6 +71,27 @@ begun_with sets name position = record {
 abbrev pub IsNoLonger : Reader → Reader → Type 0
 IsNoLonger old new = length new.tokens.ahead ≤ length old.tokens.ahead
 
+-- one list is a prefix of the other
+pub record Grows {A : Type 0} (old new : List A) : Type 0 where
+  pub more : List A
+  pub parts : new ≡ old ++ more
+
+-- a part of a set's description was read: nothing has changed but the tokens to come, and the
+-- description
+abbrev pub ReadsAction : Reader → Reader → Type 0
+ReadsAction old new = (new ≡ record old {
+  tokens = new.tokens;
+  sets = record old.sets { pending = new.sets.pending };
+}) × IsNoLonger old new
+
+-- a set was read: nothing has changed but the tokens to come, and the sets
+abbrev pub ReadsSet : Reader → Reader → Type 0
+ReadsSet old new = (new ≡ record old {
+  tokens = new.tokens;
+  indexing = new.indexing;
+  sets = new.sets;
+}) × Grows old.sets.known new.sets.known × IsNoLonger old new
+
 -- if there were this many more tokens to come, all of them could be nodes with as many children as
 -- a set can have actions
 abbrev pub HasRoom : ℕ → Reader → Type 0
@@ -92,11 +113,6 @@ with_nodes nodes (Err fault) = Err fault
 
 abbrev pub behind : List (Entry Node) → Answer → Answer
 behind nodes a = record { input = a.input; machine = with_nodes nodes a.machine }
-
--- one list is a prefix of the other
-pub record Grows {A : Type 0} (old new : List A) : Type 0 where
-  pub more : List A
-  pub parts : new ≡ old ++ more
 
 -- This node was told, and the machine goes on as after it; nothing else has changed.
 pub record TellsNode {T : Type 0} (holds : T → T → Heading → List Told → Type 0) (old new : Reader)

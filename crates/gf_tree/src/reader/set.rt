@@ -16,7 +16,7 @@ ghost use Rattle.gf_tree.specs.inner.Machine.{begun, behind_set, with_set};
 ghost use Rattle.gf_tree.specs.inner.Machine.Position.{NewAction, NewProbability};
 ghost use Rattle.gf_tree.specs.inner.Machine.Position.{NewSetName, OutcomeNumber, SetNumber};
 ghost use Rattle.gf_tree.specs.inner.ReaderState.{answer, begun_with, with_text, content_of};
-ghost use Rattle.gf_tree.specs.inner.ReaderState.{Fails, Grows, IsNoLonger, heard};
+ghost use Rattle.gf_tree.specs.inner.ReaderState.{Fails, Grows, ReadsAction, ReadsSet, heard};
 
 use super::Reader;
 use crate::game::action::Action;
@@ -73,11 +73,7 @@ impl<'a> Reader<'a> {
             (λ f. Fails f (answer (NewProbability node (set_of 0 number)
             (set_with name self.old.sets.pending) sum (label_of label.entry)) self.old)) }
         ensures fraction { IfOk result IsFraction }
-        ensures kept { OnOk result (self.new ≡ record self.old {
-          tokens = self.new.tokens;
-          sets = record self.old.sets { pending = self.new.sets.pending };
-        }) }
-        ensures shorter { OnOk result (IsNoLonger self.old self.new) }
+        ensures read { OnOk result (ReadsAction self.old self.new) }
     {
         let Some(word) = self.tokens.bare() else {
             return Err(self.tokens.refusal(Why::Expected(What::Number)));
@@ -111,11 +107,7 @@ impl<'a> Reader<'a> {
             (set_with name self.old.sets.pending) sum) (content_of self.old)
             (with_text self.old.tokens label.entry))) }
         ensures fraction { IfOk result IsFraction }
-        ensures kept { OnOk result (self.new ≡ record self.old {
-          tokens = self.new.tokens;
-          sets = record self.old.sets { pending = self.new.sets.pending };
-        }) }
-        ensures shorter { OnOk result (IsNoLonger self.old self.new) }
+        ensures read { OnOk result (ReadsAction self.old self.new) }
     {
         if player == 0 {
             return self.probability(label.label, sum);
@@ -162,14 +154,8 @@ impl<'a> Reader<'a> {
             ≡ answer (OutcomeNumber (begun_with self.new.sets.known node (suc place))) self.new)
             (λ f. Fails f (answer (NewAction node (set_of player number)
             (set_with (label_of name.entry) self.old.sets.pending) sum) self.old)) }
-        ensures kept { OnOk result (self.new ≡ record self.old {
-          tokens = self.new.tokens;
-          indexing = self.new.indexing;
-          sets = self.new.sets;
-        }) }
-        ensures grows { OnOk result (Grows self.old.sets.known self.new.sets.known) }
+        ensures read { OnOk result (ReadsSet self.old self.new) }
         ensures place { IfOk result (λ place. place < length self.new.sets.known) }
-        ensures shorter { OnOk result (IsNoLonger self.old self.new) }
     {
         let Some(brace) = self.tokens.closing() else {
             return Err(self.tokens.refusal(Why::Expected(What::Text)));
@@ -195,14 +181,8 @@ impl<'a> Reader<'a> {
             (λ place. answer (NewSetName node (set_of player number)) self.old
             ≡ answer (OutcomeNumber (begun_with self.new.sets.known node (suc place))) self.new)
             (λ f. Fails f (answer (NewSetName node (set_of player number)) self.old)) }
-        ensures kept { OnOk result (self.new ≡ record self.old {
-          tokens = self.new.tokens;
-          indexing = self.new.indexing;
-          sets = self.new.sets;
-        }) }
-        ensures grows { OnOk result (Grows self.old.sets.known self.new.sets.known) }
+        ensures read { OnOk result (ReadsSet self.old self.new) }
         ensures place { IfOk result (λ place. place < length self.new.sets.known) }
-        ensures shorter { OnOk result (IsNoLonger self.old self.new) }
     {
         let Some(name) = self.tokens.text() else {
             return Err(self.tokens.refusal(Why::NotDescribed));
@@ -228,14 +208,8 @@ impl<'a> Reader<'a> {
             ≡ answer (OutcomeNumber (begun_with self.new.sets.known node (suc place))) self.new)
             (λ f. Fails f (answer (behind_set node (set_of player number)
             (description_at same_set self.old.sets.known (set_of player number))) self.old)) }
-        ensures kept { OnOk result (self.new ≡ record self.old {
-          tokens = self.new.tokens;
-          indexing = self.new.indexing;
-          sets = self.new.sets;
-        }) }
-        ensures grows { OnOk result (Grows self.old.sets.known self.new.sets.known) }
+        ensures read { OnOk result (ReadsSet self.old self.new) }
         ensures place { IfOk result (λ place. place < length self.new.sets.known) }
-        ensures shorter { OnOk result (IsNoLonger self.old self.new) }
     {
         let place = match described(&self.sets, player, number) {
             Some(set) => {
@@ -258,14 +232,8 @@ impl<'a> Reader<'a> {
             (λ place. answer (SetNumber node player) self.old
             ≡ answer (OutcomeNumber (begun_with self.new.sets.known node (suc place))) self.new)
             (λ f. Fails f (answer (SetNumber node player) self.old)) }
-        ensures kept { OnOk result (self.new ≡ record self.old {
-          tokens = self.new.tokens;
-          indexing = self.new.indexing;
-          sets = self.new.sets;
-        }) }
-        ensures grows { OnOk result (Grows self.old.sets.known self.new.sets.known) }
+        ensures read { OnOk result (ReadsSet self.old self.new) }
         ensures place { IfOk result (λ place. place < length self.new.sets.known) }
-        ensures shorter { OnOk result (IsNoLonger self.old self.new) }
     {
         let Some((word, index)) = self.tokens.index() else {
             return Err(self.tokens.refusal(Why::Expected(What::Index)));
