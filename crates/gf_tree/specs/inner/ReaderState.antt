@@ -92,6 +92,13 @@ ReadsSet old new = (new ≡ record old {
   sets = new.sets;
 }) × Grows old.sets.known new.sets.known × IsNoLonger old new
 
+-- a payoff was read: nothing has changed but the tokens to come, and the description
+abbrev pub ReadsPayoff : Reader → Reader → Type 0
+ReadsPayoff old new = (new ≡ record old {
+  tokens = new.tokens;
+  outcomes = record old.outcomes { pending = new.outcomes.pending };
+}) × IsNoLonger old new
+
 -- if there were this many more tokens to come, all of them could be nodes with as many children as
 -- a set can have actions
 abbrev pub HasRoom : ℕ → Reader → Type 0
@@ -100,6 +107,10 @@ HasRoom more r = r.due + (length r.tokens.ahead + more) * 18446744073709551616 <
 -- a node has begun: it is still due, and there is room for its children
 abbrev pub HasBegunNode : Reader → Type 0
 HasBegunNode r = (0 < r.due) × HasRoom 1 r
+
+-- a node was read, and another one may begin
+abbrev pub ReadsNode : Reader → Reader → Type 0
+ReadsNode old new = HasRoom 0 new × IsNoLonger old new
 
 -- ---- nodes that were told
 

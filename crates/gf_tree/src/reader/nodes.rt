@@ -4,7 +4,7 @@ ghost use Rattle.std.specs.Prelude.{◌≡◌, ◌<◌, ℕ, List, [], Ok, lengt
 ghost use Rattle.gf_tree.specs.inner.Machine.Position.{ChanceName, NodeDue, PersonalName};
 ghost use Rattle.gf_tree.specs.inner.Machine.Position.{PlayerNumber, SetNumber, TerminalName};
 ghost use Rattle.gf_tree.specs.inner.ReaderState.{answer, content_of, Fails, Goes, GoesTelling};
-ghost use Rattle.gf_tree.specs.inner.ReaderState.{HasBegunNode, HasReadAll, HasRoom, IsNoLonger};
+ghost use Rattle.gf_tree.specs.inner.ReaderState.{HasBegunNode, HasReadAll, HasRoom, IsNoLonger, ReadsNode};
 ghost use Rattle.gf_tree.specs.inner.ReaderState.{heading_read};
 
 use super::Reader;
@@ -19,8 +19,7 @@ impl<'a> Reader<'a> {
         requires begun { HasBegunNode self.old }
         ensures machine { GoesTelling R.holds result (answer ChanceName self.old) self.old self.new
             to.old to.new }
-        ensures room { OnOk result (HasRoom 0 self.new) }
-        ensures shorter { OnOk result (IsNoLonger self.old self.new) }
+        ensures read { OnOk result (ReadsNode self.old self.new) }
     {
         let Some(name) = self.tokens.text() else {
             return Err(self.tokens.refusal(Why::Expected(What::Text)));
@@ -58,8 +57,7 @@ impl<'a> Reader<'a> {
         ensures machine { GoesTelling R.holds result (answer PersonalName self.old) self.old
             self.new
             to.old to.new }
-        ensures room { OnOk result (HasRoom 0 self.new) }
-        ensures shorter { OnOk result (IsNoLonger self.old self.new) }
+        ensures read { OnOk result (ReadsNode self.old self.new) }
     {
         let Some(name) = self.tokens.text() else {
             return Err(self.tokens.refusal(Why::Expected(What::Text)));
@@ -76,8 +74,7 @@ impl<'a> Reader<'a> {
         ensures machine { GoesTelling R.holds result (answer TerminalName self.old) self.old
             self.new
             to.old to.new }
-        ensures room { OnOk result (HasRoom 0 self.new) }
-        ensures shorter { OnOk result (IsNoLonger self.old self.new) }
+        ensures read { OnOk result (ReadsNode self.old self.new) }
     {
         let Some(name) = self.tokens.text() else {
             return Err(self.tokens.refusal(Why::Expected(What::Text)));

@@ -16,7 +16,7 @@ ghost use Rattle.gf_tree.specs.inner.Machine.Position.{KnownOutcomeName, NewOutc
 ghost use Rattle.gf_tree.specs.inner.Machine.Position.{NewPayoff, NodeDue, OutcomeNumber};
 ghost use Rattle.gf_tree.specs.inner.ReaderState.{answer, begun_with, content_of};
 ghost use Rattle.gf_tree.specs.inner.ReaderState.{Goes, GoesTelling, Grows, HasBegunNode, HasRoom};
-ghost use Rattle.gf_tree.specs.inner.ReaderState.{IsNoLonger, heard_from};
+ghost use Rattle.gf_tree.specs.inner.ReaderState.{IsNoLonger, ReadsNode, ReadsPayoff, heard_from};
 
 use super::Reader;
 use crate::game::outcomes::Outcomes;
@@ -63,11 +63,7 @@ impl<'a> Reader<'a> {
             self.old) result
             (answer (NewPayoff b number (outcome_with name self.new.outcomes.pending) left)
             self.new) }
-        ensures kept { OnOk result (self.new ≡ record self.old {
-          tokens = self.new.tokens;
-          outcomes = record self.old.outcomes { pending = self.new.outcomes.pending };
-        }) }
-        ensures shorter { OnOk result (IsNoLonger self.old self.new) }
+        ensures read { OnOk result (ReadsPayoff self.old self.new) }
     {
         let Some((word, number)) = self.tokens.number() else {
             return Err(self.tokens.refusal(Why::Expected(What::Number)));
@@ -101,8 +97,7 @@ impl<'a> Reader<'a> {
             (NewPayoff (begun_with self.old.sets.known (label_of node.entry) (position_of set))
             number (outcome_with (label_of name.entry) self.old.outcomes.pending) 0) self.old)
             self.old self.new to.old to.new }
-        ensures room { OnOk result (HasRoom 0 self.new) }
-        ensures shorter { OnOk result (IsNoLonger self.old self.new) }
+        ensures read { OnOk result (ReadsNode self.old self.new) }
     {
         let Some(brace) = self.tokens.closing() else {
             return Err(self.tokens.refusal(Why::Expected(What::Closing)));
@@ -132,8 +127,7 @@ impl<'a> Reader<'a> {
         ensures machine { GoesTelling R.holds result (answer (NewOutcomeName
             (begun_with self.old.sets.known (label_of node.entry) (position_of set)) number)
             self.old) self.old self.new to.old to.new }
-        ensures room { OnOk result (HasRoom 0 self.new) }
-        ensures shorter { OnOk result (IsNoLonger self.old self.new) }
+        ensures read { OnOk result (ReadsNode self.old self.new) }
     {
         let Some(name) = self.tokens.text() else {
             return Err(self.tokens.refusal(Why::NotDescribed));
@@ -184,8 +178,7 @@ impl<'a> Reader<'a> {
             (begun_with self.old.sets.known (label_of node.entry) (position_of set)) number
             (description_at nat_eq self.old.outcomes.known number)) self.old.tokens)
             self.old self.new to.old to.new }
-        ensures room { OnOk result (HasRoom 0 self.new) }
-        ensures shorter { OnOk result (IsNoLonger self.old self.new) }
+        ensures read { OnOk result (ReadsNode self.old self.new) }
     {
         let Some(place) = known_outcome(&self.outcomes, number) else {
             self.new_outcome(node, set, number, to)?;
@@ -211,8 +204,7 @@ impl<'a> Reader<'a> {
         ensures machine { GoesTelling R.holds result (answer (OutcomeNumber
             (begun_with self.old.sets.known (label_of node.entry) (position_of set))) self.old)
             self.old self.new to.old to.new }
-        ensures room { OnOk result (HasRoom 0 self.new) }
-        ensures shorter { OnOk result (IsNoLonger self.old self.new) }
+        ensures read { OnOk result (ReadsNode self.old self.new) }
     {
         let Some((word, index)) = self.tokens.index() else {
             return Err(self.tokens.refusal(Why::Expected(What::Index)));

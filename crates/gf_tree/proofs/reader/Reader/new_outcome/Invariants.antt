@@ -1,9 +1,9 @@
-use Rattle.std.proofs.Common.{◌≡◌, ◌≤◌, length}
+use Rattle.std.proofs.Common.{◌≡◌}
 use Rattle.gf_token.specs.Label.{label_of}
 use Rattle.gf_tree.specs.Description.{outcome_with}
 use Rattle.gf_tree.specs.KeptNodes.{position_of}
 use Rattle.gf_tree.specs.inner.Machine.Position.{NewOutcomeName, NewPayoff}
-use Rattle.gf_tree.specs.inner.ReaderState.{answer, begun_with}
+use Rattle.gf_tree.specs.inner.ReaderState.{ReadsPayoff, answer, begun_with}
 use Rattle.gf_tree.proofs.reader.Reader.new_outcome.Given as goal
 
 abbrev pub invariant-loop-left : goal.invariant-loop-left
@@ -14,11 +14,7 @@ invariant-loop-left g l = record {
       ≡ answer (NewPayoff (begun_with l.fn.self.sets.known (label_of l.node) (position_of l.set))
       l.number (outcome_with (label_of l.name.label) l.self.outcomes.pending) l.left)
       l.self;
-  kept : l.self ≡ record l.fn.self {
-    tokens = l.self.tokens;
-    outcomes = record l.fn.self.outcomes { pending = l.self.outcomes.pending };
-  };
-  shorter : length l.self.tokens.ahead ≤ length l.fn.self.tokens.ahead;
+  read : ReadsPayoff l.fn.self l.self;
 }
 
 abbrev pub decreases-loop-left : goal.decreases-loop-left

@@ -1,8 +1,8 @@
-use Rattle.std.proofs.Common.{◌≡◌, ◌≤◌, length, ℕ, List}
+use Rattle.std.proofs.Common.{◌≡◌, length, ℕ, List}
 use Rattle.gf_fraction.specs.Ratio.{IsFraction}
 use Rattle.gf_token.specs.Label.{label_of}
 use Rattle.gf_tree.specs.Description.{set_of, set_with}
-use Rattle.gf_tree.specs.inner.ReaderState.{answer}
+use Rattle.gf_tree.specs.inner.ReaderState.{ReadsAction, answer}
 use Rattle.gf_tree.specs.inner.Machine.Position.{NewSetName, NewAction}
 use Rattle.gf_tree.proofs.reader.Reader.new_set.Given as goal
 
@@ -12,11 +12,7 @@ invariant-loop-label l = record {
       ≡ answer (NewAction node (set_of l.player l.number)
       (set_with (label_of l.name.label) l.self.sets.pending) l.sum)
       l.self;
-  kept : l.self ≡ record l.fn.self {
-    tokens = l.self.tokens;
-    sets = record l.fn.self.sets { pending = l.self.sets.pending };
-  };
-  shorter : length l.self.tokens.ahead ≤ length l.fn.self.tokens.ahead;
+  read : ReadsAction l.fn.self l.self;
   fraction : IsFraction l.sum;
 }
 
