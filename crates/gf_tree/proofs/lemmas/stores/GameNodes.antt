@@ -3,8 +3,8 @@ use Rattle.gf_tree.proofs.Common.{◌≡◌, ℕ, zero, suc, ◌+◌, ◌<◌, L
 use Rattle.gf_tree.proofs.Common.{drop, get_or, slice_get, refl, sym, ap, subst, ◌∙◌, arith}
 use Rattle.gf_tree.proofs.Common.{length-map, drop-map, map-append, Tree, Trees, count, branch}
 use Rattle.gf_tree.proofs.Common.{none, more, Entry, Fills, flatten, flatten_all, grow, Described}
-use Rattle.gf_tree.proofs.Common.{Node, IsGame, IsSpellable, subtree_sizes, Begin, skipped, Stored}
-use Rattle.gf_tree.proofs.Common.{SetKey, InformationSet, Outcome, Parts, game_with, Kept, IsAmong}
+use Rattle.gf_tree.proofs.Common.{Node, subtree_sizes, Begin, skipped, Stored}
+use Rattle.gf_tree.proofs.Common.{SetKey, InformationSet, Outcome, Parts, Kept, IsAmong}
 use Rattle.gf_tree.proofs.Common.{AreAmong, entries_with, kept_of, tree_with}
 use Rattle.std.proofs.lemmas.List.{get_or-map}
 use Rattle.std.proofs.Math.Seq.{drop-cons}
