@@ -2,7 +2,7 @@
 //! first has the first action at each set that is not relevant under it.
 
 ghost use Rattle.std.specs.Prelude.{◌≡◌, ◌≤◌, ◌<◌, ◌+◌, ℕ, suc, true, false, [], IfOk, OnOk, drop};
-ghost use Rattle.std.specs.Prelude.{get_or, length, map, take};
+ghost use Rattle.std.specs.Prelude.{get_or, if◌then◌else◌, length, map, take};
 ghost use Rattle.gf_nfg.specs.Profiles.{product};
 ghost use Rattle.gf_form.specs.inner.strategies.Counted.{AreCounts};
 ghost use Rattle.gf_form.specs.inner.reduced.Firsts.{AreFirsts, AreFirstsOf};
@@ -34,7 +34,7 @@ pub(crate) struct Player<'q, 'a> {
 
 /// A search for the first strategies of a player that reduce to each of his reduced ones. It
 /// chooses at one digit after another, the slowest first, and goes no further if a set at which it
-/// chose another action than the first cannot be met any more.
+/// chose an action other than the first cannot be met any more.
 #[derive(Drop)]
 pub(crate) struct Search {
     alloc: Global,
@@ -72,8 +72,8 @@ impl Search {
         })
     }
 
-    /// Whether each set at which another action than the first was chosen, among those of the first
-    /// digits, can be met.
+    /// Whether each set at which an action other than the first was chosen, among those of the
+    /// first digits, can be met.
     fn is_open(&self, digits: &[OwnDigit], depth: usize) -> bool
         requires deep { depth ≤ length digits.now }
         requires places { (k : ℕ) → k < depth
@@ -90,6 +90,21 @@ impl Search {
             }
         }
         true
+    }
+
+    /// How many actions are tried at a digit: if its set cannot be met, the first one alone.
+    fn actions_tried(&self, digit: OwnDigit) -> u32
+        requires some { 0 < digit.actions }
+        requires there { digit.place < length self.now.met.items }
+        ensures all { result
+            ≡ (if get_or self.now.met.items digit.place false then digit.actions else 1) }
+        ensures upto { result ≤ digit.actions }
+    {
+        if self.met[digit.place] {
+            digit.actions
+        } else {
+            1
+        }
     }
 
     /// Appends the strategy, which has this number and meets the sets that are marked.
@@ -141,11 +156,12 @@ impl Search {
         }
         let digit = player.digits[depth];
         let each = count / digit.actions;
+        let tried = self.actions_tried(digit);
         let mut left = match self.spare.pop() {
             Some(level) => level,
             None => Level::none(self.alloc),
         };
-        for before in 0..digit.actions {
+        for before in 0..tried {
             self.strategy[digit.place] = before + 1;
             left.choose(level, digit.step, u64::from(before + 1))?;
             self.push_below(player, &left, depth + 1, number + before * each, each)?;

@@ -1,9 +1,9 @@
 -- A search for first strategies: what it finds where it goes no further.
-use Rattle.std.proofs.Common.{◌≡◌, ℕ, zero, suc, ◌+◌, ◌-◌, ◌<◌, ◌≤◌, Bool, true, false, List, []}
-use Rattle.std.proofs.Common.{◌∷◌, ◌++◌, Some, length, drop, get_or, map, take, slice_get, refl}
+use Rattle.std.proofs.Common.{◌≡◌, ℕ, zero, suc, ◌+◌, ◌-◌, ◌*◌, ◌/◌, ◌<◌, ◌≤◌, Bool, true, false}
+use Rattle.std.proofs.Common.{List, [], ◌∷◌, ◌++◌, Some, length, drop, get_or, map, take, slice_get, refl}
 use Rattle.std.proofs.Common.{sym}
 use Rattle.std.proofs.Common.{ap, subst, ◌∙◌, arith, append-nil, inl, inr, ◌⊎◌}
-use Rattle.std.specs.Prelude.{◌==◌, ◌||◌, filter}
+use Rattle.std.specs.Prelude.{◌==◌, ◌||◌, filter, if◌then◌else◌}
 use Rattle.std.specs.List.{AllByRecursion, list_any}
 use Rattle.std.proofs.Math.ListN.{drop_of_length-le}
 use Rattle.std.proofs.Math.Seq.{take-length}
@@ -36,7 +36,8 @@ use Rattle.gf_tree.proofs.lemmas.games.Members.{map_twice}
 use Rattle.gf_form.proofs.lemmas.reduced.FirstNumbers.{AreFirst, chooses_all, first_where}
 use Rattle.gf_form.proofs.lemmas.reduced.FirstNumbers.{passed_by}
 use Rattle.gf_form.proofs.lemmas.reduced.FirstStrategies.{flags_fit, reduced_strategies_are}
-use Rattle.gf_form.proofs.lemmas.reduced.SearchSteps.{at_end}
+use Rattle.gf_form.proofs.lemmas.reduced.SearchSteps.{all_rows, at_end, moved, place_inside}
+use Rattle.gf_form.proofs.lemmas.reduced.SearchSteps.{some_actions}
 
 -- ---- sets that can be met
 
@@ -122,70 +123,113 @@ module _ (g : Game) (game : IsGame g) (player : ℕ) (digits : List OwnDigit) (s
 
   -- ---- a set that cannot be met any more
 
-  module _ (u : Under) (shut : IsShut digits depth strategy met) where
-    abbrev q : ℕ
-    q = (digit_at digits shut.digit).place
+  -- strategies with an action other than the first there are passed by
+  module _ (u : Under) (q : ℕ) (among : q < length counts) (unmet : get_or met q false ≡ false)
+    where
+      inside : q < length keys
+      inside = omega (arith, among, sets_counted g player)
 
-    early : q < u.place
-    early = u.early shut.digit shut.early
+      not_first : (k : ℕ) → number ≤ k → k < number + count → ¬ (get_or (get_or all k []) q 0 ≡ 1)
+          → is_first g player (get_or all k []) ≡ false
+      not_first k from before moved = false_from_ne_true (is_first g player s) (λ first.
+          moved (first_where (relevant_sets g player s) s q (sym fit) first
+          (omega (arith, inside, length-map keys (is_relevant g (choice_at keys s)))) flag))
+        where
+          s : List ℕ
+          s = get_or all k []
 
-    among : q < length keys
-    among = omega (arith, early, u.within, sets_counted g player)
+          later : List ℕ
+          later = get_or (all_choices (drop u.place counts)) (k - number) []
 
-    not_first : (k : ℕ) → number ≤ k → k < number + count
-        → is_first g player (get_or all k []) ≡ false
-    not_first k from before = false_from_ne_true (is_first g player s) (λ first.
-        shut.moved (sym there ∙ first_where (relevant_sets g player s) s q (sym fit) first
-        (omega (arith, among, length-map keys (is_relevant g (choice_at keys s)))) flag))
-      where
-        s : List ℕ
-        s = get_or all k []
+          is : s ≡ take u.place strategy ++ later
+          is =
+              grind (arith, u.numbered (k - number) (omega (arith, from, before)))
 
-        later : List ℕ
-        later = get_or (all_choices (drop u.place counts)) (k - number) []
+          fit : length (relevant_sets g player s) ≡ length s
+          fit = flags_fit g game player k
+              (omega (arith, before, u.end, length-all_choices counts))
 
-        is : s ≡ take u.place strategy ++ later
-        is =
-            grind (arith, u.numbered (k - number) (omega (arith, from, before)))
+          flag : get_or (relevant_sets g player s) q false ≡ false
+          flag =
+              get_or-map (is_relevant g (choice_at keys s)) keys q no_key false inside
+              ∙ ap (λ (l : List ℕ). is_relevant g (choice_at keys l) (get_or keys q no_key)) is
+              ∙ u.relevant later (suc q) (get_or keys q no_key)
+              (choice_at_number (drop u.place counts) (k - number)
+              (omega (arith, from, before, u.counted)))
+              (slice_get-get_or keys q no_key inside)
+              ∙ unmet_left (suc q) (own_steps (drop u.place counts))
+              (picked (drop u.place counts) later) level (sym (marks q) ∙ unmet)
 
-        fit : length (relevant_sets g player s) ≡ length s
-        fit = flags_fit g game player k
-            (omega (arith, before, u.end, length-all_choices counts))
+      others_passed : (start : ℕ) → number ≤ start → start ≤ number + count
+          → ((k : ℕ) → start ≤ k → k < number + count → ¬ (get_or (get_or all k []) q 0 ≡ 1))
+          → (numbers : List ℕ) (labels : List (List ℕ)) → AreFoundTo g player numbers labels start
+          → AreFoundTo g player numbers labels (number + count)
+      others_passed start from upto moved numbers labels found =
+          let end : start + (number + count - start) ≡ number + count = omega (arith, upto) in
+          let first : AreFirst (is_first g player) all [] numbers start =
+          record { are = found.are; within = found.before } in
+          let passed = subst (AreFirst (is_first g player) all [] numbers) end
+          (passed_by (is_first g player) all [] numbers start (number + count - start) first
+          (omega (arith, end, u.end, length-all_choices counts))
+          (λ k after before. not_first k (omega (arith, from, after)) (omega (arith, before, end))
+          (moved k after (omega (arith, before, end))))) in
+          record { are = passed.are; before = passed.within; labelled = found.labelled }
 
-        there : get_or s q 0 ≡ get_or strategy q 0
-        there =
-            grind (
-              arith,
-              is,
-              early,
-              u.within,
-              search.wide,
-              length-take-le,
-              get_or_append_left,
-              get_or-take,
-            )
+  -- none is found under the choices
+  pub none_found : Under → IsShut digits depth strategy met → (numbers : List ℕ)
+      → (labels : List (List ℕ)) → AreFoundTo g player numbers labels number
+      → AreFoundTo g player numbers labels (number + count)
+  none_found u shut =
+      let q = (digit_at digits shut.digit).place in
+      let early = u.early shut.digit shut.early in
+      others_passed u q (omega (arith, early, u.within)) shut.unmet number (omega arith)
+      (omega arith)
+      (λ k from before same.
+      let is = u.numbered (k - number) (omega (arith, from, before)) in
+      let back : number + (k - number) ≡ k = omega (arith, from) in
+      shut.moved (grind (
+        arith,
+        early,
+        u.within,
+        search.wide,
+        length-take-le,
+        get_or_append_left,
+        get_or-take,
+      )))
 
-        flag : get_or (relevant_sets g player s) q false ≡ false
-        flag =
-            get_or-map (is_relevant g (choice_at keys s)) keys q no_key false among
-            ∙ ap (λ (l : List ℕ). is_relevant g (choice_at keys l) (get_or keys q no_key)) is
-            ∙ u.relevant later (suc q) (get_or keys q no_key)
-            (choice_at_number (drop u.place counts) (k - number)
-            (omega (arith, from, before, u.counted)))
-            (slice_get-get_or keys q no_key among)
-            ∙ unmet_left (suc q) (own_steps (drop u.place counts))
-            (picked (drop u.place counts) later) level (sym (marks q) ∙ shut.unmet)
+  -- all are found, if only the first action was tried at a digit whose set cannot be met
+  pub all_found : {all_digits tried : ℕ} {d : OwnDigit} → (u : Under) → ¬ (depth ≡ all_digits)
+      → all_digits ≡ length digits → d ≡ get_or digits depth d
+      → tried ≡ (if get_or met d.place false then d.actions else 1)
+      → (numbers : List ℕ) (labels : List (List ℕ))
+      → AreFoundTo g player numbers labels (number + tried * (count / d.actions))
+      → AreFoundTo g player numbers labels (number + count)
+  all_found {d = d} u other digits_are d_is tried_is numbers labels found =
+      by (get_or met d.place false) refl
+    where
+      each : ℕ
+      each = count / d.actions
 
-    -- none is found under the choices
-    pub none_found : (numbers : List ℕ) (labels : List (List ℕ))
-        → AreFoundTo g player numbers labels number
-        → AreFoundTo g player numbers labels (number + count)
-    none_found numbers labels found =
-        let first : AreFirst (is_first g player) all [] numbers number =
-        record { are = found.are; within = found.before } in
-        let passed = passed_by (is_first g player) all [] numbers number count first
-        (omega (arith, u.end, length-all_choices counts)) not_first in
-        record { are = passed.are; before = passed.within; labelled = found.labelled }
+      rows : number + d.actions * each ≡ number + count
+      rows = all_rows u other digits_are d_is search (λ place listed. refl)
+
+      some : 0 < d.actions
+      some = some_actions u other digits_are d_is search (λ place listed. refl)
+
+      by : (b : Bool) → get_or met d.place false ≡ b
+          → AreFoundTo g player numbers labels (number + count)
+      by true e = rw rows at (rw (tried_is, e) at found)
+      by false e =
+          let one : number + 1 * each ≡ number + each = omega arith in
+          others_passed u d.place
+          (omega (
+            arith,
+            place_inside u other digits_are d_is search (λ place listed. refl),
+            search.wide,
+          )) e (number + each) (omega arith)
+          (omega (arith, rows, some))
+          (moved u other digits_are d_is search (λ place listed. refl)) numbers labels
+          (rw one at (rw (tried_is, e) at found))
 
   -- ---- no digit left
 

@@ -1,14 +1,16 @@
 -- A search for first strategies, choice by choice: what is under the choices so far.
-use Rattle.std.proofs.Common.{◌≡◌, ℕ, zero, suc, ◌+◌, ◌-◌, ◌*◌, ◌/◌, ◌^◌, ◌<◌, ◌≤◌, Bool, true}
+use Rattle.std.proofs.Common.{◌≡◌, ℕ, zero, suc, ◌+◌, ◌-◌, ◌*◌, ◌/◌, ◌%◌, ◌^◌, ◌<◌, ◌≤◌, Bool, true}
 use Rattle.std.proofs.Common.{false, List}
 use Rattle.std.proofs.Common.{[], ◌∷◌, ◌++◌, Some, length, drop, get_or, set, take, refl, sym}
 use Rattle.std.proofs.Common.{ap, subst, ◌∙◌, arith, add-one, append_assoc, inl, inr, ◌⊎◌}
 use Rattle.std.proofs.Math.Seq.{drop-cons, take-suc, take-suc-set}
 use Rattle.std.specs.Prelude.{◌==◌}
-use Rattle.std.proofs.Math.Nat.{mul-div_cancel_left, mul-le-mul_right}
+use Rattle.std.proofs.Math.Nat.{div-add-mod, div-lt_iff_lt-mul, mod-lt, mul-div_cancel_left}
+use Rattle.std.proofs.Math.Nat.{mul_comm, mul-le-mul_right}
 use Rattle.std.proofs.lemmas.Bool.{cases_lt, eqb-false, eqb-true}
 use Rattle.std.proofs.Math.ListN.{drop_of_length-le}
-use Rattle.std.proofs.lemmas.List.{get_or-set_other, get_or_default, length-set, take-set-le}
+use Rattle.std.proofs.lemmas.List.{get_or-append_right, get_or-set_other, get_or_default}
+use Rattle.std.proofs.lemmas.List.{length-set, length-take-le, take-set-le}
 use Rattle.gf_token.specs.Positions.{at_position}
 use Rattle.gf_nfg.specs.Profiles.{product}
 use Rattle.gf_tree.specs.Description.{SetKey}
@@ -49,6 +51,27 @@ choices_row n counts before k within less =
     (λ i. get_or (all_choices (n ∷ counts)) (one i * product counts + here i) [])
     ∙ choice_at_place (n ∷ counts) ((before + 1) ∷ others)
     ((omega arith, omega (arith, within)), choice_at_number counts k less)
+
+-- after those with the first action at the first set, another one is chosen there
+other_action : (n : ℕ) (counts : List ℕ) (k : ℕ) → product counts ≤ k → k < n * product counts
+    → ¬ (get_or (get_or (all_choices (n ∷ counts)) k []) 0 0 ≡ 1)
+other_action n counts k from before =
+    let p = product counts in
+    let some = above p before in
+    let number : k / p * p + k % p ≡ k = omega (arith, mul_comm (k / p) p, div-add-mod k p) in
+    let row = choices_row n counts (k / p) (k % p) ((div-lt_iff_lt-mul some).1 before)
+    (mod-lt k some) in
+    let head : get_or (get_or (all_choices (n ∷ counts)) k []) 0 0 ≡ k / p + 1 =
+    grind (arith, row, number) in
+    λ first. omega (arith, head, first, not_none (k / p) (k % p) number (mod-lt k some))
+  where
+    above : (p : ℕ) → k < n * p → 0 < p
+    above zero less = absurd (omega (arith, less))
+    above (suc p) less = omega arith
+
+    not_none : (b r : ℕ) → b * product counts + r ≡ k → r < product counts → 0 < b
+    not_none zero r is less = absurd (omega (arith, is, less, from))
+    not_none (suc b) r is less = omega arith
 
 steps_positive : (actions : List ℕ) → ArePositive (steps_of actions)
 steps_positive [] = tt
@@ -373,6 +396,26 @@ module _ {g : Game} {player : ℕ} {counts : List ℕ} {digits : List OwnDigit}
 
   pub all_rows : number + d.actions * (count / d.actions) ≡ number + count
   all_rows = rw each_is (omega (arith, whole))
+
+  -- an action other than the first is chosen at the digit after its first rows
+  pub moved : (k : ℕ) → number + count / d.actions ≤ k → k < number + count
+      → ¬ (get_or (get_or (all_choices counts) k []) d.place 0 ≡ 1)
+  moved k from before =
+      let n = get_or counts place_there 0 in
+      let rows : count ≡ n * others = whole ∙ ap (λ (n : ℕ). n * others) found.1.2 in
+      let other = other_action n (drop (suc place_there) counts) (k - number)
+      (omega (arith, from, each_is)) (omega (arith, before, from, rows)) in
+      let row = found.0.numbered (k - number) (omega (arith, from, before)) in
+      let back : number + (k - number) ≡ k = omega (arith, from) in
+      let long : length (take place_there now) ≡ place_there =
+      length-take-le place_there now (omega (arith, found.1.1, search.wide)) in
+      grind (
+        arith,
+        drop-cons counts place_there 0 found.1.1,
+        get_or-append_right (take place_there now)
+            (get_or (all_choices (drop place_there counts)) (k - number) []) place_there place_there
+            0 long (omega arith),
+      )
 
   pub step_fits : (a : ℕ) → a ≤ d.actions → a * d.step + d.step < 2 ^ 64
   step_fits a le =

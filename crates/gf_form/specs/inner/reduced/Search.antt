@@ -78,7 +78,7 @@ IsUnder p s level depth number count =
     IsUnderBy p.game.now p.number (counts_of p) p.digits.items s.strategy.items level depth number
     count
 
--- a set at which the strategy has another action than the first, among those of the first digits,
+-- a set at which the strategy has an action other than the first, among those of the first digits,
 -- and that cannot be met
 pub record IsShut (digits : List OwnDigit) (depth : ℕ) (strategy : List ℕ) (met : List Bool)
     : Type 0

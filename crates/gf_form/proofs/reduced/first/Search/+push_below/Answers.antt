@@ -1,9 +1,9 @@
-use Rattle.std.proofs.Common.{◌≡◌, ◌+◌, ◌*◌, ◌/◌, ◌^◌, ◌<◌, ◌∙◌, ℕ, OnOk, ap, arith}
+use Rattle.std.proofs.Common.{◌≡◌, ◌+◌, ◌*◌, ◌/◌, ◌^◌, ◌<◌, ◌∙◌, ℕ, OnOk, arith}
 use Rattle.std.proofs.Common.{refl, subst, sym}
 use Rattle.gf_form.specs.inner.reduced.Levels.{IsChosen, IsLevel}
 use Rattle.gf_form.specs.inner.reduced.Search.{AreOpen, IsFound, IsShut}
-use Rattle.gf_form.proofs.lemmas.reduced.SearchEnds.{IsLast, at_last, none_found}
-use Rattle.gf_form.proofs.lemmas.reduced.SearchSteps.{all_rows, next_search, next_under}
+use Rattle.gf_form.proofs.lemmas.reduced.SearchEnds.{IsLast, all_found, at_last, none_found}
+use Rattle.gf_form.proofs.lemmas.reduced.SearchSteps.{next_search, next_under}
 use Rattle.gf_form.proofs.lemmas.reduced.SearchSteps.{place_inside, some_actions}
 use Rattle.gf_form.proofs.lemmas.reduced.SearchSteps.{step_fits, still}
 use Rattle.gf_form.proofs.reduced.first.Search.+push_below.Goals as goal
@@ -70,12 +70,15 @@ choose-requires-clause-fits t c =
     (sym c.from.ensures)
     (step_fits c.requires.under c.if-depth-len.false
     (c.len.ensures ∙ c.args.player.now.digits.ok.0) c.index-digit.ensures i.0 i.2
-    (c.loop-before.before + 1) (omega (arith, c.loop-before-test.true)))
+    (c.loop-before.before + 1)
+    (omega (arith, c.loop-before-test.true, c.actions_tried-tried.ensures.upto)))
 
 pub push_below-requires : goal.push_below-requires
 push_below-requires t c =
     let i = c.loop-before.invariant in
     let before = c.loop-before.before in
+    let less : before < c.index-digit.result.now.actions =
+    omega (arith, c.loop-before-test.true, c.actions_tried-tried.ensures.upto) in
     let len = c.len.ensures ∙ c.args.player.now.digits.ok.0 in
     let left = c.choose.new.self in
     let levelled = subst (λ (sets : ℕ). IsLevel sets left) c.requires.under.levelled.counted
@@ -85,11 +88,11 @@ push_below-requires t c =
       omega (arith, c.decreases, c.requires.under.deep, c.if-depth-len.false, len),
       (
         next_search c.requires.under c.if-depth-len.false len c.index-digit.ensures i.0 i.2 before
-            c.loop-before-test.true,
+            less,
         (
           i.1,
           next_under c.requires.under c.if-depth-len.false len c.index-digit.ensures i.0 i.2
-              before c.loop-before-test.true left levelled chosen,
+              before less left levelled chosen,
         ),
       ),
     )
@@ -101,21 +104,39 @@ loop-before-preserved t c =
     let next = c.in_ok-push_below.ensures in
     let each = c.args.count / c.index-digit.result.now.actions in
     let row : c.args.number + before * each + each ≡ c.args.number + (before + 1) * each =
-    omega arith in (
+    omega arith in
+    let less : before < c.index-digit.result.now.actions =
+    omega (arith, c.loop-before-test.true, c.actions_tried-tried.ensures.upto) in (
       next.search,
       subst (IsFound c.args.player.now c.push_below.new.self) row next.found,
       λ place listed. still c.requires.under c.if-depth-len.false
           (c.len.ensures ∙ c.args.player.now.digits.ok.0) c.index-digit.ensures i.0 i.2 before
-          c.loop-before-test.true place listed c.push_below.new.self.strategy.items next.earlier,
+          less place listed c.push_below.new.self.strategy.items next.earlier,
+    )
+
+pub actions_tried-tried-requires-clause-some : goal.actions_tried-tried-requires-clause-some
+actions_tried-tried-requires-clause-some t c =
+    some_actions c.requires.under c.if-depth-len.false
+    (c.len.ensures ∙ c.args.player.now.digits.ok.0) c.index-digit.ensures c.requires.search
+    (λ place listed. refl)
+
+pub actions_tried-tried-requires-clause-there : goal.actions_tried-tried-requires-clause-there
+actions_tried-tried-requires-clause-there t c =
+    omega (
+      arith,
+      place_inside c.requires.under c.if-depth-len.false
+          (c.len.ensures ∙ c.args.player.now.digits.ok.0) c.index-digit.ensures c.requires.search
+          (λ place listed. refl),
+      c.requires.search.wide,
+      c.in_ok-mark.ensures.counted,
+      c.requires.under.levelled.counted,
     )
 
 pub returns-clause-found : goal.returns-clause-found
 returns-clause-found t c =
-    let i = c.loop-before.invariant in
-    let end : c.loop-before.before ≡ c.index-digit.result.now.actions =
+    let end : c.loop-before.before ≡ c.actions_tried-tried.result =
     omega (arith, c.loop-before-test.false, c.loop-before.auto.before-end) in
-    subst (IsFound c.args.player.now c.loop-before.self)
-    (ap (λ (k : ℕ). c.args.number + k * (c.args.count / c.index-digit.result.now.actions)) end
-    ∙ all_rows c.requires.under c.if-depth-len.false
-    (c.len.ensures ∙ c.args.player.now.digits.ok.0) c.index-digit.ensures i.0 i.2)
-    i.1
+    all_found _ c.players-players.ensures.is_game _ _ _ c.requires.search _ _ _ _ _
+    c.in_ok-mark.ensures.marks c.requires.under c.if-depth-len.false
+    (c.len.ensures ∙ c.args.player.now.digits.ok.0) c.index-digit.ensures
+    (end ∙ c.actions_tried-tried.ensures.all) _ _ c.loop-before.invariant.1
