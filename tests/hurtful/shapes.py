@@ -4,7 +4,7 @@ import random
 from fractions import Fraction
 from functools import partial
 
-from .games import ended
+from .games import Answer, ended, table_text
 from .trees import Tree
 
 SEED = 1
@@ -272,7 +272,10 @@ def set_never_met(actions, count):
     tree.move(1, 2, actions)
     for _ in range(actions + 1):
         tree.end()
-    return tree.game()
+    # (the labels of all strategies would be too long)
+    labels = ["-".join(["1", *["1"] * count, "*"]), "-".join(["2", *["*"] * count, "*"])]
+    form = Answer(table_text("s", tree.players, [labels], "0\n0\n").encode())
+    return tree.game(form, without=["table"], relevant=True)
 
 
 def sets_in_conflict(sets):
@@ -363,6 +366,7 @@ SHAPES = {
     "a full tree": (partial(full_tree, 17), partial(side_by_side, 17)),
     "a mixed tree": (partial(mixed_tree, 12, 16), partial(side_by_side, 16)),
     "a wide tree reduced": (partial(wide_tree, 100, 6, 14), partial(side_by_side, 14)),
+    "a set that is never met": (partial(set_never_met, 2**19, 350_000), partial(set_never_met, 2, 350_000)),
 }
 
 # The same of shapes that are too slow at full size, which docs/DECISIONS.md lists: at a size that passes.
@@ -372,7 +376,6 @@ KNOWN = {
         partial(toss_that_never_comes, 17, 7, -1),
     ),
     "a wide tree": (partial(wide_tree, 500, 8, 20, without=["reduced"]), MOST_ROWS),
-    "a set that is never met": (partial(set_never_met, 2000, 1000), partial(set_never_met, 2, 1000)),
 }
 
 # The same of shapes that have a short way to the strategic form: the twin has to go the long way.
