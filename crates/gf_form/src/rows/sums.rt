@@ -44,20 +44,11 @@ pub(crate) fn factor(den: u128, from: u128) -> Option<u128>
     Some(factor)
 }
 
-/// How two terms are brought over one denominator; `None` if that does not fit.
-#[inline]
-pub(crate) fn scale_of(a: Head, b: Head) -> Option<Scale>
+/// How two terms over different denominators are brought over one; `None` if that does not fit.
+#[inline(never)]
+fn scale_of_different(a: Head, b: Head) -> Option<Scale>
     ensures { IfSome result (IsScale a b) }
 {
-    if a.den == b.den && a.den > 0 {
-        let size = a.size.checked_add(b.size)?;
-        return Some(Scale {
-            den: a.den,
-            size,
-            first: 1,
-            second: 1,
-        });
-    }
     let den = multiple(a.den, b.den)?;
     let first = factor(den, a.den)?;
     let second = factor(den, b.den)?;
@@ -72,6 +63,23 @@ pub(crate) fn scale_of(a: Head, b: Head) -> Option<Scale>
     })
 }
 
+/// How two terms are brought over one denominator; `None` if that does not fit.
+#[inline(always)]
+pub(crate) fn scale_of(a: Head, b: Head) -> Option<Scale>
+    ensures { IfSome result (IsScale a b) }
+{
+    if a.den == b.den && a.den > 0 {
+        let size = a.size.checked_add(b.size)?;
+        return Some(Scale {
+            den: a.den,
+            size,
+            first: 1,
+            second: 1,
+        });
+    }
+    scale_of_different(a, b)
+}
+
 /// A number times a factor; `None` if it does not fit.
 #[inline]
 fn multiplied(number: i128, by: u128) -> Option<i128>
@@ -84,26 +92,34 @@ fn multiplied(number: i128, by: u128) -> Option<i128>
 }
 
 /// The sum of two numbers, each times its factor; `None` if it does not fit its type.
-#[inline]
+#[inline(never)]
 fn weighted(a: i128, by_a: u128, b: i128, by_b: u128) -> Option<i128>
     ensures { IfSome result (λ sum. sum ≡ a *ℤ pos by_a +ℤ b *ℤ pos by_b) }
 {
-    if by_a == 1 && by_b == 1 {
-        return a.checked_add(b);
-    }
     let own = multiplied(a, by_a)?;
     let other = multiplied(b, by_b)?;
     let sum = own.checked_add(other)?;
     Some(sum)
 }
 
+/// The same. Quick if the factors are 1.
+#[inline(always)]
+fn summed(a: i128, by_a: u128, b: i128, by_b: u128) -> Option<i128>
+    ensures { IfSome result (λ sum. sum ≡ a *ℤ pos by_a +ℤ b *ℤ pos by_b) }
+{
+    if by_a == 1 && by_b == 1 {
+        return a.checked_add(b);
+    }
+    weighted(a, by_a, b, by_b)
+}
+
 /// The sum of two numbers, each times its factor; `None` if it is out of bounds.
-#[inline]
+#[inline(always)]
 pub(crate) fn combined(a: i128, by_a: u128, b: i128, by_b: u128) -> Option<i128>
     ensures sum { IfSome result (λ sum. sum ≡ a *ℤ pos by_a +ℤ b *ℤ pos by_b) }
     ensures within { IfSome result (λ sum. IsWithin sum) }
 {
-    let sum = weighted(a, by_a, b, by_b)?;
+    let sum = summed(a, by_a, b, by_b)?;
     if sum == i128::MIN {
         return None;
     }

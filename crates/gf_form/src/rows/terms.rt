@@ -5,7 +5,7 @@ ghost use Rattle.std.specs.Prelude.{◌≡◌, ◌+◌, ◌*◌, ◌<◌, ◌≤
 ghost use Rattle.std.specs.Prelude.{IfOk, List, OnOk, get_or, length, pos, true};
 ghost use Rattle.std.specs.List.{AllByRecursion};
 ghost use Rattle.gf_fraction.specs.Ratio.{IsWithin};
-ghost use Rattle.gf_form.specs.inner.rows.Entries.{AreAlike, HasNumbers, HasSum, IsShaped};
+ghost use Rattle.gf_form.specs.inner.rows.Entries.{AreAlike, HasNumbers, HasSum, IsScale, IsShaped};
 ghost use Rattle.gf_form.specs.inner.rows.Entries.{entries, entry_at, heads, heads_of, lowered};
 
 use crate::rows::sums::{Scale, combined, scale_of};
@@ -53,7 +53,7 @@ const UNKNOWN: Scale = Scale {
 
 /// Appends numbers that are sums of these, each times its factor; or says that one of them does not
 /// fit.
-#[inline]
+#[inline(always)]
 fn push_numbers(
     numbers: &mut Vec<i128>,
     first: &[i128],
@@ -67,13 +67,14 @@ fn push_numbers(
     ensures { IfOk result (λ fits. HasNumbers first.now second.now by_first by_second fits
         numbers.old.items numbers.new.items) }
 {
+    numbers.reserve(first.len())?;
     let mut fits = true;
     for place in 0..first.len() {
         match combined(first[place], by_first, second[place], by_second) {
-            Some(number) => numbers.push(number)?,
+            Some(number) => numbers.push_reserved(number),
             None => {
                 fits = false;
-                numbers.push(0)?;
+                numbers.push_reserved(0);
             }
         }
     }
@@ -243,6 +244,53 @@ impl Terms {
         Ok(())
     }
 
+    /// How the terms at these places, from 0, are brought over one denominator.
+    #[inline(never)]
+    fn scale_between(&self, first: usize, second: usize) -> Scale
+        requires first { first < length self.now.demands.items }
+        requires second { second < length self.now.demands.items }
+        ensures { 0 < result.den
+            → IsScale (entry_at self.now first).head (entry_at self.now second).head result }
+    {
+        match scale_of(self.head(first), self.head(second)) {
+            Some(scale) => scale,
+            None => UNKNOWN,
+        }
+    }
+
+    /// Appends the sum of two terms of a list, at these places, from 0, with the demands of the
+    /// first, if they are brought over one denominator so.
+    #[inline(always)]
+    fn push_over(
+        &mut self,
+        from: &Terms,
+        first: usize,
+        second: usize,
+        scale: Scale,
+    ) -> Result<(), AllocError>
+        requires players { self.old.players ≡ from.now.players }
+        requires shaped { IsShaped self.old × IsShaped from.now }
+        requires first { first < length from.now.demands.items }
+        requires second { second < length from.now.demands.items }
+        requires scale { 0 < scale.den
+            → IsScale (entry_at from.now first).head (entry_at from.now second).head scale }
+        ensures sum { OnOk result (HasSum (entry_at from.now first) (entry_at from.now second)
+            (entries self.old) (entries self.new)) }
+        ensures alike { AreAlike self.new self.old }
+        ensures shaped { OnOk result (IsShaped self.new) }
+    {
+        let one = from.row(first);
+        let other = from.row(second);
+        let fits = push_numbers(&mut self.numbers, one, other, scale.first, scale.second)?;
+        let den = if fits { scale.den } else { 0 };
+        self.push_head(Head {
+            demands: from.demands[first],
+            den,
+            size: scale.size,
+        })?;
+        Ok(())
+    }
+
     /// Appends the sum of two terms of a list, at these places, from 0, with the demands of the
     /// first.
     #[inline]
@@ -261,20 +309,16 @@ impl Terms {
         ensures alike { AreAlike self.new self.old }
         ensures shaped { OnOk result (IsShaped self.new) }
     {
-        let own = from.head(first);
-        let scale = match scale_of(own, from.head(second)) {
-            Some(scale) => scale,
-            None => UNKNOWN,
+        if !from.scaled.is_empty() {
+            let scale = from.scale_between(first, second);
+            return self.push_over(from, first, second, scale);
+        }
+        let plain = Scale {
+            den: from.den,
+            size: 0,
+            first: 1,
+            second: 1,
         };
-        let one = from.row(first);
-        let other = from.row(second);
-        let fits = push_numbers(&mut self.numbers, one, other, scale.first, scale.second)?;
-        let den = if fits { scale.den } else { 0 };
-        self.push_head(Head {
-            demands: own.demands,
-            den,
-            size: scale.size,
-        })?;
-        Ok(())
+        self.push_over(from, first, second, plain)
     }
 }

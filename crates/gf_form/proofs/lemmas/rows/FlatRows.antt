@@ -214,6 +214,21 @@ same_scale a b size same above is =
       size = grind arith;
     }
 
+-- two of which nothing is noted
+plain_head : (t : Terms) (place : ℕ) → place < length t.demands.items → length t.scaled.items ≡ 0
+    → (entry_at t place).head
+    ≡ record { demands = get_or t.demands.items place 0; den = t.den; size = 0 }
+plain_head t place within none = grind (arith, head_is t place within, get_or_past)
+
+pub plain_scale : (t : Terms) (first second : ℕ) → first < length t.demands.items
+    → second < length t.demands.items → length t.scaled.items ≡ 0 → 0 < t.den
+    → IsScale (entry_at t first).head (entry_at t second).head
+    (record { den = t.den; size = 0; first = 1; second = 1 })
+plain_scale t first second one other none above =
+    rw (plain_head t first one none, plain_head t second other none)
+    (same_scale (record { demands = get_or t.demands.items first 0; den = t.den; size = 0 })
+    (record { demands = get_or t.demands.items second 0; den = t.den; size = 0 }) 0 refl above refl)
+
 -- ---- rows of sums
 
 pub record Adding (first second : List ℤ) (by_first by_second : ℕ) (place : ℕ) (fits : Bool)

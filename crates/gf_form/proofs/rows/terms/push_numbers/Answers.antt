@@ -7,8 +7,7 @@ use Rattle.std.proofs.lemmas.Int.{fits_signed_from_abs, to_z-of_z}
 use Rattle.gf_fraction.specs.Ratio.{IsWithin}
 use Rattle.gf_form.proofs.lemmas.strategies.StrategiesByNumber.{all_at}
 use Rattle.gf_form.proofs.rows.terms.push_numbers.Goals as goal
-use Rattle.gf_form.proofs.rows.terms.push_numbers.Goals.{in-Some+in_ok-push-in-Some}
-use Rattle.gf_form.proofs.rows.terms.push_numbers.Goals.{in-None+in_ok-push-in-None}
+use Rattle.gf_form.proofs.rows.terms.push_numbers.Goals.{in-None, in-Some}
 
 in_bits : (z : ℤ) → IsWithin z → to_z w128 (of_z w128 z) ≡ z
 in_bits z small = to_z-of_z w128 z (fits_signed_from_abs w128 z small)
@@ -16,7 +15,7 @@ in_bits z small = to_z-of_z w128 z (fits_signed_from_abs w128 z small)
 pub loop-place-preserved : goal.loop-place-preserved
 loop-place-preserved c =
     elim c.match-combined.branch [
-      | in-Some+in_ok-push-in-Some w ↦
+      | in-Some w ↦
           let place = c.loop-place.place in
           let less = c.loop-place-test.true in
           let small : IsWithin w.in-Some.number = w.in-Some.ensures.within in
@@ -30,19 +29,36 @@ loop-place-preserved c =
           +ℤ get_or c.args.second.now place (pos 0) *ℤ pos c.args.by_second =
           w.in-Some.ensures.sum
           ∙ (λ i. first i *ℤ pos c.args.by_first +ℤ second i *ℤ pos c.args.by_second) in
-          rw (w.numbers-is, w.fits-is)
-          (one_added c.args.first.now c.args.second.now c.args.by_first c.args.by_second place
-          c.args.numbers.now.items c.loop-place.numbers.items w.push.new.self.items
-          w.in-Some.number small
-          (w.in_ok-push-in-Some.ensures.items
-          ∙ ap (λ (z : ℤ). c.loop-place.numbers.items ++ z ∷ [])
-          (in_bits w.in-Some.number small))
-          c.loop-place.fits number c.loop-place.invariant)
-      | in-None+in_ok-push-in-None w ↦ rw (w.numbers-is, w.fits-is)
-          (none_added c.args.first.now c.args.second.now c.args.by_first c.args.by_second
-          c.loop-place.place c.args.numbers.now.items c.loop-place.numbers.items
-          w.push-in-None.new.self.items (pos 0) (lit< tt) w.in_ok-push-in-None.ensures.items
-          c.loop-place.fits c.loop-place.invariant)
+          rw (w.numbers-is, w.fits-is) (record {
+            adding = one_added c.args.first.now c.args.second.now c.args.by_first c.args.by_second
+                place c.args.numbers.now.items c.loop-place.numbers.items
+                w.push_reserved.new.self.items w.in-Some.number small
+                (w.push_reserved.ensures.items
+                ∙ ap (λ (z : ℤ). c.loop-place.numbers.items ++ z ∷ [])
+                (in_bits w.in-Some.number small))
+                c.loop-place.fits number c.loop-place.invariant.adding;
+            room = omega (
+              arith,
+              less,
+              c.loop-place.invariant.room,
+              w.push_reserved.ensures.len,
+              w.push_reserved.ensures.capacity,
+            );
+          })
+      | in-None w ↦ rw (w.numbers-is, w.fits-is) (record {
+        adding = none_added c.args.first.now c.args.second.now c.args.by_first c.args.by_second
+            c.loop-place.place c.args.numbers.now.items c.loop-place.numbers.items
+            w.push_reserved-in-None.new.self.items (pos 0) (lit< tt)
+            w.push_reserved-in-None.ensures.items c.loop-place.fits
+            c.loop-place.invariant.adding;
+        room = omega (
+          arith,
+          c.loop-place-test.true,
+          c.loop-place.invariant.room,
+          w.push_reserved-in-None.ensures.len,
+          w.push_reserved-in-None.ensures.capacity,
+        );
+      })
     ]
 
 pub returns : goal.returns
@@ -50,4 +66,4 @@ returns c =
     all_added c.args.first.now c.args.second.now c.args.by_first c.args.by_second
     c.loop-place.place c.loop-place.fits c.args.numbers.now.items c.loop-place.numbers.items
     c.requires.alike (omega (arith, c.loop-place-test.false, c.loop-place.auto.place-end))
-    c.loop-place.invariant
+    c.loop-place.invariant.adding

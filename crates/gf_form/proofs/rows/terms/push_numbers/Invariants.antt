@@ -1,7 +1,10 @@
+use Rattle.std.proofs.Common.{◌+◌, ◌-◌, ◌≤◌, length, vec_capacity, vec_len}
 use Rattle.gf_form.proofs.lemmas.rows.FlatRows.{Adding}
 use Rattle.gf_form.proofs.rows.terms.push_numbers.Given as goal
 
 abbrev pub invariant-loop-place : goal.invariant-loop-place
-invariant-loop-place l =
-    Adding l.first l.second l.fn.by_first l.fn.by_second l.place l.fits l.fn.numbers.items
-    l.numbers.items
+invariant-loop-place l = record {
+  adding : Adding l.first l.second l.fn.by_first l.fn.by_second l.place l.fits
+      l.fn.numbers.items l.numbers.items;
+  room : vec_len l.numbers + (length l.first - l.place) ≤ vec_capacity l.numbers;
+}

@@ -1,0 +1,65 @@
+use Rattle.std.proofs.Common.{◌≡◌, ◌∙◌, ◌<◌, ◌+ℤ◌, ◌*ℤ◌, ap, arith, get_or, length, pos, ℕ, ℤ}
+use Rattle.std.proofs.Common.{sym, true, Vec, Global}
+use Rattle.std.proofs.lemmas.List.{get_or_default}
+use Rattle.gf_form.specs.inner.rows.Entries.{entry_at}
+use Rattle.gf_form.proofs.lemmas.rows.FlatRows.{Pushed, entry_demands, is_pushed, row_in_bound}
+use Rattle.gf_form.proofs.lemmas.rows.FlatRows.{row_length, sum_made}
+use Rattle.gf_form.proofs.rows.terms.Terms.push_over.Goals as goal
+use Rattle.gf_form.proofs.rows.terms.Terms.push_over.Goals.{then-fits, else-fits}
+
+pub push_numbers-requires-clause-alike : goal.push_numbers-requires-clause-alike
+push_numbers-requires-clause-alike c = grind (arith, row_length)
+
+pub push_numbers-requires-clause-first : goal.push_numbers-requires-clause-first
+push_numbers-requires-clause-first c = grind (arith, row_in_bound)
+
+pub push_numbers-requires-clause-second : goal.push_numbers-requires-clause-second
+push_numbers-requires-clause-second c = grind (arith, row_in_bound)
+
+made : (c : goal.In_ok-push_head) → Pushed c.args.self.now c.push_head.new.self (record {
+  head = record { demands = c.index.result.now; den = c.if-fits.den; size = c.args.scale.size };
+  row = c.in_ok-fits.ensures.row;
+})
+made c =
+    let from = c.args.from.now in
+    let more = c.in_ok-fits.ensures in
+    let after = c.in_ok-push_head.ensures in
+    is_pushed c.args.self.now c.push_head.new.self
+    (record { demands = c.index.result.now; den = c.if-fits.den; size = c.args.scale.size })
+    more.row c.requires.shaped.0 more.within
+    (more.one_each ∙ ap length c.row-one.ensures
+    ∙ row_length from c.args.first c.requires.shaped.1 c.requires.first ∙ sym c.requires.players)
+    after.alike.0 after.heads after.demands after.scaled
+    (ap (λ (v : Vec ℤ Global). v.items) after.numbers ∙ more.is)
+
+pub returns-clause-sum : goal.returns-clause-sum
+returns-clause-sum c =
+    let from = c.args.from.now in
+    let scale = c.args.scale in
+    let more = c.in_ok-fits.ensures in
+    let sums = λ (fits : c.in_ok-fits.fits ≡ true) (k : ℕ). more.sums fits k
+    ∙ (λ i. get_or (c.row-one.ensures i) k (pos 0) *ℤ pos scale.first
+    +ℤ get_or (c.row-other.ensures i) k (pos 0) *ℤ pos scale.second) in
+    let known : 0 < c.if-fits.den → (c.in_ok-fits.fits ≡ true) × (c.if-fits.den ≡ scale.den) =
+    elim c.if-fits.branch [
+      | then-fits w ↦ λ above. (w.if-fits.true, w.den-is)
+      | else-fits w ↦ λ above. absurd (omega (arith, above, w.den-is))
+    ] in
+    record {
+      sum = record {
+        head = record { demands = c.index.result.now; den = c.if-fits.den; size = scale.size };
+        row = more.row;
+      };
+      is = (made c).pushed;
+      demands = c.index.ensures
+          ∙ get_or_default from.demands.items c.args.first c.index.result.now 0 c.requires.first
+          ∙ sym (entry_demands from c.args.first c.requires.first);
+      adds = λ above.
+          sum_made (entry_at from c.args.first) (entry_at from c.args.second) scale
+          c.in_ok-fits.fits c.index.result.now more.row
+          (c.requires.scale (omega (arith, above, (known above).1))) sums c.if-fits.den known
+          above;
+    }
+
+pub returns-clause-shaped : goal.returns-clause-shaped
+returns-clause-shaped c = (made c).shaped
