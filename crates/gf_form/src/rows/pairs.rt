@@ -35,6 +35,7 @@ pub(crate) struct Pair<'t> {
 }
 
 /// The number at a place, from 0; zero if there is none.
+#[inline(always)]
 fn number_at(numbers: &[i128], place: usize) -> i128
     ensures { result ≡ get_or numbers.now place (pos 0) }
 {
@@ -57,6 +58,7 @@ fn over(den: u128, whole: i128) -> Fraction
 
 impl<'t> Pair<'t> {
     /// Appends its row, if all numbers fit.
+    #[inline(always)]
     pub(crate) fn push_to(
         self,
         players: usize,
@@ -85,6 +87,7 @@ impl<'t> Pair<'t> {
 impl Terms {
     /// The only term from one place up to another; `None` if there are several. If there is none,
     /// zeros over this denominator.
+    #[inline(always)]
     fn only(&self, start: usize, end: usize, den: u128) -> Option<Only<'_>>
         requires shaped { IsShaped self.now }
         requires within { end ≤ length self.now.demands.items }
@@ -111,6 +114,7 @@ impl Terms {
 
     /// What these terms come to at an action of the fastest digit, by those that count there.
     /// `None` if that is not known to fit.
+    #[inline(always)]
     pub(crate) fn pair(&self, chosen: Chosen) -> Option<Pair<'_>>
         requires shaped { IsShaped self.now }
         requires within { AreWithin self.now.demands.items chosen }

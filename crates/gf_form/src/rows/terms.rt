@@ -81,6 +81,18 @@ fn push_numbers(
     Ok(fits)
 }
 
+/// Appends these, quickly if they are few.
+#[inline(always)]
+fn push_few<T: Copy>(items: &mut Vec<T>, few: &[T]) -> Result<(), AllocError>
+    ensures { OnOk result (items.new.items ≡ items.old.items ++ few.now) }
+{
+    items.reserve(few.len())?;
+    for place in 0..few.len() {
+        items.push_reserved(few[place]);
+    }
+    Ok(())
+}
+
 impl Terms {
     /// No terms. Those to come are over this denominator, unless they are over others.
     pub(crate) fn new(alloc: Global, players: usize, den: u128) -> Terms
@@ -155,6 +167,7 @@ impl Terms {
     }
 
     /// Notes what the next term is over, and so what each before it is over.
+    #[inline(never)]
     #[tactic(auto, using(crate::proofs::lemmas::rows::FlatRows::noted))]
     fn note(&mut self, next: Scaled) -> Result<(), AllocError>
         requires { length self.old.scaled.items ≤ length self.old.demands.items }
@@ -228,7 +241,7 @@ impl Terms {
     }
 
     /// Appends the term of an alike list at this place, from 0, with its demands lowered by this.
-    #[inline]
+    #[inline(always)]
     pub(crate) fn push(&mut self, from: &Terms, place: usize, less: u64) -> Result<(), AllocError>
         requires alike { AreAlike self.old from.now }
         requires shaped { IsShaped self.old × IsShaped from.now }
@@ -239,13 +252,12 @@ impl Terms {
         ensures alike { AreAlike self.new self.old }
         ensures shaped { OnOk result (IsShaped self.new) }
     {
-        self.numbers.extend_from_slice(from.row(place))?;
+        push_few(&mut self.numbers, from.row(place))?;
         self.push_like(from, place, from.demands[place] - less)?;
         Ok(())
     }
 
     /// How the terms at these places, from 0, are brought over one denominator.
-    #[inline(never)]
     fn scale_between(&self, first: usize, second: usize) -> Scale
         requires first { first < length self.now.demands.items }
         requires second { second < length self.now.demands.items }
@@ -291,9 +303,25 @@ impl Terms {
         Ok(())
     }
 
+    /// The same by the scale that there is between the two.
+    #[inline(never)]
+    fn push_scaled(&mut self, from: &Terms, first: usize, second: usize) -> Result<(), AllocError>
+        requires players { self.old.players ≡ from.now.players }
+        requires shaped { IsShaped self.old × IsShaped from.now }
+        requires first { first < length from.now.demands.items }
+        requires second { second < length from.now.demands.items }
+        ensures sum { OnOk result (HasSum (entry_at from.now first) (entry_at from.now second)
+            (entries self.old) (entries self.new)) }
+        ensures alike { AreAlike self.new self.old }
+        ensures shaped { OnOk result (IsShaped self.new) }
+    {
+        let scale = from.scale_between(first, second);
+        self.push_over(from, first, second, scale)
+    }
+
     /// Appends the sum of two terms of a list, at these places, from 0, with the demands of the
     /// first.
-    #[inline]
+    #[inline(always)]
     pub(crate) fn push_sum(
         &mut self,
         from: &Terms,
@@ -310,8 +338,7 @@ impl Terms {
         ensures shaped { OnOk result (IsShaped self.new) }
     {
         if !from.scaled.is_empty() {
-            let scale = from.scale_between(first, second);
-            return self.push_over(from, first, second, scale);
+            return self.push_scaled(from, first, second);
         }
         let plain = Scale {
             den: from.den,

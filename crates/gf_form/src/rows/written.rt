@@ -113,6 +113,7 @@ impl Written {
     }
 
     /// Appends the row of the profile at this place, from 0, by a walk.
+    #[inline(never)]
     fn push_walked(&mut self, asked: &Asked<'_, '_, '_>, before: u32) -> Result<(), FormFault>
         requires asked { IsAsked asked.now }
         requires within { before < length asked.now.numbers.now }
@@ -165,6 +166,7 @@ impl Written {
 
     /// Appends the row of the profile at this place, from 0: that of a pair, if there is one and
     /// its numbers fit, and otherwise one by a walk.
+    #[inline(always)]
     fn push_row(
         &mut self,
         asked: &Asked<'_, '_, '_>,

@@ -27,7 +27,7 @@ made c =
     } ∷ []))
     (after.demands ∙ (λ i. c.args.self.now.demands.items ++ (demands i - c.args.less) ∷ []))
     after.scaled
-    (ap (λ (v : Vec ℤ Global). v.items) after.numbers ∙ c.in_ok-extend_from_slice.ensures.items
+    (ap (λ (v : Vec ℤ Global). v.items) after.numbers ∙ c.in_ok-push_few.ensures
     ∙ ap (λ (row : List ℤ). c.args.self.now.numbers.items ++ row) c.row.ensures)
 
 pub overflow_sub-index : goal.overflow_sub-index
