@@ -1,23 +1,19 @@
--- The text of a fraction, written from its end.
-use Rattle.std.proofs.Common.{◌≡◌, ℕ, ℤ, pos, ◌+◌, ◌-◌, ◌≤◌, Bool, true, false}
-use Rattle.std.proofs.Common.{List, [], ◌∷◌, ◌++◌, ◌∙◌, length, take, drop, set, arith}
+-- The text of a fraction, and how many digits its parts have.
+use Rattle.std.proofs.Common.{◌≡◌, ℕ, ℤ, pos, negsuc, ◌+◌, ◌/◌, ◌^◌, ◌≤◌, ◌<◌, Bool, true, false}
+use Rattle.std.proofs.Common.{List, [], ◌∷◌, ◌++◌, ◌∙◌, length, take, drop, arith}
 use Rattle.std.proofs.Common.{refl, ap, sym, append-nil, append_assoc, length-append}
 use Rattle.std.specs.Prelude.{◌==◌, codes, decimal, unsigned_abs, if◌then◌else◌}
 use Rattle.std.specs.Int.{from_bool}
 use Rattle.std.specs.Int.Signed.{lt_z}
-use Rattle.std.proofs.lemmas.List.{drop-set, drop-set-lt, length-drop, length-take-le}
-use Rattle.std.proofs.Math.Seq.{take-append_seam, take-append-add}
+use Rattle.std.proofs.Math.Seq.{take-add, take-append_seam, take-append-add}
 use Rattle.std.specs.Fmt.{signed_decimal}
-use Rattle.std.proofs.lemmas.Bool.{ne_eqb}
+use Rattle.std.proofs.lemmas.Fmt.{decimal_digit, decimal_step}
 use Rattle.std.proofs.Math.Dec.{leb-suc-zero}
 use Rattle.gf_fraction.specs.NumberText.{number_text}
 
 -- what comes after the numerator
 abbrev pub under_text : ℕ → List ℕ
 under_text d = if d == 1 then [] else codes "/" ++ decimal d
-
-pub under_above : (d : ℕ) → (d ≡ 1 → ⊥) → 47 ∷ decimal d ≡ under_text d
-under_above d h = sym (ap (λ b. if b then [] else codes "/" ++ decimal d) (ne_eqb d 1 h))
 
 part : (b : Bool) (n d : List ℕ)
     → n ++ (if b then [] else codes "/" ++ d) ≡ (if b then n else n ++ codes "/" ++ d)
@@ -29,42 +25,59 @@ pub number_parts : (z : ℤ) (d : ℕ)
 unfolding number_text
 number_parts z d = part (d == 1) (signed_decimal z) (decimal d)
 
--- a minus is stored before the digits, and kept if the number is below zero
-pub with_minus : (z : ℤ) (at : ℕ) (text behind : List ℕ) → 1 ≤ at → at ≤ length text
-    → drop at text ≡ decimal (unsigned_abs z) ++ behind
-    → drop (at - from_bool (lt_z z (pos 0))) (set text (at - 1) 45) ≡ signed_decimal z ++ behind
-with_minus z at text behind above within digits = grind (arith, leb-suc-zero, drop-set-lt, drop-set)
+-- digits are written behind what is kept
+pub digits_from : (old new number rest : List ℕ) (start : ℕ)
+    → take start new ≡ take start old → drop start new ≡ number ++ rest
+    → take (start + length number) new ≡ take start old ++ number
+digits_from old new number rest start before written =
+    rw (take-add start (length number) new, before, written, take-append_seam number rest) refl
 
-pub at_most_one : (b : Bool) → from_bool b ≤ 1
-at_most_one b = grind arith
+signed : (z : ℤ) (rest : List ℕ)
+    → take (from_bool (lt_z z (pos 0))) (45 ∷ rest) ++ decimal (unsigned_abs z) ≡ signed_decimal z
+signed (pos n) rest = grind (arith, leb-suc-zero)
+signed (negsuc n) rest = refl
 
--- from where a text begins a window of 41 bytes is appended, and what it took too much is cut off
-module _ (before number behind text : List ℕ) (start : ℕ) (within : start ≤ 41)
-    (room : length text ≡ 82) (rest : length behind ≡ 41)
-    (written : drop start text ≡ number ++ behind) where
-  long : length number + start ≡ 41
-  long =
-      let all = sym (length-drop start text) ∙ ap length written ∙ length-append number behind in
-      omega (arith, all)
+-- a minus is stored in any case, and kept if the number is below zero
+pub behind_minus : (z : ℤ) (den : ℕ) (before rest : List ℕ)
+    → (take (length before + from_bool (lt_z z (pos 0))) (before ++ 45 ∷ rest)
+    ++ decimal (unsigned_abs z)) ++ under_text den
+    ≡ before ++ number_text (record { num = z; den = den })
+behind_minus z den before rest =
+    rw (
+      take-append-add before (45 ∷ rest) (from_bool (lt_z z (pos 0))),
+      append_assoc before,
+      signed z rest,
+      append_assoc before,
+      number_parts z den,
+    ) refl
 
-  window : take 41 (drop start text) ≡ number ++ take start behind
-  window = ap (take 41) written
-      ∙ ap (λ n. take n (number ++ behind)) (sym long)
-      ∙ take-append-add number behind start
+longer : (n : ℕ) → 10 ≤ n → n < 2 ^ 64 → length (decimal n) ≡ length (decimal (n / 10)) + 1
+longer n lo hi = ap length (decimal_step n lo hi) ∙ length-append (decimal (n / 10)) _
 
-  pub cut : (n : ℕ) → n ≡ length (before ++ take 41 (drop start text))
-      → take (n - start) (before ++ take 41 (drop start text)) ≡ before ++ number
-  cut n count =
-      let short = length-take-le start behind (omega arith) in
-      let all : n ≡ length before + (length number + length (take start behind)) =
-      count
-      ∙ ap (λ w. length (before ++ w)) window
-      ∙ length-append before (number ++ take start behind)
-      ∙ ap (λ k. length before + k) (length-append number (take start behind)) in
-      let e : n - start ≡ length before + length number = omega (arith, all, short) in
-      rw (
-        e,
-        window,
-        take-append-add before (number ++ take start behind) (length number),
-        take-append_seam number (take start behind),
-      ) refl
+pub length_one : (n : ℕ) → n < 10 → length (decimal n) ≡ 1
+length_one n h = ap length (decimal_digit n h)
+
+pub length_two : (n : ℕ) → 10 ≤ n → n < 100 → length (decimal n) ≡ 2
+length_two n lo hi =
+    omega (arith, longer n lo (omega arith), length_one (n / 10) (omega arith))
+
+pub length_three : (n : ℕ) → 100 ≤ n → n < 1000 → length (decimal n) ≡ 3
+length_three n lo hi =
+    omega (arith, longer n (omega arith) (omega arith), length_two (n / 10) (omega arith) (omega arith))
+
+pub length_four : (n : ℕ) → 1000 ≤ n → n < 10000 → length (decimal n) ≡ 4
+length_four n lo hi =
+    omega (arith, longer n (omega arith) (omega arith), length_three (n / 10) (omega arith) (omega arith))
+
+pub four_longer : (n : ℕ) → 10000 ≤ n → n < 2 ^ 64
+    → length (decimal n) ≡ length (decimal (n / 10000)) + 4
+four_longer n lo hi =
+    let a = longer n (omega arith) hi in
+    let b = longer (n / 10) (omega arith) (omega arith) in
+    let c = longer (n / 10 / 10) (omega arith) (omega arith) in
+    let d = longer (n / 10 / 10 / 10) (omega arith) (omega arith) in
+    let e : n / 10 / 10 / 10 / 10 ≡ n / 10000 = omega arith in
+    let f = ap (λ m. length (decimal m)) e in
+    omega (arith, a, b, c, d, f)
+
+pub ruleset short_counts = (length_one, length_two, length_three, length_four)

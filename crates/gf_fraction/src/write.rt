@@ -1,48 +1,98 @@
 //! The text of a fraction.
 
-ghost use Rattle.std.specs.Prelude.{◌≡◌, ◌++◌, ◌∷◌, ◌≤◌, [], drop, length, codes};
-ghost use Rattle.std.specs.Prelude.{decimal, pos, OnErr, OnOk, if◌then◌else◌, ◌==◌};
-ghost use Rattle.std.specs.Fmt.{signed_decimal};
+ghost use Rattle.std.specs.Prelude.{◌≡◌, ◌+◌, ◌++◌, ◌<◌, ◌≤◌, [], length, codes, take};
+ghost use Rattle.std.specs.Prelude.{decimal, OnErr, OnOk, if◌then◌else◌, ◌==◌};
 ghost use Rattle.gf_fraction.specs.NumberText.{number_text};
 
 use crate::fraction::Fraction;
 use itoa::{Buffer, write_digits};
 use std::alloc::AllocError;
 
-/// The longest text of parts of 64 bits: a sign, nineteen digits, a slash and twenty digits.
-const WORDS_LEN: usize = 41;
+/// Room for a sign, nineteen digits, a slash and twenty digits.
+const ROOM: usize = 48;
 
-/// Room for a text that ends at `WORDS_LEN`, and for `WORDS_LEN` bytes from wherever it begins.
-const ROOM: usize = 2 * WORDS_LEN;
-
-/// Writes a slash and a denominator so that they end at `WORDS_LEN`, or nothing if it is 1. Returns
-/// where they begin.
-fn write_under(den: u64, text: &mut [u8; ROOM]) -> usize
-    ensures within { (20 ≤ result) × (result ≤ 41) }
-    ensures written { drop result text.new
-        ≡ (if den == 1 then [] else codes "/" ++ decimal den) ++ drop 41 text.old }
+/// How many digits a number of at most four has.
+#[inline(always)]
+#[tactic(auto, using(crate::proofs::WrittenText::short_counts))]
+fn short_count(n: u64) -> usize
+    requires { n < 10000 }
+    ensures { result ≡ length (decimal n) }
 {
-    if den == 1 {
-        return WORDS_LEN;
+    if n < 10 {
+        1
+    } else if n < 100 {
+        2
+    } else if n < 1_000 {
+        3
+    } else {
+        4
     }
-    let at = write_digits(den, text, WORDS_LEN) - 1;
-    text[at] = b'/';
-    at
 }
 
-/// Writes `n`, or `n/d` if the denominator is above 1, so that it ends at `WORDS_LEN`. Returns
-/// where it begins.
-#[tactic(auto, unfolding(crate::specs::NumberText::number_text))]
-fn write_words(num: i64, den: u64, text: &mut [u8; ROOM]) -> usize
-    ensures within { result ≤ 41 }
-    ensures written { drop result text.new
-        ≡ number_text (record { num = num; den = den }) ++ drop 41 text.old }
+/// How many digits a number has.
+#[inline(always)]
+fn digit_count(n: u64) -> usize
+    ensures { result ≡ length (decimal n) }
 {
-    let under = write_under(den, text);
-    let start = write_digits(num.unsigned_abs(), text, under);
-    // A sign is present about as often as not, so the minus is stored without a branch.
-    text[start - 1] = b'-';
-    start - usize::from(num < 0)
+    let mut left = n;
+    let mut count = 0;
+    while left >= 10_000 {
+        left /= 10_000;
+        count += 4;
+    }
+    count + short_count(left)
+}
+
+/// Writes the digits of a number from `start` on. Returns where they end.
+#[inline(always)]
+fn write_from(start: usize, n: u64, text: &mut [u8]) -> usize
+    requires { start + 20 ≤ length text.old }
+    ensures within { result ≤ start + 20 }
+    ensures written { take result text.new ≡ take start text.old ++ decimal n }
+{
+    let end = start + digit_count(n);
+    write_digits(n, text, end);
+    end
+}
+
+/// Writes a slash and a denominator from `start` on, or nothing if it is 1. Returns where they end.
+#[inline(always)]
+fn write_under(start: usize, den: u64, text: &mut [u8]) -> usize
+    requires { start + 21 ≤ length text.old }
+    ensures { take result text.new
+        ≡ take start text.old ++ (if den == 1 then [] else codes "/" ++ decimal den) }
+{
+    if den == 1 {
+        return start;
+    }
+    text[start] = b'/';
+    write_from(start + 1, den, text)
+}
+
+/// Writes both parts from `start` on. Returns where they end.
+#[inline(always)]
+fn write_parts(start: usize, size: u64, den: u64, text: &mut [u8]) -> usize
+    requires { start + 41 ≤ length text.old }
+    ensures { take result text.new ≡ (take start text.old ++ decimal size)
+        ++ (if den == 1 then [] else codes "/" ++ decimal den) }
+{
+    let end = write_from(start, size, text);
+    write_under(end, den, text)
+}
+
+/// Appends `n`, or `n/d` if the denominator is above 1.
+fn write_words(num: i64, den: u64, out: &mut Vec<u8>) -> Result<(), AllocError>
+    ensures ok { OnOk result
+        (out.new.items ≡ out.old.items ++ number_text (record { num = num; den = den })) }
+    ensures err { OnErr result (out.new.items ≡ out.old.items) }
+{
+    // A sign is present about as often as not, so the minus is stored without a branch. What is
+    // stored too much is cut off.
+    let start = out.len() + usize::from(num < 0);
+    out.extend_from_slice(&[b'-'; ROOM])?;
+    let end = write_parts(start, num.unsigned_abs(), den, out.as_mut_slice());
+    out.truncate(end);
+    Ok(())
 }
 
 impl Fraction {
@@ -52,20 +102,16 @@ impl Fraction {
     /// # Errors
     ///
     /// `AllocError` if memory is refused; the vector's items are then as they were.
-    #[tactic(auto, unfolding(crate::specs::NumberText::number_text))]
+    #[inline(always)]
     pub fn write(self, out: &mut Vec<u8>) -> Result<(), AllocError>
         ensures ok { OnOk result (out.new.items ≡ out.old.items ++ number_text self) }
         ensures err { OnErr result (out.new.items ≡ out.old.items) }
     {
-        if let (Ok(num), Ok(den)) = (i64::try_from(self.num()), u64::try_from(self.den())) {
-            let mut text = [0; ROOM];
-            let start = write_words(num, den, &mut text);
-            // A copy of a known length needs no call. What it takes after the text is cut off.
-            out.extend_from_slice(&text[start..start + WORDS_LEN])?;
-            out.truncate(out.len() - start);
-            return Ok(());
+        match (i64::try_from(self.num()), u64::try_from(self.den())) {
+            // Words are passed in registers.
+            (Ok(num), Ok(den)) => write_words(num, den, out),
+            _ => self.write_wide(out),
         }
-        self.write_wide(out)
     }
 
     /// The same for parts of any size.
