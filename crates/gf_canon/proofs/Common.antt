@@ -19,8 +19,8 @@ pub use Rattle.gf_canon.specs.declared.numbering.pairs.NumberPair.{NumberPair}
 pub use Rattle.gf_canon.specs.declared.numbering.pairs.NumberPair.TheVariants.{Outcome, Set}
 pub use Rattle.gf_canon.specs.declared.sameness.Names.{Names}
 pub use Rattle.gf_canon.specs.declared.sameness.Names.TheVariants.{Aside, Kept}
-pub use Rattle.gf_canon.specs.inner.NamedBy.{heading_by, name_by, node_by, outcome_by, set_by}
-pub use Rattle.gf_canon.specs.inner.NamedBy.{use_by}
+pub use Rattle.gf_canon.specs.inner.NamedBy.{game_by, heading_by, name_by, node_by, outcome_by}
+pub use Rattle.gf_canon.specs.inner.NamedBy.{set_by, use_by}
 pub use Rattle.gf_canon.specs.inner.TextParts.{first_line, heading_text, mover_letter, node_line}
 pub use Rattle.gf_canon.specs.inner.TextParts.{number_then, plain_line, player_letter, player_then}
 pub use Rattle.gf_canon.specs.inner.TextParts.{tail_text, told_text}

@@ -2,17 +2,12 @@
 
 ghost use Rattle.std.specs.Prelude.{◌≡◌, IfErr, IfOk, MatchResult};
 ghost use Rattle.gf_token.specs.declared.fault.Why.TheVariants.{Memory};
-ghost use Rattle.gf_nfg.specs.Judgement.{IsJudged as IsStrategicJudged};
-ghost use Rattle.gf_nfg.specs.LimitPlace.{IsWithinLimit};
-ghost use Rattle.gf_nfg.specs.Table.{Table as table};
-ghost use Rattle.gf_nfg.specs.TableText.{SpellsTable};
 ghost use Rattle.gf_tree.specs.Game.{Game as game};
 ghost use Rattle.gf_tree.specs.GameOf.{SpellsGame};
 ghost use Rattle.gf_tree.specs.Judgement.{IsJudged as IsExtensiveJudged};
 ghost use Rattle.gf_canon.specs.GameFile.{GameFile, canonical_text};
-ghost use Rattle.gf_canon.specs.GameFile.GameFile.{strategic};
-ghost use Rattle.gf_canon.specs.Judgement.{IsCanonicalText, IsJudged, IsPlaced, IsTextBy};
-ghost use Rattle.gf_canon.specs.Judgement.{SpellsWithin};
+ghost use Rattle.gf_canon.specs.Judgement.{IsCanonicalText, IsJudged, IsPlaced};
+ghost use Rattle.gf_canon.specs.Judgement.{IsRefusedWith, IsTextBy, SpellsWithin};
 ghost use Rattle.gf_canon.specs.NamesAside.{file_by};
 
 use crate::format::{Format, format_of};
@@ -36,17 +31,15 @@ fn canonical_efg(alloc: Global, input: &[u8], names: Names) -> Result<Vec<u8>, F
     Ok(lines.text)
 }
 
-/// The canonical text of a strategic file.
-fn canonical_table(alloc: Global, input: &[u8], names: Names) -> Result<Vec<u8>, Fault>
-    ensures text { IfOk result (λ text. (t : table) × SpellsTable input.now t × IsWithinLimit t
-        × (text.items ≡ canonical_text (file_by names (strategic t)))) }
-    ensures judged { IfErr result (λ fault. IsStrategicJudged fault.why input.now fault.span) }
-    ensures memory { IfErr result (λ fault. (t : table) → SpellsTable input.now t
-        → IsWithinLimit t → fault.why ≡ Memory) }
+/// The canonical text of a game file, or why it is refused.
+#[tactic(auto, using(crate::proofs::lemmas::files::Refused::refused))]
+fn text_of(alloc: Global, input: &[u8], names: Names) -> Result<Vec<u8>, Fault>
+    ensures text { IfOk result (λ text. IsTextBy names input.now text.items) }
+    ensures refused { IfErr result (IsRefusedWith input.now) }
 {
-    match names {
-        Names::Kept => canonical_nfg(alloc, input, true),
-        Names::Aside => canonical_nfg(alloc, input, false),
+    match format_of(input)? {
+        Format::Extensive => canonical_efg(alloc, input, names),
+        Format::Strategic => canonical_nfg(alloc, input, names.are_kept()),
     }
 }
 
@@ -72,10 +65,7 @@ pub fn canonical_by(alloc: Global, input: &[u8], names: Names) -> Result<Vec<u8>
     ensures judged { IfErr result (λ fault. IsJudged fault.why input.now fault.span) }
     ensures placed { IfErr result (λ fault. IsPlaced fault.why input.now fault.span) }
 {
-    match format_of(input)? {
-        Format::Extensive => canonical_efg(alloc, input, names),
-        Format::Strategic => canonical_table(alloc, input, names),
-    }
+    text_of(alloc, input, names)
 }
 
 /// The canonical text of a game file with all its names.

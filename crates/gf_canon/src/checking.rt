@@ -37,7 +37,7 @@ impl<'a> Receive<'a> for Unkept {
 ///
 /// Refused as by `canonical`; E19 if memory is refused for the descriptions of sets and outcomes,
 /// for the receiver, or for the labels of a table.
-#[tactic(auto, using(crate::proofs::lemmas::files::Refused::refused_at_first))]
+#[tactic(auto, using(crate::proofs::lemmas::files::Refused::refused))]
 pub(crate) fn tell_file<'a, R: Receive<'a>>(
     alloc: Global,
     input: &'a [u8],
@@ -48,14 +48,14 @@ pub(crate) fn tell_file<'a, R: Receive<'a>>(
     ensures refused { IfErr result (IsRefusedWith input.entry.now) }
 {
     match format_of(input)? {
-        Format::Extensive => match tell_efg(alloc, input, to) {
-            Ok(()) => Ok(Format::Extensive),
-            Err(fault) => Err(fault),
-        },
-        Format::Strategic => match check_nfg(alloc, input) {
-            Ok(()) => Ok(Format::Strategic),
-            Err(fault) => Err(fault),
-        },
+        Format::Extensive => {
+            tell_efg(alloc, input, to)?;
+            Ok(Format::Extensive)
+        }
+        Format::Strategic => {
+            check_nfg(alloc, input)?;
+            Ok(Format::Strategic)
+        }
     }
 }
 

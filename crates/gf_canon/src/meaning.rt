@@ -27,21 +27,15 @@ pub(crate) enum Listed<'a> {
 }
 
 /// Reads a game file as `read_file` does.
-#[tactic(auto, using(crate::proofs::lemmas::files::Refused::refused_at_first))]
+#[tactic(auto, using(crate::proofs::lemmas::files::Refused::refused))]
 pub(crate) fn list_file<'a>(alloc: Global, input: &'a [u8]) -> Result<Listed<'a>, Fault>
     ensures spelled { IfOk result
         (λ listed. SpellsWithin input.entry.now (file_of_listed listed)) }
     ensures refused { IfErr result (IsRefusedWith input.entry.now) }
 {
     match format_of(input)? {
-        Format::Extensive => match list_efg(alloc, input) {
-            Ok(game) => Ok(Listed::Tree(game)),
-            Err(fault) => Err(fault),
-        },
-        Format::Strategic => match list_nfg(alloc, input) {
-            Ok(table) => Ok(Listed::Table(table)),
-            Err(fault) => Err(fault),
-        },
+        Format::Extensive => Ok(Listed::Tree(list_efg(alloc, input)?)),
+        Format::Strategic => Ok(Listed::Table(list_nfg(alloc, input)?)),
     }
 }
 
@@ -51,19 +45,13 @@ pub(crate) fn list_file<'a>(alloc: Global, input: &'a [u8]) -> Result<Listed<'a>
 /// # Errors
 ///
 /// Those of `canonical`; E19 if memory for the game or the table is refused.
-#[tactic(auto, using(crate::proofs::lemmas::files::Refused::refused_at_first))]
+#[tactic(auto, using(crate::proofs::lemmas::files::Refused::refused))]
 pub fn read_file<'a>(alloc: Global, input: &'a [u8]) -> Result<Meaning<'a>, Fault>
     ensures spelled { IfOk result (λ meaning. SpellsWithin input.entry.now (file_of meaning)) }
     ensures refused { IfErr result (IsRefusedWith input.entry.now) }
 {
     match format_of(input)? {
-        Format::Extensive => match read_efg(alloc, input) {
-            Ok(game) => Ok(Meaning::Tree(game)),
-            Err(fault) => Err(fault),
-        },
-        Format::Strategic => match read_nfg(alloc, input) {
-            Ok(table) => Ok(Meaning::Table(table)),
-            Err(fault) => Err(fault),
-        },
+        Format::Extensive => Ok(Meaning::Tree(read_efg(alloc, input)?)),
+        Format::Strategic => Ok(Meaning::Table(read_nfg(alloc, input)?)),
     }
 }

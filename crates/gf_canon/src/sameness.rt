@@ -1,11 +1,6 @@
 //! Whether two files mean the same.
 
 ghost use Rattle.std.specs.Prelude.{◌≡◌, ◌↔◌, ℕ, List, IsTrue, IfErr, IfOk, MatchResult, OnOk};
-ghost use Rattle.gf_token.specs.declared.fault.Why.TheVariants.{Memory};
-ghost use Rattle.gf_nfg.specs.Judgement.{IsJudged as IsStrategicJudged};
-ghost use Rattle.gf_nfg.specs.LimitPlace.{IsWithinLimit};
-ghost use Rattle.gf_nfg.specs.Table.{Table as table};
-ghost use Rattle.gf_nfg.specs.TableText.{SpellsTable};
 ghost use Rattle.gf_tree.specs.Game.{IsGame};
 ghost use Rattle.gf_tree.specs.Spellable.{IsSpellable};
 ghost use Rattle.gf_canon.specs.GameFile.{GameFile, SameFile};
@@ -14,6 +9,7 @@ ghost use Rattle.gf_canon.specs.Judgement.{IsCanonicalText, IsRefusedWith, Means
 ghost use Rattle.gf_canon.specs.MeaningOf.{file_of, file_of_listed};
 ghost use Rattle.gf_canon.specs.SameBy.{SameBy};
 ghost use Rattle.gf_canon.specs.Sameness.{AreRefusedWith, WantsMemory};
+ghost use Rattle.gf_canon.specs.inner.NamedBy.{are_kept};
 
 use crate::checking::{Unkept, check, tell_file};
 use crate::format::{Format, format_of};
@@ -50,6 +46,15 @@ pub enum Names {
     /// Title, comment, and the names of nodes, information sets and outcomes count as empty. The
     /// labels of players, actions and strategies count.
     Aside,
+}
+
+impl Names {
+    /// Whether all names count.
+    pub(crate) fn are_kept(self) -> bool
+        ensures { result ≡ are_kept self }
+    {
+        self == Names::Kept
+    }
 }
 
 /// Whether two tables are the same.
@@ -101,29 +106,9 @@ fn same_as_tree(alloc: Global, g: &ListedGame<'_>, b: &[u8], names: Names) -> Re
     }
 }
 
-/// Whether a strategic file means the same as a table, with which it is compared while it is read.
-/// `AllocError` if it is accepted, and memory to compare it is refused.
-fn same_as_told_table(
-    alloc: Global,
-    t: &ListedTable,
-    b: &[u8],
-    names: Names,
-) -> Result<Result<bool, AllocError>, Fault>
-    ensures same { IfOk result (λ compared. (u : table) × SpellsTable b.now u × IsWithinLimit u
-        × IfOk compared (λ answer. IsTrue answer ↔ SameBy names (strategic t.now) (strategic u))) }
-    ensures judged { IfErr result (λ fault. IsStrategicJudged fault.why b.now fault.span) }
-    ensures memory { IfErr result (λ fault. (u : table) → SpellsTable b.now u → IsWithinLimit u
-        → fault.why ≡ Memory) }
-{
-    match names {
-        Names::Kept => compare_nfg(alloc, t, b, true),
-        Names::Aside => compare_nfg(alloc, t, b, false),
-    }
-}
-
-/// Whether a file means the same as a table. `AllocError` if it is accepted, and memory to compare
-/// it is refused.
-#[tactic(auto, using(crate::proofs::lemmas::files::Refused::refused_at_first))]
+/// Whether a file means the same as a table, with which a table is compared while it is read.
+/// `AllocError` if the file is accepted, and memory to compare it is refused.
+#[tactic(auto, using(crate::proofs::lemmas::files::Refused::refused))]
 fn same_as_table(
     alloc: Global,
     t: &ListedTable,
@@ -135,14 +120,11 @@ fn same_as_table(
     ensures refused { IfErr result (IsRefusedWith b.now) }
 {
     match format_of(b)? {
-        Format::Extensive => match tell_efg(alloc, b, &mut Unkept) {
-            Ok(()) => Ok(Ok(false)),
-            Err(fault) => Err(fault),
-        },
-        Format::Strategic => match same_as_told_table(alloc, t, b, names) {
-            Ok(compared) => Ok(compared),
-            Err(fault) => Err(fault),
-        },
+        Format::Extensive => {
+            tell_efg(alloc, b, &mut Unkept)?;
+            Ok(Ok(false))
+        }
+        Format::Strategic => compare_nfg(alloc, t, b, names.are_kept()),
     }
 }
 

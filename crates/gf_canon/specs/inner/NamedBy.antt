@@ -1,8 +1,10 @@
 -- What counts of the heading and the nodes of a game, with names or without them.
-use Rattle.std.specs.Prelude.{ℕ, List, [], option_map}
+use Rattle.std.specs.Prelude.{ℕ, Bool, true, false, List, [], option_map}
 use Rattle.gf_tree.specs.Description.{InformationSet, Outcome}
 use Rattle.gf_tree.specs.FileTree.{FileNode, Use}
 use Rattle.gf_tree.specs.Told.{Heading}
+use Rattle.gf_tree.specs.Game.{Game}
+use Rattle.gf_canon.specs.NamesAside.{unnamed_game}
 use Rattle.gf_canon.specs.declared.sameness.Names.{Names}
 use Rattle.gf_canon.specs.declared.sameness.Names.TheVariants.{Kept, Aside}
 
@@ -34,3 +36,11 @@ heading_by names h = record {
   comment = name_by names h.comment;
   players = h.players;
 }
+
+abbrev pub game_by : Names → Game → Game
+game_by Kept g = g
+game_by Aside g = unnamed_game g
+
+abbrev pub are_kept : Names → Bool
+are_kept Kept = true
+are_kept Aside = false

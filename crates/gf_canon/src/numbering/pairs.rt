@@ -1,17 +1,13 @@
 //! Which numbers of two games correspond.
 
-ghost use Rattle.std.specs.Prelude.{◌≡◌, ◌↔◌, ◌++◌, IfOk, IsTrue, List, [], OnOk, false, map};
-ghost use Rattle.std.specs.Option.{option_to_list};
-ghost use Rattle.gf_token.specs.Positions.{at_position};
-ghost use Rattle.gf_tree.specs.FirstUse.{outcome_numbers};
+ghost use Rattle.std.specs.Prelude.{◌≡◌, ◌↔◌, ◌++◌, IfOk, IsTrue, List, [], OnOk, false};
 ghost use Rattle.gf_tree.specs.Game.{IsGame};
 ghost use Rattle.gf_tree.specs.Renumbering.{Renumbering};
 ghost use Rattle.gf_tree.specs.SameGame.{Carries};
 ghost use Rattle.gf_tree.specs.Spellable.{IsSpellable};
 ghost use Rattle.gf_canon.specs.GameFile.{SameFile};
 ghost use Rattle.gf_canon.specs.MeaningOf.{file_of};
-ghost use Rattle.gf_canon.specs.Pairs.{ArePairs, outcome_pairs, renumbering_pairs};
-ghost use Rattle.gf_canon.specs.Pairs.{set_numbers, set_pairs};
+ghost use Rattle.gf_canon.specs.Pairs.{ArePairs, outcome_pairs, renumbering_pairs, set_pairs};
 
 use crate::meaning::Meaning;
 use crate::sameness::{Names, same_meaning};
@@ -48,32 +44,8 @@ pub trait ReceivePairs {
             → holds self.new (told ++ pair ∷ [])) };
 }
 
-/// Tells the pair of a player's set by its position in order of first use, if there is one. What is
-/// carried has the same position in both games.
-fn tell_set<P: ReceivePairs>(
-    g: &Game<'_>,
-    h: &Game<'_>,
-    player: u32,
-    i: usize,
-    to: &mut P,
-) -> Result<(), AllocError>
-    requires { IsGame g.now × IsGame h.now }
-    ensures { OnOk result ((r : Renumbering) (told : List NumberPair) → Carries r g.now h.now
-        → P.holds to.old told → P.holds to.new (told
-        ++ map (λ number. NumberPair.Set player number (r.set player number))
-        (option_to_list (at_position (set_numbers g.now player) i)))) }
-{
-    let (Some(number), Some(new_number)) = (g.set_number(player, i), h.set_number(player, i)) else {
-        return Ok(());
-    };
-    to.pair(NumberPair::Set {
-        player,
-        number,
-        new_number,
-    })
-}
-
-/// Tells a pair for each set of a player, in order of first use.
+/// Tells a pair for each set of a player, in order of first use. What is carried has the same
+/// position in both games.
 fn tell_sets<P: ReceivePairs>(
     g: &Game<'_>,
     h: &Game<'_>,
@@ -85,7 +57,16 @@ fn tell_sets<P: ReceivePairs>(
         → P.holds to.old told → P.holds to.new (told ++ set_pairs r g.now player)) }
 {
     for before in 0..g.set_count(player) {
-        tell_set(g, h, player, before + 1, to)?;
+        let i = before + 1;
+        let (Some(number), Some(new_number)) = (g.set_number(player, i), h.set_number(player, i))
+        else {
+            continue;
+        };
+        to.pair(NumberPair::Set {
+            player,
+            number,
+            new_number,
+        })?;
     }
     Ok(())
 }
@@ -109,25 +90,6 @@ fn tell_player<P: ReceivePairs>(
     }
 }
 
-/// Tells the pair of an outcome by its position in order of first use, if there is one.
-fn tell_outcome<P: ReceivePairs>(
-    g: &Game<'_>,
-    h: &Game<'_>,
-    i: usize,
-    to: &mut P,
-) -> Result<(), AllocError>
-    requires { IsGame g.now × IsGame h.now }
-    ensures { OnOk result ((r : Renumbering) (told : List NumberPair) → Carries r g.now h.now
-        → P.holds to.old told → P.holds to.new (told
-        ++ map (λ number. NumberPair.Outcome number (r.outcome number))
-        (option_to_list (at_position (outcome_numbers g.now) i)))) }
-{
-    let (Some(number), Some(new_number)) = (g.outcome_number(i), h.outcome_number(i)) else {
-        return Ok(());
-    };
-    to.pair(NumberPair::Outcome { number, new_number })
-}
-
 /// Tells a pair for each outcome, in order of first use.
 fn tell_outcomes<P: ReceivePairs>(g: &Game<'_>, h: &Game<'_>, to: &mut P) -> Result<(), AllocError>
     requires { IsGame g.now × IsGame h.now }
@@ -135,7 +97,11 @@ fn tell_outcomes<P: ReceivePairs>(g: &Game<'_>, h: &Game<'_>, to: &mut P) -> Res
         → P.holds to.old told → P.holds to.new (told ++ outcome_pairs r g.now)) }
 {
     for before in 0..g.outcome_count() {
-        tell_outcome(g, h, before + 1, to)?;
+        let i = before + 1;
+        let (Some(number), Some(new_number)) = (g.outcome_number(i), h.outcome_number(i)) else {
+            continue;
+        };
+        to.pair(NumberPair::Outcome { number, new_number })?;
     }
     Ok(())
 }

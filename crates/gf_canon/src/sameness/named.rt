@@ -32,7 +32,7 @@ fn unnamed_description<'n, 'a>(
     let description = description?;
     Some(SetDescription {
         name: name_by(description.name, Names::Aside),
-        actions: description.actions,
+        ..description
     })
 }
 
@@ -43,9 +43,8 @@ fn unnamed_set<'n, 'a>(set: Option<SetUse<'n, 'a>>) -> Option<SetUse<'n, 'a>>
 {
     let set = set?;
     Some(SetUse {
-        player: set.player,
-        number: set.number,
         description: unnamed_description(set.description),
+        ..set
     })
 }
 
@@ -59,7 +58,7 @@ fn unnamed_payoffs<'n, 'a>(
     let description = description?;
     Some(OutcomeDescription {
         name: name_by(description.name, Names::Aside),
-        payoffs: description.payoffs,
+        ..description
     })
 }
 
@@ -70,8 +69,8 @@ fn unnamed_outcome<'n, 'a>(outcome: Option<OutcomeUse<'n, 'a>>) -> Option<Outcom
 {
     let outcome = outcome?;
     Some(OutcomeUse {
-        number: outcome.number,
         description: unnamed_payoffs(outcome.description),
+        ..outcome
     })
 }
 

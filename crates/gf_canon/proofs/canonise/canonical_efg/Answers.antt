@@ -1,6 +1,6 @@
 use Rattle.gf_canon.proofs.Common.{◌≡◌, ap, ◌∙◌, canonical_text, extensive, file_by}
-use Rattle.gf_canon.proofs.canonise.canonical_efg.Goals as goal
 use Rattle.gf_canon.proofs.lemmas.texts.ToldTexts.{told_is_canonical}
+use Rattle.gf_canon.proofs.canonise.canonical_efg.Goals as goal
 
 pub returns-clause-text : goal.returns-clause-text
 returns-clause-text c =

@@ -1,4 +1,4 @@
-use Rattle.std.proofs.Common.{rules}
+use Rattle.gf_canon.proofs.Common.{rules}
 use Rattle.gf_canon.proofs.lemmas.texts.ToldFiles.{told_format}
 use Rattle.gf_canon.proofs.checking.check.Goals as goal
 

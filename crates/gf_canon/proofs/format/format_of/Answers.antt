@@ -1,8 +1,8 @@
 use Rattle.gf_canon.proofs.Common.{arith, ◌≡◌, ℕ, List, ◌∷◌, length, sym, ap, subst, ◌∙◌, nat_eq}
 use Rattle.gf_canon.proofs.Common.{pointwise, tokens_of, refusal, Remaining, Lexeme, lexeme, Bare}
 use Rattle.gf_canon.proofs.Common.{Fault, Format, Expected, IsWithoutFormat}
-use Rattle.gf_canon.proofs.format.format_of.Goals as goal
 use Rattle.gf_canon.proofs.lemmas.files.Formats.{IsNoFormat, no_bare, other_word, without_format}
+use Rattle.gf_canon.proofs.format.format_of.Goals as goal
 
 abbrev refusal_of : Remaining → Fault
 refusal_of t = refusal (length t.input) (Expected Format) t.ahead

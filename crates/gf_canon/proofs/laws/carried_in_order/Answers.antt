@@ -1,4 +1,4 @@
-use Rattle.gf_tree.proofs.lemmas.games.Canonical.{outcome_numbers_carried, set_numbers_carried}
+use Rattle.gf_canon.proofs.Common.{outcome_numbers_carried, set_numbers_carried}
 use Rattle.gf_canon.proofs.laws.carried_in_order.Goals as goal
 
 pub returns-clause-sets : goal.returns-clause-sets

@@ -1,4 +1,4 @@
-use Rattle.gf_tree.proofs.lemmas.games.Same.{only_sets, only_outcomes}
+use Rattle.gf_canon.proofs.Common.{only_sets, only_outcomes}
 use Rattle.gf_canon.proofs.laws.one_renumbering.Goals as goal
 
 pub returns-clause-sets : goal.returns-clause-sets

@@ -1,4 +1,4 @@
-use Rattle.gf_tree.proofs.lemmas.games.Canonical.{same_by_canonical}
+use Rattle.gf_canon.proofs.Common.{same_by_canonical}
 use Rattle.gf_canon.proofs.lemmas.files.Texts.{same_by_canonical_file}
 use Rattle.gf_canon.proofs.laws.same_by_canonical_game.Goals as goal
 

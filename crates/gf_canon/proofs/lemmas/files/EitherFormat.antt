@@ -1,17 +1,16 @@
 -- If a file is refused in its format, it is refused in the language of both: the first token tells
 -- them apart.
-use Rattle.gf_canon.proofs.Common.{◌≡◌, ℕ, List, [], ◌∷◌, ◌++◌, Result, Ok, Err, IfErr, refl, sym}
-use Rattle.gf_canon.proofs.Common.{ap, ◌∙◌, inl, inr, codes, map-append, append-nil, tokens_of}
-use Rattle.gf_canon.proofs.Common.{IsAccepted, IsAcceptedThrough, IsOffendingPlace, Token, Lexeme}
-use Rattle.gf_canon.proofs.Common.{Spells, Fault, Span, Why, TooLong, UnknownOutcome}
-use Rattle.gf_canon.proofs.Common.{TooManyProfiles, Memory, BeginsWithWord, IsInEitherFormat}
-use Rattle.gf_canon.proofs.Common.{IsPlaced}
-use Rattle.gf_nfg.specs.Judgement as strategic_file
-use Rattle.gf_tree.specs.Judgement as extensive_file
+use Rattle.gf_canon.proofs.Common.{◌≡◌, ℕ, List, [], ◌∷◌, ◌++◌, refl, sym, ap, ◌∙◌, inl, inr, codes}
+use Rattle.gf_canon.proofs.Common.{map-append, append-nil, tokens_of, IsAccepted, IsAcceptedThrough}
+use Rattle.gf_canon.proofs.Common.{IsOffendingPlace, Token, Lexeme, Spells, Span, Why, TooLong}
+use Rattle.gf_canon.proofs.Common.{UnknownOutcome, TooManyProfiles, Memory, BeginsWithWord}
+use Rattle.gf_canon.proofs.Common.{IsInEitherFormat, IsPlaced}
 use Rattle.gf_nfg.specs.Sentence.{IsStrategicFile}
 use Rattle.gf_tree.specs.Front.{IsExtensiveFile}
 use Rattle.gf_canon.proofs.lemmas.files.Formats.{begun_word, extensive_word, first_word}
 use Rattle.gf_canon.proofs.lemmas.files.Formats.{strategic_word, two_words}
+use Rattle.gf_nfg.specs.Judgement as strategic_file
+use Rattle.gf_tree.specs.Judgement as extensive_file
 
 -- ---- one language within both
 
@@ -39,7 +38,7 @@ strategic_within = record {
   ];
 }
 
-module _ (word : List ℕ) (IsFile : List Token → Type 0) (within : IsWithin word IsFile) where
+module _ {word : List ℕ} {IsFile : List Token → Type 0} (within : IsWithin word IsFile) where
   accepted_into : (before after : List Token) → IsAccepted IsFile before after
       → IsAccepted IsInEitherFormat before after
   accepted_into before [] h = within.into before h
@@ -93,36 +92,16 @@ module _ (word : List ℕ) (IsFile : List Token → Type 0) (within : IsWithin w
 pub extensive_placed : (why : Why) (bytes : List ℕ) (span : Span)
     → BeginsWithWord (codes "EFG") bytes
     → extensive_file.IsJudged why bytes span → IsPlaced why bytes span
-extensive_placed Memory bytes span named h =
-    accepted (codes "EFG") IsExtensiveFile extensive_within bytes span h
+extensive_placed Memory bytes span named h = accepted extensive_within bytes span h
 extensive_placed TooLong bytes span named h = absurd h
 extensive_placed UnknownOutcome bytes span named h = absurd h
 extensive_placed TooManyProfiles bytes span named h = absurd h
-extensive_placed _ bytes span named h =
-    offending (codes "EFG") IsExtensiveFile extensive_within bytes span named h.place
+extensive_placed _ bytes span named h = offending extensive_within bytes span named h.place
 
 pub strategic_placed : (why : Why) (bytes : List ℕ) (span : Span)
     → BeginsWithWord (codes "NFG") bytes
     → strategic_file.IsJudged why bytes span → IsPlaced why bytes span
-strategic_placed Memory bytes span named h =
-    accepted (codes "NFG") IsStrategicFile strategic_within bytes span h.place
+strategic_placed Memory bytes span named h = accepted strategic_within bytes span h.place
 strategic_placed TooLong bytes span named h = absurd h
 strategic_placed TooManyProfiles bytes span named h = h
-strategic_placed _ bytes span named h =
-    offending (codes "NFG") IsStrategicFile strategic_within bytes span named h.place
-
--- of an answer
-
-pub game_placed : {A : Type 0} (bytes : List ℕ) (r : Result A Fault)
-    → BeginsWithWord (codes "EFG") bytes
-    → IfErr r (λ fault. extensive_file.IsJudged fault.why bytes fault.span)
-    → IfErr r (λ fault. IsPlaced fault.why bytes fault.span)
-game_placed bytes (Ok a) named h = tt
-game_placed bytes (Err fault) named h = extensive_placed fault.why bytes fault.span named h
-
-pub table_placed : {A : Type 0} (bytes : List ℕ) (r : Result A Fault)
-    → BeginsWithWord (codes "NFG") bytes
-    → IfErr r (λ fault. strategic_file.IsJudged fault.why bytes fault.span)
-    → IfErr r (λ fault. IsPlaced fault.why bytes fault.span)
-table_placed bytes (Ok a) named h = tt
-table_placed bytes (Err fault) named h = strategic_placed fault.why bytes fault.span named h
+strategic_placed _ bytes span named h = offending strategic_within bytes span named h.place

@@ -1,12 +1,11 @@
 -- The first token of a game file names its format, and no file begins with another.
-use Rattle.gf_canon.proofs.Common.{◌≡◌, ◌≢◌, ℕ, false, List, [], ◌∷◌, ◌++◌, length, refl, sym, ap}
-use Rattle.gf_canon.proofs.Common.{subst, ◌∙◌, inr, arith, codes, if◌then◌else◌, pointwise}
+use Rattle.gf_canon.proofs.Common.{IsSpanOf, ◌≡◌, ◌≢◌, ℕ, false, List, [], ◌∷◌, ◌++◌, length, refl}
+use Rattle.gf_canon.proofs.Common.{sym, ap, ◌∙◌, inr, arith, codes, if◌then◌else◌, pointwise}
 use Rattle.gf_canon.proofs.Common.{map-append, tokens_of, Begins, IsAccepted, refusal, Token}
-use Rattle.gf_canon.proofs.Common.{Lexeme, Opening, Closing, Comma, Text, Bare, Broken, Spells}
-use Rattle.gf_canon.proofs.Common.{Span, Format, Why, Unterminated, Expected, same_tokens, GameFile}
-use Rattle.gf_canon.proofs.Common.{SpellsFile, extensive, strategic, BeginsWithWord, IsFormatReason}
-use Rattle.gf_canon.proofs.Common.{IsInEitherFormat, IsWithoutFormat}
-use Rattle.std.proofs.Common.{nat_eq}
+use Rattle.gf_canon.proofs.Common.{Lexeme, Bare, Broken, Spells, Span, Format, Why, Unterminated}
+use Rattle.gf_canon.proofs.Common.{Expected, same_tokens, GameFile, SpellsFile, extensive}
+use Rattle.gf_canon.proofs.Common.{strategic, BeginsWithWord, IsFormatReason, IsInEitherFormat}
+use Rattle.gf_canon.proofs.Common.{IsWithoutFormat, nat_eq}
 use Rattle.gf_token.specs.Next.{is_bare_token, is_broken, starts}
 use Rattle.gf_token.proofs.Places.{no_file}
 use Rattle.gf_nfg.specs.inner.Machine.{start}
@@ -72,42 +71,35 @@ some_file =
     let b = strategic_begins [] start refl in
     (b.0, inr b.1)
 
-format_reason : (t : Token) (ts : List Token)
-    → IsFormatReason (if is_broken t then Unterminated else Expected Format) (t ∷ ts)
-format_reason Opening ts = refl
-format_reason Closing ts = refl
-format_reason Comma ts = refl
-format_reason (Text label) ts = refl
-format_reason (Bare bytes) ts = refl
-format_reason Broken ts = refl
+format_reason : (n : ℕ) (ls : List Lexeme)
+    → IsFormatReason (refusal n (Expected Format) ls).why (tokens_of ls)
+format_reason n [] = refl
+format_reason n (l ∷ ls) = by l.token
+  where
+    by : (t : Token)
+        → IsFormatReason (if is_broken t then Unterminated else Expected Format) (t ∷ tokens_of ls)
+    by Broken = refl
+    by _ = refl
+
+at_front : (n : ℕ) (ls : List Lexeme) → IsSpanOf ls n (refusal n (Expected Format) ls).span
+at_front n [] = (refl, refl)
+at_front n (l ∷ ls) = (refl, refl)
 
 pub without_format : (bytes : List ℕ) (ls : List Lexeme) → Spells 0 bytes ls
     → IsNoFormat (tokens_of ls)
     → IsWithoutFormat (refusal (length bytes) (Expected Format) ls).why bytes
     (refusal (length bytes) (Expected Format) ls).span
-without_format bytes [] spelled h = record {
+without_format bytes ls spelled h = record {
   place = record {
     before = [];
-    after = [];
+    after = ls;
     spelled = spelled;
-    place = (refl, refl);
+    place = at_front (length bytes) ls;
     begins = some_file;
-    refused = not_accepted [] h;
+    refused = not_accepted (tokens_of ls) h;
   };
   at_first = refl;
-  reason = refl;
-}
-without_format bytes (l ∷ ls) spelled h = record {
-  place = record {
-    before = [];
-    after = l ∷ ls;
-    spelled = spelled;
-    place = (refl, refl);
-    begins = some_file;
-    refused = not_accepted (tokens_of (l ∷ ls)) h;
-  };
-  at_first = refl;
-  reason = format_reason l.token (tokens_of ls);
+  reason = format_reason (length bytes) ls;
 }
 
 -- ---- files that bytes spell
@@ -140,7 +132,5 @@ none_without_format why bytes span x h spells =
     let k = tokens_in bytes x spells in
     let p = h.place in
     let same = same_tokens bytes k.lexemes (p.before ++ p.after) k.spelled p.spelled in
-    let file = subst (λ (ls : List Lexeme). IsInEitherFormat (tokens_of ls)) same k.file in
     no_file IsInEitherFormat (tokens_of p.before) (tokens_of p.after) p.refused
-    (subst (λ (ts : List Token). IsInEitherFormat ts)
-    (map-append (λ (l : Lexeme). l.token) p.before p.after) file)
+    (rw (same, map-append) at k.file)

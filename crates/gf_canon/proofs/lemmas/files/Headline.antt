@@ -1,11 +1,13 @@
 -- Bytes have one canonical text or one refusal, and equal texts exactly if they mean the same.
-use Rattle.gf_canon.proofs.Common.{◌≡◌, ℕ, List, refl, sym, subst, ◌∙◌, inl, inr, ◌↔◌, ◌⊎◌, Span}
-use Rattle.gf_canon.proofs.Common.{Why, GameFile, SameFile, SpellsFile, canonical_file}
-use Rattle.gf_canon.proofs.Common.{canonical_text, extensive, strategic, IsCanonicalText}
-use Rattle.gf_canon.proofs.Common.{IsFileWithinLimit, IsRefused, IsRefusedWith, SpellsWithin}
+use Rattle.gf_canon.proofs.Common.{◌≡◌, ℕ, List, refl, sym, subst, inl, inr, ◌↔◌, ◌⊎◌, Span, Why}
+use Rattle.gf_canon.proofs.Common.{GameFile, SameFile, SpellsFile, canonical_file, canonical_text}
+use Rattle.gf_canon.proofs.Common.{extensive, strategic, IsCanonicalText, IsFileWithinLimit}
+use Rattle.gf_canon.proofs.Common.{IsRefused, IsRefusedWith, SpellsWithin, Kept}
 use Rattle.gf_canon.specs.MeanSame.{MeanSame}
-use Rattle.gf_canon.proofs.lemmas.files.Texts.{canonical_reads_back, equal_canonical_texts}
-use Rattle.gf_canon.proofs.lemmas.files.Texts.{file_twice, is_game_file, spells_one_file}
+use Rattle.gf_canon.proofs.lemmas.files.Texts.{canonical_reads_back, file_twice, is_game_file}
+use Rattle.gf_canon.proofs.lemmas.files.Texts.{spells_one_file}
+use Rattle.gf_canon.proofs.lemmas.files.Judged.{text_is}
+use Rattle.gf_canon.proofs.lemmas.texts.ByNames.{equal_texts_by}
 use Rattle.gf_canon.proofs.lemmas.files.RefusedOnce.{answered, not_both, placed}
 
 -- ---- a text or a refusal
@@ -36,8 +38,7 @@ refused_with bytes why span h = record {
 
 pub one_text : (bytes text other : List ℕ) → IsCanonicalText bytes text
     → IsCanonicalText bytes other → text ≡ other
-one_text bytes text other p q =
-    cc (spells_one_file bytes p.file q.file p.spelled.spelled q.spelled.spelled)
+one_text bytes text other p q = cc (text_is Kept bytes text q.file p q.spelled.spelled)
 
 limit_kept : (x : GameFile) → IsFileWithinLimit x → IsFileWithinLimit (canonical_file x)
 limit_kept (extensive g) within = within
@@ -75,8 +76,6 @@ same_exactly a b x y of_x of_y = (
 pub equal_exactly : (a b s t : List ℕ) → IsCanonicalText a s → IsCanonicalText b t
     → (s ≡ t) ↔ MeanSame a b
 equal_exactly a b s t p q =
-    let texts = equal_canonical_texts a b p.file q.file p.spelled.spelled q.spelled.spelled in
-    let means = same_exactly a b p.file q.file p.spelled q.spelled in (
-      λ e. means.1 (texts.0 (sym p.is_text ∙ e ∙ q.is_text)),
-      λ m. p.is_text ∙ texts.1 (means.0 m) ∙ sym q.is_text,
-    )
+    let texts = equal_texts_by Kept a b s t p q p.file q.file p.spelled q.spelled in
+    let means = same_exactly a b p.file q.file p.spelled q.spelled in
+    (λ e. means.1 (texts.0 e), λ m. texts.1 (means.0 m))

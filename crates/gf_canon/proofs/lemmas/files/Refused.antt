@@ -2,19 +2,18 @@
 use Rattle.gf_canon.proofs.Common.{◌≡◌, ℕ, List, ◌∷◌, Err, subst, sym, inl, inr, tokens_of, Token}
 use Rattle.gf_canon.proofs.Common.{Broken, Fault, Span, Why, Expected, Memory, Unterminated, Table}
 use Rattle.gf_canon.proofs.Common.{SpellsTable, Game, SpellsGame, BeginsWithWord, IsFormatReason}
-use Rattle.gf_canon.proofs.Common.{IsPlaced, IsRefusedWith, IsWithoutFormat, Kept}
-use Rattle.gf_token.specs.declared.fault.What.TheVariants as due
-use Rattle.gf_nfg.specs.Judgement as strategic_file
-use Rattle.gf_tree.specs.Judgement as extensive_file
-use Rattle.std.proofs.Common.{◌⊎◌}
+use Rattle.gf_canon.proofs.Common.{IsPlaced, IsRefusedWith, IsWithoutFormat, GameFile, SpellsWithin}
+use Rattle.gf_canon.proofs.Common.{codes, extensive, strategic, Result, Ok, IfErr, ◌⊎◌}
 use Rattle.gf_nfg.specs.LimitPlace.{IsWithinLimit}
 use Rattle.gf_canon.specs.Judgement.IsJudged.{of_extensive, of_neither, of_strategic}
 use Rattle.gf_canon.specs.declared.format.Format.{Format}
 use Rattle.gf_canon.specs.declared.format.Format.TheVariants.{Extensive, Strategic}
 use Rattle.gf_canon.specs.inner.FormatWord.{word_of}
 use Rattle.gf_canon.proofs.lemmas.files.EitherFormat.{extensive_placed, strategic_placed}
-use Rattle.gf_canon.proofs.lemmas.files.Judged.{only_game, only_table}
-use Rattle.gf_canon.proofs.lemmas.files.Formats.{none_without_format}
+use Rattle.gf_canon.proofs.lemmas.files.Formats.{named_by_word, none_without_format, two_words}
+use Rattle.gf_token.specs.declared.fault.What.TheVariants as due
+use Rattle.gf_nfg.specs.Judgement as strategic_file
+use Rattle.gf_tree.specs.Judgement as extensive_file
 
 -- for its format
 
@@ -43,26 +42,36 @@ refused_at_first bytes fault h = record {
 -- in its format
 
 pub refused_game : (bytes : List ℕ) (fault : Fault) (format : Format) → format ≡ Extensive
-    → BeginsWithWord (word_of format) bytes
-    → extensive_file.IsJudged fault.why bytes fault.span
+    → BeginsWithWord (word_of format) bytes → extensive_file.IsJudged fault.why bytes fault.span
     → ((g : Game) → SpellsGame bytes g → fault.why ≡ Memory) → IsRefusedWith bytes fault
+refused_game bytes fault Strategic is named judged memory = absurd cc
 refused_game bytes fault Extensive is named judged memory = record {
   judged = of_extensive named judged;
   placed = extensive_placed fault.why bytes fault.span named judged;
-  unless_memory = λ x spells.
-      only_game {A = List ℕ} (λ text. text) Kept bytes (Err fault) x named tt memory spells;
+  unless_memory = unless;
 }
-refused_game bytes fault Strategic is named judged memory = absurd cc
+  where
+    unless : (x : GameFile) → SpellsWithin bytes x → fault.why ≡ Memory
+    unless (extensive g) h = memory g h.spelled
+    unless (strategic t) h =
+        absurd (two_words (named_by_word (codes "EFG") bytes (strategic t) named h.spelled))
 
-pub refused_table : (bytes : List ℕ) (fault : Fault) (format : Format) → format ≡ Strategic
-    → BeginsWithWord (word_of format) bytes
-    → strategic_file.IsJudged fault.why bytes fault.span
-    → ((t : Table) → SpellsTable bytes t → IsWithinLimit t → fault.why ≡ Memory)
-    → IsRefusedWith bytes fault
-refused_table bytes fault Extensive is named judged memory = absurd cc
-refused_table bytes fault Strategic is named judged memory = record {
+pub refused_table : {A : Type 0} (bytes : List ℕ) (r : Result A Fault) (format : Format)
+    → format ≡ Strategic → BeginsWithWord (word_of format) bytes
+    → IfErr r (λ fault. strategic_file.IsJudged fault.why bytes fault.span)
+    → IfErr r (λ fault. (t : Table) → SpellsTable bytes t → IsWithinLimit t → fault.why ≡ Memory)
+    → IfErr r (IsRefusedWith bytes)
+refused_table bytes (Ok a) format is named judged memory = tt
+refused_table bytes (Err fault) Extensive is named judged memory = absurd cc
+refused_table bytes (Err fault) Strategic is named judged memory = record {
   judged = of_strategic named judged;
   placed = strategic_placed fault.why bytes fault.span named judged;
-  unless_memory = λ x spells.
-      only_table {A = List ℕ} (λ text. text) Kept bytes (Err fault) x named tt memory spells;
+  unless_memory = unless;
 }
+  where
+    unless : (x : GameFile) → SpellsWithin bytes x → fault.why ≡ Memory
+    unless (strategic t) h = memory t h.spelled h.within
+    unless (extensive g) h =
+        absurd (two_words (sym (named_by_word (codes "NFG") bytes (extensive g) named h.spelled)))
+
+pub ruleset refused = (refused_at_first, refused_game, refused_table)

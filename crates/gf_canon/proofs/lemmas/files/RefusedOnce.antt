@@ -1,12 +1,11 @@
 -- Each list of bytes means a file of one format, or is refused at one place with one code.
 use Rattle.gf_canon.proofs.Common.{◌≡◌, ℕ, Bool, true, false, List, [], ◌∷◌, ◌++◌, length, refl}
 use Rattle.gf_canon.proofs.Common.{sym, ap, subst, ◌∙◌, inl, inr, ◌⊎◌, codes, pointwise, tokens_of}
-use Rattle.gf_canon.proofs.Common.{IsAccepted, IsSpanOf, MayFollow, refusal, Token, Lexeme, Bare}
-use Rattle.gf_canon.proofs.Common.{Broken, Spells, Span, Format, Why, Expected, Memory, same_tokens}
+use Rattle.gf_canon.proofs.Common.{IsSpanOf, MayFollow, refusal, Token, Lexeme, Bare, Broken}
+use Rattle.gf_canon.proofs.Common.{Spells, Span, Format, Why, Expected, Memory, same_tokens}
 use Rattle.gf_canon.proofs.Common.{spelled_once, GameFile, extensive, strategic, BeginsWithWord}
 use Rattle.gf_canon.proofs.Common.{IsFormatReason, IsInEitherFormat, IsJudged, IsPlaced, IsRefused}
-use Rattle.gf_canon.proofs.Common.{IsWithoutFormat, MeansFile, SpellsWithin}
-use Rattle.std.proofs.Common.{nat_eq}
+use Rattle.gf_canon.proofs.Common.{IsWithoutFormat, MeansFile, SpellsWithin, nat_eq}
 use Rattle.gf_token.specs.Code.{code_of}
 use Rattle.gf_token.specs.Next.{is_bare_token}
 use Rattle.gf_token.proofs.Places.{one_offending_place, one_span}
@@ -113,18 +112,10 @@ named_format : (word bytes : List ℕ) (why : Why) (span : Span)
     → MayFollow IsInEitherFormat [] (Bare word) → BeginsWithWord word bytes
     → IsWithoutFormat why bytes span → ⊥
 named_format word bytes why span begins named h =
-    let place = h.place in
-    let first : place.after ≡ named.first ∷ named.others =
-    cc (same_tokens bytes (place.before ++ place.after) (named.first ∷ named.others) place.spelled
-    named.spelled) in
-    let at_first : ¬ (IsAccepted IsInEitherFormat [] (tokens_of place.after)) =
-    subst (λ (ls : List Lexeme).
-    ¬ (IsAccepted IsInEitherFormat (tokens_of ls) (tokens_of place.after))) h.at_first
-    place.refused in
-    let refused : ¬ (MayFollow IsInEitherFormat [] named.first.token) =
-    subst (λ (ls : List Lexeme). ¬ (IsAccepted IsInEitherFormat [] (tokens_of ls))) first
-    at_first in
-    refused (subst (λ (t : Token). MayFollow IsInEitherFormat [] t) (sym named.is_word) begins)
+    let first : h.place.after ≡ named.first ∷ named.others =
+    cc (same_tokens bytes (h.place.before ++ h.place.after) (named.first ∷ named.others)
+    h.place.spelled named.spelled) in
+    (rw (h.at_first, first, named.is_word) at h.place.refused) begins
 
 extensive_format : (bytes : List ℕ) (why : Why) (span : Span) → BeginsWithWord (codes "EFG") bytes
     → IsWithoutFormat why bytes span → ⊥

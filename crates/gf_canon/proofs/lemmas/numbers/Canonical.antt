@@ -7,8 +7,7 @@ use Rattle.gf_canon.proofs.Common.{numbers_from, positions, InformationSet, SetK
 use Rattle.gf_canon.proofs.Common.{Described, first_use_numbers, outcome_numbers, player_keys, Game}
 use Rattle.gf_canon.proofs.Common.{IsGame, used_outcomes, renumbered, IsSpellable, IsSpellableSet}
 use Rattle.gf_canon.proofs.Common.{in_keys, Agree, agreed_games, same_set_equality, Has, IsEquality}
-use Rattle.gf_canon.proofs.Common.{has, canonical_game}
-use Rattle.std.proofs.Common.{nat_eq}
+use Rattle.gf_canon.proofs.Common.{has, canonical_game, nat_eq}
 use Rattle.gf_nfg.proofs.lemmas.tables.NumbersInTurn.{get_or-numbers_from, length-numbers_from}
 use Rattle.gf_nfg.proofs.lemmas.tables.NumbersInTurn.{numbers_joined}
 use Rattle.gf_tree.specs.Listed.{AreListed, AreNumbers, listed_numbers, number_listed}

@@ -1,21 +1,20 @@
 -- The new numbers that are noted node by node are those of the renumbering that carries one game to
 -- the other.
-use Rattle.gf_canon.proofs.Common.{◌≡◌, ℕ, zero, suc, ◌<◌, Bool, true, false, cond, List, [], ◌∷◌}
-use Rattle.gf_canon.proofs.Common.{map, Option, None, Some, refl, sym, ap, subst, ◌∙◌, inl, inr}
-use Rattle.gf_canon.proofs.Common.{arith, ◌↔◌, IsSome, is_some, nat_eq, option_map, unwrap_or}
-use Rattle.gf_canon.proofs.Common.{filter_map, cons_option, BTreeMap, get, is_eq, nat_cmp}
-use Rattle.gf_canon.proofs.Common.{Decides-eqb, nat_tests, SetKey, same_set, set_of, Game, IsGame}
-use Rattle.gf_canon.proofs.Common.{Node, outcome_at, set_at, used_outcomes, used_sets, Entry}
-use Rattle.gf_canon.proofs.Common.{flatten, HasOutcome, HasSet, renumbered_node, renumbered_set}
-use Rattle.gf_canon.proofs.Common.{flatten_map, map_entry, map_twice, Agree, agreed_trees}
+use Rattle.gf_canon.proofs.Common.{◌≡◌, ℕ, zero, suc, Bool, true, false, cond, List, [], ◌∷◌, map}
+use Rattle.gf_canon.proofs.Common.{Option, None, Some, refl, sym, ap, subst, ◌∙◌, inl, inr, arith}
+use Rattle.gf_canon.proofs.Common.{◌↔◌, IsSome, is_some, nat_eq, option_map, unwrap_or, filter_map}
+use Rattle.gf_canon.proofs.Common.{cons_option, BTreeMap, get, is_eq, nat_cmp, Decides-eqb}
+use Rattle.gf_canon.proofs.Common.{nat_tests, SetKey, same_set, set_of, Game, IsGame, Node}
+use Rattle.gf_canon.proofs.Common.{outcome_at, set_at, used_outcomes, used_sets, Entry, flatten}
+use Rattle.gf_canon.proofs.Common.{HasOutcome, HasSet, renumbered_node, renumbered_set, flatten_map}
+use Rattle.gf_canon.proofs.Common.{map_entry, map_twice, Agree, agreed_trees}
 use Rattle.gf_canon.proofs.Common.{outcome_number_positive, same_set_equality, Has, IsEquality}
 use Rattle.gf_canon.proofs.Common.{contains, has, IsOnlyRenumbering, new_numbers}
 use Rattle.gf_canon.proofs.Common.{new_outcome_number, new_set_number, number_of_set, set_order}
-use Rattle.gf_canon.proofs.Common.{Carries, SameGame, only_outcomes, only_sets}
-use Rattle.gf_tree.specs.Renumbering as numbers
-use Rattle.std.proofs.Common.{◌⊎◌}
+use Rattle.gf_canon.proofs.Common.{Carries, SameGame, only_outcomes, only_sets, ◌⊎◌}
 use Rattle.gf_canon.specs.inner.Noted.{noted}
 use Rattle.gf_canon.specs.declared.numbering.new_numbers.Renumbering.{Renumbering}
+use Rattle.gf_tree.specs.Renumbering as numbers
 
 -- ---- one set
 
@@ -127,69 +126,53 @@ nodes_of_image : (r : numbers.Renumbering) (es : List (Entry Node))
 nodes_of_image r es = map_twice (λ (e : Entry Node). e.node) (map_entry (renumbered_node r)) es
     ∙ sym (map_twice (renumbered_node r) (λ (e : Entry Node). e.node) es)
 
-pub walk_begins : (r : numbers.Renumbering) (g h : Game) (sets : SetKey → Option ℕ)
-    (outcomes : ℕ → Option ℕ) (left others : List Node) → Carries r g h
-    → ((k : SetKey) → sets k ≡ None) → ((n : ℕ) → outcomes n ≡ None)
-    → left ≡ map (λ e. e.node) (flatten g.tree) → others ≡ map (λ e. e.node) (flatten h.tree)
-    → AreWalked r g sets outcomes left others
-walk_begins r g h sets outcomes left others c no_set no_outcome of_g of_h = record {
-  images = of_h
-      ∙ ap (λ t. map (λ (e : Entry Node). e.node) (flatten t)) (sym c.tree)
-      ∙ ap (map (λ (e : Entry Node). e.node)) (flatten_map (renumbered_node r) g.tree)
-      ∙ nodes_of_image r (flatten g.tree)
-      ∙ ap (map (renumbered_node r)) (sym of_g);
-  sets_noted = subst (AreNoted (λ k. r.set k.player k.number) sets (used_sets g.tree))
-      (filter_of_nodes (λ n. n.set) (flatten g.tree) ∙ ap (filter_map (λ n. n.set)) (sym of_g))
-      (none_noted (λ k. r.set k.player k.number) sets (used_sets g.tree) no_set);
-  outcomes_noted = subst (AreNoted r.outcome outcomes (used_outcomes g.tree))
-      (filter_of_nodes (λ n. n.outcome) (flatten g.tree)
-      ∙ ap (filter_map (λ n. n.outcome)) (sym of_g))
-      (none_noted r.outcome outcomes (used_outcomes g.tree) no_outcome);
-}
-
 image_number : {K : Type 0} (f number : K → ℕ) (image : K → K) → ((k : K) → number (image k) ≡ f k)
     → (old new : Option K) → new ≡ option_map image old → option_map number new ≡ option_map f old
-image_number f number image is None new e = ap (option_map number) e
-image_number f number image is (Some k) new e = ap (option_map number) e ∙ ap Some (is k)
+image_number f number image is None new e = cc
+image_number f number image is (Some k) new e = cc (is k)
 
-module _ (r : numbers.Renumbering) (g : Game) (sets sets' : SetKey → Option ℕ)
-    (outcomes outcomes' : ℕ → Option ℕ) where
-  pub walk_goes : (left others left' others' : List Node) (n m : Node)
-      → AreWalked r g sets outcomes left others → left ≡ n ∷ left' → others ≡ m ∷ others'
+module _ (r : numbers.Renumbering) (g : Game) {sets : SetKey → Option ℕ}
+    {outcomes : ℕ → Option ℕ} {left others : List Node} where
+  pub walk_begins : (h : Game) → Carries r g h → ((k : SetKey) → sets k ≡ None)
+      → ((n : ℕ) → outcomes n ≡ None) → left ≡ map (λ e. e.node) (flatten g.tree)
+      → others ≡ map (λ e. e.node) (flatten h.tree) → AreWalked r g sets outcomes left others
+  walk_begins h c no_set no_outcome of_g of_h = record {
+    images = cc (c.tree, flatten_map (renumbered_node r) g.tree, nodes_of_image r (flatten g.tree));
+    sets_noted = rw (of_g, ← filter_of_nodes (λ n. n.set) (flatten g.tree))
+        (none_noted (λ k. r.set k.player k.number) sets (used_sets g.tree) no_set);
+    outcomes_noted = rw (of_g, ← filter_of_nodes (λ n. n.outcome) (flatten g.tree))
+        (none_noted r.outcome outcomes (used_outcomes g.tree) no_outcome);
+  }
+
+  pub walk_goes : {sets' : SetKey → Option ℕ} {outcomes' : ℕ → Option ℕ}
+      {left' others' : List Node} {n m : Node} → AreWalked r g sets outcomes left others
+      → left ≡ n ∷ left' → others ≡ m ∷ others'
       → ((k : SetKey) → sets' k ≡ noted same_set (λ s. s.number) n.set m.set sets k)
       → ((k : ℕ) → outcomes' k ≡ noted nat_eq (λ i. i) n.outcome m.outcome outcomes k)
       → AreWalked r g sets' outcomes' left' others'
-  walk_goes left others left' others' n m h at_n at_m of_sets of_outcomes =
-      let both : m ∷ others' ≡ renumbered_node r n ∷ map (renumbered_node r) left' =
-      sym at_m ∙ h.images ∙ ap (map (renumbered_node r)) at_n in
+  walk_goes {sets'} {outcomes'} {left'} {others'} {n} {m} walked at_n at_m of_sets of_outcomes =
+      let h = rw (at_n, at_m) at walked in
       let image : m ≡ renumbered_node r n = cc in
-      let rest : others' ≡ map (renumbered_node r) left' = cc in
       record {
-        images = rest;
+        images = cc;
         sets_noted = one_noted same_set same_set_equality (λ k. r.set k.player k.number)
             (λ s. s.number) sets sets' (used_sets g.tree) n.set m.set
-            (filter_map (λ n. n.set) left')
-            (subst (AreNoted (λ k. r.set k.player k.number) sets (used_sets g.tree))
-            (ap (filter_map (λ n. n.set)) at_n) h.sets_noted)
+            (filter_map (λ n. n.set) left') h.sets_noted
             (image_number (λ k. r.set k.player k.number) (λ s. s.number) (renumbered_set r)
             (λ k. refl) n.set m.set (ap (λ (x : Node). x.set) image))
             of_sets;
         outcomes_noted = one_noted nat_eq Decides-eqb r.outcome (λ i. i) outcomes outcomes'
             (used_outcomes g.tree) n.outcome m.outcome (filter_map (λ n. n.outcome) left')
-            (subst (AreNoted r.outcome outcomes (used_outcomes g.tree))
-            (ap (filter_map (λ n. n.outcome)) at_n) h.outcomes_noted)
+            h.outcomes_noted
             (image_number r.outcome (λ i. i) r.outcome (λ k. refl) n.outcome m.outcome
             (ap (λ (x : Node). x.outcome) image))
             of_outcomes;
       }
 
   -- no node is left over
-  pub walk_is_even : (left others left' : List Node) (n : Node)
-      → AreWalked r g sets outcomes left others → left ≡ n ∷ left' → others ≡ [] → ⊥
-  walk_is_even left others left' n h at_n none =
-      let both : [] ≡ renumbered_node r n ∷ map (renumbered_node r) left' =
-      sym none ∙ h.images ∙ ap (map (renumbered_node r)) at_n in
-      cc
+  pub walk_is_even : {left' : List Node} {n : Node} → AreWalked r g sets outcomes left others
+      → left ≡ n ∷ left' → others ≡ [] → ⊥
+  walk_is_even walked at_n none = let h = rw (at_n, none) at walked in cc h.images
 
 -- ---- all nodes
 
@@ -253,14 +236,14 @@ module _ (found : Renumbering) (g h : Game) (game : IsGame g) (r : numbers.Renum
 
   found_is_renumbering : numbers.IsRenumbering g (new_numbers found)
   found_is_renumbering = record {
-    positive_sets = λ player number i. subst (λ n. 0 < n) (sym (set_agrees player number i))
-        (c.renumbering.positive_sets player number i);
-    positive_outcomes = λ number i. subst (λ n. 0 < n) (sym (outcome_agrees number i))
-        (c.renumbering.positive_outcomes number i);
-    sets_apart = λ player a b i j e. c.renumbering.sets_apart player a b i j
-        (sym (set_agrees player a i) ∙ e ∙ set_agrees player b j);
-    outcomes_apart = λ a b i j e. c.renumbering.outcomes_apart a b i j
-        (sym (outcome_agrees a i) ∙ e ∙ outcome_agrees b j);
+    positive_sets = λ player number i.
+        rw (set_agrees player number i) (c.renumbering.positive_sets player number i);
+    positive_outcomes = λ number i.
+        rw (outcome_agrees number i) (c.renumbering.positive_outcomes number i);
+    sets_apart = λ player a b i j e.
+        c.renumbering.sets_apart player a b i j (cc (set_agrees player a i, set_agrees player b j));
+    outcomes_apart = λ a b i j e.
+        c.renumbering.outcomes_apart a b i j (cc (outcome_agrees a i, outcome_agrees b j));
   }
 
   found_carries : Carries (new_numbers found) g h
@@ -287,18 +270,14 @@ module _ (found : Renumbering) (g h : Game) (game : IsGame g) (r : numbers.Renum
         ∙ ap Some (only_outcomes r s g h c d number i);
   }
 
-pub walk_ends : (found : Renumbering) (g h : Game) (left others : List Node) → IsGame g
+pub walk_ends : (found : Renumbering) (g h : Game) {left others : List Node} → IsGame g
     → SameGame g h
     → ((r : numbers.Renumbering) → Carries r g h → AreWalked r g (number_of_set found.sets)
     (get nat_cmp found.outcomes) left others)
     → left ≡ [] → IsOnlyRenumbering found g h
-walk_ends found g h left others game (r, c) walked none =
-    let w = walked r c in
-    only_renumbering found g h game r c
-    (subst (AreNoted (λ k. r.set k.player k.number) (number_of_set found.sets) (used_sets g.tree))
-    (ap (filter_map (λ n. n.set)) none) w.sets_noted)
-    (subst (AreNoted r.outcome (get nat_cmp found.outcomes) (used_outcomes g.tree))
-    (ap (filter_map (λ n. n.outcome)) none) w.outcomes_noted)
+walk_ends found g h game (r, c) walked none =
+    let w = rw none at walked r c in
+    only_renumbering found g h game r c w.sets_noted w.outcomes_noted
 
 -- ---- empty maps
 

@@ -1,44 +1,48 @@
 -- Pairs that are told one after another: one for each item of a list, or a list for each player.
-use Rattle.gf_canon.proofs.Common.{◌≡◌, ℕ, zero, suc, ◌+◌, ◌^◌, ◌≤◌, List, [], ◌∷◌, ◌++◌, length}
-use Rattle.gf_canon.proofs.Common.{map, drop, refl, sym, ap, ◌∙◌, append_assoc, arith}
-use Rattle.gf_canon.proofs.Common.{flat_map-append, append-nil, drop_all, flat_map, slice_get}
-use Rattle.gf_canon.proofs.Common.{option_to_list, numbers_from, positions, at_position, SetKey}
-use Rattle.gf_canon.proofs.Common.{player_keys, Game, Renumbering, IsSpellable, outcome_pairs}
-use Rattle.gf_canon.proofs.Common.{renumbering_pairs, set_pairs, NumberPair, Set}
+use Rattle.gf_canon.proofs.Common.{◌≡◌, ℕ, suc, ◌+◌, ◌^◌, ◌≤◌, List, [], ◌∷◌, ◌++◌, length, map}
+use Rattle.gf_canon.proofs.Common.{refl, sym, ap, ◌∙◌, append_assoc, arith, flat_map-append}
+use Rattle.gf_canon.proofs.Common.{append-nil, flat_map, numbers_from, positions, at_position}
+use Rattle.gf_canon.proofs.Common.{SetKey, player_keys, Game, Renumbering, IsSpellable}
+use Rattle.gf_canon.proofs.Common.{outcome_pairs, renumbering_pairs, set_pairs, NumberPair, Set}
+use Rattle.gf_canon.proofs.Common.{take, get_or, Some, option_map, ◌<◌, take_all, length-map}
+use Rattle.gf_canon.proofs.Common.{get_or-map}
+use Rattle.std.proofs.lemmas.List.{take_more}
+use Rattle.std.proofs.lemmas.Option.{slice_get-get_or, slice_get-map}
 use Rattle.gf_nfg.proofs.lemmas.tables.NumbersInTurn.{numbers_joined}
 use Rattle.gf_canon.proofs.lemmas.numbers.Canonical.{no_numbers}
 
--- ---- one for each item
+-- ---- one for each number
 
-module _ {A : Type 0} (f : A → NumberPair) where
-  left : (xs : List A) (before : ℕ) → map f (drop before xs)
-      ≡ map f (option_to_list (slice_get xs before)) ++ map f (drop (suc before) xs)
-  left [] zero = refl
-  left [] (suc before) = refl
-  left (x ∷ xs) zero = refl
-  left (x ∷ xs) (suc before) = left xs before
-
-  -- pairs : what is told before so many items; whole : what is told in the end
-  pub pair_more : (xs : List A) (before : ℕ) (pairs more whole : List NumberPair)
-      → pairs ++ map f (drop before xs) ≡ whole
-      → more ≡ pairs ++ map f (option_to_list (at_position xs (before + 1)))
-      → more ++ map f (drop (before + 1) xs) ≡ whole
-  pair_more xs before pairs more whole now e =
+-- f : the new number; xs, ys : the numbers in both games
+module _ (f : ℕ → ℕ) (xs ys : List ℕ) (carried : ys ≡ map f xs) (before : ℕ)
+    (within : before < length xs) where
+  pub both_there : (at_position xs (before + 1) ≡ Some (get_or xs before 0))
+      × (at_position ys (before + 1) ≡ Some (f (get_or xs before 0)))
+  both_there =
       let next : before + 1 ≡ suc before = omega arith in
-      let own : ℕ → List NumberPair = λ k. map f (option_to_list (at_position xs k)) in
-      ap (λ (k : ℕ). more ++ map f (drop k xs)) next
-      ∙ ap (λ (ps : List NumberPair). ps ++ map f (drop (suc before) xs)) e
-      ∙ ap (λ (k : ℕ). (pairs ++ own k) ++ map f (drop (suc before) xs)) next
-      ∙ append_assoc pairs (own (suc before)) (map f (drop (suc before) xs))
-      ∙ ap (λ (ps : List NumberPair). pairs ++ ps) (sym (left xs before))
-      ∙ now
+      let own = slice_get-get_or xs before 0 within in (
+        ap (at_position xs) next ∙ own,
+        (λ i. at_position (carried i) (next i)) ∙ slice_get-map f xs before ∙ ap (option_map f) own,
+      )
 
-  pub pairs_done : (xs : List A) (before : ℕ) (pairs whole : List NumberPair)
-      → pairs ++ map f (drop before xs) ≡ whole → length xs ≤ before → pairs ≡ whole
-  pairs_done xs before pairs whole now past =
-      sym (append-nil pairs)
-      ∙ ap (λ (ys : List A). pairs ++ map f ys) (sym (drop_all before xs past))
-      ∙ now
+  -- pair : what is told of each
+  pub pair_more : (pair : ℕ → ℕ → NumberPair) (n m : ℕ) (told : List NumberPair)
+      → Some n ≡ at_position xs (before + 1) → Some m ≡ at_position ys (before + 1)
+      → (told ++ take before (map (λ k. pair k (f k)) xs)) ++ pair n m ∷ []
+      ≡ told ++ take (before + 1) (map (λ k. pair k (f k)) xs)
+  pair_more pair n m told here there =
+      let pairs = map (λ k. pair k (f k)) xs in
+      let both = both_there in
+      let old : n ≡ get_or xs before 0 = cc in
+      let new : m ≡ f (get_or xs before 0) = cc in
+      let last = get_or-map (λ k. pair k (f k)) xs before 0 (pair n m) within in
+      let long = length-map xs (λ k. pair k (f k)) in
+      let more = take_more pairs before (pair n m) (omega arith) in
+      cc (append_assoc told (take before pairs) (pair n m ∷ []))
+
+pub pairs_done : (pair : ℕ → NumberPair) (xs : List ℕ) (before : ℕ) → length xs ≤ before
+    → take before (map pair xs) ≡ map pair xs
+pairs_done pair xs before past = take_all before (map pair xs) (omega (arith, length-map xs pair))
 
 -- ---- one list for each player, chance first
 

@@ -1,13 +1,17 @@
 -- A tree that was told whole is the same as a game exactly if no difference was found, and nothing
 -- is left of the game.
-use Rattle.gf_canon.proofs.Common.{◌≡◌, ℕ, Bool, false, List, [], ◌∷◌, ◌++◌, map, refl, sym, ap}
-use Rattle.gf_canon.proofs.Common.{◌∙◌, subst, ◌↔◌, IsTrue, Table, file_nodes, FileNode, Game}
-use Rattle.gf_canon.proofs.Common.{IsGame, SpellsGame, IsSpellable, Told, heading_in}
-use Rattle.gf_canon.proofs.Common.{canonical_game, extensive, strategic, SpellsWithin, node_by}
-use Rattle.gf_canon.proofs.Common.{SameBy, Names, Aside, Kept}
-use Rattle.std.proofs.Common.{append-nil}
+use Rattle.gf_canon.proofs.Common.{◌≡◌, ℕ, Bool, false, List, [], ◌∷◌, map, refl, ap, ◌∙◌, subst}
+use Rattle.gf_canon.proofs.Common.{◌↔◌, IsTrue, Table, file_nodes, FileNode, Game, IsGame}
+use Rattle.gf_canon.proofs.Common.{SpellsGame, IsSpellable, Told, heading_in, canonical_game}
+use Rattle.gf_canon.proofs.Common.{extensive, strategic, SpellsWithin, node_by, SameBy, Names}
+use Rattle.gf_canon.proofs.Common.{Aside, Kept, Result, Ok, Err, IfOk, Fault, SpellsTable, GameFile}
+use Rattle.gf_canon.proofs.Common.{append-nil}
+use Rattle.gf_nfg.specs.LimitPlace.{IsWithinLimit}
+use Rattle.gf_nfg.specs.SameTable.{SameTable}
+use Rattle.gf_nfg.specs.TableText.{named_by}
+use Rattle.gf_canon.specs.inner.NamedBy.{are_kept}
 use Rattle.gf_tree.proofs.lemmas.games.Spelled.{spelled_is_spellable}
-use Rattle.gf_canon.specs.inner.ComparedTrees.{IsCompared}
+use Rattle.gf_canon.specs.inner.ComparedTrees.{AgreesWith, IsCompared}
 use Rattle.gf_canon.specs.MeaningOf.{file_of_listed}
 use Rattle.gf_canon.specs.declared.meaning.Listed.{Listed}
 use Rattle.gf_canon.specs.declared.meaning.Listed.TheVariants.{Tree}
@@ -38,21 +42,10 @@ module _ (names : Names) (g h : Game) (bytes : List ℕ) (game : IsGame g) (spel
       let held = spelled_is_spellable bytes h spelled in
       let walk = same_by_walk names g h (record { game = game; spellable = spellable })
       (record { game = held.0; spellable = held.1 }) in
-      let whole : map (λ (t : Told). t.node) told ++ [] ≡ file_nodes (canonical_game h) =
-      append-nil (map (λ (t : Told). t.node) told) ∙ all in (
-        λ yes.
-            let no_more = is.0 yes in
-            let agrees = (compared []).1 (no_more.0, ap (map (node_by names)) no_more.1) in
-            walk.0 (record {
-              heading = agrees.heading;
-              nodes = agrees.nodes ∙ ap (map (node_by names)) whole;
-            }),
-        λ s.
-            let agrees = walk.1 s in
-            let no_more = (compared []).0 (record {
-              heading = agrees.heading;
-              nodes = agrees.nodes ∙ ap (map (node_by names)) (sym whole);
-            }) in
+      let agrees = subst (λ (ns : List FileNode). AgreesWith names g (heading_in h) ns
+      ↔ (IsTrue same × (map (node_by names) left ≡ []))) (append-nil _ ∙ all) (compared []) in (
+        λ yes. walk.0 (agrees.1 ((is.0 yes).0, ap (map (node_by names)) (is.0 yes).1)),
+        λ s. let no_more = agrees.0 (walk.1 s) in
             is.1 (no_more.0, none_left (node_by names) left no_more.1),
       )
 
@@ -66,3 +59,16 @@ pub no_game : (names : Names) (t : Table) (g : Game)
     → IsTrue false ↔ SameBy names (strategic t) (extensive g)
 no_game Kept t g = (λ h. absurd cc, λ s. absurd s)
 no_game Aside t g = (λ h. absurd cc, λ s. absurd s)
+
+-- a table that was told, compared with another
+pub same_as_table : {E : Type 0} (names : Names) (named : Bool) (t : Table) (bytes : List ℕ)
+    (r : Result (Result Bool E) Fault) → named ≡ are_kept names
+    → IfOk r (λ compared. (u : Table) × SpellsTable bytes u × IsWithinLimit u
+    × IfOk compared (λ answer. IsTrue answer ↔ SameTable (named_by named t) (named_by named u)))
+    → IfOk r (λ compared. (y : GameFile) × SpellsWithin bytes y
+    × IfOk compared (λ answer. IsTrue answer ↔ SameBy names (strategic t) y))
+same_as_table names named t bytes (Err fault) is h = tt
+same_as_table Kept named t bytes (Ok compared) is (u, spelled, within, same) =
+    (strategic u, record { spelled = spelled; within = within }, rw is at same)
+same_as_table Aside named t bytes (Ok compared) is (u, spelled, within, same) =
+    (strategic u, record { spelled = spelled; within = within }, rw is at same)

@@ -6,35 +6,27 @@ use Rattle.gf_canon.proofs.Common.{use_behind, FileNode, Use, first_use_number, 
 use Rattle.gf_canon.proofs.Common.{sets_of, Game, Node, outcome_at, set_at, Entry, flatten}
 use Rattle.gf_canon.proofs.Common.{Renumbering, renumbered, renumbered_node, flatten_map, map_entry}
 use Rattle.gf_canon.proofs.Common.{map_tree_twice, map_twice, canonical_game, node_by, outcome_by}
-use Rattle.gf_canon.proofs.Common.{set_by, use_by, unnamed_game, unnamed_node, Aside, Kept}
-use Rattle.std.specs.Prelude.{Bool, true, false}
-use Rattle.gf_canon.proofs.lemmas.sameness.Unnamed.{unnamed_outcome_at, unnamed_outcomes}
-use Rattle.gf_canon.proofs.lemmas.sameness.Unnamed.{unnamed_outcomes_of, unnamed_set_at}
-use Rattle.gf_canon.proofs.lemmas.sameness.Unnamed.{unnamed_sets, unnamed_sets_of}
+use Rattle.gf_canon.proofs.Common.{set_by, use_by, unnamed_game, unnamed_node, Aside, Kept, Names}
+use Rattle.gf_canon.proofs.Common.{game_by, heading_by, heading_in, Bool, true, false}
+use Rattle.std.proofs.lemmas.Iterator.Adapters.{option_map_id}
+use Rattle.std.proofs.lemmas.List.{map-id}
+use Rattle.gf_canon.proofs.lemmas.sameness.Unnamed.{keys_still, unnamed_outcome_at}
+use Rattle.gf_canon.proofs.lemmas.sameness.Unnamed.{unnamed_outcomes, unnamed_set_at, unnamed_sets}
 use Rattle.gf_canon.proofs.lemmas.texts.FileOf.{entries_behind, file_nodes_are}
 
 -- ---- with names
 
-use_kept : {K D : Type 0} (f : D → D) → ((d : D) → f d ≡ d) → (o : Option (Use K D))
-    → option_map (use_by f) o ≡ o
-use_kept f same None = refl
-use_kept f same (Some u) = ap (λ d. Some (record { key = u.key; description = d }))
-    (described f same u.description)
-  where
-    described : {D : Type 0} (f : D → D) → ((d : D) → f d ≡ d) → (o : Option D)
-        → option_map f o ≡ o
-    described f same None = refl
-    described f same (Some d) = ap Some (same d)
+use_kept : {K D : Type 0} (o : Option (Use K D)) → option_map (use_by (λ d. d)) o ≡ o
+use_kept o =
+    (λ i. option_map (λ u. record { key = u.key; description = option_map_id u.description i }) o)
+    ∙ option_map_id o
 
 pub node_kept : (n : FileNode) → node_by Kept n ≡ n
-node_kept n =
-    let set = use_kept (set_by Kept) (λ d. refl) n.set in
-    let outcome = use_kept (outcome_by Kept) (λ d. refl) n.outcome in
-    λ i. record { name = n.name; set = set i; outcome = outcome i }
-
-pub nodes_kept : (ns : List FileNode) → map (node_by Kept) ns ≡ ns
-nodes_kept [] = refl
-nodes_kept (n ∷ ns) = λ i. node_kept n i ∷ nodes_kept ns i
+node_kept n = λ i. record {
+  name = n.name;
+  set = use_kept n.set i;
+  outcome = use_kept n.outcome i;
+}
 
 -- ---- without
 
@@ -54,12 +46,12 @@ node_aside : (g : Game) (before : List (Entry Node)) (n : Node)
     ≡ node_by Aside (node_behind g before n)
 node_aside g before n =
     let set = ap (λ ks. option_map (use_behind same_set (set_at (unnamed_game g)) ks) n.set)
-    (unnamed_sets_of before)
+    (keys_still (λ n. n.set) (λ n. refl) before)
     ∙ use_aside same_set (set_by Aside) (set_at g) (set_at (unnamed_game g)) (unnamed_set_at g)
     (filter_map (λ (e : Entry Node). e.node.set) before) n.set in
     let outcome =
     ap (λ ks. option_map (use_behind nat_eq (outcome_at (unnamed_game g)) ks) n.outcome)
-    (unnamed_outcomes_of before)
+    (keys_still (λ n. n.outcome) (λ n. refl) before)
     ∙ use_aside nat_eq (outcome_by Aside) (outcome_at g) (outcome_at (unnamed_game g))
     (unnamed_outcome_at g) (filter_map (λ (e : Entry Node). e.node.outcome) before) n.outcome in
     λ i. record { name = []; set = set i; outcome = outcome i }
@@ -108,10 +100,20 @@ renumbered_aside r g =
       outcomes = outcomes i;
     }
 
-pub nodes_aside : (g : Game)
-    → file_nodes (canonical_game (unnamed_game g))
-    ≡ map (node_by Aside) (file_nodes (canonical_game g))
-nodes_aside g =
+-- ---- the canonical game
+
+pub nodes_by : (names : Names) (g : Game)
+    → file_nodes (canonical_game (game_by names g))
+    ≡ map (node_by names) (file_nodes (canonical_game g))
+nodes_by Kept g =
+    let nodes = file_nodes (canonical_game g) in
+    sym ((λ i. map (λ n. node_kept n i) nodes) ∙ map-id nodes)
+nodes_by Aside g =
     ap (λ r. file_nodes (renumbered r (unnamed_game g))) (numbers_aside g)
     ∙ ap file_nodes (renumbered_aside (first_use_numbers g) g)
     ∙ file_nodes_aside (canonical_game g)
+
+pub heading_is : (names : Names) (g : Game)
+    → heading_in (game_by names g) ≡ heading_by names (heading_in g)
+heading_is Kept g = refl
+heading_is Aside g = refl

@@ -1,13 +1,13 @@
 -- The answer of a comparison speaks of whatever the two files mean, and of their canonical texts.
-use Rattle.gf_canon.proofs.Common.{◌≡◌, ap, ℕ, Bool, List, Result, Ok, Err, IfErr, IfOk}
-use Rattle.gf_canon.proofs.Common.{MatchResult, sym, subst, ◌∙◌, ◌↔◌, IsTrue, GameFile, SameFile}
-use Rattle.gf_canon.proofs.Common.{SpellsFile, canonical_text, IsCanonicalText, MeansFile}
-use Rattle.gf_canon.proofs.Common.{SpellsWithin, SameBy, Names, Kept, Aside}
+use Rattle.gf_canon.proofs.Common.{◌≡◌, ℕ, Bool, List, Result, Ok, Err, IfErr, IfOk, MatchResult}
+use Rattle.gf_canon.proofs.Common.{subst, ◌↔◌, IsTrue, GameFile, SameFile, SpellsFile}
+use Rattle.gf_canon.proofs.Common.{IsCanonicalText, MeansFile, SpellsWithin, SameBy, Names, Kept}
 use Rattle.gf_canon.specs.Sameness.{AreRefusedWith, WantsMemory}
 use Rattle.gf_canon.specs.declared.sameness.SameFault.{SameFault}
 use Rattle.gf_canon.specs.declared.sameness.SameFault.TheVariants.{First, Second, Memory}
-use Rattle.gf_canon.proofs.lemmas.files.Texts.{equal_canonical_texts, spells_one_file}
-use Rattle.gf_canon.proofs.lemmas.sameness.Unnamed.{same_is_so_aside}
+use Rattle.gf_canon.proofs.lemmas.files.Texts.{is_game_file, spells_one_file}
+use Rattle.gf_canon.proofs.lemmas.sameness.Files.{reflexive}
+use Rattle.gf_canon.proofs.lemmas.texts.ByNames.{equal_texts_by}
 
 pub same_as_read : (names : Names) (answer : Bool) (a b : List ℕ) (first second : GameFile)
     → SpellsWithin a first → SpellsWithin b second → IsTrue answer ↔ SameBy names first second
@@ -39,27 +39,18 @@ same_as_first names (Err fault) a b first of_first same refused x y of_x of_y =
     memory_alone a b fault x y of_x of_y (refused a (first, of_first))
 
 -- files of equal bytes mean the same
-one_meaning : (a b : List ℕ) → a ≡ b → (x y : GameFile) → SpellsWithin a x → SpellsWithin b y
-    → SameFile x y
-one_meaning a b equal x y of_x of_y =
-    let one : x ≡ y =
-    spells_one_file b x y (subst (λ (bytes : List ℕ). SpellsFile bytes x) equal of_x.spelled)
-    of_y.spelled in
-    (equal_canonical_texts a b x y of_x.spelled of_y.spelled).0 (ap canonical_text one)
-
 pub same_as_itself : (names : Names) (a b : List ℕ) → a ≡ b → (x y : GameFile) → SpellsWithin a x
     → SpellsWithin b y → SameBy names x y
-same_as_itself Kept a b equal x y of_x of_y = one_meaning a b equal x y of_x of_y
-same_as_itself Aside a b equal x y of_x of_y =
-    same_is_so_aside x y (one_meaning a b equal x y of_x of_y)
+same_as_itself names a b equal x y of_x of_y = subst (SameBy names x)
+    (spells_one_file b x y (subst (λ (bytes : List ℕ). SpellsFile bytes x) equal of_x.spelled)
+    of_y.spelled)
+    (reflexive names x (is_game_file a x of_x.spelled))
 
 pub same_as_texts : (result : Result Bool SameFault) (a b s t : List ℕ)
     → (p : IsCanonicalText a s) → (q : IsCanonicalText b t)
     → MatchResult result (λ answer. IsTrue answer ↔ SameFile p.file q.file) WantsMemory
     → IfOk result (λ answer. IsTrue answer ↔ (s ≡ t))
 same_as_texts (Ok answer) a b s t p q same =
-    let texts = equal_canonical_texts a b p.file q.file p.spelled.spelled q.spelled.spelled in (
-      λ yes. p.is_text ∙ texts.1 (same.0 yes) ∙ sym q.is_text,
-      λ e. same.1 (texts.0 (sym p.is_text ∙ e ∙ q.is_text)),
-    )
+    let texts = equal_texts_by Kept a b s t p q p.file q.file p.spelled q.spelled in
+    (λ yes. texts.1 (same.0 yes), λ e. same.1 (texts.0 e))
 same_as_texts (Err fault) a b s t p q same = tt

@@ -1,6 +1,6 @@
 -- A game has one file tree in which exactly the first uses are described.
-use Rattle.gf_canon.proofs.Common.{◌≡◌, Bool, true, false, List, [], ◌∷◌, ◌++◌, Option, Some, None}
-use Rattle.gf_canon.proofs.Common.{map, refl, sym, ap, subst, ◌∙◌, append_assoc, nat_eq, option_map}
+use Rattle.gf_canon.proofs.Common.{arith, ◌≡◌, Bool, List, [], ◌∷◌, ◌++◌, Option, Some, None, map}
+use Rattle.gf_canon.proofs.Common.{refl, sym, ap, subst, ◌∙◌, append_assoc, nat_eq, option_map}
 use Rattle.gf_canon.proofs.Common.{if◌then◌else◌, AllByRecursion, cons_option, list_any}
 use Rattle.gf_canon.proofs.Common.{Decides-eqb, map-append, Entry, flatten, same_set, use_behind}
 use Rattle.gf_canon.proofs.Common.{Described, description_at, first_uses, Use, FileNode, FileTree}
@@ -22,24 +22,13 @@ module _ {K D : Type 0} (same : K → K → Bool) (equality : IsEquality same) (
   use_is : (before after : List (Use K D)) (u : Use K D) → us ≡ before ++ u ∷ after
       → u ≡ use_behind same at (map (λ v. v.key) before) u.key
   use_is before after u split =
-      let is = by u.description refl (list_any (same u.key) keys) refl in
+      let among : Has us u = subst (λ vs. Has vs u) (sym split) (has_place before after u) in
+      let described = first before after u split in
+      let says = λ (d : D). told u d among in
+      let is : u.description
+      ≡ (if list_any (same u.key) (map (λ v. v.key) before) then None else at u.key) =
+      grind (arith, none_of_them same equality before u, first_is_new same equality before u) in
       λ i. record { key = u.key; description = is i }
-    where
-      keys : List K
-      keys = map (λ v. v.key) before
-
-      by : (o : Option D) → u.description ≡ o → (b : Bool) → list_any (same u.key) keys ≡ b
-          → u.description ≡ (if list_any (same u.key) keys then None else at u.key)
-      by None e true f = rw f e
-      by None e false f =
-          let d = (first before after u split).1 (none_of_them same equality before u f) in
-          let is : u.description ≡ Some d.0 = d.1 in
-          absurd cc
-      by (Some d) e true f =
-          let new = first_is_new same equality before u ((first before after u split).0 (d, e)) in
-          absurd cc
-      by (Some d) e false f = rw f (e ∙ sym (told u d
-          (subst (λ vs. Has vs u) (sym split) (has_place before after u)) e))
 
   uses_are : (before rest : List (Use K D)) → us ≡ before ++ rest
       → rest ≡ uses_behind same at (map (λ v. v.key) before) (map (λ v. v.key) rest)
@@ -56,31 +45,21 @@ same_options : {K D : Type 0} (o p : Option (Use K D)) (us vs : List (Use K D))
     → option_map (λ u. u.key) o ≡ option_map (λ u. u.key) p → cons_option o us ≡ cons_option p vs
     → (o ≡ p) × (us ≡ vs)
 same_options None None us vs keys e = (refl, e)
-same_options None (Some v) us vs keys e = absurd cc
-same_options (Some u) None us vs keys e = absurd cc
-same_options (Some u) (Some v) us vs keys e =
-    let here : u ≡ v = cc in
-    let rest : us ≡ vs = cc in
-    (ap Some here, rest)
+same_options (Some u) (Some v) us vs keys e = (cc, cc)
+same_options _ _ us vs keys e = absurd cc
 
 same_entries : (es fs : List (Entry FileNode))
     → map (map_entry keys_alone) es ≡ map (map_entry keys_alone) fs → set_uses es ≡ set_uses fs
     → outcome_uses es ≡ outcome_uses fs → es ≡ fs
 same_entries [] [] keys sets outcomes = refl
-same_entries [] (f ∷ fs) keys sets outcomes = absurd cc
-same_entries (e ∷ es) [] keys sets outcomes = absurd cc
 same_entries (e ∷ es) (f ∷ fs) keys sets outcomes =
-    let here : map_entry keys_alone e ≡ map_entry keys_alone f = cc in
-    let rest : map (map_entry keys_alone) es ≡ map (map_entry keys_alone) fs = cc in
-    let set =
-    same_options e.node.set f.node.set (set_uses es) (set_uses fs) (λ i. (here i).node.set) sets in
-    let outcome = same_options e.node.outcome f.node.outcome (outcome_uses es) (outcome_uses fs)
-    (λ i. (here i).node.outcome) outcomes in
-    let others = same_entries es fs rest set.1 outcome.1 in
-    λ i. record {
-      node = record { name = (here i).node.name; set = set.0 i; outcome = outcome.0 i };
-      children = (here i).children;
-    } ∷ others i
+    grind (
+      arith,
+      same_options e.node.set f.node.set (set_uses es) (set_uses fs),
+      same_options e.node.outcome f.node.outcome (outcome_uses es) (outcome_uses fs),
+      same_entries es fs,
+    )
+same_entries _ _ keys sets outcomes = absurd cc
 
 -- ---- the file tree
 

@@ -6,8 +6,7 @@ use Rattle.gf_canon.proofs.Common.{length-drop, drop-set, codes, decimal, set_us
 use Rattle.gf_canon.proofs.Common.{InformationSet, SetKey, FileNode, Use, quoted, spaced}
 use Rattle.gf_canon.proofs.Common.{described_fields, mover_fields, set_fields, mover_letter}
 use Rattle.gf_canon.proofs.Common.{node_line, number_then, plain_line, player_letter, player_then}
-use Rattle.gf_canon.proofs.Common.{tail_text}
-use Rattle.std.proofs.Common.{option_map, is_some}
+use Rattle.gf_canon.proofs.Common.{tail_text, option_map, is_some}
 use Rattle.std.proofs.Math.Seq.{take-append-add, take-append_seam}
 use Rattle.std.specs.Fmt.{digits}
 use Rattle.gf_tree.specs.declared.game.file_node.SetUse.{SetUse}

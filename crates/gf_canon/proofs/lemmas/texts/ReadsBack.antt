@@ -1,77 +1,60 @@
 -- The text of a game spells that game.
 use Rattle.gf_canon.proofs.Common.{◌≡◌, ℕ, Bool, true, false, List, [], ◌∷◌, ◌++◌, length, map}
-use Rattle.gf_canon.proofs.Common.{Option, Some, None, refl, sym, ap, subst, ◌∙◌, inl, inr, nat_eq}
+use Rattle.gf_canon.proofs.Common.{Option, Some, None, refl, sym, ap, subst, inl, inr, nat_eq}
 use Rattle.gf_canon.proofs.Common.{codes, option_map, MatchOption, ⊤, if◌then◌else◌, AllByRecursion}
-use Rattle.gf_canon.proofs.Common.{filter_map, flat_map, list_any, Decides-eqb, append-nil, Token}
-use Rattle.gf_canon.proofs.Common.{Text, Bare, IsLabel, spaced, list_text, quoted, Entry, flatten}
-use Rattle.gf_canon.proofs.Common.{SetKey, InformationSet, same_set, IsSet, IsOutcome, FileNode}
-use Rattle.gf_canon.proofs.Common.{FileTree, Node, Game, IsGame, used_sets, used_outcomes, set_at}
-use Rattle.gf_canon.proofs.Common.{outcome_at, IsConsistent, IsGameOf, SpellsGame, IsSpellable}
-use Rattle.gf_canon.proofs.Common.{IsSpellableSet, IsSpellableOutcome, Has, each, found}
-use Rattle.gf_canon.proofs.Common.{same_set_equality, map_twice, held, in_keys, use_behind}
-use Rattle.gf_canon.proofs.Common.{node_behind, file_nodes, node_text, game_text}
+use Rattle.gf_canon.proofs.Common.{flat_map, Decides-eqb, Token, Text, Bare, IsLabel, spaced}
+use Rattle.gf_canon.proofs.Common.{list_text, quoted, Entry, flatten, SetKey, same_set, IsSet}
+use Rattle.gf_canon.proofs.Common.{IsOutcome, FileNode, FileTree, Node, Game, IsGame, used_sets}
+use Rattle.gf_canon.proofs.Common.{used_outcomes, set_at, outcome_at, IsConsistent, IsGameOf}
+use Rattle.gf_canon.proofs.Common.{SpellsGame, IsSpellable, IsSpellableSet, IsSpellableOutcome, Has}
+use Rattle.gf_canon.proofs.Common.{each, found, same_set_equality, held, in_keys, node_behind}
+use Rattle.gf_canon.proofs.Common.{file_nodes, node_text, game_text}
 use Rattle.gf_token.specs.Grammar.{Each, braced}
-use Rattle.gf_nfg.proofs.lemmas.texts.Spelled.{Tells, Says, says_label, says_bare, says_spaced}
-use Rattle.gf_nfg.proofs.lemmas.texts.Spelled.{tells_line, tells_lines}
-use Rattle.gf_tree.specs.Description.{Outcome}
+use Rattle.gf_nfg.proofs.lemmas.texts.Spelled.{Tells, Says, says_label, tells_line, tells_lines}
 use Rattle.gf_tree.specs.Sentence.{IsNode, Sentence}
 use Rattle.gf_tree.proofs.lemmas.written.Nodes.{node_tokens, IsSetUse, IsOutcomeUse, IsWritable}
 use Rattle.gf_tree.proofs.lemmas.written.Nodes.{nodes_written}
-use Rattle.gf_tree.proofs.lemmas.games.Learned.{game_learned_once}
-use Rattle.gf_canon.proofs.lemmas.texts.FileOf.{file_of, entries_behind, file_entries}
-use Rattle.gf_canon.proofs.lemmas.texts.FileOf.{file_nodes_are}
+use Rattle.gf_canon.proofs.lemmas.texts.FileOf.{entries_behind, file_of_game, file_nodes_are}
 use Rattle.gf_canon.proofs.lemmas.texts.Pieces.{both, label, labels, line, list, said_node, word}
 
 -- ---- each node can be written
 
-set_use : (g : Game) → IsGame g → IsSpellable g → (key : SetKey) → Has (used_sets g.tree) key
-    → IsSetUse (length g.players) (record { key = key; description = set_at g key })
-set_use g game can key i =
+-- a later use has no description
+unless : {A : Type 0} (P : A → Type 0) (x : A) (b : Bool) → P x
+    → MatchOption (if b then None else Some x) ⊤ P
+unless P x true h = tt
+unless P x false h = h
+
+set_use : (g : Game) → IsGame g → IsSpellable g → (b : Bool) (key : SetKey)
+    → Has (used_sets g.tree) key → IsSetUse (length g.players)
+    (record { key = key; description = if b then None else set_at g key })
+set_use g game can b key i =
     let f = found same_set same_set_equality g.sets key
     (in_keys same_set same_set_equality (used_sets g.tree) g.sets key game.one_entry_each_set i) in
-    let spelled = each IsSpellableSet g.sets (record { key = key; description = f.description })
-    can.sets f.among in
-    let is = each (λ s. IsSet (length g.players) s.key s.description) g.sets
-    (record { key = key; description = f.description }) game.each_set f.among in
+    let spelled = each IsSpellableSet g.sets _ can.sets f.among in
+    let is = each (λ s. IsSet (length g.players) s.key s.description) g.sets _ game.each_set f.among
+    in
     record {
       above = is.number;
       player = spelled.player;
       number = spelled.number;
-      set = subst (λ o. MatchOption o ⊤ (λ d.
-          IsSet (length g.players) key d × IsSpellableSet (record { key = key; description = d })))
-          (sym f.is_at) (is, spelled);
+      set = rw f.is_at (unless _ f.description b (is, spelled));
     }
 
-outcome_use : (g : Game)
-    → IsGame g → IsSpellable g → (number : ℕ) → Has (used_outcomes g.tree) number
-    → IsOutcomeUse (length g.players) (record { key = number; description = outcome_at g number })
-outcome_use g game can number i =
+outcome_use : (g : Game) → IsGame g → IsSpellable g → (b : Bool) (number : ℕ)
+    → Has (used_outcomes g.tree) number → IsOutcomeUse (length g.players)
+    (record { key = number; description = if b then None else outcome_at g number })
+outcome_use g game can b number i =
     let f = found nat_eq Decides-eqb g.outcomes number (in_keys nat_eq Decides-eqb
     (used_outcomes g.tree) g.outcomes number game.one_entry_each_outcome i) in
-    let spelled = each IsSpellableOutcome g.outcomes
-    (record { key = number; description = f.description }) can.outcomes f.among in
-    let is = each (λ o. IsOutcome (length g.players) o.key o.description) g.outcomes
-    (record { key = number; description = f.description }) game.each_outcome f.among in
+    let spelled = each IsSpellableOutcome g.outcomes _ can.outcomes f.among in
+    let is = each (λ o. IsOutcome (length g.players) o.key o.description) g.outcomes _
+    game.each_outcome f.among in
     record {
       above = is.number_from_one;
       number = spelled.number;
-      outcome = subst (λ o. MatchOption o ⊤ (λ d. IsOutcome (length g.players) number d
-          × IsSpellableOutcome (record { key = number; description = d })))
-          (sym f.is_at) (is, spelled);
+      outcome = rw f.is_at (unless _ f.description b (is, spelled));
     }
-
--- a later use has no description
-set_use_behind : (players : ℕ) (key : SetKey) (o : Option InformationSet) (b : Bool)
-    → IsSetUse players (record { key = key; description = o })
-    → IsSetUse players (record { key = key; description = if b then None else o })
-set_use_behind players key o true h = assumption h
-set_use_behind players key o false h = h
-
-outcome_use_behind : (players number : ℕ) (o : Option Outcome) (b : Bool)
-    → IsOutcomeUse players (record { key = number; description = o })
-    → IsOutcomeUse players (record { key = number; description = if b then None else o })
-outcome_use_behind players number o true h = assumption h
-outcome_use_behind players number o false h = h
 
 at_option : {K U : Type 0} (P : U → Type 0) (f : K → U) (o : Option K)
     → ((k : K) → o ≡ Some k → P (f k)) → MatchOption (option_map f o) ⊤ P
@@ -81,20 +64,12 @@ at_option P f (Some k) h = h k refl
 node_writable : (g : Game) → IsGame g → IsSpellable g
     → (before : List (Entry Node)) (e : Entry Node) → Has (flatten g.tree) e
     → IsWritable (length g.players) (node_behind g before e.node)
-node_writable g game can before e i =
-    let players = length g.players in
-    let sets = filter_map (λ (d : Entry Node). d.node.set) before in
-    let outcomes = filter_map (λ (d : Entry Node). d.node.outcome) before in
-    record {
-      set = at_option (IsSetUse players) (use_behind same_set (set_at g) sets) e.node.set (λ key q.
-          set_use_behind players key (set_at g key) (list_any (same_set key) sets)
-          (set_use g game can key (held (λ n. n.set) (flatten g.tree) e key i q)));
-      outcome = at_option (IsOutcomeUse players) (use_behind nat_eq (outcome_at g) outcomes)
-          e.node.outcome (λ number q.
-          outcome_use_behind players number (outcome_at g number)
-          (list_any (nat_eq number) outcomes)
-          (outcome_use g game can number (held (λ n. n.outcome) (flatten g.tree) e number i q)));
-    }
+node_writable g game can before e i = record {
+  set = at_option (IsSetUse (length g.players)) _ e.node.set
+      (λ key q. set_use g game can _ key (held (λ n. n.set) (flatten g.tree) e key i q));
+  outcome = at_option (IsOutcomeUse (length g.players)) _ e.node.outcome (λ number q.
+      outcome_use g game can _ number (held (λ n. n.outcome) (flatten g.tree) e number i q));
+}
 
 -- what holds for each node after those before it holds for all
 all_nodes : (P : FileNode → Type 0) (g : Game)
@@ -146,9 +121,10 @@ tells_game g game can =
     (node_writable g game can before e i))))))
 
 is_sentence : (g : Game) → IsGame g → IsSpellable g → (f : FileTree) → g.title ≡ f.title
-    → g.comment ≡ f.comment → g.players ≡ f.players → flatten f.tree ≡ file_entries g
+    → g.comment ≡ f.comment → g.players ≡ f.players
+    → map (λ e. e.node) (flatten f.tree) ≡ file_nodes g
     → Sentence (game_tokens g) f
-is_sentence g game can f title comment players entries = record {
+is_sentence g game can f title comment players nodes = record {
   letter = codes "R";
   comment = Text g.comment ∷ [];
   nodes = flat_map node_tokens (file_nodes g);
@@ -159,7 +135,7 @@ is_sentence g game can f title comment players entries = record {
       (flat_map node_tokens (file_nodes g)) (map (λ e. e.node) (flatten f.tree)))
       players
       (subst (λ ns. Each (IsNode (length g.players)) (flat_map node_tokens (file_nodes g)) ns)
-      (file_nodes_are g ∙ ap (map (λ e. e.node)) (sym entries))
+      (sym nodes)
       (nodes_written (length g.players) (file_nodes g)
       (all_nodes (IsWritable (length g.players)) g (node_writable g game can))));
 }
@@ -167,16 +143,15 @@ is_sentence g game can f title comment players entries = record {
 pub text_reads_back : (g : Game) → IsGame g → IsSpellable g → SpellsGame (game_text g) g
 text_reads_back g game can =
     let told = tells_game g game can 0 in
-    let file = file_of g game in
+    let file = file_of_game g game in
     let f = file.0 in
-    let means = (game_learned_once f g).0 file.1 in (
+    let kept = file.1.game.kept in (
       told.0,
       told.1,
       subst (λ ts. (f : FileTree) × Sentence ts f × IsConsistent f × IsGameOf f g) (sym told.2) (
         f,
-        is_sentence g game can f (sym file.1.kept.title)
-            (sym file.1.kept.comment) (sym file.1.kept.players) file.2,
-        means.0,
-        means.1,
+        is_sentence g game can f (sym kept.title) (sym kept.comment) (sym kept.players) file.2,
+        file.1.consistent,
+        file.1.game,
       ),
     )

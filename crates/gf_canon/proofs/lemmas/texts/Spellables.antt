@@ -3,20 +3,19 @@
 use Rattle.gf_canon.proofs.Common.{◌≡◌, ℕ, Bool, ◌^◌, ◌<◌, true, eqb, List, [], ◌∷◌, length, map}
 use Rattle.gf_canon.proofs.Common.{sym, subst, ◌∙◌, arith, inl, inr, nat_eq, ◌⊎◌, AllByRecursion}
 use Rattle.gf_canon.proofs.Common.{list_any, eqb-true, ne_eqb, or_cases, Decides-eqb, length-map}
-use Rattle.gf_canon.proofs.Common.{IsLabel, Entry, flatten, SetKey, InformationSet, same_set}
-use Rattle.gf_canon.proofs.Common.{Described, first_uses, Node, Game, IsGame, used_sets}
-use Rattle.gf_canon.proofs.Common.{used_outcomes, IsSpellable, IsSpellableSet, IsSpellableOutcome}
-use Rattle.gf_canon.proofs.Common.{renumbered_set, renumbered_node, first_use_number, sets_of}
-use Rattle.gf_canon.proofs.Common.{first_use_numbers, Has, IsEquality, mapped_from, each}
-use Rattle.gf_canon.proofs.Common.{all_of_each, AreDistinct, was_used, first_uses_distinct}
-use Rattle.gf_canon.proofs.Common.{of_filter, same_set_equality, map_entry, flatten_map, in_keys}
-use Rattle.gf_canon.proofs.Common.{entry_used, set_number_positive, outcome_number_positive}
-use Rattle.gf_canon.proofs.Common.{canonical_game}
+use Rattle.gf_canon.proofs.Common.{IsLabel, flatten, SetKey, InformationSet, same_set, Described}
+use Rattle.gf_canon.proofs.Common.{first_uses, Game, IsGame, used_sets, used_outcomes, IsSpellable}
+use Rattle.gf_canon.proofs.Common.{IsSpellableSet, IsSpellableOutcome, renumbered_set}
+use Rattle.gf_canon.proofs.Common.{renumbered_node, first_use_number, sets_of, first_use_numbers}
+use Rattle.gf_canon.proofs.Common.{Has, IsEquality, mapped_from, each, all_of_each, AreDistinct}
+use Rattle.gf_canon.proofs.Common.{was_used, first_uses_distinct, of_filter, same_set_equality}
+use Rattle.gf_canon.proofs.Common.{flatten_map, in_keys, entry_used, set_number_positive}
+use Rattle.gf_canon.proofs.Common.{outcome_number_positive, canonical_game}
+use Rattle.gf_fraction.proofs.AllElements.{all_images, all_weaker}
 use Rattle.std.specs.List.{IsDistinct}
 use Rattle.std.proofs.lemmas.Map.Steps.{length-le_from_distinct_below}
 use Rattle.gf_tree.specs.Description.{Outcome}
 use Rattle.gf_tree.proofs.lemmas.games.FirstUseNumbers.{AreApart, number_at_most}
-use Rattle.gf_tree.proofs.lemmas.games.Lookups.{at_images}
 use Rattle.gf_tree.proofs.lemmas.games.Renumbered.{own_set}
 
 -- ---- different numbers from 1 below a bound are fewer than it
@@ -70,6 +69,15 @@ number_below same equality value ks key n some i apart small =
 
 -- ---- the canonical game
 
+-- what holds of the key of each entry holds of each key that is used
+of_used : {K D : Type 0} (same : K → K → Bool) → IsEquality same
+    → (used : List K) (es : List (Described K D)) → map (λ e. e.key) es ≡ first_uses same used
+    → (P : K → Type 0) → AllByRecursion (λ e. P e.key) es → (key : K) → Has used key → P key
+of_used same equality used es entries P all key i =
+    let e = mapped_from (λ (e : Described _ _). e.key) es key
+    (in_keys same equality used es key entries i) in
+    subst P e.2 (each (λ (e : Described _ _). P e.key) es e.0 all e.1)
+
 pub canonical_is_spellable : (g : Game) → IsGame g → IsSpellable g → IsSpellable (canonical_game g)
 canonical_is_spellable g game can = record {
   title = can.title;
@@ -77,77 +85,52 @@ canonical_is_spellable g game can = record {
   players = can.players;
   nodes = subst (AllByRecursion (λ e. IsLabel e.node.name))
       (sym (flatten_map (renumbered_node (first_use_numbers g)) g.tree))
-      (names (flatten g.tree) can.nodes);
-  sets = all_of_each IsSpellableSet (at_images (renumbered_set (first_use_numbers g)) g.sets) set;
-  outcomes =
-      all_of_each IsSpellableOutcome (at_images (first_use_numbers g).outcome g.outcomes) outcome;
+      (all_images _ _ (flatten g.tree) can.nodes);
+  sets = all_images _ _ g.sets (all_of_each _ g.sets set);
+  outcomes = all_images _ _ g.outcomes (all_of_each _ g.outcomes outcome);
 }
   where
-    names : (es : List (Entry Node)) → AllByRecursion (λ e. IsLabel e.node.name) es
-        → AllByRecursion (λ e. IsLabel e.node.name)
-        (map (map_entry (renumbered_node (first_use_numbers g))) es)
-    names [] h = tt
-    names (e ∷ es) h = (h.0, names es h.1)
-
-    known_set : (key : SetKey) → Has (used_sets g.tree) key
-        → (s : Described SetKey InformationSet) × Has g.sets s × (s.key ≡ key)
-    known_set key i = mapped_from (λ (s : Described SetKey InformationSet). s.key) g.sets key
-        (in_keys same_set same_set_equality (used_sets g.tree) g.sets key game.one_entry_each_set i)
-
-    known_outcome : (number : ℕ) → Has (used_outcomes g.tree) number
-        → (o : Described ℕ Outcome) × Has g.outcomes o × (o.key ≡ number)
-    known_outcome number i =
-        mapped_from (λ (o : Described ℕ Outcome). o.key) g.outcomes number (in_keys nat_eq
-        Decides-eqb (used_outcomes g.tree) g.outcomes number game.one_entry_each_outcome i)
-
     set_small : (key : SetKey) → Has (used_sets g.tree) key
         → (0 < key.number) × (key.number < 2 ^ 32)
-    set_small key i = let s = known_set key i in (
+    set_small key i = (
       set_number_positive g game key i,
-      subst (λ (k : SetKey). k.number < 2 ^ 32) s.2
-          (each IsSpellableSet g.sets s.0 can.sets s.1).number,
+      of_used same_set same_set_equality (used_sets g.tree) g.sets game.one_entry_each_set
+          (λ k. k.number < 2 ^ 32) (all_weaker _ _ (λ s h. h.number) g.sets can.sets) key i,
     )
 
     outcome_small : (number : ℕ) → Has (used_outcomes g.tree) number
         → (0 < number) × (number < 2 ^ 32)
-    outcome_small number i = let o = known_outcome number i in (
+    outcome_small number i = (
       outcome_number_positive g game number i,
-      subst (λ n. n < 2 ^ 32) o.2 (each IsSpellableOutcome g.outcomes o.0 can.outcomes o.1).number,
+      of_used nat_eq Decides-eqb (used_outcomes g.tree) g.outcomes game.one_entry_each_outcome
+          (λ n. n < 2 ^ 32) (all_weaker _ _ (λ o h. h.number) g.outcomes can.outcomes) number i,
     )
 
     own : (player : ℕ) (key : SetKey) → Has (sets_of player (used_sets g.tree)) key
         → Has (used_sets g.tree) key × (key.player ≡ player)
     own player key i = grind (arith, of_filter, eqb-true)
 
-    set : (s : Described SetKey InformationSet)
-        → Has (at_images (renumbered_set (first_use_numbers g)) g.sets) s → IsSpellableSet s
+    set : (s : Described SetKey InformationSet) → Has g.sets s → IsSpellableSet
+        (record { key = renumbered_set (first_use_numbers g) s.key; description = s.description })
     set s i =
-        let k = mapped_from (λ (t : Described SetKey InformationSet). record {
-          key = renumbered_set (first_use_numbers g) t.key;
-          description = t.description;
-        }) g.sets s i in
-        let was = each IsSpellableSet g.sets k.0 can.sets k.1 in
-        let player = k.0.key.player in
-        let used = entry_used same_set (used_sets g.tree) g.sets k.0 game.one_entry_each_set k.1 in
+        let was = each IsSpellableSet g.sets s can.sets i in
+        let player = s.key.player in
+        let used = entry_used same_set (used_sets g.tree) g.sets s game.one_entry_each_set i in
         let apart : AreApart (λ (key : SetKey). key.number) (sets_of player (used_sets g.tree)) =
         λ a b p q e.
         let same : a.player ≡ b.player = (own player a p).1 ∙ sym (own player b q).1 in
         λ j. record { player = same j; number = e j } in
         let number = number_below same_set same_set_equality (λ (key : SetKey). key.number)
-        (sets_of player (used_sets g.tree)) k.0.key (2 ^ 32) (omega arith) (own_set g k.0.key used)
+        (sets_of player (used_sets g.tree)) s.key (2 ^ 32) (omega arith) (own_set g s.key used)
         apart (λ key p. set_small key (own player key p).0) in
-        grind arith
+        assumption (was, number)
 
-    outcome : (o : Described ℕ Outcome) → Has (at_images (first_use_numbers g).outcome g.outcomes) o
-        → IsSpellableOutcome o
+    outcome : (o : Described ℕ Outcome) → Has g.outcomes o → IsSpellableOutcome
+        (record { key = (first_use_numbers g).outcome o.key; description = o.description })
     outcome o i =
-        let k = mapped_from (λ (t : Described ℕ Outcome). record {
-          key = (first_use_numbers g).outcome t.key;
-          description = t.description;
-        }) g.outcomes o i in
-        let was = each IsSpellableOutcome g.outcomes k.0 can.outcomes k.1 in
+        let was = each IsSpellableOutcome g.outcomes o can.outcomes i in
         let used =
-        entry_used nat_eq (used_outcomes g.tree) g.outcomes k.0 game.one_entry_each_outcome k.1 in
-        let number = number_below nat_eq Decides-eqb (λ n. n) (used_outcomes g.tree) k.0.key
+        entry_used nat_eq (used_outcomes g.tree) g.outcomes o game.one_entry_each_outcome i in
+        let number = number_below nat_eq Decides-eqb (λ n. n) (used_outcomes g.tree) o.key
         (2 ^ 32) (omega arith) used (λ a b p q e. e) outcome_small in
-        grind arith
+        assumption (was, number)

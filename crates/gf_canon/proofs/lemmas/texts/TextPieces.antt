@@ -7,8 +7,8 @@ use Rattle.gf_canon.proofs.Common.{take_all, codes, decimal, flat_map, flat_map-
 use Rattle.gf_canon.proofs.Common.{list_text, quoted, spaced, others_text, label_of, InformationSet}
 use Rattle.gf_canon.proofs.Common.{SetKey, file_nodes, FileNode, Use, Game, action_fields}
 use Rattle.gf_canon.proofs.Common.{mover_fields, step_fields, game_text, node_text, first_line}
-use Rattle.gf_canon.proofs.Common.{heading_text, node_line}
-use Rattle.std.proofs.Common.{if◌then◌else◌}
+use Rattle.gf_canon.proofs.Common.{heading_text, node_line, if◌then◌else◌, ◌^◌}
+use Rattle.std.proofs.lemmas.Fmt.{length-decimal-le}
 use Rattle.gf_fraction.specs.Ratio.{Ratio}
 use Rattle.gf_fraction.specs.NumberText.{number_text}
 use Rattle.gf_token.specs.declared.label.Label.{Label}
@@ -109,6 +109,10 @@ text_done g title comment players left old heading out t c p e none h =
     grind (arith, append-nil, append_assoc, game_text_is)
 
 -- ---- numbers
+
+-- a number of 32 bits has ten digits at most
+pub ten_digits : (n : ℕ) → n < 2 ^ 32 → length (decimal n) ≤ 10
+ten_digits n h = length-decimal-le 10 n (omega arith) (omega arith) (omega arith)
 
 appended : {A E : Type 0} (r : Result A E) (old new x y : List ℕ)
     → new ≡ (if is_ok r then old ++ x else old) → x ≡ y → OnOk r (new ≡ old ++ y)

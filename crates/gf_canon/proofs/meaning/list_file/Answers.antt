@@ -1,12 +1,12 @@
-use Rattle.gf_canon.proofs.lemmas.files.Refused.{refused_game, refused_table}
+use Rattle.gf_canon.proofs.Common.{arith, IsRefusedWith}
+use Rattle.gf_canon.proofs.lemmas.files.Refused.{refused_game}
 use Rattle.gf_canon.proofs.meaning.list_file.Goals as goal
 
-pub returns-in-Err-clause-refused : goal.returns-in-Err-clause-refused
-returns-in-Err-clause-refused c =
-    refused_game c.args.input.now _ _ c.in-Extensive.is c.in_ok-format_of.ensures.named
-    c.in-Err.ensures.judged c.in-Err.ensures.only
-
-pub returns-in-Err-list_nfg-clause-refused : goal.returns-in-Err-list_nfg-clause-refused
-returns-in-Err-list_nfg-clause-refused c =
-    refused_table c.args.input.now _ _ c.in-Strategic.is c.in_ok-format_of.ensures.named
-    c.in-Err-list_nfg.ensures.judged c.in-Err-list_nfg.ensures.only
+pub returns-in_err-list_efg-in-Extensive-clause-refused :
+    goal.returns-in_err-list_efg-in-Extensive-clause-refused
+returns-in_err-list_efg-in-Extensive-clause-refused c =
+    let failed = c.in_err-list_efg-in-Extensive in
+    let refused : IsRefusedWith c.args.input.now failed.field-0.0 =
+    refused_game c.args.input.now failed.field-0.0 _ c.in-Extensive.is
+    c.in_ok-format_of.ensures.named failed.ensures.judged failed.ensures.only in
+    grind arith

@@ -1,7 +1,7 @@
 use Rattle.gf_canon.proofs.Common.{◌≡◌, ◌∙◌, IfOk, ap, arith, map, subst, Vec, Global, ℕ}
 use Rattle.gf_canon.proofs.Common.{common_steps, positions, Game}
-use Rattle.gf_canon.proofs.numbering.renumber.Goals as goal
 use Rattle.gf_canon.proofs.lemmas.numbers.Canonical.{canonical_by, listed_by}
+use Rattle.gf_canon.proofs.numbering.renumber.Goals as goal
 
 pub with_numbers-requires : goal.with_numbers-requires
 with_numbers-requires c = grind (arith, common_steps, listed_by)

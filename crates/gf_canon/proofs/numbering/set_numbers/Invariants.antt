@@ -1,4 +1,4 @@
-use Rattle.std.proofs.Common.{◌≡◌, map}
+use Rattle.gf_canon.proofs.Common.{◌≡◌, map}
 use Rattle.gf_canon.proofs.lemmas.numbers.Canonical.{lists_through}
 use Rattle.gf_canon.proofs.numbering.set_numbers.Given as goal
 

@@ -1,4 +1,4 @@
-use Rattle.gf_canon.specs.GameFile.GameFile.{extensive, strategic}
+use Rattle.gf_canon.proofs.Common.{extensive, strategic}
 use Rattle.gf_canon.proofs.lemmas.sameness.ComparedTrees.{no_table, same_as_told}
 use Rattle.gf_canon.proofs.sameness.same_as_tree.Goals as goal
 

@@ -1,7 +1,7 @@
-use Rattle.gf_canon.proofs.Common.{arith, refl, rules}
-use Rattle.gf_canon.proofs.sameness.same_by.Goals as goal
+use Rattle.gf_canon.proofs.Common.{rules}
 use Rattle.gf_canon.specs.MeaningOf.{file_of_listed}
 use Rattle.gf_canon.proofs.lemmas.texts.Compared.{same_as_first, same_as_itself}
+use Rattle.gf_canon.proofs.sameness.same_by.Goals as goal
 
 pub returns-in-Ok-clause-same : goal.returns-in-Ok-clause-same
 returns-in-Ok-clause-same c = λ x y of_x of_y. search (rules, same_as_itself)

@@ -1,4 +1,4 @@
-use Rattle.gf_canon.specs.NewNumbers.{number_of_set}
+use Rattle.gf_canon.proofs.Common.{number_of_set}
 use Rattle.gf_canon.proofs.lemmas.numbers.Noted.{set_noted}
 use Rattle.gf_canon.proofs.numbering.carry.note_set.Goals as goal
 

@@ -1,16 +1,13 @@
-use Rattle.gf_canon.proofs.Common.{◌≡◌, ◌∙◌, [], ap, get, nat_cmp, number_of_set}
-use Rattle.gf_canon.proofs.numbering.carry.numbers_between.Goals as goal
-use Rattle.gf_tree.specs.NodeOf.{node_of}
+use Rattle.gf_canon.proofs.Common.{◌≡◌, ◌∙◌, [], ap}
 use Rattle.gf_tree.specs.NodesLeft.{nodes_left}
 use Rattle.gf_canon.proofs.lemmas.numbers.Noted.{empty_outcomes, empty_sets, walk_begins, walk_ends}
 use Rattle.gf_canon.proofs.lemmas.numbers.Noted.{walk_goes, walk_is_even}
 use Rattle.gf_canon.proofs.numbering.carry.numbers_between.Goals.{in-None, in-Some+in_default}
+use Rattle.gf_canon.proofs.numbering.carry.numbers_between.Goals as goal
 
 pub loop-node-init : goal.loop-node-init
 loop-node-init c = λ r carries.
-    walk_begins r c.args.g.now c.args.h.now (number_of_set c.new-sets.result)
-    (get nat_cmp c.new-outcomes.result) (nodes_left c.into_iter-node-iterator.result)
-    (nodes_left c.nodes-others.result) carries
+    walk_begins r c.args.g.now c.args.h.now carries
     (empty_sets c.new-sets.result c.new-sets.ensures.empty)
     (empty_outcomes c.new-outcomes.result c.new-outcomes.ensures.empty)
     (ap nodes_left c.into_iter-node-iterator.ensures.into_iter_gives ∙ c.nodes-node-items.ensures)
@@ -18,11 +15,7 @@ loop-node-init c = λ r carries.
 
 pub loop-node-preserved : goal.loop-node-preserved
 loop-node-preserved c = λ r carries.
-    walk_goes r c.args.g.now (number_of_set c.loop-node.sets) (number_of_set c.note_set.new.sets)
-    (get nat_cmp c.loop-node.outcomes) (get nat_cmp c.note_outcome.new.outcomes)
-    (nodes_left c.loop-node.node-iterator) (nodes_left c.loop-node.others)
-    (nodes_left c.next.new.self) (nodes_left c.next-in-loop-node.new.self) (node_of c.in-Some.node)
-    (node_of c.in-Some-next.other) (c.loop-node.invariant r carries) c.in-Some.ensures.steps
+    walk_goes r c.args.g.now (c.loop-node.invariant r carries) c.in-Some.ensures.steps
     c.in-Some-next.ensures.steps c.in_ok-note_set.ensures c.in_ok-note_outcome.ensures
 
 pub returns : goal.returns
@@ -30,12 +23,7 @@ returns c =
     let none : nodes_left c.loop-node.node-iterator ≡ [] = elim c.match-next.branch [
       | in-None w ↦ w.in-None.ensures.steps.0
       | in-Some+in_default w ↦ absurd (walk_is_even c.requires.same.0 c.args.g.now
-          (number_of_set c.loop-node.sets) (number_of_set c.loop-node.sets)
-          (get nat_cmp c.loop-node.outcomes) (get nat_cmp c.loop-node.outcomes)
-          (nodes_left c.loop-node.node-iterator) (nodes_left c.loop-node.others)
-          (nodes_left c.next.new.self) (node_of w.in-Some.node)
           (c.loop-node.invariant c.requires.same.0 c.requires.same.1) w.in-Some.ensures.steps
           w.in_default.ensures.steps.0)
     ] in
-    walk_ends _ c.args.g.now c.args.h.now (nodes_left c.loop-node.node-iterator)
-    (nodes_left c.loop-node.others) c.requires.game c.requires.same c.loop-node.invariant none
+    walk_ends _ c.args.g.now c.args.h.now c.requires.game c.requires.same c.loop-node.invariant none

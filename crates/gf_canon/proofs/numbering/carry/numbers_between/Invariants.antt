@@ -1,7 +1,7 @@
 use Rattle.gf_canon.proofs.Common.{get, nat_cmp, Renumbering, number_of_set, Carries}
-use Rattle.gf_canon.proofs.numbering.carry.numbers_between.Given as goal
 use Rattle.gf_tree.specs.NodesLeft.{nodes_left}
 use Rattle.gf_canon.proofs.lemmas.numbers.Noted.{AreWalked}
+use Rattle.gf_canon.proofs.numbering.carry.numbers_between.Given as goal
 
 abbrev pub invariant-loop-node : goal.invariant-loop-node
 invariant-loop-node l = (r : Renumbering) → Carries r l.g l.h

@@ -1,6 +1,6 @@
 use Rattle.gf_canon.proofs.Common.{◌≡◌, ◌++◌, drop, Keeps}
-use Rattle.gf_canon.proofs.text.braces.write_payoffs.Given as goal
 use Rattle.gf_canon.proofs.lemmas.texts.TextPieces.{payoffs_left}
+use Rattle.gf_canon.proofs.text.braces.write_payoffs.Given as goal
 
 abbrev pub invariant-loop-payoff : goal.invariant-loop-payoff
 invariant-loop-payoff l =

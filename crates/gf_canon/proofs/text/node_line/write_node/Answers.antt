@@ -1,8 +1,7 @@
-use Rattle.gf_canon.proofs.Common.{rules, label_of, file_node_of, set_use_of}
-use Rattle.gf_canon.proofs.text.node_line.write_node.Goals as goal
-use Rattle.std.proofs.Common.{option_map}
+use Rattle.gf_canon.proofs.Common.{rules, label_of, file_node_of, set_use_of, option_map}
 use Rattle.gf_canon.proofs.lemmas.texts.PlainLines.{null_written, plain_none, plain_some}
 use Rattle.gf_canon.proofs.text.node_line.write_node.Goals.{in-Some+else-is_some, in_default}
+use Rattle.gf_canon.proofs.text.node_line.write_node.Goals as goal
 
 pub returns-in-None-clause-text : goal.returns-in-None-clause-text
 returns-in-None-clause-text c =

@@ -1,8 +1,8 @@
 use Rattle.gf_canon.proofs.Common.{◌≡◌, replicate, ℕ, List, ◌∙◌, ◌∷◌, ap, drop, length, arith, refl}
 use Rattle.gf_canon.proofs.Common.{sym, nat_tests, nil_from_length, label_of, set_use_of, tail_text}
-use Rattle.gf_canon.proofs.text.plain_line.write_plain.Goals as goal
-use Rattle.std.proofs.Common.{option_map}
+use Rattle.gf_canon.proofs.Common.{option_map}
 use Rattle.gf_canon.proofs.lemmas.texts.PlainLines.{named_written, tail_length, unnamed_written}
+use Rattle.gf_canon.proofs.text.plain_line.write_plain.Goals as goal
 
 pub returns-then-is_empty-clause-text : goal.returns-then-is_empty-clause-text
 returns-then-is_empty-clause-text c =

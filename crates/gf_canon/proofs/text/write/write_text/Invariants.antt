@@ -1,6 +1,6 @@
 use Rattle.gf_canon.proofs.Common.{◌≡◌, ◌++◌, Keeps, file_nodes}
-use Rattle.gf_canon.proofs.text.write.write_text.Given as goal
 use Rattle.gf_canon.proofs.lemmas.texts.TextPieces.{node_lines}
+use Rattle.gf_canon.proofs.text.write.write_text.Given as goal
 
 abbrev pub invariant-loop-node : goal.invariant-loop-node
 invariant-loop-node l =

@@ -1,0 +1,7 @@
+use Rattle.gf_canon.proofs.canonise.text_of.Goals as goal
+use Rattle.gf_canon.proofs.lemmas.files.Judged.{text_of_table}
+
+pub returns-in-Strategic-clause-text : goal.returns-in-Strategic-clause-text
+returns-in-Strategic-clause-text c =
+    text_of_table (λ text. text.items) c.args.names c.args.input.now c.are_kept.result
+    c.canonical_nfg.result c.are_kept.ensures c.canonical_nfg.ensures.text
