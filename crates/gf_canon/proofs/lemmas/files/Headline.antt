@@ -60,10 +60,10 @@ own_text bytes text p = record {
 pub same_exactly : (a b : List ℕ) (x y : GameFile) → SpellsWithin a x → SpellsWithin b y
     → MeanSame a b ↔ SameFile x y
 same_exactly a b x y of_x of_y = (
-  λ m. subst (λ (z : GameFile). SameFile x z)
-      (spells_one_file b m.second y m.second_spelled.spelled of_y.spelled)
-      (subst (λ (z : GameFile). SameFile z m.second)
-      (spells_one_file a m.first x m.first_spelled.spelled of_x.spelled) m.same),
+  λ m. rw (
+    spells_one_file a x m.first of_x.spelled m.first_spelled.spelled,
+    spells_one_file b y m.second of_y.spelled m.second_spelled.spelled,
+  ) m.same,
   λ same. record {
     first = x;
     second = y;

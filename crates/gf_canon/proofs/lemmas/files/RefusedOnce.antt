@@ -1,11 +1,11 @@
 -- Each list of bytes means a file of one format, or is refused at one place with one code.
 use Rattle.gf_canon.proofs.Common.{◌≡◌, ℕ, Bool, true, false, List, [], ◌∷◌, ◌++◌, length, refl}
-use Rattle.gf_canon.proofs.Common.{sym, ap, subst, ◌∙◌, inl, inr, ◌⊎◌, codes, pointwise, tokens_of}
-use Rattle.gf_canon.proofs.Common.{IsSpanOf, MayFollow, refusal, Token, Lexeme, Bare, Broken}
-use Rattle.gf_canon.proofs.Common.{Spells, Span, Format, Why, Expected, Memory, same_tokens}
-use Rattle.gf_canon.proofs.Common.{spelled_once, GameFile, extensive, strategic, BeginsWithWord}
-use Rattle.gf_canon.proofs.Common.{IsFormatReason, IsInEitherFormat, IsJudged, IsPlaced, IsRefused}
-use Rattle.gf_canon.proofs.Common.{IsWithoutFormat, MeansFile, SpellsWithin, nat_eq}
+use Rattle.gf_canon.proofs.Common.{sym, ap, ◌∙◌, inl, inr, ◌⊎◌, codes, pointwise, tokens_of}
+use Rattle.gf_canon.proofs.Common.{MayFollow, refusal, Token, Lexeme, Bare, Broken, Spells, Span}
+use Rattle.gf_canon.proofs.Common.{Format, Why, Expected, Memory, same_tokens, spelled_once}
+use Rattle.gf_canon.proofs.Common.{GameFile, extensive, strategic, BeginsWithWord, IsFormatReason}
+use Rattle.gf_canon.proofs.Common.{IsInEitherFormat, IsJudged, IsPlaced, IsRefused, IsWithoutFormat}
+use Rattle.gf_canon.proofs.Common.{MeansFile, SpellsWithin, nat_eq}
 use Rattle.gf_token.specs.Code.{code_of}
 use Rattle.gf_token.specs.Next.{is_bare_token}
 use Rattle.gf_token.proofs.Places.{one_offending_place, one_span}
@@ -66,24 +66,24 @@ refused_at_first bytes ls spelled h =
       (not_memory fault.why bytes fault.span without, of_neither without),
     )
 
+named : (word bytes own : List ℕ) (l : Lexeme) (ls : List Lexeme) → Spells 0 bytes (l ∷ ls)
+    → l.token ≡ Bare own → pointwise nat_eq own word ≡ true → BeginsWithWord word bytes
+named word bytes own l ls spelled is same = record {
+  first = l;
+  others = ls;
+  spelled = spelled;
+  is_word = is ∙ ap Bare (same_bytes own word same);
+}
+
 by_word : (bytes : List ℕ) (l : Lexeme) (ls : List Lexeme) (word : List ℕ) (is_tree is_table : Bool)
     → Spells 0 bytes (l ∷ ls) → l.token ≡ Bare word → pointwise nat_eq word (codes "EFG") ≡ is_tree
     → pointwise nat_eq word (codes "NFG") ≡ is_table → Answered bytes
-by_word bytes l ls word true is_table spelled is tree table = game_or_refused bytes (record {
-  first = l;
-  others = ls;
-  spelled = spelled;
-  is_word = is ∙ ap Bare (same_bytes word (codes "EFG") tree);
-})
-by_word bytes l ls word false true spelled is tree table = table_or_refused bytes (record {
-  first = l;
-  others = ls;
-  spelled = spelled;
-  is_word = is ∙ ap Bare (same_bytes word (codes "NFG") table);
-})
-by_word bytes l ls word false false spelled is tree table = refused_at_first bytes (l ∷ ls) spelled
-    (subst (λ (t : Token). IsNoFormat (t ∷ tokens_of ls)) (sym is)
-    (other_word word (tokens_of ls) tree table))
+by_word bytes l ls word true is_table spelled is tree table =
+    game_or_refused bytes (named (codes "EFG") bytes word l ls spelled is tree)
+by_word bytes l ls word false true spelled is tree table =
+    table_or_refused bytes (named (codes "NFG") bytes word l ls spelled is table)
+by_word bytes l ls word false false spelled is tree table =
+    refused_at_first bytes (l ∷ ls) spelled (rw is (other_word word (tokens_of ls) tree table))
 
 by_token : (bytes : List ℕ) (l : Lexeme) (ls : List Lexeme) (t : Token) → Spells 0 bytes (l ∷ ls)
     → l.token ≡ t → Answered bytes
@@ -141,11 +141,9 @@ without_format_once : (bytes : List ℕ) (why other : Why) (span place : Span)
 without_format_once bytes why other span place h k =
     let same = one_offending_place IsInEitherFormat bytes span place h.place k.place in (
       one_span h.place.after (length bytes) span place h.place.place
-          (subst (λ (ls : List Lexeme). IsSpanOf ls (length bytes) place) (sym same.1)
-          k.place.place),
+          (rw (← same.1) at k.place.place),
       ap code_of (one_reason why other (tokens_of h.place.after) h.reason
-          (subst (λ (ls : List Lexeme). IsFormatReason other (tokens_of ls)) (sym same.1)
-          k.reason)),
+          (rw (← same.1) at k.reason)),
     )
 
 pub refused_once : (bytes : List ℕ) (why other : Why) (span place : Span)

@@ -1,13 +1,13 @@
 -- The canonical numbers as lists.
-use Rattle.gf_canon.proofs.Common.{◌≡◌, ℕ, zero, suc, ◌+◌, ◌<◌, ◌≤◌, ◌^◌, Bool, true, false, List}
-use Rattle.gf_canon.proofs.Common.{[], ◌∷◌, ◌++◌, length, map, get_or, filter, Vec, Global, inl}
-use Rattle.gf_canon.proofs.Common.{inr, refl, sym, ap, ◌∙◌, arith, ◌==◌, AllByRecursion, both_ways}
-use Rattle.gf_canon.proofs.Common.{ne_eqb, Decides-eqb, get_or-map, length-map, map-append}
-use Rattle.gf_canon.proofs.Common.{numbers_from, positions, InformationSet, SetKey, same_set}
-use Rattle.gf_canon.proofs.Common.{Described, first_use_numbers, outcome_numbers, player_keys, Game}
-use Rattle.gf_canon.proofs.Common.{IsGame, used_outcomes, renumbered, IsSpellable, IsSpellableSet}
-use Rattle.gf_canon.proofs.Common.{in_keys, Agree, agreed_games, same_set_equality, Has, IsEquality}
-use Rattle.gf_canon.proofs.Common.{has, canonical_game, nat_eq}
+use Rattle.gf_canon.proofs.Common.{◌≡◌, ℕ, zero, suc, ◌+◌, ◌<◌, ◌≤◌, ◌^◌, Bool, List, [], ◌∷◌, ◌++◌}
+use Rattle.gf_canon.proofs.Common.{length, map, get_or, filter, Vec, Global, inl, inr, refl, sym}
+use Rattle.gf_canon.proofs.Common.{ap, ◌∙◌, arith, ◌==◌, AllByRecursion, ne_eqb, Decides-eqb}
+use Rattle.gf_canon.proofs.Common.{get_or-map, length-map, map-append, numbers_from, positions}
+use Rattle.gf_canon.proofs.Common.{InformationSet, SetKey, same_set, Described, first_use_numbers}
+use Rattle.gf_canon.proofs.Common.{outcome_numbers, player_keys, Game, IsGame, used_outcomes}
+use Rattle.gf_canon.proofs.Common.{renumbered, IsSpellable, IsSpellableSet, in_keys, Agree}
+use Rattle.gf_canon.proofs.Common.{agreed_games, same_set_equality, Has, IsEquality, has}
+use Rattle.gf_canon.proofs.Common.{canonical_game, nat_eq}
 use Rattle.gf_nfg.proofs.lemmas.tables.NumbersInTurn.{get_or-numbers_from, length-numbers_from}
 use Rattle.gf_nfg.proofs.lemmas.tables.NumbersInTurn.{numbers_joined}
 use Rattle.gf_tree.specs.Listed.{AreListed, AreNumbers, listed_numbers, number_listed}
@@ -20,11 +20,7 @@ use Rattle.gf_canon.proofs.lemmas.numbers.InOrder.{outcomes_in_order, sets_in_or
 -- one more number
 pub number_more : (n : ℕ) (numbers more : List ℕ) → numbers ≡ positions n
     → more ≡ numbers ++ (n + 1) ∷ [] → more ≡ positions (n + 1)
-number_more n numbers more is e =
-    let next : 1 + n ≡ n + 1 = omega arith in
-    e ∙ ap (λ (ns : List ℕ). ns ++ (n + 1) ∷ []) is
-    ∙ ap (λ (k : ℕ). positions n ++ k ∷ []) (sym next)
-    ∙ numbers_joined 1 n 1
+number_more n numbers more is e = let joined = numbers_joined 1 n 1 in grind arith
 
 no_less : (first n x : ℕ) → Has (numbers_from first n) x → first ≤ x
 no_less first zero x h = absurd h
@@ -44,10 +40,7 @@ are_numbers first (suc n) h = (
 none_of_him : (player : ℕ) (sets : List (Described SetKey InformationSet)) → 2 ^ 32 ≤ player
     → AllByRecursion IsSpellableSet sets → filter (λ s. s.key.player == player) sets ≡ []
 none_of_him player [] past h = refl
-none_of_him player (s ∷ sets) past h =
-    let other : (s.key.player == player) ≡ false =
-    ne_eqb s.key.player player (λ e. omega (arith, past, h.0.player, e)) in
-    rw other (none_of_him player sets past h.1)
+none_of_him player (s ∷ sets) past h = grind (arith, ne_eqb, none_of_him player sets past h.1)
 
 pub no_numbers : (g : Game) (player : ℕ) → 2 ^ 32 ≤ player → IsSpellable g
     → [] ≡ positions (length (player_keys g player))
@@ -68,14 +61,7 @@ pub list_more : (g : Game) (at : ℕ) (lists more : List (Vec ℕ Global)) (own 
     → map (λ own. own.items) lists ≡ lists_through g at → own.items ≡ own_list g (at + 1)
     → more ≡ lists ++ own ∷ [] → map (λ own. own.items) more ≡ lists_through g (at + 1)
 list_more g at lists more own before is e =
-    let items : Vec ℕ Global → List ℕ = λ own. own.items in
-    let next : 0 + (at + 1) ≡ at + 1 = omega arith in
-    ap (map items) e
-    ∙ map-append items lists (own ∷ [])
-    ∙ (λ i. before i ++ is i ∷ [])
-    ∙ sym (map-append (own_list g) (numbers_from 0 (at + 1)) ((at + 1) ∷ []))
-    ∙ ap (λ (k : ℕ). map (own_list g) (numbers_from 0 (at + 1) ++ k ∷ [])) (sym next)
-    ∙ ap (map (own_list g)) (numbers_joined 0 (at + 1) 1)
+    let joined = numbers_joined 0 (at + 1) 1 in grind (arith, map-append)
 
 own_there : (g : Game) (player : ℕ) → player ≤ length g.players
     → get_or (lists_in_order g) player [] ≡ own_list g player
@@ -110,15 +96,8 @@ listed_in_order g =
 number_of_map : {K : Type 0} (same : K → K → Bool) → IsEquality same → (f : K → ℕ) (ks : List K)
     (key : K) → Has ks key → number_listed same ks (map f ks) key ≡ f key
 number_of_map same tells f [] key h = absurd h
-number_of_map {K} same tells f (k ∷ ks) key h =
-    by (same k key) refl h (number_of_map same tells f ks key)
-  where
-    by : (b : Bool) → same k key ≡ b → Has (k ∷ ks) key
-        → (Has ks key → number_listed same ks (map f ks) key ≡ f key)
-        → number_listed same (k ∷ ks) (map f (k ∷ ks)) key ≡ f key
-    by true e h more = rw e (ap f ((tells k key).0 e))
-    by false e (inl q) more = absurd (both_ways (same k key) e ((tells k key).1 q))
-    by false e (inr m) more = rw e (more m)
+number_of_map same tells f (k ∷ ks) key h =
+    grind (arith, tells, number_of_map same tells f ks key)
 
 listed_agree : (g : Game) → IsGame g
     → Agree (listed_numbers g (lists_in_order g) (positions (length (outcome_numbers g))))

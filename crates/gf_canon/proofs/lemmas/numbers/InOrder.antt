@@ -15,12 +15,9 @@ numbers_on : {K : Type 0} (same : K → K → Bool)
     → map (first_use_number same ks) after ≡ numbers_from (length before + 1) (length after)
 numbers_on same tells ks before [] e = refl
 numbers_on same tells ks before (key ∷ after) e =
-    let rest = numbers_on same tells ks (before ++ key ∷ []) after
-    (e ∙ sym (append_assoc before (key ∷ []) after)) in
-    let size : length (before ++ key ∷ []) + 1 ≡ length before + 1 + 1 =
-    omega (arith, length-append before (key ∷ [])) in
-    λ i. number_at same tells ks before after key e i
-    ∷ (rest ∙ ap (λ n. numbers_from n (length after)) size) i
+    let here = number_at same tells ks before after key e in
+    let rest = numbers_on same tells ks (before ++ key ∷ []) after in
+    grind (arith, append_assoc, length-append)
 
 pub numbered_in_order : {K : Type 0} (same : K → K → Bool) → IsEquality same → (ks : List K)
     → map (first_use_number same ks) (first_uses same ks)

@@ -1,15 +1,14 @@
 -- The new numbers that are noted node by node are those of the renumbering that carries one game to
 -- the other.
-use Rattle.gf_canon.proofs.Common.{◌≡◌, ℕ, zero, suc, Bool, true, false, cond, List, [], ◌∷◌, map}
-use Rattle.gf_canon.proofs.Common.{Option, None, Some, refl, sym, ap, subst, ◌∙◌, inl, inr, arith}
-use Rattle.gf_canon.proofs.Common.{◌↔◌, IsSome, is_some, nat_eq, option_map, unwrap_or, filter_map}
-use Rattle.gf_canon.proofs.Common.{cons_option, BTreeMap, get, is_eq, nat_cmp, Decides-eqb}
-use Rattle.gf_canon.proofs.Common.{nat_tests, SetKey, same_set, set_of, Game, IsGame, Node}
-use Rattle.gf_canon.proofs.Common.{outcome_at, set_at, used_outcomes, used_sets, Entry, flatten}
-use Rattle.gf_canon.proofs.Common.{HasOutcome, HasSet, renumbered_node, renumbered_set, flatten_map}
-use Rattle.gf_canon.proofs.Common.{map_entry, map_twice, Agree, agreed_trees}
-use Rattle.gf_canon.proofs.Common.{outcome_number_positive, same_set_equality, Has, IsEquality}
-use Rattle.gf_canon.proofs.Common.{contains, has, IsOnlyRenumbering, new_numbers}
+use Rattle.gf_canon.proofs.Common.{◌≡◌, ℕ, zero, suc, Bool, cond, List, [], ◌∷◌, map, Option, None}
+use Rattle.gf_canon.proofs.Common.{Some, refl, sym, ap, subst, ◌∙◌, inl, inr, arith, ◌↔◌, IsSome}
+use Rattle.gf_canon.proofs.Common.{nat_eq, option_map, unwrap_or, filter_map, cons_option, BTreeMap}
+use Rattle.gf_canon.proofs.Common.{get, is_eq, nat_cmp, Decides-eqb, nat_tests, SetKey, same_set}
+use Rattle.gf_canon.proofs.Common.{set_of, Game, IsGame, Node, outcome_at, set_at, used_outcomes}
+use Rattle.gf_canon.proofs.Common.{used_sets, Entry, flatten, HasOutcome, HasSet, renumbered_node}
+use Rattle.gf_canon.proofs.Common.{renumbered_set, flatten_map, map_entry, map_twice, Agree}
+use Rattle.gf_canon.proofs.Common.{agreed_trees, outcome_number_positive, same_set_equality, Has}
+use Rattle.gf_canon.proofs.Common.{IsEquality, contains, has, IsOnlyRenumbering, new_numbers}
 use Rattle.gf_canon.proofs.Common.{new_outcome_number, new_set_number, number_of_set, set_order}
 use Rattle.gf_canon.proofs.Common.{Carries, SameGame, only_outcomes, only_sets, ◌⊎◌}
 use Rattle.gf_canon.specs.inner.Noted.{noted}
@@ -41,69 +40,30 @@ pub record AreNoted {K : Type 0} (f : K → ℕ) (had : K → Option ℕ) (all l
 
 pub none_noted : {K : Type 0} (f : K → ℕ) (had : K → Option ℕ) (all : List K)
     → ((k : K) → had k ≡ None) → AreNoted f had all all
-none_noted f had all none = record {
-  sound = λ k n e. absurd (cc (none k));
-  complete = λ k h. inr h;
-  part = λ k h. h;
-}
+none_noted f had all none = grind arith
 
 module _ {K : Type 0} (same : K → K → Bool) (tells : IsEquality same) (f number : K → ℕ)
     (had now : K → Option ℕ) (all : List K) where
   pub one_noted : (old new : Option K) (left : List K) → AreNoted f had all (cons_option old left)
       → option_map number new ≡ option_map f old
       → ((k : K) → now k ≡ noted same number old new had k) → AreNoted f now all left
-  one_noted None new left h image is = record {
-    sound = λ k n e. h.sound k n (sym (is k) ∙ e);
-    complete = λ k i. subst (λ o. IsSome o ⊎ Has left k) (sym (is k)) (h.complete k i);
-    part = h.part;
-  }
+  one_noted None new left h image is = grind arith
   one_noted (Some old) None left h image is = absurd cc
-  one_noted (Some old) (Some new) left h image is = record {
-    sound = λ k n e. sound k n (same old k) refl (sym (is k) ∙ e);
-    complete = λ k i. subst (λ o. IsSome o ⊎ Has left k) (sym (is k))
-        (complete k (same old k) refl (h.complete k i));
-    part = λ k i. h.part k (inr i);
-  }
-    where
-      value : number new ≡ f old
-      value = cc
-
-      sound : (k : K) (n : ℕ) (b : Bool) → same old k ≡ b
-          → cond (same old k) (Some (number new)) (had k) ≡ Some n → Has all k × (n ≡ f k)
-      sound k n true at e =
-          let is_old : old ≡ k = (tells old k).0 at in
-          let value_at : Some (number new) ≡ Some n =
-          ap (λ b. cond b (Some (number new)) (had k)) (sym at) ∙ e in
-          let given : number new ≡ n = cc in
-          (subst (Has all) is_old (h.part old (inl refl)), sym given ∙ value ∙ ap f is_old)
-      sound k n false at e =
-          h.sound k n (ap (λ b. cond b (Some (number new)) (had k)) (sym at) ∙ e)
-
-      complete : (k : K) (b : Bool) → same old k ≡ b → IsSome (had k) ⊎ Has (old ∷ left) k
-          → IsSome (cond (same old k) (Some (number new)) (had k)) ⊎ Has left k
-      complete k true at i = rw at (inl refl)
-      complete k false at (inl some) = rw at (inl some)
-      complete k false at (inr (inl e)) =
-          let yes : same old k ≡ true = (tells old k).1 e in absurd cc
-      complete k false at (inr (inr i)) = inr i
+  one_noted (Some old) (Some new) left h image is =
+      let value : number new ≡ f old = cc in record {
+        sound = λ k n e. grind (arith, tells, h.sound k n, h.part old);
+        complete = λ k i. grind (arith, tells, h.complete k i);
+        part = λ k i. h.part k (inr i);
+      }
 
 -- at the end
 module _ {K : Type 0} (f : K → ℕ) (had : K → Option ℕ) (all : List K)
     (noted_all : AreNoted f had all []) where
   number_is : (k : K) → Has all k → had k ≡ Some (f k)
-  number_is k i = by (had k) refl (noted_all.complete k i)
-    where
-      by : (o : Option ℕ) → had k ≡ o → IsSome (had k) ⊎ Has [] k → had k ≡ Some (f k)
-      by (Some n) e h = e ∙ ap Some (noted_all.sound k n e).1
-      by None e (inl some) = absurd (cc (ap is_some e, some))
-      by None e (inr i) = absurd i
+  number_is k i = grind (arith, noted_all.complete k i, noted_all.sound k)
 
   one_of_all : (k : K) → IsSome (had k) → Has all k
-  one_of_all k some = by (had k) refl
-    where
-      by : (o : Option ℕ) → had k ≡ o → Has all k
-      by (Some n) e = (noted_all.sound k n e).0
-      by None e = absurd (cc (ap is_some e, some))
+  one_of_all k some = grind (arith, noted_all.sound k)
 
 -- ---- nodes one after another
 

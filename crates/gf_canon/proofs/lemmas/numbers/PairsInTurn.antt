@@ -3,9 +3,8 @@ use Rattle.gf_canon.proofs.Common.{◌≡◌, ℕ, suc, ◌+◌, ◌^◌, ◌≤
 use Rattle.gf_canon.proofs.Common.{refl, sym, ap, ◌∙◌, append_assoc, arith, flat_map-append}
 use Rattle.gf_canon.proofs.Common.{append-nil, flat_map, numbers_from, positions, at_position}
 use Rattle.gf_canon.proofs.Common.{SetKey, player_keys, Game, Renumbering, IsSpellable}
-use Rattle.gf_canon.proofs.Common.{outcome_pairs, renumbering_pairs, set_pairs, NumberPair, Set}
-use Rattle.gf_canon.proofs.Common.{take, get_or, Some, option_map, ◌<◌, take_all, length-map}
-use Rattle.gf_canon.proofs.Common.{get_or-map}
+use Rattle.gf_canon.proofs.Common.{outcome_pairs, renumbering_pairs, set_pairs, NumberPair, take}
+use Rattle.gf_canon.proofs.Common.{get_or, Some, option_map, ◌<◌, take_all, length-map, get_or-map}
 use Rattle.std.proofs.lemmas.List.{take_more}
 use Rattle.std.proofs.lemmas.Option.{slice_get-get_or, slice_get-map}
 use Rattle.gf_nfg.proofs.lemmas.tables.NumbersInTurn.{numbers_joined}
@@ -55,29 +54,14 @@ module _ (f : ℕ → List NumberPair) where
       → pairs ≡ start ++ flat_map f (numbers_from 0 (before + 1)) → more ≡ pairs ++ f (before + 1)
       → more ≡ start ++ flat_map f (numbers_from 0 (before + 1 + 1))
   player_more before start pairs more now e =
-      let so_far = numbers_from 0 (before + 1) in
-      let next : 0 + (before + 1) ≡ before + 1 = omega arith in
-      let joined : so_far ++ (before + 1) ∷ [] ≡ numbers_from 0 (before + 1 + 1) =
-      ap (λ (k : ℕ). so_far ++ k ∷ []) (sym next) ∙ numbers_joined 0 (before + 1) 1 in
-      e
-      ∙ ap (λ (ps : List NumberPair). ps ++ f (before + 1)) now
-      ∙ append_assoc start (flat_map f so_far) (f (before + 1))
-      ∙ ap (λ (ps : List NumberPair). start ++ (flat_map f so_far ++ ps))
-      (sym (append-nil (f (before + 1))))
-      ∙ ap (λ (ps : List NumberPair). start ++ ps)
-      (sym (flat_map-append f so_far ((before + 1) ∷ [])))
-      ∙ ap (λ (ks : List ℕ). start ++ flat_map f ks) joined
+      let joined = numbers_joined 0 (before + 1) 1 in
+      grind (arith, append_assoc, flat_map-append, append-nil)
 
 -- all players' pairs, and then those of outcomes
 pub all_pairs : (r : Renumbering) (g : Game) (before : ℕ) (start pairs : List NumberPair)
     → pairs ≡ start ++ flat_map (set_pairs r g) (numbers_from 0 (before + 1))
     → before ≡ length g.players → pairs ++ outcome_pairs r g ≡ start ++ renumbering_pairs r g
-all_pairs r g before start pairs now all =
-    let sets : ℕ → List NumberPair = λ k. flat_map (set_pairs r g) (numbers_from 0 k) in
-    let count : before + 1 ≡ suc (length g.players) = omega (arith, all) in
-    ap (λ (ps : List NumberPair). ps ++ outcome_pairs r g) now
-    ∙ append_assoc start (sets (before + 1)) (outcome_pairs r g)
-    ∙ ap (λ (k : ℕ). start ++ (sets k ++ outcome_pairs r g)) count
+all_pairs r g before start pairs now all = grind (arith, append_assoc)
 
 -- ---- a player past the last number has no sets
 
@@ -88,8 +72,4 @@ no_keys (key ∷ keys) e = absurd cc
 pub no_pairs : (r : Renumbering) (g : Game) (player : ℕ) (pairs : List NumberPair) → 2 ^ 32 ≤ player
     → IsSpellable g → pairs ≡ pairs ++ set_pairs r g player
 no_pairs r g player pairs past can =
-    let none = no_keys (player_keys g player) (no_numbers g player past can) in
-    sym (append-nil pairs)
-    ∙ ap (λ (keys : List SetKey). pairs
-    ++ map (λ number. Set player number (r.set player number))
-    (map (λ (key : SetKey). key.number) keys)) (sym none)
+    cc (no_keys (player_keys g player) (no_numbers g player past can), append-nil pairs)

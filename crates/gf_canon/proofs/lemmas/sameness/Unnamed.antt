@@ -1,12 +1,11 @@
 -- Without its names a game is still a game, and games that are the same are also the same aside
 -- from names.
 use Rattle.gf_canon.proofs.Common.{arith, ◌≡◌, ℕ, Bool, List, [], ◌∷◌, length, map, Option, Some}
-use Rattle.gf_canon.proofs.Common.{None, refl, sym, ap, subst, ◌∙◌, nat_eq, option_map, MatchOption}
-use Rattle.gf_canon.proofs.Common.{◌↔◌, AllByRecursion, Contains, filter_map, cons_option, IsLabel}
-use Rattle.gf_canon.proofs.Common.{Table, Entry, flatten, SetKey, InformationSet, same_set, set_of}
-use Rattle.gf_canon.proofs.Common.{Described, description_at, first_uses, Node, Game, IsGame}
-use Rattle.gf_canon.proofs.Common.{HasChildren, used_sets, used_outcomes, set_at, outcome_at}
-use Rattle.gf_canon.proofs.Common.{IsSpellable, Renumbering, IsRenumbering, HasSet, HasOutcome}
+use Rattle.gf_canon.proofs.Common.{refl, sym, ap, subst, ◌∙◌, nat_eq, option_map, MatchOption, ◌↔◌}
+use Rattle.gf_canon.proofs.Common.{AllByRecursion, filter_map, cons_option, IsLabel, Table, Entry}
+use Rattle.gf_canon.proofs.Common.{flatten, SetKey, same_set, Described, description_at, first_uses}
+use Rattle.gf_canon.proofs.Common.{Node, Game, IsGame, HasChildren, used_sets, used_outcomes}
+use Rattle.gf_canon.proofs.Common.{set_at, outcome_at, IsSpellable, Renumbering, IsRenumbering}
 use Rattle.gf_canon.proofs.Common.{renumbered_set, renumbered_node, map_entry, flatten_map}
 use Rattle.gf_canon.proofs.Common.{map_twice, map_tree_twice, Carries, GameFile, SpellsFile}
 use Rattle.gf_canon.proofs.Common.{SameFile, canonical_text, file_text, extensive, strategic}
@@ -16,7 +15,6 @@ use Rattle.gf_fraction.proofs.AllElements.{all_images, all_weaker}
 use Rattle.gf_nfg.specs.SameTable.{SamePlay}
 use Rattle.gf_nfg.proofs.lemmas.texts.OneTable.{text_reads_back as table_reads_back}
 use Rattle.gf_nfg.proofs.lemmas.tables.Spelled.{spelled_is_spellable as spelled_table}
-use Rattle.gf_tree.specs.Tree.{map_tree}
 use Rattle.gf_tree.proofs.lemmas.games.Spelled.{spelled_is_spellable as spelled_game}
 use Rattle.gf_canon.proofs.lemmas.texts.ReadsBack.{text_reads_back}
 use Rattle.gf_canon.proofs.lemmas.files.Texts.{equal_canonical_texts}
@@ -61,18 +59,11 @@ unnamed_outcome_at g number = description_redescribed nat_eq unnamed_outcome g.o
 
 -- ---- a game still
 
-length_of : (o : Option InformationSet)
-    → option_map (λ s. length s.actions) (option_map unnamed_set o)
-    ≡ option_map (λ s. length s.actions) o
-length_of None = refl
-length_of (Some set) = refl
-
 children_by : (g : Game) (o : Option SetKey) (n : ℕ)
     → MatchOption o (n ≡ 0) (λ key. option_map (λ s. length s.actions) (set_at g key) ≡ Some n)
     → MatchOption o (n ≡ 0)
     (λ key. option_map (λ s. length s.actions) (set_at (unnamed_game g) key) ≡ Some n)
-children_by g None n h = h
-children_by g (Some key) n h = cc (unnamed_set_at g key, length_of (set_at g key))
+children_by g o n h = grind (arith, unnamed_set_at)
 
 pub unnamed_is_game : (g : Game) → IsGame g → IsGame (unnamed_game g)
 unnamed_is_game g game = record {
@@ -107,18 +98,8 @@ unnamed_is_spellable g can = record {
 
 renumbering_still : (g : Game) (r : Renumbering) → IsRenumbering g r
     → IsRenumbering (unnamed_game g) r
-renumbering_still g r h = record {
-  positive_sets = λ player number i. h.positive_sets player number (set player number i);
-  positive_outcomes = λ number i. h.positive_outcomes number (outcome number i);
-  sets_apart = λ player a b i j e. h.sets_apart player a b (set player a i) (set player b j) e;
-  outcomes_apart = λ a b i j e. h.outcomes_apart a b (outcome a i) (outcome b j) e;
-}
-  where
-    set : (player number : ℕ) → HasSet (unnamed_game g) player number → HasSet g player number
-    set player number i = subst (λ ks. Contains ks (set_of player number)) (unnamed_sets g) i
-
-    outcome : (number : ℕ) → HasOutcome (unnamed_game g) number → HasOutcome g number
-    outcome number i = subst (λ ns. Contains ns number) (unnamed_outcomes g) i
+renumbering_still g r h =
+    let sets = unnamed_sets g in let outcomes = unnamed_outcomes g in grind arith
 
 carries_aside : (r : Renumbering) (g h : Game) → Carries r g h
     → Carries r (unnamed_game g) (unnamed_game h)
@@ -127,16 +108,21 @@ carries_aside r g h c = record {
   title = refl;
   comment = refl;
   players = c.players;
-  tree = map_tree_twice (renumbered_node r) unnamed_node g.tree
-      ∙ sym (map_tree_twice unnamed_node (renumbered_node r) g.tree)
-      ∙ ap (map_tree unnamed_node) c.tree;
-  sets = λ key i. unnamed_set_at g key
-      ∙ ap (option_map unnamed_set) (c.sets key (subst (λ ks. Contains ks key) (unnamed_sets g) i))
-      ∙ sym (unnamed_set_at h (renumbered_set r key));
-  outcomes = λ number i. unnamed_outcome_at g number
-      ∙ ap (option_map unnamed_outcome)
-      (c.outcomes number (subst (λ ns. Contains ns number) (unnamed_outcomes g) i))
-      ∙ sym (unnamed_outcome_at h (r.outcome number));
+  tree = cc (
+    c.tree,
+    map_tree_twice (renumbered_node r) unnamed_node g.tree,
+    map_tree_twice unnamed_node (renumbered_node r) g.tree,
+  );
+  sets = λ key i. cc (
+    unnamed_set_at g key,
+    unnamed_set_at h (renumbered_set r key),
+    c.sets key (rw unnamed_sets at i),
+  );
+  outcomes = λ number i. cc (
+    unnamed_outcome_at g number,
+    unnamed_outcome_at h (r.outcome number),
+    c.outcomes number (rw unnamed_outcomes at i),
+  );
 }
 
 pub same_is_so_aside : (x y : GameFile) → SameFile x y → SameAsideNames x y

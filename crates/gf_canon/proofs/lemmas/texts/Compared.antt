@@ -13,10 +13,10 @@ pub same_as_read : (names : Names) (answer : Bool) (a b : List ℕ) (first secon
     → SpellsWithin a first → SpellsWithin b second → IsTrue answer ↔ SameBy names first second
     → (x y : GameFile) → SpellsWithin a x → SpellsWithin b y → IsTrue answer ↔ SameBy names x y
 same_as_read names answer a b first second of_a of_b same x y of_x of_y =
-    subst (λ (z : GameFile). IsTrue answer ↔ SameBy names z y)
-    (spells_one_file a first x of_a.spelled of_x.spelled)
-    (subst (λ (z : GameFile). IsTrue answer ↔ SameBy names first z)
-    (spells_one_file b second y of_b.spelled of_y.spelled) same)
+    rw (
+      spells_one_file a x first of_x.spelled of_a.spelled,
+      spells_one_file b y second of_y.spelled of_b.spelled,
+    ) same
 
 -- files that both mean something are refused only for lack of memory
 memory_alone : (a b : List ℕ) (fault : SameFault) (x y : GameFile) → SpellsWithin a x
