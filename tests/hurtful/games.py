@@ -1,7 +1,6 @@
 """What the files made to hurt have in common: a game as the program is given it, with the answer of
 each command, and how texts of games are spelled.
 """
-import hashlib
 from typing import NamedTuple, Union
 
 # The most bytes that an input has.
@@ -70,20 +69,19 @@ def without_title(text):
     return text[:head] + text[text.index('" {', head) :]
 
 
-def hashed(text, file, other):
-    """What is answered by the hash of a text, if there is one, and about duplicates."""
+def duplicated(text, file, other):
+    """What is answered about duplicates, by the hashes of a text, if there is one."""
     if isinstance(text, Answer):
         # (out of memory at the end of each file)
         lines = [f"{name}: E19 at {len(data)}..{len(data)}" for name, data in (("file", file), ("other", other))]
-        return {"hash": ended(lines[0], 5), "duplicates": ended("\n".join(lines), 5)}
-    digest = hashlib.sha256(text.encode()).hexdigest()
-    return {"hash": answer_of(f"{digest}  file\n"), "duplicates": Answer(b"file\nother\n", status=1)}
+        return ended("\n".join(lines), 5)
+    return Answer(b"file\nother\n", status=1)
 
 
 def accepted(kind, file, text, *, form=None, other=None, lines=""):
     """A game whose file is accepted: with its canonical text, its strategic form, which is the text if it
-    is not given, and the lines of the renumbering that carries it to the other file. The reduced form is
-    as the form.
+    is not given, and the lines of the renumbering that carries it to the other file. The reduced form of
+    a tree is as the form.
     """
     # Files that are equal byte by byte would say little about `same`.
     data, same = file.encode(), (f"{file}\n" if other is None else other).encode()
@@ -93,13 +91,14 @@ def accepted(kind, file, text, *, form=None, other=None, lines=""):
         "check": Answer(f"{kind}\n".encode()),
         "canon": written,
         "plain": written if isinstance(text, Answer) else answer_of(without_title(text)),
-        **hashed(text, data, same),
+        "duplicates": duplicated(text, data, same),
         "table": form,
-        "reduced": form,
         "same": Answer(b"same\n"),
         "aside": Answer(b"same\n"),
         "map": Answer(f"same\n{lines}".encode()),
     }
+    if kind == "tree":
+        answers["reduced"] = form
     return Game(data, same, answers)
 
 
@@ -108,9 +107,9 @@ def refused(file, line):
     data, size = file.encode(), len(file)
     # The other file ends a byte later.
     other_line = line.replace(f" {size}..{size}", f" {size + 1}..{size + 1}")
-    alone = dict.fromkeys(("check", "canon", "plain", "table", "reduced"), ended(line))
+    alone = dict.fromkeys(("check", "canon", "plain", "table"), ended(line))
     compared = dict.fromkeys(("same", "aside", "map"), ended(f"A: {line}"))
-    named = {"hash": ended(f"file: {line}"), "duplicates": ended(f"file: {line}\nother: {other_line}")}
+    named = {"duplicates": ended(f"file: {line}\nother: {other_line}")}
     return Game(data, data + b"\n", alone | compared | named)
 
 
