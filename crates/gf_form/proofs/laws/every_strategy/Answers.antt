@@ -1,5 +1,4 @@
-use Rattle.std.proofs.Common.{[]}
-use Rattle.gf_form.specs.Strategies.{action_counts}
+use Rattle.gf_form.proofs.Common.{[], action_counts}
 use Rattle.gf_form.proofs.lemmas.strategies.Choices.{every_choice, length-all_choices}
 use Rattle.gf_form.proofs.lemmas.strategies.Choices.{choices_distinct}
 use Rattle.gf_form.proofs.lemmas.strategies.StrategyLabels.{labels_differ}

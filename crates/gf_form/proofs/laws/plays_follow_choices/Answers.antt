@@ -1,5 +1,4 @@
-use Rattle.gf_tree.proofs.lemmas.games.Uses.{has}
-use Rattle.gf_form.specs.Plays.{plays}
+use Rattle.gf_form.proofs.Common.{has, plays}
 use Rattle.gf_form.proofs.lemmas.values.Following.{follows_moves, same_or_part}
 use Rattle.gf_form.proofs.lemmas.values.Whole.{some_play, whole}
 use Rattle.gf_form.proofs.laws.plays_follow_choices.Goals as goal

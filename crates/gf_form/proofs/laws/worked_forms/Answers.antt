@@ -1,8 +1,8 @@
 use Rattle.gf_form.proofs.lemmas.form.Worked.{plays_of_bonus, form_of_bonus, greatest_payoff}
-use Rattle.gf_form.proofs.lemmas.form.Worked.{no_value}
-use Rattle.gf_form.proofs.lemmas.form.Worked.{unlikely_payoff, no_value_either, balanced_payoff}
-use Rattle.gf_form.proofs.lemmas.form.Worked.{no_balanced_value, form_of_ending, reduced_of_ending}
-use Rattle.gf_form.proofs.lemmas.form.Worked.{both_strategies, contradicted_strategies}
+use Rattle.gf_form.proofs.lemmas.form.Worked.{no_value, unlikely_payoff, no_value_either}
+use Rattle.gf_form.proofs.lemmas.form.Worked.{balanced_payoff, no_balanced_value, form_of_ending}
+use Rattle.gf_form.proofs.lemmas.form.Worked.{reduced_of_ending, both_strategies}
+use Rattle.gf_form.proofs.lemmas.form.Worked.{contradicted_strategies}
 use Rattle.gf_form.proofs.lemmas.form.WorkedGames.{worked_games}
 use Rattle.gf_form.proofs.laws.worked_forms.Goals as goal
 

@@ -1,19 +1,9 @@
 -- A table of labels and of rows that are right at its profiles is a form of a game.
-use Rattle.std.proofs.Common.{◌≡◌, ℕ, ◌*◌, ◌<◌, ◌≤◌, List, ◌∷◌, length, map, sym, ap, ◌∙◌}
-use Rattle.std.proofs.Common.{arith}
-use Rattle.std.specs.List.{AllByRecursion, AllZip}
-use Rattle.gf_fraction.specs.Ratio.{Ratio, IsFraction}
-use Rattle.gf_nfg.specs.Limit.{profile_limit}
-use Rattle.gf_nfg.specs.Profiles.{product}
-use Rattle.gf_nfg.specs.Table.{Table}
-use Rattle.gf_nfg.specs.TableAccess.{IsTableOf}
-use Rattle.gf_nfg.proofs.lemmas.tables.Profiles.{length-profiles}
-use Rattle.gf_nfg.proofs.lemmas.tables.NumbersInTurn.{length-numbers_from}
-use Rattle.gf_tree.specs.Game.{Game}
+use Rattle.gf_form.proofs.Common.{◌≡◌, ℕ, ◌*◌, ◌<◌, ◌≤◌, List, ◌∷◌, length, map, sym, ap, ◌∙◌}
+use Rattle.gf_form.proofs.Common.{arith, AllByRecursion, AllZip, Ratio, IsFraction, profile_limit}
+use Rattle.gf_form.proofs.Common.{product, Table, IsTableOf, length-profiles, length-numbers_from}
+use Rattle.gf_form.proofs.Common.{Game, AreRowsAt, ArePayoffsAt, IsFormBy, players_of}
 use Rattle.gf_form.specs.inner.rows.FitsTable.{FitsTable}
-use Rattle.gf_form.specs.inner.rows.ProfileRows.{AreRowsAt}
-use Rattle.gf_form.specs.StrategicForm.{ArePayoffsAt, IsFormBy}
-use Rattle.gf_form.specs.Strategies.{players_of}
 use Rattle.gf_form.proofs.lemmas.strategies.CountedActions.{as_many_players}
 use Rattle.gf_form.proofs.lemmas.form.FormTables.{as_many, some_labels}
 use Rattle.gf_form.proofs.lemmas.form.Forms.{form_profiles}

@@ -1,22 +1,12 @@
 -- A form of a game is a table; the strategic form.
-use Rattle.std.proofs.Common.{◌≡◌, ℕ, suc, ◌<◌, Bool, true, false, List, [], ◌∷◌, cond, length, map}
-use Rattle.std.proofs.Common.{sym, ap, ◌∙◌, subst, arith}
-use Rattle.std.specs.Prelude.{◌==◌, filter}
-use Rattle.std.specs.List.{AllByRecursion, AllZip}
-use Rattle.std.proofs.lemmas.List.{length-map}
-use Rattle.std.proofs.lemmas.Result.{IfOk-weaker}
-use Rattle.gf_fraction.specs.Ratio.{Ratio}
-use Rattle.gf_fraction.proofs.AllElements.{all_images}
-use Rattle.gf_fraction.proofs.Products.{mul_above}
-use Rattle.gf_nfg.specs.Profiles.{product}
-use Rattle.gf_nfg.specs.Table.{Entry, Table, IsTable}
-use Rattle.gf_nfg.proofs.lemmas.tables.NumbersInTurn.{length-numbers_from}
-use Rattle.gf_tree.specs.Description.{SetKey, InformationSet, IsSet}
-use Rattle.gf_tree.specs.FiniteMap.{Described}
-use Rattle.gf_tree.specs.Game.{Game, IsGame}
-use Rattle.gf_tree.proofs.lemmas.games.Uses.{Has, all_of_each, each}
-use Rattle.gf_form.specs.Strategies.{action_counts, strategies, players_of}
-use Rattle.gf_form.specs.StrategicForm.{ArePayoffsAt, IsFormBy, IsStrategicForm, strategy_labels}
+use Rattle.gf_form.proofs.Common.{◌≡◌, ℕ, suc, ◌<◌, List, [], ◌∷◌, length, map, sym, ap, ◌∙◌, subst}
+use Rattle.gf_form.proofs.Common.{arith, ◌==◌, filter, AllByRecursion, AllZip, length-map}
+use Rattle.gf_form.proofs.Common.{IfOk-weaker, Ratio, all_images, mul_above, product, Table}
+use Rattle.gf_form.proofs.Common.{IsTable, length-numbers_from, SetKey, InformationSet, IsSet}
+use Rattle.gf_form.proofs.Common.{Described, Game, IsGame, Has, all_of_each, each, action_counts}
+use Rattle.gf_form.proofs.Common.{strategies, players_of, ArePayoffsAt, IsFormBy, IsStrategicForm}
+use Rattle.gf_form.proofs.Common.{strategy_labels}
+use Rattle.gf_nfg.specs.Table.{Entry}
 use Rattle.gf_form.proofs.lemmas.strategies.Choices.{length-all_choices}
 
 pub as_many : {A B : Type 0} (R : A → B → Type 0) (xs : List A) (ys : List B) → AllZip R xs ys
@@ -30,14 +20,7 @@ pub product_above : (players player : ℕ) (ss : List (Described SetKey Informat
     < product (map (λ s. length s.description.actions) (filter (λ s. s.key.player == player) ss))
 product_above players player [] h = omega arith
 product_above players player (s ∷ ss) h =
-    by_owner (s.key.player == player) (product_above players player ss h.1)
-  where
-    by_owner : (b : Bool) → 0 < product
-        (map (λ s. length s.description.actions) (filter (λ s. s.key.player == player) ss))
-        → 0 < product (map (λ s. length s.description.actions) (cond b
-        (s ∷ filter (λ s. s.key.player == player) ss) (filter (λ s. s.key.player == player) ss)))
-    by_owner true others = mul_above _ _ h.0.some_action others
-    by_owner false others = others
+    grind (arith, mul_above, product_above players player ss h.1)
 
 -- a player has a strategy
 pub some_strategy : (g : Game) → IsGame g → (player : ℕ) → 0 < length (strategies g player)

@@ -1,23 +1,13 @@
 -- Forms of a game: there is at most one, and one exists if there are payoffs at each profile.
-use Rattle.std.proofs.Common.{◌≡◌, ℕ, List, [], ◌∷◌, length, map, arith, refl, sym, ap, subst}
-use Rattle.std.proofs.Common.{inl, inr}
-use Rattle.std.specs.Prelude.{◌↔◌}
-use Rattle.std.specs.List.{AllByRecursion, AllZip}
-use Rattle.std.proofs.lemmas.List.{length-map}
-use Rattle.gf_fraction.specs.Ratio.{Ratio, IsFraction}
-use Rattle.gf_fraction.specs.Rational.{IsEqual}
-use Rattle.gf_fraction.proofs.LowestTerms.{one_fraction}
-use Rattle.gf_nfg.specs.Profiles.{profiles}
-use Rattle.gf_nfg.specs.Table.{Entry, Table}
-use Rattle.gf_tree.specs.Description.{SetKey}
-use Rattle.gf_tree.specs.Game.{Game}
-use Rattle.gf_tree.proofs.lemmas.games.Members.{map_twice}
-use Rattle.gf_tree.proofs.lemmas.games.Uses.{Has, contains, has, each, mapped_from}
-use Rattle.gf_form.specs.Payoff.{payoff}
-use Rattle.gf_form.specs.StrategicForm.{ArePayoffsAt, IsFormBy, IsStrategicForm, PaysFraction}
-use Rattle.gf_form.specs.StrategicForm.{PaysFractions, strategy_labels}
-use Rattle.gf_form.specs.Strategies.{choices_by, full_profiles, players_of, strategies}
-use Rattle.gf_form.specs.Strategies.{strategies_at}
+use Rattle.gf_form.proofs.Common.{◌≡◌, ℕ, List, [], ◌∷◌, length, map, arith, refl, sym, ap, subst}
+use Rattle.gf_form.proofs.Common.{inl, inr, ◌↔◌, AllByRecursion, AllZip, length-map, Ratio}
+use Rattle.gf_form.proofs.Common.{IsFraction, IsEqual, one_fraction, profiles, Table, SetKey, Game}
+use Rattle.gf_form.proofs.Common.{map_twice, Has, contains, has, each, mapped_from, payoff}
+use Rattle.gf_form.proofs.Common.{ArePayoffsAt, IsFormBy, IsStrategicForm, PaysFractions}
+use Rattle.gf_form.proofs.Common.{strategy_labels, choices_by, full_profiles, players_of}
+use Rattle.gf_form.proofs.Common.{strategies, strategies_at}
+use Rattle.gf_nfg.specs.Table.{Entry}
+use Rattle.gf_form.specs.StrategicForm.{PaysFraction}
 
 -- ---- forms by any labels
 

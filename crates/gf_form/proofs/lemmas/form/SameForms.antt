@@ -1,39 +1,21 @@
 -- Games that a renumbering carries to each other have the same payoffs, bottom-up values and
 -- strategic form.
-use Rattle.std.proofs.Common.{◌≡◌, ℕ, true, List, ◌∷◌, Option, Some, None, arith, MatchOption}
-use Rattle.std.proofs.Common.{map, refl, ap, ◌∙◌, inl, inr}
-use Rattle.std.specs.Prelude.{◌↔◌, ◌==◌, ◌||◌, option_map, option_and_then, unwrap_or}
-use Rattle.std.specs.Prelude.{if◌then◌else◌}
-use Rattle.std.specs.List.{AllZip}
-use Rattle.std.specs.Option.{option_map_or}
-use Rattle.gf_fraction.specs.Ratio.{Ratio, IsFraction}
-use Rattle.gf_fraction.specs.Rational.{IsEqual, zero_ratio, one_ratio}
-use Rattle.gf_fraction.proofs.AllElements.{all_weaker}
-use Rattle.gf_token.specs.Positions.{at_position}
-use Rattle.gf_nfg.specs.Table.{Table}
-use Rattle.gf_tree.specs.PrefixOrder.{Entry, flatten}
-use Rattle.gf_tree.specs.Description.{SetKey, InformationSet, same_set}
-use Rattle.gf_tree.specs.FiniteMap.{Described}
-use Rattle.gf_tree.specs.Game.{Node, Game, IsGame, used_sets, set_at, outcome_at}
-use Rattle.gf_tree.specs.Renumbering.{Renumbering, IsRenumbering, renumbered_set, renumbered_node}
-use Rattle.gf_tree.specs.Renumbering.{renumbered}
-use Rattle.gf_tree.specs.FirstUse.{player_sets, player_keys}
-use Rattle.gf_tree.proofs.lemmas.games.TreesOnce.{same_set_equality}
-use Rattle.gf_tree.proofs.lemmas.games.Uses.{Has, all_of_each}
-use Rattle.gf_tree.proofs.lemmas.games.Members.{filter_of_map, map_twice}
-use Rattle.gf_tree.proofs.lemmas.games.FirstUseNumbers.{same_tests}
+use Rattle.gf_form.proofs.Common.{◌≡◌, ℕ, true, List, ◌∷◌, Option, Some, None, arith, MatchOption}
+use Rattle.gf_form.proofs.Common.{map, refl, ap, inl, inr, ◌↔◌, ◌==◌, ◌||◌, option_map}
+use Rattle.gf_form.proofs.Common.{option_and_then, unwrap_or, if◌then◌else◌, AllZip, option_map_or}
+use Rattle.gf_form.proofs.Common.{Ratio, IsFraction, IsEqual, zero_ratio, one_ratio, all_weaker}
+use Rattle.gf_form.proofs.Common.{at_position, Table, flatten, SetKey, InformationSet, same_set}
+use Rattle.gf_form.proofs.Common.{Described, Node, Game, IsGame, used_sets, set_at, outcome_at}
+use Rattle.gf_form.proofs.Common.{Renumbering, IsRenumbering, renumbered_set, renumbered_node}
+use Rattle.gf_form.proofs.Common.{renumbered, player_sets, player_keys, same_set_equality, Has}
+use Rattle.gf_form.proofs.Common.{all_of_each, filter_of_map, map_twice, same_tests, held}
+use Rattle.gf_form.proofs.Common.{sets_apart, SameGame, same_back, carried_is_renumbered}
+use Rattle.gf_form.proofs.Common.{action_counts, strategies, all_choices, players_of, choice_at}
+use Rattle.gf_form.proofs.Common.{choices_by, strategies_at, payoff, IsValue, ArePayoffs}
+use Rattle.gf_form.proofs.Common.{IsStrategicForm}
+use Rattle.gf_tree.specs.PrefixOrder.{Entry}
 use Rattle.gf_tree.proofs.lemmas.games.Carried.{entry_used}
-use Rattle.gf_tree.proofs.lemmas.games.MappedTrees.{held}
-use Rattle.gf_tree.proofs.lemmas.games.Renumberings.{sets_apart}
 use Rattle.gf_tree.proofs.lemmas.games.Renumbered.{set_at_image, outcome_at_image}
-use Rattle.gf_tree.specs.SameGame.{SameGame}
-use Rattle.gf_tree.proofs.lemmas.games.Same.{same_back}
-use Rattle.gf_tree.proofs.lemmas.games.Canonical.{carried_is_renumbered}
-use Rattle.gf_form.specs.Strategies.{action_counts, strategies, all_choices, players_of, choice_at}
-use Rattle.gf_form.specs.Strategies.{choices_by, strategies_at}
-use Rattle.gf_form.specs.Payoff.{payoff}
-use Rattle.gf_form.specs.BottomUp.{IsValue}
-use Rattle.gf_form.specs.StrategicForm.{ArePayoffs, IsStrategicForm}
 use Rattle.gf_form.proofs.lemmas.values.Alike.{IsAlike, AreAlike, same_payoff, same_value}
 use Rattle.gf_form.proofs.lemmas.strategies.KnownSets.{own_set}
 
@@ -72,10 +54,16 @@ module _ (g : Game) (r : Renumbering) (game : IsGame g) (is : IsRenumbering g r)
       → choice_at (player_keys h player) strategy (renumbered_set r key)
       ≡ choice_at (player_keys g player) strategy key
   strategy_carried player strategy key used =
-      ap (λ keys. choice_at keys strategy (renumbered_set r key)) (keys_carried player)
-      ∙ choice_carried (renumbered_set r) (player_keys g player) strategy key
-      (λ k i. same_tests same_set same_set same_set_equality same_set_equality (renumbered_set r) k
-      key (sets_apart g r is k key (key_used player k i) used))
+      grind (
+        arith,
+        choice_at,
+        keys_carried,
+        choice_carried,
+        same_tests,
+        same_set_equality,
+        sets_apart,
+        key_used,
+      )
 
   choices_carried : (all : List (List ℕ)) (key : SetKey) → Has (used_sets g.tree) key
       → choices_by h all (renumbered_set r key) ≡ choices_by g all key
@@ -219,5 +207,4 @@ same_values g h game game' same all player value = grind (arith, value_on, same_
 
 pub same_forms : (g h : Game) → IsGame g → IsGame h → SameGame g h → (t : Table)
     → IsStrategicForm g t ↔ IsStrategicForm h t
-same_forms g h game game' same t =
-    (form_on g h game game' same t, form_on h g game' game (same_back g h game same) t)
+same_forms g h game game' same t = grind (arith, form_on, h, same_back)

@@ -1,15 +1,8 @@
 -- Games that are the same have the same profiles, and no table for the same reason.
-use Rattle.std.proofs.Common.{◌≡◌, ℕ, List, length, ap, arith}
-use Rattle.std.specs.Prelude.{◌↔◌}
-use Rattle.gf_fraction.proofs.AllElements.{all_weaker}
-use Rattle.gf_nfg.specs.Profiles.{positions}
-use Rattle.gf_tree.specs.Game.{Game, IsGame}
-use Rattle.gf_tree.proofs.lemmas.games.Members.{map_same}
-use Rattle.gf_tree.specs.SameGame.{SameGame}
-use Rattle.gf_tree.proofs.lemmas.games.Same.{same_back}
-use Rattle.gf_form.specs.Refusal.{HasBottomUpValue, HasTooManyProfiles, HasValues, IsFirstWithout}
-use Rattle.gf_form.specs.Refusal.{OverflowsAt}
-use Rattle.gf_form.specs.Strategies.{full_profiles, players_of, strategies}
+use Rattle.gf_form.proofs.Common.{◌≡◌, ℕ, List, length, ap, arith, ◌↔◌, all_weaker, positions, Game}
+use Rattle.gf_form.proofs.Common.{IsGame, map_same, SameGame, same_back, HasTooManyProfiles}
+use Rattle.gf_form.proofs.Common.{HasValues, IsFirstWithout, full_profiles, players_of}
+use Rattle.gf_form.specs.Refusal.{HasBottomUpValue, OverflowsAt}
 use Rattle.gf_form.proofs.lemmas.form.SameForms.{same_strategies, same_strategies_at, same_values}
 
 module _ (g h : Game) (game : IsGame g) (game' : IsGame h) (same : SameGame g h) where
@@ -17,9 +10,7 @@ module _ (g h : Game) (game : IsGame g) (game' : IsGame h) (same : SameGame g h)
   players_too = ap (λ players. positions (length players)) same.1.players
 
   pub same_profiles : full_profiles g ≡ full_profiles h
-  same_profiles =
-      cc (map_same (λ player. length (strategies g player)) (λ player. length (strategies h player))
-      (players_of g) (λ player i. ap length (same_strategies g h game game' same player)))
+  same_profiles = grind (arith, map_same, same_strategies)
 
   value_too : (profile : List ℕ) (player : ℕ) → HasBottomUpValue g profile player
       → HasBottomUpValue h profile player

@@ -1,27 +1,21 @@
 -- Worked games: their plays and payoffs, and what is left out of their strategies.
-use Rattle.std.proofs.Common.{◌≡◌, ℕ, ℤ, pos, ◌+◌, ◌-◌, ◌*◌, ◌^◌, ◌<◌, true, false, Option, None}
-use Rattle.std.proofs.Common.{List, [], ◌∷◌, map, get_or, refl, ap, ◌∙◌, subst, arith}
-use Rattle.std.specs.Prelude.{codes, nat_eq, nat_lt, unwrap_or, unsigned_abs, ◌*ℤ◌}
-use Rattle.std.specs.List.{AllByRecursion, Contains}
+use Rattle.gf_form.proofs.Common.{◌≡◌, ℕ, ℤ, pos, ◌+◌, ◌-◌, ◌*◌, ◌^◌, ◌<◌, true, false, Option}
+use Rattle.gf_form.proofs.Common.{None, List, [], ◌∷◌, map, get_or, refl, ap, ◌∙◌, subst, arith}
+use Rattle.gf_form.proofs.Common.{codes, nat_eq, nat_lt, unwrap_or, unsigned_abs, ◌*ℤ◌}
+use Rattle.gf_form.proofs.Common.{AllByRecursion, Contains, eqb-false, Ratio, IsFraction, whole}
+use Rattle.gf_form.proofs.Common.{AddsTo, MultipliesTo, SumFits, IsEqual, lowest_of-fraction}
+use Rattle.gf_form.proofs.Common.{sum_is_computed, whole_fraction, choices_by, strategies_at}
+use Rattle.gf_form.proofs.Common.{full_profiles, plays, payoff, IsValue, ArePayoffs}
+use Rattle.gf_form.proofs.Common.{IsStrategicForm, reduced_at, reduced_by, reduced_label}
+use Rattle.gf_form.proofs.Common.{reduced_strategies, IsReducedForm, overflowing, unlikely}
+use Rattle.gf_form.proofs.Common.{balancing, ending, contradicted}
 use Rattle.std.specs.Fmt.{digits}
-use Rattle.std.proofs.lemmas.Bool.{eqb-false}
-use Rattle.gf_fraction.specs.Ratio.{Ratio, IsFraction, whole}
-use Rattle.gf_fraction.specs.Fits.{AddsTo, MultipliesTo, SumFits}
 use Rattle.gf_fraction.specs.Computed.{lowest_of, gcd_within, sum_of}
-use Rattle.gf_fraction.specs.Rational.{IsEqual}
-use Rattle.gf_fraction.proofs.ComputedArithmetic.{lowest_of-fraction, sum_is_computed}
 use Rattle.gf_fraction.proofs.SumsOnce.{first_sum, one_product}
-use Rattle.gf_fraction.proofs.WholeNumbers.{whole_fraction, part_fraction}
+use Rattle.gf_fraction.proofs.WholeNumbers.{part_fraction}
 use Rattle.gf_tree.specs.WorkedTrees.{bonus, forgetful, half}
-use Rattle.gf_form.specs.Strategies.{choices_by, strategies_at, full_profiles}
-use Rattle.gf_form.specs.Plays.{plays}
-use Rattle.gf_form.specs.Payoff.{payoff}
-use Rattle.gf_form.specs.BottomUp.{IsValue}
-use Rattle.gf_form.specs.StrategicForm.{ArePayoffs, IsStrategicForm}
-use Rattle.gf_form.specs.Reduced.{reduced_at, reduced_by, reduced_label, reduced_strategies}
-use Rattle.gf_form.specs.Reduced.{IsReducedForm}
-use Rattle.gf_form.specs.WorkedForms.{greatest, bonus_form, overflowing, second, unlikely, only}
-use Rattle.gf_form.specs.WorkedForms.{balancing, ending, ending_form, ending_reduced, contradicted}
+use Rattle.gf_form.specs.WorkedForms.{greatest, bonus_form, second, only, ending_form}
+use Rattle.gf_form.specs.WorkedForms.{ending_reduced}
 
 -- ---- fractions
 
@@ -48,14 +42,7 @@ plays_of_bonus = refl
 
 pub form_of_bonus : IsStrategicForm bonus bonus_form
 unfolding digits
-form_of_bonus = record {
-  title = refl;
-  comment = refl;
-  players = refl;
-  strategies = refl;
-  profiles = refl;
-  payoffs = grind (arith, three_halves, equal, small, part_fraction);
-}
+form_of_bonus = grind (arith, three_halves, equal, small, part_fraction)
 
 -- ---- the overflow
 
@@ -126,8 +113,6 @@ no_balanced_value h =
     let second = first.6 in
     let left = one_product half greatest first.1 half_of_greatest (omega arith)
     (subst (λ x. MultipliesTo half x first.1) first.3 first.4) half_of_greatest_is refl in
-    let sum = first_sum half_of_greatest first.2 (omega arith)
-    (subst (λ y. AddsTo (whole (pos 0)) y first.2) left first.5) half_of_greatest_is refl in
     let right = one_product half next second.1 half_of_next (omega arith)
     (subst (λ x. MultipliesTo half x second.1) second.3 second.4) half_of_next_is refl in
     grind (arith, no_sum_of_halves)

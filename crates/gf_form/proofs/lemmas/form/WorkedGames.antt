@@ -1,20 +1,17 @@
 -- The worked games are games, and files can hold them: for each a file, which the machine of the
 -- reader reads to it.
-use Rattle.std.proofs.Common.{◌≡◌, ℕ, List, [], ◌∷◌, ◌++◌, length, refl}
-use Rattle.std.specs.Prelude.{codes}
+use Rattle.gf_form.proofs.Common.{◌≡◌, ℕ, List, [], ◌∷◌, ◌++◌, length, refl, codes, AllByRecursion}
+use Rattle.gf_form.proofs.Common.{Game, IsGame, IsSpellable, balancing, contradicted, ending}
+use Rattle.gf_form.proofs.Common.{overflowing, unlikely}
 use Rattle.std.specs.Fmt.{digits}
-use Rattle.std.specs.List.{AllByRecursion}
 use Rattle.gf_fraction.specs.Computed.{gcd_within, lowest_of, number_of, sum_of}
 use Rattle.gf_token.specs.Indices.{index_of}
 use Rattle.gf_token.specs.inner.Lexing.{lex}
 use Rattle.gf_token.specs.inner.Lexing.Mode.{Gap}
-use Rattle.gf_tree.specs.Game.{Game, IsGame}
 use Rattle.gf_tree.specs.inner.Machine.{nothing, run}
 use Rattle.gf_tree.specs.inner.Machine.Position.{Format}
-use Rattle.gf_tree.specs.Spellable.{IsSpellable}
 use Rattle.gf_tree.proofs.lemmas.games.Spelled.{spelled_is_spellable}
 use Rattle.gf_tree.proofs.lemmas.games.Worked.{game_read, meant, ok_game}
-use Rattle.gf_form.specs.WorkedForms.{balancing, contradicted, ending, overflowing, unlikely}
 
 abbrev IsHeld : Game → Type 0
 IsHeld g = IsGame g × IsSpellable g

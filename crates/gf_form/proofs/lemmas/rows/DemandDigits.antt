@@ -1,19 +1,16 @@
 -- Demands by their digits, the slowest first: which digit a demand has at a set, what another
 -- action there changes, and which choices meet it.
-use Rattle.std.proofs.Common.{◌≡◌, ℕ, zero, suc, ◌+◌, ◌-◌, ◌*◌, ◌/◌, ◌%◌, ◌<◌, ◌≤◌, Bool, true}
-use Rattle.std.proofs.Common.{false, List, [], ◌∷◌, length, get_or, set, map, arith, refl, ap, ◌∙◌}
-use Rattle.std.proofs.Common.{subst, inl, inr, ◌⊎◌}
-use Rattle.std.specs.Prelude.{◌==◌, ◌&&◌, ◌||◌, nat_le, nat_lt, if◌then◌else◌, ⊤}
-use Rattle.std.specs.Int.{◌∣◌}
-use Rattle.std.proofs.lemmas.Bool.{and_parts, cases_lt, eq-eqb, le-leb, le-ltb, lt-leb, lt-ltb}
-use Rattle.std.proofs.lemmas.Bool.{ne_eqb}
+use Rattle.gf_form.proofs.Common.{◌≡◌, ℕ, zero, suc, ◌+◌, ◌-◌, ◌*◌, ◌/◌, ◌%◌, ◌<◌, ◌≤◌, Bool, true}
+use Rattle.gf_form.proofs.Common.{false, List, [], ◌∷◌, length, get_or, set, map, arith, refl, ap}
+use Rattle.gf_form.proofs.Common.{◌∙◌, subst, inl, inr, ◌⊎◌, ◌==◌, ◌&&◌, ◌||◌, nat_lt}
+use Rattle.gf_form.proofs.Common.{if◌then◌else◌, ⊤, ◌∣◌, and_parts, cases_lt, eq-eqb, lt-ltb}
+use Rattle.gf_form.proofs.Common.{ne_eqb, div-mul_cancel, dvd-mul_left, mod-eq_of_lt}
+use Rattle.gf_form.proofs.Common.{mul-le-mul_right, mul_above, product, meets, spans, steps_of}
+use Rattle.gf_form.proofs.Common.{demanded}
+use Rattle.std.specs.Prelude.{nat_le}
+use Rattle.std.proofs.lemmas.Bool.{le-leb, le-ltb, lt-leb}
 use Rattle.std.proofs.lemmas.Nat.{div-mul-add}
-use Rattle.std.proofs.Math.Nat.{add-mul-mod_self_right, div-mul_cancel, dvd-mul_left}
-use Rattle.std.proofs.Math.Nat.{dvd-mul_left_of_dvd, mod-eq_of_lt, mul-add-div, mul-le-mul_right}
-use Rattle.gf_fraction.proofs.Products.{mul_above}
-use Rattle.gf_nfg.specs.Profiles.{product}
-use Rattle.gf_form.specs.inner.rows.Demands.{meets, spans, steps_of}
-use Rattle.gf_form.specs.inner.rows.ReachedNodes.{demanded}
+use Rattle.std.proofs.Math.Nat.{add-mul-mod_self_right, dvd-mul_left_of_dvd, mul-add-div}
 
 -- ---- numbers by their digits
 
@@ -39,17 +36,13 @@ below_next d n p r h k = omega (arith, mul-le-mul_right p h, k)
 
 pub pack_below : (actions ds : List ℕ) → AreWithin actions ds
     → pack actions ds < product (spans actions)
-pack_below [] [] h = omega arith
 pack_below (n ∷ faster) (d ∷ ds) h =
     below_next d n (product (spans faster)) (pack faster ds) h.0 (pack_below faster ds h.1)
-pack_below [] (d ∷ ds) h = absurd h
-pack_below (n ∷ faster) [] h = absurd h
+pack_below actions ds h = grind arith
 
 pub within_length : (actions ds : List ℕ) → AreWithin actions ds → length ds ≡ length actions
-within_length [] [] h = refl
 within_length (n ∷ faster) (d ∷ ds) h = ap suc (within_length faster ds h.1)
-within_length [] (d ∷ ds) h = absurd h
-within_length (n ∷ faster) [] h = absurd h
+within_length actions ds h = grind arith
 
 -- ---- the digit at a place
 
@@ -85,46 +78,34 @@ step_divides (n ∷ faster) (suc place) h =
 pub digit_is : (actions ds : List ℕ) (place : ℕ) → AreWithin actions ds → place < length actions
     → demanded (pack actions ds) (get_or (steps_of actions) place 0) (get_or actions place 0)
     ≡ get_or ds place 0
-digit_is [] [] place h within = absurd (omega arith)
 digit_is (n ∷ faster) (d ∷ ds) zero h within =
     first_digit d n (product (spans faster)) (pack faster ds) h.0 (pack_below faster ds h.1)
 digit_is (n ∷ faster) (d ∷ ds) (suc place) h within =
     let there : place < length faster = omega (arith, within) in
     grind (arith, faster_digit, step_above, step_divides, digit_is faster ds place h.1 there)
-digit_is [] (d ∷ ds) place h within = absurd h
-digit_is (n ∷ faster) [] place h within = absurd h
+digit_is actions ds place h within = grind arith
 
 -- ---- another digit
 
 pub set_within : (actions ds : List ℕ) (place k : ℕ) → AreWithin actions ds
     → k ≤ get_or actions place 0 → AreWithin actions (set ds place k)
-set_within [] [] place k h le = tt
-set_within (n ∷ faster) (d ∷ ds) zero k h le = (le, h.1)
 set_within (n ∷ faster) (d ∷ ds) (suc place) k h le = (h.0, set_within faster ds place k h.1 le)
-set_within [] (d ∷ ds) place k h le = absurd h
-set_within (n ∷ faster) [] place k h le = absurd h
+set_within actions ds place k h le = grind arith
 
 pub set_pack : (actions ds : List ℕ) (place k : ℕ) → AreWithin actions ds → place < length actions
     → get_or ds place 0 ≡ 0
     → pack actions ds + k * get_or (steps_of actions) place 0 ≡ pack actions (set ds place k)
-set_pack [] [] place k h within free = absurd (omega arith)
-set_pack (n ∷ faster) (d ∷ ds) zero k h within free = grind arith
 set_pack (n ∷ faster) (d ∷ ds) (suc place) k h within free =
     omega (arith, set_pack faster ds place k h.1 (omega (arith, within)) free)
-set_pack [] (d ∷ ds) place k h within free = absurd h
-set_pack (n ∷ faster) [] place k h within free = absurd h
+set_pack actions ds place k h within free = grind arith
 
 -- ---- which choices meet the demands
 
 and_turned : (a b : Bool) → (a && b) ≡ (b && a)
-and_turned true true = refl
-and_turned true false = refl
-and_turned false true = refl
-and_turned false false = refl
+and_turned a b = grind arith
 
 and_grouped : (a b c : Bool) → (a && (b && c)) ≡ ((a && b) && c)
-and_grouped true b c = refl
-and_grouped false b c = refl
+and_grouped a b c = grind arith
 
 abbrev pub met : List ℕ → List ℕ → Bool
 met (c ∷ cs) (d ∷ ds) = (d == 0 || d == c) && met cs ds
@@ -179,25 +160,18 @@ meets_is (n ∷ faster) (c ∷ cs) [] e h = absurd h
 pub met_set : (choices ds : List ℕ) (place k : ℕ) → length choices ≡ length ds → place < length ds
     → get_or ds place 0 ≡ 0 → 1 ≤ k
     → met choices (set ds place k) ≡ (met choices ds && k == get_or choices place 0)
-met_set [] [] place k e within free some = absurd (omega arith)
-met_set (c ∷ cs) (d ∷ ds) zero k e within free some = grind arith
 met_set (c ∷ cs) (d ∷ ds) (suc place) k e within free some =
-    ap (λ b. (d == 0 || d == c) && b)
-    (met_set cs ds place k (omega (arith, e)) (omega (arith, within)) free some)
-    ∙ and_grouped (d == 0 || d == c) (met cs ds) (k == get_or cs place 0)
-met_set [] (d ∷ ds) place k e within free some = absurd (omega arith)
-met_set (c ∷ cs) [] place k e within free some = absurd (omega arith)
+    let later = met_set cs ds place k (omega (arith, e)) (omega (arith, within)) free some in
+    grind (arith, and_grouped, later)
+met_set choices ds place k e within free some = grind arith
 
 -- a demand that is met is the choice
 pub met_digit : (choices ds : List ℕ) (place : ℕ) → length choices ≡ length ds → place < length ds
     → met choices ds ≡ true → ¬ (get_or ds place 0 ≡ 0) → get_or choices place 0 ≡ get_or ds place 0
-met_digit [] [] place e within is some = absurd (omega arith)
-met_digit (c ∷ cs) (d ∷ ds) zero e within is some = grind arith
 met_digit (c ∷ cs) (d ∷ ds) (suc place) e within is some =
     met_digit cs ds place (omega (arith, e)) (omega (arith, within))
     (and_parts (d == 0 || d == c) (met cs ds) is).1 some
-met_digit [] (d ∷ ds) place e within is some = absurd (omega arith)
-met_digit (c ∷ cs) [] place e within is some = absurd (omega arith)
+met_digit choices ds place e within is some = grind arith
 
 -- ---- no demand
 
@@ -210,10 +184,8 @@ none_within (n ∷ faster) = (omega arith, none_within faster)
 
 pub none_pack : (actions : List ℕ) → pack actions (no_demands actions) ≡ 0
 none_pack [] = refl
-none_pack (n ∷ faster) =
-    let none : 0 * product (spans faster) ≡ 0 = omega arith in omega (arith, none, none_pack faster)
+none_pack (n ∷ faster) = grind (arith, none_pack faster)
 
 pub none_met : (choices actions : List ℕ) → met choices (no_demands actions) ≡ true
-none_met [] actions = refl
-none_met (c ∷ cs) [] = refl
 none_met (c ∷ cs) (n ∷ faster) = none_met cs faster
+none_met choices actions = grind arith

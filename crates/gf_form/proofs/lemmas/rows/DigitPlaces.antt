@@ -1,14 +1,9 @@
 -- The places of the digits of all players' sets, and their steps.
-use Rattle.std.proofs.Common.{◌≡◌, ℕ, zero, suc, ◌+◌, ◌*◌, ◌<◌, ◌≤◌, List, [], ◌∷◌, ◌++◌, length}
-use Rattle.std.proofs.Common.{map, get_or, refl, sym, ap, ◌∙◌, append_assoc, arith, length-append}
-use Rattle.std.specs.List.{AllZip}
-use Rattle.std.proofs.Math.Nat.{mul_assoc, mul_comm}
-use Rattle.std.proofs.lemmas.List.{map-append}
-use Rattle.gf_fraction.proofs.Products.{mul_above}
-use Rattle.gf_nfg.specs.Profiles.{product}
-use Rattle.gf_form.specs.inner.rows.Demands.{spans, steps_of}
-use Rattle.gf_form.specs.inner.rows.DigitSteps.{all_steps, at_digits, picked, steps_behind, width}
-use Rattle.gf_form.specs.inner.rows.Shares.{IsDigitOf}
+use Rattle.gf_form.proofs.Common.{◌≡◌, ℕ, zero, suc, ◌+◌, ◌*◌, ◌<◌, ◌≤◌, List, [], ◌∷◌, ◌++◌}
+use Rattle.gf_form.proofs.Common.{length, map, get_or, refl, append_assoc, arith, AllZip, mul_assoc}
+use Rattle.gf_form.proofs.Common.{mul_comm, map-append, mul_above, product, spans, steps_of}
+use Rattle.gf_form.proofs.Common.{all_steps, at_digits, picked, steps_behind, width, IsDigitOf}
+use Rattle.std.proofs.Common.{length-append}
 use Rattle.gf_form.proofs.lemmas.strategies.CountedActions.{ArePositive, product_positive}
 
 -- ---- products
@@ -41,21 +36,14 @@ HasShape counts xs = AllZip (λ own x. length x ≡ length own) counts xs
 
 pub as_many_picked : (counts xs : List ℕ) → length xs ≡ length counts
     → length (picked counts xs) ≡ length (picked counts counts)
-as_many_picked [] [] e = refl
-as_many_picked [] (x ∷ xs) e = refl
-as_many_picked (n ∷ counts) [] e = absurd (omega (arith, e))
-as_many_picked (zero ∷ counts) (x ∷ xs) e = as_many_picked counts xs (omega (arith, e))
-as_many_picked (suc zero ∷ counts) (x ∷ xs) e = as_many_picked counts xs (omega (arith, e))
-as_many_picked (suc (suc n) ∷ counts) (x ∷ xs) e =
-    let others = as_many_picked counts xs (omega (arith, e)) in omega (arith, others)
+as_many_picked (n ∷ counts) (x ∷ xs) e = grind (arith, as_many_picked counts xs (omega (arith, e)))
+as_many_picked counts xs e = grind arith
 
 pub as_many_at_digits : (counts xs : List (List ℕ)) → HasShape counts xs
     → length (at_digits counts xs) ≡ length (at_digits counts counts)
-as_many_at_digits [] [] h = refl
-as_many_at_digits [] (x ∷ xs) h = absurd h
-as_many_at_digits (own ∷ others) [] h = absurd h
 as_many_at_digits (own ∷ others) (x ∷ xs) h =
     grind (arith, as_many_picked, length-append, as_many_at_digits others xs h.1)
+as_many_at_digits counts xs h = grind arith
 
 pub steps_have_shape : (counts : List (List ℕ)) (f : ℕ) → HasShape counts (all_steps f counts)
 steps_have_shape [] f = tt
@@ -63,9 +51,7 @@ steps_have_shape (own ∷ others) f = (own_shape own f, steps_have_shape others 
   where
     own_shape : (own : List ℕ) (f : ℕ) → length (steps_behind f own) ≡ length own
     own_shape [] f = refl
-    own_shape (zero ∷ own) f = let same = own_shape own f in omega (arith, same)
-    own_shape (suc zero ∷ own) f = let same = own_shape own f in omega (arith, same)
-    own_shape (suc (suc n) ∷ own) f = let same = own_shape own f in omega (arith, same)
+    own_shape (n ∷ own) f = grind (arith, own_shape own f)
 
 -- ---- slower digits change nothing
 
@@ -96,13 +82,8 @@ own_steps_are : (counts faster : List ℕ) (f : ℕ) → f ≡ product (spans fa
     → picked counts (steps_behind f counts) ++ steps_of faster
     ≡ steps_of (picked counts counts ++ faster)
 own_steps_are [] faster f e = refl
-own_steps_are (zero ∷ counts) faster f e = own_steps_are counts faster f e
-own_steps_are (suc zero ∷ counts) faster f e = own_steps_are counts faster f e
-own_steps_are (suc (suc n) ∷ counts) faster f e =
-    λ i. step i ∷ own_steps_are counts faster f e i
-  where
-    step : width counts * f ≡ product (spans (picked counts counts ++ faster))
-    step = ap (λ (n : ℕ). width counts * n) e ∙ sym (spans_joined (picked counts counts) faster)
+own_steps_are (n ∷ counts) faster f e =
+    grind (arith, spans_joined, own_steps_are counts faster f e)
 
 -- the faster digits of the next player
 next_faster : (own faster : List ℕ) (f : ℕ) → f ≡ product (spans faster)
@@ -114,11 +95,8 @@ pub all_steps_are : (counts : List (List ℕ)) (faster : List ℕ) (f : ℕ)
     ≡ steps_of (at_digits counts counts ++ faster)
 all_steps_are [] faster f e = refl
 all_steps_are (own ∷ others) faster f e =
-    let more = all_steps (width own * f) others in
-    append_assoc (at_digits others more) (picked own (steps_behind f own)) (steps_of faster)
-    ∙ ap (λ (steps : List ℕ). at_digits others more ++ steps) (own_steps_are own faster f e)
-    ∙ all_steps_are others (picked own own ++ faster) (width own * f) (next_faster own faster f e)
-    ∙ ap steps_of (sym (append_assoc (at_digits others others) (picked own own) faster))
+    let later = all_steps_are others (picked own own ++ faster) (width own * f) in
+    grind (arith, append_assoc, own_steps_are, later, next_faster)
 
 -- ---- the digit of a set
 
@@ -127,22 +105,11 @@ pub own_digit : (counts xs faster fast : List ℕ) (f j : ℕ) → f ≡ product
     → ¬ (get_or (steps_behind f counts) j 0 ≡ 0)
     → IsDigitOf (picked counts counts ++ faster) (picked counts xs ++ fast)
     (get_or (steps_behind f counts) j 0) (get_or counts j 0) (get_or xs j 0)
-own_digit [] xs faster fast f j e same less some = absurd (omega (arith, less))
-own_digit (n ∷ counts) [] faster fast f j e same less some = absurd (omega (arith, same))
-own_digit (zero ∷ counts) (x ∷ xs) faster fast f zero e same less some = absurd (some refl)
-own_digit (suc zero ∷ counts) (x ∷ xs) faster fast f zero e same less some = absurd (some refl)
-own_digit (suc (suc n) ∷ counts) (x ∷ xs) faster fast f zero e same less some = grind (
-  arith,
-  next_faster,
-)
-own_digit (zero ∷ counts) (x ∷ xs) faster fast f (suc j) e same less some =
-    own_digit counts xs faster fast f j e (omega (arith, same)) (omega (arith, less)) some
-own_digit (suc zero ∷ counts) (x ∷ xs) faster fast f (suc j) e same less some =
-    own_digit counts xs faster fast f j e (omega (arith, same)) (omega (arith, less)) some
-own_digit (suc (suc n) ∷ counts) (x ∷ xs) faster fast f (suc j) e same less some =
-    slower_digit (picked counts counts ++ faster) (picked counts xs ++ fast)
-    (get_or (steps_behind f counts) j 0) (get_or counts j 0) (get_or xs j 0) (suc (suc n)) x
-    (own_digit counts xs faster fast f j e (omega (arith, same)) (omega (arith, less)) some)
+own_digit (n ∷ counts) (x ∷ xs) faster fast f (suc j) e same less some =
+    let later = own_digit counts xs faster fast f j e (omega (arith, same)) (omega (arith, less)) in
+    grind (arith, slower_digit, later)
+own_digit (n ∷ counts) (x ∷ xs) faster fast f zero e same less some = grind (arith, next_faster)
+own_digit counts xs faster fast f j e same less some = grind arith
 
 pub digit_of : (counts xs : List (List ℕ)) (faster fast : List ℕ) (f i j : ℕ)
     → f ≡ product (spans faster) → HasShape counts xs → j < length (get_or counts i [])
@@ -150,30 +117,25 @@ pub digit_of : (counts xs : List (List ℕ)) (faster fast : List ℕ) (f i j : �
     → IsDigitOf (at_digits counts counts ++ faster) (at_digits counts xs ++ fast)
     (get_or (get_or (all_steps f counts) i []) j 0) (get_or (get_or counts i []) j 0)
     (get_or (get_or xs i []) j 0)
-digit_of [] xs faster fast f i j e same less some = absurd (omega (arith, less))
-digit_of (own ∷ others) [] faster fast f i j e same less some = absurd same
 digit_of (own ∷ others) (x ∷ xs) faster fast f zero j e same less some =
     grind (arith, append_assoc, slower_digits, as_many_at_digits, own_digit)
 digit_of (own ∷ others) (x ∷ xs) faster fast f (suc i) j e same less some =
-    rw (
-      append_assoc (at_digits others others) (picked own own) faster,
-      append_assoc (at_digits others xs) (picked own x) fast,
+    grind (
+      arith,
+      append_assoc,
+      next_faster,
+      digit_of others xs (picked own own ++ faster)
+          (picked own x ++ fast) (width own * f) i j (next_faster own faster f e) same.1 less some,
     )
-    (digit_of others xs (picked own own ++ faster) (picked own x ++ fast) (width own * f) i j
-    (next_faster own faster f e) same.1 less some)
+digit_of counts xs faster fast f i j e same less some = grind arith
 
 -- ---- sets without a digit
 
 pub own_alone : (counts : List ℕ) (f j : ℕ) → 0 < f → get_or (steps_behind f counts) j 0 ≡ 0
     → get_or counts j 0 ≤ 1
+own_alone (n ∷ counts) f (suc j) some e = grind (arith, own_alone counts f j some)
+own_alone (n ∷ counts) f zero some e = grind (arith, mul_above, width_positive)
 own_alone [] f j some e = omega arith
-own_alone (zero ∷ counts) f zero some e = omega arith
-own_alone (suc zero ∷ counts) f zero some e = omega arith
-own_alone (suc (suc n) ∷ counts) f zero some e =
-    absurd (omega (arith, mul_above (width counts) f (width_positive counts) some, e))
-own_alone (zero ∷ counts) f (suc j) some e = own_alone counts f j some e
-own_alone (suc zero ∷ counts) f (suc j) some e = own_alone counts f j some e
-own_alone (suc (suc n) ∷ counts) f (suc j) some e = own_alone counts f j some e
 
 pub alone : (counts : List (List ℕ)) (f i j : ℕ) → 0 < f
     → get_or (get_or (all_steps f counts) i []) j 0 ≡ 0 → get_or (get_or counts i []) j 0 ≤ 1

@@ -1,12 +1,9 @@
 -- The digits of a player's sets, set by set.
-use Rattle.std.proofs.Common.{◌≡◌, ℕ, zero, suc, ◌+◌, ◌*◌, ◌/◌, ◌<◌, ◌≤◌, List, [], ◌∷◌, ◌++◌}
-use Rattle.std.proofs.Common.{length, map, get_or, drop, refl, sym, ap, ◌∙◌, append_assoc, add-one}
-use Rattle.std.proofs.Common.{arith}
-use Rattle.std.proofs.Math.ListN.{drop_of_length-le}
-use Rattle.std.proofs.Math.Nat.{mul-div_cancel_left, mul-le-mul, mul_assoc, mul_comm}
-use Rattle.std.proofs.Math.Seq.{drop-cons}
-use Rattle.gf_nfg.specs.Profiles.{product}
-use Rattle.gf_form.specs.inner.rows.DigitSteps.{all_steps, at_digits, picked, steps_behind, width}
+use Rattle.gf_form.proofs.Common.{◌≡◌, ℕ, suc, ◌+◌, ◌*◌, ◌/◌, ◌<◌, ◌≤◌, List, [], ◌∷◌, ◌++◌, length}
+use Rattle.gf_form.proofs.Common.{map, get_or, drop, refl, sym, ap, ◌∙◌, append_assoc, add-one}
+use Rattle.gf_form.proofs.Common.{arith, drop_of_length-le, mul-div_cancel_left, mul-le-mul}
+use Rattle.gf_form.proofs.Common.{mul_assoc, mul_comm, drop-cons, product, all_steps, at_digits}
+use Rattle.gf_form.proofs.Common.{picked, steps_behind, width}
 use Rattle.gf_form.proofs.lemmas.rows.DigitPlaces.{HasShape, width_positive}
 
 -- ---- a set with a digit, and one without
@@ -16,14 +13,6 @@ width_more n later some = grind arith
 
 width_same : (n : ℕ) (later : List ℕ) → n ≤ 1 → width (n ∷ later) ≡ width later
 width_same n later none = grind arith
-
-steps_more : (faster n : ℕ) (later : List ℕ) → 1 < n
-    → steps_behind faster (n ∷ later) ≡ (width later * faster) ∷ steps_behind faster later
-steps_more faster n later some = grind arith
-
-steps_same : (faster n : ℕ) (later : List ℕ) → n ≤ 1
-    → steps_behind faster (n ∷ later) ≡ 0 ∷ steps_behind faster later
-steps_same faster n later none = grind arith
 
 picked_more : (n x : ℕ) (counts xs : List ℕ) → 1 < n
     → picked (n ∷ counts) (x ∷ xs) ≡ x ∷ picked counts xs
@@ -89,16 +78,15 @@ pub step_more : (counts : List ℕ) (faster i n step after : ℕ) (steps next : 
     → next ≡ steps ++ (step / (n + 1)) ∷ [] → StepsGo counts faster i step steps
     → StepsGo counts faster (i + 1) after next
 step_more counts faster i n step after steps next less is some after_is pushed h =
-    let later = drop (i + 1) counts in
     let here = next_is counts i n 0 less is in
-    grind (arith, width_more, mul_assoc, mul-div_cancel_left, append_assoc, steps_more)
+    grind (arith, width_more, mul_assoc, mul-div_cancel_left, append_assoc)
 
 pub step_same : (counts : List ℕ) (faster i n step after : ℕ) (steps next : List ℕ)
     → i < length counts → n ≡ get_or counts i 0 → n ≤ 1 → after ≡ step
     → next ≡ steps ++ 0 ∷ [] → StepsGo counts faster i step steps
     → StepsGo counts faster (i + 1) after next
 step_same counts faster i n step after steps next less is none after_is pushed h =
-    let here = next_is counts i n 0 less is in grind (arith, width_same, append_assoc, steps_same)
+    let here = next_is counts i n 0 less is in grind (arith, width_same, append_assoc)
 
 -- ---- what stands at the digits
 
@@ -121,16 +109,13 @@ picked_past counts xs i n x all next whole less same is there none kept h =
 pub as_many_steps : (counts : List (List ℕ)) (faster : ℕ)
     → length (all_steps faster counts) ≡ length counts
 as_many_steps [] faster = refl
-as_many_steps (own ∷ others) faster =
-    let more = as_many_steps others (width own * faster) in omega (arith, more)
+as_many_steps (own ∷ others) faster = grind (arith, as_many_steps others (width own * faster))
 
 pub shape_at : (counts xs : List (List ℕ)) → HasShape counts xs → (i : ℕ) → i < length counts
     → length (get_or xs i []) ≡ length (get_or counts i [])
-shape_at [] xs h i less = absurd (omega (arith, less))
-shape_at (own ∷ others) [] h i less = absurd h
-shape_at (own ∷ others) (x ∷ xs) h zero less = h.0
 shape_at (own ∷ others) (x ∷ xs) h (suc i) less =
     shape_at others xs h.1 i (omega (arith, less))
+shape_at counts xs h i less = grind arith
 
 pub player_steps : (counts : List (List ℕ)) (i faster more : ℕ) (own steps : List ℕ)
     (all next whole : List (List ℕ)) → i < length counts → own ≡ get_or counts i []

@@ -1,24 +1,14 @@
 -- What is made from the numbers of actions are the digits of the game.
-use Rattle.std.proofs.Common.{◌≡◌, ℕ, zero, suc, ◌-◌, ◌<◌, ◌≤◌, ◌^◌, Bool, true, false, cond}
-use Rattle.std.proofs.Common.{List, [], ◌∷◌, ◌++◌, Some, length, map, get_or, refl, sym, ap, subst}
-use Rattle.std.proofs.Common.{◌∙◌, arith}
-use Rattle.std.specs.Prelude.{option_map, find}
-use Rattle.std.proofs.lemmas.List.{append-nil, get_or_default, length-map}
-use Rattle.std.proofs.lemmas.Option.{none-some}
-use Rattle.std.proofs.lemmas.Slice.Zip.{AllZip-long}
-use Rattle.gf_nfg.specs.Profiles.{product}
-use Rattle.gf_nfg.proofs.lemmas.tables.Profiles.{length-profiles}
-use Rattle.gf_tree.specs.Description.{SetKey, InformationSet, same_set}
-use Rattle.gf_tree.specs.FiniteMap.{Described, description_at}
-use Rattle.gf_tree.specs.FirstUse.{player_sets}
-use Rattle.gf_tree.specs.Game.{Game, IsGame, set_at}
-use Rattle.gf_form.specs.inner.rows.Demands.{spans, steps_of}
-use Rattle.gf_form.specs.inner.rows.DigitSteps.{all_steps, at_digits, width}
-use Rattle.gf_form.specs.inner.rows.GameDigits.{HasDigits, digit_actions, digit_steps}
-use Rattle.gf_form.specs.inner.rows.Shares.{AreDigits, IsDigitOf}
-use Rattle.gf_form.specs.Strategies.{action_counts, all_choices, choice_at, choices_by}
-use Rattle.gf_form.specs.Strategies.{full_profiles, players_of, strategies, strategies_at}
-use Rattle.gf_form.specs.declared.rows.digits.Digits.{Digits}
+use Rattle.gf_form.proofs.Common.{◌≡◌, ℕ, suc, ◌-◌, ◌<◌, ◌≤◌, ◌^◌, Bool, true, false, cond, List}
+use Rattle.gf_form.proofs.Common.{[], ◌∷◌, ◌++◌, Some, length, map, get_or, refl, sym, ap, subst}
+use Rattle.gf_form.proofs.Common.{◌∙◌, arith, option_map, find, append-nil, get_or_default}
+use Rattle.gf_form.proofs.Common.{length-map, none-some, AllZip-long, product, length-profiles}
+use Rattle.gf_form.proofs.Common.{SetKey, InformationSet, same_set, Described, description_at}
+use Rattle.gf_form.proofs.Common.{player_sets, Game, IsGame, set_at, spans, steps_of, all_steps}
+use Rattle.gf_form.proofs.Common.{at_digits, width, HasDigits, digit_actions, AreDigits, IsDigitOf}
+use Rattle.gf_form.proofs.Common.{action_counts, all_choices, choice_at, choices_by, full_profiles}
+use Rattle.gf_form.proofs.Common.{players_of, strategies, strategies_at, Digits}
+use Rattle.gf_form.specs.inner.rows.GameDigits.{digit_steps}
 use Rattle.gf_form.proofs.lemmas.strategies.Choices.{IsChoice, length-all_choices}
 use Rattle.gf_form.proofs.lemmas.strategies.Chosen.{among_his, have_actions, profile_strategies}
 use Rattle.gf_form.proofs.lemmas.strategies.CountedActions.{actions_positive, of_player}
@@ -77,11 +67,9 @@ among (s ∷ ss) key set is = by (same_set s.key key) refl (among ss key set) is
 choice_bounds : (counts choice : List ℕ) → IsChoice counts choice → (place : ℕ)
     → place < length counts
     → (1 ≤ get_or choice place 0) × (get_or choice place 0 ≤ get_or counts place 0)
-choice_bounds [] choice h place less = absurd (omega (arith, less))
-choice_bounds (n ∷ counts) [] h place less = absurd h
-choice_bounds (n ∷ counts) (a ∷ choice) h zero less = h.0
 choice_bounds (n ∷ counts) (a ∷ choice) h (suc place) less =
     choice_bounds counts choice h.1 place (omega (arith, less))
+choice_bounds counts choice h place less = grind arith
 
 same_digit : (actions more choices others : List ℕ) (step by count many choice taken : ℕ)
     → actions ≡ more → choices ≡ others → step ≡ by → count ≡ many → choice ≡ taken

@@ -1,21 +1,11 @@
 -- The nodes that pay somebody something have all shares.
-use Rattle.std.proofs.Common.{◌≡◌, ℕ, suc, Bool, true, false, List, [], ◌∷◌, length, refl, arith}
-use Rattle.std.proofs.Common.{Some}
-use Rattle.std.specs.Prelude.{ℤ, pos, nat_lt, if◌then◌else◌}
-use Rattle.std.specs.List.{AllByRecursion, filter}
-use Rattle.gf_fraction.specs.Ratio.{HasValue, IsFraction, Ratio}
-use Rattle.gf_fraction.specs.Rational.{zero_ratio}
-use Rattle.gf_tree.specs.Description.{SetKey}
-use Rattle.gf_tree.specs.Game.{Game, IsGame}
-use Rattle.gf_tree.specs.Spellable.{IsSpellable}
-use Rattle.gf_form.specs.inner.rows.Demands.{steps_of}
-use Rattle.gf_form.specs.inner.rows.KeptNodes.{is_paid, paid_reached}
-use Rattle.gf_form.specs.inner.rows.ReachedNodes.{reached, root_path}
-use Rattle.gf_form.specs.inner.values.Rows.{ArePaid, at_place, row_at}
-use Rattle.gf_form.specs.inner.rows.Shares.{AreDigits, FitsAt, IsExactIfMet, met_bounds, pay_at}
-use Rattle.gf_form.specs.inner.rows.Shares.{share, share_bound, sum_of_shares}
-use Rattle.gf_form.specs.inner.values.Values.{value}
-use Rattle.gf_form.specs.declared.rows.paths.Reached.{Reached}
+use Rattle.gf_form.proofs.Common.{◌≡◌, ℕ, suc, Bool, true, false, List, [], ◌∷◌, length, refl}
+use Rattle.gf_form.proofs.Common.{arith, Some, ℤ, pos, nat_lt, if◌then◌else◌, AllByRecursion}
+use Rattle.gf_form.proofs.Common.{HasValue, IsFraction, Ratio, zero_ratio, SetKey, Game, IsGame}
+use Rattle.gf_form.proofs.Common.{IsSpellable, steps_of, is_paid, paid_reached, reached, root_path}
+use Rattle.gf_form.proofs.Common.{ArePaid, at_place, AreDigits, FitsAt, IsExactIfMet, met_bounds}
+use Rattle.gf_form.proofs.Common.{pay_at, share, share_bound, sum_of_shares, value, Reached}
+use Rattle.std.specs.List.{filter}
 use Rattle.gf_form.proofs.lemmas.rows.ReachedValues.{reached_value}
 
 unpaid : (b : Bool) (z : ℤ) → z ≡ pos 0 → (if b then z else pos 0) ≡ pos 0
@@ -32,9 +22,6 @@ empty_row [] k h = refl
 empty_row (x ∷ row) k h = grind arith
 
 module _ (g : Game) (den : ℕ) (rows : List (List Ratio)) (are : ArePaid g rows) where
-  nothing_paid : (r : Reached) → is_paid rows r ≡ false → (k : ℕ) → pay_at g (suc k) r ≡ zero_ratio
-  nothing_paid r none k = cc (are.paid_is r.outcome k, empty_row (row_at rows r.outcome) k none)
-
   no_share : (r : Reached) (k : ℕ) → pay_at g (suc k) r ≡ zero_ratio
       → share g (suc k) den r ≡ pos 0
   no_share r k nothing = grind arith
@@ -48,20 +35,20 @@ module _ (g : Game) (den : ℕ) (rows : List (List Ratio)) (are : ArePaid g rows
       ≡ sum_of_shares g (suc k) den steps choices rs
   kept_shares k steps choices [] = refl
   kept_shares k steps choices (r ∷ rs) =
-      grind (arith, unpaid, no_share, nothing_paid, kept_shares k steps choices rs)
+      grind (arith, unpaid, no_share, empty_row, kept_shares k steps choices rs)
 
   kept_bounds : (k : ℕ) (steps choices : List ℕ) (rs : List Reached)
       → met_bounds g (suc k) den steps choices (filter (is_paid rows) rs)
       ≡ met_bounds g (suc k) den steps choices rs
   kept_bounds k steps choices [] = refl
   kept_bounds k steps choices (r ∷ rs) =
-      grind (arith, unbound, no_bound, nothing_paid, kept_bounds k steps choices rs)
+      grind (arith, unbound, no_bound, empty_row, kept_bounds k steps choices rs)
 
   kept_exact : (k : ℕ) (steps choices : List ℕ) (rs : List Reached)
       → AllByRecursion (IsExactIfMet g (suc k) den steps choices) (filter (is_paid rows) rs)
       → AllByRecursion (IsExactIfMet g (suc k) den steps choices) rs
   kept_exact k steps choices [] h = h
-  kept_exact k steps choices (r ∷ rs) h = grind (arith, nothing_paid, kept_exact k steps choices rs)
+  kept_exact k steps choices (r ∷ rs) h = grind (arith, empty_row, kept_exact k steps choices rs)
 
   pub kept_fits : (k : ℕ) (steps choices : List ℕ) (rs : List Reached)
       → FitsAt g (suc k) den steps choices (filter (is_paid rows) rs)

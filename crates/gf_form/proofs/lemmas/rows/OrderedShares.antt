@@ -1,15 +1,11 @@
 -- The sums of shares do not depend on the order of the nodes.
-use Rattle.std.proofs.Common.{◌≡◌, ℕ, ◌+◌, ℤ, pos, ◌+ℤ◌, List, [], ◌∷◌, refl, arith}
-use Rattle.std.specs.Prelude.{if◌then◌else◌}
+use Rattle.gf_form.proofs.Common.{◌≡◌, ℕ, ◌+◌, ℤ, pos, ◌+ℤ◌, List, [], ◌∷◌, refl, arith}
+use Rattle.gf_form.proofs.Common.{if◌then◌else◌, IsPermutation, Game, meets, met_bounds, share}
+use Rattle.gf_form.proofs.Common.{share_bound, sum_of_shares, Reached}
 use borrow.Author.Differences.{up, down, same_in, sum_is_lem}
 use Rattle.std.specs.List.{sum_by}
-use Rattle.std.specs.List.Sorted.{IsPermutation}
 use Rattle.std.proofs.lemmas.List.Sorted.{sum_by-IsPermutation}
 use Rattle.std.proofs.lemmas.List.Sums.{sum_by-cons}
-use Rattle.gf_tree.specs.Game.{Game}
-use Rattle.gf_form.specs.inner.rows.Demands.{meets}
-use Rattle.gf_form.specs.inner.rows.Shares.{met_bounds, share, share_bound, sum_of_shares}
-use Rattle.gf_form.specs.declared.rows.paths.Reached.{Reached}
 
 more : (z s : ℤ) (m n : ℕ) → up s + n ≡ m + down s
     → up (z +ℤ s) + (down z + n) ≡ up z + m + down (z +ℤ s)

@@ -1,48 +1,30 @@
 -- The value of a tree is the sum of the shares of the nodes that choices reach.
-use Rattle.std.proofs.Common.{◌≡◌, ℕ, ℤ, zero, suc, pos, ◌+◌, ◌*◌, ◌/◌, ◌^◌, ◌<◌, ◌≤◌, Bool, true}
-use Rattle.std.proofs.Common.{false, List, ◌∷◌, ◌++◌, Option, Some, None, MatchOption, length}
-use Rattle.std.proofs.Common.{get_or, set, refl, ap, sym, subst, ◌∙◌, arith, inr}
-use Rattle.std.specs.Prelude.{◌*ℤ◌, ◌+ℤ◌, ◌==◌, ◌&&◌, unsigned_abs, option_map, if◌then◌else◌}
-use Rattle.std.specs.List.{AllByRecursion}
-use Rattle.std.proofs.lemmas.Bool.{and_from, eq-eqb, eqb-false, eqb-true, ne_eqb}
-use Rattle.std.proofs.Math.IntN.{*ℤ_comm}
-use Rattle.gf_fraction.proofs.AllElements.{all_parts}
-use Rattle.gf_fraction.proofs.Integers.{*ℤ-one}
-use Rattle.gf_fraction.specs.Ratio.{HasValue, IsFraction, Ratio}
-use Rattle.gf_fraction.specs.Rational.{zero_ratio}
-use Rattle.gf_tree.specs.Tree.{Tree, Trees, count}
-use Rattle.gf_tree.specs.Tree.Tree.{branch}
-use Rattle.gf_tree.specs.Tree.Trees.{none, more}
-use Rattle.gf_tree.specs.PrefixOrder.{flatten, flatten_all}
-use Rattle.gf_tree.specs.Description.{SetKey}
-use Rattle.gf_tree.specs.Game.{Game, HasChildren, IsGame, Node, set_at}
-use Rattle.gf_tree.specs.Spellable.{IsSpellable}
-use Rattle.gf_form.specs.inner.rows.Demands.{meets, steps_of}
-use Rattle.gf_form.specs.Payoff.{payoff_at}
-use Rattle.gf_form.specs.inner.values.Program.{paid_at_node}
-use Rattle.gf_form.specs.inner.rows.ReachedNodes.{below_set, by_action, by_any, by_chance}
-use Rattle.gf_form.specs.inner.rows.ReachedNodes.{by_choice, by_lot, demanded, has_room, is_sum}
-use Rattle.gf_form.specs.inner.rows.ReachedNodes.{is_sum_at, over_set, reached, root_path}
-use Rattle.gf_form.specs.inner.rows.Shares.{AreDigits, FitsAt, IsExactIfMet, met_bounds}
-use Rattle.gf_form.specs.inner.rows.Shares.{sum_of_shares}
-use Rattle.gf_form.specs.inner.values.Values.{chance_value, chances_at, child_value, value, plus_of}
-use Rattle.gf_form.specs.inner.values.Values.{times_of, value_over}
-use Rattle.gf_form.specs.declared.rows.paths.Path.{Path}
-use Rattle.gf_form.specs.declared.rows.paths.Reached.{Reached}
+use Rattle.gf_form.proofs.Common.{◌≡◌, ℕ, ℤ, zero, suc, pos, ◌+◌, ◌*◌, ◌/◌, ◌^◌, ◌<◌, ◌≤◌, Bool}
+use Rattle.gf_form.proofs.Common.{true, false, List, ◌∷◌, ◌++◌, Option, Some, None, MatchOption}
+use Rattle.gf_form.proofs.Common.{length, get_or, set, refl, ap, subst, ◌∙◌, arith, inr, ◌==◌, ◌&&◌}
+use Rattle.gf_form.proofs.Common.{unsigned_abs, option_map, if◌then◌else◌, AllByRecursion, and_from}
+use Rattle.gf_form.proofs.Common.{eq-eqb, eqb-false, eqb-true, ne_eqb, all_parts, HasValue}
+use Rattle.gf_form.proofs.Common.{IsFraction, Ratio, zero_ratio, Tree, Trees, count, branch, none}
+use Rattle.gf_form.proofs.Common.{more, flatten, flatten_all, SetKey, Game, HasChildren, IsGame}
+use Rattle.gf_form.proofs.Common.{Node, set_at, IsSpellable, meets, steps_of, payoff_at}
+use Rattle.gf_form.proofs.Common.{paid_at_node, below_set, by_action, by_any, by_chance, by_choice}
+use Rattle.gf_form.proofs.Common.{by_lot, is_sum_at, over_set, reached, root_path, AreDigits}
+use Rattle.gf_form.proofs.Common.{FitsAt, IsExactIfMet, met_bounds, sum_of_shares, chance_value}
+use Rattle.gf_form.proofs.Common.{chances_at, child_value, value, plus_of, times_of, value_over}
+use Rattle.gf_form.proofs.Common.{Path, Reached, IsDigitOf}
+use Rattle.gf_form.specs.inner.rows.ReachedNodes.{has_room, is_sum}
 use Rattle.gf_form.proofs.lemmas.values.ChanceSigns.{chance_size}
-use Rattle.gf_form.proofs.lemmas.rows.DemandDigits.{met, met_digit, no_demands, none_met, none_pack}
-use Rattle.gf_form.proofs.lemmas.rows.DemandDigits.{none_within, within_length}
+use Rattle.gf_form.proofs.lemmas.rows.DemandDigits.{met, no_demands, none_met, none_pack}
+use Rattle.gf_form.proofs.lemmas.rows.DemandDigits.{none_within}
 use Rattle.gf_form.proofs.lemmas.rows.IdlePaths.{idle_weightless, unpaid_move, weightless}
 use Rattle.gf_form.proofs.lemmas.values.Denominators.{payoff_fraction, probability_fraction}
 use Rattle.gf_form.proofs.lemmas.values.ProgramRuns.{paid_is}
 use Rattle.gf_form.proofs.lemmas.rows.ShareSums.{bounds_append}
-use Rattle.gf_form.proofs.lemmas.rows.UnmetShares.{HasDigits, IsFree, any_unmet, chosen_digits}
-use Rattle.gf_form.proofs.lemmas.rows.UnmetShares.{digit_of, digit_there, meets_digits, met_with}
-use Rattle.gf_form.proofs.lemmas.rows.UnmetShares.{set_there, unmet}
+use Rattle.gf_form.proofs.lemmas.rows.UnmetShares.{HasDigits, below_by, any_unmet, chosen_digits}
+use Rattle.gf_form.proofs.lemmas.rows.UnmetShares.{meets_digits, met_with, set_there, unmet}
 use Rattle.gf_form.proofs.lemmas.rows.ValuedNodes.{IsAdded, IsPart, IsValued, child_added}
 use Rattle.gf_form.proofs.lemmas.rows.ValuedNodes.{from_nothing, idle_leaf, idle_move, leaf_valued}
-use Rattle.gf_form.proofs.lemmas.rows.ValuedNodes.{move_valued, next_limit, next_sum, no_child}
-use Rattle.gf_form.proofs.lemmas.rows.ValuedNodes.{none_added, same_sum, valued_before}
+use Rattle.gf_form.proofs.lemmas.rows.ValuedNodes.{move_valued, no_child, none_added, valued_before}
 use Rattle.gf_form.proofs.lemmas.rows.ValuedNodes.{valued_behind, valued_known}
 use Rattle.gf_form.proofs.lemmas.values.ValuesComputed.{zero_fraction}
 
@@ -89,62 +71,6 @@ module _ (g : Game) (game : IsGame g) (spellable : IsSpellable g) (steps choose 
   chance_fraction : (n : Node) (k : ℕ) → IsFraction (chances_at g n k)
   chance_fraction n k = probability_fraction g spellable (record { node = n; taken = k })
 
-  -- below a player's node
-  personal_valued : (n : Node) (ts : Trees Node) (path : Path) (ds : List ℕ) (key : SetKey)
-      → IsMet path ds → ¬ (key.player ≡ 0)
-      → option_map (λ set. length set.actions) (set_at g key) ≡ Some (count ts)
-      → ((position : ℕ) → 1 ≤ position → position ≤ count ts
-      → IfFits (child_value g choose player position ts) path
-      (by_action g steps path position ts))
-      → ((step place : ℕ) → IsFree actions ds step (count ts) place
-      → get_or choices place 0 ≡ choose key
-      → IfFits (child_value g choose player (choose key) ts) path (by_any g steps path step 1 ts))
-      → IfFits (child_value g choose player (choose key) ts) path
-      (if steps key == 0 then by_action g steps path 1 ts
-      else if demanded path.demands (steps key) (count ts) == 0
-      then by_any g steps path (steps key) 1 ts
-      else by_action g steps path (demanded path.demands (steps key) (count ts)) ts)
-  personal_valued n ts path ds key is personal h action any = by_digit (steps key == 0) refl
-    where
-      chosen : (1 ≤ choose key) × (choose key ≤ count ts)
-      chosen = grind (arith, set_there)
-
-      by_demand : ¬ (steps key ≡ 0) → (b : Bool)
-          → (demanded path.demands (steps key) (count ts) == 0) ≡ b
-          → IfFits (child_value g choose player (choose key) ts) path
-          (if b then by_any g steps path (steps key) 1 ts
-          else by_action g steps path (demanded path.demands (steps key) (count ts)) ts)
-      by_demand several true free =
-          let d = digit_of g steps choose actions choices digits key (count ts) personal several
-          h in
-          any (steps key) d.place (record {
-            within = d.within;
-            step_is = d.step_is;
-            actions_are = d.actions_are;
-            free = sym (digit_there actions choices ds path (steps key) (count ts) (choose key)
-                is.has d) ∙ eqb-true (demanded path.demands (steps key) (count ts)) 0 free;
-          }) d.choice_is
-      by_demand several false taken =
-          let d = digit_of g steps choose actions choices digits key (count ts) personal several
-          h in
-          let there = digit_there actions choices ds path (steps key) (count ts) (choose key)
-          is.has d in
-          let some : ¬ (get_or ds d.place 0 ≡ 0) =
-          λ e. eqb-false (demanded path.demands (steps key) (count ts)) 0 taken (there ∙ e) in
-          let size = within_length actions ds is.has.1 in
-          let same : choose key ≡ demanded path.demands (steps key) (count ts) =
-          grind (arith, met_digit) in
-          grind arith
-
-      by_digit : (b : Bool) → (steps key == 0) ≡ b
-          → IfFits (child_value g choose player (choose key) ts) path
-          (if b then by_action g steps path 1 ts
-          else if demanded path.demands (steps key) (count ts) == 0
-          then by_any g steps path (steps key) 1 ts
-          else by_action g steps path (demanded path.demands (steps key) (count ts)) ts)
-      by_digit true one = grind (arith, set_there, eqb-true)
-      by_digit false several = grind (arith, by_demand, eqb-false)
-
   abbrev value_below : Node → Trees Node → SetKey → Option Ratio
   value_below n ts key =
       if key.player == 0
@@ -160,12 +86,20 @@ module _ (g : Game) (game : IsGame g) (spellable : IsSpellable g) (steps choose 
       → ((position : ℕ) → 1 ≤ position → position ≤ count ts
       → IfFits (child_value g choose player position ts) path
       (by_action g steps path position ts))
-      → ((step place choice : ℕ) → IsFree actions ds step (count ts) place
-      → get_or choices place 0 ≡ choice → 1 ≤ choice → choice ≤ count ts
+      → ((step choice : ℕ) (d : IsDigitOf actions choices step (count ts) choice)
+      → get_or ds d.place 0 ≡ 0 → 1 ≤ choice → choice ≤ count ts
       → IfFits (child_value g choose player choice ts) path (by_any g steps path step 1 ts))
       → IfFits (value_below n ts key) path (below_set g steps path n ts key)
   below_valued n ts path ds key is h lot action any =
-      grind (arith, eqb-true, eqb-false, set_there, personal_valued)
+      below_by g steps choose actions choices digits (IfFits (value_below n ts key) path) n ts path
+      ds key is.has h (λ chance. rw (eq-eqb key.player 0 chance) (lot chance))
+      (λ personal position same. let c = chosen personal in
+      rw (ne_eqb key.player 0 personal, same is.met) (action (choose key) c.0 c.1))
+      (λ personal d free. let c = chosen personal in
+      rw (ne_eqb key.player 0 personal) (any (steps key) (choose key) d free c.0 c.1))
+    where
+      chosen : ¬ (key.player ≡ 0) → (1 ≤ choose key) × (choose key ≤ count ts)
+      chosen personal = grind (arith, set_there)
 
   -- what is below a node, on any path that is not idle where chance moves
   abbrev Below : Node → Trees Node → List ℕ → Type 0
@@ -244,38 +178,26 @@ module _ (g : Game) (game : IsGame g) (spellable : IsSpellable g) (steps choose 
       by true is =
           let unlikely = eqb-true (unsigned_abs c.num) 0 is in
           let lists = bounds_append g player den (steps_of actions) choices xs ys in
-          let zero : c.num ≡ pos 0 = sign ∙ ap pos unlikely in
           let on = by_chance path c in
-          subst (λ (o : Option Ratio). Added (total o) start path (xs ++ ys))
-          (sym (same_sum g player den den_above den_within (steps_of actions) choices c fc zero sum
-          f value on.weight on.bound on.den xs child (weightless path c unlikely)))
-          (none_added g player den den_above den_within (steps_of actions) choices c fc zero sum f
-          value on.weight on.bound on.den xs child (weightless path c unlikely) (total (Some sum))
-          start path.weight path.bound path.den ys
-          (later sum start f starts (omega (arith, limit, lists))))
+          none_added g player den den_above den_within (steps_of actions) choices c fc
+          (sign ∙ ap pos unlikely) sum f value on.weight on.bound on.den xs child
+          (weightless path c unlikely) total start path.weight path.bound path.den ys
+          (later sum start f starts (omega (arith, limit, lists)))
       by false is =
           let above = eqb-false (unsigned_abs c.num) 0 is in
-          let likely : 1 ≤ unsigned_abs c.num = omega (arith, above) in
-          let known = valued_known g player den den_above den_within (steps_of actions) choices
+          child_added g player den den_above den_within (steps_of actions) choices c fc
+          (omega (arith, above)) sign sum start f path.weight path.bound path.den starts some value
+          xs ys (valued_known g player den den_above den_within (steps_of actions) choices
           (has_room path c) value (path.weight * unsigned_abs c.num)
-          (path.bound * unsigned_abs c.num) (path.den * c.den) xs child in
-          let next = next_sum g player den den_above den_within (steps_of actions) choices c fc
-          likely sign sum start f path.weight path.bound path.den starts some value xs ys known
-          limit in
-          let rest = next_limit g player den den_above den_within (steps_of actions) choices c fc
-          likely sign sum start f path.weight path.bound path.den starts some value xs ys known
-          limit in
-          child_added g player den den_above den_within (steps_of actions) choices c fc likely sign
-          sum start f path.weight path.bound path.den starts some value xs ys known limit _
-          (rw next.1 (later next.0 (start +ℤ c.num *ℤ known.amount) next.2 next.3 rest))
+          (path.bound * unsigned_abs c.num) (path.den * c.den) xs child) limit total later
 
   -- another action than the one that is chosen
-  not_chosen : (path : Path) (ds : List ℕ) (step m place j : ℕ) → IsMet path ds
-      → IsFree actions ds step m place → 1 ≤ j → ¬ (j ≡ get_or choices place 0)
-      → met choices (set ds place j) ≡ false
-  not_chosen path ds step m place j is free some other =
-      met_with g steps choose actions choices digits ds step m place j is.has.1 free some
-      ∙ (λ i. is.met i && ne_eqb j (get_or choices place 0) other i)
+  not_chosen : (path : Path) (ds : List ℕ) (step m choice j : ℕ) → IsMet path ds
+      → (d : IsDigitOf actions choices step m choice) → get_or ds d.place 0 ≡ 0 → 1 ≤ j
+      → ¬ (j ≡ choice) → met choices (set ds d.place j) ≡ false
+  not_chosen path ds step m choice j is d free some other =
+      met_with g steps choose actions choices digits ds step m choice j is.has.1 d free some
+      ∙ (λ i. is.met i && ne_eqb j choice other i)
 
   -- ---- the tree
 
@@ -296,9 +218,9 @@ module _ (g : Game) (game : IsGame g) (spellable : IsSpellable g) (steps choose 
         (lot_valued ts n key 1 zero_ratio (pos 0) p ds at chance children.1 met (some chance)
         zero_fraction (inr (refl, refl)) exact (omega (arith, limit))))
         (λ position first fits. action_valued ts position p ds first fits children.1 met)
-        (λ step place choice free chosen first fits.
-        any_valued ts 1 choice p ds step (count ts) place choice first fits chosen
-        (omega arith) (omega arith) (omega arith) free children.1 met))
+        (λ step choice d free first fits.
+        any_valued ts 1 choice p ds step (count ts) choice first fits (omega arith) (omega arith)
+        (omega arith) d free children.1 met))
         n.set refl (path.bound == 0) refl (is_sum g n) refl
 
     lot_valued : (ts : Trees Node) (n : Node) (key : SetKey) (k : ℕ) (sum : Ratio) (start : ℤ)
@@ -312,8 +234,7 @@ module _ (g : Game) (game : IsGame g) (spellable : IsSpellable g) (steps choose 
         → Added (chance_value g choose player (chances_at g n) k (Some sum) ts) start path
         (by_lot g steps path (chances_at g n) k ts)
     lot_valued none n key k sum start path ds at chance children is some f starts exact limit =
-        no_child g player den den_above den_within (steps_of actions) choices sum start path.weight
-        path.bound path.den f starts
+        grind (arith, no_child)
     lot_valued (more t ts) n key k sum start path ds at chance children is some f starts exact
         limit =
         let c = chances_at g n k in
@@ -349,58 +270,54 @@ module _ (g : Game) (game : IsGame g) (spellable : IsSpellable g) (steps choose 
         (all_parts (HasChildren g) (flatten t) (flatten_all ts) children).1 is exact limit
 
     -- of children, the first of which has position k, the one that is chosen
-    any_valued : (ts : Trees Node) (k position : ℕ) (path : Path) (ds : List ℕ)
-        (step m place choice : ℕ)
-        → 1 ≤ position → position ≤ count ts → get_or choices place 0 ≡ choice
-        → choice + 1 ≡ k + position → 1 ≤ k → k + count ts ≤ m + 1
-        → IsFree actions ds step m place → AllByRecursion (HasChildren g) (flatten_all ts)
+    any_valued : (ts : Trees Node) (k position : ℕ) (path : Path) (ds : List ℕ) (step m choice : ℕ)
+        → 1 ≤ position → position ≤ count ts → choice + 1 ≡ k + position → 1 ≤ k
+        → k + count ts ≤ m + 1 → (d : IsDigitOf actions choices step m choice)
+        → get_or ds d.place 0 ≡ 0 → AllByRecursion (HasChildren g) (flatten_all ts)
         → IsMet path ds
         → IfFits (child_value g choose player position ts) path (by_any g steps path step k ts)
-    any_valued none k position path ds step m place choice some fits chosen at above all free
-        children is exact limit = absurd (omega arith)
-    any_valued (more t ts) k zero path ds step m place choice some fits chosen at above all free
-        children is exact limit = absurd (omega arith)
-    any_valued (more t ts) k (suc zero) path ds step m place choice some fits chosen at above all
-        free
+    any_valued none k position path ds step m choice some fits at above all d free children is
+        exact limit = absurd (omega arith)
+    any_valued (more t ts) k zero path ds step m choice some fits at above all d free children is
+        exact limit = absurd (omega arith)
+    any_valued (more t ts) k (suc zero) path ds step m choice some fits at above all d free
         children is exact limit =
-        let on = by_choice path step k in
-        let xs = reached g steps on t in
+        let xs = reached g steps (by_choice path step k) t in
         let ys = by_any g steps path step (k + 1) ts in
         let both = all_parts (HasChildren g) (flatten t) (flatten_all ts) children in
         let exacts = parts xs ys exact in
         let lists = bounds_append g player den (steps_of actions) choices xs ys in
-        let same : k ≡ get_or choices place 0 = omega (arith, at, chosen) in
-        let with = met_with g steps choose actions choices digits ds step m place k is.has.1 free
+        let same : k ≡ choice = omega (arith, at) in
+        let with = met_with g steps choose actions choices digits ds step m choice k is.has.1 d free
         above in
-        let child = valued t on (set ds place k) both.0 (record {
-          has = chosen_digits actions ds path step m place k digits.within is.has free
+        let child = valued t (by_choice path step k) (set ds d.place k) both.0 (record {
+          has = chosen_digits actions choices ds path step m choice k digits.within is.has d free
               (omega (arith, all));
-          met = with ∙ and_from (met choices ds) (k == get_or choices place 0) is.met
-              (eq-eqb k (get_or choices place 0) same);
+          met = with ∙ and_from (met choices ds) (k == choice) is.met (eq-eqb k choice same);
           weightless = is.weightless;
         }) exacts.0 (omega (arith, limit, lists)) in
         valued_before g player den den_above den_within (steps_of actions) choices _ path.weight
         path.bound path.den xs ys child
-        (any_unmet g steps choose actions choices digits player den ts (k + 1) path ds step m place
-        both.1 is.has free (omega arith) (omega (arith, all))
-        (λ j from. not_chosen path ds step m place j is free (omega (arith, from))
+        (any_unmet g steps choose actions choices digits player den ts (k + 1) path ds step m choice
+        both.1 is.has d free (omega arith) (omega (arith, all))
+        (λ j from. not_chosen path ds step m choice j is d free (omega (arith, from))
         (λ e. omega (arith, from, e, same))))
-    any_valued (more t ts) k (suc (suc position)) path ds step m place choice some fits chosen at
-        above all free children is exact limit =
-        let on = by_choice path step k in
-        let xs = reached g steps on t in
+    any_valued (more t ts) k (suc (suc position)) path ds step m choice some fits at above all d
+        free children is exact limit =
+        let xs = reached g steps (by_choice path step k) t in
         let ys = by_any g steps path step (k + 1) ts in
         let both = all_parts (HasChildren g) (flatten t) (flatten_all ts) children in
         let exacts = parts xs ys exact in
         let lists = bounds_append g player den (steps_of actions) choices xs ys in
         valued_behind g player den den_above den_within (steps_of actions) choices _ path.weight
         path.bound path.den xs ys
-        (unmet g steps choose actions choices digits player den t on (set ds place k) both.0
-        (chosen_digits actions ds path step m place k digits.within is.has free
+        (unmet g steps choose actions choices digits player den t (by_choice path step k)
+        (set ds d.place k) both.0
+        (chosen_digits actions choices ds path step m choice k digits.within is.has d free
         (omega (arith, all)))
-        (not_chosen path ds step m place k is free above (λ e. omega (arith, e, at, chosen))))
-        (any_valued ts (k + 1) (suc position) path ds step m place choice (omega arith)
-        (omega (arith, fits)) chosen (omega (arith, at)) (omega arith) (omega (arith, all)) free
+        (not_chosen path ds step m choice k is d free above (λ e. omega (arith, e, at))))
+        (any_valued ts (k + 1) (suc position) path ds step m choice (omega arith)
+        (omega (arith, fits)) (omega (arith, at)) (omega arith) (omega (arith, all)) d free
         both.1 is exacts.1 (omega (arith, limit, lists)))
 
 -- the player counts from 1
@@ -414,7 +331,4 @@ reached_value g game spellable steps choose actions choices digits player den fi
     let whole = valued g game spellable steps choose actions choices digits player den
     fits.den_above_zero fits.den_within g.tree root_path (no_demands actions) game.children
     (grind (arith, none_pack, none_within, none_met)) fits.exact fits.within in
-    let sum : whole.amount
-    ≡ sum_of_shares g player den (steps_of actions) choices (reached g steps root_path g.tree) =
-    sym (whole.shares_are ∙ *ℤ_comm (pos 1) whole.amount ∙ *ℤ-one whole.amount) in
     let over : den / 1 ≡ den = omega arith in grind arith

@@ -1,12 +1,7 @@
 -- Sums of the shares of nodes, and of their bounds, part by part.
-use Rattle.std.proofs.Common.{◌≡◌, ℕ, ℤ, pos, ◌+◌, true, false, List, [], ◌∷◌, ◌++◌, arith, refl}
-use Rattle.std.proofs.Common.{ap, sym, ◌∙◌}
-use Rattle.std.specs.Prelude.{◌+ℤ◌, if◌then◌else◌}
-use Rattle.std.proofs.Math.IntN.{+ℤ_assoc, +ℤ_idl}
-use Rattle.gf_tree.specs.Game.{Game}
-use Rattle.gf_form.specs.inner.rows.Demands.{meets}
-use Rattle.gf_form.specs.inner.rows.Shares.{met_bounds, share, share_bound, sum_of_shares}
-use Rattle.gf_form.specs.declared.rows.paths.Reached.{Reached}
+use Rattle.gf_form.proofs.Common.{◌≡◌, ℕ, ℤ, ◌+◌, true, false, List, [], ◌∷◌, ◌++◌, arith, refl}
+use Rattle.gf_form.proofs.Common.{sym, ◌+ℤ◌, +ℤ_assoc, +ℤ_idl, Game, meets, met_bounds, share}
+use Rattle.gf_form.proofs.Common.{share_bound, sum_of_shares, Reached}
 
 module _ (g : Game) (player den : ℕ) (steps choices : List ℕ) where
   abbrev shares : List Reached → ℤ
@@ -16,9 +11,7 @@ module _ (g : Game) (player den : ℕ) (steps choices : List ℕ) where
       → sum_of_shares g player den steps choices (xs ++ ys)
       ≡ sum_of_shares g player den steps choices xs +ℤ sum_of_shares g player den steps choices ys
   shares_append [] ys = sym (+ℤ_idl (shares ys))
-  shares_append (r ∷ xs) ys =
-      let first = if meets steps choices r.path.demands then share g player den r else pos 0 in
-      ap (λ z. first +ℤ z) (shares_append xs ys) ∙ sym (+ℤ_assoc first (shares xs) (shares ys))
+  shares_append (r ∷ xs) ys = grind (arith, +ℤ_assoc, shares, shares_append xs ys)
 
   pub met_first : (r : Reached) (rs : List Reached) → meets steps choices r.path.demands ≡ true
       → sum_of_shares g player den steps choices (r ∷ rs)

@@ -1,22 +1,16 @@
 -- Nodes that differ in weight alone have the shares of their sum.
-use Rattle.std.proofs.Common.{◌≡◌, ℕ, ℤ, pos, ◌+◌, ◌-◌, ◌*◌, ◌<◌, ◌≤◌, ◌*ℤ◌, Bool, List, [], ◌∷◌}
-use Rattle.std.proofs.Common.{◌++◌, arith, refl, ap, sym, subst, ◌∙◌, get_or, length, set, take}
-use Rattle.std.specs.Prelude.{◌+ℤ◌, if◌then◌else◌}
-use Rattle.std.specs.List.Sorted.{IsNonDecreasingBy, IsPermutation}
-use Rattle.std.proofs.Math.Nat.{mod-lt}
-use Rattle.std.proofs.Math.Seq.{get_or-append_seam, take-length}
-use Rattle.std.proofs.lemmas.List.{append_assoc, get_or_default, get_or-set_other, length-append}
-use Rattle.std.proofs.lemmas.List.{length-set, take_more, take_more_set}
-use Rattle.std.proofs.lemmas.List.Elements.{All-from_recursion, recursion_from_All}
-use Rattle.std.proofs.lemmas.List.Sorted.{All-permutation, IsNonDecreasingBy-push}
-use Rattle.std.proofs.lemmas.List.Sorted.{IsPermutation-sym}
-use Rattle.gf_fraction.proofs.AllElements.{all_both, all_parts}
-use Rattle.gf_tree.specs.Game.{Game}
-use Rattle.gf_form.specs.inner.rows.Entries.{Entry}
-use Rattle.gf_form.specs.inner.rows.ListedNodes.{AreTermsOf}
-use Rattle.gf_form.specs.inner.rows.Shares.{IsExactIfMet}
-use Rattle.gf_form.specs.inner.rows.SummedNodes.{HaveSharesOf, IsNodeSum, order_of, weighing}
-use Rattle.gf_form.specs.declared.rows.paths.Reached.{Reached}
+use Rattle.gf_form.proofs.Common.{◌≡◌, ℕ, ℤ, pos, ◌+◌, ◌-◌, ◌*◌, ◌<◌, ◌≤◌, ◌*ℤ◌, Bool, List, []}
+use Rattle.gf_form.proofs.Common.{◌∷◌, ◌++◌, arith, refl, ap, sym, subst, ◌∙◌, get_or, length, set}
+use Rattle.gf_form.proofs.Common.{take, ◌+ℤ◌, if◌then◌else◌, IsNonDecreasingBy, IsPermutation}
+use Rattle.gf_form.proofs.Common.{mod-lt, get_or-append_seam, take-length, get_or_default}
+use Rattle.gf_form.proofs.Common.{get_or-set_other, length-append, length-set, take_more}
+use Rattle.gf_form.proofs.Common.{take_more_set, All-from_recursion, IsNonDecreasingBy-push}
+use Rattle.gf_form.proofs.Common.{all_both, all_parts, Game, Entry, AreTermsOf, IsExactIfMet}
+use Rattle.gf_form.proofs.Common.{order_of, Reached}
+use Rattle.std.proofs.lemmas.List.{append_assoc}
+use Rattle.std.proofs.lemmas.List.Elements.{recursion_from_All}
+use Rattle.std.proofs.lemmas.List.Sorted.{All-permutation, IsPermutation-sym}
+use Rattle.gf_form.specs.inner.rows.SummedNodes.{HaveSharesOf, IsNodeSum, weighing}
 use Rattle.gf_form.proofs.lemmas.rows.FlatRows.{none_taken}
 use Rattle.gf_form.proofs.lemmas.rows.ListedEntries.{no_node, node_at}
 use Rattle.gf_form.proofs.lemmas.rows.OrderedShares.{bounds_permuted, shares_permuted}
@@ -58,13 +52,9 @@ both_met : (met : Bool) (v w : ℕ) (number : ℤ) → (if met then pos v *ℤ n
     ≡ (if met then pos (v + w) *ℤ number else pos 0) +ℤ pos 0
 both_met met v w number = grind arith
 
-both_bound : (met : Bool) (v w size : ℕ) → (if met then v * size else 0)
-    + ((if met then w * size else 0) + 0) ≡ (if met then (v + w) * size else 0) + 0
-both_bound met v w size = grind arith
-
 weights_sum : (r : Reached) (w b : ℕ) → HaveSharesOf (r ∷ weighing r w b ∷ [])
     (weighing r (r.path.weight + w) (r.path.bound + b) ∷ [])
-weights_sum r w b = grind (arith, both_met, both_bound)
+weights_sum r w b = grind (arith, both_met)
 
 sum_shares : (r s sum : Reached) → IsNodeSum r s sum → HaveSharesOf (r ∷ s ∷ []) (sum ∷ [])
 sum_shares r s sum h =

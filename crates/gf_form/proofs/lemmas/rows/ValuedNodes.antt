@@ -1,28 +1,18 @@
 -- A value over the common denominator, with the shares that it is the sum of: at a leaf, at a move,
 -- and as the children of a chance move are added.
-use Rattle.std.proofs.Common.{◌≡◌, ◌⊎◌, inl, inr, ℕ, ℤ, pos, ◌+◌, ◌*◌, ◌/◌, ◌^◌, ◌<◌, ◌≤◌, Bool}
-use Rattle.std.proofs.Common.{true, false, List, [], ◌∷◌, ◌++◌, Option, Some, arith, refl, ap, sym}
-use Rattle.std.proofs.Common.{subst, ◌∙◌}
-use Rattle.std.specs.Bool.{Decides}
-use Rattle.std.specs.Int.{◌∣◌}
+use Rattle.gf_form.proofs.Common.{◌≡◌, ◌⊎◌, inl, inr, ℕ, ℤ, pos, ◌+◌, ◌*◌, ◌/◌, ◌^◌, ◌<◌, ◌≤◌, Bool}
+use Rattle.gf_form.proofs.Common.{true, false, List, [], ◌∷◌, ◌++◌, Option, Some, arith, refl, ap}
+use Rattle.gf_form.proofs.Common.{sym, subst, ◌∙◌, Decides, ◌∣◌, ◌+ℤ◌, ◌*ℤ◌, ◌&&◌, nat_eq}
+use Rattle.gf_form.proofs.Common.{unsigned_abs, if◌then◌else◌, unsigned_abs-mul, *ℤ_comm, *ℤ-zero}
+use Rattle.gf_form.proofs.Common.{zero-*ℤ, +ℤ_assoc, +ℤ_idl, dvd-mul_right, mul-le-mul_right}
+use Rattle.gf_form.proofs.Common.{dvd_trans, HasValue, IsFraction, IsWithin, Ratio, zero_ratio}
+use Rattle.gf_form.proofs.Common.{product_of, Decides-ratio, *ℤ_assoc, add-*ℤ, Game, meets, IsExact}
+use Rattle.gf_form.proofs.Common.{met_bounds, over, pay_at, share, share_bound, sum_of_shares}
+use Rattle.gf_form.proofs.Common.{plus_of, times_of, Reached}
 use Rattle.std.specs.Ordering.{int_eq}
-use Rattle.std.specs.Prelude.{◌+ℤ◌, ◌*ℤ◌, ◌&&◌, nat_eq, unsigned_abs, if◌then◌else◌}
-use Rattle.std.proofs.lemmas.Int.{unsigned_abs-mul}
-use Rattle.std.proofs.Math.IntN.{*ℤ_comm, *ℤ-zero, zero-*ℤ, +ℤ_assoc, +ℤ_comm, +ℤ_idl}
-use Rattle.std.proofs.Math.Nat.{dvd-mul_right, eq-zero_of_zero-dvd, le-mul_of_pos_right}
-use Rattle.std.proofs.Math.Nat.{mul-le-mul_right}
-use Rattle.std.proofs.lemmas.Nat.Gcd.{dvd_trans}
-use Rattle.gf_fraction.specs.Ratio.{HasValue, IsFraction, IsWithin, Ratio}
-use Rattle.gf_fraction.specs.Rational.{zero_ratio}
-use Rattle.gf_fraction.specs.Computed.{product_of, sum_of}
-use Rattle.gf_fraction.proofs.EqualRatios.{Decides-ratio}
-use Rattle.gf_fraction.proofs.Integers.{*ℤ_assoc, add-*ℤ}
-use Rattle.gf_tree.specs.Game.{Game}
-use Rattle.gf_form.specs.inner.rows.Demands.{meets}
-use Rattle.gf_form.specs.inner.rows.Shares.{IsExact, met_bounds, over, pay_at, share, share_bound}
-use Rattle.gf_form.specs.inner.rows.Shares.{sum_of_shares}
-use Rattle.gf_form.specs.inner.values.Values.{plus_of, times_of}
-use Rattle.gf_form.specs.declared.rows.paths.Reached.{Reached}
+use Rattle.std.proofs.Math.IntN.{+ℤ_comm}
+use Rattle.std.proofs.Math.Nat.{eq-zero_of_zero-dvd, le-mul_of_pos_right}
+use Rattle.gf_fraction.specs.Computed.{sum_of}
 use Rattle.gf_form.proofs.lemmas.rows.OverOneDenominator.{over_value, product_over, quotient_above}
 use Rattle.gf_form.proofs.lemmas.rows.OverOneDenominator.{quotient_le, quotient_of_product}
 use Rattle.gf_form.proofs.lemmas.rows.OverOneDenominator.{sum_over, sum_size}
@@ -262,18 +252,14 @@ module _ (g : Game) (player den : ℕ) (den_above : 0 < den) (den_within : den <
   module _ (chance : Ratio) (fc : IsFraction chance) (none : chance.num ≡ pos 0) (sum : Ratio)
       (fs : IsFraction sum) (value : Option Ratio) (other more part : ℕ) (xs : List Reached)
       (h : IsValued value other more part xs) (weightless : other ≡ 0) where
-    pub same_sum : plus_of (Some sum) (times_of chance value) ≡ Some sum
-    same_sum = grind (arith, none_times, plus_zero)
-
-    pub none_added : (total : Option Ratio) (start : ℤ) (weight bound by : ℕ)
-        (ys : List Reached) → IsAdded total start weight bound by ys
-        → IsAdded total start weight bound by (xs ++ ys)
-    none_added total start weight bound by ys later = grind (
-      arith,
-      shares_append,
-      zero-*ℤ,
-      bounds_append,
-    )
+    pub none_added : (total : Option Ratio → Option Ratio) (start : ℤ) (weight bound by : ℕ)
+        (ys : List Reached) → IsAdded (total (Some sum)) start weight bound by ys
+        → IsAdded (total (plus_of (Some sum) (times_of chance value))) start weight bound by
+        (xs ++ ys)
+    none_added total start weight bound by ys later =
+        let same : plus_of (Some sum) (times_of chance value) ≡ Some sum =
+        grind (arith, none_times, plus_zero) in
+        grind (arith, shares_append, zero-*ℤ, bounds_append)
 
   module _ (chance : Ratio) (fc : IsFraction chance) (likely : 1 ≤ unsigned_abs chance.num)
       (sign : chance.num ≡ pos (unsigned_abs chance.num)) (sum : Ratio) (start : ℤ)
@@ -307,7 +293,7 @@ module _ (g : Game) (player den : ℕ) (den_above : 0 < den) (den_within : den <
     next_within = grind (arith, size_below, both_below, lists)
 
     -- the sum so far
-    pub next_sum : (next : Ratio) × (plus_of (Some sum) (times_of chance value) ≡ Some next)
+    next_sum : (next : Ratio) × (plus_of (Some sum) (times_of chance value) ≡ Some next)
         × IsFraction next × IsOver by next (start +ℤ chance.num *ℤ h.amount)
     next_sum =
         let times = product_part den den_above den_within by chance h.ratio h.amount fc h.fraction
@@ -315,22 +301,28 @@ module _ (g : Game) (player den : ℕ) (den_above : 0 < den) (den_within : den <
         let sums = sum_part den den_above den_within by sum times.0 start part fs times.2 starts
         times.3 start_within part_within next_within in grind arith
 
-    pub next_limit :
+    next_limit :
         unsigned_abs (start +ℤ chance.num *ℤ h.amount) * bound + bounds ys < 2 ^ 127
     next_limit = omega (arith, both_below, lists, limit)
 
-    pub child_added : (total : Option Ratio)
-        → IsAdded total (start +ℤ chance.num *ℤ h.amount) weight bound by ys
-        → IsAdded total start weight bound by (xs ++ ys)
-    child_added total later = record {
-      ratio = later.ratio;
-      value_is = later.value_is;
-      fraction = later.fraction;
-      amount = part +ℤ later.amount;
-      amount_is = subst (IsOver by later.ratio) (+ℤ_assoc start part later.amount)
-          later.amount_is;
-      shares_are = shares_append g player den steps choices xs ys
-          ∙ (cc (h.shares_are, *ℤ_assoc (pos weight) (pos a) h.amount, sign, later.shares_are))
-          ∙ sym (mul-plus (pos weight) part later.amount);
-      size = omega (arith, sum_below part later.amount bound, part_below, later.size, lists);
-    }
+    pub child_added : (total : Option Ratio → Option Ratio)
+        → ((next : Ratio) (from : ℤ) → IsFraction next → IsOver by next from
+        → unsigned_abs from * bound + bounds ys < 2 ^ 127
+        → IsAdded (total (Some next)) from weight bound by ys)
+        → IsAdded (total (plus_of (Some sum) (times_of chance value))) start weight bound by
+        (xs ++ ys)
+    child_added total go_on =
+        let next = next_sum in
+        let later = go_on next.0 (start +ℤ part) next.2 next.3 next_limit in
+        rw next.1 (record {
+          ratio = later.ratio;
+          value_is = later.value_is;
+          fraction = later.fraction;
+          amount = part +ℤ later.amount;
+          amount_is = subst (IsOver by later.ratio) (+ℤ_assoc start part later.amount)
+              later.amount_is;
+          shares_are = shares_append g player den steps choices xs ys
+              ∙ (cc (h.shares_are, *ℤ_assoc (pos weight) (pos a) h.amount, sign, later.shares_are))
+              ∙ sym (mul-plus (pos weight) part later.amount);
+          size = omega (arith, sum_below part later.amount bound, part_below, later.size, lists);
+        })

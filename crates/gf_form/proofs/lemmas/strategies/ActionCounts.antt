@@ -1,25 +1,15 @@
 -- How many actions there are at a player's set, by its position among his.
-use Rattle.std.proofs.Common.{◌≡◌, ℕ, zero, suc, ◌+◌, ◌<◌, ◌≤◌, List, [], ◌∷◌, length, map}
-use Rattle.std.proofs.Common.{Option, Some, None, get_or, refl, sym, subst, ◌∙◌, arith}
-use Rattle.std.specs.Prelude.{◌==◌, option_map, slice_get}
-use Rattle.std.specs.List.{AllZip}
-use Rattle.std.proofs.lemmas.Slice.Zip.{AllZip-long}
-use Rattle.gf_nfg.proofs.lemmas.tables.NumbersInTurn.{get_or-numbers_from, length-numbers_from}
-use Rattle.gf_nfg.specs.Profiles.{positions}
-use Rattle.std.proofs.lemmas.List.{length-map}
-use Rattle.std.proofs.lemmas.Option.{slice_get-map}
-use Rattle.gf_token.specs.Positions.{at_position}
-use Rattle.gf_tree.specs.Description.{SetKey, InformationSet, same_set, set_of}
-use Rattle.gf_tree.specs.FiniteMap.{Described}
-use Rattle.gf_tree.specs.FirstUse.{player_keys, player_sets}
-use Rattle.gf_tree.specs.Game.{Game, IsGame, set_at, used_sets}
-use Rattle.gf_tree.proofs.lemmas.games.FirstUses.{AreDistinct, first_uses_distinct, of_filter}
+use Rattle.gf_form.proofs.Common.{◌≡◌, ℕ, zero, suc, ◌+◌, ◌<◌, ◌≤◌, List, [], ◌∷◌, length, map}
+use Rattle.gf_form.proofs.Common.{Option, Some, None, get_or, refl, sym, subst, ◌∙◌, arith, ◌==◌}
+use Rattle.gf_form.proofs.Common.{option_map, slice_get, AllZip, AllZip-long, get_or-numbers_from}
+use Rattle.gf_form.proofs.Common.{length-numbers_from, positions, length-map, slice_get-map}
+use Rattle.gf_form.proofs.Common.{at_position, SetKey, InformationSet, same_set, set_of, Described}
+use Rattle.gf_form.proofs.Common.{player_keys, player_sets, Game, IsGame, set_at, used_sets}
+use Rattle.gf_form.proofs.Common.{AreDistinct, first_uses_distinct, of_filter, same_set_equality}
+use Rattle.gf_form.proofs.Common.{AreStrategies, action_counts, players_of, has_at}
 use Rattle.gf_tree.proofs.lemmas.games.Lookups.{entry_at}
-use Rattle.gf_tree.proofs.lemmas.games.TreesOnce.{same_set_equality}
-use Rattle.gf_form.specs.Strategies.{AreStrategies, action_counts, players_of}
 use Rattle.gf_form.proofs.lemmas.strategies.Choices.{IsChoice}
 use Rattle.gf_form.proofs.lemmas.values.PayoffsGiven.{zip_in_turn}
-use Rattle.gf_tree.proofs.lemmas.games.Members.{has_at}
 
 abbrev Known : Type 0
 Known = Described SetKey InformationSet

@@ -1,18 +1,13 @@
 -- All choices at sets with this many actions each: every one is in the list, once and at its place.
-use Rattle.std.proofs.Common.{◌≡◌, ℕ, zero, suc, ◌+◌, ◌-◌, ◌*◌, ◌<◌, ◌≤◌, List, [], ◌∷◌, ◌++◌}
-use Rattle.std.proofs.Common.{length, map, get_or, refl, sym, ap, ◌∙◌, append_assoc, arith}
-use Rattle.std.specs.Prelude.{◌↔◌}
-use Rattle.std.specs.List.{AllByRecursion, AllZip, Contains, flat_map}
-use Rattle.std.proofs.lemmas.Grind.{flat_map-append}
-use Rattle.std.proofs.lemmas.List.{length-map, map-append, get_or-map}
-use Rattle.std.proofs.lemmas.List.Elements.{All-contains, All-from_recursion}
-use Rattle.gf_fraction.proofs.AllElements.{all_both}
-use Rattle.gf_nfg.specs.Profiles.{numbers_from, product}
-use Rattle.gf_nfg.proofs.lemmas.tables.NumbersInTurn.{numbers_joined, length-numbers_from}
-use Rattle.gf_nfg.proofs.lemmas.tables.NumbersInTurn.{get_or-numbers_from, IsIn, number_in}
-use Rattle.gf_nfg.proofs.lemmas.tables.NumbersInTurn.{contains_in}
-use Rattle.gf_tree.proofs.lemmas.games.Members.{map_twice}
-use Rattle.gf_form.specs.Strategies.{all_choices}
+use Rattle.gf_form.proofs.Common.{◌≡◌, ℕ, zero, suc, ◌+◌, ◌-◌, ◌*◌, ◌<◌, ◌≤◌, List, [], ◌∷◌, ◌++◌}
+use Rattle.gf_form.proofs.Common.{get_or_default, length, map, get_or, refl, sym, ap, ◌∙◌}
+use Rattle.gf_form.proofs.Common.{append_assoc, arith, ◌↔◌, AllByRecursion, AllZip, Contains}
+use Rattle.gf_form.proofs.Common.{flat_map, flat_map-append, length-map, map-append, get_or-map}
+use Rattle.gf_form.proofs.Common.{All-from_recursion, all_both, numbers_from, product}
+use Rattle.gf_form.proofs.Common.{numbers_joined, length-numbers_from, get_or-numbers_from}
+use Rattle.gf_form.proofs.Common.{map_twice, all_choices}
+use Rattle.std.proofs.lemmas.List.Elements.{All-contains}
+use Rattle.gf_nfg.proofs.lemmas.tables.NumbersInTurn.{IsIn, number_in, contains_in}
 
 -- the choices that begin with this action
 abbrev behind : ℕ → List (List ℕ) → List (List ℕ)
@@ -48,8 +43,7 @@ places_all : (count : ℕ) (counts : List ℕ) (all : List (List ℕ))
     → map (place counts) all ≡ numbers_from 0 (product counts) → (s n : ℕ) → 1 ≤ s
     → map (place (count ∷ counts)) (flat_map (λ action. behind action all) (numbers_from s n))
     ≡ numbers_from ((s - 1) * product counts) (n * product counts)
-places_all count counts all h s zero above =
-    let e : 0 * product counts ≡ 0 = omega arith in rw e refl
+places_all count counts all h s zero above = grind arith
 places_all count counts all h s (suc n) above =
     let p = product counts in
     let on : (s + 1 - 1) * p ≡ (s - 1) * p + p =
@@ -142,3 +136,9 @@ every_choice counts choice = (
       (All-from_recursion (IsChoice counts) (all_choices counts) (are_choices counts)) h,
   λ h. contains_in (all_choices counts) choice (choice_in counts choice h),
 )
+
+-- a choice stands at its place
+pub at_its_place : (counts s : List ℕ) → IsChoice counts s
+    → (place counts s < product counts) × (get_or (all_choices counts) (place counts s) [] ≡ s)
+at_its_place counts s h =
+    grind (arith, every_choice, place_at, ap, length-all_choices, get_or_default)

@@ -1,19 +1,12 @@
 -- The strategies of a profile choose an action at each set.
-use Rattle.std.proofs.Common.{◌≡◌, ℕ, zero, suc, ◌+◌, ◌-◌, ◌<◌, ◌≤◌, Bool, true, cond, List}
-use Rattle.std.proofs.Common.{[], ◌∷◌, Some, length, map, get_or, refl, sym, ap, ◌∙◌, subst, arith}
-use Rattle.std.specs.Prelude.{option_map, zip, filter, find, if◌then◌else◌}
-use Rattle.std.specs.List.{AllZip, Contains}
-use Rattle.std.proofs.lemmas.List.{get_or_default}
-use Rattle.gf_nfg.specs.Profiles.{numbers_from}
-use Rattle.gf_nfg.specs.ProfilePlaces.{IsProfile}
-use Rattle.gf_nfg.proofs.lemmas.tables.Profiles.{every_profile}
-use Rattle.gf_tree.specs.Description.{SetKey, InformationSet, same_set}
-use Rattle.gf_tree.specs.FiniteMap.{Described, description_at}
-use Rattle.gf_tree.specs.Game.{Game, IsGame, set_at}
-use Rattle.gf_tree.specs.FirstUse.{player_keys, player_sets}
-use Rattle.gf_form.specs.Strategies.{action_counts, strategies, players_of, strategies_at}
-use Rattle.gf_form.specs.Strategies.{strategy_at, choice_at, choices_by, full_profiles}
-use Rattle.gf_form.specs.Plays.{HasActions}
+use Rattle.gf_form.proofs.Common.{◌≡◌, ℕ, zero, suc, ◌+◌, ◌-◌, ◌<◌, ◌≤◌, Bool, true, cond, List, []}
+use Rattle.gf_form.proofs.Common.{◌∷◌, Some, length, map, get_or, refl, sym, ◌∙◌, subst, arith}
+use Rattle.gf_form.proofs.Common.{option_map, zip, filter, find, if◌then◌else◌, AllZip, Contains}
+use Rattle.gf_form.proofs.Common.{get_or_default, numbers_from, IsProfile, every_profile, SetKey}
+use Rattle.gf_form.proofs.Common.{InformationSet, same_set, Described, description_at, Game, IsGame}
+use Rattle.gf_form.proofs.Common.{set_at, player_keys, player_sets, action_counts, strategies}
+use Rattle.gf_form.proofs.Common.{players_of, strategies_at, strategy_at, choice_at, choices_by}
+use Rattle.gf_form.proofs.Common.{full_profiles, HasActions}
 use Rattle.gf_form.proofs.lemmas.strategies.Choices.{IsChoice, every_choice}
 use Rattle.gf_form.proofs.lemmas.strategies.Lookups.{strategy_before}
 use Rattle.gf_form.proofs.lemmas.strategies.KnownSets.{set_is}
@@ -51,8 +44,7 @@ find_kept {X} own test owned (x ∷ xs) = grind (arith, find_kept own test owned
 
 pub among_his : (g : Game) (key : SetKey)
     → description_at same_set (player_sets g key.player) key ≡ set_at g key
-among_his g key = ap (option_map (λ e. e.description))
-    (grind (arith, find_kept))
+among_his g key = grind (arith, find_kept)
 
 -- ---- a strategy for each player
 
@@ -105,5 +97,4 @@ are_strategies g players profile h = grind arith
 pub profile_strategies : (g : Game) (profile : List ℕ) → Contains (full_profiles g) profile
     → AllZip (λ strategy player. Contains (strategies g player) strategy) (strategies_at g profile)
     (players_of g)
-profile_strategies g profile h = are_strategies g (players_of g) profile
-    ((every_profile (map (λ player. length (strategies g player)) (players_of g)) profile).0 h)
+profile_strategies g profile h = grind (arith, are_strategies, every_profile)

@@ -1,26 +1,15 @@
 -- Numbers of actions, multiplied one after another.
-use Rattle.std.proofs.Common.{◌≡◌, ℕ, zero, suc, ◌+◌, ◌*◌, ◌<◌, ◌≤◌, Bool, true, false, cond, List}
-use Rattle.std.proofs.Common.{[], ◌∷◌, ◌++◌, length, map, get_or, take, refl, sym, ap, ◌∙◌, add-one}
-use Rattle.std.proofs.Common.{arith, Option, Some, None, MatchOption, Vec, Global}
-use Rattle.std.specs.Prelude.{◌==◌, filter, unwrap_or}
-use Rattle.std.specs.List.{AllByRecursion}
-use Rattle.std.proofs.Math.Nat.{mul_assoc, mul-le-mul, mul-le-mul_left}
-use Rattle.std.proofs.Math.Seq.{take-suc}
-use Rattle.std.proofs.lemmas.List.{get_or-map, length-map}
-use Rattle.std.proofs.lemmas.Option.{unwrap_or-slice_get}
-use Rattle.gf_fraction.proofs.Products.{mul_above}
-use Rattle.gf_token.specs.Positions.{at_position}
-use Rattle.gf_nfg.specs.Limit.{profile_limit}
-use Rattle.gf_nfg.specs.Profiles.{product}
+use Rattle.gf_form.proofs.Common.{◌≡◌, ℕ, zero, suc, ◌+◌, ◌*◌, ◌<◌, ◌≤◌, List, [], ◌∷◌, ◌++◌}
+use Rattle.gf_form.proofs.Common.{length, map, get_or, take, refl, ap, ◌∙◌, add-one, arith, Option}
+use Rattle.gf_form.proofs.Common.{Some, None, MatchOption, Vec, Global, ◌==◌, filter, unwrap_or}
+use Rattle.gf_form.proofs.Common.{AllByRecursion, mul_assoc, mul-le-mul, take-suc, get_or-map}
+use Rattle.gf_form.proofs.Common.{length-map, unwrap_or-slice_get, mul_above, at_position}
+use Rattle.gf_form.proofs.Common.{profile_limit, product, length-profiles, get_or-numbers_from}
+use Rattle.gf_form.proofs.Common.{length-numbers_from, SetKey, InformationSet, IsSet, Described}
+use Rattle.gf_form.proofs.Common.{player_keys, Game, IsGame, action_counts, players_of, strategies}
+use Rattle.gf_form.proofs.Common.{HasTooManyProfiles}
+use Rattle.std.proofs.Math.Nat.{mul-le-mul_left}
 use Rattle.gf_nfg.specs.declared.limit.ProfileCount.{ProfileCount}
-use Rattle.gf_nfg.proofs.lemmas.tables.Profiles.{length-profiles}
-use Rattle.gf_nfg.proofs.lemmas.tables.NumbersInTurn.{get_or-numbers_from, length-numbers_from}
-use Rattle.gf_tree.specs.Description.{SetKey, InformationSet, IsSet}
-use Rattle.gf_tree.specs.FiniteMap.{Described}
-use Rattle.gf_tree.specs.FirstUse.{player_keys}
-use Rattle.gf_tree.specs.Game.{Game, IsGame}
-use Rattle.gf_form.specs.Strategies.{action_counts, players_of, strategies}
-use Rattle.gf_form.specs.Refusal.{HasTooManyProfiles}
 use Rattle.gf_form.proofs.lemmas.strategies.Choices.{length-all_choices}
 use Rattle.gf_form.proofs.lemmas.form.FormTables.{some_strategy}
 
@@ -80,8 +69,7 @@ strategy_counts g = map (λ player. length (strategies g player)) (players_of g)
 all_positive : (g : Game) → IsGame g → (players : List ℕ)
     → ArePositive (map (λ player. length (strategies g player)) players)
 all_positive g game [] = tt
-all_positive g game (player ∷ players) =
-    (some_strategy g game player, all_positive g game players)
+all_positive g game (player ∷ players) = grind (arith, some_strategy, all_positive g game players)
 
 pub strategies_positive : (g : Game) → IsGame g → ArePositive (strategy_counts g)
 strategies_positive g game = all_positive g game (players_of g)
@@ -134,8 +122,7 @@ some_counts g player (Some x) own count h e = grind (arith, length-all_choices, 
 
 pub strategies_at_place : (g : Game) (before : ℕ) → before < length g.players
     → get_or (strategy_counts g) before 0 ≡ length (strategies g (before + 1))
-strategies_at_place g before less =
-    of_player g (λ player. length (strategies g player)) before 0 less
+strategies_at_place g before less = grind (arith, of_player)
 
 -- so many strategies of the players so far and of the next one
 pub too_many : (g : Game) → IsGame g → (before made own : ℕ) → before < length g.players

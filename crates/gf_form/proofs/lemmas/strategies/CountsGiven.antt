@@ -1,13 +1,7 @@
 -- What is counted for each player, by his place from 0.
-use Rattle.std.proofs.Common.{◌≡◌, ◌+◌, ◌<◌, ℕ, List, [], Vec, Global, length, map, get_or}
-use Rattle.std.proofs.Common.{arith}
-use Rattle.std.proofs.lemmas.Grind.{get_or_default_zero}
-use Rattle.std.proofs.lemmas.List.{get_or-map, length-map}
-use Rattle.gf_nfg.specs.Profiles.{product}
-use Rattle.gf_tree.specs.Game.{Game}
-use Rattle.gf_form.specs.inner.strategies.Counted.{AreCounts}
-use Rattle.gf_form.specs.Strategies.{action_counts, strategies}
-use Rattle.gf_form.specs.declared.strategies.counts.Counts.{Counts}
+use Rattle.gf_form.proofs.Common.{◌≡◌, ◌+◌, ◌<◌, ℕ, List, [], Vec, Global, length, map, get_or}
+use Rattle.gf_form.proofs.Common.{arith, get_or_default_zero, get_or-map, length-map, product, Game}
+use Rattle.gf_form.proofs.Common.{AreCounts, action_counts, strategies, Counts}
 use Rattle.gf_form.proofs.lemmas.strategies.Choices.{length-all_choices}
 use Rattle.gf_form.proofs.lemmas.strategies.CountedActions.{as_many_players, of_player}
 

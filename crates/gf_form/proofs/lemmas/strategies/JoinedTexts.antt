@@ -1,11 +1,8 @@
 -- Texts without a dash can be recovered from the text that joins them by dashes.
-use Rattle.std.proofs.Common.{◌≡◌, ℕ, ◌+◌, ◌%◌, ◌^◌, ◌<◌, ◌≤◌, List, [], ◌∷◌, ◌++◌, length, map}
-use Rattle.std.proofs.Common.{get_or, drop, refl, sym, ap, arith}
-use Rattle.std.specs.Prelude.{decimal}
-use Rattle.std.specs.List.{AllByRecursion, join_with_byte}
+use Rattle.gf_form.proofs.Common.{◌≡◌, ℕ, ◌+◌, ◌%◌, ◌^◌, ◌<◌, ◌≤◌, List, [], ◌∷◌, ◌++◌, length, map}
+use Rattle.gf_form.proofs.Common.{get_or, drop, refl, sym, ap, arith, decimal, AllByRecursion}
+use Rattle.gf_form.proofs.Common.{join_with_byte, length-map, all_both, all_images, all_weaker}
 use Rattle.std.proofs.lemmas.Fmt.{decimal_by_steps}
-use Rattle.std.proofs.lemmas.List.{length-map}
-use Rattle.gf_fraction.proofs.AllElements.{all_both, all_images, all_weaker}
 
 -- none of these bytes is a dash
 abbrev pub AreUndashed : List ℕ → Type 0

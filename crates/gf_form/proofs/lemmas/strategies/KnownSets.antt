@@ -1,14 +1,7 @@
 -- The information sets of a game by their keys: what holds for each, and whose they are.
-use Rattle.std.proofs.Common.{◌≡◌, ℕ, true, Some, length, subst, arith}
-use Rattle.std.specs.Prelude.{find}
-use Rattle.std.proofs.lemmas.Bool.{eqb-true}
-use Rattle.gf_tree.specs.Description.{SetKey, InformationSet, same_set, IsSet}
-use Rattle.gf_tree.specs.FiniteMap.{Described}
-use Rattle.gf_tree.specs.Game.{Game, IsGame, set_at}
-use Rattle.gf_tree.specs.FirstUse.{player_keys}
-use Rattle.gf_tree.proofs.lemmas.games.TreesOnce.{same_set_equality}
-use Rattle.gf_tree.proofs.lemmas.games.Uses.{Has, mapped_from}
-use Rattle.gf_tree.proofs.lemmas.games.FirstUses.{of_filter}
+use Rattle.gf_form.proofs.Common.{◌≡◌, ℕ, true, Some, length, subst, arith, find, eqb-true, SetKey}
+use Rattle.gf_form.proofs.Common.{InformationSet, same_set, IsSet, Described, Game, IsGame, set_at}
+use Rattle.gf_form.proofs.Common.{player_keys, same_set_equality, Has, mapped_from, of_filter}
 use Rattle.gf_form.proofs.lemmas.strategies.Lookups.{Each, each_found, each_mapped, each_weaker}
 
 pub each_set : (g : Game) → IsGame g → (key : SetKey)

@@ -1,19 +1,13 @@
 -- Labels of strategies, made from labels at the first sets and at the others.
-use Rattle.std.proofs.Common.{◌≡◌, ◌∙◌, ℕ, suc, ◌+◌, ◌*◌, ◌<◌, List, [], ◌∷◌, ◌++◌, Some}
-use Rattle.std.proofs.Common.{map, length, get_or, take, refl, ap, sym, add-one, arith}
-use Rattle.std.proofs.Common.{append_assoc}
-use Rattle.std.specs.Prelude.{slice_get}
-use Rattle.std.proofs.lemmas.List.{get_or_default, length-map}
-use Rattle.std.proofs.Math.Seq.{take-suc}
-use Rattle.std.proofs.Math.Nat.{mul_assoc}
-use Rattle.gf_nfg.specs.Profiles.{product}
-use Rattle.gf_form.specs.Strategies.{all_choices, strategy_label}
-use Rattle.gf_form.proofs.lemmas.strategies.Choices.{IsChoice, are_choices, every_choice}
-use Rattle.gf_form.proofs.lemmas.strategies.Choices.{length-all_choices, place, place_at}
+use Rattle.gf_form.proofs.Common.{◌≡◌, ◌∙◌, ℕ, suc, ◌+◌, ◌*◌, ◌<◌, List, [], ◌∷◌, ◌++◌, Some, map}
+use Rattle.gf_form.proofs.Common.{length, get_or, take, refl, ap, sym, add-one, arith, append_assoc}
+use Rattle.gf_form.proofs.Common.{slice_get, length-map, take-suc, product, all_choices}
+use Rattle.gf_form.proofs.Common.{strategy_label}
+use Rattle.gf_form.proofs.lemmas.strategies.Choices.{are_choices, length-all_choices}
 use Rattle.gf_form.proofs.lemmas.strategies.CountedActions.{take_past}
 use Rattle.gf_form.proofs.lemmas.rows.DigitPlaces.{product_joined}
 use Rattle.gf_form.proofs.lemmas.reduced.FirstStrategies.{choice_length}
-use Rattle.gf_form.proofs.lemmas.strategies.StrategiesByNumber.{all_at, one_label_more}
+use Rattle.gf_form.proofs.lemmas.strategies.StrategiesByNumber.{all_at, joined_at, one_label_more}
 
 -- ---- texts
 
@@ -24,38 +18,6 @@ label_of_both (a ∷ f) [] hf hb = absurd (omega (arith, hb))
 label_of_both (a ∷ []) (c ∷ b) hf hb = refl
 label_of_both (a ∷ e ∷ f) (c ∷ b) hf hb =
     grind (arith, append_assoc, label_of_both (e ∷ f) (c ∷ b) (omega arith) hb)
-
--- ---- numbers
-
-both_choices : (xs ys f b : List ℕ) → IsChoice xs f → IsChoice ys b
-    → IsChoice (xs ++ ys) (f ++ b)
-    × (place (xs ++ ys) (f ++ b) ≡ place xs f * product ys + place ys b)
-both_choices [] ys [] b hf hb = (hb, omega arith)
-both_choices [] ys (a ∷ f) b hf hb = absurd hf
-both_choices (c ∷ xs) ys [] b hf hb = absurd hf
-both_choices (c ∷ xs) ys (a ∷ f) b hf hb =
-    grind (arith, product_joined, mul_assoc, place, both_choices xs ys f b hf.1 hb)
-
-at_its_place : (counts s : List ℕ) → IsChoice counts s
-    → (place counts s < product counts) × (get_or (all_choices counts) (place counts s) [] ≡ s)
-at_its_place counts s h =
-    grind (arith, every_choice, place_at, ap, length-all_choices, get_or_default)
-
--- the strategy with this number
-pub joined_at : (xs ys : List ℕ) (i j : ℕ) → i < product xs → j < product ys
-    → (i * product ys + j < product (xs ++ ys))
-    × (get_or (all_choices (xs ++ ys)) (i * product ys + j) []
-    ≡ get_or (all_choices xs) i [] ++ get_or (all_choices ys) j [])
-joined_at xs ys i j hi hj =
-    let f = get_or (all_choices xs) i [] in
-    let b = get_or (all_choices ys) j [] in
-    let in_xs : i < length (all_choices xs) = omega (arith, hi, length-all_choices xs) in
-    let in_ys : j < length (all_choices ys) = omega (arith, hj, length-all_choices ys) in
-    let both = both_choices xs ys f b
-    (all_at (IsChoice xs) (all_choices xs) i [] (are_choices xs) in_xs)
-    (all_at (IsChoice ys) (all_choices ys) j [] (are_choices ys) in_ys) in
-    let number = both.1 ∙ (λ k. place_at xs i [] in_xs k * product ys + place_at ys j [] in_ys k) in
-    grind (arith, at_its_place, number)
 
 got : (xs : List (List ℕ)) (i : ℕ) (v : List ℕ)
     → slice_get (map strategy_label xs) i ≡ Some v → i < length xs
@@ -88,11 +50,7 @@ one_joined_more firsts others labels next i j first other label hi hj at_i at_j 
 
 pub row_joined : (firsts others labels : List (List ℕ)) (i j : ℕ) → j ≡ length others
     → AreJoined firsts others labels i j → AreJoined firsts others labels (i + 1) 0
-row_joined firsts others labels i j end h = record {
-  are = λ xs ys hx hy f o.
-      let next : i * product ys + product ys ≡ (i + 1) * product ys + 0 = omega arith in
-      cc (h.are xs ys hx hy f o, end, counted others ys o, next);
-}
+row_joined firsts others labels i j end h = grind (arith, counted)
 
 pub all_joined : (firsts others labels : List (List ℕ)) (i : ℕ) → i ≡ length firsts
     → AreJoined firsts others labels i 0 → (xs ys : List ℕ) → 0 < length xs → 0 < length ys

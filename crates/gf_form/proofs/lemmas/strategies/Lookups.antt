@@ -1,11 +1,9 @@
 -- What is found in a list whose elements all have a property.
-use Rattle.std.proofs.Common.{◌≡◌, ℕ, suc, Bool, true, List, [], ◌∷◌, Option}
-use Rattle.std.proofs.Common.{MatchOption, ap, ◌∙◌, ◌≤◌, ◌-◌, ◌+◌, get_or, arith}
-use Rattle.std.specs.Prelude.{option_map, unwrap_or, option_and_then, slice_get, ⊤}
-use Rattle.std.specs.List.{AllByRecursion, find}
-use Rattle.std.proofs.lemmas.Option.{unwrap_or-slice_get}
-use Rattle.gf_token.specs.Positions.{at_position}
-use Rattle.gf_form.specs.Strategies.{strategy_at}
+use Rattle.gf_form.proofs.Common.{◌≡◌, ℕ, suc, Bool, true, List, [], ◌∷◌, Option, MatchOption, ap}
+use Rattle.gf_form.proofs.Common.{◌∙◌, ◌≤◌, ◌-◌, ◌+◌, get_or, arith, option_map, unwrap_or}
+use Rattle.gf_form.proofs.Common.{option_and_then, slice_get, ⊤, AllByRecursion}
+use Rattle.gf_form.proofs.Common.{unwrap_or-slice_get, at_position, strategy_at}
+use Rattle.std.specs.List.{find}
 
 -- a property of what there is, if there is something
 abbrev pub Each : {A : Type 0} → (A → Type 0) → Option A → Type 0

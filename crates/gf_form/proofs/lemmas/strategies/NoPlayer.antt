@@ -1,11 +1,6 @@
 -- Chance is not a player: it has no strategy and no payoff.
-use Rattle.std.proofs.Common.{◌≡◌, ℕ, List, [], ◌∷◌, refl, arith}
-use Rattle.gf_fraction.specs.Rational.{zero_ratio}
-use Rattle.gf_tree.specs.Description.{SetKey, set_of}
-use Rattle.gf_tree.specs.FirstUse.{player_keys}
-use Rattle.gf_tree.specs.Game.{Game, Node}
-use Rattle.gf_form.specs.Payoff.{payoff_at}
-use Rattle.gf_form.specs.Strategies.{choice_at, choices_by}
+use Rattle.gf_form.proofs.Common.{◌≡◌, ℕ, List, [], ◌∷◌, refl, arith, zero_ratio, SetKey, set_of}
+use Rattle.gf_form.proofs.Common.{player_keys, Game, Node, payoff_at, choice_at, choices_by}
 
 nothing_chosen : (keys : List SetKey) (key : SetKey) → choice_at keys [] key ≡ 0
 nothing_chosen [] key = refl

@@ -1,13 +1,9 @@
 -- The strategies of the profile with a number: those of one player after another, each by what is
 -- left of the number.
-use Rattle.std.proofs.Common.{◌≡◌, ℕ, ◌/◌, ◌%◌, ◌<◌, List, [], ◌∷◌, length, map, get_or, arith}
-use Rattle.std.proofs.Common.{refl, sym, ap, subst, ◌∙◌, add-one}
-use Rattle.std.specs.Prelude.{zip}
-use Rattle.std.proofs.Math.Nat.{div-lt_iff_lt-mul, mul_comm}
-use Rattle.std.proofs.lemmas.Option.{unwrap_or-slice_get}
-use Rattle.gf_nfg.specs.Profiles.{product, profiles}
-use Rattle.gf_tree.specs.Game.{Game}
-use Rattle.gf_form.specs.Strategies.{action_counts, all_choices, strategies, strategy_at}
+use Rattle.gf_form.proofs.Common.{◌≡◌, ℕ, ◌/◌, ◌%◌, ◌<◌, List, [], ◌∷◌, length, map, get_or, arith}
+use Rattle.gf_form.proofs.Common.{refl, sym, ap, subst, ◌∙◌, add-one, zip, div-lt_iff_lt-mul}
+use Rattle.gf_form.proofs.Common.{mul_comm, unwrap_or-slice_get, product, profiles, Game}
+use Rattle.gf_form.proofs.Common.{action_counts, all_choices, strategies, strategy_at}
 use Rattle.gf_form.proofs.lemmas.strategies.Choices.{length-all_choices}
 use Rattle.gf_form.proofs.lemmas.strategies.PickedProfiles.{profiles_next}
 use Rattle.gf_form.proofs.lemmas.strategies.StrategiesByNumber.{positive_parts}

@@ -1,24 +1,17 @@
 -- The profiles of some strategies of each player, and their numbers among all profiles.
-use Rattle.std.proofs.Common.{◌≡◌, ℕ, suc, ◌+◌, ◌-◌, ◌*◌, ◌/◌, ◌%◌, ◌<◌, ◌≤◌, List, [], ◌∷◌, ◌++◌}
-use Rattle.std.proofs.Common.{length, map, get_or, refl, sym, ap, subst, ◌∙◌, arith, zero, drop}
-use Rattle.std.specs.Prelude.{zip}
-use Rattle.std.specs.List.{AllByRecursion, AllZip, Contains, flat_map}
-use Rattle.std.proofs.Math.Nat.{mod-add-div, mul_comm, mul-le-mul_right}
-use Rattle.std.proofs.lemmas.List.{get_or-map, get_or_default, length-map, map-append}
+use Rattle.gf_form.proofs.Common.{◌≡◌, ℕ, suc, ◌+◌, ◌-◌, ◌*◌, ◌/◌, ◌%◌, ◌<◌, ◌≤◌, List, [], ◌∷◌}
+use Rattle.gf_form.proofs.Common.{◌++◌, length, map, get_or, refl, sym, ap, subst, ◌∙◌, arith, zero}
+use Rattle.gf_form.proofs.Common.{drop, zip, AllByRecursion, AllZip, Contains, flat_map}
+use Rattle.gf_form.proofs.Common.{mod-add-div, mul_comm, mul-le-mul_right, get_or-map}
+use Rattle.gf_form.proofs.Common.{get_or_default, length-map, map-append, all_both, all_weaker}
+use Rattle.gf_form.proofs.Common.{numbers_from, positions, product, profiles, IsProfile}
+use Rattle.gf_form.proofs.Common.{every_profile, length-profiles, Game, AreCounts, Counts}
+use Rattle.gf_form.proofs.Common.{length-numbers_from, AreBelow, AreProfileNumbers}
+use Rattle.gf_form.proofs.Common.{numbered_profiles, numbers_with, AreStrategies, action_counts}
+use Rattle.gf_form.proofs.Common.{full_profiles, players_of, strategies, strategies_at}
 use Rattle.std.proofs.lemmas.List.Folds.{flat_map-map}
-use Rattle.gf_fraction.proofs.AllElements.{all_both, all_weaker}
-use Rattle.gf_nfg.specs.Profiles.{numbers_from, positions, product, profiles}
-use Rattle.gf_nfg.specs.ProfilePlaces.{IsProfile, place}
-use Rattle.gf_nfg.proofs.lemmas.tables.Profiles.{are_profiles, every_profile, length-profiles}
-use Rattle.gf_nfg.proofs.lemmas.tables.Profiles.{place_at}
-use Rattle.gf_tree.specs.Game.{Game}
-use Rattle.gf_form.specs.inner.strategies.Counted.{AreCounts}
-use Rattle.gf_form.specs.declared.strategies.counts.Counts.{Counts}
-use Rattle.gf_nfg.proofs.lemmas.tables.NumbersInTurn.{length-numbers_from}
-use Rattle.gf_form.specs.inner.strategies.ProfileNumbers.{AreBelow, AreProfileNumbers}
-use Rattle.gf_form.specs.inner.strategies.ProfileNumbers.{numbered_profiles, numbers_with}
-use Rattle.gf_form.specs.Strategies.{AreStrategies, action_counts, full_profiles, players_of}
-use Rattle.gf_form.specs.Strategies.{strategies, strategies_at}
+use Rattle.gf_nfg.specs.ProfilePlaces.{place}
+use Rattle.gf_nfg.proofs.lemmas.tables.Profiles.{are_profiles, place_at}
 use Rattle.gf_form.proofs.lemmas.strategies.Choices.{IsChoice, every_choice}
 use Rattle.gf_form.proofs.lemmas.strategies.Chosen.{profile_strategies}
 use Rattle.gf_form.proofs.lemmas.strategies.CountedActions.{strategy_counts}

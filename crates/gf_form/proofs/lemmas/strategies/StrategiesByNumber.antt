@@ -1,57 +1,72 @@
 -- The strategy with a number: one action after another, each by what is left of the number.
-use Rattle.std.proofs.Common.{◌≡◌, ℕ, suc, ◌+◌, ◌-◌, ◌*◌, ◌/◌, ◌%◌, ◌<◌, ◌≤◌, List, [], ◌∷◌}
-use Rattle.std.proofs.Common.{◌++◌, length, map, get_or, take, drop, refl, sym, ap, subst, ◌∙◌}
-use Rattle.std.proofs.Common.{append_assoc, add-one, arith, true, false, ◌^◌}
-use Rattle.std.specs.Prelude.{decimal, ◌==◌}
-use Rattle.std.specs.List.{AllByRecursion, flat_map}
+use Rattle.gf_form.proofs.Common.{◌≡◌, ℕ, suc, ◌+◌, ◌-◌, ◌*◌, ◌/◌, ◌%◌, ◌<◌, ◌≤◌, List, [], ◌∷◌}
+use Rattle.gf_form.proofs.Common.{◌++◌, length, map, get_or, take, drop, refl, sym, ap, subst, ◌∙◌}
+use Rattle.gf_form.proofs.Common.{append_assoc, add-one, arith, true, false, ◌^◌, decimal, ◌==◌}
+use Rattle.gf_form.proofs.Common.{AllByRecursion, flat_map, flat_map-append, div-add-mod}
+use Rattle.gf_form.proofs.Common.{div-lt_iff_lt-mul, mod-lt, mul-div_cancel_left, drop-cons}
+use Rattle.gf_form.proofs.Common.{take-append_seam, take-suc, append-nil, length-append, map-append}
+use Rattle.gf_form.proofs.Common.{product, IsPlain, all_choices, strategy_label, all_both}
+use Rattle.gf_form.proofs.Common.{mul_assoc}
 use Rattle.std.specs.Str.Parse.{AllDigits}
 use Rattle.std.proofs.lemmas.Bool.Decides.{nat_tests}
 use Rattle.std.proofs.lemmas.Fmt.{decimal_is_IsNumeral_wide}
-use Rattle.std.proofs.lemmas.Grind.{flat_map-append}
 use Rattle.gf_token.specs.LabelSpelling.{is_spelling_after, IsLabel}
-use Rattle.std.proofs.Math.Nat.{div-add-mod, div-le_self, div-lt_iff_lt-mul, mod-lt}
-use Rattle.std.proofs.Math.Nat.{mul-div_cancel_left, mul_comm}
-use Rattle.std.proofs.Math.Seq.{drop-cons, take-append_seam, take-suc}
-use Rattle.std.proofs.lemmas.List.{append-nil, get_or_default, length-append, map-append}
-use Rattle.gf_nfg.specs.Profiles.{product}
-use Rattle.gf_form.specs.inner.strategies.LabelTexts.{IsPlain}
-use Rattle.gf_form.specs.Strategies.{all_choices, strategy_label}
-use Rattle.gf_fraction.proofs.AllElements.{all_both}
+use Rattle.std.proofs.Math.Nat.{div-le_self}
 use Rattle.gf_form.proofs.lemmas.strategies.CountedActions.{take_past}
-use Rattle.gf_form.proofs.lemmas.strategies.Choices.{IsChoice, are_choices, every_choice}
+use Rattle.gf_form.proofs.lemmas.strategies.Choices.{IsChoice, are_choices, at_its_place}
 use Rattle.gf_form.proofs.lemmas.strategies.Choices.{length-all_choices, place, place_at}
+use Rattle.gf_form.proofs.lemmas.rows.DigitPlaces.{product_joined}
 
 pub all_at : {A : Type 0} (P : A → Type 0) (xs : List A) (i : ℕ) (d : A) → AllByRecursion P xs
     → i < length xs → P (get_or xs i d)
 all_at P (x ∷ xs) (suc i) d h less = all_at P xs i d h.1 (omega (arith, less))
 all_at P xs i d h less = grind arith
 
-choices_next : (count : ℕ) (counts : List ℕ) (rest : ℕ) → 0 < product counts
+pub choices_next : (count : ℕ) (counts : List ℕ) (rest : ℕ) → 0 < product counts
     → rest < count * product counts
     → get_or (all_choices (count ∷ counts)) rest []
     ≡ (rest / product counts + 1) ∷ get_or (all_choices counts) (rest % product counts) []
 choices_next count counts rest some below =
     let p = product counts in
-    let all = all_choices (count ∷ counts) in
     let others = get_or (all_choices counts) (rest % p) [] in
-    let choice = (rest / p + 1) ∷ others in
     let inside : rest % p < length (all_choices counts) =
     omega (arith, mod-lt rest some, length-all_choices counts) in
     let first : rest / p < count = (div-lt_iff_lt-mul some).1 below in
-    let above : 1 ≤ rest / p + 1 = omega arith in
-    let upto : rest / p + 1 ≤ count = omega (arith, first) in
-    let there = (every_choice (count ∷ counts) choice).1 (
-      (above, upto),
-      all_at (IsChoice counts) (all_choices counts) (rest % p) []
-          (are_choices counts) inside,
+    let there = at_its_place (count ∷ counts) ((rest / p + 1) ∷ others) (
+      (omega arith, omega (arith, first)),
+      all_at (IsChoice counts) (all_choices counts) (rest % p) [] (are_choices counts) inside,
     ) in
     let less : rest / p + 1 - 1 ≡ rest / p = omega arith in
-    let placed : place (count ∷ counts) choice ≡ rest =
-    (λ i. less i * p + place_at counts (rest % p) [] inside i)
-    ∙ (let swap : rest / p * p + rest % p ≡ p * (rest / p) + rest % p =
-    ap (λ (n : ℕ). n + rest % p) (mul_comm (rest / p) p) in swap) ∙ div-add-mod rest p in
-    let at : there.0 ≡ rest = grind (arith, place_at (count ∷ counts) there.0 choice there.1) in
-    cc (at, get_or_default all there.0 [] choice there.1, there.2)
+    let placed : (rest / p + 1 - 1) * p + place counts others ≡ rest =
+    rw less (omega (arith, place_at counts (rest % p) [] inside, div-add-mod rest p)) in
+    rw placed at there.1
+
+-- ---- sets that come after others
+
+both_choices : (xs ys f b : List ℕ) → IsChoice xs f → IsChoice ys b
+    → IsChoice (xs ++ ys) (f ++ b)
+    × (place (xs ++ ys) (f ++ b) ≡ place xs f * product ys + place ys b)
+both_choices [] ys [] b hf hb = (hb, omega arith)
+both_choices [] ys (a ∷ f) b hf hb = absurd hf
+both_choices (c ∷ xs) ys [] b hf hb = absurd hf
+both_choices (c ∷ xs) ys (a ∷ f) b hf hb =
+    grind (arith, product_joined, mul_assoc, place, both_choices xs ys f b hf.1 hb)
+
+-- the strategy with this number
+pub joined_at : (xs ys : List ℕ) (i j : ℕ) → i < product xs → j < product ys
+    → (i * product ys + j < product (xs ++ ys))
+    × (get_or (all_choices (xs ++ ys)) (i * product ys + j) []
+    ≡ get_or (all_choices xs) i [] ++ get_or (all_choices ys) j [])
+joined_at xs ys i j hi hj =
+    let f = get_or (all_choices xs) i [] in
+    let b = get_or (all_choices ys) j [] in
+    let in_xs : i < length (all_choices xs) = omega (arith, hi, length-all_choices xs) in
+    let in_ys : j < length (all_choices ys) = omega (arith, hj, length-all_choices ys) in
+    let both = both_choices xs ys f b
+    (all_at (IsChoice xs) (all_choices xs) i [] (are_choices xs) in_xs)
+    (all_at (IsChoice ys) (all_choices ys) j [] (are_choices ys) in_ys) in
+    let number = both.1 ∙ (λ k. place_at xs i [] in_xs k * product ys + place_at ys j [] in_ys k) in
+    grind (arith, at_its_place, number)
 
 -- what is written, and what is left to be
 pub record Goes (counts : List ℕ) (number i stride rest : ℕ) (strategy : List ℕ) : Type 0 where

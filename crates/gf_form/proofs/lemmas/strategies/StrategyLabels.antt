@@ -1,11 +1,7 @@
 -- The labels of different strategies differ.
-use Rattle.std.proofs.Common.{◌≡◌, ℕ, ◌^◌, ◌<◌, List, [], ◌∷◌, length, get_or, refl, sym}
-use Rattle.std.proofs.Common.{◌∙◌, arith}
-use Rattle.std.specs.Prelude.{decimal}
-use Rattle.std.specs.List.{AllByRecursion}
-use Rattle.std.proofs.lemmas.Fmt.{decimal_injective}
-use Rattle.std.proofs.lemmas.List.{get_or_default}
-use Rattle.gf_form.specs.Strategies.{all_choices, strategy_label}
+use Rattle.gf_form.proofs.Common.{◌≡◌, ℕ, ◌^◌, ◌<◌, List, [], ◌∷◌, length, get_or, refl, sym, ◌∙◌}
+use Rattle.gf_form.proofs.Common.{arith, decimal, AllByRecursion, decimal_injective, get_or_default}
+use Rattle.gf_form.proofs.Common.{all_choices, strategy_label}
 use Rattle.gf_form.proofs.lemmas.strategies.Choices.{IsChoice, every_choice, choices_distinct}
 use Rattle.gf_form.proofs.lemmas.strategies.JoinedTexts.{same_joined, undashed_number}
 

@@ -1,18 +1,11 @@
 -- The strategies of the profile with a number, written one player's after another's.
-use Rattle.std.proofs.Common.{◌≡◌, ℕ, suc, ◌+◌, ◌/◌, ◌%◌, ◌<◌, ◌≤◌, List, [], ◌∷◌, ◌++◌, add-one}
-use Rattle.std.proofs.Common.{ap, append_assoc, arith, drop, get_or, length, refl, subst, sym, take}
-use Rattle.std.proofs.Common.{◌∙◌}
-use Rattle.std.proofs.Math.ListN.{drop_of_length-le, set}
-use Rattle.std.proofs.Math.Seq.{drop-cons}
-use Rattle.std.proofs.lemmas.Grind.{get_or_default_zero}
-use Rattle.std.proofs.Math.Nat.{mod-lt}
-use Rattle.std.proofs.lemmas.List.{append-nil, length-map, length-set, take_more_set}
-use Rattle.gf_nfg.specs.Profiles.{product}
-use Rattle.gf_nfg.proofs.lemmas.tables.Profiles.{length-profiles}
-use Rattle.gf_tree.specs.Game.{Game}
-use Rattle.gf_form.specs.inner.strategies.Counted.{AreCounts}
-use Rattle.gf_form.specs.Strategies.{all_choices, full_profiles}
-use Rattle.gf_form.specs.declared.strategies.counts.Counts.{Counts}
+use Rattle.gf_form.proofs.Common.{◌≡◌, ℕ, ◌+◌, ◌/◌, ◌%◌, ◌<◌, ◌≤◌, List, [], ◌++◌, add-one, ap}
+use Rattle.gf_form.proofs.Common.{append_assoc, arith, drop, get_or, length, subst, sym, take, ◌∙◌}
+use Rattle.gf_form.proofs.Common.{drop_of_length-le, drop-cons, get_or_default_zero, mod-lt}
+use Rattle.gf_form.proofs.Common.{append-nil, length-map, length-set, take_more_set, product}
+use Rattle.gf_form.proofs.Common.{length-profiles, Game, AreCounts, all_choices, full_profiles}
+use Rattle.gf_form.proofs.Common.{Counts}
+use Rattle.std.proofs.Math.ListN.{set}
 use Rattle.gf_form.proofs.lemmas.strategies.CountedActions.{strategy_counts, take_past}
 use Rattle.gf_form.proofs.lemmas.strategies.CountsGiven.{all_counted, read_whole}
 use Rattle.gf_form.proofs.lemmas.strategies.CountsGiven.{strategies_counted}
@@ -30,24 +23,8 @@ pub one_written : (actions : List (List ℕ)) (number i rest whole : ℕ) (all :
     → own ≡ get_or (all_choices (get_or actions i [])) (rest % whole) []
     → Written actions number i rest all
     → Written actions number (i + 1) (rest / whole) (set all i own)
-one_written actions number i rest whole all own less whole_is own_is h = record {
-  as_long = length-set all i own ∙ h.as_long;
-  wanted = (λ j. more j ++ numbered (drop (add-one i j) actions) (rest / whole_is j))
-      ∙ append_assoc (take i all) (own ∷ []) left
-      ∙ (λ j. take i all ++ own_is j ∷ left)
-      ∙ (λ j. take i all ++ get_or (all_choices here) (rest % whole_is j) [] ∷ left)
-      ∙ (λ j. take i all ++ numbered (sym (drop-cons actions i [] less) j) rest)
-      ∙ h.wanted;
-}
-  where
-    here : List ℕ
-    here = get_or actions i []
-
-    left : List (List ℕ)
-    left = numbered (drop (suc i) actions) (rest / product here)
-
-    more : take (i + 1) (set all i own) ≡ take i all ++ own ∷ []
-    more = take_more_set all i own (omega (arith, less, h.as_long))
+one_written actions number i rest whole all own less whole_is own_is h =
+    grind (arith, length-set, numbered, add-one, append_assoc, drop-cons, set, take_more_set)
 
 pub last_written : (actions : List (List ℕ)) (number i rest : ℕ) (all : List (List ℕ))
     → Written actions number i rest all → length actions ≤ i → all ≡ numbered actions number

@@ -1,25 +1,15 @@
 -- Trees whose nodes are alike, each to its image, in what is chosen, how probable it is and what it
 -- pays: they have the same payoff, and the same bottom-up value.
-use Rattle.std.proofs.Common.{◌≡◌, ℕ, zero, suc, ◌+◌, Bool, List, ◌++◌, arith, Option, Some, None}
-use Rattle.std.proofs.Common.{map, refl, sym, ap, ◌∙◌, subst}
-use Rattle.std.specs.Prelude.{◌==◌, ◌&&◌, filter, MatchOption}
-use Rattle.std.specs.Bool.{MatchBool}
-use Rattle.std.specs.List.{AllByRecursion}
-use Rattle.std.proofs.lemmas.List.{map-append}
-use Rattle.gf_fraction.specs.Ratio.{Ratio}
-use Rattle.gf_fraction.specs.Rational.{plus, times, total, zero_ratio}
-use Rattle.gf_fraction.specs.Fits.{AddsTo, MultipliesTo}
-use Rattle.gf_fraction.proofs.AllElements.{all_parts}
-use Rattle.gf_tree.specs.Tree.{Tree, Trees, map_tree, map_trees}
-use Rattle.gf_tree.specs.Tree.Tree.{branch}
-use Rattle.gf_tree.specs.Tree.Trees.{none, more}
-use Rattle.gf_tree.specs.PrefixOrder.{Entry, flatten, flatten_all}
-use Rattle.gf_tree.specs.Description.{SetKey}
-use Rattle.gf_tree.specs.Game.{Node, Game}
-use Rattle.gf_tree.proofs.lemmas.games.Members.{map_twice, filter_of_map}
-use Rattle.gf_form.specs.Plays.{Step, Play, from_node, plays, plays_from, is_chosen, follows}
-use Rattle.gf_form.specs.Payoff.{probability, payoff_at, play_probability, play_payoff, payoff}
-use Rattle.gf_form.specs.BottomUp.{IsValue, IsChanceValue, IsChildValue}
+use Rattle.gf_form.proofs.Common.{◌≡◌, ℕ, zero, suc, ◌+◌, Bool, List, ◌++◌, arith, Option, Some}
+use Rattle.gf_form.proofs.Common.{None, map, refl, sym, ap, ◌∙◌, subst, ◌==◌, ◌&&◌, filter}
+use Rattle.gf_form.proofs.Common.{MatchOption, MatchBool, AllByRecursion, map-append, Ratio, plus}
+use Rattle.gf_form.proofs.Common.{times, total, zero_ratio, AddsTo, MultipliesTo, all_parts, Tree}
+use Rattle.gf_form.proofs.Common.{Trees, map_tree, map_trees, branch, none, more, flatten}
+use Rattle.gf_form.proofs.Common.{flatten_all, SetKey, Node, Game, map_twice, filter_of_map, Step}
+use Rattle.gf_form.proofs.Common.{Play, from_node, plays, plays_from, is_chosen, follows}
+use Rattle.gf_form.proofs.Common.{probability, payoff_at, play_probability, play_payoff, payoff}
+use Rattle.gf_form.proofs.Common.{IsValue, IsChanceValue, IsChildValue}
+use Rattle.gf_tree.specs.PrefixOrder.{Entry}
 
 -- whether a play is followed, how probable it is, and what it pays
 record View : Type 0 where

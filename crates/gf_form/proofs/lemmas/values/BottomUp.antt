@@ -1,30 +1,17 @@
 -- If the bottom-up value is defined, it is the payoff by plays.
-use Rattle.std.proofs.Common.{◌≡◌, ℕ, zero, suc, ◌+◌, Bool, true, false, List, ◌++◌, Option, Some}
-use Rattle.std.proofs.Common.{None, MatchOption, length, map, refl, sym, subst, arith}
-use Rattle.std.specs.Prelude.{◌==◌, option_map}
-use Rattle.std.specs.Bool.{MatchBool}
-use Rattle.std.specs.List.{AllByRecursion}
-use Rattle.gf_fraction.specs.Ratio.{Ratio, IsFraction}
-use Rattle.gf_fraction.specs.Rational.{IsEqual, zero_ratio, one_ratio, plus, times, total}
-use Rattle.gf_fraction.specs.Fits.{AddsTo, MultipliesTo}
-use Rattle.gf_fraction.proofs.LowestTerms.{mul_pos_right, one_fraction}
-use Rattle.gf_fraction.proofs.AllElements.{all_parts}
-use Rattle.gf_fraction.proofs.Rationals.{equal_refl, plus_both, plus_zero, plus_assoc, times_comm}
-use Rattle.gf_fraction.proofs.Rationals.{times_assoc, times_plus, times_zero, times_one, IsAbove}
-use Rattle.gf_fraction.proofs.Rationals.{plus_above, times_above}
-use Rattle.gf_fraction.proofs.Chains.{◌then◌, back, plus_left, plus_right, times_left, times_right}
-use Rattle.gf_fraction.proofs.Chains.{plus_across}
-use Rattle.gf_nfg.specs.Profiles.{numbers_from}
-use Rattle.gf_tree.specs.Tree.{Tree, Trees, count}
-use Rattle.gf_tree.specs.Tree.Tree.{branch}
-use Rattle.gf_tree.specs.Tree.Trees.{none, more}
-use Rattle.gf_tree.specs.PrefixOrder.{flatten, flatten_all}
-use Rattle.gf_tree.specs.Description.{SetKey}
-use Rattle.gf_tree.specs.Game.{Node, Game, IsGame, HasChildren, set_at}
-use Rattle.gf_tree.specs.Spellable.{IsSpellable}
-use Rattle.gf_form.specs.Plays.{Play, from_node, is_chosen}
-use Rattle.gf_form.specs.Payoff.{probability, payoff_at, payoff, play_probability, play_payoff}
-use Rattle.gf_form.specs.BottomUp.{IsValue, IsChanceValue, IsChildValue}
+use Rattle.gf_form.proofs.Common.{◌≡◌, ℕ, zero, suc, ◌+◌, Bool, true, false, List, ◌++◌, Option}
+use Rattle.gf_form.proofs.Common.{Some, None, MatchOption, length, map, refl, sym, subst, arith}
+use Rattle.gf_form.proofs.Common.{◌==◌, option_map, MatchBool, AllByRecursion, Ratio, IsFraction}
+use Rattle.gf_form.proofs.Common.{IsEqual, zero_ratio, one_ratio, plus, times, total, AddsTo}
+use Rattle.gf_form.proofs.Common.{MultipliesTo, mul_pos_right, one_fraction, all_parts, equal_refl}
+use Rattle.gf_form.proofs.Common.{plus_both, plus_zero, plus_assoc, times_comm, times_assoc}
+use Rattle.gf_form.proofs.Common.{times_plus, times_zero, times_one, IsAbove, plus_above}
+use Rattle.gf_form.proofs.Common.{times_above, ◌then◌, back, plus_left, plus_right, times_left}
+use Rattle.gf_form.proofs.Common.{times_right, plus_across, numbers_from, Tree, Trees, count}
+use Rattle.gf_form.proofs.Common.{branch, none, more, flatten, flatten_all, SetKey, Node, Game}
+use Rattle.gf_form.proofs.Common.{IsGame, HasChildren, set_at, IsSpellable, Play, from_node}
+use Rattle.gf_form.proofs.Common.{is_chosen, probability, payoff_at, payoff, play_probability}
+use Rattle.gf_form.proofs.Common.{play_payoff, IsValue, IsChanceValue, IsChildValue}
 use Rattle.gf_form.proofs.lemmas.values.Denominators.{probability_above, payoff_above}
 use Rattle.gf_form.proofs.lemmas.values.Denominators.{payoff_fraction, play_probability_above}
 use Rattle.gf_form.proofs.lemmas.values.Denominators.{worth_above}

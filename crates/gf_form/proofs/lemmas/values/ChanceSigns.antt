@@ -1,16 +1,10 @@
 -- No probability of a chance move is negative.
-use Rattle.std.proofs.Common.{◌≡◌, ℕ, ℤ, pos, List, ◌∷◌, length, map, Option, Some, ap, drop}
-use Rattle.std.proofs.Common.{sym, subst, arith}
-use Rattle.std.specs.Prelude.{◌≤ℤ◌, option_and_then, unsigned_abs}
-use Rattle.std.specs.List.{AllByRecursion}
-use Rattle.std.proofs.lemmas.Int.{ints}
-use Rattle.gf_fraction.specs.Ratio.{Ratio}
-use Rattle.gf_fraction.specs.Rational.{one_ratio}
-use Rattle.gf_token.specs.Positions.{at_position}
-use Rattle.gf_tree.specs.Description.{Action, AddToOne, AreActions, IsLottery, IsSet, SetKey}
-use Rattle.gf_tree.specs.Game.{Game, IsGame, Node, set_at}
-use Rattle.gf_form.specs.Payoff.{action_at}
-use Rattle.gf_form.specs.inner.values.Values.{chances_at}
+use Rattle.gf_form.proofs.Common.{◌≡◌, ℕ, ℤ, pos, List, ◌∷◌, length, map, Option, Some, ap, drop}
+use Rattle.gf_form.proofs.Common.{sym, subst, arith, option_and_then, unsigned_abs, AllByRecursion}
+use Rattle.gf_form.proofs.Common.{ints, Ratio, one_ratio, at_position, Action, AddToOne, IsSet}
+use Rattle.gf_form.proofs.Common.{SetKey, Game, IsGame, Node, set_at, action_at, chances_at}
+use Rattle.std.specs.Prelude.{◌≤ℤ◌}
+use Rattle.gf_tree.specs.Description.{AreActions, IsLottery}
 use Rattle.gf_form.proofs.lemmas.strategies.KnownSets.{each_set}
 use Rattle.gf_form.proofs.lemmas.strategies.Lookups.{Each, each_at, each_or, each_then, each_weaker}
 

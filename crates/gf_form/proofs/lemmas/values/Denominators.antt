@@ -1,19 +1,13 @@
 -- The probabilities and payoffs of a game that a file can hold have denominators above zero.
-use Rattle.std.proofs.Common.{ℕ, arith}
-use Rattle.std.specs.Prelude.{option_and_then, ⊤, ◌==◌}
-use Rattle.std.specs.List.{AllByRecursion, find}
-use Rattle.gf_fraction.specs.Ratio.{IsFraction}
-use Rattle.gf_fraction.specs.Rational.{times, zero_ratio, one_ratio}
-use Rattle.gf_fraction.proofs.WholeNumbers.{whole_fraction}
-use Rattle.gf_fraction.proofs.Rationals.{IsAbove, times_above, total_above, ratio_product_above}
-use Rattle.gf_token.specs.Positions.{at_position}
-use Rattle.gf_tree.specs.Description.{SetKey, InformationSet, Outcome, same_set}
-use Rattle.gf_tree.specs.FiniteMap.{Described}
-use Rattle.gf_tree.specs.Game.{Node, Game, set_at, outcome_at}
-use Rattle.gf_tree.specs.Spellable.{IsSpellable, IsSpellableAction, IsSpellableSet}
-use Rattle.gf_tree.specs.Spellable.{IsSpellableOutcome}
-use Rattle.gf_form.specs.Plays.{Step, Play, nodes_of}
-use Rattle.gf_form.specs.Payoff.{action_at, probability, payoff_at, play_probability, play_payoff}
+use Rattle.gf_form.proofs.Common.{ℕ, arith, option_and_then, ⊤, ◌==◌, AllByRecursion, IsFraction}
+use Rattle.gf_form.proofs.Common.{times, zero_ratio, one_ratio, whole_fraction, IsAbove}
+use Rattle.gf_form.proofs.Common.{times_above, total_above, at_position, SetKey, InformationSet}
+use Rattle.gf_form.proofs.Common.{Outcome, same_set, Described, Node, Game, set_at, outcome_at}
+use Rattle.gf_form.proofs.Common.{IsSpellable, Step, Play, action_at, probability, payoff_at}
+use Rattle.gf_form.proofs.Common.{play_probability, play_payoff}
+use Rattle.std.specs.List.{find}
+use Rattle.gf_fraction.proofs.Rationals.{ratio_product_above}
+use Rattle.gf_tree.specs.Spellable.{IsSpellableAction, IsSpellableSet, IsSpellableOutcome}
 use Rattle.gf_form.proofs.lemmas.strategies.Lookups.{Each, each_at, each_found, each_mapped}
 use Rattle.gf_form.proofs.lemmas.strategies.Lookups.{each_then, each_weaker, each_or, each_any}
 
@@ -71,10 +65,8 @@ module _ (g : Game) (spellable : IsSpellable g) where
   play_probability_above play = ratio_product_above (probability g) probability_above play.steps
 
   pub play_payoff_above : (player : ℕ) (play : Play) → IsAbove (play_payoff g player play)
-  play_payoff_above player play =
-      total_above (payoff_at g player) (payoff_above player) (nodes_of play)
+  play_payoff_above player play = grind (arith, total_above, payoff_above)
 
   pub worth_above : (player : ℕ) (play : Play)
       → IsAbove (times (play_probability g play) (play_payoff g player play))
-  worth_above player play = times_above (play_probability g play) (play_payoff g player play)
-      (play_probability_above play) (play_payoff_above player play)
+  worth_above player play = grind (arith, times_above, play_probability_above, play_payoff_above)

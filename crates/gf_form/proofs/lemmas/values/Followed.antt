@@ -1,14 +1,9 @@
 -- The plays that follow choices, child by child.
-use Rattle.std.proofs.Common.{◌≡◌, ℕ, ◌+◌, ◌<◌, Bool, true, false, List, [], ◌++◌, Some, map, refl}
-use Rattle.std.proofs.Common.{arith, append-nil}
-use Rattle.std.specs.Prelude.{◌==◌, ◌||◌, filter}
-use Rattle.std.proofs.lemmas.List.Elements.{filter-append}
-use Rattle.gf_tree.specs.Tree.{Tree, Trees, count}
-use Rattle.gf_tree.specs.Tree.Tree.{branch}
-use Rattle.gf_tree.specs.Tree.Trees.{none, more}
-use Rattle.gf_tree.specs.Description.{SetKey}
-use Rattle.gf_tree.specs.Game.{Node}
-use Rattle.gf_form.specs.Plays.{Play, from_node, is_chosen, follows, plays, plays_from}
+use Rattle.gf_form.proofs.Common.{◌≡◌, ℕ, ◌+◌, ◌<◌, Bool, true, false, List, [], ◌++◌, Some, map}
+use Rattle.gf_form.proofs.Common.{refl, arith, ◌==◌, ◌||◌, filter, filter-append, Tree, Trees}
+use Rattle.gf_form.proofs.Common.{count, branch, none, more, SetKey, Node, Play, from_node}
+use Rattle.gf_form.proofs.Common.{is_chosen, follows, plays, plays_from}
+use Rattle.std.proofs.Common.{append-nil}
 use Rattle.gf_form.proofs.lemmas.values.PlaySums.{followed_chosen, followed_other}
 
 module _ (choices : SetKey → ℕ) where

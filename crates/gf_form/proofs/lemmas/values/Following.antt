@@ -1,20 +1,11 @@
 -- Which plays follow the same choices.
-use Rattle.std.proofs.Common.{◌≡◌, ℕ, suc, ◌+◌, ◌<◌, ◌≤◌, Bool, true, false, List, [], ◌∷◌, ◌++◌}
-use Rattle.std.proofs.Common.{Option, Some, MatchOption, length, map, refl, sym, ap, ◌∙◌, subst}
-use Rattle.std.proofs.Common.{arith, inl, inr}
-use Rattle.std.specs.Prelude.{◌⊎◌, ◌↔◌, ◌==◌, ◌||◌, option_map}
-use Rattle.std.specs.List.{AllByRecursion, list_all}
-use Rattle.std.specs.Option.{option_map_or}
-use Rattle.std.proofs.lemmas.Bool.{eqb-true}
-use Rattle.gf_fraction.proofs.AllElements.{all_parts}
-use Rattle.gf_tree.specs.Tree.{Tree, Trees, count}
-use Rattle.gf_tree.specs.Tree.Tree.{branch}
-use Rattle.gf_tree.specs.Tree.Trees.{none, more}
-use Rattle.gf_tree.specs.PrefixOrder.{flatten, flatten_all}
-use Rattle.gf_tree.specs.Description.{SetKey}
-use Rattle.gf_tree.specs.Game.{Node, Game, HasChildren, set_at}
-use Rattle.gf_tree.proofs.lemmas.games.Uses.{Has, mapped_from}
-use Rattle.gf_form.specs.Plays.{Step, Play, from_node, plays, plays_from, is_chosen, follows}
+use Rattle.gf_form.proofs.Common.{◌≡◌, ℕ, suc, ◌+◌, ◌<◌, ◌≤◌, Bool, true, false, List, [], ◌∷◌}
+use Rattle.gf_form.proofs.Common.{◌++◌, Option, Some, MatchOption, length, map, refl, sym, ap, ◌∙◌}
+use Rattle.gf_form.proofs.Common.{subst, arith, inl, inr, ◌⊎◌, ◌↔◌, ◌==◌, ◌||◌, option_map}
+use Rattle.gf_form.proofs.Common.{AllByRecursion, list_all, option_map_or, eqb-true, all_parts}
+use Rattle.gf_form.proofs.Common.{Tree, Trees, count, branch, none, more, flatten, flatten_all}
+use Rattle.gf_form.proofs.Common.{SetKey, Node, Game, HasChildren, set_at, Has, mapped_from, Step}
+use Rattle.gf_form.proofs.Common.{Play, from_node, plays, plays_from, is_chosen, follows}
 use Rattle.gf_form.specs.Plays.{PartAtChance}
 
 -- ---- a play's moves are the choices
@@ -69,8 +60,7 @@ pub taken_child : (ts : Trees Node) (n : Node) (k : ℕ) (p : Play) → IsPlayOf
     → (j : ℕ) × (below : Play) × (k ≤ j) × (from_node n j below ≡ p)
 taken_child none n k p h = absurd h
 taken_child (more t ts) n k p (inl i) = (k, i.0, omega arith, i.2)
-taken_child (more t ts) n k p (inr i) =
-    let c = taken_child ts n (k + 1) p i in (c.0, c.1, omega (arith, c.2), c.3)
+taken_child (more t ts) n k p (inr i) = grind (arith, taken_child ts n (k + 1) p i)
 
 module _ (choices : SetKey → ℕ) where
   abbrev Follows : Play → Type 0

@@ -1,20 +1,14 @@
 -- The probabilities of an information set: those of chance add up to one, and a player's actions
 -- have none.
-use Rattle.std.proofs.Common.{◌≡◌, ℕ, zero, suc, ◌+◌, ◌<◌, false, List, [], ◌∷◌, Option, Some, None}
-use Rattle.std.proofs.Common.{length, map, get_or, drop, refl, ap, subst, ◌∙◌, arith}
-use Rattle.std.specs.Prelude.{◌==◌, option_and_then, unwrap_or, slice_get}
-use Rattle.std.specs.List.{AllByRecursion}
-use Rattle.std.proofs.lemmas.List.{length-map}
-use Rattle.gf_fraction.specs.Ratio.{Ratio}
-use Rattle.gf_fraction.specs.Rational.{IsEqual, zero_ratio, one_ratio, plus, total}
-use Rattle.gf_fraction.proofs.Rationals.{plus_zero, plus_assoc, IsAbove, plus_above}
-use Rattle.gf_fraction.proofs.Chains.{◌then◌, plus_left}
-use Rattle.gf_token.specs.Positions.{at_position}
-use Rattle.gf_nfg.specs.Profiles.{numbers_from}
-use Rattle.gf_tree.specs.Description.{Action, SetKey, InformationSet, AddToOne, AreActions}
-use Rattle.gf_tree.specs.Game.{Node, Game, IsGame, set_at}
-use Rattle.gf_tree.specs.Spellable.{IsSpellable}
-use Rattle.gf_form.specs.Payoff.{action_at, probability}
+use Rattle.gf_form.proofs.Common.{◌≡◌, ℕ, zero, suc, ◌+◌, ◌<◌, false, List, [], ◌∷◌, Option, Some}
+use Rattle.gf_form.proofs.Common.{None, length, map, get_or, drop, refl, ap, subst, ◌∙◌, arith}
+use Rattle.gf_form.proofs.Common.{◌==◌, option_and_then, unwrap_or, slice_get, AllByRecursion}
+use Rattle.gf_form.proofs.Common.{length-map, Ratio, IsEqual, zero_ratio, one_ratio, plus, total}
+use Rattle.gf_form.proofs.Common.{plus_zero, plus_assoc, IsAbove, plus_above, ◌then◌, plus_left}
+use Rattle.gf_form.proofs.Common.{at_position, numbers_from, Action, SetKey, InformationSet}
+use Rattle.gf_form.proofs.Common.{AddToOne, Node, Game, IsGame, set_at, IsSpellable, action_at}
+use Rattle.gf_form.proofs.Common.{probability}
+use Rattle.gf_tree.specs.Description.{AreActions}
 use Rattle.gf_form.proofs.lemmas.values.Denominators.{probability_above}
 use Rattle.gf_form.proofs.lemmas.strategies.Lookups.{Each, each_at, next_position}
 use Rattle.gf_form.proofs.lemmas.strategies.KnownSets.{each_set}

@@ -1,24 +1,14 @@
 -- The rows of payoffs that are kept, each at its position.
-use Rattle.std.proofs.Common.{◌≡◌, ℕ, zero, suc, ◌+◌, ◌-◌, ◌<◌, ◌≤◌, true, List, [], ◌∷◌, ◌++◌}
-use Rattle.std.proofs.Common.{length, map, get_or, slice_get, inl, inr, subst, Some, Bor, sym}
-use Rattle.std.proofs.Common.{arith}
-use Rattle.std.specs.Prelude.{◌==◌, unwrap_or}
-use Rattle.std.specs.List.{AllByRecursion, find}
-use Rattle.std.proofs.lemmas.Bool.{cases_lt}
-use Rattle.std.proofs.lemmas.List.{length-append, length-map}
-use Rattle.std.proofs.lemmas.Option.{slice_get-get_or, slice_get-map, slice_get_past}
-use Rattle.std.proofs.lemmas.Option.{unwrap_or-slice_get}
-use Rattle.gf_fraction.specs.Ratio.{Ratio, IsFraction}
-use Rattle.gf_fraction.specs.Rational.{zero_ratio}
-use Rattle.gf_token.specs.Positions.{at_position}
-use Rattle.gf_tree.specs.Description.{Outcome, IsOutcome}
-use Rattle.gf_tree.specs.FiniteMap.{Described}
-use Rattle.gf_tree.specs.FirstUse.{outcome_numbers}
-use Rattle.gf_tree.specs.Game.{Game, IsGame, outcome_at}
-use Rattle.gf_tree.specs.Spellable.{IsSpellable}
-use Rattle.gf_tree.proofs.lemmas.stores.Places.{at_index}
-use Rattle.gf_form.specs.inner.values.Program.{paid}
-use Rattle.gf_form.specs.inner.values.Rows.{ArePaid, IsRow, at_place, row_at}
+use Rattle.gf_form.proofs.Common.{◌≡◌, ℕ, zero, suc, ◌+◌, ◌-◌, ◌<◌, ◌≤◌, true, List, [], ◌∷◌, ◌++◌}
+use Rattle.gf_form.proofs.Common.{length, map, get_or, slice_get, inl, inr, subst, Some, sym, arith}
+use Rattle.gf_form.proofs.Common.{◌==◌, unwrap_or, AllByRecursion, cases_lt, length-append}
+use Rattle.gf_form.proofs.Common.{length-map, slice_get-get_or, slice_get-map, slice_get_past}
+use Rattle.gf_form.proofs.Common.{unwrap_or-slice_get, Ratio, IsFraction, zero_ratio, at_position}
+use Rattle.gf_form.proofs.Common.{Outcome, Described, outcome_numbers, Game, IsGame, outcome_at}
+use Rattle.gf_form.proofs.Common.{IsSpellable, at_index, paid, ArePaid, IsRow, at_place, row_at}
+use Rattle.std.proofs.Common.{Bor}
+use Rattle.std.specs.List.{find}
+use Rattle.gf_tree.specs.Description.{IsOutcome}
 use Rattle.gf_form.proofs.lemmas.values.Denominators.{payoffs_of}
 use Rattle.gf_form.proofs.lemmas.strategies.Lookups.{Each, each_found, each_mapped, each_weaker}
 
@@ -117,20 +107,6 @@ one_row g rows row count are is = record {
 
 pub all_rows : (g : Game) (rows : List (List Ratio)) → ArePaidTo g rows (length (outcome_numbers g))
     → ArePaid g rows
-all_rows g rows are = record {
-  paid_is = λ position k. (at position).paid_is k;
-  row = λ position. (at position).row_is;
-}
-  where
-    past : (position : ℕ) → length (outcome_numbers g) < position
-        → IsPaidAt g (row_at rows position) position
-    past zero h = absurd (omega (arith, h))
-    past (suc k) h = grind (arith, slice_get_past)
-
-    at : (position : ℕ) → IsPaidAt g (row_at rows position) position
-    at position = elim (cases_lt (length (outcome_numbers g)) position) [
-      | inl more ↦ past position more
-      | inr within ↦ are.each position within
-    ]
+all_rows g rows are = grind (arith, slice_get_past, cases_lt)
 
 pub ruleset row_steps = (row_there, no_row)

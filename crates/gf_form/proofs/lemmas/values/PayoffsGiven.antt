@@ -1,20 +1,9 @@
 -- The values of the players are their payoffs.
-use Rattle.std.proofs.Common.{get_or, ◌≡◌, ℕ, zero, suc, ◌+◌, ◌<◌, List, [], ◌∷◌, Some, None}
-use Rattle.std.proofs.Common.{length, sym, subst, ◌∙◌, arith}
-use Rattle.std.specs.List.{AllByRecursion, AllZip}
-use Rattle.std.proofs.lemmas.List.{length-map}
-use Rattle.gf_fraction.specs.Ratio.{Ratio, IsFraction}
-use Rattle.gf_fraction.specs.Rational.{IsEqual, zero_ratio}
-use Rattle.gf_nfg.specs.Profiles.{numbers_from, positions}
-use Rattle.gf_tree.specs.Description.{SetKey}
-use Rattle.gf_tree.specs.Game.{Game, IsGame}
-use Rattle.gf_tree.specs.Spellable.{IsSpellable}
-use Rattle.gf_form.specs.BottomUp.{IsValue}
-use Rattle.gf_form.specs.Payoff.{payoff}
-use Rattle.gf_form.specs.Refusal.{HasValuesBy}
-use Rattle.gf_form.specs.inner.values.Rows.{at_place}
-use Rattle.gf_form.specs.StrategicForm.{ArePayoffs}
-use Rattle.gf_form.specs.inner.values.Values.{value}
+use Rattle.gf_form.proofs.Common.{get_or, ◌≡◌, ℕ, zero, suc, ◌+◌, ◌<◌, List, [], ◌∷◌, Some, None}
+use Rattle.gf_form.proofs.Common.{length, sym, subst, ◌∙◌, arith, AllByRecursion, AllZip}
+use Rattle.gf_form.proofs.Common.{length-map, Ratio, IsFraction, IsEqual, zero_ratio, numbers_from}
+use Rattle.gf_form.proofs.Common.{positions, SetKey, Game, IsGame, IsSpellable, IsValue, payoff}
+use Rattle.gf_form.proofs.Common.{HasValuesBy, at_place, ArePayoffs, value}
 use Rattle.gf_form.proofs.lemmas.values.BottomUp.{value_is_payoff}
 use Rattle.gf_form.proofs.lemmas.values.RowSums.{fraction_at}
 use Rattle.gf_form.proofs.lemmas.values.ValuesComputed.{computed_value, value_computed}

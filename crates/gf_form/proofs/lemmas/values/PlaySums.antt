@@ -1,17 +1,11 @@
 -- Sums over lists of plays: of their probabilities, and of probability times payoff.
-use Rattle.std.proofs.Common.{◌≡◌, ℕ, Bool, true, false, cond, List, [], ◌∷◌, ◌++◌, map, refl}
-use Rattle.std.proofs.Common.{arith}
-use Rattle.std.specs.Prelude.{◌&&◌, filter}
-use Rattle.gf_fraction.specs.Ratio.{Ratio}
-use Rattle.gf_fraction.specs.Rational.{IsEqual, zero_ratio, plus, times, total}
-use Rattle.gf_fraction.proofs.Rationals.{plus_zero, plus_assoc, times_comm, times_assoc, times_plus}
-use Rattle.gf_fraction.proofs.Rationals.{times_zero, IsAbove, plus_above, times_above, total_above}
-use Rattle.gf_fraction.proofs.Chains.{◌then◌, back, plus_left, plus_right, times_right, plus_across}
-use Rattle.gf_tree.specs.Description.{SetKey}
-use Rattle.gf_tree.specs.Game.{Node, Game}
-use Rattle.gf_tree.specs.Spellable.{IsSpellable}
-use Rattle.gf_form.specs.Plays.{Play, from_node, is_chosen, follows}
-use Rattle.gf_form.specs.Payoff.{probability, payoff_at, play_probability, play_payoff}
+use Rattle.gf_form.proofs.Common.{◌≡◌, ℕ, Bool, true, false, cond, List, [], ◌∷◌, ◌++◌, map, refl}
+use Rattle.gf_form.proofs.Common.{arith, ◌&&◌, filter, Ratio, IsEqual, zero_ratio, plus, times}
+use Rattle.gf_form.proofs.Common.{total, plus_zero, plus_assoc, times_comm, times_assoc, times_plus}
+use Rattle.gf_form.proofs.Common.{times_zero, IsAbove, plus_above, times_above, total_above, ◌then◌}
+use Rattle.gf_form.proofs.Common.{back, plus_left, plus_right, times_right, plus_across, SetKey}
+use Rattle.gf_form.proofs.Common.{Node, Game, IsSpellable, Play, from_node, is_chosen, follows}
+use Rattle.gf_form.proofs.Common.{probability, payoff_at, play_probability, play_payoff}
 use Rattle.gf_form.proofs.lemmas.values.Denominators.{probability_above, payoff_above}
 use Rattle.gf_form.proofs.lemmas.values.Denominators.{play_probability_above, play_payoff_above}
 use Rattle.gf_form.proofs.lemmas.values.Denominators.{worth_above}

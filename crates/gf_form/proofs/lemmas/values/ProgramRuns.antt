@@ -1,29 +1,16 @@
 -- The operations of a tree leave its value on the stack.
-use Rattle.std.proofs.Common.{◌≡◌, ℕ, zero, suc, ◌+◌, Bool, true, false, List, [], ◌∷◌, ◌++◌}
-use Rattle.std.proofs.Common.{Option, Some, None, refl, sym, subst, ◌∙◌, append_assoc, arith, cond}
-use Rattle.std.specs.Prelude.{◌==◌, nat_eq, position, slice_get, option_and_then, unwrap_or}
-use Rattle.std.specs.Prelude.{if◌then◌else◌}
-use Rattle.std.specs.List.{AllByRecursion, position_from}
-use Rattle.gf_fraction.specs.Ratio.{Ratio}
-use Rattle.gf_fraction.specs.Rational.{zero_ratio}
-use Rattle.gf_tree.specs.Tree.{Tree, Trees}
-use Rattle.gf_tree.specs.Tree.Tree.{branch}
-use Rattle.gf_tree.specs.Tree.Trees.{none, more}
-use Rattle.gf_tree.specs.Description.{SetKey}
-use Rattle.gf_tree.specs.FirstUse.{outcome_numbers}
-use Rattle.gf_tree.specs.Game.{Game, Node, outcome_at}
-use Rattle.gf_form.specs.Payoff.{payoff_at}
-use Rattle.gf_form.specs.inner.values.Values.{chance_value, chances_at, child_value, plus_of}
-use Rattle.gf_form.specs.inner.values.Values.{times_of, value, value_over}
-use Rattle.gf_form.specs.inner.values.Program.{chance_code, child_code, code, code_over, paid}
-use Rattle.gf_form.specs.inner.values.Program.{paid_at_node, run}
-use Rattle.gf_form.specs.declared.values.op.Op.{Op}
-use Rattle.gf_form.specs.declared.values.op.Op.TheVariants.{Push, Begin, Nothing, Weigh, Pay}
+use Rattle.gf_form.proofs.Common.{◌≡◌, ℕ, zero, suc, ◌+◌, Bool, true, false, List, [], ◌∷◌, ◌++◌}
+use Rattle.gf_form.proofs.Common.{Option, Some, None, refl, ◌∙◌, append_assoc, arith, cond, ◌==◌}
+use Rattle.gf_form.proofs.Common.{nat_eq, slice_get, if◌then◌else◌, AllByRecursion, Ratio}
+use Rattle.gf_form.proofs.Common.{zero_ratio, Tree, Trees, branch, none, more, SetKey, Game, Node}
+use Rattle.gf_form.proofs.Common.{payoff_at, chance_value, chances_at, child_value, plus_of}
+use Rattle.gf_form.proofs.Common.{times_of, value, value_over, chance_code, child_code, code}
+use Rattle.gf_form.proofs.Common.{code_over, paid, paid_at_node, run, Op, Push, Begin, Nothing}
+use Rattle.gf_form.proofs.Common.{Weigh, Pay}
+use Rattle.std.specs.Prelude.{position}
+use Rattle.std.specs.List.{position_from}
 use Rattle.gf_tree.proofs.lemmas.stores.FoundKeys.{not_described}
 use Rattle.std.proofs.lemmas.Iterator.Adapters.{position_from-zero}
-use Rattle.std.proofs.lemmas.Bool.Decides.{Decides-eqb}
-use Rattle.gf_token.specs.Positions.{at_position}
-use Rattle.gf_tree.specs.OutcomePositions.{position_among, position_at}
 
 -- ---- the payoffs of an outcome, by its position
 
@@ -41,34 +28,9 @@ place_is n (m ∷ ns) start place h = by (nat_eq n m) refl (place_is n ns (start
     by true is later e = grind arith
     by false is later e = let r = later e in (suc r.0, omega (arith, r.1), r.2)
 
-paid_of_number : (g : Game) (player number : ℕ)
-    → paid g player (position_among (outcome_numbers g) (Some number))
-    ≡ unwrap_or (option_and_then (λ outcome. at_position outcome.payoffs player)
-    (outcome_at g number)) zero_ratio
-paid_of_number g player number = by (position (nat_eq number) (outcome_numbers g)) refl
-  where
-    by : (o : Option ℕ) → position (nat_eq number) (outcome_numbers g) ≡ o
-        → unwrap_or (option_and_then (λ number.
-        option_and_then (λ outcome. at_position outcome.payoffs player) (outcome_at g number))
-        (at_position (outcome_numbers g) (position_at o))) zero_ratio
-        ≡ unwrap_or (option_and_then (λ outcome. at_position outcome.payoffs player)
-        (outcome_at g number)) zero_ratio
-    by None is = grind (arith, not_described nat_eq Decides-eqb number g.outcomes is)
-    by (Some place) is =
-        let r = place_is number (outcome_numbers g) 0 place
-        (sym (position_from-zero (nat_eq number) (outcome_numbers g)) ∙ is) in
-        let there : slice_get (outcome_numbers g) place ≡ Some number = grind arith in
-        rw there refl
-
 pub paid_is : (g : Game) (player : ℕ) (n : Node)
     → paid g player (paid_at_node g n) ≡ payoff_at g player n
-paid_is g player n = by n.outcome
-  where
-    by : (o : Option ℕ) → paid g player (position_among (outcome_numbers g) o)
-        ≡ unwrap_or (option_and_then (λ number. option_and_then
-        (λ outcome. at_position outcome.payoffs player) (outcome_at g number)) o) zero_ratio
-    by None = refl
-    by (Some number) = paid_of_number g player number
+paid_is g player n = grind (arith, not_described, place_is, position_from-zero)
 
 -- ---- the operations of a tree
 
@@ -136,18 +98,15 @@ IsDefined (Some r) = Unit {0}
 -- if a value is left, all values on the stack were defined
 defined : (g : Game) (player : ℕ) (ops : List Op) (st : List (Option Ratio)) (r : Ratio)
     → run g player ops st ≡ Some r ∷ [] → AllByRecursion IsDefined st
-defined g player [] st r h = subst (AllByRecursion IsDefined) (sym h) (tt, tt)
 defined g player (Push position ∷ ops) st r h =
     (defined g player ops (Some (paid g player position) ∷ st) r h).1
 defined g player (Begin ∷ ops) st r h = (defined g player ops (Some zero_ratio ∷ st) r h).1
 defined g player (Nothing ∷ ops) st r h = (defined g player ops (None ∷ st) r h).1
-defined g player (Weigh p ∷ ops) [] r h = absurd cc
-defined g player (Weigh p ∷ ops) (x ∷ []) r h = absurd cc
 defined g player (Weigh p ∷ ops) (x ∷ sum ∷ st) r h =
     grind (arith, defined g player ops (plus_of sum (times_of p x) ∷ st) r h)
-defined g player (Pay position ∷ ops) [] r h = absurd cc
 defined g player (Pay position ∷ ops) (x ∷ st) r h =
     grind (arith, defined g player ops (plus_of (Some (paid g player position)) x ∷ st) r h)
+defined g player ops st r h = grind arith
 
 pub stays_undefined : (g : Game) (player : ℕ) (ops : List Op) (st : List (Option Ratio))
     (v : Option Ratio) → run g player ops (None ∷ st) ≡ v ∷ [] → v ≡ None

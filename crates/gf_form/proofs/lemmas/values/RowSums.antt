@@ -1,21 +1,15 @@
 -- Rows that are added up, number by number.
-use Rattle.std.proofs.Common.{◌≡◌, ℕ, zero, suc, ◌+◌, ◌<◌, ◌≤◌, List, [], ◌∷◌, Option, Some, None}
-use Rattle.std.proofs.Common.{length, get_or, sym, ap, subst, ◌∙◌, arith, ◌⊎◌, inl, inr, pos}
-use Rattle.std.proofs.Common.{true}
-use Rattle.std.specs.List.{AllByRecursion}
+use Rattle.gf_form.proofs.Common.{◌≡◌, ℕ, zero, suc, ◌+◌, ◌<◌, ◌≤◌, List, [], ◌∷◌, Option, Some}
+use Rattle.gf_form.proofs.Common.{None, length, get_or, sym, subst, ◌∙◌, arith, ◌⊎◌, pos, true}
+use Rattle.gf_form.proofs.Common.{AllByRecursion, cases_lt, eqb-true, get_or_default, get_or_past}
+use Rattle.gf_form.proofs.Common.{get_or-set_other, fits_signed_from_abs, to_z-of_z, ◌==◌}
+use Rattle.gf_form.proofs.Common.{IsProduct, IsSum, SumFits, product_of-some, sum_of-some, Ratio}
+use Rattle.gf_form.proofs.Common.{IsFraction, zero_ratio, at_place, plus_of, times_of}
 use Rattle.std.proofs.Math.ListN.{set, length-set}
-use Rattle.std.proofs.lemmas.Bool.{cases_lt, eqb-true}
-use Rattle.std.proofs.lemmas.List.{get_or_default, get_or_past, get_or-set_other, get_or-set_same}
-use Rattle.std.proofs.lemmas.Int.{fits_signed_from_abs, to_z-of_z}
-use Rattle.std.specs.Prelude.{◌==◌}
-use Rattle.gf_fraction.specs.Fits.{IsProduct, IsSum, ProductFits, SumFits}
+use Rattle.std.proofs.lemmas.List.{get_or-set_same}
+use Rattle.gf_fraction.specs.Fits.{ProductFits}
 use Rattle.gf_fraction.specs.Computed.{sum_of}
-use Rattle.gf_fraction.proofs.ComputedArithmetic.{product_of-none, product_of-some, sum_of-none}
-use Rattle.gf_fraction.proofs.ComputedArithmetic.{sum_of-some}
-use Rattle.gf_fraction.specs.Ratio.{Ratio, IsFraction}
-use Rattle.gf_fraction.specs.Rational.{zero_ratio}
-use Rattle.gf_form.specs.inner.values.Rows.{at_place}
-use Rattle.gf_form.specs.inner.values.Values.{plus_of, times_of}
+use Rattle.gf_fraction.proofs.ComputedArithmetic.{product_of-none, sum_of-none}
 use Rattle.gf_form.proofs.lemmas.values.ValuesComputed.{zero_fraction}
 use Rattle.gf_form.proofs.lemmas.values.Zeros.{none_times, plus_zero, times_zero, zero_plus}
 
@@ -46,28 +40,12 @@ module _ (step : Ratio → Ratio → Option Ratio) (old new row : List Ratio) wh
   pub one_added : (i : ℕ) (x : Ratio) → Added step old new row i → i < length row
       → step (at_place new i) (at_place row i) ≡ Some x → IsFraction x
       → Added step old (set new i x) row (i + 1)
-  one_added i x a h is f = record {
-    counted = length-set new i x ∙ a.counted;
-    fractions = all_set new i x a.fractions f;
-    done = λ k less. by k (cases_lt k i) less;
-    kept = λ k more. grind (arith, get_or-set_other);
-  }
-    where
-      by : (k : ℕ) → (k < i) ⊎ (i ≤ k) → k < i + 1
-          → step (at_place old k) (at_place row k) ≡ Some (at_place (set new i x) k)
-      by k (inl less) h' = grind (arith, get_or-set_other)
-      by k (inr more) h' =
-          let same : i ≡ k = omega (arith, more, h') in
-          grind (arith, same, is, get_or-set_same)
+  one_added i x a h is f =
+      grind (arith, length-set, all_set, cases_lt, get_or-set_other, set, get_or-set_same)
 
   pub all_added : Added step old new row (length row) → step zero_ratio zero_ratio ≡ Some zero_ratio
       → (k : ℕ) → step (at_place old k) (at_place row k) ≡ Some (at_place new k)
-  all_added a zeros k = by (cases_lt k (length row))
-    where
-      by : (k < length row) ⊎ (length row ≤ k)
-          → step (at_place old k) (at_place row k) ≡ Some (at_place new k)
-      by (inl less) = a.done k less
-      by (inr past) = grind (arith, get_or_past, zeros)
+  all_added a zeros k = grind (arith, cases_lt, get_or_past)
 
 -- ---- one number
 
@@ -155,12 +133,7 @@ pub nothing_weighed : (chance : Ratio) (sum row : List Ratio) → IsFraction cha
     → plus_of (Some (at_place sum k)) (times_of chance (Some (at_place row k)))
     ≡ Some (at_place sum k)
 nothing_weighed chance sum row fc fs fr k h =
-    cc (by h, plus_zero (at_place sum k) (fraction_at sum k fs))
-  where
-    by : (chance.num ≡ pos 0) ⊎ (at_place row k ≡ zero_ratio)
-        → times_of chance (Some (at_place row k)) ≡ Some zero_ratio
-    by (inl none) = none_times chance fc none (at_place row k) (fraction_at row k fr)
-    by (inr empty) = ap (λ (r : Ratio). times_of chance (Some r)) empty ∙ times_zero chance fc
+    grind (arith, plus_zero, fraction_at, none_times, times_zero)
 
 pub zeros_weighed : (chance : Ratio) → IsFraction chance
     → plus_of (Some zero_ratio) (times_of chance (Some zero_ratio)) ≡ Some zero_ratio
@@ -169,8 +142,7 @@ zeros_weighed chance f = cc (times_zero chance f, plus_zero zero_ratio zero_frac
 pub nothing_paid : (row payoffs : List Ratio) → AllByRecursion IsFraction row
     → true ≡ (length payoffs == 0) → (k : ℕ)
     → sum_of (at_place payoffs k) (at_place row k) ≡ Some (at_place row k)
-nothing_paid row payoffs f h k =
-    cc (empty_row payoffs h k, zero_plus (at_place row k) (fraction_at row k f))
+nothing_paid row payoffs f h k = grind (arith, empty_row, zero_plus, fraction_at)
 
 -- ---- what the steps of the code need
 

@@ -1,22 +1,14 @@
 -- Rows that are put onto a stack and taken from it.
-use Rattle.std.proofs.Common.{◌≡◌, ℕ, ◌<◌, List, [], ◌∷◌, ◌++◌, length, map, Option, Some, Vec}
-use Rattle.std.proofs.Common.{Global, refl, ap, subst, arith, ◌+◌, ◌≤◌, suc}
-use Rattle.std.specs.Prelude.{Err, IsErrOf, option_to_list}
-use Rattle.std.specs.List.{AllByRecursion}
-use Rattle.std.proofs.lemmas.List.{map-append}
-use Rattle.std.proofs.lemmas.Result.{on_ok_weaker}
+use Rattle.gf_form.proofs.Common.{◌≡◌, ℕ, ◌<◌, List, [], ◌∷◌, ◌++◌, length, map, Option, Some, Vec}
+use Rattle.gf_form.proofs.Common.{Global, refl, ap, subst, arith, ◌+◌, ◌≤◌, suc, Err}
+use Rattle.gf_form.proofs.Common.{AllByRecursion, map-append, on_ok_weaker, IsFraction, Ratio}
+use Rattle.gf_form.proofs.Common.{all_parts, Game, paid, run, Op, Push, Begin, Weigh, Pay, AreRows}
+use Rattle.gf_form.proofs.Common.{IsRow, at_place, column, plus_of, times_of}
+use Rattle.std.specs.Prelude.{IsErrOf, option_to_list}
 use Rattle.gf_form.proofs.lemmas.values.ProgramRuns.{stays_undefined}
-use Rattle.gf_fraction.specs.Ratio.{IsFraction, Ratio}
-use Rattle.gf_fraction.specs.Rational.{zero_ratio}
-use Rattle.gf_fraction.proofs.AllElements.{all_parts}
-use Rattle.gf_tree.specs.Game.{Game}
 use Rattle.gf_form.proofs.lemmas.values.PaidRowsKept.{empty_at}
-use Rattle.gf_form.specs.inner.values.Program.{operands, paid, run}
-use Rattle.gf_form.specs.declared.values.op.Op.{Op}
-use Rattle.gf_form.specs.declared.values.op.Op.TheVariants.{Push, Begin, Weigh, Pay}
-use Rattle.gf_form.specs.inner.values.Rows.{AreRows, IsRow, PaysTo, WeighsTo, at_place, column}
-use Rattle.gf_form.specs.inner.values.Rows.{column_on}
-use Rattle.gf_form.specs.inner.values.Values.{plus_of, times_of}
+use Rattle.gf_form.specs.inner.values.Program.{operands}
+use Rattle.gf_form.specs.inner.values.Rows.{PaysTo, WeighsTo, column_on}
 use Rattle.gf_form.proofs.lemmas.values.RowSums.{fraction_at}
 use Rattle.gf_form.proofs.lemmas.values.Zeros.{zero_plus}
 use Rattle.gf_tree.proofs.lemmas.games.Members.{all_more}
@@ -86,8 +78,7 @@ pays_to payoff k all below new row total e n h = grind (arith, column_last, pays
 counted_on : (k : ℕ) (rows : List (List Ratio)) (below : List (Option Ratio))
     → length (column_on k rows below) ≡ length rows + length below
 counted_on k [] below = omega arith
-counted_on k (row ∷ rows) below =
-    let later = counted_on k rows (Some (at_place row k) ∷ below) in omega (arith, later)
+counted_on k (row ∷ rows) below = grind (arith, counted_on k rows (Some (at_place row k) ∷ below))
 
 pub counted : (k : ℕ) (rows : List (List Ratio)) → length (column k rows) ≡ length rows
 counted k rows = let all = counted_on k rows [] in omega (arith, all)
@@ -105,15 +96,11 @@ some_fractions players k (row ∷ rows) below h are =
     some_fractions players k rows (Some (at_place row k) ∷ below) h.1
     ((at_place row k, refl, fraction_at row k h.0.fractions), are)
 
-zero_pays : (st : List (Option Ratio)) → 0 < length st → AllByRecursion IsSomeFraction st
-    → PaysTo zero_ratio st st
-zero_pays st some h = grind (arith, some, zero_plus)
-
 pub nothing_pays : (players k : ℕ) (rows : List (List Ratio)) (payoffs : List Ratio)
     → 1 ≤ length rows → AreRows players rows → length payoffs ≡ 0
     → PaysTo (at_place payoffs k) (column k rows) (column k rows)
 nothing_pays players k rows [] some h none =
-    grind (arith, empty_at, zero_pays, counted, some_fractions)
+    grind (arith, empty_at, zero_plus, counted, some_fractions)
 nothing_pays players k rows (x ∷ payoffs) some h none = absurd (omega (arith, none))
 
 -- ---- the operands of an operation

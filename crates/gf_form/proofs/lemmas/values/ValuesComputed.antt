@@ -1,26 +1,14 @@
 -- The computed bottom-up value is the one of the relation.
-use Rattle.std.proofs.Common.{◌≡◌, ℕ, zero, suc, ◌+◌, Bool, true, false, Option, Some, None}
-use Rattle.std.proofs.Common.{MatchOption, refl, sym, ap, subst, ◌∙◌, arith}
-use Rattle.std.specs.Prelude.{◌==◌, if◌then◌else◌}
-use Rattle.std.specs.Bool.{MatchBool}
-use Rattle.gf_fraction.specs.Ratio.{Ratio, IsFraction}
-use Rattle.gf_fraction.specs.Rational.{zero_ratio}
-use Rattle.gf_fraction.specs.Fits.{AddsTo, MultipliesTo}
-use Rattle.gf_fraction.specs.Computed.{product_of, sum_of}
-use Rattle.gf_fraction.proofs.ComputedArithmetic.{product_is_computed, product_of-some}
-use Rattle.gf_fraction.proofs.ComputedArithmetic.{sum_is_computed, sum_of-some}
-use Rattle.gf_fraction.proofs.WholeNumbers.{whole_fraction}
-use Rattle.gf_tree.specs.Tree.{Tree, Trees}
-use Rattle.gf_tree.specs.Tree.Tree.{branch}
-use Rattle.gf_tree.specs.Tree.Trees.{none, more}
-use Rattle.gf_tree.specs.Description.{SetKey}
-use Rattle.gf_tree.specs.Game.{Game, Node}
-use Rattle.gf_tree.specs.Spellable.{IsSpellable}
-use Rattle.gf_form.specs.BottomUp.{IsChanceValue, IsChildValue, IsMoveValue, IsTerminalValue}
-use Rattle.gf_form.specs.BottomUp.{IsValue}
-use Rattle.gf_form.specs.Payoff.{payoff_at}
-use Rattle.gf_form.specs.inner.values.Values.{chance_value, chances_at, child_value, plus_of}
-use Rattle.gf_form.specs.inner.values.Values.{times_of, value, value_over}
+use Rattle.gf_form.proofs.Common.{◌≡◌, ℕ, zero, suc, ◌+◌, Bool, true, false, Option, Some, None}
+use Rattle.gf_form.proofs.Common.{MatchOption, refl, sym, ap, subst, ◌∙◌, arith, ◌==◌}
+use Rattle.gf_form.proofs.Common.{if◌then◌else◌, MatchBool, Ratio, IsFraction, zero_ratio, AddsTo}
+use Rattle.gf_form.proofs.Common.{MultipliesTo, product_of, product_of-some, sum_is_computed}
+use Rattle.gf_form.proofs.Common.{sum_of-some, whole_fraction, Tree, Trees, branch, none, more}
+use Rattle.gf_form.proofs.Common.{SetKey, Game, Node, IsSpellable, IsChanceValue, IsChildValue}
+use Rattle.gf_form.proofs.Common.{IsMoveValue, IsTerminalValue, IsValue, payoff_at, chance_value}
+use Rattle.gf_form.proofs.Common.{chances_at, child_value, plus_of, times_of, value, value_over}
+use Rattle.gf_fraction.specs.Computed.{sum_of}
+use Rattle.gf_fraction.proofs.ComputedArithmetic.{product_is_computed}
 use Rattle.gf_form.proofs.lemmas.values.Denominators.{payoff_fraction, probability_fraction}
 
 pub zero_fraction : IsFraction zero_ratio
@@ -82,18 +70,7 @@ module _ (g : Game) (spellable : IsSpellable g) (choices : SetKey → ℕ) (play
       else child_value g choices player (choices key) ts)) v
   node_computed n ts v None chance child h = grind (arith, own_fraction n)
   node_computed n ts v (Some key) chance child h =
-      by (key.player == 0) h.1
-    where
-      added : (o : Option Ratio) → Computed o h.0 → Computed (plus_of (Some (own n)) o) v
-      added o c = grind (arith, adds_is (own n) h.0 v (own_fraction n) c.1 h.2)
-
-      by : (b : Bool) → MatchBool b (IsChanceValue g choices player n 1 zero_ratio ts h.0)
-          (IsChildValue g choices player (choices key) ts h.0)
-          → Computed (plus_of (Some (own n)) (if b
-          then chance_value g choices player (chances_at g n) 1 (Some zero_ratio) ts
-          else child_value g choices player (choices key) ts)) v
-      by true is = added _ (chance h.0 is)
-      by false is = added _ (child (choices key) h.0 is)
+      grind (arith, Computed, own, adds_is, own_fraction)
 
   mutual
     pub value_computed : (t : Tree Node) (v : Ratio) → IsValue g choices player t v
@@ -128,10 +105,8 @@ module _ (g : Game) (spellable : IsSpellable g) (choices : SetKey → ℕ) (play
   -- children are added to a sum that is defined
   some_sum : (ts : Trees Node) (chances : ℕ → Ratio) (k : ℕ) (sum : Option Ratio) (v : Ratio)
       → chance_value g choices player chances k sum ts ≡ Some v → (s : Ratio) × (sum ≡ Some s)
-  some_sum none chances k sum v h = (v, h)
-  some_sum (more t ts) chances k None v h =
-      let later = some_sum ts chances (k + 1) None v h in absurd (let e = later.1 in cc)
-  some_sum (more t ts) chances k (Some s) v h = (s, refl)
+  some_sum (more t ts) chances k None v h = grind (arith, some_sum ts chances (k + 1) None v h)
+  some_sum ts chances k sum v h = grind arith
 
   node_is : (n : Node) (ts : Trees Node) (v : Ratio) (o : Option SetKey)
       → ((below : Ratio) → chance_value g choices player (chances_at g n) 1 (Some zero_ratio) ts
@@ -181,8 +156,7 @@ module _ (g : Game) (spellable : IsSpellable g) (choices : SetKey → ℕ) (play
     computed_chance : (ts : Trees Node) (n : Node) (k : ℕ) (sum v : Ratio) → IsFraction sum
         → chance_value g choices player (chances_at g n) k (Some sum) ts ≡ Some v
         → IsChanceValue g choices player n k sum ts v × IsFraction v
-    computed_chance none n k sum v f h =
-        let same : v ≡ sum = cc in (same, subst IsFraction (sym same) f)
+    computed_chance none n k sum v f h = grind arith
     computed_chance (more t ts) n k sum v f h =
         let next = some_sum ts (chances_at g n) (k + 1)
         (plus_of (Some sum) (times_of (chances_at g n k) (value g choices player t))) v h in

@@ -1,37 +1,20 @@
 -- The operations of a tree, given by a walk through its branches.
-use Rattle.std.proofs.Common.{◌≡◌, ℕ, zero, suc, ◌+◌, ◌-◌, ◌<◌, List, [], ◌∷◌, ◌++◌, length}
-use Rattle.std.proofs.Common.{map, slice_get, Option, Some, None, MatchOption, option_map, refl}
-use Rattle.std.proofs.Common.{append_assoc, arith, ◌≤◌, get_or, Vec, Global}
-use Rattle.std.specs.Prelude.{option_and_then, unwrap_or}
-use Rattle.std.proofs.lemmas.Bool.{eq-eqb, false_from_ne_true}
-use Rattle.std.proofs.lemmas.List.{length-append, length-map}
-use Rattle.std.proofs.lemmas.Option.{slice_get-get_or, slice_get-map, slice_get_past}
+use Rattle.gf_form.proofs.Common.{◌≡◌, ℕ, zero, suc, ◌+◌, ◌-◌, ◌<◌, List, [], ◌∷◌, ◌++◌, length}
+use Rattle.gf_form.proofs.Common.{map, slice_get, Option, Some, None, MatchOption, option_map, refl}
+use Rattle.gf_form.proofs.Common.{append_assoc, arith, ◌≤◌, get_or, Vec, Global, option_and_then}
+use Rattle.gf_form.proofs.Common.{unwrap_or, eq-eqb, false_from_ne_true, length-append, length-map}
+use Rattle.gf_form.proofs.Common.{slice_get-get_or, slice_get-map, slice_get_past, at_index, Ratio}
+use Rattle.gf_form.proofs.Common.{one_ratio, at_position, Tree, Trees, branch, none, more, Action}
+use Rattle.gf_form.proofs.Common.{SetKey, player_keys, Game, IsGame, Node, set_at, flatten}
+use Rattle.gf_form.proofs.Common.{flatten_all, child_trees, list_of, root_node, AreDistinct}
+use Rattle.gf_form.proofs.Common.{first_uses_distinct, sets_by_first_use, same_set_equality}
+use Rattle.gf_form.proofs.Common.{chance_code, child_code, code, code_over, paid_at_node, choice_at}
+use Rattle.gf_form.proofs.Common.{choices_by, strategy_at, chances_at, Op, Begin, Nothing, Pay}
+use Rattle.gf_form.proofs.Common.{has_at}
 use Rattle.gf_tree.specs.Actions.{action_of, actions_of}
 use Rattle.gf_tree.specs.declared.game.action.Action.{Action as Held}
-use Rattle.gf_tree.proofs.lemmas.stores.Places.{at_index}
-use Rattle.gf_fraction.specs.Ratio.{Ratio}
-use Rattle.gf_fraction.specs.Rational.{one_ratio}
-use Rattle.gf_token.specs.Positions.{at_position}
-use Rattle.gf_tree.specs.Tree.{Tree, Trees}
-use Rattle.gf_tree.specs.Tree.Tree.{branch}
-use Rattle.gf_tree.specs.Tree.Trees.{none, more}
-use Rattle.gf_tree.specs.Description.{Action, SetKey}
-use Rattle.gf_tree.specs.FirstUse.{player_keys}
-use Rattle.gf_tree.specs.Game.{Game, IsGame, Node, set_at}
-use Rattle.gf_tree.specs.PrefixOrder.{flatten, flatten_all}
-use Rattle.gf_tree.specs.Subtrees.{child_trees, list_of, root_node}
-use Rattle.gf_tree.proofs.lemmas.games.FirstUses.{AreDistinct, first_uses_distinct}
-use Rattle.gf_tree.proofs.lemmas.games.PlayerSets.{sets_by_first_use}
-use Rattle.gf_tree.proofs.lemmas.games.TreesOnce.{same_set_equality}
 use Rattle.gf_form.specs.inner.values.CodeLeft.{list_code, open_code, opened, option_code}
-use Rattle.gf_form.specs.inner.values.Program.{chance_code, child_code, code, code_over}
-use Rattle.gf_form.specs.inner.values.Program.{paid_at_node}
-use Rattle.gf_form.specs.Strategies.{choice_at, choices_by, strategy_at}
-use Rattle.gf_form.specs.inner.values.Values.{chances_at}
-use Rattle.gf_form.specs.declared.values.op.Op.{Op}
-use Rattle.gf_form.specs.declared.values.op.Op.TheVariants.{Begin, Nothing, Pay}
 use Rattle.gf_form.specs.declared.values.walk.Open.{Open}
-use Rattle.gf_tree.proofs.lemmas.games.Members.{has_at}
 
 -- ---- the operations of a tree by the list of its children
 
@@ -84,8 +67,7 @@ pub choice_there : (keys : List SetKey) (strategy : List ℕ) (position : ℕ) (
     → AreDistinct keys → at_position keys position ≡ Some key
     → choice_at keys strategy key ≡ unwrap_or (at_position strategy position) 0
 choice_there (s ∷ keys) (action ∷ others) (suc (suc k)) key d h =
-    let later = choice_there keys others (suc k) key d.1 h in
-    grind (arith, same_set_equality s key, has_at keys k key h, later)
+    grind (arith, same_set_equality, has_at, choice_there keys others (suc k) key d.1 h)
 choice_there keys others k key d h = grind arith
 
 pub choice_is : (g : Game) (all : List (List ℕ)) (player position : ℕ) (key : SetKey) → IsGame g
@@ -122,12 +104,6 @@ pub no_strategy : (choices : List (Vec ℕ Global)) (player position : ℕ) → 
 no_strategy choices player position some past =
     grind (arith, at_index, slice_get_past, append_assoc, length-map, length-append, eq-eqb)
 
-strategy_there : (choices : List (Vec ℕ Global)) (player : ℕ) (own : Vec ℕ Global)
-    → ¬ (player ≡ 0) → player - 1 < length choices → own ≡ get_or choices (player - 1) own
-    → strategy_at (map (λ own. own.items) choices) player ≡ own.items
-strategy_there choices player own some within is =
-    grind (arith, at_index, slice_get-map, slice_get-get_or, is)
-
 pub action_there : (choices : List (Vec ℕ Global)) (player position : ℕ) (own : Vec ℕ Global)
     (items : List ℕ) (action : ℕ) → ¬ (player ≡ 0) → ¬ (position ≡ 0)
     → player - 1 < length choices → own ≡ get_or choices (player - 1) own → items ≡ own.items
@@ -135,7 +111,7 @@ pub action_there : (choices : List (Vec ℕ Global)) (player position : ℕ) (ow
     → action
     ≡ unwrap_or (at_position (strategy_at (map (λ own. own.items) choices) player) position) 0
 action_there choices player position own items action some at within is are inside here =
-    grind (arith, strategy_there, are, at_index, slice_get-get_or, here)
+    grind (arith, are, is, at_index, slice_get-map, slice_get-get_or, here)
 
 pub nothing_there : (choices : List (Vec ℕ Global)) (player position : ℕ) (own : Vec ℕ Global)
     (items : List ℕ) → ¬ (player ≡ 0) → ¬ (position ≡ 0)
@@ -143,7 +119,7 @@ pub nothing_there : (choices : List (Vec ℕ Global)) (player position : ℕ) (o
     → length items ≤ position - 1
     → unwrap_or (at_position (strategy_at (map (λ own. own.items) choices) player) position) 0 ≡ 0
 nothing_there choices player position own items some at within is are past =
-    grind (arith, strategy_there, are, at_index, slice_get_past)
+    grind (arith, are, is, at_index, slice_get-map, slice_get-get_or, slice_get_past)
 
 -- ---- the child that is followed
 

@@ -1,26 +1,15 @@
 -- The plays that follow choices of actions have probability one in all, so there are some.
-use Rattle.std.proofs.Common.{◌≡◌, ℕ, zero, suc, pos, ◌+◌, ◌<◌, ◌≤◌, Bool, true, false, List, []}
-use Rattle.std.proofs.Common.{◌∷◌, Option, Some, None, MatchOption, length, map, refl, sym, ap}
-use Rattle.std.proofs.Common.{subst, arith, inl}
-use Rattle.std.specs.Prelude.{◌==◌, option_map, unsigned_abs}
-use Rattle.std.specs.List.{AllByRecursion, Contains}
-use Rattle.gf_fraction.specs.Ratio.{Ratio}
-use Rattle.gf_fraction.specs.Rational.{IsEqual, zero_ratio, one_ratio, times, total}
-use Rattle.gf_fraction.proofs.AllElements.{all_parts}
-use Rattle.gf_fraction.proofs.Rationals.{equal_refl, times_comm, times_one, IsAbove}
-use Rattle.gf_fraction.proofs.Chains.{◌then◌, back, plus_left, plus_right, times_left, times_right}
-use Rattle.gf_nfg.specs.Profiles.{numbers_from}
-use Rattle.gf_tree.specs.Tree.{Tree, Trees, count}
-use Rattle.gf_tree.specs.Tree.Tree.{branch}
-use Rattle.gf_tree.specs.Tree.Trees.{none, more}
-use Rattle.gf_tree.specs.PrefixOrder.{flatten, flatten_all}
-use Rattle.gf_tree.specs.Description.{SetKey, InformationSet}
-use Rattle.gf_tree.specs.Game.{Node, Game, IsGame, HasChildren, set_at}
-use Rattle.gf_tree.specs.Spellable.{IsSpellable}
-use Rattle.gf_tree.proofs.lemmas.games.Uses.{Has, contains}
-use Rattle.gf_tree.proofs.lemmas.games.FirstUses.{of_filter}
-use Rattle.gf_form.specs.Plays.{Play, from_node, is_chosen, follows, plays, HasActions}
-use Rattle.gf_form.specs.Payoff.{probability, play_probability}
+use Rattle.gf_form.proofs.Common.{◌≡◌, ℕ, zero, suc, pos, ◌+◌, ◌<◌, ◌≤◌, Bool, true, false, List}
+use Rattle.gf_form.proofs.Common.{[], ◌∷◌, Option, Some, None, MatchOption, length, map, refl, sym}
+use Rattle.gf_form.proofs.Common.{ap, subst, arith, inl, ◌==◌, option_map, unsigned_abs}
+use Rattle.gf_form.proofs.Common.{AllByRecursion, Contains, Ratio, IsEqual, zero_ratio, one_ratio}
+use Rattle.gf_form.proofs.Common.{times, total, all_parts, equal_refl, times_comm, times_one}
+use Rattle.gf_form.proofs.Common.{IsAbove, ◌then◌, back, plus_left, plus_right, times_left}
+use Rattle.gf_form.proofs.Common.{times_right, numbers_from, Tree, Trees, count, branch, none, more}
+use Rattle.gf_form.proofs.Common.{flatten, flatten_all, SetKey, InformationSet, Node, Game, IsGame}
+use Rattle.gf_form.proofs.Common.{HasChildren, set_at, IsSpellable, Has, contains, of_filter, Play}
+use Rattle.gf_form.proofs.Common.{from_node, is_chosen, follows, plays, HasActions, probability}
+use Rattle.gf_form.proofs.Common.{play_probability}
 use Rattle.gf_form.proofs.lemmas.values.Denominators.{probability_above, play_probability_above}
 use Rattle.gf_form.proofs.lemmas.values.Lotteries.{actions_at, chances_add, no_chance}
 use Rattle.gf_form.proofs.lemmas.values.PlaySums.{sum_joined, weight, weight_above, weight_after}
@@ -99,7 +88,6 @@ module _ (g : Game) (game : IsGame g) (spellable : IsSpellable g) (choices : Set
       → option_map (λ set. length set.actions) (set_at g key) ≡ Some (count ts)
       → IsChanceOf n 1 ts → IsWhole (followed choices n 1 ts)
   chance_whole n ts key at chance children h =
-      let set = known (set_at g key) (count ts) children in
       h then back (grind (arith, chances_add))
 
   -- ---- if each set has a choice of one of its actions
@@ -153,8 +141,7 @@ module _ (g : Game) (game : IsGame g) (spellable : IsSpellable g) (choices : Set
         → n.set ≡ Some key → (key.player == 0) ≡ false → choices key + 1 ≡ k + a → 1 ≤ a
         → a ≤ count ts → AllByRecursion (HasChildren g) (flatten_all ts)
         → IsWhole (followed choices n k ts)
-    child_whole actions none n key k a at personal place above within children =
-        absurd (omega arith)
+    child_whole actions none n key k a at personal place above within children = grind arith
     child_whole actions (more t ts) n key k zero at personal place above within children =
         absurd (omega arith)
     child_whole actions (more t ts) n key k (suc zero) at personal place above within children =

@@ -1,16 +1,11 @@
 -- Zero added to a fraction, and its multiples.
-use Rattle.std.proofs.Common.{◌≡◌, ℕ, pos, ◌*◌, ◌/◌, sym, ap, subst, ◌∙◌, arith, Some}
-use Rattle.std.specs.Prelude.{ℤ, ◌*ℤ◌}
-use Rattle.std.proofs.Math.IntN.{*ℤ_comm, *ℤ-zero}
+use Rattle.gf_form.proofs.Common.{◌≡◌, ℕ, pos, ◌*◌, ◌/◌, sym, ap, subst, ◌∙◌, arith, Some, ℤ, ◌*ℤ◌}
+use Rattle.gf_form.proofs.Common.{*ℤ_comm, *ℤ-zero, Ratio, IsFraction, zero_ratio, IsLcm, IsSum}
+use Rattle.gf_form.proofs.Common.{SumFits, scaled_num, product_of, product_of-some, sum_of-some}
+use Rattle.gf_form.proofs.Common.{*ℤ-one, IsLcm-from_gcd}
 use Rattle.std.proofs.Math.Nat.{div_self}
-use Rattle.gf_fraction.specs.Ratio.{Ratio, IsFraction, IsWithin}
-use Rattle.gf_fraction.specs.Rational.{zero_ratio}
-use Rattle.gf_fraction.specs.Fits.{IsLcm, IsSum, SumFits, scaled_num}
-use Rattle.gf_fraction.specs.Computed.{product_of, sum_of}
-use Rattle.gf_fraction.proofs.ComputedArithmetic.{product_of-some, sum_of-some}
+use Rattle.gf_fraction.specs.Computed.{sum_of}
 use Rattle.gf_fraction.proofs.Divisors.{IsGcd-one_right}
-use Rattle.gf_fraction.proofs.Integers.{*ℤ-one}
-use Rattle.gf_fraction.proofs.Sums.{IsLcm-from_gcd}
 use Rattle.gf_form.proofs.lemmas.values.ValuesComputed.{zero_fraction}
 
 zero_by : (z : ℤ) → pos 0 *ℤ z ≡ pos 0
@@ -22,9 +17,6 @@ own_scale x f = cc (div_self f.den_above_zero, *ℤ-one x.num)
 
 zero_scale : (m : ℕ) → scaled_num zero_ratio m ≡ pos 0
 zero_scale m = zero_by (pos (m / 1))
-
-zero_within : IsWithin (pos 0)
-zero_within = omega arith
 
 module _ (x : Ratio) (f : IsFraction x) where
   lcm_right : IsLcm x.den 1 x.den
@@ -40,24 +32,10 @@ module _ (x : Ratio) (f : IsFraction x) where
   }
 
   fits_right : SumFits x zero_ratio
-  fits_right = record {
-    den = x.den;
-    least = lcm_right;
-    den_within = f.den_within;
-    left_within = subst IsWithin (sym (own_scale x f)) f.num_within;
-    right_within = subst IsWithin (sym (zero_scale x.den)) zero_within;
-    sum_within = grind arith;
-  }
+  fits_right = grind (arith, lcm_right, own_scale, zero_scale)
 
   fits_left : SumFits zero_ratio x
-  fits_left = record {
-    den = x.den;
-    least = lcm_left;
-    den_within = f.den_within;
-    left_within = subst IsWithin (sym (zero_scale x.den)) zero_within;
-    right_within = subst IsWithin (sym (own_scale x f)) f.num_within;
-    sum_within = grind arith;
-  }
+  fits_left = grind (arith, lcm_left, zero_scale, own_scale)
 
   sum_right : IsSum x x zero_ratio
   sum_right = grind arith

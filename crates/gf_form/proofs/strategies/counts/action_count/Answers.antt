@@ -1,5 +1,4 @@
-use Rattle.std.proofs.Common.{◌∙◌, arith, sym}
-use Rattle.std.proofs.lemmas.List.{length-map}
+use Rattle.gf_form.proofs.Common.{◌∙◌, arith, sym, length-map}
 use Rattle.gf_form.proofs.lemmas.strategies.ActionCounts.{none_there, set_there}
 use Rattle.gf_form.proofs.strategies.counts.action_count.Goals as goal
 

@@ -1,5 +1,4 @@
-use Rattle.std.proofs.Common.{add-one, arith}
-use Rattle.std.proofs.Math.Seq.{take-suc}
+use Rattle.gf_form.proofs.Common.{add-one, arith, take-suc}
 use Rattle.gf_form.proofs.lemmas.strategies.CountedActions.{count_at, product_more, sets_counted}
 use Rattle.gf_form.proofs.strategies.counts.own_counts.Goals as goal
 

@@ -1,5 +1,4 @@
-use Rattle.std.proofs.Common.{◌<◌, ◌∙◌, [], arith, length}
-use Rattle.gf_form.specs.StrategicForm.{strategy_labels}
+use Rattle.gf_form.proofs.Common.{◌<◌, ◌∙◌, [], arith, length, strategy_labels}
 use Rattle.gf_form.proofs.lemmas.strategies.CountedActions.{as_many_players, of_player}
 use Rattle.gf_form.proofs.lemmas.strategies.CountedActions.{one_item_more}
 use Rattle.gf_form.proofs.lemmas.strategies.CountsGiven.{actions_of, all_counted, read_actions}

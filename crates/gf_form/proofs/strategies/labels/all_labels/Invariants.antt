@@ -1,8 +1,4 @@
-use Rattle.std.proofs.Common.{◌≡◌, map, take}
-use Rattle.gf_tree.specs.Game.{Game}
-use Rattle.gf_form.specs.inner.strategies.Counted.{AreCounts}
-use Rattle.gf_form.specs.StrategicForm.{strategy_labels}
-use Rattle.gf_form.specs.Strategies.{players_of}
+use Rattle.gf_form.proofs.Common.{◌≡◌, map, take, Game, AreCounts, strategy_labels, players_of}
 use Rattle.gf_form.proofs.strategies.labels.all_labels.Given as goal
 
 abbrev pub invariant-loop-place : goal.invariant-loop-place

@@ -1,5 +1,4 @@
-use Rattle.std.proofs.Common.{◌≡◌, map, take}
-use Rattle.gf_form.specs.Strategies.{all_choices, strategy_label}
+use Rattle.gf_form.proofs.Common.{◌≡◌, map, take, all_choices, strategy_label}
 use Rattle.gf_form.proofs.strategies.numbered.labels_in_turn.Given as goal
 
 abbrev pub invariant-loop-number : goal.invariant-loop-number

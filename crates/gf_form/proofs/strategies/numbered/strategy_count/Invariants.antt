@@ -1,5 +1,4 @@
-use Rattle.std.proofs.Common.{◌≡◌, take}
-use Rattle.gf_nfg.specs.Profiles.{product}
+use Rattle.gf_form.proofs.Common.{◌≡◌, take, product}
 use Rattle.gf_form.proofs.strategies.numbered.strategy_count.Given as goal
 
 abbrev pub invariant-loop-count : goal.invariant-loop-count

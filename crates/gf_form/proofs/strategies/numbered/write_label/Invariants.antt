@@ -1,6 +1,4 @@
-use Rattle.std.proofs.Common.{◌≡◌, take}
-use Rattle.std.specs.List.{AllByRecursion}
-use Rattle.gf_form.specs.inner.strategies.LabelTexts.{IsPlain}
+use Rattle.gf_form.proofs.Common.{◌≡◌, take, AllByRecursion, IsPlain}
 use Rattle.gf_form.proofs.lemmas.strategies.StrategiesByNumber.{dashed}
 use Rattle.gf_form.proofs.strategies.numbered.write_label.Given as goal
 

@@ -1,4 +1,4 @@
-use Rattle.std.proofs.Common.{◌/◌, ◌%◌, ◌+◌, ℕ, List, get_or, refl, subst, sym}
+use Rattle.gf_form.proofs.Common.{◌/◌, ◌%◌, ◌+◌, ℕ, List, get_or, refl, subst, sym}
 use Rattle.gf_form.proofs.lemmas.strategies.StrategiesByNumber.{Goes, goes_on}
 use Rattle.gf_form.proofs.strategies.numbered.write_strategy.Goals as goal
 

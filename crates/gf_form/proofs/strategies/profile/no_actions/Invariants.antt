@@ -1,4 +1,4 @@
-use Rattle.std.proofs.Common.{◌≤◌, ◌-◌, length}
+use Rattle.gf_form.proofs.Common.{◌≤◌, ◌-◌, length}
 use Rattle.gf_form.proofs.strategies.profile.no_actions.Given as goal
 
 abbrev pub invariant-loop-alloc : goal.invariant-loop-alloc

@@ -1,9 +1,6 @@
-use Rattle.std.proofs.Common.{◌∙◌, ◌%◌, [], ap, get_or}
-use Rattle.gf_nfg.specs.Profiles.{product}
-use Rattle.gf_form.specs.Strategies.{all_choices}
-use Rattle.std.proofs.Common.{ℕ, List, Vec, Global}
-use Rattle.std.proofs.Common.{arith}
-use Rattle.std.proofs.lemmas.List.{length-map, map-set}
+use Rattle.gf_form.proofs.Common.{◌∙◌, ◌%◌, [], ap, get_or, product, all_choices, ℕ, List, Vec}
+use Rattle.gf_form.proofs.Common.{Global, arith, length-map}
+use Rattle.std.proofs.lemmas.List.{map-set}
 use Rattle.gf_form.proofs.lemmas.strategies.CountsGiven.{Read, actions_in, read_actions, read_whole}
 use Rattle.gf_form.proofs.lemmas.strategies.WrittenStrategies.{one_written}
 use Rattle.gf_form.proofs.strategies.profile.write_strategies.Goals as goal

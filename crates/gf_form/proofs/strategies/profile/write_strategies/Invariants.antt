@@ -1,4 +1,4 @@
-use Rattle.std.proofs.Common.{map}
+use Rattle.gf_form.proofs.Common.{map}
 use Rattle.gf_form.proofs.lemmas.strategies.CountsGiven.{actions_in}
 use Rattle.gf_form.proofs.lemmas.strategies.WrittenStrategies.{Written}
 use Rattle.gf_form.proofs.strategies.profile.write_strategies.Given as goal

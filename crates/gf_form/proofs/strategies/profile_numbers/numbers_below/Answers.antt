@@ -1,5 +1,4 @@
-use Rattle.std.proofs.Common.{arith}
-use Rattle.gf_nfg.proofs.lemmas.tables.NumbersInTurn.{numbers_joined}
+use Rattle.gf_form.proofs.Common.{arith, numbers_joined}
 use Rattle.gf_form.proofs.strategies.profile_numbers.numbers_below.Goals as goal
 
 pub loop-number-preserved : goal.loop-number-preserved

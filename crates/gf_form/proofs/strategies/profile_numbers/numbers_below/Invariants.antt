@@ -1,5 +1,4 @@
-use Rattle.std.proofs.Common.{◌≡◌}
-use Rattle.gf_nfg.specs.Profiles.{numbers_from}
+use Rattle.gf_form.proofs.Common.{◌≡◌, numbers_from}
 use Rattle.gf_form.proofs.strategies.profile_numbers.numbers_below.Given as goal
 
 abbrev pub invariant-loop-number : goal.invariant-loop-number

@@ -1,7 +1,5 @@
-use Rattle.std.proofs.Common.{◌≡◌, ◌∙◌, ◌-◌, ◌<◌, ℕ, suc, List, Vec}
-use Rattle.std.proofs.Common.{Global, ap, arith, drop, length, map}
-use Rattle.std.proofs.Math.Seq.{drop-cons}
-use Rattle.gf_nfg.specs.Profiles.{product}
+use Rattle.gf_form.proofs.Common.{◌≡◌, ◌∙◌, ◌-◌, ◌<◌, ℕ, suc, List, Vec, Global, ap, arith, drop}
+use Rattle.gf_form.proofs.Common.{length, map, drop-cons, product}
 use Rattle.gf_form.proofs.lemmas.strategies.CountsGiven.{own_read}
 use Rattle.gf_form.proofs.lemmas.strategies.PickedProfiles.{no_less, numbers_next, numbers_within}
 use Rattle.gf_form.proofs.lemmas.strategies.PickedProfiles.{player_at}

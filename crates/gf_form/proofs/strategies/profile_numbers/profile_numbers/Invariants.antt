@@ -1,5 +1,4 @@
-use Rattle.std.proofs.Common.{◌≡◌, drop, map}
-use Rattle.gf_form.specs.inner.strategies.ProfileNumbers.{numbers_with}
+use Rattle.gf_form.proofs.Common.{◌≡◌, drop, map, numbers_with}
 use Rattle.gf_form.proofs.strategies.profile_numbers.profile_numbers.Given as goal
 
 abbrev pub invariant-loop-place : goal.invariant-loop-place

@@ -1,4 +1,4 @@
-use Rattle.std.proofs.Common.{◌≡◌, ◌++◌, ◌+◌, map, take}
+use Rattle.gf_form.proofs.Common.{◌≡◌, ◌++◌, ◌+◌, map, take}
 use Rattle.gf_form.proofs.strategies.profile_numbers.push_sums.Given as goal
 
 abbrev pub invariant-loop-number : goal.invariant-loop-number

@@ -1,5 +1,4 @@
-use Rattle.std.proofs.Common.{◌≡◌, ◌+◌, ◌*◌, map, take}
-use Rattle.std.specs.List.{flat_map}
+use Rattle.gf_form.proofs.Common.{◌≡◌, ◌+◌, ◌*◌, map, take, flat_map}
 use Rattle.gf_form.proofs.strategies.profile_numbers.with_player.Given as goal
 
 abbrev pub invariant-loop-rest : goal.invariant-loop-rest

@@ -1,5 +1,5 @@
-use Rattle.std.proofs.Common.{◌∙◌, ℕ, [], Vec, Global, ap, arith, map, sym}
-use Rattle.std.proofs.lemmas.List.{get_or-map, length-map}
+use Rattle.gf_form.proofs.Common.{◌∙◌, ℕ, [], Vec, Global, ap, arith, map, sym, get_or-map}
+use Rattle.gf_form.proofs.Common.{length-map}
 use Rattle.gf_form.proofs.lemmas.strategies.ActionCounts.{strategy_of}
 use Rattle.gf_form.proofs.strategies.valid.are_strategies.Goals as goal
 

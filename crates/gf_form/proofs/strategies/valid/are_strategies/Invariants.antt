@@ -1,5 +1,4 @@
-use Rattle.std.proofs.Common.{ℕ, suc, ◌<◌, [], map, get_or}
-use Rattle.gf_form.specs.Strategies.{action_counts}
+use Rattle.gf_form.proofs.Common.{ℕ, suc, ◌<◌, [], map, get_or, action_counts}
 use Rattle.gf_form.proofs.lemmas.strategies.Choices.{IsChoice}
 use Rattle.gf_form.proofs.strategies.valid.are_strategies.Given as goal
 

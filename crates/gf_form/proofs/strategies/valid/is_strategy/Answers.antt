@@ -1,6 +1,4 @@
-use Rattle.std.proofs.Common.{ℕ, zero, suc, ◌≡◌, ◌≤◌, arith, refl}
-use Rattle.std.proofs.lemmas.Bool.{cases_lt}
-use Rattle.std.proofs.lemmas.List.{length-map}
+use Rattle.gf_form.proofs.Common.{ℕ, zero, suc, ◌≡◌, ◌≤◌, arith, refl, cases_lt, length-map}
 use Rattle.gf_form.proofs.lemmas.strategies.ActionCounts.{choice_at, choice_by_places}
 use Rattle.gf_form.proofs.lemmas.strategies.CountedActions.{count_at}
 use Rattle.gf_form.proofs.strategies.valid.is_strategy.Goals as goal

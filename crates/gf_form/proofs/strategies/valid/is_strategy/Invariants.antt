@@ -1,5 +1,4 @@
-use Rattle.std.proofs.Common.{ℕ, ◌<◌, ◌≤◌, get_or}
-use Rattle.gf_form.specs.Strategies.{action_counts}
+use Rattle.gf_form.proofs.Common.{ℕ, ◌<◌, ◌≤◌, get_or, action_counts}
 use Rattle.gf_form.proofs.strategies.valid.is_strategy.Given as goal
 
 abbrev pub invariant-loop-before : goal.invariant-loop-before

@@ -1,8 +1,4 @@
-use Rattle.std.proofs.Common.{suc, []}
-use Rattle.std.proofs.Common.{arith, map}
-use Rattle.std.proofs.lemmas.List.{append-nil}
-use Rattle.gf_form.specs.inner.values.CodeLeft.{code_left}
-use Rattle.gf_form.specs.Strategies.{choices_by}
+use Rattle.gf_form.proofs.Common.{suc, [], arith, map, append-nil, code_left, choices_by}
 use Rattle.gf_form.specs.declared.fault.EvalFault.TheVariants.{Overflow}
 use Rattle.gf_form.proofs.lemmas.values.ProgramRuns.{code_runs}
 use Rattle.gf_form.proofs.lemmas.values.Stacks.{column_last, counted, enough, last_row, same_fault}

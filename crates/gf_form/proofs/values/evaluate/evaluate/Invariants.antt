@@ -1,11 +1,6 @@
-use Rattle.std.proofs.Common.{◌≡◌, ℕ, suc, [], ◌∷◌, length, map}
-use Rattle.gf_form.specs.inner.values.CodeLeft.{code_left}
-use Rattle.gf_form.specs.inner.values.PaidRows.{rows_of}
-use Rattle.gf_form.specs.inner.values.Program.{run}
-use Rattle.gf_form.specs.inner.values.Rows.{ArePaid, AreRows, column}
+use Rattle.gf_form.proofs.Common.{◌≡◌, ℕ, suc, [], ◌∷◌, length, map, code_left, rows_of, run}
+use Rattle.gf_form.proofs.Common.{ArePaid, AreRows, column, choices_by, value}
 use Rattle.gf_form.specs.inner.values.RowsOn.{rows_on}
-use Rattle.gf_form.specs.Strategies.{choices_by}
-use Rattle.gf_form.specs.inner.values.Values.{value}
 use Rattle.gf_form.proofs.values.evaluate.evaluate.Given as goal
 
 abbrev pub invariant-loop-walk : goal.invariant-loop-walk

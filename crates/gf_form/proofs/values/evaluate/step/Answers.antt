@@ -1,8 +1,7 @@
-use Rattle.std.proofs.lemmas.Result.{on_ok_weaker}
+use Rattle.gf_form.proofs.Common.{on_ok_weaker, arith}
 use Rattle.gf_form.proofs.lemmas.values.ProgramRuns.{stays_undefined}
 use Rattle.gf_form.proofs.lemmas.values.Stacks.{pay_runs, weigh_runs}
 use Rattle.gf_form.proofs.values.evaluate.step.Goals as goal
-use Rattle.std.proofs.Common.{arith}
 
 pub returns-in-Weigh-clause-rows : goal.returns-in-Weigh-clause-rows
 returns-in-Weigh-clause-rows c =

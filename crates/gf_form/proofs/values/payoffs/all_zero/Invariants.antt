@@ -1,6 +1,4 @@
-use Rattle.std.proofs.Common.{◌≡◌, ◌<◌, ℕ}
-use Rattle.gf_fraction.specs.Rational.{zero_ratio}
-use Rattle.gf_form.specs.inner.values.Rows.{at_place}
+use Rattle.gf_form.proofs.Common.{◌≡◌, ◌<◌, ℕ, zero_ratio, at_place}
 use Rattle.gf_form.proofs.values.payoffs.all_zero.Given as goal
 
 abbrev pub invariant-loop-payoff : goal.invariant-loop-payoff

@@ -1,5 +1,4 @@
-use Rattle.std.proofs.Common.{sym}
-use Rattle.gf_token.specs.Label.{label_of}
+use Rattle.gf_form.proofs.Common.{sym, label_of}
 use Rattle.gf_tree.specs.Description.{outcome_with}
 use Rattle.gf_form.proofs.lemmas.values.PaidRowsKept.{paid_some, row_of_outcome}
 use Rattle.gf_form.proofs.values.payoffs.payoffs_at.Goals as goal

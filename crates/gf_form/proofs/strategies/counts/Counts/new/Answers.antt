@@ -1,12 +1,11 @@
-use Rattle.std.proofs.Common.{◌+◌, ◌<◌, ◌∙◌, ℕ, [], Vec, Global, add-one, arith, length, map, sym}
-use Rattle.std.proofs.lemmas.List.{length-map, map-append}
-use Rattle.gf_nfg.proofs.lemmas.tables.Profiles.{length-profiles}
-use Rattle.gf_form.specs.Strategies.{action_counts, players_of, strategies}
+use Rattle.gf_form.proofs.Common.{◌+◌, ◌<◌, ◌∙◌, ℕ, [], Vec, Global, add-one, arith, length, map}
+use Rattle.gf_form.proofs.Common.{sym, length-map, map-append, length-profiles, action_counts}
+use Rattle.gf_form.proofs.Common.{players_of, strategies}
 use Rattle.gf_form.proofs.lemmas.strategies.CountedActions.{as_many_players, no_counts, of_player}
 use Rattle.gf_form.proofs.lemmas.strategies.CountedActions.{one_item_more, product_more}
-use Rattle.gf_form.proofs.lemmas.strategies.CountedActions.{some_counts}
-use Rattle.gf_form.proofs.lemmas.strategies.CountedActions.{strategies_at_place, strategy_counts}
-use Rattle.gf_form.proofs.lemmas.strategies.CountedActions.{take_past, too_many, too_many_alone}
+use Rattle.gf_form.proofs.lemmas.strategies.CountedActions.{some_counts, strategies_at_place}
+use Rattle.gf_form.proofs.lemmas.strategies.CountedActions.{strategy_counts, take_past, too_many}
+use Rattle.gf_form.proofs.lemmas.strategies.CountedActions.{too_many_alone}
 use Rattle.gf_form.proofs.strategies.counts.Counts.new.Goals as goal
 
 pub returns-in_default : goal.returns-in_default

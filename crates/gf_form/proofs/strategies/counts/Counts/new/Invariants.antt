@@ -1,6 +1,4 @@
-use Rattle.std.proofs.Common.{◌≡◌, map, take}
-use Rattle.gf_nfg.specs.Profiles.{product}
-use Rattle.gf_form.specs.Strategies.{action_counts, players_of}
+use Rattle.gf_form.proofs.Common.{◌≡◌, map, take, product, action_counts, players_of}
 use Rattle.gf_form.proofs.lemmas.strategies.CountedActions.{strategy_counts}
 use Rattle.gf_form.proofs.strategies.counts.Counts.new.Given as goal
 

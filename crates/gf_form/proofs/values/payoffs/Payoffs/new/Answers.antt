@@ -1,5 +1,4 @@
-use Rattle.std.proofs.Common.{arith}
-use Rattle.std.proofs.lemmas.List.{map-append}
+use Rattle.gf_form.proofs.Common.{arith, map-append}
 use Rattle.gf_form.proofs.lemmas.values.PaidRowsKept.{all_rows, one_row}
 use Rattle.gf_form.proofs.values.payoffs.Payoffs.new.Goals as goal
 

@@ -1,4 +1,4 @@
-use Rattle.std.proofs.Common.{map}
+use Rattle.gf_form.proofs.Common.{map}
 use Rattle.gf_form.proofs.lemmas.values.PaidRowsKept.{ArePaidTo}
 use Rattle.gf_form.proofs.values.payoffs.Payoffs.new.Given as goal
 

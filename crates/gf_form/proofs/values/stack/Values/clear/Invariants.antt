@@ -1,4 +1,4 @@
-use Rattle.std.proofs.Common.{length}
+use Rattle.gf_form.proofs.Common.{length}
 use Rattle.gf_form.proofs.values.stack.Values.clear.Given as goal
 
 abbrev pub decreases-loop-row : goal.decreases-loop-row

@@ -1,10 +1,7 @@
-use Rattle.std.proofs.lemmas.Bool.{eqb-true}
-use Rattle.gf_form.specs.inner.values.Rows.{column}
+use Rattle.gf_form.proofs.Common.{eqb-true, column, arith}
 use Rattle.gf_form.proofs.lemmas.values.Stacks.{below_players, last_row, nothing_pays, one_more_row}
-use Rattle.gf_form.proofs.lemmas.values.Stacks.{pays, pays_to}
-use Rattle.gf_form.proofs.lemmas.values.Stacks.{popped, pushed, rows_in}
+use Rattle.gf_form.proofs.lemmas.values.Stacks.{pays, pays_to, popped, pushed, rows_in}
 use Rattle.gf_form.proofs.values.stack.Values.pay.Goals as goal
-use Rattle.std.proofs.Common.{arith}
 
 pub pay-requires : goal.pay-requires
 pay-requires c =

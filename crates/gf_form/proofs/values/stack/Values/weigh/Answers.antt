@@ -1,7 +1,6 @@
-use Rattle.gf_form.specs.inner.values.Rows.{column}
+use Rattle.gf_form.proofs.Common.{column}
 use Rattle.gf_form.proofs.lemmas.values.Stacks.{below_players, last_row, one_more_row, popped}
-use Rattle.gf_form.proofs.lemmas.values.Stacks.{pushed, rows_in}
-use Rattle.gf_form.proofs.lemmas.values.Stacks.{weighs, weighs_to}
+use Rattle.gf_form.proofs.lemmas.values.Stacks.{pushed, rows_in, weighs, weighs_to}
 use Rattle.gf_form.proofs.values.stack.Values.weigh.Goals as goal
 
 pub weigh-requires : goal.weigh-requires

@@ -1,10 +1,7 @@
-use Rattle.gf_tree.specs.Branches.{game_of, tree_of}
-use Rattle.std.proofs.lemmas.Result.{IfOk-weaker}
-use Rattle.gf_form.specs.inner.values.CodeLeft.{strategies_of_walk}
-use Rattle.gf_form.specs.Strategies.{choices_by}
+use Rattle.gf_form.proofs.Common.{game_of, tree_of, IfOk-weaker, strategies_of_walk, choices_by}
+use Rattle.gf_form.proofs.Common.{arith}
 use Rattle.gf_form.proofs.lemmas.values.Walks.{choice_is, code_of_chance, code_of_player, first_of}
 use Rattle.gf_form.proofs.values.walk.Walk.enter.Goals as goal
-use Rattle.std.proofs.Common.{arith}
 
 pub returns-in_ok-go_on-in-Some-clause-left : goal.returns-in_ok-go_on-in-Some-clause-left
 returns-in_ok-go_on-in-Some-clause-left c = grind (arith, code_of_chance, first_of)

@@ -1,7 +1,6 @@
-use Rattle.std.proofs.Common.{append_assoc}
+use Rattle.gf_form.proofs.Common.{append_assoc, arith}
 use Rattle.gf_form.proofs.lemmas.values.Walks.{opened_last}
 use Rattle.gf_form.proofs.values.walk.Walk.go_on.Goals as goal
-use Rattle.std.proofs.Common.{arith}
 
 pub returns-in_ok-push-in-Some-clause-left : goal.returns-in_ok-push-in-Some-clause-left
 returns-in_ok-push-in-Some-clause-left c =

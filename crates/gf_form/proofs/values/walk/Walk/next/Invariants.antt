@@ -1,5 +1,5 @@
-use Rattle.std.proofs.Common.{◌≡◌}
-use Rattle.gf_form.specs.inner.values.CodeLeft.{code_left, next_size, strategies_of_walk}
+use Rattle.gf_form.proofs.Common.{◌≡◌, code_left, strategies_of_walk}
+use Rattle.gf_form.specs.inner.values.CodeLeft.{next_size}
 use Rattle.gf_form.proofs.values.walk.Walk.next.Given as goal
 
 abbrev pub invariant-loop-branch : goal.invariant-loop-branch

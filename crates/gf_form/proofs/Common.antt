@@ -1,0 +1,190 @@
+-- The names that many proofs of this crate cite, passed on from one place. Declares nothing.
+pub use Rattle.gf_form.specs.BottomUp.{IsValue, IsChanceValue, IsMoveValue, IsTerminalValue}
+pub use Rattle.gf_form.specs.BottomUp.{IsChildValue}
+pub use Rattle.gf_form.specs.Payoff.{payoff, play_probability, play_payoff, payoff_at, probability}
+pub use Rattle.gf_form.specs.Payoff.{action_at}
+pub use Rattle.gf_form.specs.Plays.{plays, Step, Play, from_node, is_chosen, plays_from, HasActions}
+pub use Rattle.gf_form.specs.Plays.{follows}
+pub use Rattle.gf_form.specs.Reduced.{reduced_at, reduced_by, reduced_label, reduced_strategies}
+pub use Rattle.gf_form.specs.Reduced.{IsReducedForm, is_own_choice, agrees, comes_to, is_relevant}
+pub use Rattle.gf_form.specs.Reduced.{reduced, same_choice, AreReducedPayoffsAt, reduced_labels}
+pub use Rattle.gf_form.specs.Reduced.{reduced_profiles}
+pub use Rattle.gf_form.specs.Refusal.{HasTooManyProfiles, HasValues, IsFirstWithout}
+pub use Rattle.gf_form.specs.Refusal.{HasReducedValues, ReducedOverflowsAt, HasValuesBy}
+pub use Rattle.gf_form.specs.StrategicForm.{ArePayoffsAt, IsFormBy, IsStrategicForm}
+pub use Rattle.gf_form.specs.StrategicForm.{strategy_labels, PaysFractions, ArePayoffs}
+pub use Rattle.gf_form.specs.Strategies.{action_counts, players_of, strategies, choices_by}
+pub use Rattle.gf_form.specs.Strategies.{full_profiles, strategies_at, all_choices, choice_at}
+pub use Rattle.gf_form.specs.Strategies.{strategy_at, strategy_label, AreStrategies}
+pub use Rattle.gf_form.specs.WorkedForms.{overflowing, unlikely, balancing, ending, contradicted}
+pub use Rattle.gf_form.specs.declared.reduced.digits.OwnDigit.{OwnDigit}
+pub use Rattle.gf_form.specs.declared.reduced.level.Level.{Level}
+pub use Rattle.gf_form.specs.declared.reduced.survey.Open.{Open}
+pub use Rattle.gf_form.specs.declared.reduced.survey.Survey.{Survey}
+pub use Rattle.gf_form.specs.declared.reduced.visits.Visit.{Visit}
+pub use Rattle.gf_form.specs.declared.rows.chosen.Chosen.{Chosen}
+pub use Rattle.gf_form.specs.declared.rows.digits.Digit.{Digit}
+pub use Rattle.gf_form.specs.declared.rows.digits.Digits.{Digits}
+pub use Rattle.gf_form.specs.declared.rows.paths.Open.TheVariants.{Chance, Choice}
+pub use Rattle.gf_form.specs.declared.rows.paths.Path.{Path}
+pub use Rattle.gf_form.specs.declared.rows.paths.Reached.{Reached}
+pub use Rattle.gf_form.specs.declared.rows.sums.Scale.{Scale}
+pub use Rattle.gf_form.specs.declared.rows.terms.Head.{Head}
+pub use Rattle.gf_form.specs.declared.rows.terms.Scaled.{Scaled}
+pub use Rattle.gf_form.specs.declared.rows.terms.Terms.{Terms}
+pub use Rattle.gf_form.specs.declared.rows.written.Asked.{Asked}
+pub use Rattle.gf_form.specs.declared.rows.written.Run.{Run}
+pub use Rattle.gf_form.specs.declared.strategies.counts.Counts.{Counts}
+pub use Rattle.gf_form.specs.declared.values.op.Op.{Op}
+pub use Rattle.gf_form.specs.declared.values.op.Op.TheVariants.{Push, Begin, Nothing, Weigh, Pay}
+pub use Rattle.gf_form.specs.inner.reduced.Comes.{tree_comes, trees_come}
+pub use Rattle.gf_form.specs.inner.reduced.Firsts.{AreFirstsOf, IsPaidAt}
+pub use Rattle.gf_form.specs.inner.reduced.Levels.{ArePositive, IsLevel, is_left, left_of}
+pub use Rattle.gf_form.specs.inner.reduced.Levels.{can_be_met, IsChosen}
+pub use Rattle.gf_form.specs.inner.reduced.OwnDigits.{digits_from, own_steps}
+pub use Rattle.gf_form.specs.inner.reduced.Relevance.{FindRelevance}
+pub use Rattle.gf_form.specs.inner.reduced.Search.{AreFoundTo, AreOpen, IsSearchBy, IsShut}
+pub use Rattle.gf_form.specs.inner.reduced.Search.{IsUnderBy, digit_at, IsFound}
+pub use Rattle.gf_form.specs.inner.reduced.Shown.{chooses_first, is_first, relevant_sets, shown}
+pub use Rattle.gf_form.specs.inner.reduced.Survey.{meets_own, taken, FindsMore, IsOpen, IsSurvey}
+pub use Rattle.gf_form.specs.inner.reduced.Survey.{open_comes, sizes, survey_size}
+pub use Rattle.gf_form.specs.inner.reduced.Visits.{is_met, is_met_on, AreActions, AreWithin, Meets}
+pub use Rattle.gf_form.specs.inner.reduced.Visits.{visits_of}
+pub use Rattle.gf_form.specs.inner.rows.Demands.{meets, spans, steps_of}
+pub use Rattle.gf_form.specs.inner.rows.DigitSteps.{steps_behind, picked, width, at_digits}
+pub use Rattle.gf_form.specs.inner.rows.DigitSteps.{all_steps}
+pub use Rattle.gf_form.specs.inner.rows.Entries.{Entry, IsScale, IsShaped, IsSumOf, entries}
+pub use Rattle.gf_form.specs.inner.rows.Entries.{entries_of, entry_at, heads, heads_of, no_entry}
+pub use Rattle.gf_form.specs.inner.rows.Entries.{number_at, AreOrdered, EndsBelow, HasSum, lowered}
+pub use Rattle.gf_form.specs.inner.rows.Entries.{IsExactAt, AreExactAt, AreMerged, size_of_entries}
+pub use Rattle.gf_form.specs.inner.rows.Entries.{sum_of_entries, AreAlike, AreChosen, part}
+pub use Rattle.gf_form.specs.inner.rows.GameDigits.{HasDigits, digit_actions, actions_at}
+pub use Rattle.gf_form.specs.inner.rows.KeptNodes.{paid_reached, is_paid}
+pub use Rattle.gf_form.specs.inner.rows.ListedNodes.{AreTermsOf, HasShare, IsTermOf}
+pub use Rattle.gf_form.specs.inner.rows.Pairs.{HasPairRow, IsPaidPair, pair_number}
+pub use Rattle.gf_form.specs.inner.rows.PathsLeft.{steps_of_paths, nodes_left}
+pub use Rattle.gf_form.specs.inner.rows.ProfileRows.{AreRowsAt}
+pub use Rattle.gf_form.specs.inner.rows.ReachedNodes.{demanded, by_chance, is_sum_at, reached}
+pub use Rattle.gf_form.specs.inner.rows.ReachedNodes.{root_path, by_action, by_any, by_choice}
+pub use Rattle.gf_form.specs.inner.rows.ReachedNodes.{by_lot, over_set, below_set}
+pub use Rattle.gf_form.specs.inner.rows.SettledRows.{Settles, SettlesAt, SettleRows, AreWritten}
+pub use Rattle.gf_form.specs.inner.rows.SettledRows.{asked_profiles}
+pub use Rattle.gf_form.specs.inner.rows.Shares.{IsDigitOf, AreDigits, FitsAt, IsExactIfMet}
+pub use Rattle.gf_form.specs.inner.rows.Shares.{met_bounds, pay_at, share, share_bound}
+pub use Rattle.gf_form.specs.inner.rows.Shares.{sum_of_shares, IsExact, over}
+pub use Rattle.gf_form.specs.inner.rows.SummedNodes.{order_of}
+pub use Rattle.gf_form.specs.inner.strategies.Counted.{AreCounts}
+pub use Rattle.gf_form.specs.inner.strategies.LabelTexts.{choice_text, IsPlain}
+pub use Rattle.gf_form.specs.inner.strategies.ProfileNumbers.{AreProfileNumbers, AreBelow}
+pub use Rattle.gf_form.specs.inner.strategies.ProfileNumbers.{numbered_profiles, numbers_with}
+pub use Rattle.gf_form.specs.inner.values.CodeLeft.{code_left, strategies_of_walk}
+pub use Rattle.gf_form.specs.inner.values.PaidRows.{rows_of}
+pub use Rattle.gf_form.specs.inner.values.Program.{run, paid_at_node, paid, chance_code, child_code}
+pub use Rattle.gf_form.specs.inner.values.Program.{code, code_over}
+pub use Rattle.gf_form.specs.inner.values.Rows.{ArePaid, at_place, row_at, IsRow, AreRows, column}
+pub use Rattle.gf_form.specs.inner.values.Values.{value, chances_at, chance_value, child_value}
+pub use Rattle.gf_form.specs.inner.values.Values.{plus_of, times_of, value_over}
+pub use Rattle.gf_fraction.proofs.AllElements.{all_images, all_weaker, all_parts, all_both}
+pub use Rattle.gf_fraction.proofs.Chains.{◌then◌, back, plus_left, plus_right, times_left}
+pub use Rattle.gf_fraction.proofs.Chains.{times_right, plus_across}
+pub use Rattle.gf_fraction.proofs.ComputedArithmetic.{lowest_of-fraction, sum_is_computed}
+pub use Rattle.gf_fraction.proofs.ComputedArithmetic.{product_of-some, sum_of-some}
+pub use Rattle.gf_fraction.proofs.EqualRatios.{Decides-ratio}
+pub use Rattle.gf_fraction.proofs.Integers.{*ℤ_assoc, add-*ℤ, *ℤ-cancel_right, *ℤ-one}
+pub use Rattle.gf_fraction.proofs.LowestTerms.{one_fraction, mul_pos_right}
+pub use Rattle.gf_fraction.proofs.Products.{mul_above}
+pub use Rattle.gf_fraction.proofs.Rationals.{equal_refl, plus_both, plus_zero, plus_assoc}
+pub use Rattle.gf_fraction.proofs.Rationals.{times_comm, times_assoc, times_plus, times_zero}
+pub use Rattle.gf_fraction.proofs.Rationals.{times_one, IsAbove, plus_above, times_above}
+pub use Rattle.gf_fraction.proofs.Rationals.{total_above}
+pub use Rattle.gf_fraction.proofs.Sums.{IsLcm-from_gcd}
+pub use Rattle.gf_fraction.proofs.WholeNumbers.{whole_fraction}
+pub use Rattle.gf_fraction.specs.Computed.{product_of}
+pub use Rattle.gf_fraction.specs.Fits.{AddsTo, MultipliesTo, SumFits, IsLcm, IsProduct, IsSum}
+pub use Rattle.gf_fraction.specs.Fits.{scaled_num}
+pub use Rattle.gf_fraction.specs.Ratio.{Ratio, IsFraction, whole, IsWithin, HasValue}
+pub use Rattle.gf_fraction.specs.Rational.{IsEqual, zero_ratio, one_ratio, times, total, plus}
+pub use Rattle.gf_nfg.proofs.lemmas.tables.NumbersInTurn.{length-numbers_from, get_or-numbers_from}
+pub use Rattle.gf_nfg.proofs.lemmas.tables.NumbersInTurn.{numbers_joined}
+pub use Rattle.gf_nfg.proofs.lemmas.tables.Profiles.{length-profiles, every_profile}
+pub use Rattle.gf_nfg.specs.Limit.{profile_limit}
+pub use Rattle.gf_nfg.specs.ProfilePlaces.{IsProfile}
+pub use Rattle.gf_nfg.specs.Profiles.{product, profiles, positions, numbers_from}
+pub use Rattle.gf_nfg.specs.Table.{Table, IsTable}
+pub use Rattle.gf_nfg.specs.TableAccess.{IsTableOf}
+pub use Rattle.gf_token.specs.Label.{label_of}
+pub use Rattle.gf_token.specs.Positions.{at_position}
+pub use Rattle.gf_tree.proofs.lemmas.games.Canonical.{carried_is_renumbered}
+pub use Rattle.gf_tree.proofs.lemmas.games.FirstUseNumbers.{same_tests}
+pub use Rattle.gf_tree.proofs.lemmas.games.FirstUses.{AreDistinct, was_used, is_used}
+pub use Rattle.gf_tree.proofs.lemmas.games.FirstUses.{first_uses_distinct, of_filter}
+pub use Rattle.gf_tree.proofs.lemmas.games.MappedTrees.{held}
+pub use Rattle.gf_tree.proofs.lemmas.games.Members.{map_twice, filter_of_map, map_same, in_left}
+pub use Rattle.gf_tree.proofs.lemmas.games.Members.{in_right, has_at}
+pub use Rattle.gf_tree.proofs.lemmas.games.PlayerSets.{sets_by_first_use}
+pub use Rattle.gf_tree.proofs.lemmas.games.Renumberings.{sets_apart}
+pub use Rattle.gf_tree.proofs.lemmas.games.Same.{same_back}
+pub use Rattle.gf_tree.proofs.lemmas.games.TreesOnce.{same_set_equality}
+pub use Rattle.gf_tree.proofs.lemmas.games.Uses.{has, Has, all_of_each, each, contains, mapped_from}
+pub use Rattle.gf_tree.proofs.lemmas.games.Uses.{has_map}
+pub use Rattle.gf_tree.proofs.lemmas.stores.Places.{at_index}
+pub use Rattle.gf_tree.specs.Branches.{game_of, tree_of}
+pub use Rattle.gf_tree.specs.BranchesLeft.{branches_given, branches_left, game_of_branches}
+pub use Rattle.gf_tree.specs.Description.{SetKey, InformationSet, IsSet, same_set, set_of, Action}
+pub use Rattle.gf_tree.specs.Description.{AddToOne, Outcome}
+pub use Rattle.gf_tree.specs.FiniteMap.{Described, first_uses, description_at}
+pub use Rattle.gf_tree.specs.FirstUse.{player_sets, player_keys, outcome_numbers}
+pub use Rattle.gf_tree.specs.Game.{Game, IsGame, Node, used_sets, set_at, outcome_at, HasChildren}
+pub use Rattle.gf_tree.specs.PrefixOrder.{flatten, flatten_all}
+pub use Rattle.gf_tree.specs.Renumbering.{Renumbering, IsRenumbering, renumbered_set}
+pub use Rattle.gf_tree.specs.Renumbering.{renumbered_node, renumbered}
+pub use Rattle.gf_tree.specs.SameGame.{SameGame}
+pub use Rattle.gf_tree.specs.Spellable.{IsSpellable}
+pub use Rattle.gf_tree.specs.Subtrees.{child_trees, list_of, root_node, subtree_at, subtrees}
+pub use Rattle.gf_tree.specs.Tree.{Tree, Trees, count, map_tree, map_trees}
+pub use Rattle.gf_tree.specs.Tree.Tree.{branch}
+pub use Rattle.gf_tree.specs.Tree.Trees.{none, more}
+pub use Rattle.std.proofs.Common.{[], ◌≡◌, ℕ, ◌*◌, ◌<◌, ◌≤◌, List, ◌∷◌, length, map, sym, ap, ◌∙◌}
+pub use Rattle.std.proofs.Common.{arith, suc, Bool, true, false, cond, subst, refl, inl, inr}
+pub use Rattle.std.proofs.Common.{Option, Some, None, MatchOption, option_map, ℤ, pos, ◌+◌, ◌-◌}
+pub use Rattle.std.proofs.Common.{◌^◌, get_or, nat_eq, ◌*ℤ◌, ◌++◌, ◌&&◌, zero, take, add-one, drop}
+pub use Rattle.std.proofs.Common.{append_assoc, set, ◌/◌, ◌%◌, ◌⊎◌, slice_get, Vec, Global, ◌+ℤ◌}
+pub use Rattle.std.proofs.Common.{lit<, Err, OnOk, rules, of_z, to_z}
+pub use Rattle.std.proofs.Math.Bool.{or-false}
+pub use Rattle.std.proofs.Math.IntN.{zero-*ℤ, +ℤ_assoc, +ℤ_idl, *ℤ_comm, *ℤ-zero}
+pub use Rattle.std.proofs.Math.ListN.{drop_of_length-le}
+pub use Rattle.std.proofs.Math.Nat.{mul-le-mul, div-add-mod, div-lt_iff_lt-mul, mod-lt, mul_comm}
+pub use Rattle.std.proofs.Math.Nat.{mul-div_cancel_left, mul-le-mul_right, div-mul_cancel}
+pub use Rattle.std.proofs.Math.Nat.{dvd-mul_left, mod-eq_of_lt, mod-add-div, mul_assoc}
+pub use Rattle.std.proofs.Math.Nat.{dvd-mul_right, mul-div_cancel, pos_of_dvd_of_pos, one-dvd}
+pub use Rattle.std.proofs.Math.Seq.{take-suc, take-length, take-append_seam, drop-cons}
+pub use Rattle.std.proofs.Math.Seq.{get_or-append_seam}
+pub use Rattle.std.proofs.lemmas.Bool.{eqb-false, and_from, and_parts, eqb-true, false≢true, eq-eqb}
+pub use Rattle.std.proofs.lemmas.Bool.{false_from_ne_true, or_left, or_right, cases_lt, lt-ltb}
+pub use Rattle.std.proofs.lemmas.Bool.{ne_eqb}
+pub use Rattle.std.proofs.lemmas.Fmt.{decimal_injective}
+pub use Rattle.std.proofs.lemmas.Grind.{get_or-set_at, flat_map-append, get_or_default_zero}
+pub use Rattle.std.proofs.lemmas.Int.{ints, unsigned_abs-mul, fits_signed_from_abs, to_z-of_z}
+pub use Rattle.std.proofs.lemmas.List.{length-map, append-nil, map-append, get_or-map}
+pub use Rattle.std.proofs.lemmas.List.{get_or-set_other, length-set, take_more, get_or_default}
+pub use Rattle.std.proofs.lemmas.List.{length-append, get_or-take, get_or_append_left}
+pub use Rattle.std.proofs.lemmas.List.{length-take-le, get_or_past, drop-drop, take-append-drop}
+pub use Rattle.std.proofs.lemmas.List.{take_more_set}
+pub use Rattle.std.proofs.lemmas.List.Elements.{filter-append, All-from_recursion}
+pub use Rattle.std.proofs.lemmas.List.Folds.{list_any-append}
+pub use Rattle.std.proofs.lemmas.List.Sorted.{IsNonDecreasingBy-push}
+pub use Rattle.std.proofs.lemmas.Nat.Gcd.{dvd_refl, dvd_trans}
+pub use Rattle.std.proofs.lemmas.Option.{unwrap_or-slice_get, slice_get-map, none-some}
+pub use Rattle.std.proofs.lemmas.Option.{slice_get-get_or, slice_get_past}
+pub use Rattle.std.proofs.lemmas.Result.{IfOk-weaker, on_ok_weaker}
+pub use Rattle.std.proofs.lemmas.Slice.Zip.{AllZip-long}
+pub use Rattle.std.specs.Bool.{Decides, MatchBool}
+pub use Rattle.std.specs.Cmp.Lexicographic.{pointwise}
+pub use Rattle.std.specs.Int.{◌∣◌, w128}
+pub use Rattle.std.specs.List.{AllByRecursion, AllZip, Contains, list_all, list_any, join_with_byte}
+pub use Rattle.std.specs.List.{flat_map}
+pub use Rattle.std.specs.List.Sorted.{IsNonDecreasingBy, IsNonDecreasing, IsPermutation}
+pub use Rattle.std.specs.Option.{option_map_or}
+pub use Rattle.std.specs.Prelude.{◌==◌, filter, ◌↔◌, ◌||◌, option_and_then, unwrap_or}
+pub use Rattle.std.specs.Prelude.{if◌then◌else◌, codes, nat_lt, unsigned_abs, not, zip, decimal}
+pub use Rattle.std.specs.Prelude.{find, ⊤, IfSome}
