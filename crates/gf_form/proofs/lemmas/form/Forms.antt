@@ -40,9 +40,8 @@ pub one_form_by : (labels : ℕ → List (List ℕ)) (R : List ℕ → List Rati
 one_form_by labels R g one t u h k = grind (arith, same_entries)
 
 some_entries : (R : List ℕ → List Ratio → Type 0) (ps : List (List ℕ))
-    → ((p : List ℕ) → Has ps p → (row : List Ratio) × R p row)
-    → (es : List Entry) × (map (λ e. e.profile) es ≡ ps)
-    × AllByRecursion (λ e. R e.profile e.payoffs) es
+    → ((p : List ℕ) → Has ps p → (row : List Ratio) × R p row) → (es : List Entry)
+    × (map (λ e. e.profile) es ≡ ps) × AllByRecursion (λ e. R e.profile e.payoffs) es
 some_entries R [] rows = ([], refl, tt)
 some_entries R (p ∷ ps) rows =
     let row = rows p (inl refl) in
@@ -69,8 +68,7 @@ some_form_by labels R g rows =
     )
 
 pub rows_of_form : (labels : ℕ → List (List ℕ))
-    (R : List ℕ → List Ratio → Type 0) (g : Game) (t : Table)
-    → IsFormBy labels R g t
+    (R : List ℕ → List Ratio → Type 0) (g : Game) (t : Table) → IsFormBy labels R g t
     → (p : List ℕ) → Has (form_profiles labels g) p → (row : List Ratio) × R p row
 rows_of_form labels R g t form p i = grind (arith, mapped_from, each, length-map, map_twice)
 
@@ -90,8 +88,7 @@ one_row g choices (a ∷ row) (b ∷ others) (player ∷ players) h k =
     grind (arith, one_fraction, one_row g choices row others players h.1 k.1)
 
 pub row_of : (g : Game) (choices : SetKey → ℕ) (players : List ℕ)
-    → AllByRecursion (PaysFraction g choices) players
-    → (row : List Ratio)
+    → AllByRecursion (PaysFraction g choices) players → (row : List Ratio)
     × AllZip (λ paid player. IsFraction paid × IsEqual paid (payoff g choices player)) row players
 row_of g choices [] h = ([], tt)
 row_of g choices (player ∷ players) h =

@@ -173,14 +173,12 @@ module _ (g : Game) (r : Renumbering) (game : IsGame g) (is : IsRenumbering g r)
 
 -- ---- games that are the same
 
-pub same_payoffs : (g h : Game)
-    → IsGame g → IsGame h → SameGame g h → (all : List (List ℕ)) (player : ℕ)
-    → payoff g (choices_by g all) player ≡ payoff h (choices_by h all) player
+pub same_payoffs : (g h : Game) → IsGame g → IsGame h → SameGame g h → (all : List (List ℕ))
+    (player : ℕ) → payoff g (choices_by g all) player ≡ payoff h (choices_by h all) player
 same_payoffs g h game game' same all player = grind (arith, carried_is_renumbered, payoff_carried)
 
-value_on : (g h : Game)
-    → IsGame g → IsGame h → SameGame g h → (all : List (List ℕ)) (player : ℕ) (value : Ratio)
-    → IsValue g (choices_by g all) player g.tree value
+value_on : (g h : Game) → IsGame g → IsGame h → SameGame g h → (all : List (List ℕ))
+    (player : ℕ) (value : Ratio) → IsValue g (choices_by g all) player g.tree value
     → IsValue h (choices_by h all) player h.tree value
 value_on g h game game' same all player value v =
     grind (arith, carried_is_renumbered, value_carried)
@@ -199,9 +197,8 @@ pub same_strategies_at : (g h : Game) → IsGame g → IsGame h → SameGame g h
 same_strategies_at g h game game' same profile =
     grind (arith, carried_is_renumbered, strategies_at_carried)
 
-pub same_values : (g h : Game)
-    → IsGame g → IsGame h → SameGame g h → (all : List (List ℕ)) (player : ℕ) (value : Ratio)
-    → IsValue g (choices_by g all) player g.tree value
+pub same_values : (g h : Game) → IsGame g → IsGame h → SameGame g h → (all : List (List ℕ))
+    (player : ℕ) (value : Ratio) → IsValue g (choices_by g all) player g.tree value
     ↔ IsValue h (choices_by h all) player h.tree value
 same_values g h game game' same all player value = grind (arith, value_on, same_back)
 

@@ -1,13 +1,11 @@
 -- Demands by their digits, the slowest first: which digit a demand has at a set, what another
 -- action there changes, and which choices meet it.
 use Rattle.gf_form.proofs.Common.{◌≡◌, ℕ, zero, suc, ◌+◌, ◌-◌, ◌*◌, ◌/◌, ◌%◌, ◌<◌, ◌≤◌, Bool, true}
-use Rattle.gf_form.proofs.Common.{false, List, [], ◌∷◌, length, get_or, set, map, arith, refl, ap}
-use Rattle.gf_form.proofs.Common.{◌∙◌, subst, inl, inr, ◌⊎◌, ◌==◌, ◌&&◌, ◌||◌, nat_lt}
-use Rattle.gf_form.proofs.Common.{if◌then◌else◌, ⊤, ◌∣◌, and_parts, cases_lt, eq-eqb, lt-ltb}
-use Rattle.gf_form.proofs.Common.{ne_eqb, div-mul_cancel, dvd-mul_left, mod-eq_of_lt}
-use Rattle.gf_form.proofs.Common.{mul-le-mul_right, mul_above, product, meets, spans, steps_of}
-use Rattle.gf_form.proofs.Common.{demanded}
-use Rattle.std.specs.Prelude.{nat_le}
+use Rattle.gf_form.proofs.Common.{List, [], ◌∷◌, length, get_or, set, map, arith, refl, ap, ◌∙◌}
+use Rattle.gf_form.proofs.Common.{subst, inl, inr, ◌==◌, ◌&&◌, ◌||◌, ⊤, ◌∣◌, and_parts, cases_lt}
+use Rattle.gf_form.proofs.Common.{eq-eqb, lt-ltb, ne_eqb, div-mul_cancel, dvd-mul_left}
+use Rattle.gf_form.proofs.Common.{mod-eq_of_lt, mul-le-mul_right, mul_above, product, meets, spans}
+use Rattle.gf_form.proofs.Common.{steps_of, demanded}
 use Rattle.std.proofs.lemmas.Bool.{le-leb, le-ltb, lt-leb}
 use Rattle.std.proofs.lemmas.Nat.{div-mul-add}
 use Rattle.std.proofs.Math.Nat.{add-mul-mod_self_right, dvd-mul_left_of_dvd, mul-add-div}
@@ -114,37 +112,19 @@ met _ _ = true
 meets_first : (p r c d : ℕ) (steps cs : List ℕ) → r < p
     → meets (p ∷ steps) (c ∷ cs) (d * p + r) ≡ ((d == 0 || d == c) && meets steps cs r)
 meets_first p r c zero steps cs h = grind arith
-meets_first p r c (suc d) steps cs h =
-    let first : nat_lt n p ≡ false = le-ltb n p (omega arith) in
-    rw first (by (cases_lt c (suc d)) (cases_lt (suc d) c))
-  where
-    n : ℕ
-    n = suc d * p + r
-
-    any : (suc d == 0) ≡ false
-    any = ne_eqb (suc d) 0 (λ z. omega (arith, z))
-
-    by : (c < suc d) ⊎ (suc d ≤ c) → (suc d < c) ⊎ (c ≤ suc d)
-        → (if nat_le (c * p) (suc d * p + r) && nat_lt (suc d * p + r) (c * p + p)
-        then meets steps cs (suc d * p + r - c * p) else false)
-        ≡ ((suc d == 0 || suc d == c) && meets steps cs r)
-    by (inl less) other =
-        let more : nat_lt (suc d * p + r) (c * p + p) ≡ false =
-        le-ltb (suc d * p + r) (c * p + p)
-        (omega (arith, mul-le-mul_right p (let le : c ≤ d = omega (arith, less) in le))) in
-        let apart : (suc d == c) ≡ false = ne_eqb (suc d) c (λ e. omega (arith, less, e)) in
-        rw (more, any, apart, and_turned (nat_le (c * p) (suc d * p + r)) false) refl
-    by (inr le) (inl less) =
-        let past : nat_le (c * p) (suc d * p + r) ≡ false =
-        lt-leb (c * p) (suc d * p + r)
-        (omega (
-          arith,
-          h,
-          mul-le-mul_right p (let up : suc (suc d) ≤ c = omega (arith, less) in up),
-        )) in
-        let apart : (suc d == c) ≡ false = ne_eqb (suc d) c (λ e. omega (arith, less, e)) in
-        rw (past, any, apart) refl
-    by (inr le) (inr ge) = grind (arith, le-leb, lt-ltb, eq-eqb)
+meets_first p r c (suc d) steps cs h = elim (cases_lt c (suc d)) [
+  | inl less ↦
+      let le : c ≤ d = omega (arith, less) in
+      let small = mul-le-mul_right p le in
+      grind (arith, le-ltb, lt-ltb, le-leb, ne_eqb)
+  | inr le ↦ elim (cases_lt (suc d) c) [
+    | inl less ↦
+        let up : suc (suc d) ≤ c = omega (arith, less) in
+        let large = mul-le-mul_right p up in
+        grind (arith, le-ltb, lt-leb, ne_eqb)
+    | inr ge ↦ grind (arith, le-ltb, le-leb, lt-ltb, eq-eqb)
+  ]
+]
 
 pub meets_is : (actions choices ds : List ℕ) → length choices ≡ length actions
     → AreWithin actions ds → meets (steps_of actions) choices (pack actions ds) ≡ met choices ds

@@ -101,8 +101,7 @@ all_steps_are (own ∷ others) faster f e =
 -- ---- the digit of a set
 
 pub own_digit : (counts xs faster fast : List ℕ) (f j : ℕ) → f ≡ product (spans faster)
-    → length xs ≡ length counts → j < length counts
-    → ¬ (get_or (steps_behind f counts) j 0 ≡ 0)
+    → length xs ≡ length counts → j < length counts → ¬ (get_or (steps_behind f counts) j 0 ≡ 0)
     → IsDigitOf (picked counts counts ++ faster) (picked counts xs ++ fast)
     (get_or (steps_behind f counts) j 0) (get_or counts j 0) (get_or xs j 0)
 own_digit (n ∷ counts) (x ∷ xs) faster fast f (suc j) e same less some =

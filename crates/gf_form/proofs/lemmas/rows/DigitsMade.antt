@@ -82,9 +82,8 @@ step_more counts faster i n step after steps next less is some after_is pushed h
     grind (arith, width_more, mul_assoc, mul-div_cancel_left, append_assoc)
 
 pub step_same : (counts : List ℕ) (faster i n step after : ℕ) (steps next : List ℕ)
-    → i < length counts → n ≡ get_or counts i 0 → n ≤ 1 → after ≡ step
-    → next ≡ steps ++ 0 ∷ [] → StepsGo counts faster i step steps
-    → StepsGo counts faster (i + 1) after next
+    → i < length counts → n ≡ get_or counts i 0 → n ≤ 1 → after ≡ step → next ≡ steps ++ 0 ∷ []
+    → StepsGo counts faster i step steps → StepsGo counts faster (i + 1) after next
 step_same counts faster i n step after steps next less is none after_is pushed h =
     let here = next_is counts i n 0 less is in grind (arith, width_same, append_assoc)
 

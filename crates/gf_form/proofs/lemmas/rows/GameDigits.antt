@@ -9,6 +9,7 @@ use Rattle.gf_form.proofs.Common.{at_digits, width, HasDigits, digit_actions, Ar
 use Rattle.gf_form.proofs.Common.{action_counts, all_choices, choice_at, choices_by, full_profiles}
 use Rattle.gf_form.proofs.Common.{players_of, strategies, strategies_at, Digits}
 use Rattle.gf_form.specs.inner.rows.GameDigits.{digit_steps}
+use Rattle.std.proofs.lemmas.List.Elements.{AllZip-get_or}
 use Rattle.gf_form.proofs.lemmas.strategies.Choices.{IsChoice, length-all_choices}
 use Rattle.gf_form.proofs.lemmas.strategies.Chosen.{among_his, have_actions, profile_strategies}
 use Rattle.gf_form.proofs.lemmas.strategies.CountedActions.{actions_positive, of_player}
@@ -47,11 +48,10 @@ among (s ∷ ss) key set is = by (same_set s.key key) refl (among ss key set) is
     behind other place h [] = refl
     behind other place h (x ∷ xs) = cc (h xs)
 
-    by : (b : Bool) → same_set s.key key ≡ b
-        → (description_at same_set ss key ≡ Some set → IsAmong ss key set)
+    by : (b : Bool)
+        → same_set s.key key ≡ b → (description_at same_set ss key ≡ Some set → IsAmong ss key set)
         → option_map (λ (s : Described SetKey InformationSet). s.description)
-        (cond b (Some s) (find (λ s. same_set s.key key) ss)) ≡ Some set
-        → IsAmong (s ∷ ss) key set
+        (cond b (Some s) (find (λ s. same_set s.key key) ss)) ≡ Some set → IsAmong (s ∷ ss) key set
     by true same others found = grind arith
     by false other others found =
         let later = others found in
@@ -67,9 +67,9 @@ among (s ∷ ss) key set is = by (same_set s.key key) refl (among ss key set) is
 choice_bounds : (counts choice : List ℕ) → IsChoice counts choice → (place : ℕ)
     → place < length counts
     → (1 ≤ get_or choice place 0) × (get_or choice place 0 ≤ get_or counts place 0)
-choice_bounds (n ∷ counts) (a ∷ choice) h (suc place) less =
-    choice_bounds counts choice h.1 place (omega (arith, less))
-choice_bounds counts choice h place less = grind arith
+choice_bounds counts choice h place less =
+    let R = λ (action count : ℕ). (1 ≤ action) × (action ≤ count) in
+    AllZip-get_or R choice counts place 0 0 h (omega (arith, less, AllZip-long R choice counts h))
 
 same_digit : (actions more choices others : List ℕ) (step by count many choice taken : ℕ)
     → actions ≡ more → choices ≡ others → step ≡ by → count ≡ many → choice ≡ taken
@@ -143,8 +143,7 @@ module _ (g : Game) (game : IsGame g) where
     choice = grind (arith, choice_at_number, below, product_at_digits, positive_for)
 
     digits_are : AreDigits g (choices_by g (map (λ own. own.items) d.steps.items))
-        (choices_by g profile) (digit_actions d)
-        (get_or (all_choices (digit_actions d)) number [])
+        (choices_by g profile) (digit_actions d) (get_or (all_choices (digit_actions d)) number [])
     digits_are = record {
       within = within d made;
       one_each = sym (AllZip-long (λ action count. (1 ≤ action) × (action ≤ count))

@@ -16,14 +16,12 @@ unbound : (b : Bool) (n : ℕ) → n ≡ 0 → (if b then n else 0) ≡ 0
 unbound true n nothing = nothing
 unbound false n nothing = refl
 
-empty_row : (row : List Ratio) (k : ℕ) → nat_lt 0 (length row) ≡ false
-    → at_place row k ≡ zero_ratio
+empty_row : (row : List Ratio) (k : ℕ) → nat_lt 0 (length row) ≡ false → at_place row k ≡ zero_ratio
 empty_row [] k h = refl
 empty_row (x ∷ row) k h = grind arith
 
 module _ (g : Game) (den : ℕ) (rows : List (List Ratio)) (are : ArePaid g rows) where
-  no_share : (r : Reached) (k : ℕ) → pay_at g (suc k) r ≡ zero_ratio
-      → share g (suc k) den r ≡ pos 0
+  no_share : (r : Reached) (k : ℕ) → pay_at g (suc k) r ≡ zero_ratio → share g (suc k) den r ≡ pos 0
   no_share r k nothing = grind arith
 
   no_bound : (r : Reached) (k : ℕ) → pay_at g (suc k) r ≡ zero_ratio

@@ -49,8 +49,7 @@ module _ (g : Game) (player den : ℕ) where
     abbrev bound : Reached → ℕ
     bound r = if meets steps choices r.path.demands then share_bound g player den r else 0
 
-    bounds_sum : (rs : List Reached) → met_bounds g player den steps choices rs
-        ≡ sum_by bound rs
+    bounds_sum : (rs : List Reached) → met_bounds g player den steps choices rs ≡ sum_by bound rs
     bounds_sum [] = refl
     bounds_sum (r ∷ rs) = cc (bounds_sum rs, sum_by-cons bound r rs)
 

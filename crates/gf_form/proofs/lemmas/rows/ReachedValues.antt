@@ -202,9 +202,8 @@ module _ (g : Game) (game : IsGame g) (spellable : IsSpellable g) (steps choose 
   -- ---- the tree
 
   mutual
-    valued : (t : Tree Node) (path : Path) (ds : List ℕ)
-        → AllByRecursion (HasChildren g) (flatten t) → IsMet path ds
-        → IfFits (value g choose player t) path (reached g steps path t)
+    valued : (t : Tree Node) (path : Path) (ds : List ℕ) → AllByRecursion (HasChildren g)
+        (flatten t) → IsMet path ds → IfFits (value g choose player t) path (reached g steps path t)
     valued (branch n ts) path ds children is =
         node_valued n ts path ds is
         (λ p met key at some.
@@ -257,8 +256,7 @@ module _ (g : Game) (game : IsGame g) (spellable : IsSpellable g) (steps choose 
 
     action_valued : (ts : Trees Node) (position : ℕ) (path : Path) (ds : List ℕ) → 1 ≤ position
         → position ≤ count ts → AllByRecursion (HasChildren g) (flatten_all ts) → IsMet path ds
-        → IfFits (child_value g choose player position ts) path
-        (by_action g steps path position ts)
+        → IfFits (child_value g choose player position ts) path (by_action g steps path position ts)
     action_valued none position path ds some fits children is exact limit = absurd (omega arith)
     action_valued (more t ts) zero path ds some fits children is exact limit = absurd (omega arith)
     action_valued (more t ts) (suc zero) path ds some fits children is exact limit =
@@ -271,10 +269,9 @@ module _ (g : Game) (game : IsGame g) (spellable : IsSpellable g) (steps choose 
 
     -- of children, the first of which has position k, the one that is chosen
     any_valued : (ts : Trees Node) (k position : ℕ) (path : Path) (ds : List ℕ) (step m choice : ℕ)
-        → 1 ≤ position → position ≤ count ts → choice + 1 ≡ k + position → 1 ≤ k
-        → k + count ts ≤ m + 1 → (d : IsDigitOf actions choices step m choice)
-        → get_or ds d.place 0 ≡ 0 → AllByRecursion (HasChildren g) (flatten_all ts)
-        → IsMet path ds
+        → 1 ≤ position → position ≤ count ts → choice + 1 ≡ k + position
+        → 1 ≤ k → k + count ts ≤ m + 1 → (d : IsDigitOf actions choices step m choice)
+        → get_or ds d.place 0 ≡ 0 → AllByRecursion (HasChildren g) (flatten_all ts) → IsMet path ds
         → IfFits (child_value g choose player position ts) path (by_any g steps path step k ts)
     any_valued none k position path ds step m choice some fits at above all d free children is
         exact limit = absurd (omega arith)

@@ -7,8 +7,7 @@ module _ (g : Game) (player den : ℕ) (steps choices : List ℕ) where
   abbrev shares : List Reached → ℤ
   shares rs = sum_of_shares g player den steps choices rs
 
-  pub shares_append : (xs ys : List Reached)
-      → sum_of_shares g player den steps choices (xs ++ ys)
+  pub shares_append : (xs ys : List Reached) → sum_of_shares g player den steps choices (xs ++ ys)
       ≡ sum_of_shares g player den steps choices xs +ℤ sum_of_shares g player den steps choices ys
   shares_append [] ys = sym (+ℤ_idl (shares ys))
   shares_append (r ∷ xs) ys = grind (arith, +ℤ_assoc, shares, shares_append xs ys)

@@ -69,8 +69,7 @@ abbrev pub demands_of : Reached → ℕ
 demands_of r = r.path.demands
 
 -- in order of the numbers by which nodes are sorted
-pub in_order : (rs : List Reached) → IsNonDecreasingBy order_of rs
-    → IsNonDecreasingBy demands_of rs
+pub in_order : (rs : List Reached) → IsNonDecreasingBy order_of rs → IsNonDecreasingBy demands_of rs
 in_order rs sorted i j d le less =
     let up = sorted i j d le less in
     omega (arith, up, mod-lt)

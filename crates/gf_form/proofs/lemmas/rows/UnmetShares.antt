@@ -133,9 +133,8 @@ module _ (g : Game) (steps choose : SetKey → ℕ) (actions choices : List ℕ)
 
     mutual
       pub unmet : (t : Tree Node) (path : Path) (ds : List ℕ)
-          → AllByRecursion (HasChildren g) (flatten t)
-          → HasDigits actions path ds → met choices ds ≡ false
-          → AddsNothing (reached g steps path t)
+          → AllByRecursion (HasChildren g) (flatten t) → HasDigits actions path ds
+          → met choices ds ≡ false → AddsNothing (reached g steps path t)
       unmet (branch n ts) path ds children has missed =
           let met = met_node g path n in
           unmet_first g player den (steps_of actions) choices met _

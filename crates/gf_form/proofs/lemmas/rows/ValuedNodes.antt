@@ -33,8 +33,7 @@ product_above m n h k = omega (arith, h, le-mul_of_pos_right m k)
 size_below : (m b limit : ℕ) → 1 ≤ b → m * b < limit → m < limit
 size_below m b limit some h = omega (arith, h, le-mul_of_pos_right m some)
 
-sum_below : (x y : ℤ) (b : ℕ)
-    → unsigned_abs (x +ℤ y) * b ≤ unsigned_abs x * b + unsigned_abs y * b
+sum_below : (x y : ℤ) (b : ℕ) → unsigned_abs (x +ℤ y) * b ≤ unsigned_abs x * b + unsigned_abs y * b
 sum_below x y b = omega (arith, mul-le-mul_right b (sum_size x y))
 
 -- a share of chance, in size
@@ -184,11 +183,10 @@ module _ (g : Game) (player den : ℕ) (den_above : 0 < den) (den_within : den <
       size = omega (arith, bound_is, bound_first g player den steps choices own [] met);
     }
 
-    pub move_valued : (below : Option Ratio) (rs : List Reached) → 1 ≤ own.path.bound
-        → bounds (own ∷ rs) < 2 ^ 127
+    pub move_valued : (below : Option Ratio) (rs : List Reached)
+        → 1 ≤ own.path.bound → bounds (own ∷ rs) < 2 ^ 127
         → IsValued below own.path.weight own.path.bound own.path.den rs
-        → IsValued (plus_of (Some pay) below) own.path.weight own.path.bound own.path.den
-        (own ∷ rs)
+        → IsValued (plus_of (Some pay) below) own.path.weight own.path.bound own.path.den (own ∷ rs)
     move_valued below rs some limit h =
         let both = sum_below amount h.amount own.path.bound in
         let all = bound_first g player den steps choices own rs met in

@@ -28,8 +28,7 @@ numbers_above by first (suc n) = grind (arith, numbers_above by (first + 1) n)
 -- ---- places
 
 places_behind : (count : ℕ) (counts : List ℕ) (action n : ℕ) (all : List (List ℕ))
-    → map (place counts) all ≡ numbers_from 0 n
-    → map (place (count ∷ counts)) (behind action all)
+    → map (place counts) all ≡ numbers_from 0 n → map (place (count ∷ counts)) (behind action all)
     ≡ numbers_from ((action - 1) * product counts) n
 places_behind count counts action n all h =
     let by = (action - 1) * product counts in

@@ -26,11 +26,9 @@ within : (key : SetKey) (s : Described SetKey InformationSet)
     × ((if b then action else choice_at (map (λ e. e.key) ss) others key) ≤ length set.actions)
 within key s ss action others set b here later is = grind arith
 
-choice_within : (key : SetKey) (ss : List (Described SetKey InformationSet))
-    (strategy : List ℕ) (set : InformationSet)
-    → IsChoice (map (λ s. length s.description.actions) ss) strategy
-    → description_at same_set ss key ≡ Some set
-    → (1 ≤ choice_at (map (λ s. s.key) ss) strategy key)
+choice_within : (key : SetKey) (ss : List (Described SetKey InformationSet)) (strategy : List ℕ)
+    (set : InformationSet) → IsChoice (map (λ s. length s.description.actions) ss) strategy
+    → description_at same_set ss key ≡ Some set → (1 ≤ choice_at (map (λ s. s.key) ss) strategy key)
     × (choice_at (map (λ s. s.key) ss) strategy key ≤ length set.actions)
 choice_within key (s ∷ ss) (action ∷ others) set h is = within key s ss action others set
     (same_set s.key key) h.0 (choice_within key ss others set h.1) is

@@ -89,8 +89,7 @@ as_many_players g f = cc (length-map (players_of g) f, length-numbers_from 1 (le
 
 -- a list is kept item by item
 pub one_item_more : {A : Type 0} (all kept next : List A) (i : ℕ) (item d : A) → i < length all
-    → item ≡ get_or all i d → kept ≡ take i all → next ≡ kept ++ item ∷ []
-    → next ≡ take (i + 1) all
+    → item ≡ get_or all i d → kept ≡ take i all → next ≡ kept ++ item ∷ [] → next ≡ take (i + 1) all
 one_item_more all kept next i item d h is kept_is next_is = cc (take-suc all i d h, add-one i)
 
 pub sets_counted : (g : Game) (player : ℕ)

@@ -54,8 +54,7 @@ module _ {X : Type 0} (text : X → List ℕ) (IsFine : X → Type 0)
   same_items (x ∷ xs) [] hx hy e = absurd cc
   same_items (x ∷ xs) (y ∷ ys) hx hy e = grind (arith, same_items xs ys hx.1 hy.1 (ap (drop 1) e))
 
-  all_undashed : (xs : List X) → AllByRecursion IsFine xs
-      → AllByRecursion AreUndashed (map text xs)
+  all_undashed : (xs : List X) → AllByRecursion IsFine xs → AllByRecursion AreUndashed (map text xs)
   all_undashed xs h = all_images AreUndashed text xs
       (all_weaker IsFine (λ x. AreUndashed (text x)) undashed xs h)
 

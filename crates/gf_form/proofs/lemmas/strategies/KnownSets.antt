@@ -1,20 +1,17 @@
 -- The information sets of a game by their keys: what holds for each, and whose they are.
-use Rattle.gf_form.proofs.Common.{◌≡◌, ℕ, true, Some, length, subst, arith, find, eqb-true, SetKey}
+use Rattle.gf_form.proofs.Common.{◌≡◌, ℕ, Some, length, subst, arith, eqb-true, SetKey}
 use Rattle.gf_form.proofs.Common.{InformationSet, same_set, IsSet, Described, Game, IsGame, set_at}
 use Rattle.gf_form.proofs.Common.{player_keys, same_set_equality, Has, mapped_from, of_filter}
-use Rattle.gf_form.proofs.lemmas.strategies.Lookups.{Each, each_found, each_mapped, each_weaker}
+use Rattle.gf_form.proofs.lemmas.strategies.Lookups.{Each, each_described}
 
 pub each_set : (g : Game) → IsGame g → (key : SetKey)
     → Each (IsSet (length g.players) key) (set_at g key)
 each_set g game key =
-    let P = λ (s : Described SetKey InformationSet). IsSet (length g.players) s.key s.description in
-    let test = λ (s : Described SetKey InformationSet). same_set s.key key in
-    each_mapped (IsSet (length g.players) key) (λ s. s.description) (find test g.sets)
-    (each_weaker (λ s. P s × (test s ≡ true)) (λ s. IsSet (length g.players) key s.description)
-    (find test g.sets)
-    (λ s h.
-    subst (λ k. IsSet (length g.players) k s.description) ((same_set_equality s.key key).0 h.1) h.0)
-    (each_found P test g.sets game.each_set))
+    each_described (λ (s : Described SetKey InformationSet).
+    IsSet (length g.players) s.key s.description) (IsSet (length g.players) key)
+    (λ s. s.description) (λ s. same_set s.key key) g.sets
+    (λ s h same. subst (λ k. IsSet (length g.players) k s.description)
+    ((same_set_equality s.key key).0 same) h) game.each_set
 
 pub set_is : (g : Game) → IsGame g → (key : SetKey) (set : InformationSet) → set_at g key ≡ Some set
     → IsSet (length g.players) key set

@@ -19,9 +19,8 @@ label_of_both (a ∷ []) (c ∷ b) hf hb = refl
 label_of_both (a ∷ e ∷ f) (c ∷ b) hf hb =
     grind (arith, append_assoc, label_of_both (e ∷ f) (c ∷ b) (omega arith) hb)
 
-got : (xs : List (List ℕ)) (i : ℕ) (v : List ℕ)
-    → slice_get (map strategy_label xs) i ≡ Some v → i < length xs
-    → v ≡ strategy_label (get_or xs i [])
+got : (xs : List (List ℕ)) (i : ℕ) (v : List ℕ) → slice_get (map strategy_label xs) i ≡ Some v
+    → i < length xs → v ≡ strategy_label (get_or xs i [])
 got (x ∷ xs) (suc i) v e less = got xs i v e (omega (arith, less))
 got xs i v e less = grind arith
 

@@ -1,8 +1,8 @@
 -- What is found in a list whose elements all have a property.
-use Rattle.gf_form.proofs.Common.{◌≡◌, ℕ, suc, Bool, true, List, [], ◌∷◌, Option, MatchOption, ap}
-use Rattle.gf_form.proofs.Common.{◌∙◌, ◌≤◌, ◌-◌, ◌+◌, get_or, arith, option_map, unwrap_or}
-use Rattle.gf_form.proofs.Common.{option_and_then, slice_get, ⊤, AllByRecursion}
-use Rattle.gf_form.proofs.Common.{unwrap_or-slice_get, at_position, strategy_at}
+use Rattle.gf_form.proofs.Common.{refl, ◌<◌, length, map, numbers_from, ◌≡◌, ℕ, suc, Bool, true}
+use Rattle.gf_form.proofs.Common.{List, [], ◌∷◌, Option, MatchOption, ap, ◌∙◌, ◌≤◌, ◌-◌, ◌+◌}
+use Rattle.gf_form.proofs.Common.{get_or, arith, option_map, unwrap_or, option_and_then, slice_get}
+use Rattle.gf_form.proofs.Common.{⊤, AllByRecursion, unwrap_or-slice_get, at_position, strategy_at}
 use Rattle.std.specs.List.{find}
 
 -- a property of what there is, if there is something
@@ -18,14 +18,13 @@ pub each_at : {A : Type 0} (P : A → Type 0) (xs : List A) (position : ℕ) →
     → Each P (at_position xs position)
 each_at P xs position h = grind (arith, each_got)
 
-pub each_found : {A : Type 0} (P : A → Type 0) (test : A → Bool) (xs : List A) → AllByRecursion P xs
-    → Each (λ x. P x × (test x ≡ true)) (find test xs)
-each_found P test [] h = tt
-each_found {A} P test (x ∷ xs) h = grind (arith, each_found P test xs h.1)
-
-pub each_mapped : {A B : Type 0} (P : B → Type 0) (f : A → B) (o : Option A) → Each (λ x. P (f x)) o
-    → Each P (option_map f o)
-each_mapped P f o h = grind arith
+-- what is said of the elements is said of what a test finds, by what it is described as
+pub each_described : {A B : Type 0} (P : A → Type 0) (Q : B → Type 0) (f : A → B) (test : A → Bool)
+    (xs : List A) → ((x : A) → P x → test x ≡ true → Q (f x)) → AllByRecursion P xs
+    → Each Q (option_map f (find test xs))
+each_described P Q f test [] said h = tt
+each_described {A} P Q f test (x ∷ xs) said h =
+    grind (arith, each_described P Q f test xs said h.1)
 
 pub each_then : {A B : Type 0} (P : A → Type 0) (Q : B → Type 0) (f : A → Option B) (o : Option A)
     → ((x : A) → P x → Each Q (f x)) → Each P o → Each Q (option_and_then f o)
@@ -54,3 +53,15 @@ next_strategy xs i = ap (λ o. unwrap_or o []) (next_position xs i) ∙ unwrap_o
 pub strategy_before : {A : Type 0} (xs : List (List A)) (position : ℕ) → 1 ≤ position
     → strategy_at xs position ≡ get_or xs (position - 1) []
 strategy_before xs position above = grind (arith, next_strategy xs (position - 1))
+
+-- numbers in turn give the elements of a list in turn
+pub in_turn : {A : Type 0} (f : ℕ → A) (k : ℕ) (xs : List A) (d : A)
+    → ((i : ℕ) → i < length xs → f (k + i) ≡ get_or xs i d)
+    → map f (numbers_from k (length xs)) ≡ xs
+in_turn f k [] d each = refl
+in_turn f k (x ∷ xs) d each =
+    let start : k ≡ k + 0 = omega arith in
+    let here : f k ≡ x = ap f start ∙ each 0 (omega arith) in
+    let others = in_turn f (k + 1) xs d (λ i h. let next : k + 1 + i ≡ k + suc i = omega arith in
+    ap f next ∙ each (suc i) (omega arith)) in
+    λ i. here i ∷ others i

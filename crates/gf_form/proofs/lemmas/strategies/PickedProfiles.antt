@@ -12,6 +12,7 @@ use Rattle.gf_form.proofs.Common.{full_profiles, players_of, strategies, strateg
 use Rattle.std.proofs.lemmas.List.Folds.{flat_map-map}
 use Rattle.gf_nfg.specs.ProfilePlaces.{place}
 use Rattle.gf_nfg.proofs.lemmas.tables.Profiles.{are_profiles, place_at}
+use Rattle.gf_form.proofs.lemmas.strategies.Lookups.{in_turn}
 use Rattle.gf_form.proofs.lemmas.strategies.Choices.{IsChoice, every_choice}
 use Rattle.gf_form.proofs.lemmas.strategies.Chosen.{profile_strategies}
 use Rattle.gf_form.proofs.lemmas.strategies.CountedActions.{strategy_counts}
@@ -37,8 +38,7 @@ counted_profiles picked = grind (arith, length-map, length-profiles)
 -- ---- the profile with a number
 
 profile_at : (count : ℕ) (counts : List ℕ) (number rest : ℕ) → number < count
-    → rest < product counts
-    → get_or (profiles (count ∷ counts)) (number + count * rest) []
+    → rest < product counts → get_or (profiles (count ∷ counts)) (number + count * rest) []
     ≡ (number + 1) ∷ get_or (profiles counts) rest []
 profile_at count counts number rest less below =
     let all = profiles (count ∷ counts) in
@@ -56,9 +56,8 @@ profile_at count counts number rest less below =
     counts)) there.2) ∙ place_at (count ∷ counts) there.0 profile there.1 in
     ap (λ (n : ℕ). get_or all n []) at ∙ get_or_default all there.0 [] profile there.1 ∙ there.2
 
-pub profiles_next : (count : ℕ) (counts : List ℕ) (rest : ℕ) → 0 < count
-    → rest < count * product counts
-    → get_or (profiles (count ∷ counts)) rest []
+pub profiles_next : (count : ℕ) (counts : List ℕ) (rest : ℕ)
+    → 0 < count → rest < count * product counts → get_or (profiles (count ∷ counts)) rest []
     ≡ (rest % count + 1) ∷ get_or (profiles counts) (rest / count) []
 profiles_next count counts rest some below = grind (arith, mul_comm, below, mod-add-div, profile_at)
 
@@ -141,11 +140,10 @@ numbers_within counts picked h = grind arith
 abbrev joined : List ℕ → List ℕ → List (List ℕ)
 joined own others = map (λ number. (number + 1) ∷ others) own
 
-by_sums : (count : ℕ) (counts : List ℕ) (rest : ℕ) (own : List ℕ) → rest < product counts
-    → AllByRecursion (λ number. number < count) own
+by_sums : (count : ℕ) (counts : List ℕ) (rest : ℕ) (own : List ℕ)
+    → rest < product counts → AllByRecursion (λ number. number < count) own
     → map (λ number. get_or (profiles (count ∷ counts)) number [])
-    (map (λ number. number + count * rest) own)
-    ≡ joined own (get_or (profiles counts) rest [])
+    (map (λ number. number + count * rest) own) ≡ joined own (get_or (profiles counts) rest [])
 by_sums count counts rest [] less h = refl
 by_sums count counts rest (number ∷ own) less h =
     λ i. profile_at count counts number rest h.0 less i ∷ by_sums count counts rest own less h.1 i
@@ -161,9 +159,8 @@ by_all_sums count counts own (rest ∷ rests) h k =
     grind (arith, map-append, by_sums, by_all_sums count counts own rests h k.1)
 
 by_positions : (all : List ℕ) (picked : List (List ℕ)) (others own : List ℕ) (k : ℕ)
-    → ((i : ℕ) → get_or all (k + i) 0 ≡ get_or own i 0)
-    → map (full_at (all ∷ picked)) (map (λ s. s ∷ others) (numbers_from (k + 1) (length own)))
-    ≡ joined own (full_at picked others)
+    → ((i : ℕ) → get_or all (k + i) 0 ≡ get_or own i 0) → map (full_at (all ∷ picked))
+    (map (λ s. s ∷ others) (numbers_from (k + 1) (length own))) ≡ joined own (full_at picked others)
 by_positions all picked others [] k h = refl
 by_positions all picked others (number ∷ own) k h =
     let here : k + 1 - 1 ≡ k + 0 = omega arith in
@@ -173,8 +170,7 @@ by_positions all picked others (number ∷ own) k h =
     (λ j. let next : k + 1 + j ≡ k + suc j = omega arith in
     ap (λ (n : ℕ). get_or all n 0) next ∙ h (suc j)) i
 
-by_all_positions : (own : List ℕ) (picked tails : List (List ℕ))
-    → map (full_at (own ∷ picked))
+by_all_positions : (own : List ℕ) (picked tails : List (List ℕ)) → map (full_at (own ∷ picked))
     (flat_map (λ others. map (λ s. s ∷ others) (positions (length own))) tails)
     ≡ flat_map (λ others. joined own (full_at picked others)) tails
 by_all_positions own picked [] = refl
@@ -211,8 +207,7 @@ are_below g (player ∷ players) (own ∷ picked) h = (h.0, are_below g players 
 -- ---- one player after another
 
 pub player_at : (counts : List ℕ) (picked : List (List ℕ)) (i : ℕ) → AreBelow counts picked
-    → i < length counts
-    → AllByRecursion (λ number. number < get_or counts i 0) (get_or picked i [])
+    → i < length counts → AllByRecursion (λ number. number < get_or counts i 0) (get_or picked i [])
     × AreBelow (drop (suc i) counts) (drop (suc i) picked)
 player_at (count ∷ counts) (own ∷ picked) (suc i) h less =
     player_at counts picked i h.1 (omega (arith, less))
@@ -261,22 +256,11 @@ module _ (g : Game) (counts : List ℕ) (picked : List (List ℕ)) (are : AreNum
 
 -- ---- all
 
-all_from : (profiles : List (List ℕ)) (k : ℕ) (rest : List (List ℕ))
-    → ((i : ℕ) → get_or profiles (k + i) [] ≡ get_or rest i [])
-    → map (λ number. get_or profiles number []) (numbers_from k (length rest)) ≡ rest
-all_from profiles k [] h = refl
-all_from profiles k (profile ∷ rest) h =
-    let here : k ≡ k + 0 = omega arith in
-    let first = ap (λ (n : ℕ). get_or profiles n []) here ∙ h 0 in
-    λ i. first i ∷ all_from profiles (k + 1) rest
-    (λ j. let next : k + 1 + j ≡ k + suc j = omega arith in
-    ap (λ (n : ℕ). get_or profiles n []) next ∙ h (suc j)) i
-
 pub all_numbered : (g : Game) → numbered_profiles g (numbers_from 0 (length (full_profiles g)))
     ≡ full_profiles g
 all_numbered g =
-    all_from (full_profiles g) 0 (full_profiles g)
-    (λ i. let same : 0 + i ≡ i = omega arith in
+    in_turn (λ number. get_or (full_profiles g) number []) 0 (full_profiles g) []
+    (λ i _. let same : 0 + i ≡ i = omega arith in
     ap (λ (n : ℕ). get_or (full_profiles g) n []) same)
 
 all_below : (first n last : ℕ) → first + n ≤ last
@@ -284,15 +268,13 @@ all_below : (first n last : ℕ) → first + n ≤ last
 all_below first zero last h = tt
 all_below first (suc n) last h = grind (arith, all_below (first + 1) n last (omega (arith, h)))
 
-pub all_are_numbers : (g : Game)
-    → AreProfileNumbers g (numbers_from 0 (length (full_profiles g)))
+pub all_are_numbers : (g : Game) → AreProfileNumbers g (numbers_from 0 (length (full_profiles g)))
 all_are_numbers g = grind (arith, all_below)
 
 -- the profile at a place
-pub numbered_at : (g : Game) (numbers : List ℕ) (i : ℕ) → i < length numbers
-    → (i < length (numbered_profiles g numbers))
-    × (get_or (numbered_profiles g numbers) i []
-    ≡ get_or (full_profiles g) (get_or numbers i 0) [])
+pub numbered_at : (g : Game) (numbers : List ℕ) (i : ℕ)
+    → i < length numbers → (i < length (numbered_profiles g numbers))
+    × (get_or (numbered_profiles g numbers) i [] ≡ get_or (full_profiles g) (get_or numbers i 0) [])
 numbered_at g numbers i less = grind (arith, less, length-map, get_or-map)
 
 pub ruleset sum_steps = (sums_fit, all_at)

@@ -23,8 +23,7 @@ all_at P (x ∷ xs) (suc i) d h less = all_at P xs i d h.1 (omega (arith, less))
 all_at P xs i d h less = grind arith
 
 pub choices_next : (count : ℕ) (counts : List ℕ) (rest : ℕ) → 0 < product counts
-    → rest < count * product counts
-    → get_or (all_choices (count ∷ counts)) rest []
+    → rest < count * product counts → get_or (all_choices (count ∷ counts)) rest []
     ≡ (rest / product counts + 1) ∷ get_or (all_choices counts) (rest % product counts) []
 choices_next count counts rest some below =
     let p = product counts in
@@ -43,8 +42,7 @@ choices_next count counts rest some below =
 
 -- ---- sets that come after others
 
-both_choices : (xs ys f b : List ℕ) → IsChoice xs f → IsChoice ys b
-    → IsChoice (xs ++ ys) (f ++ b)
+both_choices : (xs ys f b : List ℕ) → IsChoice xs f → IsChoice ys b → IsChoice (xs ++ ys) (f ++ b)
     × (place (xs ++ ys) (f ++ b) ≡ place xs f * product ys + place ys b)
 both_choices [] ys [] b hf hb = (hb, omega arith)
 both_choices [] ys (a ∷ f) b hf hb = absurd hf
@@ -150,11 +148,10 @@ all_taken P n xs h = grind arith
 
 -- ---- the labels so far
 
-pub one_label_more : (counts : List ℕ) (labels next : List (List ℕ)) (number : ℕ)
-    (label strategy : List ℕ) → number < product counts
+pub one_label_more : (counts : List ℕ)
+    (labels next : List (List ℕ)) (number : ℕ) (label strategy : List ℕ) → number < product counts
     → strategy ≡ get_or (all_choices counts) number [] → label ≡ strategy_label strategy
-    → labels ≡ map strategy_label (take number (all_choices counts))
-    → next ≡ labels ++ label ∷ []
+    → labels ≡ map strategy_label (take number (all_choices counts)) → next ≡ labels ++ label ∷ []
     → next ≡ map strategy_label (take (number + 1) (all_choices counts))
 one_label_more counts labels next number label strategy less is label_is labels_are next_is =
     let all = all_choices counts in

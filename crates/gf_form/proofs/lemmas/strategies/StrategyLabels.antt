@@ -21,10 +21,8 @@ small_choice (n ∷ counts) (a ∷ choice) small h =
     grind (arith, small_choice counts choice small.1 h.1)
 
 pub labels_differ : (counts : List ℕ) (i j : ℕ) → AreSmall counts → i < length (all_choices counts)
-    → j < length (all_choices counts)
-    → strategy_label (get_or (all_choices counts) i [])
-    ≡ strategy_label (get_or (all_choices counts) j [])
-    → i ≡ j
+    → j < length (all_choices counts) → strategy_label (get_or (all_choices counts) i [])
+    ≡ strategy_label (get_or (all_choices counts) j []) → i ≡ j
 labels_differ counts i j small hi hj e =
     let s = get_or (all_choices counts) i [] in
     let t = get_or (all_choices counts) j [] in

@@ -45,9 +45,8 @@ module _ (g h : Game) (c d : SetKey → ℕ) (player : ℕ) (f : Node → Node) 
   abbrev pub AreAlike : List (Entry Node) → Type 0
   AreAlike es = AllByRecursion (λ e. IsAlike e.node) es
 
-  child_views : (n : Node) (k : ℕ) (ps qs : List Play) → IsAlike n
-      → map (view h d player) qs ≡ map (view g c player) ps
-      → map (view h d player) (map (from_node (f n) k) qs)
+  child_views : (n : Node) (k : ℕ) (ps qs : List Play) → IsAlike n → map (view h d player) qs
+      ≡ map (view g c player) ps → map (view h d player) (map (from_node (f n) k) qs)
       ≡ map (view g c player) (map (from_node n k) ps)
   unfolding view from_parent
   child_views n k ps qs a e =

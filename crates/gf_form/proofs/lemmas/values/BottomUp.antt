@@ -1,25 +1,25 @@
 -- If the bottom-up value is defined, it is the payoff by plays.
 use Rattle.gf_form.proofs.Common.{◌≡◌, ℕ, zero, suc, ◌+◌, Bool, true, false, List, ◌++◌, Option}
-use Rattle.gf_form.proofs.Common.{Some, None, MatchOption, length, map, refl, sym, subst, arith}
-use Rattle.gf_form.proofs.Common.{◌==◌, option_map, MatchBool, AllByRecursion, Ratio, IsFraction}
-use Rattle.gf_form.proofs.Common.{IsEqual, zero_ratio, one_ratio, plus, times, total, AddsTo}
-use Rattle.gf_form.proofs.Common.{MultipliesTo, mul_pos_right, one_fraction, all_parts, equal_refl}
-use Rattle.gf_form.proofs.Common.{plus_both, plus_zero, plus_assoc, times_comm, times_assoc}
-use Rattle.gf_form.proofs.Common.{times_plus, times_zero, times_one, IsAbove, plus_above}
-use Rattle.gf_form.proofs.Common.{times_above, ◌then◌, back, plus_left, plus_right, times_left}
-use Rattle.gf_form.proofs.Common.{times_right, plus_across, numbers_from, Tree, Trees, count}
-use Rattle.gf_form.proofs.Common.{branch, none, more, flatten, flatten_all, SetKey, Node, Game}
-use Rattle.gf_form.proofs.Common.{IsGame, HasChildren, set_at, IsSpellable, Play, from_node}
-use Rattle.gf_form.proofs.Common.{is_chosen, probability, payoff_at, payoff, play_probability}
-use Rattle.gf_form.proofs.Common.{play_payoff, IsValue, IsChanceValue, IsChildValue}
+use Rattle.gf_form.proofs.Common.{Some, MatchOption, length, map, refl, sym, subst, arith, ◌==◌}
+use Rattle.gf_form.proofs.Common.{option_map, MatchBool, AllByRecursion, Ratio, IsFraction, IsEqual}
+use Rattle.gf_form.proofs.Common.{zero_ratio, one_ratio, plus, times, total, AddsTo, MultipliesTo}
+use Rattle.gf_form.proofs.Common.{mul_pos_right, one_fraction, all_parts, equal_refl, plus_both}
+use Rattle.gf_form.proofs.Common.{plus_zero, plus_assoc, times_comm, times_assoc, times_plus}
+use Rattle.gf_form.proofs.Common.{times_zero, times_one, IsAbove, plus_above, times_above, ◌then◌}
+use Rattle.gf_form.proofs.Common.{back, plus_left, plus_right, times_left, times_right, plus_across}
+use Rattle.gf_form.proofs.Common.{numbers_from, Tree, Trees, count, branch, none, more, flatten}
+use Rattle.gf_form.proofs.Common.{flatten_all, SetKey, Node, Game, IsGame, HasChildren, set_at}
+use Rattle.gf_form.proofs.Common.{IsSpellable, Play, from_node, is_chosen, probability, payoff_at}
+use Rattle.gf_form.proofs.Common.{payoff, play_probability, play_payoff, IsValue, IsChanceValue}
+use Rattle.gf_form.proofs.Common.{IsChildValue}
 use Rattle.gf_form.proofs.lemmas.values.Denominators.{probability_above, payoff_above}
 use Rattle.gf_form.proofs.lemmas.values.Denominators.{payoff_fraction, play_probability_above}
 use Rattle.gf_form.proofs.lemmas.values.Denominators.{worth_above}
 use Rattle.gf_form.proofs.lemmas.values.Lotteries.{no_chance}
-use Rattle.gf_form.proofs.lemmas.values.Followed.{followed, followed_in, in_children, each_chosen}
-use Rattle.gf_form.proofs.lemmas.values.Followed.{first_chosen, only_this, not_this}
+use Rattle.gf_form.proofs.lemmas.values.Followed.{followed, followed_in, each_chosen, first_chosen}
+use Rattle.gf_form.proofs.lemmas.values.Followed.{only_this, not_this}
 use Rattle.gf_form.proofs.lemmas.values.Whole.{one_of, by_one, first_whole, this_whole}
-use Rattle.gf_form.proofs.lemmas.values.Whole.{chance_whole, some_child}
+use Rattle.gf_form.proofs.lemmas.values.Whole.{chance_whole, node_by}
 use Rattle.gf_form.proofs.lemmas.values.PlaySums.{sum_joined, weight_above, all_worth_above}
 use Rattle.gf_form.proofs.lemmas.values.PlaySums.{weight_after, worth_after}
 
@@ -179,66 +179,58 @@ module _ (g : Game) (game : IsGame g) (spellable : IsSpellable g) (player : ℕ)
       → (key.player == 0) ≡ false → IsChildValue g choices player (choices key) ts value
       → Pays (plus (own n) value) (followed choices n 1 ts)
 
-  chance_pays : (n : Node) (ts : Trees Node) (key : SetKey) (below value : Ratio)
-      → n.set ≡ Some key → (key.player == 0) ≡ true
-      → option_map (λ set. length set.actions) (set_at g key) ≡ Some (count ts)
-      → ChanceAdds n ts → IsChanceValue g choices player n 1 zero_ratio ts below
-      → AddsTo (own n) below value → Pays value (followed_in choices (branch n ts))
+  chance_pays : (n : Node) (ts : Trees Node) (key : SetKey) (below value : Ratio) → n.set ≡ Some key
+      → (key.player == 0) ≡ true → option_map (λ set. length set.actions) (set_at g key)
+      ≡ Some (count ts) → ChanceAdds n ts → IsChanceValue g choices player n 1 zero_ratio ts below
+      → AddsTo (own n) below value → Pays value (followed choices n 1 ts)
   chance_pays n ts key below value at chance children chances h adds =
       let a = chances zero_ratio below (each_chosen choices n key at chance) (omega arith) h in
-      let some = some_child g game spellable choices n ts key children in
       let one = chance_whole g game spellable choices n ts key at chance children a.chances in
       let is_rest : IsEqual below a.rest = a.added then plus_zero a.rest a.above in
-      subst (Pays value) (sym (in_children choices n ts some)) (record {
+      record {
         whole = one;
         paid = sum_equal (own n) below value (own_above n) is_rest.left adds
             then plus_right (own n) (own_above n) is_rest
             then back (a.paid then plus_left a.rest a.above
             (times_right (own n) (own_above n) one then times_one (own n) (own_above n)));
-      })
+      }
 
   player_pays : (n : Node) (ts : Trees Node) (key : SetKey) (below value : Ratio)
-      → n.set ≡ Some key → (key.player == 0) ≡ false
-      → option_map (λ set. length set.actions) (set_at g key) ≡ Some (count ts)
-      → ChildPays n ts → IsChildValue g choices player (choices key) ts below
-      → AddsTo (own n) below value → Pays value (followed_in choices (branch n ts))
-  player_pays n ts key below value at personal children child h adds =
-      let some = some_child g game spellable choices n ts key children in
+      → n.set ≡ Some key → (key.player == 0) ≡ false → ChildPays n ts
+      → IsChildValue g choices player (choices key) ts below
+      → AddsTo (own n) below value → Pays value (followed choices n 1 ts)
+  player_pays n ts key below value at personal child h adds =
       let p = child key below at personal h in
       let below_above : IsAbove below = mul_pos_right (own n).den below.den _ refl p.paid.left in
-      subst (Pays value) (sym (in_children choices n ts some)) (record {
+      record {
         whole = p.whole;
         paid = sum_equal (own n) below value (own_above n) below_above adds then p.paid;
-      })
+      }
+
+  -- the value at a node that has this set or none
+  abbrev ValueAt : Node → Trees Node → Ratio → Option SetKey → Type 0
+  ValueAt n ts value o = MatchOption o (value ≡ own n) (λ key. (below : Ratio)
+      × MatchBool (key.player == 0) (IsChanceValue g choices player n 1 zero_ratio ts below)
+      (IsChildValue g choices player (choices key) ts below) × AddsTo (own n) below value)
 
   node_pays : (n : Node) (ts : Trees Node) (value : Ratio)
       → HasChildren g (record { node = n; children = count ts })
       → IsValue g choices player (branch n ts) value
       → ChanceAdds n ts → ChildPays n ts → Pays value (followed_in choices (branch n ts))
-  node_pays n ts value children h chances child = by_set n.set refl children h
+  node_pays n ts value children h chances child =
+      node_by g game spellable choices (Pays value) n ts children
+      (λ at. leaf_pays n value (subst (ValueAt n ts value) at h))
+      (λ key at c. let v = subst (ValueAt n ts value) at h in
+      by_kind key (key.player == 0) v.0 at refl c v.1 v.2)
     where
-      by_count : (ts : Trees Node) → count ts ≡ 0 → value ≡ own n
-          → Pays value (followed_in choices (branch n ts))
-      by_count none e is = leaf_pays n value is
-      by_count (more t ts) e is = absurd (omega arith)
-
       by_kind : (key : SetKey) (b : Bool) (below : Ratio) → n.set ≡ Some key → (key.player == 0) ≡ b
           → option_map (λ set. length set.actions) (set_at g key) ≡ Some (count ts)
           → MatchBool b (IsChanceValue g choices player n 1 zero_ratio ts below)
           (IsChildValue g choices player (choices key) ts below)
-          → AddsTo (own n) below value → Pays value (followed_in choices (branch n ts))
+          → AddsTo (own n) below value → Pays value (followed choices n 1 ts)
       by_kind key true below at is c v adds =
           chance_pays n ts key below value at is c chances v adds
-      by_kind key false below at is c v adds = player_pays n ts key below value at is c child v adds
-
-      by_set : (o : Option SetKey) → n.set ≡ o → MatchOption o (count ts ≡ 0)
-          (λ key. option_map (λ set. length set.actions) (set_at g key) ≡ Some (count ts))
-          → MatchOption o (value ≡ own n) (λ key. (below : Ratio)
-          × MatchBool (key.player == 0) (IsChanceValue g choices player n 1 zero_ratio ts below)
-          (IsChildValue g choices player (choices key) ts below) × AddsTo (own n) below value)
-          → Pays value (followed_in choices (branch n ts))
-      by_set None at c v = by_count ts c v
-      by_set (Some key) at c v = by_kind key (key.player == 0) v.0 at refl c v.1 v.2
+      by_kind key false below at is c v adds = player_pays n ts key below value at is child v adds
 
   -- ---- the tree
 
@@ -263,8 +255,7 @@ module _ (g : Game) (game : IsGame g) (spellable : IsSpellable g) (player : ℕ)
 
     child_pays : (ts : Trees Node) (n : Node) (key : SetKey) (k a : ℕ) (value : Ratio)
         → n.set ≡ Some key → (key.player == 0) ≡ false → choices key + 1 ≡ k + a
-        → AllByRecursion (HasChildren g) (flatten_all ts)
-        → IsChildValue g choices player a ts value
+        → AllByRecursion (HasChildren g) (flatten_all ts) → IsChildValue g choices player a ts value
         → Pays (plus (own n) value) (followed choices n k ts)
     child_pays none n key k a value at personal place children h = absurd h
     child_pays (more t ts) n key k zero value at personal place children h = absurd h
@@ -281,10 +272,7 @@ module _ (g : Game) (game : IsGame g) (spellable : IsSpellable g) (player : ℕ)
   value_is_payoff value h = (tree_pays g.tree value game.children h).paid
 
   fraction_at : (n : Node) (ts : Trees Node) (value : Ratio) (o : Option SetKey)
-      → MatchOption o (value ≡ own n) (λ key. (below : Ratio)
-      × MatchBool (key.player == 0) (IsChanceValue g choices player n 1 zero_ratio ts below)
-      (IsChildValue g choices player (choices key) ts below) × AddsTo (own n) below value)
-      → IsFraction value
+      → ValueAt n ts value o → IsFraction value
   fraction_at n ts value o h = grind (arith, payoff_fraction)
 
   value_is_fraction : (t : Tree Node) (value : Ratio) → IsValue g choices player t value

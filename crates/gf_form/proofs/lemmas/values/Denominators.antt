@@ -1,43 +1,48 @@
 -- The probabilities and payoffs of a game that a file can hold have denominators above zero.
-use Rattle.gf_form.proofs.Common.{ℕ, arith, option_and_then, ⊤, ◌==◌, AllByRecursion, IsFraction}
-use Rattle.gf_form.proofs.Common.{times, zero_ratio, one_ratio, whole_fraction, IsAbove}
-use Rattle.gf_form.proofs.Common.{times_above, total_above, at_position, SetKey, InformationSet}
-use Rattle.gf_form.proofs.Common.{Outcome, same_set, Described, Node, Game, set_at, outcome_at}
-use Rattle.gf_form.proofs.Common.{IsSpellable, Step, Play, action_at, probability, payoff_at}
-use Rattle.gf_form.proofs.Common.{play_probability, play_payoff}
-use Rattle.std.specs.List.{find}
+use Rattle.gf_form.proofs.Common.{◌≡◌, Option, Some, None, refl, Action, ℕ, arith, option_and_then}
+use Rattle.gf_form.proofs.Common.{⊤, ◌==◌, AllByRecursion, IsFraction, times, zero_ratio, one_ratio}
+use Rattle.gf_form.proofs.Common.{whole_fraction, IsAbove, times_above, total_above, at_position}
+use Rattle.gf_form.proofs.Common.{SetKey, same_set, Node, Game, set_at, outcome_at, IsSpellable}
+use Rattle.gf_form.proofs.Common.{Step, Play, action_at, probability, payoff_at, play_probability}
+use Rattle.gf_form.proofs.Common.{play_payoff}
 use Rattle.gf_fraction.proofs.Rationals.{ratio_product_above}
 use Rattle.gf_tree.specs.Spellable.{IsSpellableAction, IsSpellableSet, IsSpellableOutcome}
-use Rattle.gf_form.proofs.lemmas.strategies.Lookups.{Each, each_at, each_found, each_mapped}
-use Rattle.gf_form.proofs.lemmas.strategies.Lookups.{each_then, each_weaker, each_or, each_any}
+use Rattle.gf_form.proofs.lemmas.strategies.Lookups.{Each, each_at, each_described, each_then}
+use Rattle.gf_form.proofs.lemmas.strategies.Lookups.{each_or, each_any}
+
+-- what is so of the actions of a node's set is so of the one that is taken there
+pub each_action : (g : Game) (P : Action → Type 0) (s : Step)
+    → ((key : SetKey) → s.node.set ≡ Some key
+    → Each (λ set. AllByRecursion P set.actions) (set_at g key))
+    → Each P (action_at g s)
+each_action g P s sets = by s.node.set sets
+  where
+    by : (o : Option SetKey)
+        → ((key : SetKey) → o ≡ Some key
+        → Each (λ set. AllByRecursion P set.actions) (set_at g key))
+        → Each P (option_and_then (λ key. option_and_then (λ set. at_position set.actions s.taken)
+        (set_at g key)) o)
+    by None h = tt
+    by (Some key) h =
+        each_then (λ set. AllByRecursion P set.actions) P (λ set. at_position set.actions s.taken)
+        (set_at g key) (λ set all. each_at P set.actions s.taken all) (h key refl)
 
 module _ (g : Game) (spellable : IsSpellable g) where
   actions_of : (key : SetKey)
       → Each (λ set. AllByRecursion IsSpellableAction set.actions) (set_at g key)
   actions_of key =
-      let P = λ (s : Described SetKey InformationSet).
-      AllByRecursion IsSpellableAction s.description.actions in
-      each_mapped (λ set. AllByRecursion IsSpellableAction set.actions) (λ s. s.description)
-      (find (λ e. same_set e.key key) g.sets)
-      (each_weaker _ P (find (λ e. same_set e.key key) g.sets) (λ s h. h.0.actions)
-      (each_found IsSpellableSet (λ e. same_set e.key key) g.sets spellable.sets))
+      each_described IsSpellableSet (λ set. AllByRecursion IsSpellableAction set.actions)
+      (λ s. s.description) (λ s. same_set s.key key) g.sets (λ s h _. h.actions) spellable.sets
 
   pub payoffs_of : (number : ℕ)
       → Each (λ outcome. AllByRecursion IsFraction outcome.payoffs) (outcome_at g number)
   payoffs_of number =
-      let test = λ (e : Described ℕ Outcome). e.key == number in
-      each_mapped (λ outcome. AllByRecursion IsFraction outcome.payoffs) (λ o. o.description)
-      (find test g.outcomes)
-      (each_weaker _ (λ o. AllByRecursion IsFraction o.description.payoffs) (find test g.outcomes)
-      (λ o h. h.0.payoffs) (each_found IsSpellableOutcome test g.outcomes spellable.outcomes))
+      each_described IsSpellableOutcome (λ outcome. AllByRecursion IsFraction outcome.payoffs)
+      (λ o. o.description) (λ o. o.key == number) g.outcomes (λ o h _. h.payoffs) spellable.outcomes
 
   pub probability_fraction : (s : Step) → IsFraction (probability g s)
   probability_fraction s =
-      let taken = each_then (λ _. ⊤) IsSpellableAction (λ key. option_and_then (λ set. at_position
-      set.actions s.taken) (set_at g key)) s.node.set (λ key _. each_then (λ set. AllByRecursion
-      IsSpellableAction set.actions) IsSpellableAction (λ set. at_position set.actions s.taken)
-      (set_at g key) (λ set h. each_at IsSpellableAction set.actions s.taken h) (actions_of key))
-      (each_any s.node.set) in
+      let taken = each_action g IsSpellableAction s (λ key _. actions_of key) in
       grind (
         arith,
         each_or IsFraction (option_and_then (λ a. a.probability) (action_at g s))

@@ -123,8 +123,7 @@ module _ (choices : SetKey → ℕ) where
   alike_child n k below above p q ep eq (inr part) = inr (grind (arith, ep, eq, part_behind))
 
   module _ (g : Game) where
-    has_set : (o : Option SetKey) (n : ℕ) → 0 < n
-        → MatchOption o (n ≡ 0)
+    has_set : (o : Option SetKey) (n : ℕ) → 0 < n → MatchOption o (n ≡ 0)
         (λ key. option_map (λ set. length set.actions) (set_at g key) ≡ Some n)
         → (key : SetKey) × (o ≡ Some key)
     has_set o n above e = grind arith

@@ -1,16 +1,15 @@
 -- The probabilities of an information set: those of chance add up to one, and a player's actions
 -- have none.
 use Rattle.gf_form.proofs.Common.{◌≡◌, ℕ, zero, suc, ◌+◌, ◌<◌, false, List, [], ◌∷◌, Option, Some}
-use Rattle.gf_form.proofs.Common.{None, length, map, get_or, drop, refl, ap, subst, ◌∙◌, arith}
-use Rattle.gf_form.proofs.Common.{◌==◌, option_and_then, unwrap_or, slice_get, AllByRecursion}
-use Rattle.gf_form.proofs.Common.{length-map, Ratio, IsEqual, zero_ratio, one_ratio, plus, total}
-use Rattle.gf_form.proofs.Common.{plus_zero, plus_assoc, IsAbove, plus_above, ◌then◌, plus_left}
-use Rattle.gf_form.proofs.Common.{at_position, numbers_from, Action, SetKey, InformationSet}
-use Rattle.gf_form.proofs.Common.{AddToOne, Node, Game, IsGame, set_at, IsSpellable, action_at}
-use Rattle.gf_form.proofs.Common.{probability}
+use Rattle.gf_form.proofs.Common.{None, length, map, get_or, drop, refl, ap, subst, arith, ◌==◌}
+use Rattle.gf_form.proofs.Common.{option_and_then, unwrap_or, slice_get, AllByRecursion, length-map}
+use Rattle.gf_form.proofs.Common.{Ratio, IsEqual, zero_ratio, one_ratio, plus, total, plus_zero}
+use Rattle.gf_form.proofs.Common.{plus_assoc, IsAbove, plus_above, ◌then◌, plus_left, numbers_from}
+use Rattle.gf_form.proofs.Common.{Action, SetKey, InformationSet, AddToOne, Node, Game, IsGame}
+use Rattle.gf_form.proofs.Common.{set_at, IsSpellable, action_at, probability}
 use Rattle.gf_tree.specs.Description.{AreActions}
-use Rattle.gf_form.proofs.lemmas.values.Denominators.{probability_above}
-use Rattle.gf_form.proofs.lemmas.strategies.Lookups.{Each, each_at, next_position}
+use Rattle.gf_form.proofs.lemmas.values.Denominators.{each_action, probability_above}
+use Rattle.gf_form.proofs.lemmas.strategies.Lookups.{Each, in_turn, next_position}
 use Rattle.gf_form.proofs.lemmas.strategies.KnownSets.{each_set}
 
 total_list : (ps : List Ratio) → AllByRecursion IsAbove ps → IsAbove (total ps)
@@ -32,18 +31,6 @@ adds_to_one sum (p ∷ ps) above h adds =
             crosswise = adds.1.1.2;
           }) then plus_assoc sum p (total ps) above h.0 others,
     )
-
--- numbers in turn give the elements of a list in turn
-in_turn : (f : ℕ → Ratio) (k : ℕ) (ps : List Ratio)
-    → ((i : ℕ) → i < length ps → f (k + i) ≡ get_or ps i one_ratio)
-    → map f (numbers_from k (length ps)) ≡ ps
-in_turn f k [] each = refl
-in_turn f k (p ∷ ps) each =
-    let start : k ≡ k + 0 = omega arith in
-    let here : f k ≡ p = ap f start ∙ each 0 (omega arith) in
-    let others = in_turn f (k + 1) ps (λ i h. let next : k + 1 + i ≡ k + suc i = omega arith in
-    ap f next ∙ each (suc i) (omega arith)) in
-    λ i. here i ∷ others i
 
 each_probability : (actions : List Action) (ps : List Ratio) (i : ℕ)
     → map (λ a. a.probability) actions ≡ map Some ps
@@ -89,7 +76,8 @@ module _ (g : Game) (game : IsGame g) (spellable : IsSpellable g) where
       let at_set : action_at g (record { node = n; taken = 1 + i }) ≡ slice_get set.actions i =
       cc (at, is, next_position set.actions i) in
       cc (at_set, each_probability set.actions ps i lottery.1) in
-      let list : map f (numbers_from 1 (length ps)) ≡ ps = in_turn f 1 ps (λ i _. taken i) in
+      let list : map f (numbers_from 1 (length ps)) ≡ ps =
+      in_turn f 1 ps one_ratio (λ i _. taken i) in
       let above = subst (AllByRecursion IsAbove) list (all_above f (λ k. probability_above g
       spellable (record { node = n; taken = k })) (numbers_from 1 (length ps))) in
       let all : ps ≡ map f (numbers_from 1 (length set.actions)) = cc (list, size) in
@@ -100,18 +88,16 @@ module _ (g : Game) (game : IsGame g) (spellable : IsSpellable g) where
   -- a player's move takes no part in the probability of a play
   pub no_chance : (n : Node) (key : SetKey) (k : ℕ) → n.set ≡ Some key → (key.player == 0) ≡ false
       → probability g (record { node = n; taken = k }) ≡ one_ratio
-  no_chance n key k at personal = cc (at, by_set (set_at g key) (sets_have key))
+  no_chance n key k at personal =
+      let has = each_action g (λ a. a.probability ≡ None) (record { node = n; taken = k })
+      (λ other is. let same : key ≡ other = cc in personal_set other (rw same at personal)) in
+      by_action (action_at g (record { node = n; taken = k })) has
     where
       by_action : (o : Option Action) → Each (λ a. a.probability ≡ None) o
           → unwrap_or (option_and_then (λ a. a.probability) o) one_ratio ≡ one_ratio
       by_action None h = refl
       by_action (Some a) h = ap (λ o. unwrap_or o one_ratio) h
 
-      by_set : (o : Option InformationSet)
-          → Each (λ set. AreActions key.player set.actions × (0 < length set.actions)) o
-          → unwrap_or (option_and_then (λ a. a.probability)
-          (option_and_then (λ set. at_position set.actions k) o)) one_ratio
-          ≡ one_ratio
-      by_set None h = refl
-      by_set (Some set) h =
-          by_action (at_position set.actions k) (grind (arith, each_at))
+      personal_set : (key : SetKey) → (key.player == 0) ≡ false
+          → Each (λ set. AllByRecursion (λ a. a.probability ≡ None) set.actions) (set_at g key)
+      personal_set key personal = grind (arith, sets_have key)

@@ -1,27 +1,24 @@
 -- The rows of payoffs that are kept, each at its position.
-use Rattle.gf_form.proofs.Common.{◌≡◌, ℕ, zero, suc, ◌+◌, ◌-◌, ◌<◌, ◌≤◌, true, List, [], ◌∷◌, ◌++◌}
-use Rattle.gf_form.proofs.Common.{length, map, get_or, slice_get, inl, inr, subst, Some, sym, arith}
-use Rattle.gf_form.proofs.Common.{◌==◌, unwrap_or, AllByRecursion, cases_lt, length-append}
-use Rattle.gf_form.proofs.Common.{length-map, slice_get-get_or, slice_get-map, slice_get_past}
+use Rattle.gf_form.proofs.Common.{◌≡◌, ℕ, zero, suc, ◌+◌, ◌-◌, ◌<◌, ◌≤◌, List, [], ◌∷◌, ◌++◌}
+use Rattle.gf_form.proofs.Common.{length, map, get_or, slice_get, inl, inr, subst, Some, arith}
+use Rattle.gf_form.proofs.Common.{◌==◌, AllByRecursion, cases_lt, length-append, length-map}
+use Rattle.gf_form.proofs.Common.{slice_get-get_or, slice_get-map, slice_get_past}
 use Rattle.gf_form.proofs.Common.{unwrap_or-slice_get, Ratio, IsFraction, zero_ratio, at_position}
 use Rattle.gf_form.proofs.Common.{Outcome, Described, outcome_numbers, Game, IsGame, outcome_at}
 use Rattle.gf_form.proofs.Common.{IsSpellable, at_index, paid, ArePaid, IsRow, at_place, row_at}
 use Rattle.std.proofs.Common.{Bor}
-use Rattle.std.specs.List.{find}
 use Rattle.gf_tree.specs.Description.{IsOutcome}
 use Rattle.gf_form.proofs.lemmas.values.Denominators.{payoffs_of}
-use Rattle.gf_form.proofs.lemmas.strategies.Lookups.{Each, each_found, each_mapped, each_weaker}
+use Rattle.gf_form.proofs.lemmas.strategies.Lookups.{Each, each_described}
 
 pub row_there : (rows held : List (Bor (List Ratio))) (position : ℕ) (row : Bor (List Ratio))
     → held ≡ rows → ¬ (position ≡ 0) → position - 1 < length held
-    → row ≡ get_or held (position - 1) row
-    → row.now ≡ row_at (map (λ row. row.now) rows) position
+    → row ≡ get_or held (position - 1) row → row.now ≡ row_at (map (λ row. row.now) rows) position
 row_there rows held position row same some within is =
     grind (arith, same, at_index, slice_get-map, slice_get-get_or, is)
 
-pub no_row : (rows held : List (Bor (List Ratio))) (position : ℕ)
-    → held ≡ rows → ¬ (position ≡ 0) → length held ≤ position - 1
-    → [] ≡ row_at (map (λ row. row.now) rows) position
+pub no_row : (rows held : List (Bor (List Ratio))) (position : ℕ) → held ≡ rows → ¬ (position ≡ 0)
+    → length held ≤ position - 1 → [] ≡ row_at (map (λ row. row.now) rows) position
 no_row rows held position same some past =
     grind (arith, at_index, slice_get_past, length-map, length-append)
 
@@ -29,8 +26,7 @@ no_row rows held position same some past =
 
 pub paid_some : (g : Game) (position number : ℕ) (outcome : Outcome) (k : ℕ)
     → at_position (outcome_numbers g) position ≡ Some number
-    → outcome_at g number ≡ Some outcome
-    → at_place outcome.payoffs k ≡ paid g (suc k) position
+    → outcome_at g number ≡ Some outcome → at_place outcome.payoffs k ≡ paid g (suc k) position
 paid_some g position number outcome k e f = cc (unwrap_or-slice_get outcome.payoffs k zero_ratio)
 
 pub row_of_outcome : (g : Game) → IsGame g → IsSpellable g → (number : ℕ) (outcome : Outcome)
@@ -43,15 +39,10 @@ row_of_outcome g game spellable number outcome e = record {
   where
     counted : Each (λ outcome. length outcome.payoffs ≡ length g.players) (outcome_at g number)
     counted =
-        each_mapped (λ outcome. length outcome.payoffs ≡ length g.players) (λ o. o.description)
-        (find (λ (o : Described ℕ Outcome). o.key == number) g.outcomes)
-        (each_weaker (λ (o : Described ℕ Outcome). IsOutcome (length g.players) o.key o.description
-        × ((o.key == number) ≡ true)) (λ o. length o.description.payoffs ≡ length g.players)
-        (find (λ (o : Described ℕ Outcome). o.key == number) g.outcomes)
-        (λ o h. h.0.one_payoff_each)
-        (each_found (λ (o : Described ℕ Outcome).
-        IsOutcome (length g.players) o.key o.description) (λ o. o.key == number) g.outcomes
-        game.each_outcome))
+        each_described (λ (o : Described ℕ Outcome).
+        IsOutcome (length g.players) o.key o.description)
+        (λ outcome. length outcome.payoffs ≡ length g.players) (λ o. o.description)
+        (λ o. o.key == number) g.outcomes (λ o h _. h.one_payoff_each) game.each_outcome
 
 -- ---- rows that are kept one after another
 
@@ -93,16 +84,9 @@ one_row g rows row count are is = record {
     by zero h = are.each 0 (omega arith)
     by (suc k) h = elim (cases_lt k count) [
       | inl less ↦
-          let counted = are.counted in
-          subst (λ o. IsPaidAt g (unwrap_or o []) (suc k))
-          (sym (snoc_before rows row k (omega (arith, counted, less))))
-          (are.each (suc k) (omega (arith, less)))
-      | inr more ↦
-          let counted = are.counted in
-          let last : k ≡ length rows = omega (arith, counted, more, h) in
-          let next : count + 1 ≡ suc k = omega (arith, counted, last) in
-          subst (λ o. IsPaidAt g (unwrap_or o []) (suc k)) (sym (snoc_last rows row k last))
-          (subst (IsPaidAt g row) next is)
+          let kept = are.each (suc k) (omega (arith, less)) in
+          let counted = are.counted in grind (arith, snoc_before rows row k)
+      | inr more ↦ let counted = are.counted in grind (arith, snoc_last rows row k)
     ]
 
 pub all_rows : (g : Game) (rows : List (List Ratio)) → ArePaidTo g rows (length (outcome_numbers g))

@@ -14,8 +14,7 @@ use Rattle.std.proofs.lemmas.Iterator.Adapters.{position_from-zero}
 
 -- ---- the payoffs of an outcome, by its position
 
-place_is : (n : ℕ) (ns : List ℕ) (start place : ℕ)
-    → position_from (nat_eq n) start ns ≡ Some place
+place_is : (n : ℕ) (ns : List ℕ) (start place : ℕ) → position_from (nat_eq n) start ns ≡ Some place
     → (k : ℕ) × (start + k ≡ place) × (slice_get ns k ≡ Some n)
 place_is n [] start place h = absurd cc
 place_is n (m ∷ ns) start place h = by (nat_eq n m) refl (place_is n ns (start + 1) place) h

@@ -53,8 +53,7 @@ pub place_is : (row : List Ratio) (i : ℕ) (x : Ratio) → i < length row → x
     → at_place row i ≡ x
 place_is row i x h e = get_or_default row i zero_ratio x h ∙ sym e
 
-pub read_again : (row : List Ratio) (i : ℕ)
-    → at_place row i ≡ get_or row i (at_place row i)
+pub read_again : (row : List Ratio) (i : ℕ) → at_place row i ≡ get_or row i (at_place row i)
 read_again (x ∷ row) (suc i) = read_again row i
 read_again row i = grind arith
 
@@ -92,8 +91,7 @@ module _ (chance : Ratio) (sum row : List Ratio) (i : ℕ) (s x : Ratio)
       cc (there, product_of-none chance x read.chance_fraction x_fraction none)
 
   multiplied : (p : Ratio) → IsFraction p × IsProduct p chance x
-      → (old : Ratio) → plus_of (Some old) (times_of chance (Some (at_place row i)))
-      ≡ sum_of old p
+      → (old : Ratio) → plus_of (Some old) (times_of chance (Some (at_place row i))) ≡ sum_of old p
   multiplied p h old =
       cc (there, product_of-some chance x read.chance_fraction x_fraction p h.0 h.1)
 
@@ -101,8 +99,7 @@ module _ (chance : Ratio) (sum row : List Ratio) (i : ℕ) (s x : Ratio)
   here = place_is sum i s inside read.sum_is
 
   pub not_weighed : (p old : Ratio) → IsFraction p × IsProduct p chance x → at_place sum i ≡ old
-      → ¬ (SumFits s p)
-      → plus_of (Some old) (times_of chance (Some (at_place row i))) ≡ None
+      → ¬ (SumFits s p) → plus_of (Some old) (times_of chance (Some (at_place row i))) ≡ None
   not_weighed p old h same none =
       cc (multiplied p h old, same, here, sum_of-none s p s_fraction h.0 none)
 
@@ -127,11 +124,10 @@ pub empty_row : (row : List Ratio) → true ≡ (length row == 0) → (k : ℕ)
     → at_place row k ≡ zero_ratio
 empty_row row h k = grind (arith, eqb-true, get_or_past)
 
-pub nothing_weighed : (chance : Ratio) (sum row : List Ratio) → IsFraction chance
-    → AllByRecursion IsFraction sum → AllByRecursion IsFraction row → (k : ℕ)
-    → (chance.num ≡ pos 0) ⊎ (at_place row k ≡ zero_ratio)
-    → plus_of (Some (at_place sum k)) (times_of chance (Some (at_place row k)))
-    ≡ Some (at_place sum k)
+pub nothing_weighed : (chance : Ratio) (sum row : List Ratio)
+    → IsFraction chance → AllByRecursion IsFraction sum → AllByRecursion IsFraction row → (k : ℕ)
+    → (chance.num ≡ pos 0) ⊎ (at_place row k ≡ zero_ratio) → plus_of (Some (at_place sum k))
+    (times_of chance (Some (at_place row k))) ≡ Some (at_place sum k)
 nothing_weighed chance sum row fc fs fr k h =
     grind (arith, plus_zero, fraction_at, none_times, times_zero)
 

@@ -52,25 +52,22 @@ pub weighs : (chance : Ratio) (k : ℕ) (all rest below : List (List Ratio)) (ro
     → WeighsTo chance (column k all) (value ∷ column k below)
 weighs chance k all rest below row sum value e f h = grind (arith, column_last, ap)
 
-pub weighs_to : (chance : Ratio) (k : ℕ) (all rest below new : List (List Ratio))
-    (row sum total : List Ratio) → all ≡ rest ++ row ∷ [] → rest ≡ below ++ sum ∷ []
-    → new ≡ below ++ total ∷ []
+pub weighs_to : (chance : Ratio)
+    (k : ℕ) (all rest below new : List (List Ratio)) (row sum total : List Ratio)
+    → all ≡ rest ++ row ∷ [] → rest ≡ below ++ sum ∷ [] → new ≡ below ++ total ∷ []
     → plus_of (Some (at_place sum k)) (times_of chance (Some (at_place row k)))
-    ≡ Some (at_place total k)
-    → WeighsTo chance (column k all) (column k new)
+    ≡ Some (at_place total k) → WeighsTo chance (column k all) (column k new)
 weighs_to chance k all rest below new row sum total e f n h = grind (arith, column_last, weighs)
 
 -- payoffs are added to the row on top
 pub pays : (payoff : Ratio) (k : ℕ) (all below : List (List Ratio)) (row : List Ratio)
-    (value : Option Ratio) → all ≡ below ++ row ∷ []
-    → plus_of (Some payoff) (Some (at_place row k)) ≡ value
-    → PaysTo payoff (column k all) (value ∷ column k below)
+    (value : Option Ratio) → all ≡ below ++ row ∷ [] → plus_of (Some payoff) (Some (at_place row k))
+    ≡ value → PaysTo payoff (column k all) (value ∷ column k below)
 pays payoff k all below row value e h = grind (arith, column_last k below row [])
 
 pub pays_to : (payoff : Ratio) (k : ℕ) (all below new : List (List Ratio)) (row total : List Ratio)
-    → all ≡ below ++ row ∷ [] → new ≡ below ++ total ∷ []
-    → plus_of (Some payoff) (Some (at_place row k)) ≡ Some (at_place total k)
-    → PaysTo payoff (column k all) (column k new)
+    → all ≡ below ++ row ∷ [] → new ≡ below ++ total ∷ [] → plus_of (Some payoff)
+    (Some (at_place row k)) ≡ Some (at_place total k) → PaysTo payoff (column k all) (column k new)
 pays_to payoff k all below new row total e n h = grind (arith, column_last, pays)
 
 -- ---- as many values as rows
@@ -126,9 +123,8 @@ pub push_runs : (g : Game) (k position : ℕ) (ops : List Op) (old new : List (L
     → run g (suc k) (Push position ∷ ops) (column k old) ≡ run g (suc k) ops (column k new)
 push_runs g k position ops old new row e n = cc (e, n, column_last k old row [])
 
-pub begin_runs : (g : Game) (k : ℕ) (ops : List Op) (old new : List (List Ratio))
-    → new ≡ old ++ [] ∷ []
-    → run g (suc k) (Begin ∷ ops) (column k old) ≡ run g (suc k) ops (column k new)
+pub begin_runs : (g : Game) (k : ℕ) (ops : List Op) (old new : List (List Ratio)) → new
+    ≡ old ++ [] ∷ [] → run g (suc k) (Begin ∷ ops) (column k old) ≡ run g (suc k) ops (column k new)
 begin_runs g k ops old new n = cc (empty_at k, n, column_last k old [] [])
 
 -- ---- an answer that is passed on

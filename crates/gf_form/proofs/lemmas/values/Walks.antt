@@ -80,8 +80,7 @@ choice_is g all player position key game his at =
 
 pub chance_is : (g : Game) (n : Node) (actions : List Action) (k : ℕ)
     → MatchOption n.set (actions ≡ [])
-    (λ key. option_map (λ set. set.actions) (set_at g key) ≡ Some actions)
-    → chances_at g n k
+    (λ key. option_map (λ set. set.actions) (set_at g key) ≡ Some actions) → chances_at g n k
     ≡ unwrap_or (option_and_then (λ a. a.probability) (at_position actions k)) one_ratio
 chance_is g n actions k h = grind arith
 
@@ -104,19 +103,17 @@ pub no_strategy : (choices : List (Vec ℕ Global)) (player position : ℕ) → 
 no_strategy choices player position some past =
     grind (arith, at_index, slice_get_past, append_assoc, length-map, length-append, eq-eqb)
 
-pub action_there : (choices : List (Vec ℕ Global)) (player position : ℕ) (own : Vec ℕ Global)
-    (items : List ℕ) (action : ℕ) → ¬ (player ≡ 0) → ¬ (position ≡ 0)
+pub action_there : (choices : List (Vec ℕ Global)) (player position : ℕ)
+    (own : Vec ℕ Global) (items : List ℕ) (action : ℕ) → ¬ (player ≡ 0) → ¬ (position ≡ 0)
     → player - 1 < length choices → own ≡ get_or choices (player - 1) own → items ≡ own.items
-    → position - 1 < length items → action ≡ get_or items (position - 1) action
-    → action
+    → position - 1 < length items → action ≡ get_or items (position - 1) action → action
     ≡ unwrap_or (at_position (strategy_at (map (λ own. own.items) choices) player) position) 0
 action_there choices player position own items action some at within is are inside here =
     grind (arith, are, is, at_index, slice_get-map, slice_get-get_or, here)
 
 pub nothing_there : (choices : List (Vec ℕ Global)) (player position : ℕ) (own : Vec ℕ Global)
-    (items : List ℕ) → ¬ (player ≡ 0) → ¬ (position ≡ 0)
-    → player - 1 < length choices → own ≡ get_or choices (player - 1) own → items ≡ own.items
-    → length items ≤ position - 1
+    (items : List ℕ) → ¬ (player ≡ 0) → ¬ (position ≡ 0) → player - 1 < length choices
+    → own ≡ get_or choices (player - 1) own → items ≡ own.items → length items ≤ position - 1
     → unwrap_or (at_position (strategy_at (map (λ own. own.items) choices) player) position) 0 ≡ 0
 nothing_there choices player position own items some at within is are past =
     grind (arith, are, is, at_index, slice_get-map, slice_get-get_or, slice_get_past)
@@ -129,10 +126,9 @@ pub followed : (all : List (List ℕ)) (g h : Game) (o : Option (Tree Node)) (t 
     ≡ code h (choices_by h all) t ++ (Pay own ∷ behind)
 followed all g h o t own behind e f = rw (e, f) (simp append_assoc)
 
-pub not_followed : (all : List (List ℕ)) (g : Game) (o : Option (Tree Node)) (own : ℕ)
-    (behind : List Op) → o ≡ None
-    → (option_code g (choices_by g all) o ++ Pay own ∷ []) ++ behind
-    ≡ Nothing ∷ (Pay own ∷ behind)
+pub not_followed : (all : List (List ℕ))
+    (g : Game) (o : Option (Tree Node)) (own : ℕ) (behind : List Op) → o ≡ None
+    → (option_code g (choices_by g all) o ++ Pay own ∷ []) ++ behind ≡ Nothing ∷ (Pay own ∷ behind)
 not_followed all g o own behind e = rw e refl
 
 -- ---- sizes
@@ -143,9 +139,8 @@ listed_smaller none k t h = absurd cc
 listed_smaller (more u ts) zero t h = grind (arith, length-append (flatten u) (flatten_all ts))
 listed_smaller (more u ts) (suc k) t h = grind (arith, length-append, listed_smaller ts k t h)
 
-pub child_smaller : (t child : Tree Node) (position : ℕ)
-    → at_position (child_trees t) position ≡ Some child
-    → length (flatten child) < length (flatten t)
+pub child_smaller : (t child : Tree Node) (position : ℕ) → at_position (child_trees t) position
+    ≡ Some child → length (flatten child) < length (flatten t)
 child_smaller (branch n ts) child position h = grind (arith, listed_smaller)
 
 -- ---- what the steps of the code need

@@ -83,12 +83,33 @@ module _ (g : Game) (game : IsGame g) (spellable : IsSpellable g) (choices : Set
       let set = known (set_at g key) (count ts) children in
       subst (λ m. 0 < m) set.2 (actions_at g game spellable key set.0 set.1).1
 
-  pub chance_whole : (n : Node) (ts : Trees Node) (key : SetKey)
-      → n.set ≡ Some key → (key.player == 0) ≡ true
-      → option_map (λ set. length set.actions) (set_at g key) ≡ Some (count ts)
-      → IsChanceOf n 1 ts → IsWhole (followed choices n 1 ts)
+  pub chance_whole : (n : Node) (ts : Trees Node) (key : SetKey) → n.set ≡ Some key
+      → (key.player == 0) ≡ true → option_map (λ set. length set.actions) (set_at g key)
+      ≡ Some (count ts) → IsChanceOf n 1 ts → IsWhole (followed choices n 1 ts)
   chance_whole n ts key at chance children h =
       h then back (grind (arith, chances_add))
+
+  -- a node without a set, and one with a set
+  pub node_by : (P : List Play → Type 0) (n : Node) (ts : Trees Node)
+      → HasChildren g (record { node = n; children = count ts })
+      → (n.set ≡ None → P (followed_in choices (branch n none)))
+      → ((key : SetKey) → n.set ≡ Some key
+      → option_map (λ set. length set.actions) (set_at g key) ≡ Some (count ts)
+      → P (followed choices n 1 ts))
+      → P (followed_in choices (branch n ts))
+  node_by P n ts children leaf move = by_set n.set refl children
+    where
+      by_count : (ts : Trees Node) → count ts ≡ 0 → n.set ≡ None
+          → P (followed_in choices (branch n ts))
+      by_count none h at = leaf at
+      by_count (more t ts) h at = absurd (omega arith)
+
+      by_set : (o : Option SetKey) → n.set ≡ o → MatchOption o (count ts ≡ 0)
+          (λ key. option_map (λ set. length set.actions) (set_at g key) ≡ Some (count ts))
+          → P (followed_in choices (branch n ts))
+      by_set None at c = by_count ts c at
+      by_set (Some key) at c =
+          subst P (sym (in_children choices n ts (some_child n ts key c))) (move key at c)
 
   -- ---- if each set has a choice of one of its actions
 
@@ -98,26 +119,15 @@ module _ (g : Game) (game : IsGame g) (spellable : IsSpellable g) (choices : Set
       → ((key : SetKey) → n.set ≡ Some key → (key.player == 0) ≡ false
       → 1 ≤ choices key → choices key ≤ count ts → IsWhole (followed choices n 1 ts))
       → IsWhole (followed_in choices (branch n ts))
-  node_whole n ts actions children chances child = by_set n.set refl children
+  node_whole n ts actions children chances child =
+      node_by IsWhole n ts children (λ _. leaf_whole n)
+      (λ key at. by_kind key (key.player == 0) at refl)
     where
-      by_count : (ts : Trees Node) → count ts ≡ 0 → IsWhole (followed_in choices (branch n ts))
-      by_count none h = leaf_whole n
-      by_count (more t ts) h = absurd (omega arith)
-
       by_kind : (key : SetKey) (b : Bool) → n.set ≡ Some key → (key.player == 0) ≡ b
           → option_map (λ set. length set.actions) (set_at g key) ≡ Some (count ts)
           → IsWhole (followed choices n 1 ts)
       by_kind key true at is c = grind (arith, chance_whole)
       by_kind key false at is c = grind arith
-
-      by_set : (o : Option SetKey) → n.set ≡ o
-          → MatchOption o (count ts ≡ 0)
-          (λ key. option_map (λ set. length set.actions) (set_at g key) ≡ Some (count ts))
-          → IsWhole (followed_in choices (branch n ts))
-      by_set None at c = by_count ts c
-      by_set (Some key) at c =
-          subst IsWhole (sym (in_children choices n ts (some_child n ts key c)))
-          (by_kind key (key.player == 0) at refl c)
 
   mutual
     tree_whole : HasActions g choices → (t : Tree Node) → AllByRecursion (HasChildren g) (flatten t)
@@ -164,9 +174,8 @@ module _ (g : Game) (game : IsGame g) (spellable : IsSpellable g) (choices : Set
   first_of [] h = let none = same_size 0 1 h.crosswise in absurd (omega arith)
   first_of (p ∷ ps) h = (p, inl refl)
 
-  pub some_play_in : HasActions g choices → (t : Tree Node)
-      → AllByRecursion (HasChildren g) (flatten t)
-      → (play : Play) × Has (plays t) play × (follows choices play ≡ true)
+  pub some_play_in : HasActions g choices → (t : Tree Node) → AllByRecursion (HasChildren g)
+      (flatten t) → (play : Play) × Has (plays t) play × (follows choices play ≡ true)
   some_play_in actions t children = grind (arith, first_of, followed_in, tree_whole, of_filter)
 
   pub some_play : HasActions g choices
