@@ -3,5 +3,4 @@ pub mod Passed
 pub mod Products
 pub mod Stays
 pub mod Tokens
-pub mod Walks
 pub mod Worked

@@ -8,3 +8,5 @@ pub mod ReaderSteps
 pub mod Rows
 pub mod Sentence
 pub mod Strategies
+pub mod Groups
+pub mod Walks

@@ -1,14 +1,16 @@
 -- The limit place is where all files that begin with the tokens through it are above the limit.
 use Rattle.gf_nfg.proofs.Common.{◌≡◌, ℕ, ◌<◌, List, [], ◌∷◌, ◌++◌, length, map, sym, ap, subst, ◌∙◌}
-use Rattle.gf_nfg.proofs.Common.{append_assoc, arith, inl, inr, codes, ◌↔◌, length-append}
-use Rattle.gf_nfg.proofs.Common.{length-map, Token, Opening, Closing, Text, Bare, braced, Span}
-use Rattle.gf_nfg.proofs.Common.{profile_limit, Table, Sentence, tokens_of, StaysWithinLimit}
-use Rattle.gf_nfg.proofs.Common.{IsLimitByFiles, GivesCounts, IsLimitPlace}
-use Rattle.gf_nfg.proofs.lemmas.limit.Products.{Strategies, PassesAtLast, by_counts}
-use Rattle.gf_nfg.proofs.lemmas.limit.Products.{entries_counted, past}
-use Rattle.gf_nfg.proofs.lemmas.limit.Walks.{headed, headed_on}
-use Rattle.gf_nfg.proofs.lemmas.limit.Tokens.{last_of, StandsIn, parted, AreGroups, each_parts}
-use Rattle.gf_nfg.proofs.lemmas.limit.Tokens.{IsLimitToken, limit_by_last}
+use Rattle.gf_nfg.proofs.Common.{append_assoc, arith, inl, inr, codes, ◌↔◌, all_images, all_parts}
+use Rattle.gf_nfg.proofs.Common.{drop, length-map, length-take, take, take-append-drop, take-map}
+use Rattle.gf_nfg.proofs.Common.{Token, Opening, Closing, Bare, braced, Span, profile_limit, Table}
+use Rattle.gf_nfg.proofs.Common.{Sentence, tokens_of, StaysWithinLimit, IsLimitByFiles, GivesCounts}
+use Rattle.gf_nfg.proofs.Common.{IsLimitPlace}
+use Rattle.gf_nfg.proofs.lemmas.limit.Products.{PassesAtLast, entries_counted, past}
+use Rattle.gf_nfg.proofs.lemmas.runs.Groups.{each_parts}
+use Rattle.gf_nfg.proofs.lemmas.runs.Heading.{heading_line}
+use Rattle.gf_nfg.proofs.lemmas.runs.Strategies.{Strategies}
+use Rattle.gf_nfg.proofs.lemmas.limit.Tokens.{last_of, StandsIn, parted, AreGroups, IsLimitToken}
+use Rattle.gf_nfg.proofs.lemmas.limit.Tokens.{limit_by_last}
 
 -- ---- a file above the limit has counts that pass it
 
@@ -27,7 +29,7 @@ group_parts : (xs ys : Strategies) (ts : List Token) → AreGroups ts (xs ++ ys)
 group_parts xs ys ts h = grind (arith, each_parts)
 
 braced_parts : (front rest others : List Token)
-    → braced (front ++ rest) ++ others ≡ Opening ∷ (front ++ (rest ++ Closing ∷ others))
+    → braced (front ++ rest) ++ others ≡ (Opening ∷ front) ++ (rest ++ Closing ∷ others)
 braced_parts front rest others = grind (arith, append_assoc)
 
 found : (tokens : List Token) (t : Table) → Sentence tokens t → profile_limit < length t.entries
@@ -35,34 +37,47 @@ found : (tokens : List Token) (t : Table) → Sentence tokens t → profile_limi
 found tokens t s over =
     let table = s.is_table in
     let size = entries_counted t table in
-    let c = past t.strategies table.some_strategy (omega (arith, size, over)) in
-    let first = c.front ++ c.labels ∷ [] in
+    let ns = map length t.strategies in
+    let c = past ns (omega (arith, size, over)) in
+    let first = take c.0 t.strategies in
     let inner = s.is_strategies.0 in
-    let i = group_parts first c.rest inner (subst (AreGroups inner) c.parts s.is_strategies.2) in
+    let i = group_parts first (drop c.0 t.strategies) inner (subst (AreGroups inner)
+    (sym (take-append-drop c.0 t.strategies)) s.is_strategies.2) in
     let others = s.comment ++ s.body in
     let behind = i.1 ++ Closing ∷ others in
-    let through = headed s.letter t.title t.players (Opening ∷ i.0) in
-    let strategies_are = s.is_strategies.1 ∙ ap braced i.2 in
-    let parts : s.strategies ++ others ≡ (Opening ∷ i.0) ++ behind =
-    cc (braced_parts i.0 i.1 others) in
+    let line = heading_line s.letter t.title t.players in
+    let through = line ++ Opening ∷ i.0 in
     let whole : tokens ≡ through ++ behind =
-    s.parts ∙ ap (headed s.letter t.title t.players) parts
-    ∙ sym (headed_on s.letter t.title t.players (Opening ∷ i.0) behind) in
-    let l = last_of (Bare (codes "NFG"))
-    (Bare (codes "1") ∷ Bare s.letter ∷ Text t.title
-    ∷ (braced (map Text t.players) ++ Opening ∷ i.0)) in
-    let one_each = table.one_list_each in
-    let all : length t.strategies ≡ length (first ++ c.rest) = ap length c.parts in
-    let more = length-append first c.rest in
-    let same = length-map first length in
+    s.parts ∙ ap (λ ts. line ++ (ts ++ others)) (s.is_strategies.1 ∙ ap braced i.2)
+    ∙ ap (λ ts. line ++ ts) (braced_parts i.0 i.1 others)
+    ∙ sym (append_assoc line (Opening ∷ i.0) behind) in
+    let l = last_of (Bare (codes "NFG")) (drop 1 through) in
     record {
       front = l.front;
       last = l.last;
       rest = behind;
-      counts = map length first;
-      parts = cc (append_assoc l.front (l.last ∷ []) behind);
-      gives = grind (arith, by_counts);
-      passes = by_counts c.front c.labels c.passes;
+      counts = take c.0 ns;
+      parts = whole ∙ ap (λ ts. ts ++ behind) l.parts ∙ append_assoc l.front (l.last ∷ []) behind;
+      gives = record {
+        letter = s.letter;
+        title = t.title;
+        players = t.players;
+        inner = i.0;
+        strategies = first;
+        parts = sym l.parts;
+        is_letter = s.is_letter;
+        is_inner = i.3;
+        are_counts = take-map length c.0 t.strategies;
+        some_strategy = (all_parts (λ (n : ℕ). 0 < n) (take c.0 ns) (drop c.0 ns)
+            (rw (take-append-drop c.0 ns)
+            (all_images (λ (n : ℕ). 0 < n) length t.strategies table.some_strategy))).0;
+        first_players =
+            let one = table.one_list_each in
+            let same = length-map t.strategies length in
+            let short = length-take c.0 ns in
+            omega (arith, one, same, short);
+      };
+      passes = c.1;
     }
 
 -- ---- there is one such token

@@ -1,17 +1,20 @@
 -- If counts pass the limit, the profiles of all files with them pass it.
 use Rattle.gf_nfg.proofs.Common.{◌≡◌, ℕ, suc, ◌+◌, ◌-◌, ◌*◌, ◌<◌, ◌≤◌, List, [], ◌∷◌, ◌++◌, length}
 use Rattle.gf_nfg.proofs.Common.{map, Ok, refl, sym, ap, subst, ◌∙◌, append_assoc, arith, inl, inr}
-use Rattle.gf_nfg.proofs.Common.{codes, ◌⊎◌, append-nil, length-append, length-map, Token, Opening}
-use Rattle.gf_nfg.proofs.Common.{Each, all_parts, Position, profile_limit, product, IsCount}
-use Rattle.gf_nfg.proofs.Common.{IsLabelList, BeginsPastLimit, IsBareOrClosing, StaysWithinLimit}
-use Rattle.gf_nfg.proofs.Common.{GivesCounts, State, step}
+use Rattle.gf_nfg.proofs.Common.{◌⊎◌, append-nil, length-append, length-map, Token, Opening}
+use Rattle.gf_nfg.proofs.Common.{AllByRecursion, Each, all_mapped, all_parts, profile_limit}
+use Rattle.gf_nfg.proofs.Common.{product, IsCount, IsLabelList, BeginsPastLimit, IsBareOrClosing}
+use Rattle.gf_nfg.proofs.Common.{StaysWithinLimit, Content, GivesCounts, State, at, step}
 use Rattle.gf_nfg.specs.inner.Position.{Position as p}
-use Rattle.gf_nfg.proofs.lemmas.places.Walk.{Leads, leads_on, leads_more, begins}
 use Rattle.gf_nfg.proofs.lemmas.limit.Stays.{makes_more, read_past, stays_within}
-use Rattle.gf_nfg.proofs.lemmas.limit.Products.{Strategies, PassesAtLast, PassesWith, by_strategies}
-use Rattle.gf_nfg.proofs.lemmas.limit.Walks.{headed, headed_on, opening_leads, AreTaken}
-use Rattle.gf_nfg.proofs.lemmas.limit.Walks.{TakesCounts, counts_taken, TakesLists, lists_taken}
-use Rattle.gf_nfg.proofs.lemmas.limit.Walks.{Reaches, groups_lead}
+use Rattle.gf_nfg.proofs.lemmas.limit.Products.{PassesAtLast, at_last}
+use Rattle.gf_nfg.proofs.lemmas.runs.Groups.{all_in, and_more, and_more_is, each_parts}
+use Rattle.gf_nfg.proofs.lemmas.runs.Heading.{heading, heading_leads, heading_line}
+use Rattle.gf_nfg.proofs.lemmas.runs.Sentence.{kind_of}
+use Rattle.gf_nfg.proofs.lemmas.runs.Strategies.{IsGroup, Kind, Strategies, all_groups, due_at}
+use Rattle.gf_nfg.proofs.lemmas.runs.Strategies.{groups_walk, grows_by, taken, with_group}
+use Rattle.gf_nfg.proofs.lemmas.runs.Walks.{Leads, leads_more, leads_on, walk}
+use Rattle.gf_nfg.proofs.lemmas.places.Walk.{begins}
 
 -- ---- lists by their last items
 
@@ -59,13 +62,13 @@ same_last xs x us u e = grind (arith, parted, none_behind)
 
 -- ---- a token at which the machine passes the limit
 
-record Passes (ts : List Token) (t : Token) : Type 0 where
-  mid : State
-  after : State
-  leads : Leads ts mid
-  steps : step mid t ≡ Ok after
-  within : mid.content.profiles ≤ profile_limit
-  over : profile_limit < after.content.profiles
+pub record Passes (ts : List Token) (t : Token) : Type 0 where
+  pub mid : State
+  pub after : State
+  pub leads : Leads ts mid
+  pub steps : step mid t ≡ Ok after
+  pub within : mid.content.profiles ≤ profile_limit
+  pub over : profile_limit < after.content.profiles
 
 -- what a limit place says of the token there and of those before it
 pub record IsLimitToken (ts : List Token) (t : Token) : Type 0 where
@@ -73,7 +76,7 @@ pub record IsLimitToken (ts : List Token) (t : Token) : Type 0 where
   pub past : BeginsPastLimit (ts ++ t ∷ [])
   pub first : StaysWithinLimit ts
 
-limit_token : (ts : List Token) (t : Token) → Passes ts t → IsLimitToken ts t
+pub limit_token : (ts : List Token) (t : Token) → Passes ts t → IsLimitToken ts t
 limit_token ts t h =
     let whole = ts ++ t ∷ [] in
     let leads = leads_more ts t h.mid h.after h.leads h.steps in
@@ -92,101 +95,86 @@ limit_token ts t h =
 
 -- ---- the last token of such counts is one
 
-pub each_parts : (P : List Token → List (List ℕ) → Type 0) (xs ys : Strategies) (ts : List Token)
-    → Each P ts (xs ++ ys)
-    → (front : List Token) × (rest : List Token) × (ts ≡ front ++ rest)
-    × Each P front xs × Each P rest ys
-each_parts P [] ys ts h = ([], ts, refl, refl, h)
-each_parts P (x ∷ xs) ys ts h =
-    grind (arith, append_assoc h.0 (each_parts P xs ys h.1 h.4).0 (each_parts P xs ys h.1 h.4).1)
-
 each_one : (P : List Token → List (List ℕ) → Type 0) (labels : List (List ℕ)) (ts : List Token)
     → Each P ts (labels ∷ []) → P ts labels
 each_one P labels ts h = grind (arith, append-nil)
 
--- after tokens from which groups of this kind are taken, one for each player
-passes_by : (P : List Token → List (List ℕ) → Type 0) (Takes : Position → Type 0) → AreTaken P Takes
-    → (before inner : List Token) (players : ℕ) (front : Strategies) (labels : List (List ℕ))
-    → Reaches Takes before players 1 → Each P inner (front ++ labels ∷ []) → PassesWith front labels
-    → length (front ++ labels ∷ []) ≤ players → (ts : List Token) (t : Token)
-    → ts ++ t ∷ [] ≡ before ++ inner → Passes ts t
-passes_by P Takes taken before inner players front labels r each h enough ts t e =
-    let n = length labels in
-    let due = players - length (front ++ labels ∷ []) in
-    let size = length-append front (labels ∷ []) in
-    let all : players ≡ length front + suc due = omega (arith, size, enough) in
-    let start = subst (λ (m : ℕ). Reaches Takes before m 1) all r in
-    let i = each_parts P front (labels ∷ []) inner each in
-    let own = all_parts (λ (ls : List (List ℕ)). 0 < length ls) front (labels ∷ []) h.some in
-    let w = groups_lead P Takes taken front before i.0 (suc due) 1 start i.3 own.0 in
-    let last = each_one P labels i.1 i.4 in
-    let k = taken w.state due i.1 labels w.takes w.due_is last own.1.0 in
-    let others = (before ++ i.0) ++ k.front in
-    let inner_is = i.2 ∙ ap (λ (us : List Token). i.0 ++ us) k.parts in
-    let whole : ts ++ t ∷ [] ≡ others ++ k.last ∷ [] = grind (arith, append_assoc) in
-    let same = same_last ts t others k.last whole in
-    let leads = leads_on (before ++ i.0) k.front w.state k.mid w.leads k.walks in
-    let grown = w.grown in
-    let one : w.state.content.profiles ≡ product (map length front) = omega (arith, grown) in
-    let more = k.grown ∙ ap (λ (m : ℕ). m * n) one in
-    let keeps = k.keeps in
-    let within = h.within in
-    let over = h.over in
-    record {
-      mid = k.mid;
-      after = k.after;
-      leads = subst (λ (us : List Token). Leads us k.mid) (sym same.0) leads;
-      steps = subst (λ (u : Token). step k.mid u ≡ Ok k.after) (sym same.1) k.steps;
-      within = omega (arith, one, keeps, within);
-      over = omega (arith, more, over);
-    }
-
--- after a heading of these players
-passes_headed : (P : List Token → List (List ℕ) → Type 0) (Takes : Position → Type 0)
-    → AreTaken P Takes → Takes p.FirstStrategies
-    → (letter title : List ℕ) (players : List (List ℕ)) (inner : List Token)
-    → (front : Strategies) (labels : List (List ℕ))
-    → (letter ≡ codes "R") ⊎ (letter ≡ codes "D") → Each P inner (front ++ labels ∷ [])
-    → PassesWith front labels → length (front ++ labels ∷ []) ≤ length players
-    → (ts : List Token) (t : Token) → ts ++ t ∷ [] ≡ headed letter title players (Opening ∷ inner)
-    → Passes ts t
-passes_headed P Takes taken takes letter title players inner front labels is each h enough ts t e =
-    let before = headed letter title players (Opening ∷ []) in
-    let leads = opening_leads letter title players is in
-    let r : Reaches Takes before (length players) 1 = grind arith in
-    let whole = e ∙ sym (headed_on letter title players (Opening ∷ []) inner) in
-    passes_by P Takes taken before inner (length players) front labels r each h enough ts t whole
-
 -- a count, or a list of labels, for each of some players
 abbrev pub AreGroups : List Token → Strategies → Type 0
 AreGroups inner strategies = Each IsCount inner strategies ⊎ Each IsLabelList inner strategies
-
-passes_given : (ts : List Token) (t : Token) (counts : List ℕ)
-    → (g : GivesCounts (ts ++ t ∷ []) counts) (front : Strategies) (labels : List (List ℕ))
-    → AreGroups g.inner (front ++ labels ∷ [])
-    → PassesWith front labels → length (front ++ labels ∷ []) ≤ length g.players → Passes ts t
-passes_given ts t counts g front labels (inl each) h enough =
-    passes_headed IsCount TakesCounts counts_taken tt g.letter g.title g.players g.inner
-    front labels g.is_letter each h enough ts t g.parts
-passes_given ts t counts g front labels (inr each) h enough =
-    passes_headed IsLabelList TakesLists lists_taken tt g.letter g.title g.players g.inner
-    front labels g.is_letter each h enough ts t g.parts
 
 some_given : (strategies : Strategies) → profile_limit < product (map length strategies)
     → Last strategies
 some_given [] over = absurd (omega arith)
 some_given (labels ∷ strategies) over = last_of labels strategies
 
+passes_given : (ts : List Token) (t : Token) (counts : List ℕ)
+    → (g : GivesCounts (ts ++ t ∷ []) counts) (front : Strategies) (labels : List (List ℕ))
+    → g.strategies ≡ front ++ labels ∷ [] → PassesAtLast (map length (front ++ labels ∷ []))
+    → (k : Kind) → Each (IsGroup k) g.inner (front ++ labels ∷ []) → Passes ts t
+passes_given ts t counts g front labels parts passes k each =
+    let line = heading_line g.letter g.title g.players in
+    let c : Content = heading g.title g.players in
+    let opened = leads_more line Opening _ (at p.FirstStrategies (length g.players) 0 0 c)
+    (heading_leads g.letter g.title g.players g.is_letter) refl in
+    let all_some = all_mapped (λ (n : ℕ). 0 < n) length (front ++ labels ∷ [])
+    (subst (λ ns. AllByRecursion (λ (n : ℕ). 0 < n) ns) (g.are_counts ∙ ap (map length) parts)
+    g.some_strategy) in
+    let some = all_parts (λ (ls : List (List ℕ)). 0 < length ls) front (labels ∷ []) all_some in
+    let due = length g.players - (length front + 1) in
+    let many : length counts ≡ length front + 1 = cc (
+      g.are_counts,
+      parts,
+      length-map g.strategies length,
+      length-append front (labels ∷ []),
+    ) in
+    let first_players = g.first_players in
+    let more = and_more_is front (suc due) in
+    let all : and_more front (suc due) ≡ length g.players = omega (arith, more, many, first_players)
+    in
+    let i = each_parts (IsGroup k) front (labels ∷ []) g.inner each in
+    let w = groups_walk k front i.0 p.FirstStrategies (inl refl) (suc due) c i.3 some.0 in
+    let d : Content = all_in (with_group k) c front in
+    let s : State = at w.0 (suc due) 0 0 d in
+    let before = line ++ Opening ∷ [] in
+    let led : Leads (before ++ i.0) s = leads_on before i.0 _ s opened
+    (subst (λ n. walk (at p.FirstStrategies n 0 0 c) i.0 ≡ Ok s) all w.2) in
+    let x = taken k w.0 w.1 due d i.1 labels (each_one (IsGroup k) labels i.1 i.4) some.1.0 in
+    let others = (before ++ i.0) ++ x.front in
+    let whole : ts ++ t ∷ [] ≡ others ++ x.last ∷ [] = cc (
+      g.parts,
+      i.2,
+      x.parts,
+      append_assoc line (Opening ∷ []) g.inner,
+      append_assoc before i.0 i.1,
+      append_assoc (before ++ i.0) x.front (x.last ∷ []),
+    ) in
+    let same = same_last ts t others x.last whole in
+    let one : d.profiles ≡ 1 * product (map length front) =
+    ap (λ (e : Content). e.profiles) (all_groups k front c) in
+    let grown : (with_group k d labels).profiles ≡ 1 * product (map length front) * length labels =
+    grows_by k d labels ∙ ap (λ (m : ℕ). m * length labels) one in
+    let limits = at_last front labels passes in
+    let within = limits.0 in
+    let over = limits.1 in
+    let keeps = x.keeps in
+    record {
+      mid = x.mid;
+      after = due_at k due (with_group k d labels);
+      leads = subst (λ (us : List Token). Leads us x.mid) (sym same.0)
+          (leads_on (before ++ i.0) x.front s x.mid led x.walks);
+      steps = subst (λ (u : Token). step x.mid u ≡ Ok (due_at k due (with_group k d labels)))
+          (sym same.1) x.steps;
+      within = omega (arith, one, keeps, within);
+      over = omega (arith, grown, over);
+    }
+
 pub limit_by_last : (ts : List Token) (t : Token) (counts : List ℕ)
     → GivesCounts (ts ++ t ∷ []) counts → PassesAtLast counts → IsLimitToken ts t
 limit_by_last ts t counts g h =
     let all = subst PassesAtLast g.are_counts h in
     let l = some_given g.strategies all.passes in
-    let with_last : PassesAtLast (map length (l.front ++ l.last ∷ [])) = rw (← l.parts) all in
-    let passes = by_strategies l.front l.last with_last in
-    let groups = subst (AreGroups g.inner) l.parts g.is_inner in
-    let many : length counts ≡ length (l.front ++ l.last ∷ []) =
-    cc (length-map g.strategies length) in
-    let first_players = g.first_players in
-    let enough : length (l.front ++ l.last ∷ []) ≤ length g.players = grind arith in
-    limit_token ts t (passes_given ts t counts g l.front l.last groups passes enough)
+    let k = kind_of g.inner (l.front ++ l.last ∷ [])
+    (subst (AreGroups g.inner) l.parts g.is_inner) in
+    limit_token ts t (passes_given ts t counts g l.front l.last l.parts
+    (subst (λ x. PassesAtLast (map length x)) l.parts all) k.0 k.1)

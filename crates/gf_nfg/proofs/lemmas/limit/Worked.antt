@@ -10,10 +10,10 @@ use Rattle.std.specs.Fmt.{digits}
 use Rattle.gf_token.specs.inner.Lexing.{lex}
 use Rattle.gf_token.specs.Indices.{index_of}
 use Rattle.gf_nfg.proofs.lemmas.tables.Lists.{counts_back}
-use Rattle.gf_nfg.proofs.lemmas.places.Walk.{Leads}
 use Rattle.gf_nfg.proofs.lemmas.limit.Stays.{stays_within}
-use Rattle.gf_nfg.proofs.lemmas.limit.Walks.{headed}
+use Rattle.gf_nfg.proofs.lemmas.runs.Heading.{heading_line}
 use Rattle.gf_nfg.proofs.lemmas.limit.Counts.{limit_by_files}
+use Rattle.gf_nfg.proofs.lemmas.runs.Walks.{Leads}
 
 -- ---- one that passes it
 
@@ -37,7 +37,8 @@ lexemes = refl
 -- what a file of two players gives through their counts
 two_counts : (a b : List ℕ) (n m : ℕ) → IsIndex a n → IsIndex b m → 0 < n → 0 < m
     → GivesCounts
-    (headed (codes "R") (codes "b") (codes "A" ∷ codes "B" ∷ []) (Opening ∷ Bare a ∷ Bare b ∷ []))
+    (heading_line (codes "R") (codes "b") (codes "A" ∷ codes "B" ∷ [])
+    ++ Opening ∷ Bare a ∷ Bare b ∷ [])
     (n ∷ m ∷ [])
 two_counts a b n m a_is b_is a_some b_some = record {
   letter = codes "R";

@@ -1,7 +1,7 @@
 -- Each list of bytes is a file within the limit, or it is refused.
 use Rattle.gf_nfg.proofs.Common.{arith, ℕ, List, Result, Ok, Err, inl, inr, ◌⊎◌, Lexeme, Spells}
-use Rattle.gf_nfg.proofs.Common.{Fault, Span, Why, spelled_once, IsRefused, IsWithinLimit}
-use Rattle.gf_nfg.proofs.Common.{Content, table_of, Table, SpellsTable}
+use Rattle.gf_nfg.proofs.Common.{Fault, Span, Why, spelled_once, IsRefused, IsWithinLimit, Content}
+use Rattle.gf_nfg.proofs.Common.{table_of, Table, SpellsTable}
 use Rattle.gf_nfg.proofs.lemmas.places.Heard.{IsAnswered, all_answered}
 use Rattle.gf_nfg.proofs.lemmas.tables.Meaning.{within_limit}
 

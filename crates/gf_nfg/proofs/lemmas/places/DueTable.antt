@@ -1,16 +1,17 @@
 -- What a row names is due there, and no other token may follow than those that it accepts.
 use Rattle.gf_nfg.proofs.Common.{◌≡◌, ℕ, zero, suc, Bool, true, false, List, [], ◌∷◌, length, map}
 use Rattle.gf_nfg.proofs.Common.{arith, Option, Some, None, Result, Ok, Err, refl, subst, ap, inl}
-use Rattle.gf_nfg.proofs.Common.{inr, ◌⊎◌, ◌↔◌, ◌==◌, if◌then◌else◌, not, Token, Opening, Closing}
-use Rattle.gf_nfg.proofs.Common.{Text, Bare, Broken, What, Why, Expected, Position, MayFollow}
-use Rattle.gf_nfg.proofs.Common.{IsStrategicFile, Role, RoleIsDue, IsDue, Format, Version, Letter}
-use Rattle.gf_nfg.proofs.Common.{Count, Payoff, OutcomeNumber, State, Content, at, to, due_at}
-use Rattle.gf_nfg.proofs.Common.{ended, step, with_labels}
+use Rattle.gf_nfg.proofs.Common.{inr, ◌⊎◌, ◌↔◌, not, Token, Opening, Closing, Text, Bare, Broken}
+use Rattle.gf_nfg.proofs.Common.{What, Why, Expected, Position, MayFollow, IsStrategicFile, Role}
+use Rattle.gf_nfg.proofs.Common.{RoleIsDue, IsDue, Format, Version, Letter, Count, Payoff}
+use Rattle.gf_nfg.proofs.Common.{OutcomeNumber, State, Content, at, to, due_at, ended, step}
+use Rattle.gf_nfg.proofs.Common.{with_labels}
 use Rattle.gf_token.specs.declared.fault.What.TheVariants as what
 use Rattle.gf_nfg.specs.inner.Position.{Position as p}
-use Rattle.gf_nfg.proofs.lemmas.places.Walk.{Leads, walk, follows, refused, is_file}
 use Rattle.gf_nfg.proofs.lemmas.places.DueRows.{Row, Accepts, AcceptsBare, Answers, answers, no}
 use Rattle.gf_nfg.proofs.lemmas.places.DueRows.{row_at, unfilled, has_some, listed_in}
+use Rattle.gf_nfg.proofs.lemmas.runs.Walks.{Leads, walk}
+use Rattle.gf_nfg.proofs.lemmas.places.Walk.{follows, is_file, refused}
 
 -- what a row names it accepts
 abbrev pub Names : Row → What → Type 0
@@ -36,20 +37,15 @@ unless_end expected = Some expected
 abbrev Named : Row → Option What → Type 0
 Named row expected = Names row row.expected × (expected ≡ unless_end row.expected)
 
-either : (b : Bool) (row other : Row) (o e : Option What) → Named row o → Named other e
-    → Named (if b then row else other) (if b then o else e)
-either true row other o e h k = h
-either false row other o e h k = k
-
 named_at : (q : Position) (s : State) → Named (row_at q s) (due_at q s.due)
-named_at p.FirstStrategies s = either (s.due == 0) _ _ _ _ (refl, refl) ((refl, refl), refl)
-named_at p.Counts s = either (s.due == 0) _ _ _ _ (refl, refl) (inl refl, refl)
-named_at p.BeforeList s = either (s.due == 0) _ _ _ _ (refl, refl) (refl, refl)
-named_at p.AfterStrategies s = either (s.due == 0) _ _ _ _ (tt, refl) (refl, refl)
-named_at p.AfterComment s = either (s.due == 0) _ _ _ _ (tt, refl) (refl, refl)
-named_at p.FlatPayoffs s = either (s.due == 0) _ _ _ _ (tt, refl) (refl, refl)
-named_at p.BracedPayoff s = either (s.due == 0) _ _ _ _ (refl, refl) (refl, refl)
-named_at p.AfterBracedPayoff s = either (s.due == 0) _ _ _ _ (refl, refl) (refl, refl)
+named_at p.FirstStrategies s = grind arith
+named_at p.Counts s = grind arith
+named_at p.BeforeList s = grind arith
+named_at p.AfterStrategies s = grind arith
+named_at p.AfterComment s = grind arith
+named_at p.FlatPayoffs s = grind arith
+named_at p.BracedPayoff s = grind arith
+named_at p.AfterBracedPayoff s = grind arith
 named_at p.OutcomeNumbers s = grind arith
 named_at _ s = (refl, refl)
 

@@ -1,15 +1,14 @@
 -- What the machine answers to the tokens of an input is what the file means, or the refusal that is
 -- due; and at a place that it has passed, memory may be refused.
 use Rattle.gf_nfg.proofs.Common.{◌≡◌, ℕ, ◌+◌, ◌<◌, ◌≤◌, Bool, true, false, List, [], ◌∷◌, ◌++◌}
-use Rattle.gf_nfg.proofs.Common.{length, Option, None, Some, Result, Ok, Err, refl, sym, subst, ap}
-use Rattle.gf_nfg.proofs.Common.{◌∙◌, arith, IfErr, if◌then◌else◌, tokens_of, IsSpanOf, AreInOrder}
-use Rattle.gf_nfg.proofs.Common.{Remaining, StandsBefore, Token, Lexeme, lexeme, Broken, Spells}
-use Rattle.gf_nfg.proofs.Common.{Fault, Span, What, Why, Memory, TooLong, TooManyProfiles}
-use Rattle.gf_nfg.proofs.Common.{Unterminated, same_tokens, Answer, Fails, HasPassed}
-use Rattle.gf_nfg.proofs.Common.{HasPassedPlace, at_end, heard, is_past, read_on, taken, then_on}
-use Rattle.gf_nfg.proofs.Common.{within, IsAcceptedWithinLimit, IsJudged, IsRefusal, IsRefused}
-use Rattle.gf_nfg.proofs.Common.{profile_limit, Content, State, due_at, ended, finish, nothing}
-use Rattle.gf_nfg.proofs.Common.{start, step, answer, content_in}
+use Rattle.gf_nfg.proofs.Common.{length, Option, Result, Ok, Err, refl, sym, subst, ap, ◌∙◌, arith}
+use Rattle.gf_nfg.proofs.Common.{IfErr, if◌then◌else◌, tokens_of, IsSpanOf, AreInOrder, Remaining}
+use Rattle.gf_nfg.proofs.Common.{StandsBefore, Token, Lexeme, lexeme, Broken, Spells, Fault, Span}
+use Rattle.gf_nfg.proofs.Common.{What, Why, Memory, TooManyProfiles, Unterminated, same_tokens}
+use Rattle.gf_nfg.proofs.Common.{Answer, Fails, HasPassed, HasPassedPlace, at_end, heard, is_past}
+use Rattle.gf_nfg.proofs.Common.{read_on, taken, then_on, within, IsAcceptedWithinLimit, IsJudged}
+use Rattle.gf_nfg.proofs.Common.{IsRefusal, IsRefused, profile_limit, Content, State, due_at, ended}
+use Rattle.gf_nfg.proofs.Common.{finish, nothing, start, step, answer, content_in}
 use Rattle.gf_token.proofs.TokensAhead.{in_order}
 use Rattle.gf_nfg.specs.inner.Heard.Fails.{of_file, of_memory}
 use Rattle.gf_nfg.specs.inner.Position.{Position as p}
@@ -19,17 +18,13 @@ use Rattle.gf_nfg.proofs.lemmas.places.Judged.{refusal, refusal_end, span_of}
 use Rattle.gf_nfg.proofs.lemmas.places.Led.{Led, led_more, led_none, read_whole}
 use Rattle.gf_nfg.proofs.lemmas.limit.Stays.{bounded, past}
 use Rattle.gf_nfg.proofs.lemmas.places.Reasons.{IsWhole}
-use Rattle.gf_nfg.proofs.lemmas.runs.Common.{ok_is}
 use Rattle.gf_nfg.proofs.lemmas.runs.Sentence.{Read}
 
 -- ---- reasons
 
 refused_by : (why : Why) (bytes : List ℕ) (span : Span) → IsRefusal why bytes span
     → IsRefused why bytes span
-refused_by Memory bytes span h = grind arith
-refused_by TooManyProfiles bytes span h = grind arith
-refused_by TooLong bytes span h = grind arith
-refused_by why bytes span h = (λ e. absurd cc, h)
+refused_by why bytes span h = grind arith
 
 -- ---- a token
 
@@ -83,8 +78,7 @@ abbrev answer_at : ℕ → List Lexeme → Lexeme → Result State Why → Resul
 answer_at end ls l o = then_on l.start l.end o (λ next. read_on end next ls)
 
 ended_is : (c r : Content) (o : Option What) → ended c o ≡ Ok r → c ≡ r
-ended_is c r None e = ok_is c r e
-ended_is c r (Some expected) e = absurd cc
+ended_is c r o e = grind arith
 
 module _ (bytes : List ℕ) (all : List Lexeme) (spelled : Spells 0 bytes all) where
   end_answered : (s : State) (o : Result Content Why) → Led all [] s
@@ -122,20 +116,12 @@ module _ (bytes : List ℕ) (all : List Lexeme) (spelled : Spells 0 bytes all) w
 -- what is refused after a token begins after its start
 passed_on : (end from start : ℕ) → start < from → (s : State) (ls : List Lexeme)
     → AreInOrder end from ls → HasPassed (read_on end s ls) start
-passed_on end from start less s [] h = by (finish s)
-  where
-    by : (o : Result Content Why) → HasPassed (at_end end o) start
-    by (Ok c) = tt
-    by (Err why) = omega (arith, less, h)
+passed_on end from start less s [] h = grind arith
 passed_on end from start less s (l ∷ ls) h =
     let near = h.0 in let some = h.1 in
-    by (taken s l.token)
-    (λ after. passed_on end l.end start (omega (arith, less, near, some)) after ls h.2)
-  where
-    by : (o : Result State Why) → ((after : State) → HasPassed (read_on end after ls) start)
-        → HasPassed (answer_at end ls l o) start
-    by (Ok after) later = later after
-    by (Err why) later = let near = h.0 in omega (arith, less, near)
+    let later = λ (after : State).
+    passed_on end l.end start (omega (arith, less, near, some)) after ls h.2 in
+    grind (arith, later)
 
 -- so if the machine goes on after a token, it has passed the token
 passed_before : (t : Remaining) (span : Span) → StandsBefore t span

@@ -12,9 +12,11 @@ use Rattle.gf_nfg.proofs.lemmas.limit.Counts.{limit_by_files}
 use Rattle.gf_nfg.proofs.lemmas.limit.Passed.{later, nowhere}
 use Rattle.gf_nfg.proofs.lemmas.places.DueTable.{broken_refused}
 use Rattle.gf_nfg.proofs.lemmas.places.Led.{Led, spelled_as}
-use Rattle.gf_nfg.proofs.lemmas.limit.Stays.{makes_more, read_past, stays_within}
-use Rattle.gf_nfg.proofs.lemmas.places.Walk.{leads_more, begins, refused, no_file}
+use Rattle.gf_nfg.proofs.lemmas.limit.Stays.{stays_within}
+use Rattle.gf_nfg.proofs.lemmas.limit.Tokens.{limit_token}
 use Rattle.gf_nfg.proofs.lemmas.places.Reasons.{IsWhole, reason, broken_reason, end_reason}
+use Rattle.gf_nfg.proofs.lemmas.runs.Walks.{leads_more}
+use Rattle.gf_nfg.proofs.lemmas.places.Walk.{begins, no_file, refused}
 
 abbrev pub span_of : Lexeme → Span
 span_of l = record { start = l.start; end = l.end }
@@ -51,21 +53,23 @@ pub limit : (bytes : List ℕ) (all rest : List Lexeme) (l : Lexeme) (s after : 
     → step s l.token ≡ Ok after → profile_limit < after.content.profiles
     → IsLimitPlace bytes (span_of l)
 limit bytes all rest l s after spelled h within e over =
-    let leads = leads_more (tokens_of h.seen) l.token s after h.leads e in
+    let k = limit_token (tokens_of h.seen) l.token (record {
+      mid = s;
+      after = after;
+      leads = h.leads;
+      steps = e;
+      within = within;
+      over = over;
+    }) in
     (limit_by_files bytes (span_of l)).1 (record {
       before = h.seen;
       lexeme = l;
       after = rest;
       spelled = subst (λ (ls : List Lexeme). Spells 0 bytes ls) h.parts spelled;
       place = (refl, refl);
-      grows = makes_more s after l.token e (omega (arith, within, over));
-      past = record {
-        begins = begins (tokens_of h.seen ++ l.token ∷ []) after leads;
-        past = λ more t sentence.
-            let grown = read_past (tokens_of h.seen ++ l.token ∷ []) after leads more t sentence in
-            omega (arith, over, grown);
-      };
-      first = stays_within (tokens_of h.seen) s h.leads within;
+      grows = k.grows;
+      past = k.past;
+      first = k.first;
     })
 
 -- a token that is not refused

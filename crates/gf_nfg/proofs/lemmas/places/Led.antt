@@ -1,10 +1,10 @@
 -- What the tokens so far have led the machine to, and what follows from it for the whole input.
-use Rattle.gf_nfg.proofs.Common.{◌≡◌, ℕ, List, [], ◌∷◌, ◌++◌, Result, Ok, arith, refl, sym, ap}
-use Rattle.gf_nfg.proofs.Common.{◌∙◌, append_assoc, map-append, Lexeme, Spells, Why}
-use Rattle.gf_nfg.proofs.Common.{same_tokens, Table, Sentence, SpellsTable, tokens_of, State}
-use Rattle.gf_nfg.proofs.Common.{Content, run, step, finish, start}
+use Rattle.gf_nfg.proofs.Common.{◌≡◌, ℕ, List, [], ◌∷◌, ◌++◌, Result, Ok, arith, refl, sym, ap, ◌∙◌}
+use Rattle.gf_nfg.proofs.Common.{append_assoc, map-append, Lexeme, Spells, Why, same_tokens, Table}
+use Rattle.gf_nfg.proofs.Common.{Sentence, SpellsTable, tokens_of, State, Content, run, step}
+use Rattle.gf_nfg.proofs.Common.{finish, start}
 use Rattle.gf_nfg.proofs.lemmas.runs.Sentence.{Read, sentence_found, one_table}
-use Rattle.gf_nfg.proofs.lemmas.places.Walk.{Leads, leads_more, leads_run}
+use Rattle.gf_nfg.proofs.lemmas.runs.Walks.{Leads, leads_more, leads_run}
 
 pub record Led (all rest : List Lexeme) (s : State) : Type 0 where
   pub seen : List Lexeme

@@ -14,12 +14,13 @@ use Rattle.gf_fraction.specs.Computed.{number_of, lowest_of, gcd_within}
 use Rattle.gf_fraction.specs.declared.fraction.NumberFault.TheVariants as number
 use Rattle.gf_token.specs.Indices.{index_of}
 use Rattle.gf_nfg.proofs.lemmas.runs.Ends.{zero_text, zero_number, zero_is_number, zero_is_index}
-use Rattle.gf_nfg.proofs.lemmas.places.Walk.{Leads, leads_on, begins, stops}
 use Rattle.gf_nfg.proofs.lemmas.places.DueRows.{Accepts, AcceptsBare, RefusesBare, RefusesClosing}
 use Rattle.gf_nfg.proofs.lemmas.places.DueRows.{Refuses, Answers, answers, no, unfilled}
 use Rattle.gf_nfg.proofs.lemmas.places.DueTable.{row_of, unless_end, may_follow, role_is_due}
 use Rattle.gf_nfg.proofs.lemmas.places.DueTable.{expected_is, expected_is_due, labels_follow}
 use Rattle.gf_nfg.proofs.lemmas.places.DueTable.{no_texts_follow, two_texts}
+use Rattle.gf_nfg.proofs.lemmas.runs.Walks.{Leads, leads_on}
+use Rattle.gf_nfg.proofs.lemmas.places.Walk.{begins, stops}
 
 -- ---- no two roles of numbers are due at one place
 
@@ -79,47 +80,31 @@ not_payoff_and_outcome ts outcomes h k =
 abbrev Lowest : Why → List Token → Token → Type 0
 Lowest why ts t = (other : Why) → Applies other ts t → code_of why ≤ code_of other
 
-number_code : (f g : NumberFault) → f ≡ g → code_of (why_of f) ≤ code_of (why_of g)
-number_code f g e = grind arith
-
 lowest_number : (ts : List Token) (b : List ℕ) (fault : NumberFault)
     → RoleIsDue ts Payoff → HasNumberFault b fault → Lowest (why_of fault) ts (Bare b)
 lowest_number ts b fault h k NotANumber g =
-    number_code fault number.NotANumber (same_fault b fault number.NotANumber k g.1)
+    let e = same_fault b fault number.NotANumber k g.1 in grind arith
 lowest_number ts b fault h k ZeroDenominator g =
-    number_code fault number.ZeroDenominator (same_fault b fault number.ZeroDenominator k g.1)
-lowest_number ts b fault h k NumberTooLarge g = grind arith
-lowest_number ts b fault h k BadIndex (inl g) = absurd (not_payoff_and_count ts h g.0)
-lowest_number ts b fault h k BadIndex (inr g) = absurd (not_payoff_and_outcome ts g.0 h g.1.0)
-lowest_number ts b fault h k UnknownOutcome g = absurd (not_payoff_and_outcome ts g.0 h g.1.0)
-lowest_number ts b fault h k _ g = absurd g
+    let e = same_fault b fault number.ZeroDenominator k g.1 in grind arith
+lowest_number ts b fault h k NumberTooLarge g =
+    let e = same_fault b fault number.TooLarge k g.1 in grind arith
+lowest_number ts b fault h k other g =
+    grind (arith, not_payoff_and_count, not_payoff_and_outcome)
 
 lowest_index : (ts : List Token) (b : List ℕ) → ¬ (RoleIsDue ts Payoff)
     → Lowest BadIndex ts (Bare b)
-lowest_index ts b h NotANumber g = absurd (h g.0)
-lowest_index ts b h ZeroDenominator g = absurd (h g.0)
-lowest_index ts b h NumberTooLarge g = absurd (h g.0)
-lowest_index ts b h BadIndex g = omega arith
-lowest_index ts b h UnknownOutcome g = omega arith
-lowest_index ts b h _ g = absurd g
+lowest_index ts b h other g = grind arith
 
 lowest_outcome : (ts : List Token) (b : List ℕ) (outcomes n : ℕ)
     → RoleIsDue ts (OutcomeNumber outcomes) → IsIndex b n → Lowest UnknownOutcome ts (Bare b)
-lowest_outcome ts b outcomes n h k NotANumber g = absurd (not_payoff_and_outcome ts outcomes g.0 h)
-lowest_outcome ts b outcomes n h k ZeroDenominator g = grind (arith, not_payoff_and_outcome)
-lowest_outcome ts b outcomes n h k NumberTooLarge g = grind (arith, not_payoff_and_outcome)
-lowest_outcome ts b outcomes n h k BadIndex (inl g) = grind (arith, not_outcome_and_count)
-lowest_outcome ts b outcomes n h k BadIndex (inr g) = absurd (g.1.1 n k)
-lowest_outcome ts b outcomes n h k UnknownOutcome g = omega arith
-lowest_outcome ts b outcomes n h k _ g = absurd g
+lowest_outcome ts b outcomes n h k other g =
+    grind (arith, not_payoff_and_outcome, not_outcome_and_count)
 
 lowest_entry : (ts : List Token) → Lowest NoEntry ts Closing
-lowest_entry ts NoEntry g = omega arith
-lowest_entry ts _ g = absurd g
+lowest_entry ts other g = grind arith
 
 lowest_broken : (ts : List Token) → Lowest Unterminated ts Broken
-lowest_broken ts Unterminated g = omega arith
-lowest_broken ts _ g = absurd g
+lowest_broken ts other g = grind arith
 
 -- ---- if none applies
 
@@ -149,10 +134,7 @@ Reason ts after t why = IsReason why ts (t ∷ after)
 
 number_reason : (ts after : List Token) (b : List ℕ) (fault : NumberFault)
     → RoleIsDue ts Payoff → HasNumberFault b fault → Reason ts after (Bare b) (why_of fault)
-number_reason ts after b number.NotANumber h k = ((h, k), lowest_number ts b number.NotANumber h k)
-number_reason ts after b number.ZeroDenominator h k =
-    ((h, k), lowest_number ts b number.ZeroDenominator h k)
-number_reason ts after b number.TooLarge h k = ((h, k), lowest_number ts b number.TooLarge h k)
+number_reason ts after b fault h k = grind (arith, lowest_number)
 
 differs : (bytes word : List ℕ)
     → pointwise nat_eq bytes word ≡ false → pointwise nat_eq word word ≡ true → ¬ (bytes ≡ word)
@@ -228,13 +210,7 @@ IsOther (Text label) = Unit {0}
 IsOther token = ⊥
 
 none_of_other : (ts : List Token) (t : Token) → IsOther t → NoneApplies ts t
-none_of_other ts Opening o NoEntry g = absurd g
-none_of_other ts Opening o _ g = absurd g
-none_of_other ts Comma o NoEntry g = absurd g
-none_of_other ts Comma o _ g = absurd g
-none_of_other ts (Text label) o NoEntry g = absurd g
-none_of_other ts (Text label) o _ g = absurd g
-none_of_other ts _ o why g = absurd o
+none_of_other ts t o why g = grind arith
 
 -- a token of a text that has an end
 abbrev pub IsWhole : Token → Type 0

@@ -1,9 +1,9 @@
 -- Runs over the comment and the body.
-use Rattle.gf_nfg.proofs.Common.{◌≡◌, ℕ, ◌*◌, ◌≤◌, arith, List, [], ◌∷◌, ◌++◌, length}
-use Rattle.gf_nfg.proofs.Common.{Ok, refl, append_assoc, inl, inr, ◌⊎◌, AllByRecursion, Token}
-use Rattle.gf_nfg.proofs.Common.{Opening, Closing, Text, Bare, Each, braced, IsComment, Ratio}
-use Rattle.gf_nfg.proofs.Common.{IsPayoff, IsOutcomeInBraces, Content, at, run, with_comment}
-use Rattle.gf_nfg.proofs.Common.{with_payoffs, with_choices}
+use Rattle.gf_nfg.proofs.Common.{◌≡◌, ℕ, ◌*◌, ◌≤◌, arith, List, [], ◌∷◌, ◌++◌, length, Ok, refl}
+use Rattle.gf_nfg.proofs.Common.{append_assoc, inl, inr, ◌⊎◌, AllByRecursion, Token, Opening}
+use Rattle.gf_nfg.proofs.Common.{Closing, Text, Bare, Each, braced, IsComment, Ratio, IsPayoff}
+use Rattle.gf_nfg.proofs.Common.{IsOutcomeInBraces, Content, at, run, with_comment, with_payoffs}
+use Rattle.gf_nfg.proofs.Common.{with_choices}
 use Rattle.gf_nfg.specs.inner.Position.{Position as p}
 use Rattle.gf_nfg.proofs.lemmas.tables.Lists.{joined}
 use Rattle.gf_nfg.proofs.lemmas.runs.Payoffs.{flat_found, flat_again}
@@ -50,17 +50,6 @@ pub record Commented (ts : List Token) (due : ℕ) (c r : Content) : Type 0 wher
   pub is_comment : IsComment comment said
   pub is_body : Body body due (with_comment c said) r
 
-absent : (ts : List Token) (due : ℕ) (c r : Content)
-    → c.comment ≡ [] → run (at p.AfterComment due 0 0 c) ts ≡ Ok r → Commented ts due c r
-absent ts due c r none e = record {
-  comment = [];
-  body = ts;
-  said = [];
-  parts = refl;
-  is_comment = inl (refl, refl);
-  is_body = grind (arith, body_found);
-}
-
 pub comment_found : (ts : List Token) (c r : Content) → c.comment ≡ []
     → run (ended c) ts ≡ Ok r → Commented ts (length c.players * c.profiles) c r
 comment_found (Text said ∷ ts) c r none e = record {
@@ -71,7 +60,14 @@ comment_found (Text said ∷ ts) c r none e = record {
   is_comment = inr refl;
   is_body = grind (arith, body_found);
 }
-comment_found ts c r none e = absent ts (length c.players * c.profiles) c r none e
+comment_found ts c r none e = record {
+  comment = [];
+  body = ts;
+  said = [];
+  parts = refl;
+  is_comment = inl (refl, refl);
+  is_body = grind (arith, body_found);
+}
 
 -- ---- each body is read
 

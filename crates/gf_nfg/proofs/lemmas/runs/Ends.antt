@@ -1,10 +1,10 @@
 -- Each state of the machine can be completed.
 use Rattle.gf_nfg.proofs.Common.{true, ◌≡◌, ℕ, zero, suc, ◌+◌, ◌-◌, ◌*◌, ◌<◌, List, [], ◌∷◌, length}
-use Rattle.gf_nfg.proofs.Common.{Some, Ok, refl, ap, subst, ◌∙◌, arith, inl, inr, nat_le, ◌⊎◌}
-use Rattle.gf_nfg.proofs.Common.{codes, pos, mul-one, le-leb, length-append, Token, Opening}
-use Rattle.gf_nfg.proofs.Common.{Closing, Text, Bare, Ratio, whole, Position, count_of, State}
-use Rattle.gf_nfg.proofs.Common.{Content, at, step, run, listed, with_title, with_labels}
-use Rattle.gf_nfg.proofs.Common.{with_count, with_payoffs, with_choices, next_outcome}
+use Rattle.gf_nfg.proofs.Common.{Some, Ok, refl, ap, subst, ◌∙◌, arith, nat_le, codes, pos, mul-one}
+use Rattle.gf_nfg.proofs.Common.{le-leb, length-append, Token, Opening, Closing, Text, Bare, Comma}
+use Rattle.gf_nfg.proofs.Common.{Ratio, whole, Position, count_of, State, Content, at, step, run}
+use Rattle.gf_nfg.proofs.Common.{listed, with_title, with_labels, with_count, with_payoffs}
+use Rattle.gf_nfg.proofs.Common.{with_choices, next_outcome}
 use Rattle.gf_nfg.specs.inner.Position.{Position as p}
 use Rattle.gf_fraction.specs.Computed.{number_of, lowest_of, gcd_within}
 use Rattle.gf_token.specs.Indices.{index_of}
@@ -54,18 +54,6 @@ flat_ends (suc due) from outcomes c =
     then _ (at p.FlatPayoffs due from outcomes (paid c)) (Bare zero_text)
     (rw (not_zero, zero_is_number, pred_suc) refl) (flat_ends due from outcomes (paid c))
 
-comment_ends : (due from outcomes : ℕ) (c : Content) → Ends (at p.AfterComment due from outcomes c)
-comment_ends zero from outcomes c = ([], c, refl, refl)
-comment_ends (suc due) from outcomes c =
-    then _ (at p.FlatPayoffs due from outcomes (paid c)) (Bare zero_text)
-    (rw (not_zero, zero_is_number, pred_suc) refl) (flat_ends due from outcomes (paid c))
-
-body_ends : (due from outcomes : ℕ) (c : Content) → Ends (at p.AfterStrategies due from outcomes c)
-body_ends zero from outcomes c = ([], c, refl, refl)
-body_ends (suc due) from outcomes c =
-    then _ (at p.FlatPayoffs due from outcomes (paid c)) (Bare zero_text)
-    (rw (not_zero, zero_is_number, pred_suc) refl) (flat_ends due from outcomes (paid c))
-
 numbers_ends : (due from outcomes : ℕ) (c : Content)
     → Ends (at p.OutcomeNumbers due from outcomes c)
 numbers_ends zero from outcomes c = ([], c, refl, refl)
@@ -79,20 +67,27 @@ outcomes_ends : (due from outcomes : ℕ) (c : Content) → Ends (at p.InOutcome
 outcomes_ends due from outcomes c = then _ (at p.OutcomeNumbers c.profiles from outcomes c) Closing
     refl (numbers_ends c.profiles from outcomes c)
 
-after_braced_ends : (due from outcomes : ℕ) (c : Content)
-    → Ends (at p.AfterBracedPayoff due from outcomes c)
-after_braced_ends zero from outcomes c = then _ (at p.InOutcomes 0 from (next_outcome outcomes) c)
-    Closing refl (outcomes_ends 0 from (next_outcome outcomes) c)
-after_braced_ends (suc due) from outcomes c =
-    then _ (at p.AfterBracedPayoff due from outcomes (paid c)) (Bare zero_text)
-    (rw (not_zero, zero_is_number, pred_suc) refl) (after_braced_ends due from outcomes (paid c))
+comment_ends : (due from outcomes : ℕ) (c : Content) → Ends (at p.AfterComment due from outcomes c)
+comment_ends due from outcomes c = then _ (at p.InOutcomes 0 from outcomes c) Opening refl
+    (outcomes_ends 0 from outcomes c)
+
+body_ends : (due from outcomes : ℕ) (c : Content) → Ends (at p.AfterStrategies due from outcomes c)
+body_ends due from outcomes c = then _ (at p.InOutcomes 0 from outcomes c) Opening refl
+    (outcomes_ends 0 from outcomes c)
 
 braced_ends : (due from outcomes : ℕ) (c : Content) → Ends (at p.BracedPayoff due from outcomes c)
 braced_ends zero from outcomes c = then _ (at p.InOutcomes 0 from (next_outcome outcomes) c) Closing
     refl (outcomes_ends 0 from (next_outcome outcomes) c)
 braced_ends (suc due) from outcomes c =
     then _ (at p.AfterBracedPayoff due from outcomes (paid c)) (Bare zero_text)
-    (rw (not_zero, zero_is_number, pred_suc) refl) (after_braced_ends due from outcomes (paid c))
+    (rw (not_zero, zero_is_number, pred_suc) refl)
+    (then _ (at p.BracedPayoff due from outcomes (paid c)) Comma refl
+    (braced_ends due from outcomes (paid c)))
+
+after_braced_ends : (due from outcomes : ℕ) (c : Content)
+    → Ends (at p.AfterBracedPayoff due from outcomes c)
+after_braced_ends due from outcomes c =
+    then _ (at p.BracedPayoff due from outcomes c) Comma refl (braced_ends due from outcomes c)
 
 name_ends : (due from outcomes : ℕ) (c : Content) → Ends (at p.OutcomeName due from outcomes c)
 name_ends due from outcomes c = then _ (at p.BracedPayoff (length c.players) from outcomes c)
@@ -163,35 +158,15 @@ list_ends (suc n) due from outcomes c h =
 
 -- ---- headings
 
-before_strategies_ends : (due from outcomes : ℕ) (c : Content)
-    → Ends (at p.BeforeStrategies due from outcomes c)
-before_strategies_ends due from outcomes c =
-    then _ (at p.FirstStrategies due from outcomes c) Opening refl (first_ends due from outcomes c)
-
-players_ends : (due from outcomes : ℕ) (c : Content) → Ends (at p.InPlayers due from outcomes c)
-players_ends due from outcomes c = then _ (at p.BeforeStrategies (length c.players) from outcomes c)
-    Closing refl (before_strategies_ends (length c.players) from outcomes c)
-
-before_players_ends : (due from outcomes : ℕ) (c : Content)
-    → Ends (at p.BeforePlayers due from outcomes c)
-before_players_ends due from outcomes c =
-    then _ (at p.InPlayers due from outcomes c) Opening refl (players_ends due from outcomes c)
+players_end : (due from outcomes : ℕ) (c : Content) → Ends (at p.InPlayers due from outcomes c)
+players_end due from outcomes c =
+    let k = first_ends (length c.players) from outcomes c in
+    (Closing ∷ Opening ∷ k.0, k.1, k.2, k.3)
 
 title_ends : (due from outcomes : ℕ) (c : Content) → Ends (at p.Title due from outcomes c)
-title_ends due from outcomes c = then _ (at p.BeforePlayers due from outcomes (with_title c []))
-    (Text []) refl (before_players_ends due from outcomes (with_title c []))
-
-letter_ends : (due from outcomes : ℕ) (c : Content) → Ends (at p.Letter due from outcomes c)
-letter_ends due from outcomes c =
-    then _ (at p.Title due from outcomes c) (Bare (codes "R")) refl (title_ends due from outcomes c)
-
-version_ends : (due from outcomes : ℕ) (c : Content) → Ends (at p.Version due from outcomes c)
-version_ends due from outcomes c = then _ (at p.Letter due from outcomes c) (Bare (codes "1")) refl
-    (letter_ends due from outcomes c)
-
-format_ends : (due from outcomes : ℕ) (c : Content) → Ends (at p.Format due from outcomes c)
-format_ends due from outcomes c = then _ (at p.Version due from outcomes c) (Bare (codes "NFG"))
-    refl (version_ends due from outcomes c)
+title_ends due from outcomes c =
+    let k = players_end due from outcomes (with_title c []) in
+    (Text [] ∷ Opening ∷ k.0, k.1, k.2, k.3)
 
 -- no list is open
 abbrev pub IsSettled : Position → Type 0
@@ -200,40 +175,38 @@ IsSettled _ = Unit {0}
 
 ends_at : (q : Position) → IsSettled q → (due from outcomes : ℕ) (c : Content)
     → Ends (at q due from outcomes c)
-ends_at p.Format h = format_ends
-ends_at p.Version h = version_ends
-ends_at p.Letter h = letter_ends
-ends_at p.Title h = title_ends
-ends_at p.BeforePlayers h = before_players_ends
-ends_at p.InPlayers h = players_ends
-ends_at p.BeforeStrategies h = before_strategies_ends
-ends_at p.FirstStrategies h = first_ends
-ends_at p.Counts h = counts_ends
-ends_at p.BeforeList h = lists_ends
-ends_at p.InList h = absurd h
-ends_at p.AfterStrategies h = body_ends
-ends_at p.AfterComment h = comment_ends
-ends_at p.FlatPayoffs h = flat_ends
-ends_at p.InOutcomes h = outcomes_ends
-ends_at p.OutcomeName h = name_ends
-ends_at p.BracedPayoff h = braced_ends
-ends_at p.AfterBracedPayoff h = after_braced_ends
-ends_at p.OutcomeNumbers h = numbers_ends
+ends_at p.Format h due from outcomes c =
+    let k = title_ends due from outcomes c in
+    (Bare (codes "NFG") ∷ Bare (codes "1") ∷ Bare (codes "R") ∷ k.0, k.1, k.2, k.3)
+ends_at p.Version h due from outcomes c =
+    let k = title_ends due from outcomes c in
+    (Bare (codes "1") ∷ Bare (codes "R") ∷ k.0, k.1, k.2, k.3)
+ends_at p.Letter h due from outcomes c =
+    let k = title_ends due from outcomes c in (Bare (codes "R") ∷ k.0, k.1, k.2, k.3)
+ends_at p.Title h due from outcomes c = title_ends due from outcomes c
+ends_at p.BeforePlayers h due from outcomes c =
+    let k = players_end due from outcomes c in (Opening ∷ k.0, k.1, k.2, k.3)
+ends_at p.InPlayers h due from outcomes c = players_end due from outcomes c
+ends_at p.BeforeStrategies h due from outcomes c =
+    let k = first_ends due from outcomes c in (Opening ∷ k.0, k.1, k.2, k.3)
+ends_at p.FirstStrategies h due from outcomes c = first_ends due from outcomes c
+ends_at p.Counts h due from outcomes c = counts_ends due from outcomes c
+ends_at p.BeforeList h due from outcomes c = lists_ends due from outcomes c
+ends_at p.InList h due from outcomes c = absurd h
+ends_at p.AfterStrategies h due from outcomes c = body_ends due from outcomes c
+ends_at p.AfterComment h due from outcomes c = comment_ends due from outcomes c
+ends_at p.FlatPayoffs h due from outcomes c = flat_ends due from outcomes c
+ends_at p.InOutcomes h due from outcomes c = outcomes_ends due from outcomes c
+ends_at p.OutcomeName h due from outcomes c = name_ends due from outcomes c
+ends_at p.BracedPayoff h due from outcomes c = braced_ends due from outcomes c
+ends_at p.AfterBracedPayoff h due from outcomes c = after_braced_ends due from outcomes c
+ends_at p.OutcomeNumbers h due from outcomes c = numbers_ends due from outcomes c
 
 pub settled_ends : (s : State) → IsSettled s.position → EndsWith s s.content.profiles
 settled_ends s h = ends_at s.position h s.due s.list_start s.outcomes s.content
 
-settled_or_not : (q : Position) → IsSettled q ⊎ (q ≡ p.InList)
-settled_or_not p.InList = inr refl
-settled_or_not _ = inl tt
-
-ends_by : (s : State) → IsSettled s.position ⊎ (s.position ≡ p.InList)
-    → (more : List Token) × (r : Content) × (run s more ≡ Ok r)
-ends_by s (inl h) = let e = settled_ends s h in (e.0, e.1, e.2)
-ends_by s (inr h) = grind (
-  arith,
-  list_ends (s.list_start + 1) s.due s.list_start s.outcomes s.content (omega arith),
-)
-
 pub ends : (s : State) → (more : List Token) × (r : Content) × (run s more ≡ Ok r)
-ends s = ends_by s (settled_or_not s.position)
+ends s =
+    let a = list_ends (s.list_start + 1) s.due s.list_start s.outcomes s.content (omega arith) in
+    let b = settled_ends s in
+    grind arith

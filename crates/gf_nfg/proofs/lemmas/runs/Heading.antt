@@ -7,6 +7,7 @@ use Rattle.gf_token.specs.declared.fault.What.TheVariants as what
 use Rattle.gf_nfg.specs.inner.Position.{Position as p}
 use Rattle.gf_nfg.proofs.lemmas.runs.Common.{guard_ok, same_bytes, with_no_players}
 use Rattle.gf_nfg.proofs.lemmas.runs.Common.{with_more_players}
+use Rattle.gf_nfg.proofs.lemmas.runs.Walks.{Leads, leads_more, leads_on, walk}
 
 -- ---- what was read
 
@@ -116,28 +117,34 @@ heading_found ts r e =
       goes_on = g.3;
     }
 
--- ---- each heading is read
+-- ---- where each heading leads
 
-players_again : (players : List (List ℕ)) (c : Content) (rest : List Token)
-    → run (at p.InPlayers 0 0 0 c) (map Text players ++ Closing ∷ rest)
-    ≡ run (at p.BeforeStrategies (length (c.players ++ players)) 0 0 (with_players c players)) rest
-players_again [] c rest = cc (with_no_players c)
-players_again (label ∷ players) c rest =
-    grind (arith, with_more_players, players_again players (with_players c (label ∷ [])) rest)
+abbrev pub heading_line : List ℕ → List ℕ → List (List ℕ) → List Token
+heading_line letter title players =
+    Bare (codes "NFG") ∷ Bare (codes "1") ∷ Bare letter ∷ Text title ∷ braced (map Text players)
 
-letter_again : (letter : List ℕ) (rest : List Token) → (letter ≡ codes "R") ⊎ (letter ≡ codes "D")
-    → run (at p.Letter 0 0 0 nothing) (Bare letter ∷ rest) ≡ run (at p.Title 0 0 0 nothing) rest
-letter_again letter rest (inl e) = rw e refl
-letter_again letter rest (inr e) = rw e refl
+abbrev title_line : List ℕ → List ℕ → List Token
+title_line letter title =
+    Bare (codes "NFG") ∷ Bare (codes "1") ∷ Bare letter ∷ Text title ∷ Opening ∷ []
 
-pub heading_again : (letter title : List ℕ) (players : List (List ℕ)) (rest : List Token)
-    → (letter ≡ codes "R") ⊎ (letter ≡ codes "D")
-    → run start (Bare (codes "NFG") ∷ Bare (codes "1") ∷ Bare letter
-    ∷ Text title ∷ (braced (map Text players) ++ rest))
-    ≡ run (at p.BeforeStrategies (length players) 0 0 (heading title players)) rest
-heading_again letter title players rest h = grind (
-  arith,
-  letter_again letter (Text title ∷ (braced (map Text players) ++ rest)) h,
-  append_assoc (map Text players) (Closing ∷ []) rest,
-  players_again players (with_title nothing title) rest,
-)
+title_leads : (letter title : List ℕ) → (letter ≡ codes "R") ⊎ (letter ≡ codes "D")
+    → Leads (title_line letter title) (at p.InPlayers 0 0 0 (with_title nothing title))
+title_leads letter title (inl e) = rw e refl
+title_leads letter title (inr e) = rw e refl
+
+players_walk : (players : List (List ℕ)) (c : Content)
+    → walk (at p.InPlayers 0 0 0 c) (map Text players)
+    ≡ Ok (at p.InPlayers 0 0 0 (with_players c players))
+players_walk [] c = cc (with_no_players c)
+players_walk (label ∷ players) c =
+    grind (arith, with_more_players, players_walk players (with_players c (label ∷ [])))
+
+pub heading_leads : (letter title : List ℕ) (players : List (List ℕ))
+    → (letter ≡ codes "R") ⊎ (letter ≡ codes "D") → Leads (heading_line letter title players)
+    (at p.BeforeStrategies (length players) 0 0 (heading title players))
+heading_leads letter title players h =
+    let line = title_line letter title in
+    let texts = map Text players in
+    let walks = players_walk players (with_title nothing title) in
+    leads_more (line ++ texts) Closing _ _
+    (leads_on line texts _ _ (title_leads letter title h) walks) refl

@@ -1,11 +1,10 @@
 -- Runs over the outcomes in braces, and over the outcome numbers after them.
 use Rattle.gf_nfg.proofs.Common.{◌≡◌, ℕ, zero, suc, ◌+◌, ◌-◌, ◌<◌, ◌≤◌, ◌^◌, min, false, List, []}
-use Rattle.gf_nfg.proofs.Common.{◌∷◌, ◌++◌, length, Option, Some, Ok, refl, sym, ap, subst, ◌∙◌}
+use Rattle.gf_nfg.proofs.Common.{◌∷◌, ◌++◌, length, Option, Some, Ok, refl, sym, ap, ◌∙◌}
 use Rattle.gf_nfg.proofs.Common.{append_assoc, arith, AllByRecursion, length-append, Token, Opening}
-use Rattle.gf_nfg.proofs.Common.{Closing, Text, Bare, IsIndex, Each, braced, IsPayoffInBraces}
-use Rattle.gf_nfg.proofs.Common.{Ratio, IsOutcomeInBraces, State, Content, at, run, chosen}
-use Rattle.gf_nfg.proofs.Common.{with_payoffs, with_choices, next_outcome, ◌>>=◌, index_is}
-use Rattle.gf_nfg.proofs.Common.{index_again}
+use Rattle.gf_nfg.proofs.Common.{Closing, Text, Bare, IsIndex, Each, braced, Ratio}
+use Rattle.gf_nfg.proofs.Common.{IsOutcomeInBraces, State, Content, at, run, chosen, with_payoffs}
+use Rattle.gf_nfg.proofs.Common.{with_choices, next_outcome, ◌>>=◌, index_is, index_again}
 use Rattle.gf_nfg.specs.inner.Position.{Position as p}
 use Rattle.gf_token.specs.Indices.{index_of}
 use Rattle.gf_nfg.proofs.lemmas.tables.Lists.{joined}
@@ -33,12 +32,12 @@ pub record Outcomes (ts : List Token) (before : ℕ) (c r : Content) : Type 0 wh
       (greatest (before + length outcomes)) (with_payoffs c (joined outcomes))) numbers
       ≡ Ok r
 
-outcomes_end : (ts : List Token) (before : ℕ) (c r : Content)
-    → run (at p.InOutcomes 0 0 (greatest before) c) (Closing ∷ ts) ≡ Ok r
-    → Outcomes (Closing ∷ ts) before c r
-outcomes_end ts before c r e =
+-- in more steps than there are tokens
+outcomes_in : (steps : ℕ) (ts : List Token) (before : ℕ) (c r : Content) → length ts < steps
+    → run (at p.InOutcomes 0 0 (greatest before) c) ts ≡ Ok r → Outcomes ts before c r
+outcomes_in zero ts before c r less e = absurd (omega arith)
+outcomes_in (suc steps) (Closing ∷ ts) before c r less e =
     let none : greatest before ≡ greatest (before + 0) = omega arith in
-    let f : run (at p.OutcomeNumbers c.profiles 0 (greatest (before + 0)) c) ts ≡ Ok r = cc in
     record {
       list = [];
       numbers = ts;
@@ -47,48 +46,28 @@ outcomes_end ts before c r e =
       each = refl;
       goes_on = cc (with_no_payoffs c);
     }
-
-outcome_more : (name : List ℕ) (inner rest : List Token) (payoffs : List Ratio) (before : ℕ)
-    (c r : Content) → Each IsPayoffInBraces inner payoffs → length payoffs ≡ length c.players
-    → Outcomes rest (before + 1) (with_payoffs c payoffs) r
-    → Outcomes (Opening ∷ Text name ∷ (inner ++ Closing ∷ rest)) before c r
-outcome_more name inner rest payoffs before c r each count h =
-    let more : greatest ((before + 1) + length h.outcomes)
-    ≡ greatest (before + length (payoffs ∷ h.outcomes)) = omega arith in
-    let f : run (at p.OutcomeNumbers c.profiles 0
-    (greatest (before + length (payoffs ∷ h.outcomes))) (with_payoffs (with_payoffs c payoffs)
-    (joined h.outcomes))) h.numbers ≡ Ok r = cc in
-    record {
-      list = braced (Text name ∷ inner) ++ h.list;
-      numbers = h.numbers;
-      outcomes = payoffs ∷ h.outcomes;
-      parts = cc (
-        append_assoc inner (Closing ∷ []) h.list,
-        append_assoc inner (Closing ∷ h.list)
-            (Closing ∷ h.numbers),
-      );
-      each = (braced (Text name ∷ inner), h.list, refl, (name, inner, refl, each, count), h.each);
-      goes_on = cc (with_more_payoffs c payoffs (joined h.outcomes));
-    }
-
-shorter : (inner ts rest : List Token) (steps : ℕ)
-    → ts ≡ inner ++ Closing ∷ rest → length ts < steps → length rest < steps
-shorter inner ts rest steps e h = grind (arith, length-append)
-
--- in more steps than there are tokens
-outcomes_in : (steps : ℕ) (ts : List Token) (before : ℕ) (c r : Content) → length ts < steps
-    → run (at p.InOutcomes 0 0 (greatest before) c) ts ≡ Ok r → Outcomes ts before c r
-outcomes_in zero ts before c r less e = absurd (omega arith)
-outcomes_in (suc steps) (Closing ∷ ts) before c r less e = outcomes_end ts before c r e
 outcomes_in (suc steps) (Opening ∷ Text name ∷ ts) before c r less e =
-    let b = braces_found false ts (length c.players) (greatest before) c r e in
-    let split : ts ≡ b.inner ++ Closing ∷ b.rest = cc in
-    let f : run (at p.InOutcomes 0 0 (greatest (before + 1)) (with_payoffs c b.numbers)) b.rest
-    ≡ Ok r = cc (greatest_next before) in
-    let h = outcomes_in steps b.rest (before + 1) (with_payoffs c b.numbers) r
-    (shorter b.inner ts b.rest steps split (omega arith)) f in
-    subst (λ (x : List Token). Outcomes (Opening ∷ Text name ∷ x) before c r) (sym split)
-    (outcome_more name b.inner b.rest b.numbers before c r b.each b.count h)
+    let b = braces_found ts (length c.players) (greatest before) c r e in
+    let d : Content = with_payoffs c b.0 in
+    let f : run (at p.InOutcomes 0 0 (greatest (before + 1)) d) b.2 ≡ Ok r =
+    cc (greatest_next before) in
+    let size = ap length b.3 ∙ length-append b.1 (Closing ∷ b.2) in
+    let h = outcomes_in steps b.2 (before + 1) d r (omega (arith, less, size)) f in
+    let more : greatest ((before + 1) + length h.outcomes)
+    ≡ greatest (before + length (b.0 ∷ h.outcomes)) = omega arith in
+    record {
+      list = braced (Text name ∷ b.1) ++ h.list;
+      numbers = h.numbers;
+      outcomes = b.0 ∷ h.outcomes;
+      parts = cc (
+        b.3,
+        h.parts,
+        append_assoc b.1 (Closing ∷ []) h.list,
+        append_assoc b.1 (Closing ∷ h.list) (Closing ∷ h.numbers),
+      );
+      each = (braced (Text name ∷ b.1), h.list, refl, (name, b.1, refl, b.4, b.5), h.each);
+      goes_on = cc (with_more_payoffs c b.0 (joined h.outcomes));
+    }
 outcomes_in (suc steps) _ before c r less e = absurd cc
 
 pub outcomes_found : (ts : List Token) (c r : Content)
@@ -150,7 +129,6 @@ choices_found [] zero outcomes c r e = record {
   known = tt;
   got = sym (ok_is c r e) ∙ sym (with_no_choices c);
 }
-choices_found [] (suc due) outcomes c r e = let f = rw not_zero at e in absurd cc
 choices_found (t ∷ ts) zero outcomes c r e = absurd cc
 choices_found (Bare b ∷ ts) (suc due) outcomes c r e =
     let s : State = at p.OutcomeNumbers (suc due) 0 outcomes c in
@@ -164,7 +142,7 @@ choices_found (Bare b ∷ ts) (suc due) outcomes c r e =
       known = (h.2, k.known);
       got = k.got ∙ with_more_choices c h.0 k.choices;
     }
-choices_found (_ ∷ ts) (suc due) outcomes c r e = let f = rw not_zero at e in absurd cc
+choices_found _ (suc due) outcomes c r e = let f = rw not_zero at e in absurd cc
 
 choice_step : (b : List ℕ) (due outcomes k : ℕ) (c : Content) (ts : List Token)
     → index_of b ≡ Some k → k ≤ outcomes

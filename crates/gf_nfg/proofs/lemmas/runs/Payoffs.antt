@@ -8,6 +8,7 @@ use Rattle.gf_nfg.specs.inner.Position.{Position as p}
 use Rattle.gf_fraction.specs.Computed.{number_of}
 use Rattle.gf_nfg.proofs.lemmas.runs.Common.{not_zero, pred_suc, ok_why, ok_is, with_no_payoffs}
 use Rattle.gf_nfg.proofs.lemmas.runs.Common.{with_more_payoffs}
+use Rattle.gf_nfg.proofs.lemmas.runs.Groups.{First, all_in, groups_found}
 
 -- a payoff that was read
 paid_found : (q : Position) (s : State) (o : Result Ratio NumberFault) (ts : List Token)
@@ -26,7 +27,6 @@ pub flat_found : (ts : List Token) (due : ℕ) (c r : Content)
     × (r ≡ with_payoffs c numbers)
 flat_found [] zero c r e =
     ([], refl, refl, sym (ok_is c r e) ∙ sym (with_no_payoffs c))
-flat_found [] (suc due) c r e = let f = rw not_zero at e in absurd cc
 flat_found (t ∷ ts) zero c r e = absurd cc
 flat_found (Bare b ∷ ts) (suc due) c r e =
     let s : State = at p.FlatPayoffs (suc due) 0 0 c in
@@ -39,7 +39,7 @@ flat_found (Bare b ∷ ts) (suc due) c r e =
       ap suc k.2,
       k.3 ∙ with_more_payoffs c (h.0 ∷ []) k.0,
     )
-flat_found (_ ∷ ts) (suc due) c r e = let f = rw not_zero at e in absurd cc
+flat_found _ (suc due) c r e = let f = rw not_zero at e in absurd cc
 
 flat_step : (b : List ℕ) (due : ℕ) (n : Ratio) (c : Content) (ts : List Token) → number_of b ≡ Ok n
     → run (at p.FlatPayoffs (suc due) 0 0 c) (Bare b ∷ ts) ≡ run
@@ -63,100 +63,68 @@ abbrev pub braced_at : Bool → Position
 braced_at true = p.AfterBracedPayoff
 braced_at false = p.BracedPayoff
 
-abbrev MayBeComma : Bool → List Token → Type 0
-MayBeComma true ts = (ts ≡ []) ⊎ (ts ≡ Comma ∷ [])
-MayBeComma false ts = ts ≡ []
+abbrev with_one : Content → Ratio → Content
+with_one c n = with_payoffs c (n ∷ [])
 
-no_comma : (b : Bool) → MayBeComma b []
-no_comma true = inl refl
-no_comma false = refl
+all_payoffs : (ns : List Ratio) (c : Content) → all_in with_one c ns ≡ with_payoffs c ns
+all_payoffs [] c = sym (with_no_payoffs c)
+all_payoffs (n ∷ ns) c = all_payoffs ns (with_one c n) ∙ with_more_payoffs c (n ∷ []) ns
 
--- (number [Comma])^due Closing, after a comma if there may be one
-pub record Braces (may : Bool) (ts : List Token) (due outcomes : ℕ) (c r : Content)
-    : Type 0 where
-  pub numbers : List Ratio
-  pub comma : List Token
-  pub inner : List Token
-  pub rest : List Token
-  pub parts : ts ≡ comma ++ (inner ++ Closing ∷ rest)
-  pub is_comma : MayBeComma may comma
-  pub each : Each IsPayoffInBraces inner numbers
-  pub count : length numbers ≡ due
-  pub goes_on : run (at p.InOutcomes 0 0 (next_outcome outcomes) (with_payoffs c numbers)) rest
-      ≡ Ok r
+abbrev braced_due : ℕ → ℕ → Content → State
+braced_due outcomes due c = at p.BracedPayoff due 0 outcomes c
 
--- one payoff in braces, and what follows
-braces_more : (may : Bool) (b : List ℕ) (ts : List Token) (due outcomes : ℕ) (n : Ratio)
-    (c r : Content)
-    → number_of b ≡ Ok n → Braces true ts due outcomes (with_payoffs c (n ∷ [])) r
-    → Braces may (Bare b ∷ ts) (suc due) outcomes c r
-braces_more may b ts due outcomes n c r e h = record {
-  numbers = n ∷ h.numbers;
-  comma = [];
-  inner = (Bare b ∷ h.comma) ++ h.inner;
-  rest = h.rest;
-  parts = ap (λ (x : List Token). Bare b ∷ x)
-      (h.parts ∙ sym (append_assoc h.comma h.inner (Closing ∷ h.rest)));
-  is_comma = no_comma may;
-  each = (Bare b ∷ h.comma, h.inner, refl, (b, h.comma, refl, number_is b n e, h.is_comma), h.each);
-  count = ap suc h.count;
-  goes_on =
-      subst (λ (d : Content). run (at p.InOutcomes 0 0 (next_outcome outcomes) d) h.rest ≡ Ok r)
-      (with_more_payoffs c (n ∷ []) h.numbers) h.goes_on;
-}
+comma_found : (ts : List Token) (due outcomes : ℕ) (c r : Content)
+    → run (at p.AfterBracedPayoff due 0 outcomes c) ts ≡ Ok r
+    → (comma : List Token) × (rest : List Token) × (ts ≡ comma ++ rest)
+    × ((comma ≡ []) ⊎ (comma ≡ Comma ∷ [])) × (run (braced_due outcomes due c) rest ≡ Ok r)
+comma_found [] due outcomes c r e = ([], [], refl, inl refl, e)
+comma_found (Comma ∷ ts) due outcomes c r e = (Comma ∷ [], ts, refl, inr refl, e)
+comma_found (t ∷ ts) due outcomes c r e = ([], t ∷ ts, refl, inl refl, e)
 
-braces_end : (may : Bool) (ts : List Token) (outcomes : ℕ) (c r : Content)
-    → run (at p.InOutcomes 0 0 (next_outcome outcomes) c) ts ≡ Ok r
-    → Braces may (Closing ∷ ts) 0 outcomes c r
-braces_end may ts outcomes c r e = record {
-  numbers = [];
-  comma = [];
-  inner = [];
-  rest = ts;
-  parts = refl;
-  is_comma = no_comma may;
-  each = refl;
-  count = refl;
-  goes_on =
-      subst (λ (d : Content). run (at p.InOutcomes 0 0 (next_outcome outcomes) d) ts ≡ Ok r)
-      (sym (with_no_payoffs c)) e;
-}
-
-pub braces_found : (may : Bool) (ts : List Token) (due outcomes : ℕ) (c r : Content)
-    → run (at (braced_at may) due 0 outcomes c) ts ≡ Ok r → Braces may ts due outcomes c r
-braces_found true (Comma ∷ ts) due outcomes c r e =
-    let h = braces_found false ts due outcomes c r e in
+one_braced : (outcomes : ℕ) (ts : List Token) (due : ℕ) (c r : Content)
+    → run (braced_due outcomes (suc due) c) ts ≡ Ok r
+    → First IsPayoffInBraces (braced_due outcomes) with_one ts due c r
+one_braced outcomes (Bare b ∷ ts) due c r e =
+    let s : State = braced_due outcomes (suc due) c in
+    let f : (paid p.AfterBracedPayoff s (number_of b) >>= λ after. run after ts) ≡ Ok r =
+    rw not_zero at e in
+    let h = paid_found p.AfterBracedPayoff s (number_of b) ts r f in
+    let k = comma_found ts due outcomes (with_one c h.0) r (rw pred_suc at h.2) in
     record {
-      numbers = h.numbers;
-      comma = Comma ∷ [];
-      inner = h.inner;
-      rest = h.rest;
-      parts = cc;
-      is_comma = inr refl;
-      each = h.each;
-      count = h.count;
-      goes_on = h.goes_on;
+      first = Bare b ∷ k.0;
+      rest = k.1;
+      item = h.0;
+      parts = ap (λ x. Bare b ∷ x) k.2;
+      is = (b, k.0, refl, number_is b h.0 h.1, k.3);
+      goes_on = k.4;
     }
-braces_found true (Closing ∷ ts) zero outcomes c r e = braces_end true ts outcomes c r e
-braces_found false (Closing ∷ ts) zero outcomes c r e = braces_end false ts outcomes c r e
-braces_found true (Bare b ∷ ts) (suc due) outcomes c r e =
-    let s : State = at p.AfterBracedPayoff (suc due) 0 outcomes c in
-    let f : (paid p.AfterBracedPayoff s (number_of b) >>= λ after. run after ts) ≡ Ok r =
-    rw not_zero at e in
-    let h = paid_found p.AfterBracedPayoff s (number_of b) ts r f in
-    braces_more true b ts due outcomes h.0 c r h.1
-    (braces_found true ts due outcomes (with_payoffs c (h.0 ∷ [])) r (rw pred_suc at h.2))
-braces_found false (Bare b ∷ ts) (suc due) outcomes c r e =
-    let s : State = at p.BracedPayoff (suc due) 0 outcomes c in
-    let f : (paid p.AfterBracedPayoff s (number_of b) >>= λ after. run after ts) ≡ Ok r =
-    rw not_zero at e in
-    let h = paid_found p.AfterBracedPayoff s (number_of b) ts r f in
-    braces_more false b ts due outcomes h.0 c r h.1
-    (braces_found true ts due outcomes (with_payoffs c (h.0 ∷ [])) r (rw pred_suc at h.2))
-braces_found true _ zero outcomes c r e = absurd cc
-braces_found false _ zero outcomes c r e = absurd cc
-braces_found true _ (suc due) outcomes c r e = let f = rw not_zero at e in absurd cc
-braces_found false _ (suc due) outcomes c r e = let f = rw not_zero at e in absurd cc
+one_braced outcomes _ due c r e = let f = rw not_zero at e in absurd cc
+
+brace_found : (ts : List Token) (outcomes : ℕ) (c r : Content)
+    → run (braced_due outcomes 0 c) ts ≡ Ok r → (rest : List Token) × (ts ≡ Closing ∷ rest)
+    × (run (at p.InOutcomes 0 0 (next_outcome outcomes) c) rest ≡ Ok r)
+brace_found (Closing ∷ ts) outcomes c r e = (ts, refl, e)
+brace_found _ outcomes c r e = absurd cc
+
+-- (number [Comma])^due Closing
+pub braces_found : (ts : List Token) (due outcomes : ℕ) (c r : Content)
+    → run (braced_due outcomes due c) ts ≡ Ok r
+    → (numbers : List Ratio) × (inner : List Token) × (rest : List Token)
+    × (ts ≡ inner ++ Closing ∷ rest) × Each IsPayoffInBraces inner numbers × (length numbers ≡ due)
+    × (run (at p.InOutcomes 0 0 (next_outcome outcomes) (with_payoffs c numbers)) rest ≡ Ok r)
+braces_found ts due outcomes c r e =
+    let h = groups_found IsPayoffInBraces (braced_due outcomes) with_one (one_braced outcomes) ts due
+    c r e in
+    let k = brace_found h.rest outcomes (all_in with_one c h.items) r h.goes_on in (
+      h.items,
+      h.inner,
+      k.0,
+      cc (h.parts, k.1),
+      h.each,
+      h.count,
+      subst (λ d. run (at p.InOutcomes 0 0 (next_outcome outcomes) d) k.0 ≡ Ok r)
+          (all_payoffs h.items c) k.2,
+    )
 
 braced_step : (may : Bool) (b : List ℕ) (due outcomes : ℕ) (n : Ratio) (c : Content)
     (ts : List Token) → number_of b ≡ Ok n

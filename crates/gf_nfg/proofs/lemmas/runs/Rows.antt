@@ -3,46 +3,25 @@ use Rattle.gf_nfg.proofs.Common.{◌≡◌, ℕ, zero, suc, ◌*◌, ◌<◌, �
 use Rattle.gf_nfg.proofs.Common.{map, take, drop, refl, sym, ap, subst, ◌∙◌, append_assoc, arith}
 use Rattle.gf_nfg.proofs.Common.{length-drop, AllByRecursion, mul-suc, slice_get_within, Token}
 use Rattle.gf_nfg.proofs.Common.{Each, Ratio, IsPayoff, IsOutcomeInBraces, IsOutcomeNumber, Pays}
-use Rattle.gf_nfg.proofs.Common.{row_of}
+use Rattle.gf_nfg.proofs.Common.{row_of, take-append-drop}
 use Rattle.gf_nfg.proofs.lemmas.tables.Lists.{joined, get-joined}
 use Rattle.gf_nfg.proofs.lemmas.tables.Meaning.{rows_of}
+use Rattle.gf_nfg.proofs.lemmas.runs.Groups.{each_parts}
 use Rattle.gf_nfg.proofs.lemmas.runs.Outcomes.{IsChoice, greatest}
 
 -- ---- the payoff version
 
 -- payoffs in turn are rows in turn
-record Split (tokens : List Token) (size : ℕ) (numbers : List Ratio) : Type 0 where
-  first : List Token
-  others : List Token
-  parts : tokens ≡ first ++ others
-  row : Each IsPayoff first (take size numbers)
-  rest : Each IsPayoff others (drop size numbers)
-
-split : (size : ℕ) (numbers : List Ratio) (tokens : List Token) → Each IsPayoff tokens numbers
-    → Split tokens size numbers
-split zero numbers tokens h =
-    record { first = []; others = tokens; parts = refl; row = refl; rest = h }
-split (suc size) [] tokens h =
-    record { first = []; others = tokens; parts = refl; row = refl; rest = h }
-split (suc size) (n ∷ numbers) tokens h =
-    let s = split size numbers h.1 h.4 in
-    record {
-      first = h.0 ++ s.first;
-      others = s.others;
-      parts = h.2 ∙ ap (λ ts. h.0 ++ ts) s.parts ∙ sym (append_assoc h.0 s.first s.others);
-      row = (h.0, s.first, refl, h.3, s.row);
-      rest = s.rest;
-    }
-
 pub rows_each : (size n : ℕ) (numbers : List Ratio) (tokens : List Token)
     → length numbers ≡ size * n → Each IsPayoff tokens numbers
     → Each (Each IsPayoff) tokens (rows_of size n numbers)
 rows_each size zero [] tokens e h = h
 rows_each size zero (x ∷ numbers) tokens e h = absurd (omega arith)
 rows_each size (suc n) numbers tokens e h =
-    let s = split size numbers tokens h in
+    let s = each_parts IsPayoff (take size numbers) (drop size numbers) tokens
+    (subst (λ xs. Each IsPayoff tokens xs) (sym (take-append-drop size numbers)) h) in
     let rest : length (drop size numbers) ≡ size * n = grind (arith, length-drop, mul-suc) in
-    (s.first, s.others, s.parts, s.row, rows_each size n (drop size numbers) s.others rest s.rest)
+    (s.0, s.1, s.2, s.3, rows_each size n (drop size numbers) s.1 rest s.4)
 
 Each-append : {A : Type 0} (P : List Token → A → Type 0)
     (xs ys : List A) (first others : List Token)

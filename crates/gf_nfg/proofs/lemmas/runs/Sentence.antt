@@ -1,12 +1,12 @@
 -- A run of the machine that succeeds has read a sentence, and each sentence is read.
 use Rattle.gf_nfg.proofs.Common.{◌≡◌, ℕ, ◌*◌, ◌<◌, ◌≤◌, List, [], ◌∷◌, ◌++◌, length, map, Ok, refl}
-use Rattle.gf_nfg.proofs.Common.{sym, ap, subst, ◌∙◌, append_assoc, arith, inl, inr, codes, ◌⊎◌}
-use Rattle.gf_nfg.proofs.Common.{sum, AllByRecursion, length-map, Token, Opening, Closing, Text}
-use Rattle.gf_nfg.proofs.Common.{Bare, Each, braced, IsComment, Ratio, all_images, product, Table}
-use Rattle.gf_nfg.proofs.Common.{IsTable, rows, Sentence, IsStrategies, IsPayoff, IsOutcomeInBraces}
-use Rattle.gf_nfg.proofs.Common.{IsPayoffBody, IsOutcomeBody, IsCount, IsLabelList, counted_labels}
-use Rattle.gf_nfg.proofs.Common.{Content, at, run, start, row_of, strategies_of, rows_by, table_of}
-use Rattle.gf_nfg.proofs.Common.{HasPayoffs, HasLabels, IsComplete}
+use Rattle.gf_nfg.proofs.Common.{sym, ap, subst, ◌∙◌, append_assoc, arith, inl, inr, ◌⊎◌, sum}
+use Rattle.gf_nfg.proofs.Common.{AllByRecursion, length-map, Token, Opening, Closing, Each, braced}
+use Rattle.gf_nfg.proofs.Common.{IsComment, Ratio, all_images, product, Table, IsTable, rows}
+use Rattle.gf_nfg.proofs.Common.{Sentence, IsPayoffBody, IsOutcomeBody, IsCount, IsLabelList}
+use Rattle.gf_nfg.proofs.Common.{counted_labels, Content, at, run, start, with_comment, row_of}
+use Rattle.gf_nfg.proofs.Common.{strategies_of, rows_by, table_of, HasPayoffs, HasLabels}
+use Rattle.gf_nfg.proofs.Common.{IsComplete}
 use Rattle.gf_nfg.specs.inner.Position.{Position as p}
 use Rattle.gf_nfg.proofs.lemmas.tables.Lists.{joined, length-counted_labels, length-joined}
 use Rattle.gf_nfg.proofs.lemmas.tables.Lists.{length-joined_rows, product_above_zero}
@@ -15,13 +15,62 @@ use Rattle.gf_nfg.proofs.lemmas.tables.Meaning.{rows_in_turn, rows_again}
 use Rattle.gf_nfg.proofs.lemmas.tables.Profiles.{length-profiles}
 use Rattle.gf_nfg.proofs.lemmas.tables.Rows.{entries_again}
 use Rattle.gf_nfg.proofs.lemmas.runs.Common.{ok_why, ok_is}
-use Rattle.gf_nfg.proofs.lemmas.runs.Heading.{heading, heading_found, heading_again}
-use Rattle.gf_nfg.proofs.lemmas.runs.Strategies.{with_counts, ended, first_found}
-use Rattle.gf_nfg.proofs.lemmas.runs.Strategies.{first_counts_again, first_lists_again}
-use Rattle.gf_nfg.proofs.lemmas.runs.Outcomes.{IsChoice, greatest}
+use Rattle.gf_nfg.proofs.lemmas.runs.Walks.{leads_run}
+use Rattle.gf_nfg.proofs.lemmas.runs.Heading.{heading, heading_found, heading_leads, heading_line}
+use Rattle.gf_nfg.proofs.lemmas.runs.Strategies.{AllSome, IsGroup, Kind, Strategies, ended}
+use Rattle.gf_nfg.proofs.lemmas.runs.Strategies.{labels_in, strategies_again, strategies_found}
+use Rattle.gf_nfg.proofs.lemmas.runs.Strategies.{with_counts}
+use Rattle.gf_nfg.proofs.lemmas.runs.Strategies.Kind.{ByCounts, ByLists}
+use Rattle.gf_nfg.proofs.lemmas.runs.Outcomes.{greatest}
 use Rattle.gf_nfg.proofs.lemmas.runs.Rows.{rows_each, rows_joined, outcomes_full, choices_pay}
 use Rattle.gf_nfg.proofs.lemmas.runs.Rows.{choices_chosen}
 use Rattle.gf_nfg.proofs.lemmas.runs.Body.{Body, comment_found, flat_body_again, outcome_body_again}
+
+-- ---- the strategies
+
+either_kind : (k : Kind) (inner : List Token) (strategies : Strategies)
+    → Each (IsGroup k) inner strategies
+    → Each IsCount inner strategies ⊎ Each IsLabelList inner strategies
+either_kind ByCounts inner strategies h = inl h
+either_kind ByLists inner strategies h = inr h
+
+pub kind_of : (inner : List Token) (strategies : Strategies)
+    → Each IsCount inner strategies ⊎ Each IsLabelList inner strategies
+    → (k : Kind) × Each (IsGroup k) inner strategies
+kind_of inner strategies (inl h) = (ByCounts, h)
+kind_of inner strategies (inr h) = (ByLists, h)
+
+counts_mean : (strategies : Strategies) (inner : List Token) → Each IsCount inner strategies
+    → map counted_labels (map length strategies) ≡ strategies
+counts_mean [] inner h = refl
+counts_mean (labels ∷ strategies) inner h =
+    cc (length-counted_labels (h.3.1), counts_mean strategies h.1 h.4)
+
+strategies_mean : (k : Kind) (strategies : Strategies) (inner : List Token)
+    → Each (IsGroup k) inner strategies → AllSome strategies
+    → strategies_of (map length strategies) (labels_in k strategies) ≡ strategies
+strategies_mean ByCounts strategies inner h some = counts_mean strategies inner h
+strategies_mean ByLists strategies inner h some =
+    strategies_of-joined strategies (all_images (λ n. 0 < n) length strategies some)
+
+labels_fit : (counts : List ℕ) (labels : List (List ℕ)) → length labels ≡ sum counts
+    → HasLabels counts labels
+labels_fit counts [] e = tt
+labels_fit counts (label ∷ labels) e = e
+
+labels_kept : (k : Kind) (strategies : Strategies)
+    → HasLabels (map length strategies) (labels_in k strategies)
+labels_kept ByCounts strategies = tt
+labels_kept ByLists strategies =
+    labels_fit (map length strategies) (joined strategies) (length-joined strategies)
+
+-- of positive numbers of strategies there are some profiles
+some_profiles : (strategies : Strategies) → AllSome strategies
+    → 0 < 1 * product (map length strategies)
+some_profiles strategies some =
+    let above = product_above_zero (map length strategies)
+    (all_images (λ n. 0 < n) length strategies some) in
+    omega (arith, above)
 
 -- ---- what was read
 
@@ -37,83 +86,6 @@ only_opening : (ts : List Token) (due : ℕ) (c r : Content)
     × (run (at p.FirstStrategies due 0 0 c) rest ≡ Ok r)
 only_opening (Opening ∷ rest) due c r e = (rest, refl, e)
 only_opening _ due c r e = absurd cc
-
--- the strategies, as they are spelled and as they are kept
-record Strategies (ts : List Token) (title : List ℕ) (players : List (List ℕ)) (r : Content)
-    : Type 0 where
-  inner : List Token
-  rest : List Token
-  counts : List ℕ
-  labels : List (List ℕ)
-  parts : ts ≡ braced inner ++ rest
-  spelled : IsStrategies (braced inner) (strategies_of counts labels)
-  count : length counts ≡ length players
-  positive : AllByRecursion (λ n. 0 < n) counts
-  has_labels : HasLabels counts labels
-  goes_on : run (ended (with_counts (heading title players) counts labels)) rest ≡ Ok r
-
-labels_fit : (counts : List ℕ) (labels : List (List ℕ)) → length labels ≡ sum counts
-    → HasLabels counts labels
-labels_fit counts [] e = tt
-labels_fit counts (label ∷ labels) e = e
-
-strategies_found : (ts : List Token) (title : List ℕ) (players : List (List ℕ)) (r : Content)
-    → run (at p.BeforeStrategies (length players) 0 0 (heading title players)) ts ≡ Ok r
-    → Strategies ts title players r
-strategies_found ts title players r e =
-    let a = only_opening ts (length players) (heading title players) r e in
-    elim (first_found a.0 (length players) (heading title players) r a.2) [
-      | inl h ↦ record {
-        inner = h.inner;
-        rest = h.rest;
-        counts = h.more;
-        labels = [];
-        parts = cc (a.1, h.parts, append_assoc h.inner (Closing ∷ []) h.rest);
-        spelled = (h.inner, refl, inl h.each);
-        count = h.count;
-        positive = h.positive;
-        has_labels = tt;
-        goes_on = h.goes_on;
-      }
-      | inr h ↦ record {
-        inner = h.inner;
-        rest = h.rest;
-        counts = map length h.more;
-        labels = joined h.more;
-        parts = cc (a.1, h.parts, append_assoc h.inner (Closing ∷ []) h.rest);
-        spelled = (
-          h.inner,
-          refl,
-          inr (subst (λ (ls : List (List (List ℕ))). Each IsLabelList h.inner ls)
-              (sym (strategies_of-joined h.more h.positive)) h.each),
-        );
-        count = length-map h.more length ∙ h.count;
-        positive = h.positive;
-        has_labels = labels_fit (map length h.more) (joined h.more) (length-joined h.more);
-        goes_on = h.goes_on;
-      }
-    ]
-
--- all that was read
-abbrev whole : List ℕ → List ℕ → List (List ℕ) → List ℕ → List (List ℕ) → List Ratio → List ℕ
-    → Content
-whole title comment players counts labels payoffs choices =
-    record {
-      title = title;
-      comment = comment;
-      players = players;
-      counts = counts;
-      labels = labels;
-      profiles = 1 * product counts;
-      payoffs = payoffs;
-      choices = choices;
-    }
-
--- its body
-record BodyRead (body : List Token) (c : Content) : Type 0 where
-  has_rows : HasPayoffs c c.choices
-  spelled : IsPayoffBody body (rows_by c c.choices)
-      ⊎ IsOutcomeBody (length c.players) body (rows_by c c.choices)
 
 rows_chosen : (c : Content) (choices : List ℕ) → 0 < length choices
     → rows_by c choices ≡ map (row_of (length c.players) c.payoffs) choices
@@ -131,108 +103,96 @@ known_all : (n : ℕ) (choices : List ℕ) → AllByRecursion (λ k. k ≤ great
 known_all n [] h = tt
 known_all n (k ∷ choices) h = (let small = h.0 in omega (arith, small), known_all n choices h.1)
 
-flat_read : (body : List Token) (title comment : List ℕ) (players : List (List ℕ)) (counts : List ℕ)
-    (labels : List (List ℕ)) (numbers : List Ratio)
-    → Each IsPayoff body numbers → length numbers ≡ length players * (1 * product counts)
-    → BodyRead body (whole title comment players counts labels numbers [])
-flat_read body title comment players counts labels numbers each count =
-    record {
-      has_rows = count;
-      spelled = inl (subst (λ (rs : List (List Ratio)). IsPayoffBody body rs)
-          (sym (rows_in_turn (length players) (1 * product counts) numbers))
-          (rows_each (length players) (1 * product counts) numbers body count each));
-    }
+-- with the body
+abbrev filled : Content → List Ratio → List ℕ → Content
+filled c payoffs choices = record c { payoffs = payoffs; choices = choices }
 
-outcome_read : (list numbers : List Token) (title comment : List ℕ) (players : List (List ℕ))
-    (counts : List ℕ) (labels : List (List ℕ)) (outcomes : List (List Ratio)) (choices : List ℕ)
-    → Each (IsOutcomeInBraces (length players)) list outcomes → Each IsChoice numbers choices
-    → AllByRecursion (λ k. k ≤ greatest (length outcomes)) choices
-    → length choices ≡ 1 * product counts → AllByRecursion (λ n. 0 < n) counts
-    → BodyRead (braced list ++ numbers)
-    (whole title comment players counts labels (joined outcomes) choices)
-outcome_read list numbers title comment players counts labels outcomes choices listed each known
-    count positive =
-    let c : Content = whole title comment players counts labels (joined outcomes) choices in
-    let above = product_above_zero counts positive in
-    let some : 0 < length choices = omega (arith, count, above) in
-    let full = outcomes_full (length players) outcomes list listed in
-    let pay = choices_pay (length players) outcomes full choices numbers each known in
-    record {
-      has_rows = has_chosen c (length outcomes) choices some
-          (length-joined_rows (length players) outcomes full) count
-          (known_all (length outcomes) choices known);
-      spelled = grind arith;
-    }
+-- the rows of the grammar's body
+abbrev IsBody : List Token → Content → List ℕ → Type 0
+IsBody body c choices = IsPayoffBody body (rows_by c choices)
+    ⊎ IsOutcomeBody (length c.players) body (rows_by c choices)
 
-read_of : (ts : List Token) (letter title said : List ℕ) (players : List (List ℕ))
-    (inner comment body : List Token) (counts : List ℕ) (labels : List (List ℕ))
-    (payoffs : List Ratio) (choices : List ℕ)
-    → ts ≡ Bare (codes "NFG") ∷ Bare (codes "1") ∷ Bare letter ∷ Text title
-    ∷ (braced (map Text players) ++ (braced inner ++ (comment ++ body)))
-    → (letter ≡ codes "R") ⊎ (letter ≡ codes "D")
-    → IsStrategies (braced inner) (strategies_of counts labels) → length counts ≡ length players
-    → AllByRecursion (λ n. 0 < n) counts → HasLabels counts labels
-    → IsComment comment said
-    → BodyRead body (whole title said players counts labels payoffs choices)
-    → Read ts (whole title said players counts labels payoffs choices)
-read_of ts letter title said players inner comment body counts labels payoffs choices parts
-    is_letter spelled count positive has_labels is_comment b =
-    let c : Content = whole title said players counts labels payoffs choices in
-    let complete : IsComplete c = grind arith in
-    record {
-      sentence = record {
-        letter = letter;
-        strategies = braced inner;
-        comment = comment;
-        body = body;
-        parts = parts;
-        is_letter = is_letter;
-        is_strategies = spelled;
-        is_comment = is_comment;
-        is_body = subst (λ (rs : List (List Ratio)).
-            IsPayoffBody body rs ⊎ IsOutcomeBody (length players) body rs)
-            (sym (rows-table_of c complete)) b.spelled;
-        is_table = is_table c complete;
-      };
-      complete = complete;
-    }
+record BodyRead (body : List Token) (c r : Content) : Type 0 where
+  payoffs : List Ratio
+  choices : List ℕ
+  got : r ≡ filled c payoffs choices
+  has_rows : HasPayoffs (filled c payoffs choices) choices
+  spelled : IsBody body (filled c payoffs choices) choices
 
-with_body : (ts : List Token) (letter title said : List ℕ) (players : List (List ℕ))
-    (inner comment body : List Token) (counts : List ℕ) (labels : List (List ℕ)) (r : Content)
-    → ts ≡ Bare (codes "NFG") ∷ Bare (codes "1") ∷ Bare letter ∷ Text title
-    ∷ (braced (map Text players) ++ (braced inner ++ (comment ++ body)))
-    → (letter ≡ codes "R") ⊎ (letter ≡ codes "D")
-    → IsStrategies (braced inner) (strategies_of counts labels) → length counts ≡ length players
-    → AllByRecursion (λ n. 0 < n) counts → HasLabels counts labels
-    → IsComment comment said
-    → Body body (length players * (1 * product counts))
-    (whole title said players counts labels [] []) r
-    → Read ts r
-with_body ts letter title said players inner comment body counts labels r parts is_letter spelled
-    count positive has_labels is_comment (inl h) =
-    subst (Read ts) (sym h.got) (read_of ts letter title said players inner comment body counts
-    labels h.numbers [] parts is_letter spelled count positive has_labels is_comment
-    (flat_read body title said players counts labels h.numbers h.each h.count))
-with_body ts letter title said players inner comment body counts labels r parts is_letter spelled
-    count positive has_labels is_comment (inr h) =
-    let b = outcome_read h.list h.numbers title said players counts labels h.outcomes
-    h.choices.choices h.each h.choices.each h.choices.known h.choices.count positive in
-    rw h.choices.got (read_of ts letter title said players inner comment body counts labels
-    (joined h.outcomes) h.choices.choices parts is_letter spelled count positive has_labels
-    is_comment (subst (λ (x : List Token). BodyRead x (whole title said players counts labels
-    (joined h.outcomes) h.choices.choices)) (sym h.parts) b))
+body_read : (body : List Token) (c r : Content) → 0 < c.profiles
+    → Body body (length c.players * c.profiles) (filled c [] []) r → BodyRead body c r
+body_read body c r above (inl h) = record {
+  payoffs = h.numbers;
+  choices = [];
+  got = h.got;
+  has_rows = h.count;
+  spelled = inl (subst (λ (rs : List (List Ratio)). IsPayoffBody body rs)
+      (sym (rows_in_turn (length c.players) c.profiles h.numbers))
+      (rows_each (length c.players) c.profiles h.numbers body h.count h.each));
+}
+body_read body c r above (inr h) =
+    let k = h.choices in
+    let some : 0 < length k.choices = omega (arith, k.count, above) in
+    let full = outcomes_full (length c.players) h.outcomes h.list h.each in
+    let d : Content = filled c (joined h.outcomes) k.choices in
+    record {
+      payoffs = joined h.outcomes;
+      choices = k.choices;
+      got = k.got;
+      has_rows = has_chosen d (length h.outcomes) k.choices some
+          (length-joined_rows (length c.players) h.outcomes full) k.count
+          (known_all (length h.outcomes) k.choices k.known);
+      spelled = inr (record {
+        list = h.list;
+        numbers = h.numbers;
+        outcomes = h.outcomes;
+        parts = h.parts;
+        listed = h.each;
+        chosen = rw (rows_chosen d k.choices some)
+            (choices_pay (length c.players) h.outcomes full k.choices h.numbers k.each k.known);
+      });
+    }
 
 pub sentence_found : (ts : List Token) (r : Content) → run start ts ≡ Ok r → Read ts r
 sentence_found ts r e =
     let a = heading_found ts r e in
-    let b = strategies_found a.rest a.title a.players r a.goes_on in
-    let d = comment_found b.rest (with_counts (heading a.title a.players) b.counts b.labels)
-    r refl b.goes_on in
-    let rest : a.rest ≡ braced b.inner ++ (d.comment ++ d.body) = cc in
-    let parts : ts ≡ Bare (codes "NFG") ∷ Bare (codes "1") ∷ Bare a.letter ∷ Text a.title ∷ (braced
-    (map Text a.players) ++ (braced b.inner ++ (d.comment ++ d.body))) = cc in
-    with_body ts a.letter a.title d.said a.players b.inner d.comment d.body b.counts b.labels r
-    parts a.is_letter b.spelled b.count b.positive b.has_labels d.is_comment d.is_body
+    let o = only_opening a.rest (length a.players) (heading a.title a.players) r a.goes_on in
+    let b = strategies_found o.0 (length a.players) (heading a.title a.players) r o.2 in
+    let c : Content = with_counts (heading a.title a.players) (map length b.strategies)
+    (labels_in b.kind b.strategies) in
+    let d = comment_found b.rest c r refl b.goes_on in
+    let k = body_read d.body (with_comment c d.said) r (some_profiles b.strategies b.some)
+    d.is_body in
+    let x : Content = filled (with_comment c d.said) k.payoffs k.choices in
+    let complete : IsComplete x = record {
+      one_count_each = length-map b.strategies length ∙ b.count;
+      some_strategy = all_images (λ n. 0 < n) length b.strategies b.some;
+      profiles_are = omega arith;
+      has_labels = labels_kept b.kind b.strategies;
+      has_rows = k.has_rows;
+    } in
+    subst (Read ts) (sym k.got) (record {
+      sentence = record {
+        letter = a.letter;
+        strategies = braced b.inner;
+        comment = d.comment;
+        body = d.body;
+        parts = cc (a.parts, o.1, b.parts, d.parts, append_assoc b.inner (Closing ∷ []) b.rest);
+        is_letter = a.is_letter;
+        is_strategies = (
+          b.inner,
+          refl,
+          either_kind b.kind b.inner _ (subst (Each (IsGroup b.kind) b.inner)
+              (sym (strategies_mean b.kind b.strategies b.inner b.each b.some)) b.each),
+        );
+        is_comment = d.is_comment;
+        is_body = subst (λ (rs : List (List Ratio)).
+            IsPayoffBody d.body rs ⊎ IsOutcomeBody (length a.players) d.body rs)
+            (sym (rows-table_of x complete)) k.spelled;
+        is_table = is_table x complete;
+      };
+      complete = complete;
+    })
 
 -- ---- each sentence is read
 
@@ -242,119 +202,83 @@ pub record Parts (ts : List Token) (t : Table) : Type 0 where
   pub read : run start ts ≡ Ok content
   pub means : table_of content ≡ t
 
--- the strategies' places in the parts
-record Kept (t : Table) (inner rest : List Token) : Type 0 where
-  counts : List ℕ
-  labels : List (List ℕ)
-  lengths : counts ≡ map length t.strategies
-  means : strategies_of counts labels ≡ t.strategies
-  goes_on : run (at p.FirstStrategies (length t.strategies) 0 0 (heading t.title t.players))
-      (inner ++ Closing ∷ rest)
-      ≡ run (ended (with_counts (heading t.title t.players) counts labels)) rest
-
-counts_mean : (strategies : List (List (List ℕ))) (inner : List Token)
-    → Each IsCount inner strategies → map counted_labels (map length strategies) ≡ strategies
-counts_mean [] inner h = refl
-counts_mean (labels ∷ strategies) inner h =
-    cc (length-counted_labels (h.3.1), counts_mean strategies h.1 h.4)
-
-kept : (t : Table) (inner rest : List Token) → IsTable t
-    → Each IsCount inner t.strategies ⊎ Each IsLabelList inner t.strategies → Kept t inner rest
-kept t inner rest h (inl each) = grind (arith, counts_mean, first_counts_again, heading)
-kept t inner rest h (inr each) = record {
-  counts = map length t.strategies;
-  labels = joined t.strategies;
-  lengths = refl;
-  means = strategies_of-joined t.strategies
-      (all_images (λ n. 0 < n) length t.strategies h.some_strategy);
-  goes_on =
-      first_lists_again t.strategies inner rest (heading t.title t.players) each h.some_strategy;
-}
-
 -- the table has as many rows as there are profiles
 rows_count : (t : Table) → IsTable t → length (rows t) ≡ 1 * product (map length t.strategies)
 rows_count t h = grind (arith, length-map, length-profiles)
 
+-- what is read before the comment
+abbrev begun : Table → Kind → Content
+begun t k =
+    with_counts (heading t.title t.players) (map length t.strategies) (labels_in k t.strategies)
+
+abbrev kept : Table → Kind → List Ratio → List ℕ → Content
+kept t k payoffs choices = filled (with_comment (begun t k) t.comment) payoffs choices
+
 -- the body's places in the parts
-record BodyKept (t : Table) (comment body : List Token) (counts : List ℕ) (labels : List (List ℕ))
-    : Type 0 where
+record BodyKept (t : Table) (k : Kind) (comment body : List Token) : Type 0 where
   payoffs : List Ratio
   choices : List ℕ
-  means : rows_by (whole t.title t.comment t.players counts labels payoffs choices) choices ≡ rows t
-  goes_on : run (ended (with_counts (heading t.title t.players) counts labels))
-      (comment ++ body)
-      ≡ Ok (whole t.title t.comment t.players counts labels payoffs choices)
+  means : rows_by (kept t k payoffs choices) choices ≡ rows t
+  goes_on : run (ended (begun t k)) (comment ++ body) ≡ Ok (kept t k payoffs choices)
 
-body_kept : (t : Table) (comment body : List Token) (counts : List ℕ) (labels : List (List ℕ))
-    → IsTable t → counts ≡ map length t.strategies → IsComment comment t.comment
+body_kept : (t : Table) (k : Kind) (comment body : List Token) → IsTable t
+    → IsComment comment t.comment
     → IsPayoffBody body (rows t) ⊎ IsOutcomeBody (length t.players) body (rows t)
-    → BodyKept t comment body counts labels
-body_kept t comment body counts labels h lengths is_comment (inl each) =
-    let all : length (rows t) ≡ 1 * product counts = cc (rows_count t h) in
-    let size : length (joined (rows t)) ≡ length t.players * (1 * product counts) =
+    → BodyKept t k comment body
+body_kept t k comment body h is_comment (inl each) =
+    let all = rows_count t h in
+    let size : length (joined (rows t))
+    ≡ length t.players * (1 * product (map length t.strategies)) =
     cc (length-joined_rows (length t.players) (rows t) h.one_payoff_each) in
     record {
       payoffs = joined (rows t);
       choices = [];
       means = cc (rows_again (length t.players) (rows t) h.one_payoff_each);
-      goes_on = flat_body_again comment body t.comment
-          (with_counts (heading t.title t.players) counts labels) (joined (rows t)) refl is_comment
+      goes_on = flat_body_again comment body t.comment (begun t k) (joined (rows t)) refl is_comment
           (rows_joined (rows t) body each) size;
     }
-body_kept t comment body counts labels h lengths is_comment (inr b) =
-    let all : length (rows t) ≡ 1 * product counts = cc (rows_count t h) in
+body_kept t k comment body h is_comment (inr b) =
+    let all = rows_count t h in
     let full = outcomes_full (length t.players) b.outcomes b.list b.listed in
-    let k = choices_chosen (length t.players) b.outcomes full (rows t) b.numbers b.chosen in
-    let positive : AllByRecursion (λ n. 0 < n) (map length t.strategies) =
-    all_images (λ n. 0 < n) length t.strategies h.some_strategy in
-    let above = product_above_zero (map length t.strategies) positive in
-    let count = rows_count t h in
-    let some : 0 < length k.choices = omega (arith, k.count, count, above) in
-    let c : Content =
-    whole t.title t.comment t.players counts labels (joined b.outcomes) k.choices in
+    let o = choices_chosen (length t.players) b.outcomes full (rows t) b.numbers b.chosen in
+    let above = some_profiles t.strategies h.some_strategy in
+    let some : 0 < length o.choices = omega (arith, o.count, all, above) in
     record {
       payoffs = joined b.outcomes;
-      choices = k.choices;
-      means = rows_chosen c k.choices some ∙ k.rows;
-      goes_on = cc (outcome_body_again comment b.list b.numbers b.outcomes k.choices t.comment
-          (with_counts (heading t.title t.players) counts labels) refl is_comment b.listed k.each
-          k.known (k.count ∙ all));
+      choices = o.choices;
+      means = rows_chosen (kept t k (joined b.outcomes) o.choices) o.choices some ∙ o.rows;
+      goes_on = cc (outcome_body_again comment b.list b.numbers b.outcomes o.choices t.comment
+          (begun t k) refl is_comment b.listed o.each o.known (o.count ∙ all));
     }
 
-table_again : (t : Table) (counts : List ℕ) (labels : List (List ℕ)) (payoffs : List Ratio)
-    (choices : List ℕ) → IsTable t → strategies_of counts labels ≡ t.strategies
-    → rows_by (whole t.title t.comment t.players counts labels payoffs choices) choices ≡ rows t
-    → table_of (whole t.title t.comment t.players counts labels payoffs choices) ≡ t
-table_again t counts labels payoffs choices h strategies means = grind (arith, entries_again)
-
-parts_of : (ts : List Token) (t : Table) (letter : List ℕ) (inner comment body : List Token)
-    → ts ≡ Bare (codes "NFG") ∷ Bare (codes "1") ∷ Bare letter ∷ Text t.title
-    ∷ (braced (map Text t.players) ++ (braced inner ++ (comment ++ body)))
-    → (letter ≡ codes "R") ⊎ (letter ≡ codes "D") → IsTable t → Kept t inner (comment ++ body)
-    → ((k : Kept t inner (comment ++ body)) → BodyKept t comment body k.counts k.labels)
-    → Parts ts t
-parts_of ts t letter inner comment body parts is_letter h k body_of =
-    let b = body_of k in
-    record {
-      content = whole t.title t.comment t.players k.counts k.labels b.payoffs b.choices;
-      read = cc (
-        heading_again letter t.title t.players (braced inner ++ (comment ++ body))
-            is_letter,
-        append_assoc inner (Closing ∷ []) (comment ++ body),
-      );
-      means = table_again t k.counts k.labels b.payoffs b.choices h k.means b.means;
-    }
+table_again : (t : Table) (k : Kind) (payoffs : List Ratio) (choices : List ℕ) → IsTable t
+    → strategies_of (map length t.strategies) (labels_in k t.strategies) ≡ t.strategies
+    → rows_by (kept t k payoffs choices) choices ≡ rows t → table_of (kept t k payoffs choices) ≡ t
+table_again t k payoffs choices h strategies means = grind (arith, entries_again)
 
 pub sentence_again : (ts : List Token) (t : Table) → Sentence ts t → Parts ts t
 sentence_again ts t s =
+    let h = s.is_table in
     let inner = s.is_strategies.0 in
-    let parts = s.parts ∙ ap (λ (x : List Token). Bare (codes "NFG") ∷ Bare (codes "1")
-    ∷ Bare s.letter ∷ Text t.title ∷ (braced (map Text t.players) ++ (x ++ (s.comment ++ s.body))))
-    s.is_strategies.1 in
-    parts_of ts t s.letter inner s.comment s.body parts s.is_letter s.is_table
-    (kept t inner (s.comment ++ s.body) s.is_table s.is_strategies.2)
-    (λ k. body_kept t s.comment s.body k.counts k.labels s.is_table k.lengths s.is_comment
-    s.is_body)
+    let k = kind_of inner t.strategies s.is_strategies.2 in
+    let b = body_kept t k.0 s.comment s.body h s.is_comment s.is_body in
+    let rest = s.comment ++ s.body in
+    let leads = heading_leads s.letter t.title t.players s.is_letter in
+    record {
+      content = kept t k.0 b.payoffs b.choices;
+      read = cc (
+        s.parts,
+        s.is_strategies.1,
+        leads_run (heading_line s.letter t.title t.players) (braced inner ++ rest) _ leads,
+        append_assoc inner (Closing ∷ []) rest,
+        h.one_list_each,
+        strategies_again k.0 t.strategies inner rest (heading t.title t.players) k.1
+            h.some_strategy,
+        b.goes_on,
+      );
+      means = table_again t k.0 b.payoffs b.choices h
+          (strategies_mean k.0 t.strategies inner k.1 h.some_strategy) b.means;
+    }
 
 -- tokens mean one table at most
 pub one_table : (ts : List Token) (t u : Table) → Sentence ts t → Sentence ts u → t ≡ u

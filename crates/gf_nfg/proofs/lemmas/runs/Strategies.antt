@@ -1,14 +1,50 @@
--- Runs over the strategies of the players: counts or lists of labels.
+-- Runs over the strategies: a count for each player, or a list of labels for each.
 use Rattle.gf_nfg.proofs.Common.{◌≡◌, ℕ, zero, suc, ◌-◌, ◌*◌, ◌<◌, List, [], ◌∷◌, ◌++◌, length, map}
-use Rattle.gf_nfg.proofs.Common.{Option, Some, None, Ok, refl, sym, ap, subst, ◌∙◌, append_assoc}
-use Rattle.gf_nfg.proofs.Common.{arith, inl, ◌⊎◌, AllByRecursion, mul-one, mul_assoc, append-nil}
-use Rattle.gf_nfg.proofs.Common.{length-append, Token, Opening, Closing, Text, Bare, Each, braced}
+use Rattle.gf_nfg.proofs.Common.{Option, Some, Ok, refl, sym, ap, subst, ◌∙◌, append_assoc, arith}
+use Rattle.gf_nfg.proofs.Common.{inl, inr, ◌⊎◌, AllByRecursion, append-nil, length-append, mul-one}
+use Rattle.gf_nfg.proofs.Common.{mul_assoc, Token, Opening, Closing, Text, Bare, Each, braced}
 use Rattle.gf_nfg.proofs.Common.{product, count_of, IsCount, IsLabelList, counted_labels, State}
-use Rattle.gf_nfg.proofs.Common.{Content, at, run, counted, listed, opened, with_count, with_labels}
-use Rattle.gf_nfg.proofs.Common.{◌>>=◌, count_is, count_again}
+use Rattle.gf_nfg.proofs.Common.{Content, Position, at, run, step, counted, listed, opened}
+use Rattle.gf_nfg.proofs.Common.{with_count, with_labels, ◌>>=◌, count_is, count_again}
 use Rattle.gf_nfg.specs.inner.Position.{Position as p}
 use Rattle.gf_nfg.proofs.lemmas.tables.Lists.{joined, length-counted_labels}
 use Rattle.gf_nfg.proofs.lemmas.runs.Common.{not_zero, pred_suc, with_no_labels, with_more_labels}
+use Rattle.gf_nfg.proofs.lemmas.runs.Groups.{First, Groups, all_in, and_more, and_more_is}
+use Rattle.gf_nfg.proofs.lemmas.runs.Groups.{each_both, groups_found}
+use Rattle.gf_nfg.proofs.lemmas.runs.Walks.{walk, walk_run, walk_then}
+
+-- the labels of some players' strategies, a list for each
+abbrev pub Strategies : Type 0
+Strategies = List (List (List ℕ))
+
+abbrev pub AllSome : Strategies → Type 0
+AllSome strategies = AllByRecursion (λ labels. 0 < length labels) strategies
+
+-- counts, or lists of labels
+pub data Kind : Type 0 where
+  ByCounts : Kind
+  ByLists : Kind
+
+abbrev pub IsGroup : Kind → List Token → List (List ℕ) → Type 0
+IsGroup ByCounts = IsCount
+IsGroup ByLists = IsLabelList
+
+-- where the next of them is read; the first may be of either kind
+abbrev pub next : Kind → Position
+next ByCounts = p.Counts
+next ByLists = p.BeforeList
+
+abbrev pub Takes : Kind → Position → Type 0
+Takes k q = (q ≡ p.FirstStrategies) ⊎ (q ≡ next k)
+
+-- the labels that are kept
+abbrev pub labels_in : Kind → Strategies → List (List ℕ)
+labels_in ByCounts strategies = []
+labels_in ByLists strategies = joined strategies
+
+abbrev pub with_group : Kind → Content → List (List ℕ) → Content
+with_group ByCounts c labels = with_count c (length labels)
+with_group ByLists c labels = with_count (with_labels c labels) (length labels)
 
 -- more players, with this many strategies each and with these labels
 abbrev pub with_counts : Content → List ℕ → List (List ℕ) → Content
@@ -18,101 +54,80 @@ with_counts c counts labels = record c {
   profiles = c.profiles * product counts;
 }
 
+pub all_groups : (k : Kind) (strategies : Strategies) (c : Content)
+    → all_in (with_group k) c strategies
+    ≡ with_counts c (map length strategies) (labels_in k strategies)
+all_groups ByCounts [] c = grind (arith, append-nil, mul-one)
+all_groups ByLists [] c = grind (arith, append-nil, mul-one)
+all_groups ByCounts (labels ∷ strategies) c = grind (
+  arith,
+  append_assoc,
+  append-nil,
+  mul_assoc,
+  all_groups ByCounts strategies (with_count c (length labels)),
+)
+all_groups ByLists (labels ∷ strategies) c = grind (
+  arith,
+  append_assoc,
+  mul_assoc,
+  joined,
+  all_groups ByLists strategies (with_count (with_labels c labels) (length labels)),
+)
+
+pub grows_by : (k : Kind) (c : Content) (labels : List (List ℕ))
+    → (with_group k c labels).profiles ≡ c.profiles * length labels
+grows_by ByCounts c labels = refl
+grows_by ByLists c labels = refl
+
 -- after the closing brace: a payoff is due for each player at each profile
 abbrev pub ended : Content → State
 ended c = at p.AfterStrategies (length c.players * c.profiles) 0 0 c
 
-with_no_counts : (c : Content) → with_counts c [] [] ≡ c
-with_no_counts c = grind (arith, append-nil, mul-one)
+-- ---- what was read
 
-with_more_counts : (c : Content) (n : ℕ) (first : List (List ℕ)) (counts : List ℕ)
-    (labels : List (List ℕ))
-    → with_counts (with_count (with_labels c first) n) counts labels
-    ≡ with_counts c (n ∷ counts) (first ++ labels)
-with_more_counts c n first counts labels = grind (arith, append_assoc, mul_assoc)
+abbrev IsSome : Kind → List Token → List (List ℕ) → Type 0
+IsSome k group labels = IsGroup k group labels × (0 < length labels)
 
-with_one_count : (c : Content) (n : ℕ) (counts : List ℕ)
-    → with_counts (with_count c n) counts [] ≡ with_counts c (n ∷ counts) []
-with_one_count c n counts = grind (arith, with_no_labels, with_more_counts)
+abbrev pub due_at : Kind → ℕ → Content → State
+due_at k due c = at (next k) due 0 0 c
 
--- ---- counts
+abbrev OneOf : Kind → List Token → ℕ → Content → Content → Type 0
+OneOf k = First (IsSome k) (due_at k) (with_group k)
 
--- a count that was read
 counted_found : (s : State) (o : Option ℕ) (ts : List Token) (r : Content)
     → (counted s o >>= λ after. run after ts) ≡ Ok r
     → (n : ℕ) × (o ≡ Some n)
     × (run (at p.Counts (s.due - 1) s.list_start s.outcomes (with_count s.content n)) ts ≡ Ok r)
-counted_found s (Some n) ts r e = (n, refl, e)
-counted_found s None ts r e = absurd cc
+counted_found s o ts r e = grind arith
 
--- what the counts still due and the closing brace read
-pub record Counts (ts : List Token) (due : ℕ) (c r : Content) : Type 0 where
-  pub inner : List Token
-  pub rest : List Token
-  pub more : List ℕ
-  pub parts : ts ≡ inner ++ Closing ∷ rest
-  pub each : Each IsCount inner (map counted_labels more)
-  pub count : length more ≡ due
-  pub positive : AllByRecursion (λ n. 0 < n) more
-  pub goes_on : run (ended (with_counts c more [])) rest ≡ Ok r
-
-counts_end : (ts : List Token) (c r : Content)
-    → run (ended c) ts ≡ Ok r → Counts (Closing ∷ ts) 0 c r
-counts_end ts c r e = record {
-  inner = [];
-  rest = ts;
-  more = [];
-  parts = refl;
-  each = refl;
-  count = refl;
-  positive = tt;
-  goes_on = grind (arith, with_no_counts);
-}
-
-count_more : (b : List ℕ) (n : ℕ) (ts : List Token) (due : ℕ) (c r : Content) → count_of b ≡ Some n
-    → Counts ts due (with_count c n) r → Counts (Bare b ∷ ts) (suc due) c r
-count_more b n ts due c r e h =
-    let k = count_is b n e in
-    record {
-      inner = Bare b ∷ h.inner;
-      rest = h.rest;
-      more = n ∷ h.more;
-      parts = ap (λ (x : List Token). Bare b ∷ x) h.parts;
-      each = (Bare b ∷ [], h.inner, refl, (b, n, refl, k.1, refl), h.each);
-      count = ap suc h.count;
-      positive = (k.0, h.positive);
-      goes_on = cc (with_one_count c n h.more);
-    }
-
-counts_found : (ts : List Token) (due : ℕ) (c r : Content)
-    → run (at p.Counts due 0 0 c) ts ≡ Ok r → Counts ts due c r
-counts_found [] zero c r e = absurd cc
-counts_found [] (suc due) c r e = let f = rw not_zero at e in absurd cc
-counts_found (Closing ∷ ts) zero c r e = counts_end ts c r e
-counts_found (Bare b ∷ ts) (suc due) c r e =
+one_count : (ts : List Token) (due : ℕ) (c r : Content)
+    → run (at p.Counts (suc due) 0 0 c) ts ≡ Ok r → OneOf ByCounts ts due c r
+one_count (Bare b ∷ ts) due c r e =
     let s : State = at p.Counts (suc due) 0 0 c in
     let f : (counted s (count_of b) >>= λ after. run after ts) ≡ Ok r = rw not_zero at e in
     let h = counted_found s (count_of b) ts r f in
-    count_more b h.0 ts due c r h.1
-    (counts_found ts due (with_count c h.0) r (rw pred_suc at h.2))
-counts_found (_ ∷ ts) zero c r e = absurd cc
-counts_found (_ ∷ ts) (suc due) c r e = let f = rw not_zero at e in absurd cc
+    let k = count_is b h.0 h.1 in
+    let n = length-counted_labels h.0 in
+    record {
+      first = Bare b ∷ [];
+      rest = ts;
+      item = counted_labels h.0;
+      parts = refl;
+      is = ((b, h.0, refl, k.1, refl), omega (arith, n, k.0));
+      goes_on = cc (n, pred_suc due);
+    }
+one_count _ due c r e = let f = rw not_zero at e in absurd cc
 
--- ---- lists
-
--- Text* Closing, if these labels of the list are read already
-record List1 (ts : List Token) (due : ℕ) (c r : Content) (before : List (List ℕ))
-    : Type 0 where
-  labels : List (List ℕ)
-  rest : List Token
-  parts : ts ≡ map Text labels ++ Closing ∷ rest
-  some : 0 < length (before ++ labels)
-  goes_on : run (at p.BeforeList due 0 0
-      (with_count (with_labels c (before ++ labels)) (length (before ++ labels)))) rest
-      ≡ Ok r
-
-behind_front : {A : Type 0} (xs ys : List A) → length (xs ++ ys) - length xs ≡ length ys
-behind_front xs ys = omega (arith, length-append xs ys)
+-- Text* Closing
+labels_found : (ts : List Token) (due from : ℕ) (c r : Content)
+    → run (at p.InList due from 0 c) ts ≡ Ok r
+    → (labels : List (List ℕ)) × (rest : List Token) × (ts ≡ map Text labels ++ Closing ∷ rest)
+    × (run (at p.InList due from 0 (with_labels c labels)) (Closing ∷ rest) ≡ Ok r)
+labels_found (Text label ∷ ts) due from c r e =
+    let h = labels_found ts due from (with_labels c (label ∷ [])) r e in
+    (label ∷ h.0, h.1, ap (λ x. Text label ∷ x) h.2, cc (with_more_labels c (label ∷ []) h.0))
+labels_found (Closing ∷ ts) due from c r e = ([], ts, refl, cc (with_no_labels c))
+labels_found _ due from c r e = absurd cc
 
 listed_found : (s : State) (n : ℕ) (ts : List Token) (r : Content)
     → (listed s n >>= λ after. run after ts) ≡ Ok r
@@ -120,216 +135,180 @@ listed_found : (s : State) (n : ℕ) (ts : List Token) (r : Content)
 listed_found s zero ts r e = absurd cc
 listed_found s (suc n) ts r e = (omega arith, e)
 
-list_found : (ts : List Token) (due : ℕ) (c r : Content) (before : List (List ℕ))
-    → run (at p.InList due (length c.labels) 0 (with_labels c before)) ts ≡ Ok r
-    → List1 ts due c r before
-list_found (Text label ∷ ts) due c r before e =
-    let f : run (at p.InList due (length c.labels) 0 (with_labels c (before ++ label ∷ [])))
-    ts ≡ Ok r = cc (with_more_labels c before (label ∷ [])) in
-    let h = list_found ts due c r (before ++ label ∷ []) f in
-    let whole = append_assoc before (label ∷ []) h.labels in
-    record {
-      labels = label ∷ h.labels;
-      rest = h.rest;
-      parts = ap (λ (x : List Token). Text label ∷ x) h.parts;
-      some = subst (λ (ls : List (List ℕ)). 0 < length ls) whole h.some;
-      goes_on = cc;
-    }
-list_found (Closing ∷ ts) due c r before e = grind (
-  arith,
-  at p.InList due (length c.labels) 0 (with_labels c before),
-  sym (append-nil before),
-  behind_front,
-  listed_found,
-  append-nil,
-)
-list_found _ due c r before e = absurd cc
+behind_front : {A : Type 0} (xs ys : List A) → length (xs ++ ys) - length xs ≡ length ys
+behind_front xs ys = omega (arith, length-append xs ys)
 
--- what the lists still due and the closing brace read
-pub record Lists (ts : List Token) (due : ℕ) (c r : Content) : Type 0 where
+one_list : (ts : List Token) (due : ℕ) (c r : Content)
+    → run (at p.BeforeList (suc due) 0 0 c) ts ≡ Ok r → OneOf ByLists ts due c r
+one_list (Opening ∷ ts) due c r e =
+    let f : run (opened (at p.BeforeList (suc due) 0 0 c)) ts ≡ Ok r = rw not_zero at e in
+    let h = labels_found ts due (length c.labels) c r (rw pred_suc at f) in
+    let s : State = at p.InList due (length c.labels) 0 (with_labels c h.0) in
+    let k = listed_found s (length h.0) h.1 r (rw behind_front at h.3) in
+    record {
+      first = braced (map Text h.0);
+      rest = h.1;
+      item = h.0;
+      parts = cc (h.2, append_assoc (map Text h.0) (Closing ∷ []) h.1);
+      is = (refl, k.0);
+      goes_on = k.1;
+    }
+one_list _ due c r e = let f = rw not_zero at e in absurd cc
+
+-- what the strategies still due and the closing brace read
+pub record Read (ts : List Token) (due : ℕ) (c r : Content) : Type 0 where
+  pub kind : Kind
   pub inner : List Token
   pub rest : List Token
-  pub more : List (List (List ℕ))
+  pub strategies : Strategies
   pub parts : ts ≡ inner ++ Closing ∷ rest
-  pub each : Each IsLabelList inner more
-  pub count : length more ≡ due
-  pub positive : AllByRecursion (λ n. 0 < n) (map length more)
-  pub goes_on : run (ended (with_counts c (map length more) (joined more))) rest
+  pub each : Each (IsGroup kind) inner strategies
+  pub some : AllSome strategies
+  pub count : length strategies ≡ due
+  pub goes_on : run (ended (with_counts c (map length strategies) (labels_in kind strategies))) rest
       ≡ Ok r
 
-lists_end : (ts : List Token) (c r : Content) → run (ended c) ts ≡ Ok r → Lists (Closing ∷ ts) 0 c r
-lists_end ts c r e = record {
-  inner = [];
-  rest = ts;
-  more = [];
-  parts = refl;
-  each = refl;
-  count = refl;
-  positive = tt;
-  goes_on = grind (arith, with_no_counts);
-}
+closed_found : (k : Kind) (ts : List Token) (c r : Content) → run (due_at k 0 c) ts ≡ Ok r
+    → (rest : List Token) × (ts ≡ Closing ∷ rest) × (run (ended c) rest ≡ Ok r)
+closed_found ByCounts (Closing ∷ ts) c r e = (ts, refl, e)
+closed_found ByLists (Closing ∷ ts) c r e = (ts, refl, e)
+closed_found ByCounts _ c r e = absurd cc
+closed_found ByLists _ c r e = absurd cc
 
-list_more : (labels : List (List ℕ)) (ts rest : List Token) (due : ℕ) (c r : Content)
-    → ts ≡ map Text labels ++ Closing ∷ rest → 0 < length labels
-    → Lists rest due (with_count (with_labels c labels) (length labels)) r
-    → Lists (Opening ∷ ts) (suc due) c r
-list_more labels ts rest due c r e some h = record {
-  inner = braced (map Text labels) ++ h.inner;
-  rest = h.rest;
-  more = labels ∷ h.more;
-  parts = grind (arith, append_assoc);
-  each = grind arith;
-  count = ap suc h.count;
-  positive = (some, h.positive);
-  goes_on = grind (arith, with_more_counts, joined);
-}
+of_groups : (k : Kind) (ts : List Token) (due : ℕ) (c r : Content)
+    → Groups (IsSome k) (due_at k) (with_group k) ts due c r → Read ts due c r
+of_groups k ts due c r h =
+    let e = each_both (IsGroup k) (λ labels. 0 < length labels) h.items h.inner h.each in
+    let z = closed_found k h.rest (all_in (with_group k) c h.items) r h.goes_on in
+    record {
+      kind = k;
+      inner = h.inner;
+      rest = z.0;
+      strategies = h.items;
+      parts = cc (h.parts, z.1);
+      each = e.0;
+      some = e.1;
+      count = h.count;
+      goes_on = subst (λ d. run (ended d) z.0 ≡ Ok r) (all_groups k h.items c) z.2;
+    }
 
-shorter : (labels : List (List ℕ)) (ts rest : List Token) (steps : ℕ)
-    → ts ≡ map Text labels ++ Closing ∷ rest → length ts < steps → length rest < steps
-shorter labels ts rest steps e h = grind (arith, length-append)
+read_by : (k : Kind) (ts : List Token) (due : ℕ) (c r : Content) → run (due_at k due c) ts ≡ Ok r
+    → Read ts due c r
+read_by ByCounts ts due c r e =
+    of_groups ByCounts ts due c r (groups_found _ _ _ one_count ts due c r e)
+read_by ByLists ts due c r e =
+    of_groups ByLists ts due c r (groups_found _ _ _ one_list ts due c r e)
 
--- in more steps than there are tokens
-lists_found : (steps : ℕ) (ts : List Token) (due : ℕ) (c r : Content) → length ts < steps
-    → run (at p.BeforeList due 0 0 c) ts ≡ Ok r → Lists ts due c r
-lists_found zero ts due c r less e = absurd (omega arith)
-lists_found (suc steps) [] zero c r less e = absurd cc
-lists_found (suc steps) [] (suc due) c r less e =
-    let f = rw not_zero at e in absurd cc
-lists_found (suc steps) (Closing ∷ ts) zero c r less e =
-    lists_end ts c r e
-lists_found (suc steps) (Opening ∷ ts) (suc due) c r less e =
-    let f : run (opened (at p.BeforeList (suc due) 0 0 c)) ts ≡ Ok r = rw not_zero at e in
-    let g : run (at p.InList due (length c.labels) 0 (with_labels c [])) ts ≡ Ok r =
-    rw (with_no_labels c) (rw pred_suc at f) in
-    let h = list_found ts due c r [] g in
-    list_more h.labels ts h.rest due c r h.parts h.some
-    (lists_found steps h.rest due (with_count (with_labels c h.labels) (length h.labels)) r
-    (shorter h.labels ts h.rest steps h.parts (omega arith)) h.goes_on)
-lists_found (suc steps) (_ ∷ ts) zero c r less e = absurd cc
-lists_found (suc steps) (_ ∷ ts) (suc due) c r less e =
-    let f = rw not_zero at e in absurd cc
+pub strategies_found : (ts : List Token) (due : ℕ) (c r : Content)
+    → run (at p.FirstStrategies due 0 0 c) ts ≡ Ok r → Read ts due c r
+strategies_found [] zero c r e = absurd cc
+strategies_found (t ∷ ts) zero c r e = read_by ByCounts (t ∷ ts) zero c r e
+strategies_found (Bare b ∷ ts) (suc due) c r e =
+    read_by ByCounts (Bare b ∷ ts) (suc due) c r (rw not_zero (rw not_zero at e))
+strategies_found (Opening ∷ ts) (suc due) c r e =
+    read_by ByLists (Opening ∷ ts) (suc due) c r (rw not_zero (rw not_zero at e))
+strategies_found _ (suc due) c r e = let f = rw not_zero at e in absurd cc
 
--- ---- the first of them
+-- ---- where strategies lead
 
--- a count, or the brace of a list, is taken as a later one is
-first_bare : (b : List ℕ) (ts : List Token) (due : ℕ) (c : Content)
-    → run (at p.FirstStrategies (suc due) 0 0 c) (Bare b ∷ ts)
-    ≡ run (at p.Counts (suc due) 0 0 c) (Bare b ∷ ts)
-first_bare b ts due c = rw not_zero refl
+-- a group leads there, and only its last token increases the number of profiles
+pub record Taken (s after : State) (group : List Token) : Type 0 where
+  pub front : List Token
+  pub last : Token
+  pub parts : group ≡ front ++ last ∷ []
+  pub mid : State
+  pub walks : walk s front ≡ Ok mid
+  pub keeps : mid.content.profiles ≡ s.content.profiles
+  pub steps : step mid last ≡ Ok after
 
-first_open : (ts : List Token) (due : ℕ) (c : Content)
-    → run (at p.FirstStrategies (suc due) 0 0 c) (Opening ∷ ts)
-    ≡ run (at p.BeforeList (suc due) 0 0 c) (Opening ∷ ts)
-first_open ts due c = rw not_zero refl
+labels_walk : (labels : List (List ℕ)) (due from : ℕ) (c : Content)
+    → walk (at p.InList due from 0 c) (map Text labels)
+    ≡ Ok (at p.InList due from 0 (with_labels c labels))
+labels_walk [] due from c = cc (with_no_labels c)
+labels_walk (label ∷ labels) due from c =
+    labels_walk labels due from (with_labels c (label ∷ []))
+    ∙ ap (λ d. Ok (at p.InList due from 0 d)) (with_more_labels c (label ∷ []) labels)
 
-pub first_found : (ts : List Token) (due : ℕ) (c r : Content)
-    → run (at p.FirstStrategies due 0 0 c) ts ≡ Ok r → Counts ts due c r ⊎ Lists ts due c r
-first_found [] zero c r e = absurd cc
-first_found [] (suc due) c r e = let f = rw not_zero at e in absurd cc
-first_found (Closing ∷ ts) zero c r e = inl (counts_end ts c r e)
-first_found (Bare b ∷ ts) (suc due) c r e =
-    inl (counts_found (Bare b ∷ ts) (suc due) c r (sym (first_bare b ts due c) ∙ e))
-first_found (Opening ∷ ts) (suc due) c r e = grind (arith, lists_found, first_open)
-first_found (_ ∷ ts) zero c r e = absurd cc
-first_found (_ ∷ ts) (suc due) c r e = let f = rw not_zero at e in absurd cc
+list_closed : (s : State) (n : ℕ) → 0 < n
+    → listed s n ≡ Ok (at p.BeforeList s.due 0 s.outcomes (with_count s.content n))
+list_closed s zero some = absurd (omega arith)
+list_closed s (suc n) some = refl
 
--- ---- what is a strategies' list is read
+count_step : (q : Position) → Takes ByCounts q → (b : List ℕ) (n due : ℕ) (c : Content)
+    → count_of b ≡ Some n
+    → step (at q (suc due) 0 0 c) (Bare b) ≡ Ok (at p.Counts due 0 0 (with_count c n))
+count_step q (inl e) b n due c h = rw (e, not_zero, h, pred_suc) refl
+count_step q (inr e) b n due c h = rw (e, not_zero, h, pred_suc) refl
 
-counted_step : (b : List ℕ) (n due : ℕ) (c : Content) (ts : List Token) → count_of b ≡ Some n
-    → run (at p.Counts (suc due) 0 0 c) (Bare b ∷ ts)
-    ≡ run (at p.Counts due 0 0 (with_count c n)) ts
-counted_step b n due c ts e = rw (not_zero, e, pred_suc) refl
+open_step : (q : Position) → Takes ByLists q → (due : ℕ) (c : Content)
+    → step (at q (suc due) 0 0 c) Opening ≡ Ok (at p.InList due (length c.labels) 0 c)
+open_step q (inl e) due c = rw (e, not_zero, pred_suc) refl
+open_step q (inr e) due c = rw (e, not_zero, pred_suc) refl
 
-abbrev AllSome : List (List (List ℕ)) → Type 0
-AllSome strategies = AllByRecursion (λ labels. 0 < length labels) strategies
-
--- a count and its token
-record FirstCount (labels : List (List ℕ)) (first : List Token) : Type 0 where
-  bytes : List ℕ
-  token : first ≡ Bare bytes ∷ []
-  counted : count_of bytes ≡ Some (length labels)
-
-first_count : (labels : List (List ℕ)) (first : List Token)
-    → IsCount first labels → 0 < length labels → FirstCount labels first
-first_count labels first h some =
+pub taken : (k : Kind) (q : Position) → Takes k q → (due : ℕ) (c : Content) (group : List Token)
+    (labels : List (List ℕ)) → IsGroup k group labels → 0 < length labels
+    → Taken (at q (suc due) 0 0 c) (due_at k due (with_group k c labels)) group
+taken ByCounts q takes due c group labels h some =
     let same : length labels ≡ h.1 = ap length h.4 ∙ length-counted_labels h.1 in
-    let n : 0 < h.1 = omega (arith, some, same) in
-    record { bytes = h.0; token = h.2; counted = count_again h.0 h.1 n h.3 ∙ ap Some (sym same) }
+    let read = count_again h.0 h.1 (omega (arith, some, same)) h.3 ∙ ap Some (sym same) in
+    record {
+      front = [];
+      last = Bare h.0;
+      parts = h.2;
+      mid = at q (suc due) 0 0 c;
+      walks = refl;
+      keeps = refl;
+      steps = count_step q takes h.0 (length labels) due c read;
+    }
+taken ByLists q takes due c group labels h some =
+    let mid : State = at p.InList due (length c.labels) 0 (with_labels c labels) in
+    record {
+      front = Opening ∷ map Text labels;
+      last = Closing;
+      parts = h;
+      mid = mid;
+      walks = rw (open_step q takes due c) (labels_walk labels due (length c.labels) c);
+      keeps = refl;
+      steps = rw (behind_front c.labels labels) (list_closed mid (length labels) some);
+    }
 
-counts_again : (strategies : List (List (List ℕ))) (inner rest : List Token) (c : Content)
-    → Each IsCount inner strategies → AllSome strategies
-    → run (at p.Counts (length strategies) 0 0 c) (inner ++ Closing ∷ rest)
-    ≡ run (ended (with_counts c (map length strategies) [])) rest
-counts_again [] inner rest c h some = rw h (cc (with_no_counts c))
-counts_again (labels ∷ strategies) inner rest c h some = grind (
-  arith,
-  first_count labels h.0 h.3 some.0,
-  counts_again strategies h.1 rest (with_count c (length labels)) h.4 some.1,
-  with_one_count c (length labels) (map length strategies),
-  counted_step,
-)
+taken_walk : (s after : State) (group : List Token) → Taken s after group → walk s group ≡ Ok after
+taken_walk s after group h = ap (walk s) h.parts
+    ∙ walk_then h.front (h.last ∷ []) s h.mid after h.walks (rw h.steps refl)
 
-pub first_counts_again : (strategies : List (List (List ℕ))) (inner rest : List Token)
-    (c : Content) → Each IsCount inner strategies → AllSome strategies
+-- groups of some players lead to where this many more are due
+pub groups_walk : (k : Kind) (strategies : Strategies) (inner : List Token) (q : Position)
+    → Takes k q → (due : ℕ) (c : Content) → Each (IsGroup k) inner strategies → AllSome strategies
+    → (after : Position) × Takes k after × (walk (at q (and_more strategies due) 0 0 c) inner
+    ≡ Ok (at after due 0 0 (all_in (with_group k) c strategies)))
+groups_walk k [] inner q takes due c h some = (q, takes, ap (walk (at q due 0 0 c)) h)
+groups_walk k (labels ∷ strategies) inner q takes due c h some =
+    let left = and_more strategies due in
+    let first = taken k q takes left c h.0 labels h.3 some.0 in
+    let mid : State = due_at k left (with_group k c labels) in
+    let s : State = at q (suc left) 0 0 c in
+    let w = groups_walk k strategies h.1 (next k) (inr refl) due (with_group k c labels) h.4 some.1
+    in
+    (w.0, w.1, ap (walk s) h.2 ∙ walk_then h.0 h.1 s mid _ (taken_walk s mid h.0 first) w.2)
+
+closed : (k : Kind) (q : Position) → Takes k q → (rest : List Token) (c : Content)
+    → run (at q 0 0 0 c) (Closing ∷ rest) ≡ run (ended c) rest
+closed k q (inl e) rest c = rw e refl
+closed ByCounts q (inr e) rest c = rw e refl
+closed ByLists q (inr e) rest c = rw e refl
+
+pub strategies_again : (k : Kind) (strategies : Strategies) (inner rest : List Token) (c : Content)
+    → Each (IsGroup k) inner strategies → AllSome strategies
     → run (at p.FirstStrategies (length strategies) 0 0 c) (inner ++ Closing ∷ rest)
-    ≡ run (ended (with_counts c (map length strategies) [])) rest
-first_counts_again [] inner rest c h some = rw h (counts_again [] [] rest c refl tt)
-first_counts_again (labels ∷ strategies) inner rest c h some = grind (
-  arith,
-  h.3.0,
-  first_bare (h.3.0) (h.1 ++ Closing ∷ rest) (length strategies) c,
-  counts_again (labels ∷ strategies) inner rest c h some,
-)
-
-list_again : (labels before : List (List ℕ)) (rest : List Token) (due : ℕ) (c : Content)
-    → 0 < length (before ++ labels)
-    → run (at p.InList due (length c.labels) 0 (with_labels c before))
-    (map Text labels ++ Closing ∷ rest) ≡ run (at p.BeforeList due 0 0 (with_count (with_labels c
-    (before ++ labels)) (length (before ++ labels)))) rest
-list_again [] before rest due c some = grind (arith, append-nil, behind_front)
-list_again (label ∷ labels) before rest due c some =
-    let whole = append_assoc before (label ∷ []) labels in
+    ≡ run (ended (with_counts c (map length strategies) (labels_in k strategies))) rest
+strategies_again k strategies inner rest c h some =
+    let w = groups_walk k strategies inner p.FirstStrategies (inl refl) 0 c h some in
+    let due : and_more strategies 0 ≡ length strategies =
+    let more = and_more_is strategies 0 in omega (arith, more) in
     cc (
-      with_more_labels c before (label ∷ []),
-      list_again labels (before ++ label ∷ []) rest due c
-          (rw whole some),
-      whole,
+      due,
+      w.2,
+      walk_run inner (Closing ∷ rest) (at p.FirstStrategies (length strategies) 0 0 c),
+      closed k w.0 w.1 rest (all_in (with_group k) c strategies),
+      all_groups k strategies c,
     )
-
-open_step : (due : ℕ) (c : Content) (ts : List Token)
-    → run (at p.BeforeList (suc due) 0 0 c) (Opening ∷ ts)
-    ≡ run (at p.InList due (length c.labels) 0 (with_labels c [])) ts
-open_step due c ts = grind (arith, not_zero, pred_suc, with_no_labels)
-
-braced_parts : (labels : List (List ℕ)) (inner first others rest : List Token)
-    → inner ≡ first ++ others → first ≡ braced (map Text labels)
-    → inner ++ Closing ∷ rest ≡ Opening ∷ (map Text labels ++ Closing ∷ (others ++ Closing ∷ rest))
-braced_parts labels inner first others rest e f = grind (arith, append_assoc)
-
-lists_again : (lists : List (List (List ℕ))) (inner rest : List Token) (c : Content)
-    → Each IsLabelList inner lists → AllSome lists
-    → run (at p.BeforeList (length lists) 0 0 c) (inner ++ Closing ∷ rest)
-    ≡ run (ended (with_counts c (map length lists) (joined lists))) rest
-lists_again [] inner rest c h some = rw h (cc (with_no_counts c))
-lists_again (labels ∷ lists) inner rest c h some =
-    let after = h.1 ++ Closing ∷ rest in
-    cc (
-      braced_parts labels inner h.0 h.1 rest h.2 h.3,
-      open_step (length lists) c
-          (map Text labels ++ Closing ∷ after),
-      list_again labels [] after (length lists) c some.0,
-      lists_again lists h.1 rest (with_count (with_labels c labels) (length labels)) h.4 some.1,
-      with_more_counts c (length labels) labels (map length lists) (joined lists),
-    )
-
-pub first_lists_again : (lists : List (List (List ℕ))) (inner rest : List Token) (c : Content)
-    → Each IsLabelList inner lists → AllSome lists
-    → run (at p.FirstStrategies (length lists) 0 0 c) (inner ++ Closing ∷ rest)
-    ≡ run (ended (with_counts c (map length lists) (joined lists))) rest
-first_lists_again [] inner rest c h some = rw h (lists_again [] [] rest c refl tt)
-first_lists_again (labels ∷ lists) inner rest c h some = cc (
-  braced_parts labels inner h.0 h.1 rest h.2 h.3,
-  (braced_parts labels inner h.0 h.1 rest h.2 h.3),
-  first_open (map Text labels ++ Closing ∷ (h.1 ++ Closing ∷ rest)) (length lists) c,
-  lists_again (labels ∷ lists) inner rest c h some,
-)

@@ -1,0 +1,53 @@
+-- Where tokens lead the machine.
+use Rattle.gf_nfg.proofs.Common.{◌≡◌, List, [], ◌∷◌, ◌++◌, Result, Ok, Err, refl, sym, ◌∙◌, Token}
+use Rattle.gf_nfg.proofs.Common.{Why, State, run, step, start, ◌>>=◌}
+
+-- where tokens lead from a state
+abbrev pub walk : State → List Token → Result State Why
+walk s [] = Ok s
+walk s (t ∷ ts) = step s t >>= λ after. walk after ts
+
+-- where they lead from the start
+abbrev pub Leads : List Token → State → Type 0
+Leads ts s = walk start ts ≡ Ok s
+
+pub then_ok : {A : Type 0} (o : Result State Why) (f : State → Result A Why) (r : A)
+    → (o >>= f) ≡ Ok r → (mid : State) × (o ≡ Ok mid) × (f mid ≡ Ok r)
+then_ok (Ok mid) f r e = (mid, refl, e)
+then_ok (Err why) f r e = absurd cc
+
+on_more : {A : Type 0} (o : Result State Why) (f : State → Result State Why)
+    (g h : State → Result A Why) → ((s : State) → h s ≡ (f s >>= g)) → (o >>= h) ≡ ((o >>= f) >>= g)
+on_more (Ok s) f g h e = e s
+on_more (Err why) f g h e = refl
+
+pub walk_run : (ts more : List Token) (s : State)
+    → run s (ts ++ more) ≡ (walk s ts >>= λ after. run after more)
+walk_run [] more s = refl
+walk_run (t ∷ ts) more s = on_more (step s t) (λ x. walk x ts) (λ x. run x more)
+    (λ x. run x (ts ++ more)) (λ x. walk_run ts more x)
+
+walk_on : (ts us : List Token) (s : State) → walk s (ts ++ us) ≡ (walk s ts >>= λ x. walk x us)
+walk_on [] us s = refl
+walk_on (t ∷ ts) us s = on_more (step s t) (λ x. walk x ts) (λ x. walk x us)
+    (λ x. walk x (ts ++ us)) (λ x. walk_on ts us x)
+
+pub walk_then : (ts us : List Token) (s mid after : State) → walk s ts ≡ Ok mid
+    → walk mid us ≡ Ok after → walk s (ts ++ us) ≡ Ok after
+walk_then ts us s mid after e h = cc (walk_on ts us s)
+
+pub walk_split : (ts us : List Token) (s after : State) → walk s (ts ++ us) ≡ Ok after
+    → (mid : State) × (walk s ts ≡ Ok mid) × (walk mid us ≡ Ok after)
+walk_split ts us s after e = then_ok (walk s ts) (λ x. walk x us) after (sym (walk_on ts us s) ∙ e)
+
+pub leads_on : (ts us : List Token) (s after : State) → Leads ts s → walk s us ≡ Ok after
+    → Leads (ts ++ us) after
+leads_on ts us s after h e = walk_then ts us start s after h e
+
+pub leads_more : (ts : List Token) (t : Token) (s after : State) → Leads ts s → step s t ≡ Ok after
+    → Leads (ts ++ t ∷ []) after
+leads_more ts t s after h e = leads_on ts (t ∷ []) s after h (rw e refl)
+
+pub leads_run : (ts more : List Token) (s : State) → Leads ts s
+    → run start (ts ++ more) ≡ run s more
+leads_run ts more s h = cc (walk_run ts more start)
