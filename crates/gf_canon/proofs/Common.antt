@@ -24,6 +24,8 @@ pub use Rattle.gf_canon.specs.inner.NamedBy.{set_by, use_by}
 pub use Rattle.gf_canon.specs.inner.TextParts.{first_line, heading_text, mover_letter, node_line}
 pub use Rattle.gf_canon.specs.inner.TextParts.{number_then, plain_line, player_letter, player_then}
 pub use Rattle.gf_canon.specs.inner.TextParts.{tail_text, told_text}
+pub use Rattle.gf_fraction.proofs.AllElements.{all_images, all_weaker}
+pub use Rattle.gf_nfg.specs.LimitPlace.{IsWithinLimit}
 pub use Rattle.gf_nfg.specs.Profiles.{numbers_from, positions}
 pub use Rattle.gf_nfg.specs.Table.{Table}
 pub use Rattle.gf_nfg.specs.TableText.{SpellsTable, lines_text, list_text, quoted, spaced}

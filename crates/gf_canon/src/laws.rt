@@ -76,6 +76,7 @@ pub fn same_is_equivalence()
 {}
 
 /// A renumbering carries a game to the same game by its new numbers, and to no other.
+#[tactic(auto, using(gf_tree::proofs::lemmas::games::Canonical::carried_by_new_numbers))]
 pub fn carried_by_new_numbers()
     ensures { (r : Renumbering) (g h : Game) → IsGame g → IsGame h
         → Carries r g h ↔ (IsRenumbering g r × (renumbered r g ≡ h)) }
@@ -112,6 +113,7 @@ pub fn first_use_numbers_stay()
 
 /// Keys in order of first use have the first-use numbers 1, 2 and so on, and so do the sets of a
 /// player in a game, and its outcomes.
+#[tactic(auto, using(crate::proofs::lemmas::numbers::InOrder::in_order))]
 pub fn numbered_in_order<K>()
     ensures keys { (same : K → K → Bool) → ((a b : K) → Decides (same a b) (a ≡ b))
         → (uses : List K)
@@ -135,6 +137,7 @@ pub fn canonical_game_is_same()
 
 /// Two games are the same exactly if their canonical games are equal. So are two tables; a game and
 /// a table never are.
+#[tactic(auto, using(crate::proofs::lemmas::files::Texts::by_canonical))]
 pub fn same_by_canonical_game()
     ensures games { (g h : Game) → IsGame g → IsGame h
         → SameGame g h ↔ (canonical_game g ≡ canonical_game h) }
@@ -144,6 +147,7 @@ pub fn same_by_canonical_game()
 
 /// Every game has exactly one file tree in which the first uses are described and no others; its
 /// nodes are those of the game's text.
+#[tactic(auto, using(crate::proofs::lemmas::texts::OneFile::files_of_games))]
 pub fn file_of_each_game()
     ensures some { (g : Game) → IsGame g
         → (f : FileTree) × IsFileOf g f × (map (λ e. e.node) (flatten f.tree) ≡ file_nodes g) }
@@ -152,6 +156,7 @@ pub fn file_of_each_game()
 
 /// The text of a game is an extensive file that means this game, so different games have different
 /// texts. If a file can hold a game, it can also hold its canonical game.
+#[tactic(auto, using(crate::proofs::lemmas::files::Texts::game_texts))]
 pub fn text_reads_back()
     ensures reads_back { (g : Game) → IsGame g → IsSpellable g → SpellsGame (game_text g) g }
     ensures two_texts { (g h : Game) → IsGame g → IsSpellable g → IsGame h → IsSpellable h
@@ -160,12 +165,14 @@ pub fn text_reads_back()
 {}
 
 /// Bytes mean at most one game or one table, and never both.
+#[tactic(auto, using(crate::proofs::lemmas::files::Texts::spells_one_file))]
 pub fn means_one_file()
     ensures { (bytes : List ℕ) (x y : GameFile) → SpellsFile bytes x → SpellsFile bytes y → x ≡ y }
 {}
 
 /// Two files mean the same exactly if their canonical texts are equal. The canonical text of a file
 /// is a file that means the canonical game, or the table, and it is its own canonical text.
+#[tactic(auto, using(crate::proofs::lemmas::files::Texts::equal_texts))]
 pub fn equal_canonical_texts()
     ensures equal { (a b : List ℕ) (x y : GameFile) → SpellsFile a x → SpellsFile b y
         → (canonical_text x ≡ canonical_text y) ↔ SameFile x y }
@@ -178,6 +185,7 @@ pub fn equal_canonical_texts()
 /// Files that mean the same also mean the same aside from names. Two files mean the same aside from
 /// names exactly if the canonical texts of what they mean, without names, are equal. Two tables do
 /// so exactly if they play alike.
+#[tactic(auto, using(crate::proofs::lemmas::sameness::Unnamed::aside_names))]
 pub fn same_aside_names()
     ensures aside { (x y : GameFile) → SameFile x y → SameAsideNames x y }
     ensures equal { (a b : List ℕ) (x y : GameFile) → SpellsFile a x → SpellsFile b y

@@ -1,10 +1,10 @@
 -- If a file is refused in its format, it is refused in the language of both: the first token tells
 -- them apart.
-use Rattle.gf_canon.proofs.Common.{◌≡◌, ℕ, List, [], ◌∷◌, ◌++◌, refl, sym, ap, ◌∙◌, inl, inr, codes}
-use Rattle.gf_canon.proofs.Common.{map-append, append-nil, tokens_of, IsAccepted, IsAcceptedThrough}
-use Rattle.gf_canon.proofs.Common.{IsOffendingPlace, Token, Lexeme, Spells, Span, Why, TooLong}
-use Rattle.gf_canon.proofs.Common.{UnknownOutcome, TooManyProfiles, Memory, BeginsWithWord}
-use Rattle.gf_canon.proofs.Common.{IsInEitherFormat, IsPlaced}
+use Rattle.gf_canon.proofs.Common.{arith, ◌≡◌, ℕ, List, [], ◌∷◌, ◌++◌, refl, sym, ap, ◌∙◌, inl, inr}
+use Rattle.gf_canon.proofs.Common.{codes, map-append, append-nil, tokens_of, IsAccepted}
+use Rattle.gf_canon.proofs.Common.{IsAcceptedThrough, IsOffendingPlace, Token, Lexeme, Spells, Span}
+use Rattle.gf_canon.proofs.Common.{Why, TooLong, UnknownOutcome, TooManyProfiles, Memory}
+use Rattle.gf_canon.proofs.Common.{BeginsWithWord, IsInEitherFormat, IsPlaced}
 use Rattle.gf_nfg.specs.Sentence.{IsStrategicFile}
 use Rattle.gf_tree.specs.Front.{IsExtensiveFile}
 use Rattle.gf_canon.proofs.lemmas.files.Formats.{begun_word, extensive_word, first_word}
@@ -23,19 +23,13 @@ record IsWithin (word : List ℕ) (IsFile : List Token → Type 0) : Type 1 wher
 extensive_within : IsWithin (codes "EFG") IsExtensiveFile
 extensive_within = record {
   into = λ tokens file. inl file;
-  back = λ tokens word file. elim file [
-    | inl e ↦ e
-    | inr s ↦ absurd (two_words (sym word ∙ strategic_word tokens s))
-  ];
+  back = λ tokens word file. grind (arith, strategic_word, two_words);
 }
 
 strategic_within : IsWithin (codes "NFG") IsStrategicFile
 strategic_within = record {
   into = λ tokens file. inr file;
-  back = λ tokens word file. elim file [
-    | inl e ↦ absurd (two_words (sym (extensive_word tokens e) ∙ word))
-    | inr s ↦ s
-  ];
+  back = λ tokens word file. grind (arith, extensive_word, two_words);
 }
 
 module _ {word : List ℕ} {IsFile : List Token → Type 0} (within : IsWithin word IsFile) where

@@ -2,10 +2,9 @@
 use Rattle.gf_canon.proofs.Common.{◌≡◌, ℕ, List, Result, Ok, Err, IfOk, IfErr, MatchResult, Fault}
 use Rattle.gf_canon.proofs.Common.{Memory, Table, SpellsTable, GameFile, SpellsFile, canonical_text}
 use Rattle.gf_canon.proofs.Common.{strategic, IsRefusedWith, IsTextBy, SpellsWithin, file_by, Names}
-use Rattle.gf_canon.proofs.Common.{Bool, refl, ap, ◌∙◌, Kept, Aside}
+use Rattle.gf_canon.proofs.Common.{Bool, refl, ap, ◌∙◌, Kept, Aside, IsWithinLimit}
 use Rattle.gf_canon.specs.inner.NamedBy.{are_kept}
 use Rattle.gf_nfg.specs.TableText.{named_by, table_text}
-use Rattle.gf_nfg.specs.LimitPlace.{IsWithinLimit}
 use Rattle.gf_canon.proofs.lemmas.files.Texts.{spells_one_file}
 
 pub text_is : (names : Names) (bytes text : List ℕ) (x : GameFile) → IsTextBy names bytes text

@@ -4,7 +4,7 @@ use Rattle.gf_canon.proofs.Common.{Broken, Fault, Span, Why, Expected, Memory, U
 use Rattle.gf_canon.proofs.Common.{SpellsTable, Game, SpellsGame, BeginsWithWord, IsFormatReason}
 use Rattle.gf_canon.proofs.Common.{IsPlaced, IsRefusedWith, IsWithoutFormat, GameFile, SpellsWithin}
 use Rattle.gf_canon.proofs.Common.{codes, extensive, strategic, Result, Ok, IfErr, ◌⊎◌}
-use Rattle.gf_nfg.specs.LimitPlace.{IsWithinLimit}
+use Rattle.gf_canon.proofs.Common.{IsWithinLimit}
 use Rattle.gf_canon.specs.Judgement.IsJudged.{of_extensive, of_neither, of_strategic}
 use Rattle.gf_canon.specs.declared.format.Format.{Format}
 use Rattle.gf_canon.specs.declared.format.Format.TheVariants.{Extensive, Strategic}

@@ -1,15 +1,15 @@
 -- Game files of both kinds: their canonical texts are equal exactly if they are the same.
-use Rattle.gf_canon.proofs.Common.{◌≡◌, ℕ, List, [], ◌∷◌, get_or, refl, ap, subst, arith, ◌↔◌}
-use Rattle.gf_canon.proofs.Common.{Token, Bare, same_tokens, Table, SpellsTable, Game, IsGame}
-use Rattle.gf_canon.proofs.Common.{SpellsGame, IsSpellable, spells_one_game, canonical_game}
-use Rattle.gf_canon.proofs.Common.{game_text, GameFile, IsGameFile, SpellsFile, SameFile}
-use Rattle.gf_canon.proofs.Common.{canonical_file, canonical_text, extensive, strategic}
+use Rattle.gf_canon.proofs.Common.{◌≡◌, ℕ, List, refl, ap, subst, arith, ◌↔◌, same_tokens, Table}
+use Rattle.gf_canon.proofs.Common.{Game, IsGame, SpellsGame, IsSpellable, spells_one_game}
+use Rattle.gf_canon.proofs.Common.{canonical_game, game_text, GameFile, IsGameFile, SpellsFile}
+use Rattle.gf_canon.proofs.Common.{SameFile, canonical_file, canonical_text, extensive, strategic}
 use Rattle.gf_canon.proofs.Common.{same_by_canonical, canonical_is_game, canonical_twice}
 use Rattle.gf_nfg.proofs.lemmas.tables.Same.{same_is_equal}
 use Rattle.gf_nfg.proofs.lemmas.texts.OneTable.{text_reads_back as table_reads_back}
 use Rattle.gf_nfg.proofs.lemmas.tables.Spelled.{spelled_is_spellable as spelled_table}
 use Rattle.gf_nfg.proofs.lemmas.places.Led.{spells_one_table}
 use Rattle.gf_tree.proofs.lemmas.games.Spelled.{spelled_is_spellable as spelled_game}
+use Rattle.gf_canon.proofs.lemmas.files.Formats.{file_word, tokens_in, two_words}
 use Rattle.gf_canon.proofs.lemmas.texts.ReadsBack.{text_reads_back}
 use Rattle.gf_canon.proofs.lemmas.texts.Spellables.{canonical_is_spellable}
 
@@ -41,21 +41,21 @@ equal_game_texts g h game can game' can' = (
 
 -- ---- bytes mean one file
 
-first_word : List Token → List ℕ
-first_word (Bare bytes ∷ tokens) = bytes
-first_word _ = []
-
-of_two_kinds : (bytes : List ℕ) (g : Game) (t : Table) → SpellsGame bytes g → SpellsTable bytes t
-    → ⊥
-unfolding first_word
-of_two_kinds bytes g t p q = grind (arith, same_tokens, first_word, get_or)
+one_word : (bytes : List ℕ) (x y : GameFile) → SpellsFile bytes x → SpellsFile bytes y
+    → file_word x ≡ file_word y
+one_word bytes x y p q =
+    let own = tokens_in bytes x p in
+    let other = tokens_in bytes y q in
+    cc (same_tokens bytes own.lexemes other.lexemes own.spelled other.spelled, own.word, other.word)
 
 pub spells_one_file : (bytes : List ℕ) (x y : GameFile) → SpellsFile bytes x → SpellsFile bytes y
     → x ≡ y
 spells_one_file bytes (extensive g) (extensive h) p q = ap extensive (spells_one_game bytes g h p q)
 spells_one_file bytes (strategic t) (strategic u) p q = cc (spells_one_table bytes t u p q)
-spells_one_file bytes (extensive g) (strategic u) p q = absurd (of_two_kinds bytes g u p q)
-spells_one_file bytes (strategic t) (extensive h) p q = absurd (of_two_kinds bytes h t q p)
+spells_one_file bytes (extensive g) (strategic u) p q =
+    absurd (two_words (one_word bytes (extensive g) (strategic u) p q))
+spells_one_file bytes (strategic t) (extensive h) p q =
+    absurd (two_words (one_word bytes (extensive h) (strategic t) q p))
 
 -- ---- the canonical text of what bytes mean
 
@@ -85,3 +85,11 @@ pub equal_canonical_texts : (a b : List ℕ) (x y : GameFile) → SpellsFile a x
     → (canonical_text x ≡ canonical_text y) ↔ SameFile x y
 equal_canonical_texts a b x y h k =
     grind (arith, same_by_canonical_file, is_game_file, spells_one_file, canonical_reads_back)
+
+-- ---- laws
+
+pub ruleset by_canonical = (same_by_canonical, same_by_canonical_file)
+
+pub ruleset game_texts = (text_reads_back, equal_game_texts, canonical_is_spellable)
+
+pub ruleset equal_texts = (equal_canonical_texts, canonical_reads_back, canonical_again)

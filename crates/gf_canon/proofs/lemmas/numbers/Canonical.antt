@@ -66,11 +66,9 @@ list_more g at lists more own before is e =
 own_there : (g : Game) (player : ℕ) → player ≤ length g.players
     → get_or (lists_in_order g) player [] ≡ own_list g player
 own_there g player h =
-    let players = numbers_from 0 (suc (length g.players)) in
     let size = length-numbers_from 0 (suc (length g.players)) in
-    get_or-map (own_list g) players player 0 [] (omega (arith, size, h))
-    ∙ ap (own_list g)
-    (get_or-numbers_from 0 (suc (length g.players)) player 0 (omega (arith, h)) ∙ omega arith)
+    let at = get_or-numbers_from 0 (suc (length g.players)) player 0 (omega arith) in
+    grind (arith, get_or-map)
 
 all_numbers : (g : Game) (players : List ℕ) → AllByRecursion AreNumbers (map (own_list g) players)
 all_numbers g [] = tt

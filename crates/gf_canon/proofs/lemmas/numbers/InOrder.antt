@@ -54,3 +54,5 @@ outcomes_in_order g game =
     subst (λ numbers. map (first_use_numbers g).outcome numbers ≡ positions (length numbers))
     (sym game.one_entry_each_outcome)
     (numbered_in_order nat_eq Decides-eqb (used_outcomes g.tree))
+
+pub ruleset in_order = (numbered_in_order, sets_in_order, outcomes_in_order)

@@ -1,12 +1,11 @@
 -- A tree that was told whole is the same as a game exactly if no difference was found, and nothing
 -- is left of the game.
-use Rattle.gf_canon.proofs.Common.{◌≡◌, ℕ, Bool, false, List, [], ◌∷◌, map, refl, ap, ◌∙◌, subst}
-use Rattle.gf_canon.proofs.Common.{◌↔◌, IsTrue, Table, file_nodes, FileNode, Game, IsGame}
-use Rattle.gf_canon.proofs.Common.{SpellsGame, IsSpellable, Told, heading_in, canonical_game}
-use Rattle.gf_canon.proofs.Common.{extensive, strategic, SpellsWithin, node_by, SameBy, Names}
-use Rattle.gf_canon.proofs.Common.{Aside, Kept, Result, Ok, Err, IfOk, Fault, SpellsTable, GameFile}
-use Rattle.gf_canon.proofs.Common.{append-nil}
-use Rattle.gf_nfg.specs.LimitPlace.{IsWithinLimit}
+use Rattle.gf_canon.proofs.Common.{arith, ◌≡◌, ℕ, Bool, false, List, [], map, ap, ◌∙◌, subst, ◌↔◌}
+use Rattle.gf_canon.proofs.Common.{IsTrue, Table, file_nodes, FileNode, Game, IsGame, SpellsGame}
+use Rattle.gf_canon.proofs.Common.{IsSpellable, Told, heading_in, canonical_game, extensive}
+use Rattle.gf_canon.proofs.Common.{strategic, SpellsWithin, node_by, SameBy, Names, Aside, Kept}
+use Rattle.gf_canon.proofs.Common.{Result, Ok, Err, IfOk, Fault, SpellsTable, GameFile, append-nil}
+use Rattle.gf_canon.proofs.Common.{IsWithinLimit, ◌∷◌, refl}
 use Rattle.gf_nfg.specs.SameTable.{SameTable}
 use Rattle.gf_nfg.specs.TableText.{named_by}
 use Rattle.gf_canon.specs.inner.NamedBy.{are_kept}
@@ -52,13 +51,13 @@ module _ (names : Names) (g h : Game) (bytes : List ℕ) (game : IsGame g) (spel
 -- a game is no table, and a table no game
 pub no_table : (names : Names) (g : Game) (t : Table)
     → IsTrue false ↔ SameBy names (extensive g) (strategic t)
-no_table Kept g t = (λ h. absurd cc, λ s. absurd s)
-no_table Aside g t = (λ h. absurd cc, λ s. absurd s)
+no_table Kept g t = grind arith
+no_table Aside g t = grind arith
 
 pub no_game : (names : Names) (t : Table) (g : Game)
     → IsTrue false ↔ SameBy names (strategic t) (extensive g)
-no_game Kept t g = (λ h. absurd cc, λ s. absurd s)
-no_game Aside t g = (λ h. absurd cc, λ s. absurd s)
+no_game Kept t g = grind arith
+no_game Aside t g = grind arith
 
 -- a table that was told, compared with another
 pub same_as_table : {E : Type 0} (names : Names) (named : Bool) (t : Table) (bytes : List ℕ)

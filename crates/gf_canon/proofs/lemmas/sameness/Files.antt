@@ -28,10 +28,11 @@ on t u v first second = record {
   play = record {
     players = first.play.players ∙ second.play.players;
     strategies = first.play.strategies ∙ second.play.strategies;
-    payoffs = λ profile payoffs.
-        let one = first.play.payoffs profile payoffs in
-        let two = second.play.payoffs profile payoffs in
-        (λ pays. two.0 (one.0 pays), λ pays. one.1 (two.1 pays));
+    payoffs = λ profile payoffs. grind (
+      arith,
+      first.play.payoffs profile payoffs,
+      second.play.payoffs profile payoffs,
+    );
   };
 }
 
@@ -41,17 +42,13 @@ file_itself (strategic t) table = itself t
 
 file_back : (x y : GameFile) → IsGameFile x → SameFile x y → SameFile y x
 file_back (extensive g) (extensive h) game same = same_back g h game same
-file_back (strategic t) (strategic u) table same = back t u same
-file_back (extensive g) (strategic u) game same = same
-file_back (strategic t) (extensive h) table same = same
+file_back (strategic t) (strategic u) file same = back t u same
+file_back _ _ file same = same
 
 file_on : (x y z : GameFile) → SameFile x y → SameFile y z → SameFile x z
 file_on (extensive g) (extensive h) (extensive k) first second = same_on g h k first second
 file_on (strategic t) (strategic u) (strategic v) first second = on t u v first second
-file_on (extensive g) (extensive h) (strategic v) first second = second
-file_on (strategic t) (strategic u) (extensive k) first second = second
-file_on (extensive g) (strategic u) z first second = absurd first
-file_on (strategic t) (extensive h) z first second = absurd first
+file_on _ _ _ first second = grind arith
 
 -- ---- with names, or without
 

@@ -1,13 +1,13 @@
 -- The nodes of a game without its names are its nodes without theirs.
-use Rattle.gf_canon.proofs.Common.{◌≡◌, List, [], ◌∷◌, ◌++◌, map, Option, Some, None, refl, sym, ap}
-use Rattle.gf_canon.proofs.Common.{◌∙◌, nat_eq, option_map, if◌then◌else◌, filter_map, list_any}
-use Rattle.gf_canon.proofs.Common.{map-append, same_set, set_of, file_nodes, node_behind}
-use Rattle.gf_canon.proofs.Common.{use_behind, FileNode, Use, first_use_number, first_use_numbers}
-use Rattle.gf_canon.proofs.Common.{sets_of, Game, Node, outcome_at, set_at, Entry, flatten}
-use Rattle.gf_canon.proofs.Common.{Renumbering, renumbered, renumbered_node, flatten_map, map_entry}
-use Rattle.gf_canon.proofs.Common.{map_tree_twice, map_twice, canonical_game, node_by, outcome_by}
-use Rattle.gf_canon.proofs.Common.{set_by, use_by, unnamed_game, unnamed_node, Aside, Kept, Names}
-use Rattle.gf_canon.proofs.Common.{game_by, heading_by, heading_in, Bool, true, false}
+use Rattle.gf_canon.proofs.Common.{arith, ◌≡◌, List, [], ◌∷◌, ◌++◌, map, Option, Some, None, refl}
+use Rattle.gf_canon.proofs.Common.{sym, ap, ◌∙◌, nat_eq, option_map, filter_map, map-append}
+use Rattle.gf_canon.proofs.Common.{same_set, set_of, file_nodes, node_behind, use_behind, FileNode}
+use Rattle.gf_canon.proofs.Common.{Use, first_use_number, first_use_numbers, sets_of, Game, Node}
+use Rattle.gf_canon.proofs.Common.{outcome_at, set_at, Entry, flatten, Renumbering, renumbered}
+use Rattle.gf_canon.proofs.Common.{renumbered_node, flatten_map, map_entry, map_tree_twice}
+use Rattle.gf_canon.proofs.Common.{map_twice, canonical_game, node_by, outcome_by, set_by, use_by}
+use Rattle.gf_canon.proofs.Common.{unnamed_game, unnamed_node, Aside, Kept, Names, game_by}
+use Rattle.gf_canon.proofs.Common.{heading_by, heading_in, Bool}
 use Rattle.std.proofs.lemmas.Iterator.Adapters.{option_map_id}
 use Rattle.std.proofs.lemmas.List.{map-id}
 use Rattle.gf_canon.proofs.lemmas.sameness.Unnamed.{keys_still, unnamed_outcome_at}
@@ -35,26 +35,18 @@ use_aside : {K D : Type 0} (same : K → K → Bool) (f : D → D) (had bare : K
     → option_map (use_behind same bare before) o
     ≡ option_map (use_by f) (option_map (use_behind same had before) o)
 use_aside same f had bare are before None = refl
-use_aside same f had bare are before (Some k) = cc (by (list_any (same k) before))
-  where
-    by : (b : Bool) → (if b then None else bare k) ≡ option_map f (if b then None else had k)
-    by true = refl
-    by false = are k
+use_aside same f had bare are before (Some k) = grind (arith, are k)
 
 node_aside : (g : Game) (before : List (Entry Node)) (n : Node)
     → node_behind (unnamed_game g) (map (map_entry unnamed_node) before) (unnamed_node n)
     ≡ node_by Aside (node_behind g before n)
 node_aside g before n =
-    let set = ap (λ ks. option_map (use_behind same_set (set_at (unnamed_game g)) ks) n.set)
-    (keys_still (λ n. n.set) (λ n. refl) before)
-    ∙ use_aside same_set (set_by Aside) (set_at g) (set_at (unnamed_game g)) (unnamed_set_at g)
-    (filter_map (λ (e : Entry Node). e.node.set) before) n.set in
-    let outcome =
-    ap (λ ks. option_map (use_behind nat_eq (outcome_at (unnamed_game g)) ks) n.outcome)
-    (keys_still (λ n. n.outcome) (λ n. refl) before)
-    ∙ use_aside nat_eq (outcome_by Aside) (outcome_at g) (outcome_at (unnamed_game g))
+    let set = use_aside same_set (set_by Aside) (set_at g) (set_at (unnamed_game g))
+    (unnamed_set_at g) (filter_map (λ (e : Entry Node). e.node.set) before) n.set in
+    let outcome = use_aside nat_eq (outcome_by Aside) (outcome_at g) (outcome_at (unnamed_game g))
     (unnamed_outcome_at g) (filter_map (λ (e : Entry Node). e.node.outcome) before) n.outcome in
-    λ i. record { name = []; set = set i; outcome = outcome i }
+    rw (keys_still (λ n. n.set) (λ n. refl) before, keys_still (λ n. n.outcome) (λ n. refl) before)
+    (λ i. record { name = []; set = set i; outcome = outcome i })
 
 nodes_of_all : (g : Game) (before es : List (Entry Node))
     → map (λ e. e.node) (entries_behind (unnamed_game g) (map (map_entry unnamed_node) before)

@@ -1,20 +1,20 @@
 -- Without its names a game is still a game, and games that are the same are also the same aside
 -- from names.
-use Rattle.gf_canon.proofs.Common.{arith, ◌≡◌, ℕ, Bool, List, [], ◌∷◌, length, map, Option, Some}
-use Rattle.gf_canon.proofs.Common.{refl, sym, ap, subst, ◌∙◌, nat_eq, option_map, MatchOption, ◌↔◌}
-use Rattle.gf_canon.proofs.Common.{AllByRecursion, filter_map, cons_option, IsLabel, Table, Entry}
-use Rattle.gf_canon.proofs.Common.{flatten, SetKey, same_set, Described, description_at, first_uses}
+use Rattle.gf_canon.proofs.Common.{InformationSet, arith, ◌≡◌, ℕ, Bool, List, [], ◌∷◌, length, map}
+use Rattle.gf_canon.proofs.Common.{Option, Some, refl, sym, subst, nat_eq, option_map, MatchOption}
+use Rattle.gf_canon.proofs.Common.{◌↔◌, AllByRecursion, filter_map, cons_option, IsLabel, Table}
+use Rattle.gf_canon.proofs.Common.{Entry, flatten, SetKey, same_set, Described, description_at}
 use Rattle.gf_canon.proofs.Common.{Node, Game, IsGame, HasChildren, used_sets, used_outcomes}
 use Rattle.gf_canon.proofs.Common.{set_at, outcome_at, IsSpellable, Renumbering, IsRenumbering}
 use Rattle.gf_canon.proofs.Common.{renumbered_set, renumbered_node, map_entry, flatten_map}
 use Rattle.gf_canon.proofs.Common.{map_twice, map_tree_twice, Carries, GameFile, SpellsFile}
 use Rattle.gf_canon.proofs.Common.{SameFile, canonical_text, file_text, extensive, strategic}
 use Rattle.gf_canon.proofs.Common.{unnamed_node, unnamed_set, unnamed_outcome, unnamed_game}
-use Rattle.gf_canon.proofs.Common.{unnamed_table, unnamed, SameAsideNames}
-use Rattle.gf_fraction.proofs.AllElements.{all_images, all_weaker}
+use Rattle.gf_canon.proofs.Common.{unnamed_table, unnamed, SameAsideNames, all_images, all_weaker}
 use Rattle.gf_nfg.specs.SameTable.{SamePlay}
 use Rattle.gf_nfg.proofs.lemmas.texts.OneTable.{text_reads_back as table_reads_back}
 use Rattle.gf_nfg.proofs.lemmas.tables.Spelled.{spelled_is_spellable as spelled_table}
+use Rattle.gf_tree.specs.Description.{Outcome}
 use Rattle.gf_tree.proofs.lemmas.games.Spelled.{spelled_is_spellable as spelled_game}
 use Rattle.gf_canon.proofs.lemmas.texts.ReadsBack.{text_reads_back}
 use Rattle.gf_canon.proofs.lemmas.files.Texts.{equal_canonical_texts}
@@ -67,13 +67,16 @@ children_by g o n h = grind (arith, unnamed_set_at)
 
 pub unnamed_is_game : (g : Game) → IsGame g → IsGame (unnamed_game g)
 unnamed_is_game g game = record {
-  one_entry_each_set =
-      map_twice (λ s. s.key) (λ s. record { key = s.key; description = unnamed_set s.description })
-      g.sets ∙ game.one_entry_each_set ∙ ap (first_uses same_set) (sym (unnamed_sets g));
-  one_entry_each_outcome = map_twice (λ o. o.key)
-      (λ o. record { key = o.key; description = unnamed_outcome o.description }) g.outcomes
-      ∙ game.one_entry_each_outcome
-      ∙ ap (first_uses nat_eq) (sym (unnamed_outcomes g));
+  one_entry_each_set = cc (
+    map_twice (λ (s : Described SetKey InformationSet). s.key)
+        (λ s. record { key = s.key; description = unnamed_set s.description }) g.sets,
+    unnamed_sets g,
+  );
+  one_entry_each_outcome = cc (
+    map_twice (λ (o : Described ℕ Outcome). o.key)
+        (λ o. record { key = o.key; description = unnamed_outcome o.description }) g.outcomes,
+    unnamed_outcomes g,
+  );
   each_set = all_images _ _ g.sets (all_weaker _ _ (λ s h. assumption h) g.sets game.each_set);
   each_outcome =
       all_images _ _ g.outcomes (all_weaker _ _ (λ o h. assumption h) g.outcomes game.each_outcome);
@@ -152,3 +155,5 @@ equal_texts_aside a b x y h k = equal_canonical_texts (file_text (unnamed x))
 
 pub tables_aside : (t u : Table) → SameAsideNames (strategic t) (strategic u) ↔ SamePlay t u
 tables_aside t u = (λ same. assumption same.play, λ alike. assumption (alike, refl))
+
+pub ruleset aside_names = (same_is_so_aside, equal_texts_aside, tables_aside)

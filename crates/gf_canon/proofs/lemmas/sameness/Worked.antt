@@ -1,8 +1,8 @@
 -- Worked games: one with many numberings, and its text.
 use Rattle.gf_canon.proofs.Common.{◌≡◌, refl, arith, IsGame, Renumbering, first_use_numbers}
 use Rattle.gf_canon.proofs.Common.{Carries, SameGame, canonical_game, game_text, same_by_canonical}
-use Rattle.std.specs.Fmt.{digits}
 use Rattle.gf_fraction.specs.NumberText.{number_text}
+use Rattle.std.specs.Fmt.{digits}
 use Rattle.gf_tree.specs.WorkedTrees.{five, five_file, bonus}
 use Rattle.gf_tree.proofs.lemmas.games.Spelled.{spelled_is_spellable}
 use Rattle.gf_tree.proofs.lemmas.games.Worked.{five_is_meant}

@@ -9,7 +9,7 @@ use Rattle.gf_canon.proofs.Common.{IsFirstUse, Node, Game, IsGame, used_sets, us
 use Rattle.gf_canon.proofs.Common.{outcome_at, keys_alone, Has, IsEquality, has, contains, has_map}
 use Rattle.gf_canon.proofs.Common.{all_of_each, has_place, AreDistinct, found, is_used, was_used}
 use Rattle.gf_canon.proofs.Common.{first_uses_distinct, same_set_equality, map_entry, flatten_map}
-use Rattle.gf_canon.proofs.Common.{map_same, map_twice, with_those_before, use_behind, node_behind}
+use Rattle.gf_canon.proofs.Common.{map_twice, with_those_before, use_behind, node_behind}
 use Rattle.gf_canon.proofs.Common.{file_nodes, append-nil}
 use Rattle.std.proofs.lemmas.List.Folds.{list_any-append}
 use Rattle.std.proofs.lemmas.List.Elements.{filter_map-append}
@@ -163,16 +163,13 @@ nodes_are : (g : Game) (before es : List (Entry Node))
     ≡ map (λ e. e.node) (entries_behind g before es)
 nodes_are g before [] = refl
 nodes_are g before (e ∷ es) =
-    let here : node_behind g (before ++ []) e.node ≡ node_behind g before e.node =
-    ap (λ b. node_behind g b e.node) (append-nil before) in
     let others =
-    map_twice (λ p. node_behind g (before ++ p.0) p.1.node) (λ p. (e ∷ p.0, p.1))
-    (with_those_before es)
-    ∙ map_same (λ p. node_behind g (before ++ e ∷ p.0) p.1.node)
-    (λ p. node_behind g ((before ++ e ∷ []) ++ p.0) p.1.node) (with_those_before es)
-    (λ p i. ap (λ b. node_behind g b p.1.node) (sym (append_assoc before (e ∷ []) p.0)))
+    map_twice (λ (p : List (Entry Node) × Entry Node). node_behind g (before ++ p.0) p.1.node)
+    (λ (p : List (Entry Node) × Entry Node). (e ∷ p.0, p.1)) (with_those_before es)
+    ∙ (λ j. map (λ p. node_behind g (sym (append_assoc before (e ∷ []) p.0) j) p.1.node)
+    (with_those_before es))
     ∙ nodes_are g (before ++ e ∷ []) es in
-    λ i. here i ∷ others i
+    λ i. node_behind g (append-nil before i) e.node ∷ others i
 
 pub file_nodes_are : (g : Game) → file_nodes g ≡ map (λ e. e.node) (file_entries g)
 file_nodes_are g = nodes_are g [] (flatten g.tree)

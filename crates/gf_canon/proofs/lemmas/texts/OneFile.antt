@@ -11,7 +11,8 @@ use Rattle.gf_canon.proofs.Common.{same_set_equality, Has, IsEquality, contains,
 use Rattle.gf_canon.proofs.Common.{has_place}
 use Rattle.gf_tree.proofs.lemmas.games.Prefix.{flatten_once}
 use Rattle.gf_canon.specs.FirstDescribed.{DescribeFirstUses, IsFileOf}
-use Rattle.gf_canon.proofs.lemmas.texts.FileOf.{first_is_new, none_of_them, uses_behind}
+use Rattle.gf_canon.proofs.lemmas.texts.FileOf.{file_of_game, first_is_new, none_of_them}
+use Rattle.gf_canon.proofs.lemmas.texts.FileOf.{uses_behind}
 
 -- ---- uses by their keys
 
@@ -111,3 +112,5 @@ one_file g f h p q =
       players = (of.kept.players ∙ sym too.kept.players) i;
       tree = tree i;
     }
+
+pub ruleset files_of_games = (file_of_game, one_file)

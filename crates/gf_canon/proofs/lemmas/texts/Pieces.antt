@@ -8,9 +8,9 @@ use Rattle.gf_canon.proofs.Common.{IsOutcome, Use, FileNode, IsSpellableAction, 
 use Rattle.gf_canon.proofs.Common.{IsSpellableOutcome, action_fields, set_fields, outcome_fields}
 use Rattle.gf_canon.proofs.Common.{described_fields, mover_fields, step_fields, result_fields}
 use Rattle.gf_canon.proofs.Common.{node_text}
+use Rattle.gf_fraction.specs.NumberText.{number_text}
 use Rattle.std.specs.Fmt.{digits}
 use Rattle.gf_fraction.specs.Ratio.{Ratio, IsFraction}
-use Rattle.gf_fraction.specs.NumberText.{number_text}
 use Rattle.gf_token.specs.Grammar.{braced}
 use Rattle.gf_token.proofs.SpelledNumbers.{number_spelled, index_spelled}
 use Rattle.gf_nfg.proofs.lemmas.texts.Spelled.{Says, says_label, says_bare, says_spaced, says_list}

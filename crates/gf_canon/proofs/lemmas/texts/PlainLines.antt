@@ -7,8 +7,8 @@ use Rattle.gf_canon.proofs.Common.{InformationSet, SetKey, FileNode, Use, quoted
 use Rattle.gf_canon.proofs.Common.{described_fields, mover_fields, set_fields, mover_letter}
 use Rattle.gf_canon.proofs.Common.{node_line, number_then, plain_line, player_letter, player_then}
 use Rattle.gf_canon.proofs.Common.{tail_text, option_map, is_some}
-use Rattle.std.proofs.Math.Seq.{take-append-add, take-append_seam}
 use Rattle.std.specs.Fmt.{digits}
+use Rattle.std.proofs.Math.Seq.{take-append-add, take-append_seam}
 use Rattle.gf_tree.specs.declared.game.file_node.SetUse.{SetUse}
 
 pub zero_text : decimal 0 ≡ codes "0"
@@ -111,30 +111,18 @@ plain_some (Some held) used e n = grind arith
 null_tail : number_then 0 (10 ∷ []) ≡ (32 ∷ 48 ∷ []) ++ 10 ∷ []
 null_tail = ap (λ (bs : List ℕ). 32 ∷ (bs ++ 10 ∷ [])) zero_text
 
-chance_line : (number : ℕ) (name : List ℕ)
-    → 99 ∷ 32 ∷ (quoted name ++ number_then number (number_then 0 (10 ∷ [])))
-    ≡ spaced (codes "c" ∷ quoted name ∷ decimal number ∷ codes "0" ∷ []) ++ 10 ∷ []
-chance_line number name = grind (arith, null_tail, then_joined, append_assoc)
-
-player_line : (player number : ℕ) (name : List ℕ)
-    → 112 ∷ 32 ∷ (quoted name ++ number_then player (number_then number (number_then 0 (10 ∷ []))))
-    ≡ spaced (codes "p" ∷ quoted name ∷ decimal player ∷ decimal number ∷ codes "0" ∷ []) ++ 10 ∷ []
-player_line player number name = grind (arith, null_tail, then_joined, append_assoc)
-
-null_set_line : (player number : ℕ) (name : List ℕ) (description : Option InformationSet)
-    → description ≡ None
-    → player_letter player ∷ 32 ∷ (quoted name
-    ++ player_then player (number_then number (number_then 0 (10 ∷ []))))
-    ≡ spaced ((mover_fields name player ++ described_fields set_fields number description)
-    ++ codes "0" ∷ []) ++ 10 ∷ []
-null_set_line zero number name description e = grind (arith, chance_line)
-null_set_line (suc player) number name description e = grind (arith, player_line)
-
 null_line : (name : List ℕ) (set : Option (Use SetKey InformationSet)) → IsPlain set
     → plain_line name set 0 ≡ node_line (record { name = name; set = set; outcome = None })
 null_line name None plain = grind (arith, zero_text, append_assoc)
-null_line name (Some set) plain =
-    null_set_line set.key.player set.key.number name set.description plain
+null_line name (Some set) plain = by set.key.player set.description plain
+  where
+    by : (player : ℕ) (o : Option InformationSet) → o ≡ None
+        → player_letter player ∷ 32 ∷ (quoted name
+        ++ player_then player (number_then set.key.number (number_then 0 (10 ∷ []))))
+        ≡ spaced ((mover_fields name player ++ described_fields set_fields set.key.number o)
+        ++ codes "0" ∷ []) ++ 10 ∷ []
+    by zero o e = grind (arith, null_tail, then_joined, append_assoc)
+    by (suc player) o e = grind (arith, null_tail, then_joined, append_assoc)
 
 pub null_written : {A E : Type 0} (r : Result A E) (old new name : List ℕ)
     (set : Option (Use SetKey InformationSet)) (n : FileNode)

@@ -1,7 +1,7 @@
 -- A canonical game can be spelled if the game can: its numbers are no greater than the greatest
 -- number of the game.
 use Rattle.gf_canon.proofs.Common.{◌≡◌, ℕ, Bool, ◌^◌, ◌<◌, true, eqb, List, [], ◌∷◌, length, map}
-use Rattle.gf_canon.proofs.Common.{sym, subst, ◌∙◌, arith, inl, inr, nat_eq, ◌⊎◌, AllByRecursion}
+use Rattle.gf_canon.proofs.Common.{sym, subst, ◌∙◌, arith, inl, inr, nat_eq, AllByRecursion}
 use Rattle.gf_canon.proofs.Common.{list_any, eqb-true, ne_eqb, or_cases, Decides-eqb, length-map}
 use Rattle.gf_canon.proofs.Common.{IsLabel, flatten, SetKey, InformationSet, same_set, Described}
 use Rattle.gf_canon.proofs.Common.{first_uses, Game, IsGame, used_sets, used_outcomes, IsSpellable}
@@ -10,8 +10,7 @@ use Rattle.gf_canon.proofs.Common.{renumbered_node, first_use_number, sets_of, f
 use Rattle.gf_canon.proofs.Common.{Has, IsEquality, mapped_from, each, all_of_each, AreDistinct}
 use Rattle.gf_canon.proofs.Common.{was_used, first_uses_distinct, of_filter, same_set_equality}
 use Rattle.gf_canon.proofs.Common.{flatten_map, in_keys, entry_used, set_number_positive}
-use Rattle.gf_canon.proofs.Common.{outcome_number_positive, canonical_game}
-use Rattle.gf_fraction.proofs.AllElements.{all_images, all_weaker}
+use Rattle.gf_canon.proofs.Common.{outcome_number_positive, canonical_game, all_images, all_weaker}
 use Rattle.std.specs.List.{IsDistinct}
 use Rattle.std.proofs.lemmas.Map.Steps.{length-le_from_distinct_below}
 use Rattle.gf_tree.specs.Description.{Outcome}
@@ -33,17 +32,9 @@ among (x ∷ xs) q h = elim (or_cases (eqb q x) (list_any (eqb q) xs) h)
 few : (xs : List ℕ) (n : ℕ) → 0 < n → AreDistinct xs → AllByRecursion (λ x. (0 < x) × (x < n)) xs
     → length xs < n
 few xs n some distinct all =
-    length-le_from_distinct_below (0 ∷ xs) n (distinct_tests (0 ∷ xs) (new, distinct)) below
-  where
-    new : Has xs 0 → ⊥
-    new i = let h = each (λ x. (0 < x) × (x < n)) xs 0 all i in omega (arith, h.0)
-
-    below : (q : ℕ) → list_any (eqb q) (0 ∷ xs) ≡ true → q < n
-    below q h = at (among (0 ∷ xs) q h)
-      where
-        at : (0 ≡ q) ⊎ Has xs q → q < n
-        at (inl e) = omega (arith, e, some)
-        at (inr i) = (each (λ x. (0 < x) × (x < n)) xs q all i).1
+    length-le_from_distinct_below (0 ∷ xs) n (distinct_tests (0 ∷ xs)
+    (λ i. let h = each (λ x. (0 < x) × (x < n)) xs 0 all i in omega arith, distinct))
+    (λ q h. grind (arith, among, each (λ x. (0 < x) × (x < n)) xs q all))
 
 distinct_images : {K L : Type 0} (f : K → L) (ks : List K) → AreApart f ks → AreDistinct ks
     → AreDistinct (map f ks)

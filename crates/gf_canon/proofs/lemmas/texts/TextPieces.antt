@@ -8,9 +8,9 @@ use Rattle.gf_canon.proofs.Common.{list_text, quoted, spaced, others_text, label
 use Rattle.gf_canon.proofs.Common.{SetKey, file_nodes, FileNode, Use, Game, action_fields}
 use Rattle.gf_canon.proofs.Common.{mover_fields, step_fields, game_text, node_text, first_line}
 use Rattle.gf_canon.proofs.Common.{heading_text, node_line, if◌then◌else◌, ◌^◌}
+use Rattle.gf_fraction.specs.NumberText.{number_text}
 use Rattle.std.proofs.lemmas.Fmt.{length-decimal-le}
 use Rattle.gf_fraction.specs.Ratio.{Ratio}
-use Rattle.gf_fraction.specs.NumberText.{number_text}
 use Rattle.gf_token.specs.declared.label.Label.{Label}
 use Rattle.gf_tree.specs.Actions.{actions_of}
 use Rattle.gf_tree.specs.declared.game.action.Action.{Action}
