@@ -1,9 +1,9 @@
 -- The text of a game spells that game.
-use Rattle.gf_canon.proofs.Common.{◌≡◌, ℕ, Bool, true, false, List, [], ◌∷◌, ◌++◌, length, map}
-use Rattle.gf_canon.proofs.Common.{Option, Some, None, refl, sym, ap, subst, inl, inr, nat_eq}
-use Rattle.gf_canon.proofs.Common.{codes, option_map, MatchOption, ⊤, if◌then◌else◌, AllByRecursion}
-use Rattle.gf_canon.proofs.Common.{flat_map, Decides-eqb, Token, Text, Bare, IsLabel, spaced}
-use Rattle.gf_canon.proofs.Common.{list_text, quoted, Entry, flatten, SetKey, same_set, IsSet}
+use Rattle.gf_canon.proofs.Common.{first_line, ◌≡◌, ℕ, Bool, true, false, List, [], ◌∷◌, ◌++◌}
+use Rattle.gf_canon.proofs.Common.{length, map, Option, Some, None, refl, sym, ap, subst, inl, inr}
+use Rattle.gf_canon.proofs.Common.{nat_eq, codes, option_map, MatchOption, ⊤, if◌then◌else◌}
+use Rattle.gf_canon.proofs.Common.{AllByRecursion, flat_map, Decides-eqb, Token, Text, Bare}
+use Rattle.gf_canon.proofs.Common.{IsLabel, quoted, Entry, flatten, SetKey, same_set, IsSet}
 use Rattle.gf_canon.proofs.Common.{IsOutcome, FileNode, FileTree, Node, Game, IsGame, used_sets}
 use Rattle.gf_canon.proofs.Common.{used_outcomes, set_at, outcome_at, IsConsistent, IsGameOf}
 use Rattle.gf_canon.proofs.Common.{SpellsGame, IsSpellable, IsSpellableSet, IsSpellableOutcome, Has}
@@ -87,15 +87,11 @@ all_nodes P g holds = subst (AllByRecursion P) (sym (file_nodes_are g))
 
 -- ---- the heading
 
-abbrev heading_text : Game → List ℕ
-heading_text g = spaced
-    (codes "EFG" ∷ codes "2" ∷ codes "R" ∷ quoted g.title ∷ list_text (map quoted g.players) ∷ [])
-
 abbrev heading_tokens : Game → List Token
 heading_tokens g = Bare (codes "EFG") ∷ Bare (codes "2") ∷ Bare (codes "R") ∷ Text g.title
     ∷ braced (map Text g.players)
 
-said_heading : (g : Game) → IsSpellable g → Says (heading_text g) (heading_tokens g)
+said_heading : (g : Game) → IsSpellable g → Says (first_line g.title g.players) (heading_tokens g)
 said_heading g can = line (both (word (codes "EFG") (refl, (refl, (refl, tt))))
     (both (word (codes "2") (refl, tt)) (both (word (codes "R") (refl, tt))
     (both (label g.title can.title) (list (labels g.players can.players))))))
@@ -109,7 +105,7 @@ tells_game : (g : Game) → IsGame g → IsSpellable g → Tells (game_text g) (
 tells_game g game can =
     let lines = map node_text (file_nodes g) in
     let body = flat_map node_tokens (file_nodes g) in
-    tells_line (heading_text g) (quoted g.comment ∷ [] ∷ lines) (heading_tokens g)
+    tells_line (first_line g.title g.players) (quoted g.comment ∷ [] ∷ lines) (heading_tokens g)
     (Text g.comment ∷ body) (said_heading g can)
     (tells_line (quoted g.comment) ([] ∷ lines) (Text g.comment ∷ []) body
     (says_label g.comment can.comment)

@@ -24,13 +24,8 @@ returns-then-is_empty-clause-text c =
 
 pub returns-clause-text : goal.returns-clause-text
 returns-clause-text c =
-    let set = option_map set_use_of c.args.set in
-    let tail = tail_text set c.args.outcome in
     let t = c.write_tail-tail in
-    named_written c.append_from-2.result c.args.out.now.items c.push.new.self.items
-    c.push-2.new.self.items c.write_label.new.out.items c.append_from-2.new.out.items
-    (label_of c.args.name) c.letter-2.result set c.args.outcome c.letter-2.ensures
-    c.in_ok-push.ensures.items c.in_ok-push-2.ensures.items c.in_ok-write_label.ensures.ok
-    (c.append_from-2.ensures.ok tail (drop 38 (replicate 76 0)) t.ensures.written
-    (tail_length t.new.text (replicate 76 0) tail t.result (omega (arith, t.array_long)) refl
-    t.ensures.within.1 t.ensures.written))
+    let long = tail_length t.new.text (replicate 76 0)
+    (tail_text (option_map set_use_of c.args.set) c.args.outcome) t.result
+    (omega (arith, t.array_long)) refl t.ensures.within.1 t.ensures.written in
+    grind (arith, named_written)
