@@ -30,23 +30,6 @@ use Rattle.gf_canon.proofs.lemmas.files.Refused.{placed_at_first, reason_at_firs
 
 -- ---- an answer to all bytes
 
-abbrev Answered : List ℕ → Type 0
-Answered bytes = MeansFile bytes ⊎ ((why : Why) × (span : Span) × IsRefused why bytes span)
-
-game_or_refused : (bytes : List ℕ) → BeginsWithWord (codes "EFG") bytes → Answered bytes
-game_or_refused bytes named = elim (game_answered bytes) [
-  | inl game ↦ inl (extensive game.0, record { spelled = game.1; within = tt })
-  | inr refused ↦
-      inr (refused.0, refused.1, (refused.2.0, of_extensive named refused.2.1))
-]
-
-table_or_refused : (bytes : List ℕ) → BeginsWithWord (codes "NFG") bytes → Answered bytes
-table_or_refused bytes named = elim (table_answered bytes) [
-  | inl table ↦ inl (strategic table.0, record { spelled = table.1; within = table.2 })
-  | inr refused ↦
-      inr (refused.0, refused.1, (refused.2.0, of_strategic named refused.2.1))
-]
-
 not_memory : (why : Why) (bytes : List ℕ) (span : Span) → IsWithoutFormat why bytes span
     → ¬ (why ≡ Memory)
 not_memory why bytes span h =
@@ -55,50 +38,60 @@ not_memory why bytes span h =
       | inr expected ↦ cc
     ]
 
-refused_at_first : (bytes : List ℕ) (ls : List Lexeme) → Spells 0 bytes ls
-    → IsNoFormat (tokens_of ls) → Answered bytes
-refused_at_first bytes ls spelled h =
-    let fault = refusal (length bytes) (Expected Format) ls in
-    let without = without_format bytes ls spelled h in
-    inr (
-      fault.why,
-      fault.span,
-      (not_memory fault.why bytes fault.span without, of_neither without),
-    )
+module _ (bytes : List ℕ) where
+  abbrev Answered : Type 0
+  Answered = MeansFile bytes ⊎ ((why : Why) × (span : Span) × IsRefused why bytes span)
 
-named : (word bytes own : List ℕ) (l : Lexeme) (ls : List Lexeme) → Spells 0 bytes (l ∷ ls)
-    → l.token ≡ Bare own → pointwise nat_eq own word ≡ true → BeginsWithWord word bytes
-named word bytes own l ls spelled is same = record {
-  first = l;
-  others = ls;
-  spelled = spelled;
-  is_word = is ∙ ap Bare (same_bytes own word same);
-}
+  game_or_refused : BeginsWithWord (codes "EFG") bytes → Answered
+  game_or_refused named = elim (game_answered bytes) [
+    | inl game ↦ inl (extensive game.0, record { spelled = game.1; within = tt })
+    | inr refused ↦ inr (refused.0, refused.1, (refused.2.0, of_extensive named refused.2.1))
+  ]
 
-by_word : (bytes : List ℕ) (l : Lexeme) (ls : List Lexeme) (word : List ℕ) (is_tree is_table : Bool)
-    → Spells 0 bytes (l ∷ ls) → l.token ≡ Bare word → pointwise nat_eq word (codes "EFG") ≡ is_tree
-    → pointwise nat_eq word (codes "NFG") ≡ is_table → Answered bytes
-by_word bytes l ls word true is_table spelled is tree table =
-    game_or_refused bytes (named (codes "EFG") bytes word l ls spelled is tree)
-by_word bytes l ls word false true spelled is tree table =
-    table_or_refused bytes (named (codes "NFG") bytes word l ls spelled is table)
-by_word bytes l ls word false false spelled is tree table =
-    refused_at_first bytes (l ∷ ls) spelled (rw is (other_word word (tokens_of ls) tree table))
+  table_or_refused : BeginsWithWord (codes "NFG") bytes → Answered
+  table_or_refused named = elim (table_answered bytes) [
+    | inl table ↦ inl (strategic table.0, record { spelled = table.1; within = table.2 })
+    | inr refused ↦ inr (refused.0, refused.1, (refused.2.0, of_strategic named refused.2.1))
+  ]
 
-by_token : (bytes : List ℕ) (l : Lexeme) (ls : List Lexeme) (t : Token) → Spells 0 bytes (l ∷ ls)
-    → l.token ≡ t → Answered bytes
-by_token bytes l ls (Bare word) spelled is =
-    by_word bytes l ls word (pointwise nat_eq word (codes "EFG"))
-    (pointwise nat_eq word (codes "NFG")) spelled is refl refl
-by_token bytes l ls _ spelled is =
-    refused_at_first bytes (l ∷ ls) spelled (no_bare (l ∷ ls) (ap is_bare_token is))
+  refused_at_first : (ls : List Lexeme) → Spells 0 bytes ls → IsNoFormat (tokens_of ls) → Answered
+  refused_at_first ls spelled h =
+      let fault = refusal (length bytes) (Expected Format) ls in
+      let without = without_format bytes ls spelled h in
+      inr (
+        fault.why,
+        fault.span,
+        (not_memory fault.why bytes fault.span without, of_neither without),
+      )
 
-by_first : (bytes : List ℕ) (ls : List Lexeme) → Spells 0 bytes ls → Answered bytes
-by_first bytes [] spelled = refused_at_first bytes [] spelled (no_bare [] refl)
-by_first bytes (l ∷ ls) spelled = by_token bytes l ls l.token spelled refl
+  by_token : (l : Lexeme) (ls : List Lexeme) (t : Token) → Spells 0 bytes (l ∷ ls) → l.token ≡ t
+      → Answered
+  by_token l ls (Bare word) spelled is =
+      by (pointwise nat_eq word (codes "EFG")) refl (pointwise nat_eq word (codes "NFG")) refl
+    where
+      named : (own : List ℕ) → pointwise nat_eq word own ≡ true → BeginsWithWord own bytes
+      named own same = record {
+        first = l;
+        others = ls;
+        spelled = spelled;
+        is_word = is ∙ ap Bare (same_bytes word own same);
+      }
 
-pub answered : (bytes : List ℕ) → Answered bytes
-answered bytes = let spelled = spelled_once bytes in by_first bytes spelled.0 spelled.1
+      by : (tree : Bool) → pointwise nat_eq word (codes "EFG") ≡ tree
+          → (table : Bool) → pointwise nat_eq word (codes "NFG") ≡ table → Answered
+      by true e table n = game_or_refused (named (codes "EFG") e)
+      by false e true n = table_or_refused (named (codes "NFG") n)
+      by false e false n =
+          refused_at_first (l ∷ ls) spelled (rw is (other_word word (tokens_of ls) e n))
+  by_token l ls _ spelled is =
+      refused_at_first (l ∷ ls) spelled (no_bare (l ∷ ls) (ap is_bare_token is))
+
+  by_first : (ls : List Lexeme) → Spells 0 bytes ls → Answered
+  by_first [] spelled = refused_at_first [] spelled (no_bare [] refl)
+  by_first (l ∷ ls) spelled = by_token l ls l.token spelled refl
+
+  pub answered : Answered
+  answered = let spelled = spelled_once bytes in by_first spelled.0 spelled.1
 
 -- ---- no two answers
 

@@ -1,7 +1,7 @@
 -- Worked games that are not the same, and some that are the same aside from names.
-use Rattle.gf_canon.proofs.Common.{◌≡◌, ℕ, List, [], ◌∷◌, get_or, Option, Some, None, refl, sym, ap}
-use Rattle.gf_canon.proofs.Common.{◌∙◌, arith, flat_map, SetKey, InformationSet, set_of, Game}
-use Rattle.gf_canon.proofs.Common.{IsGame, used_sets, set_at, renumbered_set, SameGame, extensive}
+use Rattle.gf_canon.proofs.Common.{◌≡◌, ℕ, List, [], ◌∷◌, get_or, Option, Some, None, refl, ap}
+use Rattle.gf_canon.proofs.Common.{arith, flat_map, SetKey, InformationSet, set_of, Game, IsGame}
+use Rattle.gf_canon.proofs.Common.{used_sets, set_at, renumbered_set, SameGame, extensive}
 use Rattle.gf_canon.proofs.Common.{SameAsideNames, unnamed_game, same_itself, carried_sets}
 use Rattle.gf_canon.proofs.Common.{carried_outcomes}
 use Rattle.gf_canon.specs.WorkedGames.{seen, unseen, plain_prize, renamed_prize, lower_case_prize}
@@ -15,11 +15,8 @@ unseen_seen (r, c) = grind arith
 pub seen_unseen : ¬ (SameGame seen unseen)
 seen_unseen (r, c) =
     let sets = carried_sets r seen unseen c in
-    let first : 1 ≡ r.set 1 1 = ap (λ (ks : List SetKey). (get_or ks 1 (set_of 0 0)).number) sets in
-    let other : 1 ≡ r.set 1 2 = ap (λ (ks : List SetKey). (get_or ks 2 (set_of 0 0)).number) sets in
-    let one : 1 ≡ 2 = c.renumbering.sets_apart 1 1 2 (1, omega arith, refl) (2, omega arith, refl)
-    (sym first ∙ other) in
-    omega (arith, one)
+    let apart = c.renumbering.sets_apart 1 1 2 (1, omega arith, refl) (2, omega arith, refl) in
+    grind arith
 
 -- ---- outcomes
 
@@ -29,11 +26,8 @@ one_two_prizes (r, c) = grind arith
 pub two_one_prizes : ¬ (SameGame two_prizes plain_prize)
 two_one_prizes (r, c) =
     let outcomes = carried_outcomes r two_prizes plain_prize c in
-    let first : 1 ≡ r.outcome 1 = ap (λ ns. get_or ns 0 0) outcomes in
-    let other : 1 ≡ r.outcome 2 = ap (λ ns. get_or ns 1 0) outcomes in
-    let one : 1 ≡ 2 = c.renumbering.outcomes_apart 1 2 (0, omega arith, refl) (1, omega arith, refl)
-    (sym first ∙ other) in
-    omega (arith, one)
+    let apart = c.renumbering.outcomes_apart 1 2 (0, omega arith, refl) (1, omega arith, refl) in
+    grind arith
 
 pub null_zero : ¬ (SameGame no_outcome zero_outcome)
 null_zero (r, c) = grind arith

@@ -9,9 +9,8 @@ returns-in-Ok-Extensive-clause-same c =
       extensive t.0,
       record { spelled = t.1; within = tt },
       same_as_told c.args.names c.args.g.now t.0 c.args.b.now c.requires.game c.requires.spellable
-          t.1 c.tell_file.new.to.same c.is_same.result c.tell_file.new.to.left t.2.told
-          new.result.names new.result.game.now new.ensures.names new.ensures.game t.2.holding.1
-          t.2.nodes c.is_same.ensures,
+          t.1 _ _ _ t.2.told _ _ new.ensures.names new.ensures.game t.2.holding.1 t.2.nodes
+          c.is_same.ensures,
     )
 
 pub returns-in-Ok-Strategic-clause-same : goal.returns-in-Ok-Strategic-clause-same
