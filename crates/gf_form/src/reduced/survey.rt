@@ -10,11 +10,12 @@ ghost use Rattle.gf_form.specs.Strategies.{action_counts};
 ghost use Rattle.gf_form.specs.inner.reduced.Comes.{tree_comes};
 ghost use Rattle.gf_form.specs.inner.reduced.Relevance.{FindRelevance};
 ghost use Rattle.gf_form.specs.inner.reduced.Survey.{FindsMore, IsOpen, IsSurvey, meets_own};
-ghost use Rattle.gf_form.specs.inner.reduced.Survey.{open_comes, open_size, survey_size, taken};
+ghost use Rattle.gf_form.specs.inner.reduced.Survey.{open_comes, open_size, survey_size};
 ghost use Rattle.gf_form.specs.inner.reduced.Visits.{visits_of};
 ghost use Rattle.gf_form.specs.inner.rows.DigitSteps.{steps_behind, width};
 
 use crate::reduced::visits::{Visit, Visits};
+use crate::rows::digits::demanded;
 use gf_tree::{Branch, Branches, Game};
 use std::alloc::{AllocError, Global};
 
@@ -40,21 +41,6 @@ struct Survey<'s, 'g, 'a> {
     visits: Visits,
     /// The nodes on the path to the branch that comes next.
     nodes: Vec<Open<'g, 'a>>,
-}
-
-/// The action that is demanded at the digit with this step, if there are this many actions; 0 if
-/// any will do.
-fn taken(demands: u64, step: u64, actions: usize) -> u64
-    ensures { result ≡ taken demands step actions }
-{
-    if step == 0 {
-        return 0;
-    }
-    let demand = demands / step;
-    match (actions as u64).checked_add(1) {
-        Some(span) => demand % span,
-        None => demand,
-    }
 }
 
 impl<'g, 'a> Open<'g, 'a> {
@@ -101,7 +87,7 @@ impl<'s, 'g, 'a> Survey<'s, 'g, 'a> {
             step = self.steps[set as usize - 1];
         }
         self.nodes.push(Open {
-            taken: taken(demands, step, branch.children()),
+            taken: demanded(demands, step, branch.children()),
             rest: branch.child_branches(),
             demands,
             step,

@@ -8,6 +8,7 @@ ghost use Rattle.gf_tree.specs.Game.{Game, IsGame};
 ghost use Rattle.gf_form.specs.inner.strategies.Counted.{AreCounts};
 ghost use Rattle.gf_form.specs.inner.rows.DigitSteps.{all_steps, picked, steps_behind, width};
 ghost use Rattle.gf_form.specs.inner.rows.GameDigits.{HasDigits};
+ghost use Rattle.gf_form.specs.inner.rows.ReachedNodes.{demanded};
 
 use crate::strategies::counts::Counts;
 use std::alloc::{AllocError, Global};
@@ -19,6 +20,21 @@ pub(crate) struct Digit {
     pub step: u64,
     /// How many actions there are.
     pub actions: u32,
+}
+
+/// The action that a number demands at the digit with this step, if there are this many actions; 0
+/// if any will do, or if there is no digit, and the step is 0.
+pub(crate) fn demanded(demands: u64, step: u64, actions: usize) -> u64
+    ensures { result ≡ demanded demands step actions }
+{
+    if step == 0 {
+        return 0;
+    }
+    let demand = demands / step;
+    match (actions as u64).checked_add(1) {
+        Some(span) => demand % span,
+        None => demand,
+    }
 }
 
 /// How many values the digits of a player's sets have together with those of the players before

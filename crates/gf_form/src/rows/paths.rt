@@ -16,7 +16,7 @@ ghost use Rattle.gf_form.specs.inner.rows.ReachedNodes.{by_chance, by_choice, is
 ghost use Rattle.gf_form.specs.inner.rows.ReachedNodes.{reached, root_path};
 ghost use Rattle.gf_form.specs.Strategies.{choices_by, strategy_at};
 
-use crate::rows::digits::Digits;
+use crate::rows::digits::{Digits, demanded};
 use crate::values::walk::chance_of;
 use gf_fraction::Fraction;
 use gf_tree::{Branch, Branches, Game};
@@ -130,11 +130,7 @@ impl Path {
         if step == 0 {
             return 1;
         }
-        let demand = self.demands / step;
-        match (actions as u64).checked_add(1) {
-            Some(span) => demand % span,
-            None => demand,
-        }
+        demanded(self.demands, step, actions)
     }
 }
 

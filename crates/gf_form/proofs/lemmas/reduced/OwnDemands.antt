@@ -4,12 +4,13 @@ use Rattle.std.proofs.Common.{◌≡◌, ℕ, ◌+◌, ◌*◌, ◌/◌, ◌%◌
 use Rattle.std.proofs.Common.{List, [], ◌∷◌, length, get_or, set, refl, sym, ap, ◌∙◌}
 use Rattle.std.proofs.Common.{arith}
 use Rattle.std.specs.Prelude.{◌==◌, ◌&&◌, if◌then◌else◌}
-use Rattle.std.proofs.Math.Nat.{div-add-mod, div-lt_iff_lt-mul, mod-lt, mul_comm}
+use Rattle.std.proofs.Math.Nat.{div-add-mod, div-lt_iff_lt-mul, div-zero, mod-eq_of_lt, mod-lt}
+use Rattle.std.proofs.Math.Nat.{mul_comm}
 use Rattle.std.proofs.lemmas.Bool.{eqb-false, eqb-true}
 use Rattle.std.proofs.lemmas.List.{append-nil}
 use Rattle.std.proofs.lemmas.Slice.Zip.{AllZip-long}
 use Rattle.gf_nfg.specs.Profiles.{product}
-use Rattle.gf_form.specs.inner.reduced.Survey.{meets_own, taken}
+use Rattle.gf_form.specs.inner.reduced.Survey.{meets_own}
 use Rattle.gf_form.specs.inner.reduced.Visits.{AreActions}
 use Rattle.gf_form.specs.inner.rows.Demands.{meets, spans, steps_of}
 use Rattle.gf_form.specs.inner.rows.DigitSteps.{picked, steps_behind, width}
@@ -42,6 +43,10 @@ digits_of (a ∷ faster) n less =
     }
 
 -- ---- the demands at one set
+
+-- none without a digit
+pub no_digit : (demands step actions : ℕ) → step ≡ 0 → demanded demands step actions ≡ 0
+no_digit demands step actions none = grind (arith, div-zero, mod-eq_of_lt)
 
 -- the set at this place among a player's has this many actions, and its digit has this step
 pub record IsSetAt (counts : List ℕ) (place step actions : ℕ) : Type 0 where
@@ -103,7 +108,7 @@ module _ (counts : List ℕ) (demands place step actions : ℕ) (valid : demands
       rw (append-nil all_digits, append-nil (picked counts xs), here.step_is, here.actions_are) at d
 
   -- another action is added where none is demanded
-  pub added_fits : (k : ℕ) → k ≤ actions → taken demands step actions ≡ 0
+  pub added_fits : (k : ℕ) → k ≤ actions → demanded demands step actions ≡ 0
       → demands + k * step < width counts
   added_fits k upto free = by (step == 0) refl
     where
@@ -112,13 +117,13 @@ module _ (counts : List ℕ) (demands place step actions : ℕ) (valid : demands
       by false e =
           let d = digit_here counts refl (eqb-false step 0 e) in
           fits all_digits all_digits has.digits demands step actions (get_or counts place 0) refl
-          has.within has.are d k upto (rw e at free)
+          has.within has.are d k upto free
 
   -- the demands with an action, where that is the one that is demanded or any will do
   pub leads_on : (strategy : List ℕ) → AreActions counts strategy → (k : ℕ) → 1 ≤ k → k ≤ actions
       → (meets_own counts strategy demands && get_or strategy place 0 == k)
-      ≡ (if taken demands step actions == 0 then meets_own counts strategy (demands + k * step)
-      else k == taken demands step actions && meets_own counts strategy demands)
+      ≡ (if demanded demands step actions == 0 then meets_own counts strategy (demands + k * step)
+      else k == demanded demands step actions && meets_own counts strategy demands)
   leads_on strategy chosen k from upto = by (step == 0) refl
     where
       wide : length strategy ≡ length counts
@@ -133,11 +138,12 @@ module _ (counts : List ℕ) (demands place step actions : ℕ) (valid : demands
 
       by : (b : Bool) → (step == 0) ≡ b
           → (meets_own counts strategy demands && get_or strategy place 0 == k)
-          ≡ (if (if b then 0 else demanded demands step actions) == 0
+          ≡ (if demanded demands step actions == 0
           then meets_own counts strategy (demands + k * step)
-          else k == (if b then 0 else demanded demands step actions)
-          && meets_own counts strategy demands)
-      by true e = grind (arith, one, eqb-true)
+          else k == demanded demands step actions && meets_own counts strategy demands)
+      by true e =
+          let none = eqb-true step 0 e in
+          grind (arith, one, no_digit demands step actions none)
       by false e =
           leads all_digits (picked counts strategy) has.digits demands step actions
           (get_or strategy place 0) (as_many_picked counts strategy wide) has.within has.are

@@ -8,7 +8,7 @@ use Rattle.std.specs.List.{AllByRecursion, list_any}
 use Rattle.std.proofs.Math.ListN.{drop_of_length-le}
 use Rattle.std.proofs.Math.Seq.{take-length}
 use Rattle.std.proofs.lemmas.Bool.{cases_lt, false_from_ne_true}
-use Rattle.std.proofs.lemmas.List.{get_or-map, get_or-take, get_or_append_left, length-map}
+use Rattle.std.proofs.lemmas.List.{ext_get_or, get_or-map, get_or-take, get_or_append_left, length-map}
 use Rattle.std.proofs.lemmas.List.{length-take-le}
 use Rattle.std.proofs.lemmas.Option.{slice_get-get_or}
 use Rattle.gf_nfg.specs.Profiles.{product}
@@ -31,7 +31,7 @@ use Rattle.gf_form.specs.declared.reduced.level.Level.{Level}
 use Rattle.gf_form.specs.declared.reduced.visits.Visit.{Visit}
 use Rattle.gf_form.proofs.lemmas.rows.DigitChoices.{choice_at_number}
 use Rattle.gf_form.proofs.lemmas.strategies.Choices.{length-all_choices}
-use Rattle.gf_form.proofs.lemmas.strategies.CountedActions.{take_past}
+use Rattle.gf_form.proofs.lemmas.strategies.CountedActions.{sets_counted, take_past}
 use Rattle.gf_tree.proofs.lemmas.games.Members.{map_twice}
 use Rattle.gf_form.proofs.lemmas.reduced.FirstNumbers.{AreFirst, chooses_all, first_where}
 use Rattle.gf_form.proofs.lemmas.reduced.FirstNumbers.{passed_by}
@@ -57,22 +57,6 @@ met_all : (position : ℕ) (visits : List Visit) → is_met position [] [] visit
     ≡ list_any (λ (v : Visit). v.set == position) visits
 met_all position [] = refl
 met_all position (v ∷ visits) = grind (arith, met_all position visits)
-
--- ---- flags
-
--- flags that are each that of the item there
-flags_are : {A : Type 0} (test : A → Bool) (xs : List A) (flags : List Bool)
-    → length flags ≡ length xs
-    → ((k : ℕ) (x : A) → slice_get xs k ≡ Some x → get_or flags k false ≡ test x)
-    → flags ≡ map test xs
-flags_are test (x ∷ xs) (f ∷ flags) e h =
-    λ i. h 0 x refl i ∷ flags_are test xs flags (omega (arith, e)) (λ k y at. h (suc k) y at) i
-flags_are test [] [] e h = refl
-flags_are test xs flags e h = absurd (omega (arith, e))
-
-pub sets_counted : (g : Game) (player : ℕ)
-    → length (action_counts g player) ≡ length (player_keys g player)
-sets_counted g player = grind (arith, length-map)
 
 -- ---- digits
 
@@ -258,9 +242,14 @@ module _ (g : Game) (game : IsGame g) (player : ℕ) (digits : List OwnDigit) (s
         grind (arith, u.numbered 0 (omega (arith, one_under)), taken, none_left, append-nil)
 
     marks_are : met ≡ relevant_sets g player strategy
-    marks_are = flags_are (is_relevant g (choice_at keys strategy)) keys met
-        (counted ∙ sets_counted g player)
-        (λ k key there. marks k ∙ sym (by k key there))
+    marks_are =
+        let wide = counted ∙ sets_counted g player in
+        ext_get_or false met (relevant_sets g player strategy)
+        (wide ∙ sym (length-map keys (is_relevant g (choice_at keys strategy))))
+        (λ k less.
+        let among : k < length keys = omega (arith, less, wide) in
+        marks k ∙ sym (by k (get_or keys k no_key) (slice_get-get_or keys k no_key among))
+        ∙ sym (get_or-map (is_relevant g (choice_at keys strategy)) keys k no_key false among))
       where
         by : (k : ℕ) (key : SetKey) → slice_get keys k ≡ Some key
             → is_relevant g (choice_at keys strategy) key ≡ can_be_met (suc k) level

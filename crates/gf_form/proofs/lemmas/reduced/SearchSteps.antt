@@ -17,7 +17,7 @@ use Rattle.gf_tree.specs.Description.{SetKey}
 use Rattle.gf_tree.specs.FirstUse.{player_keys}
 use Rattle.gf_tree.specs.Game.{Game}
 use Rattle.gf_form.specs.Strategies.{all_choices}
-use Rattle.gf_form.specs.inner.rows.Demands.{spans, steps_of}
+use Rattle.gf_form.specs.inner.rows.Demands.{steps_of}
 use Rattle.gf_form.specs.inner.rows.DigitSteps.{picked, width}
 use Rattle.gf_form.specs.inner.reduced.Levels.{ArePositive, IsChosen, IsLevel, is_left}
 use Rattle.gf_form.specs.inner.reduced.OwnDigits.{digits_from, own_steps}
@@ -27,7 +27,9 @@ use Rattle.gf_form.specs.declared.reduced.digits.OwnDigit.{OwnDigit}
 use Rattle.gf_form.specs.declared.reduced.level.Level.{Level}
 use Rattle.gf_form.proofs.lemmas.rows.DigitChoices.{at_place as choice_at_place}
 use Rattle.gf_form.proofs.lemmas.rows.DigitChoices.{choice_at_number}
+use Rattle.gf_form.proofs.lemmas.rows.DemandDigits.{spans_above}
 use Rattle.gf_form.proofs.lemmas.strategies.Choices.{length-all_choices, place, place_at}
+use Rattle.gf_form.proofs.lemmas.strategies.CountedActions.{positive_at}
 use Rattle.gf_form.proofs.lemmas.reduced.OwnDigits.{from_several, width_fits}
 
 -- ---- actions in turn
@@ -76,15 +78,6 @@ other_action n counts k from before =
 steps_positive : (actions : List ℕ) → ArePositive (steps_of actions)
 steps_positive [] = tt
 steps_positive (n ∷ faster) = (spans_above faster, steps_positive faster)
-  where
-    above : (a b : ℕ) → 0 < a → 0 < b → 0 < a * b
-    above (suc a) (suc b) h k = omega arith
-    above a b h k = grind arith
-
-    spans_above : (actions : List ℕ) → 0 < product (spans actions)
-    spans_above [] = omega arith
-    spans_above (n ∷ faster) = above (n + 1) (product (spans faster)) (omega arith)
-        (spans_above faster)
 
 position_above : (keys : List SetKey) (position : ℕ) (key : SetKey)
     → at_position keys position ≡ Some key → 1 ≤ position
@@ -112,11 +105,6 @@ under_kept {g = g} {player = player} {counts = counts} other u same = record {
   relevant = λ later position key actions there.
       rw same (u.relevant later position key actions there);
 }
-
-some_action : (counts : List ℕ) (p : ℕ) → ArePositive counts → p < length counts
-    → 0 < get_or counts p 0
-some_action (n ∷ counts) (suc p) h less = some_action counts p h.1 (omega (arith, less))
-some_action counts p h less = grind arith
 
 -- the set of a digit is at the place
 abbrev IsAt : List ℕ → OwnDigit → ℕ → Type 0
@@ -192,7 +180,7 @@ module _ {g : Game} {player : ℕ} {counts : List ℕ} {digits : List OwnDigit} 
       elim (cases_lt 1 (get_or counts u.place 0)) [
         | inl several ↦ (u, inr (less, several))
         | inr one ↦
-            let v = skip u less (omega (arith, one, some_action counts u.place search.some less)) in
+            let v = skip u less (omega (arith, one, positive_at counts u.place search.some less)) in
             further fuel v.0 (omega (arith, enough, v.1)) (cases_lt v.0.place (length counts))
       ]
 

@@ -30,17 +30,18 @@ use Rattle.gf_form.specs.inner.reduced.Relevance.{FindRelevance}
 use Rattle.gf_form.specs.Strategies.{action_counts, choice_at}
 use Rattle.gf_form.specs.inner.reduced.Survey.{FindsMore, IsOpen, IsSurvey, leads_to, meets_own}
 use Rattle.gf_form.specs.inner.reduced.Survey.{open_comes, open_size, sizes, survey_comes}
-use Rattle.gf_form.specs.inner.reduced.Survey.{survey_size, taken}
+use Rattle.gf_form.specs.inner.reduced.Survey.{survey_size}
 use Rattle.gf_form.specs.inner.reduced.Visits.{AreActions, AreWithin, Meets, is_met_on}
 use Rattle.gf_form.specs.inner.reduced.Visits.{visits_of}
 use Rattle.gf_form.specs.inner.rows.DigitSteps.{picked, steps_behind, width}
+use Rattle.gf_form.specs.inner.rows.ReachedNodes.{demanded}
 use Rattle.gf_form.specs.declared.reduced.survey.Open.{Open}
 use Rattle.gf_form.specs.declared.reduced.survey.Survey.{Survey}
 use Rattle.gf_form.specs.declared.reduced.visits.Visit.{Visit}
 use Rattle.gf_form.proofs.lemmas.reduced.Coming.{relevant_is}
 use Rattle.gf_form.proofs.lemmas.reduced.NodeSets.{key_there, own_choice, same_position}
 use Rattle.gf_form.proofs.lemmas.reduced.NodeSets.{set_at_node}
-use Rattle.gf_form.proofs.lemmas.reduced.OwnDemands.{added_fits, leads_on, meets_none}
+use Rattle.gf_form.proofs.lemmas.reduced.OwnDemands.{added_fits, leads_on, meets_none, no_digit}
 use Rattle.gf_form.proofs.lemmas.reduced.Reducing.{any_has}
 use Rattle.gf_form.proofs.lemmas.strategies.KnownSets.{own_set}
 
@@ -110,7 +111,7 @@ pub record IsOpened (old new : Survey) (demands : ℕ) (t : Tree Node) (o : Open
   pub left : branches_left o.rest ≡ child_trees t
   pub given : branches_given o.rest ≡ 0
   pub demands_are : o.demands ≡ demands
-  pub taken_is : o.taken ≡ taken demands o.step (length (child_trees t))
+  pub taken_is : o.taken ≡ demanded demands o.step (length (child_trees t))
 
 module _ (g : Game) (game : IsGame g) (old new : Survey) (demands : ℕ) (o : Open) where
   abbrev counts : List ℕ
@@ -121,9 +122,9 @@ module _ (g : Game) (game : IsGame g) (old new : Survey) (demands : ℕ) (o : Op
 
   leads_is : (t : Tree Node) (strategy : List ℕ) (k step : ℕ) → IsOpened old new demands t o
       → o.step ≡ step → leads_to counts strategy o k
-      ≡ (if taken demands step (length (child_trees t)) == 0
+      ≡ (if demanded demands step (length (child_trees t)) == 0
       then meets_own counts strategy (demands + k * step)
-      else k == taken demands step (length (child_trees t)) && meets_own counts strategy demands)
+      else k == demanded demands step (length (child_trees t)) && meets_own counts strategy demands)
   leads_is t strategy k step is step_is = cc (is.taken_is, step_is, is.demands_are)
 
   -- another player moves, or chance does
@@ -137,7 +138,10 @@ module _ (g : Game) (game : IsGame g) (old new : Survey) (demands : ℕ) (o : Op
       let here : same_set key own ≡ false = grind (arith, same_set_equality) in
       let below = at_own (choice_at keys strategy) key t own (meets_own counts strategy demands)
       false (leads_to counts strategy o) at here
-      (λ k from upto. let leads = leads_is t strategy k 0 is no_step in grind arith) in
+      (λ k from upto.
+      let leads = leads_is t strategy k 0 is no_step in
+      let free = no_digit demands 0 (length (child_trees t)) refl in
+      grind arith) in
       grind (arith, list_any-append)
 
   -- the player moves
@@ -175,7 +179,8 @@ module _ (g : Game) (game : IsGame g) (old new : Survey) (demands : ℕ) (o : Op
   -- the node that is opened fits
   pub opened_other : (t : Tree Node) → IsOpened old new demands t o → o.step ≡ 0
       → game_of_branches o.rest ≡ g → demands < width counts → IsOpen g counts o
-  opened_other t is no_step game_is valid = grind arith
+  opened_other t is no_step game_is valid =
+      grind (arith, no_digit demands o.step (length (child_trees t)) no_step)
 
   pub opened_own : (at set : ℕ) (own : SetKey) → at < length (subtrees g.tree)
       → IsOpened old new demands (subtree_at g.tree at) o

@@ -14,15 +14,9 @@ use Rattle.gf_form.specs.inner.reduced.OwnDigits.{own_steps}
 use Rattle.gf_form.specs.inner.reduced.Visits.{AreActions, AreWithin, is_met, visits_of}
 use Rattle.gf_form.specs.inner.rows.Demands.{meets}
 use Rattle.gf_form.specs.inner.rows.DigitSteps.{picked, steps_behind, width}
-use Rattle.gf_form.specs.inner.rows.ReachedNodes.{demanded}
 use Rattle.gf_form.specs.Strategies.{action_counts, choice_at}
 use Rattle.gf_form.specs.declared.reduced.survey.Open.{Open}
 use Rattle.gf_form.specs.declared.reduced.survey.Survey.{Survey}
-
--- the action that is demanded at the digit with this step, if there are this many actions; 0 if any
--- will do
-abbrev pub taken : ℕ → ℕ → ℕ → ℕ
-taken demands step actions = if step == 0 then 0 else demanded demands step actions
 
 -- a strategy of the player meets these demands, if he has this many actions at each set
 abbrev pub meets_own : List ℕ → List ℕ → ℕ → Bool

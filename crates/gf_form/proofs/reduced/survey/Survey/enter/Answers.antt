@@ -4,8 +4,9 @@ use Rattle.gf_token.specs.Positions.{at_position}
 use Rattle.gf_tree.specs.Branches.{game_of, tree_of}
 use Rattle.gf_tree.specs.FirstUse.{player_keys}
 use Rattle.gf_form.specs.Strategies.{action_counts}
-use Rattle.gf_form.specs.inner.reduced.Survey.{sizes, survey_size, taken}
+use Rattle.gf_form.specs.inner.reduced.Survey.{sizes, survey_size}
 use Rattle.gf_form.specs.inner.reduced.Visits.{AreWithin, Meets, visits_of}
+use Rattle.gf_form.specs.inner.rows.ReachedNodes.{demanded}
 use Rattle.gf_form.specs.declared.reduced.survey.Open.{Open}
 use Rattle.gf_form.specs.declared.reduced.survey.Survey.{Survey}
 use Rattle.gf_form.proofs.lemmas.rows.DigitPlaces.{steps_have_shape}
@@ -38,7 +39,7 @@ node c = record {
   rest = c.child_branches.result;
   demands = c.args.demands;
   step = c.if-player-self.step;
-  taken = c.taken.result;
+  taken = c.demanded.result;
 }
 
 abbrev new : goal.In_ok-push → Survey
@@ -59,7 +60,8 @@ opened c = record {
   left = c.child_branches.ensures.trees;
   given = c.child_branches.ensures.none;
   demands_are = refl;
-  taken_is = c.taken.ensures ∙ ap (taken c.args.demands c.if-player-self.step) c.children.ensures;
+  taken_is = c.demanded.ensures
+      ∙ ap (demanded c.args.demands c.if-player-self.step) c.children.ensures;
 }
 
 pub returns-clause-found : goal.returns-clause-found

@@ -1,6 +1,6 @@
 use Rattle.std.proofs.Common.{arith}
 use Rattle.std.proofs.Math.Nat.{mod-eq_of_lt}
-use Rattle.gf_form.proofs.reduced.survey.taken.Goals as goal
+use Rattle.gf_form.proofs.rows.digits.demanded.Goals as goal
 
 pub returns-in-None : goal.returns-in-None
 returns-in-None c = grind (arith, mod-eq_of_lt)
