@@ -71,10 +71,8 @@ module _ (g : Game) (game : IsGame g) (spellable : IsSpellable g) (player : ℕ)
 
   steps_own : (steps : List Step) → list_all (is_chosen everybody) steps ≡ true
       → list_all (is_own_choice c player) steps ≡ true
+  steps_own (s ∷ steps) h = grind (arith, step_own s.node.set s.taken, steps_own steps)
   steps_own [] h = refl
-  steps_own (s ∷ steps) h =
-      let both = and_parts (is_chosen everybody s) (list_all (is_chosen everybody) steps) h in
-      and_from _ _ (step_own s.node.set s.taken both.0) (steps_own steps both.1)
 
   abbrev Agrees : Play → Type 0
   Agrees p = agrees c player p ≡ true
@@ -95,8 +93,7 @@ module _ (g : Game) (game : IsGame g) (spellable : IsSpellable g) (player : ℕ)
     Goes ps = (p : Play) × Has ps p × Agrees p × PassesBy key p.steps
 
     this_set : (o : Option SetKey) → option_map_or (same_set key) o false ≡ true → o ≡ Some key
-    this_set None h = absurd (false≢true h)
-    this_set (Some k) h = ap Some (sym ((same_set_equality key k).0 h))
+    this_set o h = grind (arith, same_set_equality)
 
     starts_here : (n : Node) (t : Tree Node) (ts : Trees Node)
         → AllByRecursion (HasChildren g) (flatten (branch n (more t ts))) → IsHere n ≡ true
@@ -200,9 +197,7 @@ module _ (player : ℕ) (d : SetKey → ℕ) (key : SetKey) (own : key.player �
 
 shown_same : (a b : Bool) (m n : ℕ) → (a ≡ true → (b ≡ true) × (m ≡ n)) → (b ≡ true → a ≡ true)
     → (if a then Some m else None) ≡ (if b then Some n else None)
-shown_same true b m n to from = let r = to refl in λ i. if sym r.0 i then Some (r.1 i) else None
-shown_same false true m n to from = absurd (false≢true (from refl))
-shown_same false false m n to from = refl
+shown_same a b m n to from = grind arith
 
 module _ (g : Game) (game : IsGame g) (spellable : IsSpellable g) (player : ℕ)
     (above : 0 < player) where

@@ -4,13 +4,14 @@ use Rattle.std.proofs.Common.{◌≡◌, ℕ, zero, suc, ◌+◌, ◌<◌, ◌�
 use Rattle.std.proofs.Common.{List, [], ◌∷◌, ◌++◌, Some, None, length, map, get_or, drop}
 use Rattle.std.proofs.Common.{refl, sym, ap, subst, ◌∙◌, append-nil, append_assoc, arith, inl}
 use Rattle.std.proofs.Common.{inr}
-use Rattle.std.specs.Prelude.{◌==◌, ◌||◌, filter, if◌then◌else◌, unwrap_or}
+use Rattle.std.specs.Prelude.{filter, if◌then◌else◌}
 use Rattle.std.specs.List.{list_any}
 use Rattle.std.specs.Cmp.Lexicographic.{pointwise}
-use Rattle.std.proofs.lemmas.Bool.{and_parts, eqb-true, false≢true}
+use Rattle.std.proofs.lemmas.Bool.{eqb-true, false≢true}
 use Rattle.std.proofs.lemmas.Bool.{false_from_ne_true}
 use Rattle.std.proofs.lemmas.List.{length-map, map-append}
 use Rattle.std.proofs.lemmas.List.Elements.{filter-append}
+use Rattle.std.proofs.lemmas.Slice.Zip.{AllZip-long}
 use Rattle.gf_nfg.specs.Profiles.{numbers_from, product}
 use Rattle.gf_tree.specs.Description.{SetKey, same_set}
 use Rattle.gf_tree.specs.FiniteMap.{first_uses}
@@ -132,64 +133,44 @@ first_of (flag ∷ flags) (action ∷ strategy) =
 first_of _ _ = []
 
 shown_first : (flags : List Bool) (s : List ℕ) → shown flags (first_of flags s) ≡ shown flags s
+shown_first (flag ∷ flags) (a ∷ s) = grind (arith, shown_first flags s)
 shown_first [] s = refl
 shown_first (flag ∷ flags) [] = refl
-shown_first (true ∷ flags) (a ∷ s) = ap (λ l. Some a ∷ l) (shown_first flags s)
-shown_first (false ∷ flags) (a ∷ s) = ap (λ l. None ∷ l) (shown_first flags s)
 
 first_chooses : (flags : List Bool) (s : List ℕ)
     → chooses_first flags (first_of flags s) ≡ true
+first_chooses (flag ∷ flags) (a ∷ s) = grind (arith, first_chooses flags s)
 first_chooses [] s = refl
 first_chooses (flag ∷ flags) [] = refl
-first_chooses (true ∷ flags) (a ∷ s) = first_chooses flags s
-first_chooses (false ∷ flags) (a ∷ s) = first_chooses flags s
 
 first_choice : (counts : List ℕ) (flags : List Bool) (s : List ℕ) → length flags ≡ length counts
     → IsChoice counts s
     → IsChoice counts (first_of flags s) × (place counts (first_of flags s) ≤ place counts s)
+first_choice (n ∷ counts) (flag ∷ flags) (a ∷ s) e h =
+    grind (arith, first_choice counts flags s (omega (arith, e)) h.1)
 first_choice [] [] [] e h = (tt, omega arith)
-first_choice [] (flag ∷ flags) s e h = absurd (omega (arith, e))
-first_choice [] [] (a ∷ s) e h = absurd h
-first_choice (n ∷ counts) [] s e h = absurd (omega (arith, e))
-first_choice (n ∷ counts) (flag ∷ flags) [] e h = absurd h
-first_choice (n ∷ counts) (true ∷ flags) (a ∷ s) e h =
-    grind (arith, first_choice counts flags s (omega (arith, e)) h.1)
-first_choice (n ∷ counts) (false ∷ flags) (a ∷ s) e h =
-    grind (arith, first_choice counts flags s (omega (arith, e)) h.1)
+first_choice counts flags s e h = grind arith
 
 -- two such strategies that are shown alike are one
 one_shown : (counts : List ℕ) (fs gs : List Bool) (s t : List ℕ) → length fs ≡ length counts
     → length gs ≡ length counts → IsChoice counts s → IsChoice counts t
     → chooses_first fs s ≡ true → chooses_first gs t ≡ true → shown fs s ≡ shown gs t → s ≡ t
-one_shown [] fs gs [] [] ef eg hs ht cs ct e = refl
-one_shown [] fs gs (a ∷ s) t ef eg hs ht cs ct e = absurd hs
-one_shown [] fs gs [] (b ∷ t) ef eg hs ht cs ct e = absurd ht
-one_shown (n ∷ counts) [] gs s t ef eg hs ht cs ct e = absurd (omega (arith, ef))
-one_shown (n ∷ counts) (f ∷ fs) [] s t ef eg hs ht cs ct e = absurd (omega (arith, eg))
-one_shown (n ∷ counts) (f ∷ fs) (g ∷ gs) [] t ef eg hs ht cs ct e = absurd hs
-one_shown (n ∷ counts) (f ∷ fs) (g ∷ gs) (a ∷ s) [] ef eg hs ht cs ct e = absurd ht
 one_shown (n ∷ counts) (f ∷ fs) (g ∷ gs) (a ∷ s) (b ∷ t) ef eg hs ht cs ct e =
-    let ps = and_parts (f || a == 1) (chooses_first fs s) cs in
-    let pt = and_parts (g || b == 1) (chooses_first gs t) ct in
-    let others = one_shown counts fs gs s t (omega (arith, ef)) (omega (arith, eg)) hs.1 ht.1 ps.1
-    pt.1 (ap (drop 1) e) in
-    λ i. here f g ps.0 pt.0 (ap (λ l. get_or l 0 None) e) i ∷ others i
-  where
-    here : (f g : Bool) → (f || a == 1) ≡ true → (g || b == 1) ≡ true
-        → (if f then Some a else None) ≡ (if g then Some b else None) → a ≡ b
-    here true true p q e = ap (λ o. unwrap_or o a) e
-    here true false p q e = absurd cc
-    here false true p q e = absurd cc
-    here false false p q e = eqb-true a 1 p ∙ sym (eqb-true b 1 q)
+    grind (
+      arith,
+      eqb-true,
+      one_shown counts fs gs s t (omega (arith, ef)) (omega (arith, eg)) hs.1 ht.1,
+    )
+one_shown [] fs gs [] [] ef eg hs ht cs ct e = refl
+one_shown counts fs gs s t ef eg hs ht cs ct e = grind arith
 
 -- ---- flags by keys
 
 choice_first : (relevant : SetKey → Bool) (keys : List SetKey) (s : List ℕ) (key : SetKey)
     → relevant key ≡ true
     → choice_at keys (first_of (map relevant keys) s) key ≡ choice_at keys s key
-choice_first relevant [] s key h = refl
-choice_first relevant (k ∷ keys) [] key h = refl
 choice_first relevant (k ∷ keys) (a ∷ s) key h = grind (arith, choice_first relevant keys s key h)
+choice_first relevant keys s key h = grind arith
 
 -- what is shown, by keys
 shown_by : (relevant : SetKey → Bool) (keys : List SetKey) (s : List ℕ) → AreDistinct keys
@@ -215,10 +196,8 @@ shown_by relevant (k ∷ keys) (a ∷ s) d e =
 -- ---- the strategies of a player
 
 pub choice_length : (counts s : List ℕ) → IsChoice counts s → length s ≡ length counts
-choice_length [] [] h = refl
-choice_length [] (a ∷ s) h = absurd h
-choice_length (n ∷ counts) [] h = absurd h
-choice_length (n ∷ counts) (a ∷ s) h = ap suc (choice_length counts s h.1)
+choice_length counts s h =
+    sym (AllZip-long (λ action count. (1 ≤ action) × (action ≤ count)) s counts h)
 
 pub filter_fewer : {A : Type 0} (test : A → Bool) (xs : List A)
     → length (filter test xs) ≤ length xs

@@ -47,10 +47,9 @@ numbers_of : (g : Game) (players : List ℕ) (firsts : List (List ℕ))
     → AllZip (AreFirstsOf g) firsts players
     → AllZip (λ own player. AllByRecursion (λ number. number < length (strategies g player)) own)
     firsts players
-numbers_of g [] [] h = tt
-numbers_of g [] (own ∷ firsts) h = absurd h
-numbers_of g (player ∷ players) [] h = absurd h
 numbers_of g (player ∷ players) (own ∷ firsts) h = (h.0.1, numbers_of g players firsts h.1)
+numbers_of g [] [] h = tt
+numbers_of g players firsts h = grind arith
 
 pub are_numbers : (g : Game) (firsts : List (List ℕ)) → AreFirsts g firsts → AreNumbers g firsts
 are_numbers g firsts h = numbers_of g (players_of g) firsts h
@@ -58,14 +57,10 @@ are_numbers g firsts h = numbers_of g (players_of g) firsts h
 counted_of : (g : Game) (players : List ℕ) (firsts : List (List ℕ))
     → AllZip (AreFirstsOf g) firsts players
     → map length firsts ≡ map (λ player. length (reduced_strategies g player)) players
-counted_of g [] [] h = refl
-counted_of g [] (own ∷ firsts) h = absurd h
-counted_of g (player ∷ players) [] h = absurd h
 counted_of g (player ∷ players) (own ∷ firsts) h =
-    let first : length own ≡ length (reduced_strategies g player) =
-    sym (length-map own (λ number. reduced g player (get_or (strategies g player) number [])))
-    ∙ ap length h.0.0 in
-    λ i. first i ∷ counted_of g players firsts h.1 i
+    grind (arith, length-map, counted_of g players firsts h.1)
+counted_of g [] [] h = refl
+counted_of g players firsts h = grind arith
 
 -- there are as many as reduced strategies
 pub firsts_counted : (g : Game) (firsts : List (List ℕ)) → AreFirsts g firsts
@@ -117,9 +112,6 @@ reduces : (g : Game) (players : List ℕ) (firsts : List (List ℕ)) (profile : 
     (zip players (map (λ p. strategy_at (strategies g p.0) p.1)
     (zip players (full_at firsts profile))))
     ≡ map (λ p. strategy_at (reduced_strategies g p.0) p.1) (zip players profile)
-reduces g [] firsts profile h k = refl
-reduces g (player ∷ players) [] profile h k = absurd h
-reduces g (player ∷ players) (own ∷ firsts) [] h k = absurd k
 reduces g (player ∷ players) (own ∷ firsts) (s ∷ profile) h k =
     let all = strategies g player in
     let number = get_or own (s - 1) 0 in
@@ -133,6 +125,7 @@ reduces g (player ∷ players) (own ∷ firsts) (s ∷ profile) h k =
     ∙ ap (λ (rs : List (List (Option ℕ))). get_or rs (s - 1) []) h.0.0
     ∙ sym (strategy_before (reduced_strategies g player) s k.0.0) in
     λ i. first i ∷ reduces g players firsts profile h.1 k.1 i
+reduces g players firsts profile h k = grind arith
 
 module _ (g : Game) (firsts : List (List ℕ)) (are : AreFirsts g firsts) where
   their_profiles : profiles (map length firsts) ≡ reduced_profiles g
@@ -149,14 +142,12 @@ module _ (g : Game) (firsts : List (List ℕ)) (are : AreFirsts g firsts) where
   rows_over : (ps : List (List ℕ)) (rows : List (List Ratio))
       → ((profile : List ℕ) → Has ps profile → Has (reduced_profiles g) profile)
       → AllZip (ArePayoffsAt g) (map (full_at firsts) ps) rows → AllZip (IsPaidAt g) ps rows
-  rows_over [] [] there h = tt
-  rows_over [] (row ∷ rows) there h = absurd h
-  rows_over (profile ∷ ps) [] there h = absurd h
   rows_over (profile ∷ ps) (row ∷ rows) there h =
       let at = full_there profile (there profile (inl refl)) in (
         record { full = full_at firsts profile; there = at.0; reduces = at.1; paid = h.0 },
         rows_over ps rows (λ other i. there other (inr i)) h.1,
       )
+  rows_over ps rows there h = grind arith
 
   pub reduced_rows : (payoffs : List Ratio)
       → AreRowsAt (ArePayoffsAt g) (picked_profiles firsts) payoffs
@@ -189,21 +180,18 @@ module _ (g : Game) (firsts : List (List ℕ)) (are : AreFirsts g firsts) where
       → at_position (map (full_at firsts) ps) position ≡ Some full
       → (profile : List ℕ) × Has ps profile × (at_position ps position ≡ Some profile)
       × (full_at firsts profile ≡ full)
-  mapped_there ps zero full there = absurd cc
-  mapped_there [] (suc k) full there = absurd cc
-  mapped_there (profile ∷ ps) (suc zero) full there = (profile, inl refl, refl, cc)
   mapped_there (profile ∷ ps) (suc (suc k)) full there =
       let other = mapped_there ps (suc k) full there in (other.0, inr other.1, other.2, other.3)
+  mapped_there (profile ∷ ps) (suc zero) full there = (profile, inl refl, refl, cc)
+  mapped_there ps position full there = absurd (grind arith)
 
   image_there : (ps : List (List ℕ)) (position : ℕ) (profile : List ℕ)
       → at_position ps position ≡ Some profile
       → Has ps profile × (at_position (map (full_at firsts) ps) position
       ≡ Some (full_at firsts profile))
-  image_there ps zero profile there = absurd cc
-  image_there [] (suc k) profile there = absurd cc
-  image_there (p ∷ ps) (suc zero) profile there = grind arith
   image_there (p ∷ ps) (suc (suc k)) profile there =
       let other = image_there ps (suc k) profile there in (inr other.0, other.1)
+  image_there ps position profile there = grind arith
 
   pub reduced_overflow : (position : ℕ)
       → IsFirstWithout (HasValues g) (picked_profiles firsts) position

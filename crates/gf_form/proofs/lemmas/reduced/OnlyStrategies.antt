@@ -149,20 +149,17 @@ module _ (g : Game) (choices : SetKey → ℕ) (key : SetKey)
 
 all_shown : {A : Type 0} (xs : List A) (s : List ℕ) → length xs ≡ length s
     → shown (map (λ x. true) xs) s ≡ map Some s
-all_shown [] [] e = refl
-all_shown [] (a ∷ s) e = absurd (omega (arith, e))
-all_shown (x ∷ xs) [] e = absurd (omega (arith, e))
 all_shown (x ∷ xs) (a ∷ s) e = cc (all_shown xs s (omega (arith, e)))
+all_shown [] [] e = refl
+all_shown xs s e = grind arith
 
 all_chosen : {A : Type 0} (xs : List A) (s : List ℕ) → chooses_first (map (λ x. true) xs) s ≡ true
-all_chosen [] s = refl
-all_chosen (x ∷ xs) [] = refl
 all_chosen (x ∷ xs) (a ∷ s) = all_chosen xs s
+all_chosen xs s = grind arith
 
 one_alone : {A : Type 0} (xs : List A) (d : A) → length xs ≡ 1 → xs ≡ get_or xs 0 d ∷ []
-one_alone [] d e = absurd (omega (arith, e))
 one_alone (x ∷ []) d e = refl
-one_alone (x ∷ y ∷ xs) d e = absurd (omega (arith, e))
+one_alone xs d e = absurd (omega (arith, e))
 
 module _ (g : Game) (game : IsGame g) (player : ℕ)
     (one : product (action_counts g player) ≡ 1) where

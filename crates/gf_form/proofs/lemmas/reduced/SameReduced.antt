@@ -1,8 +1,8 @@
 -- Games that are the same have the same plays except for their numbers, and so the same reduced
 -- strategies and the same reduced form.
 use Rattle.std.proofs.Common.{arith}
-use Rattle.std.proofs.Common.{◌≡◌, ℕ, ◌+◌, Bool, true, false, List, [], ◌∷◌, ◌++◌}
-use Rattle.std.proofs.Common.{Option, Some, None, map, refl, sym, ap, ◌∙◌, subst}
+use Rattle.std.proofs.Common.{◌≡◌, ℕ, ◌+◌, Bool, true, false, List, [], ◌∷◌}
+use Rattle.std.proofs.Common.{Option, Some, None, map, refl, ap, ◌∙◌, subst}
 use Rattle.std.specs.Prelude.{◌↔◌, ◌==◌, ◌&&◌, ◌||◌, not, option_map, zip, if◌then◌else◌}
 use Rattle.std.specs.List.{AllByRecursion, AllZip, Contains, list_any}
 use Rattle.std.specs.Option.{option_map_or}
@@ -65,14 +65,13 @@ mutual
       → plays_from (f n) k (map_trees f ts) ≡ map (carried_play f) (plays_from n k ts)
   children_carried f n k none = refl
   children_carried f n k (more t ts) =
-      let first : map (from_node (f n) k) (plays (map_tree f t))
-      ≡ map (carried_play f) (map (from_node n k) (plays t)) =
-      ap (map (from_node (f n) k)) (plays_carried f t)
-      ∙ map_twice (from_node (f n) k) (carried_play f) (plays t)
-      ∙ sym (map_twice (carried_play f) (from_node n k) (plays t)) in
-      (λ i. first i ++ children_carried f n (k + 1) ts i)
-      ∙ sym (map-append (carried_play f) (map (from_node n k) (plays t))
-      (plays_from n (k + 1) ts))
+      grind (
+        arith,
+        plays_carried f t,
+        children_carried f n (k + 1) ts,
+        map_twice,
+        map-append,
+      )
 
 -- what holds for the nodes of a tree holds for those on its plays
 module _ (P : Node → Type 0) where

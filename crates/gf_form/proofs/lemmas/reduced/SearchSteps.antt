@@ -10,7 +10,7 @@ use Rattle.std.proofs.Math.Nat.{mul_comm, mul-le-mul_right}
 use Rattle.std.proofs.lemmas.Bool.{cases_lt, eqb-false, eqb-true}
 use Rattle.std.proofs.Math.ListN.{drop_of_length-le}
 use Rattle.std.proofs.lemmas.List.{get_or-append_right, get_or-set_other, get_or_default}
-use Rattle.std.proofs.lemmas.List.{length-set, length-take-le, take-set-le}
+use Rattle.std.proofs.lemmas.List.{length-set, length-take-le, take-set-le, take-take}
 use Rattle.gf_token.specs.Positions.{at_position}
 use Rattle.gf_nfg.specs.Profiles.{product}
 use Rattle.gf_tree.specs.Description.{SetKey}
@@ -324,14 +324,6 @@ pub listed_behind : (p : ℕ) (counts : List ℕ) (d : OwnDigit) (ds : List OwnD
 listed_behind p (n ∷ counts) d ds e = grind (arith, listed_behind (p + 1) counts d ds)
 listed_behind p [] d ds e = grind arith
 
-shorter : {A : Type 0} (xs ys : List A) (n m : ℕ) → m ≤ n → take n xs ≡ take n ys
-    → take m xs ≡ take m ys
-shorter (x ∷ xs) (y ∷ ys) (suc n) (suc m) le e = grind (arith, shorter xs ys n m)
-shorter xs ys n zero le e = refl
-shorter xs ys zero (suc m) le e = grind arith
-shorter [] ys (suc n) (suc m) le e = grind arith
-shorter (x ∷ xs) [] (suc n) (suc m) le e = grind arith
-
 positive_behind : (counts : List ℕ) (p : ℕ) → ArePositive counts → ArePositive (drop p counts)
 positive_behind counts zero h = h
 positive_behind [] (suc p) h = tt
@@ -442,6 +434,11 @@ module _ {g : Game} {player : ℕ} {counts : List ℕ} {digits : List OwnDigit}
     still p listed new same =
         let behind : p ≤ d.place =
         listed_behind p (drop p counts) d (drop (suc depth) digits) (sym listed ∙ there) in
-        shorter new with_choice (suc place_there) p (omega (arith, behind, found.1.0))
-        (same (suc place_there) later)
-        ∙ take-set-le p now d.place (before + 1) behind ∙ kept p listed
+        grind (
+          arith,
+          same (suc place_there) later,
+          take-take p (suc place_there) new (omega (arith, behind, found.1.0)),
+          take-take p (suc place_there) with_choice (omega (arith, behind, found.1.0)),
+          take-set-le p now d.place (before + 1) behind,
+          kept p listed,
+        )
