@@ -183,17 +183,13 @@ module _ (player : ℕ) (d : SetKey → ℕ) (key : SetKey) (own : key.player �
 
   comes_through : (before : List Step) → list_all (is_own_choice d player) (through before) ≡ true
       → comes_to d key (through before) ≡ true
+  comes_through (s ∷ before) h = grind (arith, comes_through before)
   comes_through [] h = grind arith
-  comes_through (s ∷ before) h =
-      let both =
-      and_parts (is_own_choice d player s) (list_all (is_own_choice d player) (through before)) h in
-      grind (arith, comes_through before both.1)
 
   chosen_through : (before : List Step) → list_all (is_own_choice d player) (through before) ≡ true
       → d key ≡ k
+  chosen_through (s ∷ before) h = grind (arith, chosen_through before)
   chosen_through [] h = grind arith
-  chosen_through (s ∷ before) h = chosen_through before (and_parts (is_own_choice d player s)
-      (list_all (is_own_choice d player) (through before)) h).1
 
 shown_same : (a b : Bool) (m n : ℕ) → (a ≡ true → (b ≡ true) × (m ≡ n)) → (b ≡ true → a ≡ true)
     → (if a then Some m else None) ≡ (if b then Some n else None)

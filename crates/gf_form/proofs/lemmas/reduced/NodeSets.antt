@@ -1,7 +1,7 @@
 -- The set at a node: its position among its player's, how many actions it has, and what is chosen
 -- there.
 use Rattle.std.proofs.Common.{◌≡◌, ℕ, zero, suc, ◌-◌, ◌<◌, ◌≤◌}
-use Rattle.std.proofs.Common.{List, [], ◌∷◌, Some, length, get_or, refl, sym, ap, ◌∙◌}
+use Rattle.std.proofs.Common.{List, ◌∷◌, Some, length, get_or, refl, sym, ap, ◌∙◌}
 use Rattle.std.proofs.Common.{subst, arith}
 use Rattle.std.specs.Prelude.{◌==◌}
 use Rattle.std.specs.Prelude.{unwrap_or}
@@ -39,11 +39,9 @@ key_there xs (suc k) x h = has_at xs k x h
 -- what stands at two positions stands there twice
 one_position : (keys : List SetKey) (i j : ℕ) (key : SetKey) → AreDistinct keys
     → at_position keys i ≡ Some key → at_position keys j ≡ Some key → i ≡ j
-one_position [] i j key d hi hj = grind arith
-one_position (k ∷ keys) zero j key d hi hj = grind arith
-one_position (k ∷ keys) (suc i) zero key d hi hj = grind arith
 one_position (k ∷ keys) (suc i) (suc j) key d hi hj =
     grind (arith, has_at, one_position keys i j key d.1)
+one_position keys i j key d hi hj = grind arith
 
 pub same_position : (keys : List SetKey) (i j : ℕ) (own key : SetKey) → AreDistinct keys
     → at_position keys i ≡ Some own → at_position keys j ≡ Some key → same_set key own ≡ (i == j)

@@ -1,12 +1,11 @@
 -- The reduced form of a game: some full profile reduces to each of its profiles, and each full
 -- profile reduces to one.
-use Rattle.std.proofs.Common.{◌≡◌, ℕ, zero, suc, ◌≤◌, List, [], ◌∷◌, Option, Some, None}
+use Rattle.std.proofs.Common.{◌≡◌, ℕ, zero, suc, ◌≤◌, List, [], ◌∷◌, Option, None}
 use Rattle.std.proofs.Common.{length, map, refl, sym, ap, ◌∙◌, subst, arith, inl, inr}
 use Rattle.std.specs.Prelude.{◌↔◌, zip}
 use Rattle.std.specs.Bool.{Decides}
 use Rattle.std.specs.List.{AllZip, Contains}
 use Rattle.std.specs.Cmp.Lexicographic.{pointwise}
-use Rattle.std.proofs.lemmas.Bool.{false≢true}
 use Rattle.std.proofs.lemmas.List.{length-map}
 use Rattle.std.proofs.lemmas.Slice.Eq.{slice_eq-Decides}
 use Rattle.gf_fraction.specs.Ratio.{Ratio, IsFraction}
@@ -37,29 +36,25 @@ position_in : {A : Type 0} (xs : List (List A)) (x : List A) → Has xs x
     → (s : ℕ) × (1 ≤ s) × (s ≤ length xs) × (strategy_at xs s ≡ x)
 position_in [] x h = absurd h
 position_in (y ∷ xs) x (inl e) = (1, omega arith, omega arith, e)
-position_in {A} (y ∷ xs) x (inr h) = further (position_in xs x h)
+position_in (y ∷ xs) x (inr h) = further (position_in xs x h)
   where
     further : (s : ℕ) × (1 ≤ s) × (s ≤ length xs) × (strategy_at xs s ≡ x)
         → (s : ℕ) × (1 ≤ s) × (s ≤ suc (length xs)) × (strategy_at (y ∷ xs) s ≡ x)
-    further (zero, above, within, e) = absurd (omega (arith, above))
-    further (suc k, above, within, e) = (suc (suc k), omega arith, omega (arith, within), e)
+    further one = (suc one.0, omega arith, omega (arith, one.2), grind (arith, one.1, one.3))
 
 -- and what has a position stands there
 in_position : {A : Type 0} (xs : List (List A)) (s : ℕ) → 1 ≤ s → s ≤ length xs
     → Has xs (strategy_at xs s)
-in_position xs zero above within = absurd (omega arith)
-in_position [] (suc k) above within = absurd (omega arith)
-in_position (x ∷ xs) (suc zero) above within = inl refl
 in_position (x ∷ xs) (suc (suc k)) above within =
     inr (in_position xs (suc k) (omega arith) (omega arith))
+in_position (x ∷ xs) (suc zero) above within = inl refl
+in_position xs s above within = absurd (omega arith)
 
 -- ---- a strategy reduces to one, and each is reduced to
 
 choice_equality : (a b : Option ℕ) → Decides (same_choice a b) (a ≡ b)
 choice_equality None None = (λ h. refl, λ e. refl)
-choice_equality None (Some b) = (λ h. absurd (false≢true h), λ e. absurd cc)
-choice_equality (Some a) None = (λ h. absurd (false≢true h), λ e. absurd cc)
-choice_equality (Some a) (Some b) = grind arith
+choice_equality a b = grind arith
 
 pub choices_equality : (a b : List (Option ℕ)) → Decides (pointwise same_choice a b) (a ≡ b)
 choices_equality a b = grind (arith, choice_equality, slice_eq-Decides)
@@ -109,24 +104,22 @@ module _ (g : Game) where
 
   full_of_all : (players profile : List ℕ) → IsProfile (reduced_counts players) profile
       → (full : List ℕ) × IsProfile (full_counts players) full × AllReduce players full profile
-  full_of_all [] [] h = ([], tt, refl)
-  full_of_all [] (s ∷ profile) h = absurd h
-  full_of_all (player ∷ players) [] h = absurd h
   full_of_all (player ∷ players) (s ∷ profile) h =
       let k = full_of player s h.0.0 h.0.1 in
       let others = full_of_all players profile h.1 in
       (k.0 ∷ others.0, ((k.1, k.2), others.1), λ i. k.3 i ∷ others.2 i)
+  full_of_all [] [] h = ([], tt, refl)
+  full_of_all players profile h = absurd h
 
   reduced_of_all : (players full : List ℕ) → IsProfile (full_counts players) full
       → (profile : List ℕ) × IsProfile (reduced_counts players) profile
       × AllReduce players full profile
-  reduced_of_all [] [] h = ([], tt, refl)
-  reduced_of_all [] (k ∷ full) h = absurd h
-  reduced_of_all (player ∷ players) [] h = absurd h
   reduced_of_all (player ∷ players) (k ∷ full) h =
       let s = reduced_of player k h.0.0 h.0.1 in
       let others = reduced_of_all players full h.1 in
       (s.0 ∷ others.0, ((s.1, s.2), others.1), λ i. s.3 i ∷ others.2 i)
+  reduced_of_all [] [] h = ([], tt, refl)
+  reduced_of_all players full h = absurd h
 
   pub counts_are : (players : List ℕ)
       → map length (map (reduced_labels g) players) ≡ reduced_counts players
@@ -178,13 +171,12 @@ module _ (g : Game) where
           → AllZip (λ paid player.
           IsFraction paid × IsEqual paid (payoff g (choices_by g (strategies_at g q)) player))
           row players
-      go [] [] h = tt
-      go (paid ∷ row) [] h = absurd h
-      go [] (player ∷ players) h = absurd h
       go (paid ∷ row) (player ∷ players) h = (
         (h.0.0, subst (IsEqual paid) (reduced_pay g player p q hp hq e) h.0.1),
         go row players h.1,
       )
+      go [] [] h = tt
+      go row players h = absurd h
 
   pub reduced_form_exists : ((t : Table) × IsReducedForm g t) ↔ PaysFractions g
   reduced_form_exists = (

@@ -1,7 +1,7 @@
 -- Full profiles that reduce to the same one have the same payoffs.
 use Rattle.std.proofs.Common.{◌≡◌, ℕ, zero, suc, ◌+◌, ◌-◌, ◌<◌, Bool, true, false}
-use Rattle.std.proofs.Common.{cond, List, [], ◌∷◌, Option, Some, None, length, map}
-use Rattle.std.proofs.Common.{get_or, drop, refl, sym, ap, ◌∙◌, subst, arith, inl, inr}
+use Rattle.std.proofs.Common.{List, [], ◌∷◌, Option, Some, None, length, map}
+use Rattle.std.proofs.Common.{get_or, drop, refl, sym, ap, ◌∙◌, arith, inl, inr}
 use Rattle.std.specs.Prelude.{◌==◌, ◌||◌, ◌&&◌, not, zip, filter}
 use Rattle.std.specs.List.{Contains, list_all}
 use Rattle.std.specs.Option.{option_map_or}
@@ -32,12 +32,10 @@ chosen_of_own c None k h = refl
 chosen_of_own c (Some key) k h = by_owner (key.player == 0) refl
   where
     by_owner : (b : Bool) → (key.player == 0) ≡ b → (key.player == 0 || c key == k) ≡ true
-    by_owner true e = λ i. e i || c key == k
+    by_owner true e = grind arith
     by_owner false e =
-        let personal = eqb-false key.player 0 e in
-        let taken : (c key == k) ≡ true = subst (λ b. (not b || c key == k) ≡ true)
-        (eq-eqb key.player key.player refl) (h key.player (omega (arith, personal))) in
-        (λ i. e i || c key == k) ∙ taken
+        let mine = h key.player (omega (arith, eqb-false key.player 0 e)) in
+        grind (arith, eq-eqb)
 
 pub all_own : (c : SetKey → ℕ) (p : ℕ) (steps : List Step)
     → 0 < p → list_all (is_chosen c) steps ≡ true → list_all (is_own_choice c p) steps ≡ true
@@ -91,8 +89,8 @@ module _ (g : Game) where
   filter_same : (p q : Play → Bool) (ps : List Play) → ((x : Play) → Has ps x → p x ≡ q x)
       → filter p ps ≡ filter q ps
   filter_same p q [] h = refl
-  filter_same p q (x ∷ ps) h = λ i. cond (h x (inl refl) i)
-      (x ∷ filter_same p q ps (λ y j. h y (inr j)) i) (filter_same p q ps (λ y j. h y (inr j)) i)
+  filter_same p q (x ∷ ps) h =
+      grind (arith, h x (inl refl), filter_same p q ps (λ y j. h y (inr j)))
 
   same_plays : (all others : List (List ℕ)) → AreReducedAlike all others
       → filter (follows (choices_by g all)) (plays g.tree)
@@ -106,14 +104,11 @@ module _ (g : Game) where
   each_alike : (k n : ℕ) (all others : List (List ℕ)) → length all ≡ n → length others ≡ n
       → reduce_all (numbers_from k n) all ≡ reduce_all (numbers_from k n) others → (i : ℕ)
       → reduced g (k + i) (get_or all i []) ≡ reduced g (k + i) (get_or others i [])
-  each_alike k zero [] [] m n e i = refl
-  each_alike k zero [] (t ∷ others) m n e i = absurd (omega arith)
-  each_alike k zero (s ∷ all) others m n e i = absurd (omega arith)
-  each_alike k (suc c) [] others m n e i = absurd (omega arith)
-  each_alike k (suc c) (s ∷ all) [] m n e i = absurd (omega arith)
-  each_alike k (suc c) (s ∷ all) (t ∷ others) m n e zero = grind arith
   each_alike k (suc c) (s ∷ all) (t ∷ others) m n e (suc i) =
       grind (arith, each_alike (k + 1) c all others (omega arith) (omega arith) (ap (drop 1) e) i)
+  each_alike k (suc c) (s ∷ all) (t ∷ others) m n e zero = grind arith
+  each_alike k zero [] [] m n e i = refl
+  each_alike k c all others m n e i = absurd (omega arith)
 
   one_each : (profile : List ℕ) → Contains (full_profiles g) profile
       → length (strategies_at g profile) ≡ length g.players
@@ -125,13 +120,13 @@ module _ (g : Game) where
       → reduced_by g p ≡ reduced_by g q → AreReducedAlike (strategies_at g p) (strategies_at g q)
   reduced_alike p q hp hq e k above =
       let place : 1 + (k - 1) ≡ k = omega arith in
-      ap (reduced g k) (strategy_before (strategies_at g p) k above)
-      ∙ subst (λ m. reduced g m (get_or (strategies_at g p) (k - 1) [])
-      ≡ reduced g m (get_or (strategies_at g q) (k - 1) []))
-      place
-      (each_alike 1 (length g.players) (strategies_at g p) (strategies_at g q) (one_each p hp)
-      (one_each q hq) e (k - 1))
-      ∙ ap (reduced g k) (sym (strategy_before (strategies_at g q) k above))
+      let same = each_alike 1 (length g.players) (strategies_at g p) (strategies_at g q)
+      (one_each p hp) (one_each q hq) e (k - 1) in
+      grind (
+        arith,
+        strategy_before (strategies_at g p) k above,
+        strategy_before (strategies_at g q) k above,
+      )
 
   pub reduced_pay : (player : ℕ) (p q : List ℕ) → Contains (full_profiles g) p
       → Contains (full_profiles g) q → reduced_by g p ≡ reduced_by g q

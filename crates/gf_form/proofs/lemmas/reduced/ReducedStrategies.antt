@@ -40,12 +40,10 @@ there (x ∷ xs) (suc i) d less = inr (there xs i d (omega (arith, less)))
 -- if nothing occurs twice, what is at two places is at one place
 one_place : {A : Type 0} (xs : List A) (i j : ℕ) (d : A) → AreDistinct xs → i < length xs
     → j < length xs → get_or xs i d ≡ get_or xs j d → i ≡ j
-one_place [] i j d h hi hj e = absurd (omega (arith, hi))
-one_place (x ∷ xs) zero zero d h hi hj e = refl
-one_place (x ∷ xs) zero (suc j) d h hi hj e = grind (arith, Has, there)
-one_place (x ∷ xs) (suc i) zero d h hi hj e = grind (arith, Has, there)
 one_place (x ∷ xs) (suc i) (suc j) d h hi hj e =
     ap suc (one_place xs i j d h.1 (omega (arith, hi)) (omega (arith, hj)) e)
+one_place (x ∷ xs) zero zero d h hi hj e = refl
+one_place xs i j d h hi hj e = grind (arith, Has, there)
 
 -- ---- choices
 
@@ -61,16 +59,14 @@ no_star n small e = grind (arith, AreDigits, digits_of)
 
 one_choice : (a b : Option ℕ) → IsSmallChoice a → IsSmallChoice b → choice_text a ≡ choice_text b
     → a ≡ b
-one_choice None None ha hb e = refl
-one_choice None (Some b) ha hb e = absurd (no_star b hb e)
-one_choice (Some a) None ha hb e = absurd (no_star a ha (sym e))
 one_choice (Some a) (Some b) ha hb e = ap Some (decimal_injective a b ha hb e)
+one_choice None None ha hb e = refl
+one_choice a b ha hb e = grind (arith, no_star)
 
 small_at : (keys : List SetKey) (s : List ℕ) → AreSmall s → (key : SetKey)
     → choice_at keys s key < 2 ^ 64
-small_at [] s small key = omega arith
-small_at (k ∷ keys) [] small key = omega arith
 small_at (k ∷ keys) (a ∷ s) small key = grind (arith, small_at keys s small.1 key)
+small_at keys s small key = omega arith
 
 small_choices : (relevant : SetKey → Bool) (choice : SetKey → ℕ)
     → ((key : SetKey) → choice key < 2 ^ 64) → (keys : List SetKey)
@@ -150,11 +146,6 @@ module _ (g : Game) where
       → map (λ r. strategy_at (reduced_strategies g r.0) r.1) (zip players p)
       ≡ map (λ r. strategy_at (reduced_strategies g r.0) r.1) (zip players q)
       → p ≡ q
-  one_profile_of [] [] [] hp hq e = refl
-  one_profile_of [] [] (t ∷ q) hp hq e = absurd hq
-  one_profile_of [] (s ∷ p) q hp hq e = absurd hp
-  one_profile_of (player ∷ players) [] q hp hq e = absurd hp
-  one_profile_of (player ∷ players) (s ∷ p) [] hp hq e = absurd hq
   one_profile_of (player ∷ players) (s ∷ p) (t ∷ q) hp hq e =
       let all = reduced_strategies g player in
       let same : get_or all (s - 1) [] ≡ get_or all (t - 1) [] =
@@ -166,6 +157,8 @@ module _ (g : Game) where
       let first : s ≡ t = omega (arith, places, hp.0.0, hq.0.0) in
       let others = one_profile_of players p q hp.1 hq.1 (ap (drop 1) e) in
       λ i. first i ∷ others i
+  one_profile_of [] [] [] hp hq e = refl
+  one_profile_of players p q hp hq e = grind arith
 
   pub one_profile : (p q : List ℕ) → Contains (reduced_profiles g) p
       → Contains (reduced_profiles g) q → reduced_at g p ≡ reduced_at g q → p ≡ q

@@ -5,7 +5,7 @@ use Rattle.std.proofs.Common.{sym, ◌∙◌, subst, arith, inl, append_assoc}
 use Rattle.std.specs.Prelude.{◌↔◌, ◌==◌}
 use Rattle.std.specs.Bool.{MatchBool}
 use Rattle.std.specs.List.{Contains, list_all}
-use Rattle.std.proofs.lemmas.Bool.{and_from, and_parts, eqb-false}
+use Rattle.std.proofs.lemmas.Bool.{and_from, eqb-false}
 use Rattle.gf_fraction.specs.Ratio.{Ratio}
 use Rattle.gf_fraction.specs.Rational.{zero_ratio}
 use Rattle.gf_tree.specs.Tree.{Tree, Trees}
@@ -30,8 +30,7 @@ all_last : (test : Step → Bool) (before : List Step) (s : Step)
     → list_all test before ≡ true → test s ≡ true → list_all test (before ++ s ∷ []) ≡ true
 all_last test [] s h e = and_from (test s) true e refl
 all_last test (b ∷ before) s h e =
-    let both = and_parts (test b) (list_all test before) h in
-    and_from (test b) (list_all test (before ++ s ∷ [])) both.0 (all_last test before s both.1 e)
+    grind (arith, all_last test before s)
 
 -- every tree has a play
 pub first_play : (t : Tree Node) → (p : Play) × Has (plays t) p
@@ -167,8 +166,6 @@ module _ (g : Game) (c d : SetKey → ℕ) (player : ℕ) (agree : AgreeWhereCho
         → GoOn before (plays_from n k ts) → list_all (is_chosen c) before ≡ true → IsChosen n taken
         → suc taken ≡ position + k → IsChildValue g c player position ts value
         → IsChildValue g d player position ts value
-    child_too none n k taken position value before on chosen there e v = absurd v
-    child_too (more t ts) n k taken zero value before on chosen there e v = absurd v
     child_too (more t ts) n k taken (suc zero) value before on chosen there e v =
         let step : Step = record { node = n; taken = k } in
         let same : taken ≡ k = omega (arith, e) in
@@ -177,6 +174,7 @@ module _ (g : Game) (c d : SetKey → ℕ) (player : ℕ) (agree : AgreeWhereCho
     child_too (more t ts) n k taken (suc (suc position)) value before on chosen there e v =
         child_too ts n (k + 1) taken (suc position) value before (from_others n k t ts before on)
         chosen there (omega (arith, e)) v
+    child_too ts n k taken position value before on chosen there e v = absurd v
 
 -- ---- profiles that reduce to the same one
 
@@ -185,10 +183,7 @@ comes_here : (choices : SetKey → ℕ) (key : SetKey) (n : Node) (k : ℕ) (res
     → comes_to choices key (before ++ record { node = n; taken = k } ∷ rest) ≡ true
 comes_here choices key n k rest [] at h = grind arith
 comes_here choices key n k rest (s ∷ before) at h =
-    let both = and_parts (is_own_choice choices key.player s)
-    (list_all (is_own_choice choices key.player) before) h in
-    let on = before ++ record { node = n; taken = k } ∷ rest in
-    grind (arith, comes_here choices key n k rest before at both.1)
+    grind (arith, comes_here choices key n k rest before)
 
 module _ (g : Game) (all others : List (List ℕ)) (alike : AreReducedAlike g all others) where
   agree_where_chosen : AgreeWhereChosen g (choices_by g all) (choices_by g others)

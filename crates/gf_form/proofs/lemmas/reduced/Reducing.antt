@@ -2,11 +2,10 @@
 use Rattle.std.proofs.Common.{arith}
 use Rattle.std.proofs.Common.{◌≡◌, ℕ, Bool, true, false, List, [], ◌∷◌, Option, Some, None}
 use Rattle.std.proofs.Common.{map, get_or, drop, refl, sym, ap, ◌∙◌, subst, inl, inr}
-use Rattle.std.specs.Prelude.{◌⊎◌, ◌==◌, ◌||◌, ◌&&◌, not, unwrap_or, if◌then◌else◌}
+use Rattle.std.specs.Prelude.{◌⊎◌, ◌==◌, ◌||◌, ◌&&◌, not, if◌then◌else◌}
 use Rattle.std.specs.List.{Contains, list_all, list_any}
 use Rattle.std.specs.Option.{option_map_or}
-use Rattle.std.proofs.lemmas.Bool.{and_parts, false≢true, or_left, or_right}
-use Rattle.std.proofs.lemmas.Option.{none-some}
+use Rattle.std.proofs.lemmas.Bool.{and_parts, or_left, or_right}
 use Rattle.gf_tree.specs.Description.{SetKey, same_set}
 use Rattle.gf_tree.specs.Game.{Game}
 use Rattle.gf_tree.specs.FirstUse.{player_keys}
@@ -33,9 +32,7 @@ any_has test (y ∷ ys) x (inr i) h = or_right (test y) (list_any test ys) (any_
 
 shown_alike : (a b : Bool) (m n : ℕ)
     → a ≡ true → (if a then Some m else None) ≡ (if b then Some n else None) → m ≡ n
-shown_alike true true m n h e = ap (λ o. unwrap_or o m) e
-shown_alike true false m n h e = absurd (none-some m (sym e))
-shown_alike false b m n h e = absurd (false≢true h)
+shown_alike a b m n h e = grind arith
 
 mapped_alike : {X : Type 0} (f h : X → Option ℕ) (xs : List X) (x : X)
     → map f xs ≡ map h xs → Has xs x → f x ≡ h x
