@@ -1,6 +1,6 @@
 -- A set is relevant exactly if the choices come to it in the tree.
 use Rattle.std.proofs.Common.{◌≡◌, ℕ, ◌+◌, ◌<◌, Bool, true, false, List, [], ◌∷◌, Option}
-use Rattle.std.proofs.Common.{Some, None, MatchOption, length, map, refl, sym, ap, ◌∙◌, arith}
+use Rattle.std.proofs.Common.{Some, None, MatchOption, length, map, refl, ap, ◌∙◌, arith}
 use Rattle.std.proofs.Common.{subst}
 use Rattle.std.specs.Prelude.{◌||◌, ◌&&◌, option_map}
 use Rattle.std.specs.List.{AllByRecursion, list_any}
@@ -54,10 +54,7 @@ module _ (g : Game) (game : IsGame g) (choices : SetKey → ℕ) (key : SetKey) 
       && come ps)
   any_below n k [] other = grind arith
   any_below n k (p ∷ ps) other =
-      let move = is_own_choice choices key.player (record { node = n; taken = k }) in
-      (λ i. (other i || (move && comes_to choices key p.steps)) || any_below n k ps other i)
-      ∙ sym (and-or_distrib_left move (comes_to choices key p.steps)
-      (come ps))
+      grind (arith, and-or_distrib_left, any_below n k ps other)
 
   mutual
     comes_in : (t : Tree Node) → AllByRecursion (HasChildren g) (flatten t)

@@ -1,7 +1,7 @@
 -- The text of a reduced strategy, written choice by choice.
 use Rattle.std.proofs.Common.{◌≡◌, ℕ, zero, suc, ◌+◌, ◌-◌, ◌<◌, ◌≤◌, ◌^◌, Bool, true, false, List}
 use Rattle.std.proofs.Common.{[], ◌∷◌}
-use Rattle.std.proofs.Common.{◌++◌, Option, Some, None, length, get_or, take, refl, sym, ap}
+use Rattle.std.proofs.Common.{◌++◌, Option, Some, None, length, get_or, take, refl, ap}
 use Rattle.std.proofs.Common.{◌∙◌, append_assoc, add-one, arith}
 use Rattle.std.specs.Prelude.{if◌then◌else◌}
 use Rattle.std.specs.List.{AllByRecursion}
@@ -23,8 +23,7 @@ marked_last : (choice : Option ℕ) (choices : List (Option ℕ))
     → marked (choice ∷ choices) ≡ reduced_label (choice ∷ choices) ++ 45 ∷ []
 marked_last choice [] = append-nil (choice_text choice ++ 45 ∷ [])
 marked_last choice (next ∷ choices) =
-    ap (λ (bs : List ℕ). (choice_text choice ++ 45 ∷ []) ++ bs) (marked_last next choices)
-    ∙ simp append_assoc
+    grind (arith, append_assoc, marked_last next choices)
 
 -- the choice at a place
 abbrev pub choice_in : List Bool → List ℕ → ℕ → Option ℕ
@@ -33,15 +32,10 @@ choice_in flags s i = if get_or flags i false then Some (get_or s i 0) else None
 next_marked : (flags : List Bool) (s : List ℕ) (i : ℕ) → i < length flags → i < length s
     → marked (take (suc i) (shown flags s))
     ≡ marked (take i (shown flags s)) ++ (choice_text (choice_in flags s i) ++ 45 ∷ [])
-next_marked [] s i hf hs = absurd (omega (arith, hf))
-next_marked (f ∷ flags) [] i hf hs = absurd (omega (arith, hs))
-next_marked (f ∷ flags) (a ∷ s) zero hf hs = grind (arith, append-nil)
 next_marked (f ∷ flags) (a ∷ s) (suc i) hf hs =
-    let first = choice_text (if f then Some a else None) ++ 45 ∷ [] in
-    ap (λ (bs : List ℕ). first ++ bs)
-    (next_marked flags s i (omega (arith, hf)) (omega (arith, hs)))
-    ∙ sym (append_assoc first (marked (take i (shown flags s)))
-    (choice_text (choice_in flags s i) ++ 45 ∷ []))
+    grind (arith, append_assoc, next_marked flags s i (omega (arith, hf)) (omega (arith, hs)))
+next_marked (f ∷ flags) (a ∷ s) zero hf hs = grind (arith, append-nil)
+next_marked flags s i hf hs = absurd (omega (arith, hf, hs))
 
 -- one more
 pub marked_more : (flags : List Bool) (s : List ℕ) (i : ℕ) (old new : List ℕ) → i < length flags
@@ -49,10 +43,7 @@ pub marked_more : (flags : List Bool) (s : List ℕ) (i : ℕ) (old new : List �
     → new ≡ (old ++ choice_text (choice_in flags s i)) ++ 45 ∷ []
     → new ≡ marked (take (i + 1) (shown flags s))
 marked_more flags s i old new hf hs old_is new_is =
-    let text = choice_text (choice_in flags s i) in
-    new_is ∙ append_assoc old text (45 ∷ [])
-    ∙ ap (λ (bs : List ℕ). bs ++ (text ++ 45 ∷ [])) old_is ∙ sym (next_marked flags s i hf hs)
-    ∙ ap (λ (n : ℕ). marked (take n (shown flags s))) (sym (add-one i))
+    grind (arith, add-one, append_assoc, next_marked)
 
 length-shown : (flags : List Bool) (s : List ℕ) → length (shown flags s) ≤ length s
 length-shown [] s = omega arith

@@ -117,11 +117,7 @@ digits_there : (counts : List ℕ) (p : ℕ) {ds left : List OwnDigit} → ds �
     → left ≡ record { place = p; step = width (drop (suc p) counts); actions = get_or counts p 0 }
     ∷ digits_from (suc p) (drop (suc p) counts)
 digits_there counts p there is less several =
-    let n = get_or counts p 0 in
-    let later = drop (suc p) counts in
-    sym there ∙ is ∙ ap (digits_from p) (drop-cons counts p 0 less) ∙ from_several p n later several
-    ∙ ap (λ (k : ℕ). record { place = p; step = width later; actions = n } ∷ digits_from k later)
-    (add-one p)
+    grind (arith, add-one, drop-cons counts p 0 less, from_several)
 
 module _ {g : Game} {player : ℕ} {counts : List ℕ} {digits : List OwnDigit} {strategy : List ℕ}
     {level : Level} {depth number count : ℕ} (search : IsSearchBy counts digits strategy) where
@@ -193,20 +189,10 @@ module _ {g : Game} {player : ℕ} {counts : List ℕ} {digits : List OwnDigit} 
       let p = v.0.place in
       elim v.1 [
         | inl past ↦
-            let none : drop p counts ≡ [] = drop_of_length-le counts past in
-            absurd (let e = sym there ∙ v.0.left ∙ ap (digits_from p) none in cc)
+            absurd (grind (arith, drop_of_length-le counts past, v.0.left))
         | inr several ↦
-            let both = digits_there counts p there v.0.left several.0 several.1 in (
-              v.0,
-              (
-                ap (λ l. (digit_at l 0).place) both,
-                several.0,
-                ap (λ l. (digit_at l 0).actions) both,
-                omega (arith, several.1, ap (λ l. (digit_at l 0).actions) both),
-                ap (λ l. (digit_at l 0).step) both,
-              ),
-              ap (drop 1) both,
-            )
+            let both = digits_there counts p there v.0.left several.0 several.1 in
+            (v.0, grind (arith, several.0, several.1), ap (drop 1) both)
       ]
 
   -- all sets are chosen, if no digit is left
