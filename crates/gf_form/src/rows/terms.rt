@@ -2,7 +2,7 @@
 //! demands of the choices.
 
 ghost use Rattle.std.specs.Prelude.{◌≡◌, ◌+◌, ◌*◌, ◌<◌, ◌≤◌, ◌+ℤ◌, ◌*ℤ◌, ◌++◌, [], ◌∷◌, ℕ, ℤ};
-ghost use Rattle.std.specs.Prelude.{IfOk, List, OnOk, get_or, length, pos, true};
+ghost use Rattle.std.specs.Prelude.{IfOk, IsTrue, List, OnOk, get_or, length, pos, true};
 ghost use Rattle.std.specs.List.{AllByRecursion};
 ghost use Rattle.gf_fraction.specs.Ratio.{IsWithin};
 ghost use Rattle.gf_form.specs.inner.rows.Entries.{AreAlike, HasNumbers, HasSum, IsScale, IsShaped};
@@ -122,6 +122,16 @@ impl Terms {
         self.scaled.clear();
         self.numbers.clear();
         self.den = den;
+    }
+
+    /// Whether there is at most one term, and it demands nothing.
+    #[inline]
+    pub(crate) fn demand_nothing(&self) -> bool
+        ensures { IsTrue result → (length self.now.demands.items ≤ 1)
+            × (get_or self.now.demands.items 0 0 ≡ 0) }
+    {
+        let count = self.demands.len();
+        count == 0 || count == 1 && self.demands[0] == 0
     }
 
     /// The numbers of the term at this place, from 0.

@@ -11,7 +11,8 @@ ghost use Rattle.gf_form.specs.Refusal.{HasValues};
 ghost use Rattle.gf_form.specs.inner.values.Rows.{ArePaid};
 ghost use Rattle.gf_form.specs.inner.rows.Pairs.{IsPaidPair};
 ghost use Rattle.gf_form.specs.inner.rows.SettledRows.{AreDue, AreTermsFor, AreWritten};
-ghost use Rattle.gf_form.specs.inner.rows.SettledRows.{IsAsked, IsRightlyRefused, SettleRows};
+ghost use Rattle.gf_form.specs.inner.rows.SettledRows.{IsAsked, IsRightlyRefused, SettleAlike};
+ghost use Rattle.gf_form.specs.inner.rows.SettledRows.{SettleRows};
 ghost use Rattle.gf_form.specs.StrategicForm.{ArePayoffsAt};
 ghost use Rattle.gf_form.specs.Strategies.{full_profiles, strategies_at};
 ghost use Rattle.gf_form.specs.inner.rows.GameDigits.{HaveSteps, actions_at};
@@ -192,7 +193,7 @@ impl Written {
         self.push_walked(asked, before)
     }
 
-    /// Appends the rows of these profiles, to each of which the terms come.
+    /// Appends the rows of these profiles, at each of which the terms come to what is paid.
     fn push_alike(
         &mut self,
         asked: &Asked<'_, '_, '_>,
@@ -201,7 +202,7 @@ impl Written {
     ) -> Result<(), FormFault>
         requires due { AreDue asked.now run self.old }
         requires terms { AreTermsFor asked.now terms.now }
-        requires settles { SettleRows asked.now [] terms.now run }
+        requires settles { SettleAlike asked.now terms.now run }
         ensures written { OnOk result (AreWritten asked.now run.to self.new) }
         ensures refused { IsRightlyRefused asked.now result }
     {
@@ -211,8 +212,9 @@ impl Written {
             start: all,
             end: all,
         };
+        let pair = terms.pair(alone);
         for before in run.from..run.to {
-            self.push_row(asked, terms.pair(alone), terms.players, before)?;
+            self.push_row(asked, pair, terms.players, before)?;
         }
         Ok(())
     }
@@ -273,6 +275,9 @@ impl Written {
         ensures written { OnOk result (AreWritten asked.now run.to self.new) }
         ensures refused { IsRightlyRefused asked.now result }
     {
+        if terms.demand_nothing() {
+            return self.push_alike(asked, terms, run);
+        }
         let [slowest, faster @ ..] = digits else {
             return self.push_alike(asked, terms, run);
         };

@@ -1,5 +1,5 @@
 -- Terms whose numbers stand one row after another.
-use Rattle.std.proofs.Common.{◌≡◌, ℕ, ℤ, zero, suc, ◌+◌, ◌*◌, ◌<◌, ◌≤◌, ◌/◌, ◌+ℤ◌, ◌*ℤ◌, List}
+use Rattle.std.proofs.Common.{◌≡◌, ℕ, ℤ, suc, ◌+◌, ◌*◌, ◌<◌, ◌≤◌, ◌/◌, ◌+ℤ◌, ◌*ℤ◌, List}
 use Rattle.std.proofs.Common.{[], ◌∷◌, ◌++◌, Bool, true, false, pos, inl, inr, ◌⊎◌, length, get_or}
 use Rattle.std.proofs.Common.{take, drop, refl, ap, sym, subst, ◌∙◌, arith, map}
 use Rattle.std.proofs.Math.Seq.{take-length, get_or-append_seam}
@@ -22,12 +22,6 @@ use Rattle.gf_form.specs.declared.rows.terms.Head.{Head}
 use Rattle.gf_form.specs.declared.rows.terms.Scaled.{Scaled}
 use Rattle.gf_form.specs.declared.rows.terms.Terms.{Terms}
 
-pub past : (xs : List ℤ) (k : ℕ) → length xs ≤ k → get_or xs k (pos 0) ≡ pos 0
-past [] zero h = refl
-past [] (suc k) h = refl
-past (x ∷ xs) zero h = absurd (omega (arith, h))
-past (x ∷ xs) (suc k) h = past xs k (omega (arith, h))
-
 pub none_taken : {X : Type 0} (xs : List X) → take 0 xs ≡ []
 none_taken xs = grind arith
 
@@ -49,10 +43,9 @@ entry_more p (g ∷ hs) ns row h shaped one_each =
 pub entry_is : (p : ℕ) (hs : List Head) (ns : List ℤ) (place : ℕ) (d : Head) → place < length hs
     → get_or (entries_of p hs ns) place no_entry
     ≡ record { head = get_or hs place d; row = take p (drop (place * p) ns) }
-entry_is p [] ns place d within = absurd (omega (arith, within))
-entry_is p (h ∷ hs) ns zero d within = grind arith
 entry_is p (h ∷ hs) ns (suc place) d within =
     grind (arith, get_or, drop-drop, entry_is p hs (drop p ns) place d (omega (arith, within)))
+entry_is p hs ns place d within = grind arith
 
 pub entries_count : (p : ℕ) (hs : List Head) (ns : List ℤ)
     → length (entries_of p hs ns) ≡ length hs
@@ -288,7 +281,7 @@ pub all_added : (first second : List ℤ) (by_first by_second : ℕ) (place : �
     → Adding first second by_first by_second place fits old new
     → HasNumbers first second by_first by_second fits old new
 all_added first second by_first by_second place fits old new same all done =
-    grind (arith, cases_lt, get_or, past, no_sum)
+    grind (arith, cases_lt, get_or, get_or_past, no_sum)
 
 -- the sum of two terms
 pub sum_made : (a b : Entry) (s : Scale) (fits : Bool) (demands : ℕ) (row : List ℤ)

@@ -46,11 +46,9 @@ heads_cut den (d ∷ ds) ss (suc n) = grind (arith, heads_cut den ds, take-nil)
 
 last_two : {X : Type 0} (xs : List X) (n : ℕ) (d : X) → length xs ≡ n + 2
     → xs ≡ take n xs ++ get_or xs n d ∷ get_or xs (n + 1) d ∷ []
-last_two [] n d two = absurd (omega (arith, two))
-last_two (x ∷ []) n d two = absurd (omega (arith, two))
+last_two (x ∷ xs) (suc n) d two = grind (arith, last_two xs n d (omega (arith, two)))
 last_two (x ∷ y ∷ []) zero d two = refl
-last_two (x ∷ y ∷ z ∷ xs) zero d two = absurd (omega (arith, two))
-last_two (x ∷ y ∷ xs) (suc n) d two = grind (arith, last_two (y ∷ xs) n d (omega (arith, two)))
+last_two xs n d two = grind arith
 
 -- ---- the sum of the last two
 

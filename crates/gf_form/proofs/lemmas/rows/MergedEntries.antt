@@ -1,6 +1,6 @@
 -- What terms come to, part by part, and while they are merged.
 use Rattle.std.proofs.Common.{◌≡◌, ℕ, ℤ, pos, ◌+◌, ◌-◌, ◌*◌, ◌/◌, ◌<◌, ◌≤◌, ◌+ℤ◌, ◌*ℤ◌, Bool, true}
-use Rattle.std.proofs.Common.{false, List, [], ◌∷◌, ◌++◌, refl, ap, sym, subst, ◌∙◌, arith, map}
+use Rattle.std.proofs.Common.{false, List, [], ◌∷◌, ◌++◌, refl, ap, sym, subst, arith, map}
 use Rattle.std.proofs.Common.{◌⊎◌}
 use Rattle.std.specs.Prelude.{if◌then◌else◌}
 use Rattle.std.specs.Int.{◌∣◌}
@@ -25,10 +25,7 @@ false_true e = absurd cc
 
 scaled : (z : ℤ) (d m den : ℕ) → 0 < d → d ∣ m → m ∣ den
     → (z *ℤ pos (m / d)) *ℤ pos (den / m) ≡ z *ℤ pos (den / d)
-scaled z d m den above dm mden =
-    *ℤ_assoc z (pos (m / d)) (pos (den / m))
-    ∙ ap (λ (n : ℕ). z *ℤ pos n)
-    (sym (quotient_through d m den above dm mden (dvd_trans d dm mden)))
+scaled z d m den above dm mden = grind (arith, *ℤ_assoc, quotient_through, dvd_trans)
 
 scaled_size : (n d m den : ℕ) → 0 < d → d ∣ m → m ∣ den
     → n * (m / d) * (den / m) ≡ n * (den / d)
@@ -61,12 +58,7 @@ module _ (den : ℕ) (steps choices : List ℕ) where
   pub sum_append : (k : ℕ) (xs ys : List Entry) → sum_of_entries k den steps choices (xs ++ ys)
       ≡ sum_of_entries k den steps choices xs +ℤ sum_of_entries k den steps choices ys
   sum_append k [] ys = sym (+ℤ_idl (sum_of_entries k den steps choices ys))
-  sum_append k (x ∷ xs) ys =
-      let first = if meets steps choices x.head.demands
-      then number_at k x *ℤ pos (den / x.head.den) else pos 0 in
-      ap (λ (z : ℤ). first +ℤ z) (sum_append k xs ys)
-      ∙ sym (+ℤ_assoc first (sum_of_entries k den steps choices xs)
-      (sum_of_entries k den steps choices ys))
+  sum_append k (x ∷ xs) ys = grind (arith, +ℤ_assoc, sum_append k xs ys)
 
   pub size_append : (xs ys : List Entry) → size_of_entries den steps choices (xs ++ ys)
       ≡ size_of_entries den steps choices xs + size_of_entries den steps choices ys

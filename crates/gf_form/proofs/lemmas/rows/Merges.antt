@@ -295,8 +295,7 @@ pub last_merge : (from : Terms) (step action lowest free_end own_end free own : 
     → own_end ≤ own → AreMerged step action (entries from) (entries to)
 last_merge from step action lowest free_end own_end free own to done free_past own_past =
     all_merged step action (entries from) (entries to)
-    (subst (λ (more : List Entry). Merging step action (entries from) (entries to) more [])
-    (part_past (entries from) free free_end free_past)
-    (subst (λ (others : List Entry). Merging step action (entries from) (entries to)
-    (part free free_end (entries from)) (map (lowered lowest) others))
-    (part_past (entries from) own own_end own_past) done.merging))
+    (rw (
+      part_past (entries from) free free_end free_past,
+      part_past (entries from) own own_end own_past,
+    ) at done.merging)

@@ -1,8 +1,9 @@
 -- Rows at the fastest digit, as what at most two terms come to.
-use Rattle.std.proofs.Common.{◌≡◌, ℕ, suc, ◌+◌, ◌-◌, ◌*◌, ◌/◌, ◌<◌, ◌≤◌, ◌^◌, List, [], ◌∷◌, ◌++◌}
-use Rattle.std.proofs.Common.{◌⊎◌, inl, inr, Some, drop, get_or, length, lit<, map, take, refl, ap}
+use Rattle.std.proofs.Common.{◌≡◌, ℕ, ℤ, suc, ◌+◌, ◌-◌, ◌*◌, ◌/◌, ◌<◌, ◌≤◌, ◌^◌, List, [], ◌∷◌}
+use Rattle.std.proofs.Common.{◌++◌, Some, drop, get_or, length, lit<, map, take, refl, ap}
 use Rattle.std.proofs.Common.{subst, ◌∙◌, arith, true, Option}
 use Rattle.std.specs.Prelude.{IfSome, ◌==◌}
+use Rattle.std.specs.List.{AllByRecursion}
 use Rattle.std.proofs.Math.Seq.{get_or-append_seam, take-length}
 use Rattle.std.proofs.lemmas.Bool.{cases_lt, eqb-true}
 use Rattle.std.proofs.lemmas.List.{append-nil, append_assoc, get_or_append_left, length-append}
@@ -15,13 +16,15 @@ use Rattle.gf_tree.specs.Spellable.{IsSpellable}
 use Rattle.gf_form.specs.Refusal.{HasValues}
 use Rattle.gf_form.specs.StrategicForm.{ArePayoffsAt}
 use Rattle.gf_form.specs.Strategies.{all_choices, choices_by, full_profiles, strategies_at}
+use Rattle.gf_form.specs.inner.rows.Demands.{meets, steps_of}
 use Rattle.gf_form.specs.inner.rows.Entries.{AreChosen, AreExactAt, Entry, IsScale, entries}
-use Rattle.gf_form.specs.inner.rows.Entries.{entry_at, lowered, part, size_of_entries}
-use Rattle.gf_form.specs.inner.rows.Entries.{sum_of_entries}
+use Rattle.gf_form.specs.inner.rows.Entries.{entries_of, entry_at, heads_of, lowered, part}
+use Rattle.gf_form.specs.inner.rows.Entries.{size_of_entries, sum_of_entries}
 use Rattle.gf_form.specs.inner.rows.Pairs.{ComeToOne, ComeToPair, HasPairRow, IsOnly, IsPaidPair}
 use Rattle.gf_form.specs.inner.rows.Pairs.{entry_of, pair_number}
 use Rattle.gf_form.specs.inner.rows.GameDigits.{actions_at}
-use Rattle.gf_form.specs.inner.rows.SettledRows.{SettleRows, SettlesAt}
+use Rattle.gf_form.specs.inner.rows.SettledRows.{PaysOver, SettleAlike, SettleRows, Settles}
+use Rattle.gf_form.specs.inner.rows.SettledRows.{SettlesAt}
 use Rattle.gf_form.specs.inner.values.Rows.{at_place}
 use Rattle.gf_form.specs.inner.values.Values.{value}
 use Rattle.gf_form.specs.declared.rows.chosen.Chosen.{Chosen}
@@ -29,9 +32,11 @@ use Rattle.gf_form.specs.declared.rows.digits.Digit.{Digit}
 use Rattle.gf_form.specs.declared.rows.pairs.Only.{Only}
 use Rattle.gf_form.specs.declared.rows.pairs.Pair.{Pair}
 use Rattle.gf_form.specs.declared.rows.sums.Scale.{Scale}
+use Rattle.gf_form.specs.declared.rows.terms.Scaled.{Scaled}
 use Rattle.gf_form.specs.declared.rows.terms.Terms.{Terms}
 use Rattle.gf_form.specs.declared.rows.written.Asked.{Asked}
 use Rattle.gf_form.specs.declared.rows.written.Run.{Run}
+use Rattle.gf_form.proofs.lemmas.rows.DemandDigits.{spans_above}
 use Rattle.gf_form.proofs.lemmas.rows.FlatRows.{terms_count}
 use Rattle.gf_form.proofs.lemmas.rows.MergedEntries.{first_parts}
 use Rattle.gf_form.proofs.lemmas.rows.Merges.{part_next, part_past, ranges}
@@ -111,10 +116,10 @@ come_alone from chosen whole none first second s only_first only_second is above
 
 -- ---- what is paid
 
-pub paid_alike : (g : Game) (terms : Terms) (least number : ℕ) (pair : Pair)
-    → SettlesAt g [] terms least number → ComeToPair [] [] (entries terms) pair
+pub paid_alike : (g : Game) (terms : Terms) (number : ℕ) (pair : Pair)
+    → Settles g number [] [] (entries terms) → ComeToPair [] [] (entries terms) pair
     → IsPaidPair g number pair
-paid_alike g terms least number pair before come = grind arith
+paid_alike g terms number pair before come = grind arith
 
 pub paid_pair : (g : Game) (n : ℕ) (terms : Terms) (least number action : ℕ) (pair : Pair)
     → SettlesAt g (n ∷ []) terms least number → action ≡ number - least + 1
@@ -153,18 +158,16 @@ no_row pair old = grind (arith, append-nil)
 pub one_more : (pair : Pair) (place : ℕ) (old new after : List Ratio) (f : Ratio)
     → after ≡ new ++ f ∷ [] → IsFraction f → HasValue f (pair_number pair place) pair.scale.den
     → HasPairRow pair place old new → HasPairRow pair (place + 1) old after
-one_more pair place old new after f is fraction value before = record {
-  row = before.row ++ f ∷ [];
-  is = is ∙ ap (λ (r : List Ratio). r ++ f ∷ []) before.is ∙ append_assoc old before.row (f ∷ []);
-  one_each = length-append before.row (f ∷ []) ∙ omega (arith, before.one_each);
-  fractions = all_both IsFraction before.row (f ∷ []) before.fractions (fraction, tt);
-  values = λ k less. by k less (cases_lt k place);
-}
-  where
-    by : (k : ℕ) → k < place + 1 → (k < place) ⊎ (place ≤ k)
-        → HasValue (at_place (before.row ++ f ∷ []) k) (pair_number pair k) pair.scale.den
-    by k less (inl h) = grind (arith, get_or_append_left)
-    by k less (inr h) = grind (arith, get_or-append_seam)
+one_more pair place old new after f is fraction value before =
+    grind (
+      arith,
+      cases_lt,
+      append_assoc,
+      length-append,
+      all_both,
+      get_or_append_left,
+      get_or-append_seam,
+    )
 
 -- ---- the fastest digit
 
@@ -174,9 +177,76 @@ some_weaker o P Q each h = grind arith
 
 pub no_digit : (asked : Asked) (digits : List Digit) (terms : Terms) (run : Run)
     → length digits < 1 → SettleRows asked (actions_at digits) terms run
-    → SettleRows asked [] terms run
-no_digit asked [] terms run none settles = settles
+    → SettleAlike asked terms run
+no_digit asked [] terms run none settles = λ i from to.
+    let here = settles i from to in
+    let same : get_or asked.numbers.now i 0 - run.first ≡ 0 =
+    (let at = here.to in omega (arith, at)) in
+    subst (λ (n : ℕ). Settles asked.game.now (get_or asked.numbers.now i 0) []
+    (get_or (all_choices []) n []) (entries terms)) same here.settles
 no_digit asked (d ∷ ds) terms run none settles = absurd (omega (arith, none))
+
+-- those of the profiles that are left
+pub rest_settled : (asked : Asked) (digits : List Digit) (terms : Terms) (run rest : Run)
+    → 1 ≤ length digits → run.from ≤ rest.from → rest.to ≡ run.to → rest.first ≡ run.first
+    → SettleRows asked (actions_at digits) terms run
+    → SettleRows asked ((get_or digits 0 (record { step = 0; actions = 0 })).actions
+    ∷ actions_at (take (length digits - 1) (drop 1 digits))) terms rest
+rest_settled asked [] terms run rest some on to first settles = absurd (omega (arith, some))
+rest_settled asked (d ∷ ds) terms run rest some on to first settles = λ i from less.
+    let count : length (d ∷ ds) - 1 ≡ length ds = omega arith in
+    let others : take (length (d ∷ ds) - 1) ds ≡ ds =
+    ap (λ (n : ℕ). take n ds) count ∙ take-length ds in
+    rw (others, first) (settles i (omega (arith, on, from)) (omega (arith, to, less)))
+
+-- ---- a term that demands nothing
+
+abbrev IsFree : Entry → Type 0
+IsFree e = e.head.demands ≡ 0
+
+are_free : (p den : ℕ) (ds : List ℕ) (ss : List Scaled) (ns : List ℤ) → length ds ≤ 1
+    → get_or ds 0 0 ≡ 0 → AllByRecursion IsFree (entries_of p (heads_of den ds ss) ns)
+are_free p den (d ∷ []) (s ∷ ss) ns few none = (none, tt)
+are_free p den ds ss ns few none = grind arith
+
+free_met : (ns choices : List ℕ) → meets (steps_of ns) choices 0 ≡ true
+free_met (n ∷ ns) (c ∷ choices) = grind (arith, spans_above, free_met ns choices)
+free_met ns choices = grind arith
+
+module _ (den : ℕ) (ns choices : List ℕ) where
+  any_met : (d : ℕ) → d ≡ 0 → meets (steps_of ns) choices d ≡ true
+  any_met d none = ap (meets (steps_of ns) choices) none ∙ free_met ns choices
+
+  free_exact : (es : List Entry) → AllByRecursion IsFree es → AreExactAt den [] [] es
+      → AreExactAt den (steps_of ns) choices es
+  free_exact [] all h = tt
+  free_exact (e ∷ es) all h = ((λ met. h.0 refl), free_exact es all.1 h.1)
+
+  free_sum : (k : ℕ) (es : List Entry) → AllByRecursion IsFree es
+      → sum_of_entries k den (steps_of ns) choices es ≡ sum_of_entries k den [] [] es
+  free_sum k [] all = refl
+  free_sum k (e ∷ es) all = cc (any_met e.head.demands all.0, free_sum k es all.1)
+
+  free_size : (es : List Entry) → AllByRecursion IsFree es
+      → size_of_entries den (steps_of ns) choices es ≡ size_of_entries den [] [] es
+  free_size [] all = refl
+  free_size (e ∷ es) all = cc (any_met e.head.demands all.0, free_size es all.1)
+
+-- it is what is paid whatever is chosen
+pub one_for_all : (asked : Asked) (digits : List Digit) (terms : Terms) (run : Run)
+    → length terms.demands.items ≤ 1 → get_or terms.demands.items 0 0 ≡ 0
+    → SettleRows asked (actions_at digits) terms run → SettleAlike asked terms run
+one_for_all asked digits terms run few none settles i from to k less den above within exact small =
+    let number = get_or asked.numbers.now i 0 in
+    let ns = actions_at digits in
+    let choices = get_or (all_choices ns) (number - run.first) [] in
+    let es = entries terms in
+    let all = are_free terms.players terms.den terms.demands.items terms.scaled.items
+    terms.numbers.items few none in
+    let here = settles i from to in
+    subst (PaysOver asked.game.now number k den) (free_sum den ns choices k es all)
+    (here.settles k less den above within (free_exact den ns choices es all exact)
+    (omega (arith, free_size den ns choices es all, small)))
 
 pub one_digit : (asked : Asked) (digits : List Digit) (terms : Terms) (run : Run)
     → 1 ≤ length digits → (length (take (length digits - 1) (drop 1 digits)) == 0) ≡ true

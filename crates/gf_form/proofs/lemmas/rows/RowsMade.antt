@@ -22,17 +22,13 @@ use Rattle.gf_form.proofs.lemmas.form.Forms.{form_profiles}
 
 pub zip_more : {A B : Type 0} (R : A → B → Type 0) (xs : List A) (ys : List B) (x : A) (y : B)
     → AllZip R xs ys → R x y → AllZip R (xs ++ x ∷ []) (ys ++ y ∷ [])
-zip_more R [] [] x y h k = (k, tt)
-zip_more R [] (b ∷ ys) x y h k = absurd h
-zip_more R (a ∷ xs) [] x y h k = absurd h
 zip_more R (a ∷ xs) (b ∷ ys) x y h k = (h.0, zip_more R xs ys x y h.1 k)
+zip_more R xs ys x y h k = grind arith
 
 all_second : {A B : Type 0} (R : A → B → Type 0) (P : B → Type 0) (xs : List A) (ys : List B)
     → ((x : A) (y : B) → R x y → P y) → AllZip R xs ys → AllByRecursion P ys
-all_second R P [] [] each h = tt
-all_second R P [] (b ∷ ys) each h = absurd h
-all_second R P (a ∷ xs) [] each h = absurd h
 all_second R P (a ∷ xs) (b ∷ ys) each h = (each a b h.0, all_second R P xs ys each h.1)
+all_second R P xs ys each h = grind arith
 
 zip_of_one : {A B C : Type 0} (R : A → B → Type 0) (f : C → A) (g : C → B) (zs : List C)
     → AllZip R (map f zs) (map g zs) → AllByRecursion (λ z. R (f z) (g z)) zs
@@ -61,11 +57,9 @@ all_more P xs i d less h k =
 
 before_it : {A : Type 0} (P : A → Type 0) (xs : List A) (i k : ℕ) (x : A)
     → AllByRecursion P (take i xs) → k < i → slice_get xs k ≡ Some x → P x
-before_it P [] i k x h less is = absurd cc
-before_it P (y ∷ ys) zero k x h less is = absurd (omega (arith, less))
-before_it P (y ∷ ys) (suc i) zero x h less is = let same : y ≡ x = cc in subst P same h.0
 before_it P (y ∷ ys) (suc i) (suc k) x h less is =
     before_it P ys i k x h.1 (omega (arith, less)) is
+before_it P xs i k x h less is = grind arith
 
 -- all before it hold, and it does not
 pub first_without : (Holds : List ℕ → Type 0) (ps : List (List ℕ)) (i : ℕ) → i < length ps

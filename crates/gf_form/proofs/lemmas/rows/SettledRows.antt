@@ -31,8 +31,6 @@ choice_first n ns b r less within =
     ∙ choice_there (n ∷ ns) ((b + 1) ∷ c)
     ((omega arith, omega (arith, less)), choice_at_number ns r within)
 
--- ---- an action at the slowest digit
-
 -- ---- profiles at which the choice at the slowest digit is the same
 
 -- the choice of a number, from 0, at the slowest digit of this many actions, and the first number
@@ -51,9 +49,7 @@ settled_left : (g : Game) (number step action : ℕ) (steps choices : List ℕ) 
     → AreMerged step action es left → Settles g number (step ∷ steps) (action ∷ choices) es
     → Settles g number steps choices left
 settled_left g number step action steps choices es left merged settles k less den above within exact
-    small =
-    let come = merged den steps choices exact in
-    grind arith
+    small = grind arith
 
 settled_behind : (g : Game) (n : ℕ) (ns : List ℕ) (terms left : Terms)
     (least number b first : ℕ) → SettlesAt g (n ∷ ns) terms least number → b < n

@@ -7,10 +7,9 @@ push_row-requires-clause-paid c =
     let asked = c.args.asked.now in
     let before = c.loop-before.before in
     let t = c.args.terms.now in
-    some_weaker c.pair.result _ _
-    (λ pair come. paid_alike asked.game.now t c.args.run.first (get_or asked.numbers.now before 0)
-    pair
+    some_weaker c.pair-pair.result _ _
+    (λ pair come. paid_alike asked.game.now t (get_or asked.numbers.now before 0) pair
     (c.requires.settles before (omega (arith, c.loop-before.auto.before))
     (omega (arith, c.loop-before-test.true)))
     (come (omega (arith, c.len-all.ensures, t.demands.ok.0)) (omega arith)))
-    c.pair.ensures.all
+    c.pair-pair.ensures.all
