@@ -2,6 +2,7 @@
 //! program itself is tested by the files and scripts of tests/.
 #![tactic(auto)]
 
-pub mod again;
+#[cfg(test)]
+mod again;
 #[cfg(test)]
 mod tests;

@@ -1,6 +1,6 @@
 //! The line and the status of a fault.
 
-use gf_run::{Counted, RunFault, Which, answer_status, status, write_fault};
+use gf_run::{Counted, RunFault, Which, status, write_fault};
 use gf_token::{Fault, Span, Why};
 use std::alloc::Global;
 
@@ -24,9 +24,4 @@ fn tells_a_fault(rt: HostRuntime) {
     let text: &[u8] = b"A: E18 at 18446744073709551615..18446744073709551615\n";
     assert!(rt; line(rt.alloc(), &fault).as_slice() == text);
     assert!(rt; status(&fault) == 2);
-}
-
-#[test]
-fn gives_the_status_of_a_comparison(rt: HostRuntime) {
-    assert!(rt; answer_status(true) == 0 && answer_status(false) == 1);
 }

@@ -8,8 +8,6 @@ use std::alloc::{AllocError, Global};
 use std::process::Abort;
 use std::test::Fail;
 
-mod tables;
-
 /// Outcomes at an inner node and at leaves, and a player who never moves.
 const BONUS: &[u8] = b"EFG 2 R \"g\" { \"A\" \"B\" }
 c \"\" 1 \"n\" { \"h\" 1/2 \"t\" 1/2 } 0

@@ -44,10 +44,6 @@ p \"\" 1 2 \"j\" { \"R\" } 1 \"w\" { 1/10 }
 t \"\" 1
 ";
 
-/// The line of its hash, by `sha256sum` of `FIVE_TEXT`, if it is in the file `a.efg`.
-pub(super) const FIVE_HASH_LINE: &[u8] =
-    b"45d17d8787029197e0ed15a3bcf5fc5a4110bfa3e798ca81a24543f7b429871b  a.efg\n";
-
 /// A table of nobody, and its canonical text.
 pub(super) const NOBODY: &[u8] = b"NFG 1 R \"\" { } { }";
 

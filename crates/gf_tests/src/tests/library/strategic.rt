@@ -8,7 +8,7 @@ use std::process::Abort;
 use std::test::Fail;
 
 /// The canonical text of the table of Selten.
-pub(super) const SELTEN: &[u8] = b"NFG 1 R \"Selten\" { \"Player 1\" \"Player 2\" }
+const SELTEN: &[u8] = b"NFG 1 R \"Selten\" { \"Player 1\" \"Player 2\" }
 { { \"1\" \"2\" \"3\" } { \"1\" \"2\" } }
 \"\"
 
