@@ -1,4 +1,4 @@
-use Rattle.std.proofs.Common.{[], ◌∷◌, map, length, subst, sym, ap}
+use Rattle.std.proofs.Common.{[], ◌∷◌, map, subst, sym, ap}
 use Rattle.std.proofs.Common.{◌∙◌, arith}
 use Rattle.std.proofs.lemmas.List.{map-append, length-map}
 use Rattle.gf_run.specs.Duplicates.{IsKeptOf, KeptNames}
