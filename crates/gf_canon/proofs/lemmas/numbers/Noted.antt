@@ -171,10 +171,7 @@ module _ (found : Renumbering) (g h : Game) (game : IsGame g) (r : numbers.Renum
   has_new_outcome (suc n) = (
     λ some. inr (contains (used_outcomes g.tree) (suc n) (one_of_all r.outcome
         (get nat_cmp found.outcomes) (used_outcomes g.tree) outcomes (suc n) some)),
-    λ h. elim h [
-      | inl e ↦ absurd cc
-      | inr i ↦ subst IsSome (sym (new_outcome (suc n) i)) refl
-    ],
+    λ h. grind (arith, new_outcome (suc n)),
   )
 
   set_agrees : (player number : ℕ) → HasSet g player number
@@ -195,16 +192,7 @@ module _ (found : Renumbering) (g h : Game) (game : IsGame g) (r : numbers.Renum
   }
 
   found_is_renumbering : numbers.IsRenumbering g (new_numbers found)
-  found_is_renumbering = record {
-    positive_sets = λ player number i.
-        rw (set_agrees player number i) (c.renumbering.positive_sets player number i);
-    positive_outcomes = λ number i.
-        rw (outcome_agrees number i) (c.renumbering.positive_outcomes number i);
-    sets_apart = λ player a b i j e.
-        c.renumbering.sets_apart player a b i j (cc (set_agrees player a i, set_agrees player b j));
-    outcomes_apart = λ a b i j e.
-        c.renumbering.outcomes_apart a b i j (cc (outcome_agrees a i, outcome_agrees b j));
-  }
+  found_is_renumbering = grind (arith, set_agrees, outcome_agrees)
 
   found_carries : Carries (new_numbers found) g h
   found_carries = record {

@@ -5,10 +5,10 @@ use Rattle.gf_canon.proofs.Common.{if◌then◌else◌, AllByRecursion, cons_opt
 use Rattle.gf_canon.proofs.Common.{Decides-eqb, map-append, Entry, flatten, same_set, use_behind}
 use Rattle.gf_canon.proofs.Common.{Described, description_at, first_uses, Use, FileNode, FileTree}
 use Rattle.gf_canon.proofs.Common.{set_uses, outcome_uses, AreConsistent, Describes, Game}
-use Rattle.gf_canon.proofs.Common.{used_sets, used_outcomes, keys_alone, in_keys, flatten_map}
-use Rattle.gf_canon.proofs.Common.{map_entry, sets_in_order, outcomes_in_order, found}
-use Rattle.gf_canon.proofs.Common.{same_set_equality, Has, IsEquality, contains, each, has_map}
-use Rattle.gf_canon.proofs.Common.{has_place}
+use Rattle.gf_canon.proofs.Common.{used_sets, used_outcomes, keys_alone, flatten_map, map_entry}
+use Rattle.gf_canon.proofs.Common.{sets_in_order, outcomes_in_order, same_set_equality, Has}
+use Rattle.gf_canon.proofs.Common.{IsEquality, contains, has_place}
+use Rattle.gf_tree.proofs.lemmas.games.Learned.{told_found}
 use Rattle.gf_tree.proofs.lemmas.games.Prefix.{flatten_once}
 use Rattle.gf_canon.specs.FirstDescribed.{DescribeFirstUses, IsFileOf}
 use Rattle.gf_canon.proofs.lemmas.texts.FileOf.{file_of_game, first_is_new, none_of_them}
@@ -77,14 +77,10 @@ uses_of {K} {D} same equality used es us entries uses described alike first =
     told : (u : Use K D) (d : D) → Has us u → u.description ≡ Some d
         → description_at same es u.key ≡ Some d
     told u d among is =
-        let key = subst (λ ks. Has ks u.key) (sym uses)
-        (has_map (λ (v : Use K D). v.key) us u among) in
-        let f = found same equality es u.key (in_keys same equality used es u.key entries key) in
         let own = contains us (record { key = u.key; description = Some d })
         (subst (λ v. Has us v) (λ i. record { key = u.key; description = is i }) among) in
-        f.is_at ∙ ap Some (alike.described_alike u.key f.description d
-        (each (λ (e : Described K D). Describes us e.key e.description) es
-        (record { key = u.key; description = f.description }) described f.among) own)
+        (told_found same equality us es alike (entries ∙ ap (first_uses same) uses) described
+        u.key d own).0
 
 pub one_file : (g : Game) (f h : FileTree) → IsFileOf g f → IsFileOf g h → f ≡ h
 one_file g f h p q =
