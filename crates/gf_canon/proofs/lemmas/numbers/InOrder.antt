@@ -1,8 +1,8 @@
 -- Keys in order of first use have the numbers 1, 2 and so on, and so do a player's sets and the
 -- outcomes of a game.
 use Rattle.gf_canon.proofs.Common.{◌≡◌, ◌+◌, ℕ, Bool, List, [], ◌∷◌, ◌++◌, length, map, refl, sym}
-use Rattle.gf_canon.proofs.Common.{ap, ◌∙◌, arith, append_assoc, length-append, subst, nat_eq}
-use Rattle.gf_canon.proofs.Common.{eqb-true, Decides-eqb, numbers_from, positions, SetKey, same_set}
+use Rattle.gf_canon.proofs.Common.{◌∙◌, arith, append_assoc, length-append, subst, nat_eq, eqb-true}
+use Rattle.gf_canon.proofs.Common.{Decides-eqb, numbers_from, positions, SetKey, same_set}
 use Rattle.gf_canon.proofs.Common.{first_uses, first_use_number, first_use_numbers, outcome_numbers}
 use Rattle.gf_canon.proofs.Common.{player_keys, sets_of, Game, IsGame, used_outcomes, used_sets}
 use Rattle.gf_canon.proofs.Common.{of_filter, was_used, map_same, same_set_equality, Has}
@@ -45,14 +45,11 @@ sets_in_order g player game =
     number key i =
         let mine = of_filter (λ (k : SetKey). nat_eq k.player player) (used_sets g.tree) key
         (was_used same_set own key i) in
-        let is : player ≡ key.player = sym (eqb-true key.player player mine.1) in
-        ap (λ p. first_use_number same_set own (record { player = p; number = key.number })) is
+        grind (arith, eqb-true)
 
 pub outcomes_in_order : (g : Game) → IsGame g
     → map (first_use_numbers g).outcome (outcome_numbers g) ≡ positions (length (outcome_numbers g))
 outcomes_in_order g game =
-    subst (λ numbers. map (first_use_numbers g).outcome numbers ≡ positions (length numbers))
-    (sym game.one_entry_each_outcome)
-    (numbered_in_order nat_eq Decides-eqb (used_outcomes g.tree))
+    rw game.one_entry_each_outcome (numbered_in_order nat_eq Decides-eqb (used_outcomes g.tree))
 
 pub ruleset in_order = (numbered_in_order, sets_in_order, outcomes_in_order)

@@ -1,16 +1,16 @@
 -- A file tree of each game: each set and each outcome is described at its first use, and not again.
-use Rattle.gf_canon.proofs.Common.{arith, ◌≡◌, ℕ, zero, suc, ◌+◌, Bool, false, List, [], ◌∷◌, ◌++◌}
-use Rattle.gf_canon.proofs.Common.{map, Option, None, Some, refl, sym, ap, subst, ◌∙◌, inl, inr}
-use Rattle.gf_canon.proofs.Common.{append_assoc, nat_eq, option_map, filter_map, cons_option}
-use Rattle.gf_canon.proofs.Common.{list_any, Decides-eqb, Entry, flatten, Fills, same_set}
-use Rattle.gf_canon.proofs.Common.{Described, description_at, first_uses, Use, FileNode, FileTree}
-use Rattle.gf_canon.proofs.Common.{set_uses, outcome_uses, Describes, AreConsistent, IsDescribed}
-use Rattle.gf_canon.proofs.Common.{IsFirstUse, Node, Game, IsGame, used_sets, used_outcomes, set_at}
-use Rattle.gf_canon.proofs.Common.{outcome_at, keys_alone, Has, IsEquality, has, contains, has_map}
-use Rattle.gf_canon.proofs.Common.{all_of_each, has_place, AreDistinct, found, is_used, was_used}
-use Rattle.gf_canon.proofs.Common.{first_uses_distinct, same_set_equality, map_entry, flatten_map}
-use Rattle.gf_canon.proofs.Common.{map_twice, with_those_before, use_behind, node_behind}
-use Rattle.gf_canon.proofs.Common.{file_nodes, append-nil}
+use Rattle.gf_canon.proofs.Common.{entry_used, in_keys, arith, ◌≡◌, ℕ, zero, suc, ◌+◌, Bool, false}
+use Rattle.gf_canon.proofs.Common.{List, [], ◌∷◌, ◌++◌, map, Option, None, Some, refl, sym, ap}
+use Rattle.gf_canon.proofs.Common.{subst, ◌∙◌, inl, inr, append_assoc, nat_eq, option_map}
+use Rattle.gf_canon.proofs.Common.{filter_map, cons_option, list_any, Decides-eqb, Entry, flatten}
+use Rattle.gf_canon.proofs.Common.{Fills, same_set, Described, description_at, first_uses, Use}
+use Rattle.gf_canon.proofs.Common.{FileNode, FileTree, set_uses, outcome_uses, Describes}
+use Rattle.gf_canon.proofs.Common.{AreConsistent, IsDescribed, IsFirstUse, Node, Game, IsGame}
+use Rattle.gf_canon.proofs.Common.{used_sets, used_outcomes, set_at, outcome_at, keys_alone, Has}
+use Rattle.gf_canon.proofs.Common.{IsEquality, has, contains, has_map, all_of_each, has_place}
+use Rattle.gf_canon.proofs.Common.{found, first_uses_distinct, same_set_equality, map_entry}
+use Rattle.gf_canon.proofs.Common.{flatten_map, map_twice, with_those_before, use_behind}
+use Rattle.gf_canon.proofs.Common.{node_behind, file_nodes, append-nil}
 use Rattle.std.proofs.lemmas.List.Folds.{list_any-append}
 use Rattle.std.proofs.lemmas.List.Elements.{filter_map-append}
 use Rattle.gf_tree.specs.Tree.{map_tree}
@@ -120,18 +120,15 @@ module _ {K D : Type 0} (same : K → K → Bool) (equality : IsEquality same) (
     (es : List (Described K D)) (entries : map (λ e. e.key) es ≡ first_uses same keys) where
   known : (k : K) → Has keys k → (d : D) × (description_at same es k ≡ Some d)
   known k h =
-      let f = found same equality es k
-      (subst (λ ks. Has ks k) (sym entries) (is_used same equality keys k h)) in
+      let f = found same equality es k (in_keys same equality keys es k entries h) in
       (f.description, f.is_at)
 
   told : (e : Described K D) → Has es e
       → Describes (uses_behind same (description_at same es) [] keys) e.key e.description
   told e h =
-      let used = was_used same keys e.key
-      (subst (λ ks. Has ks e.key) entries (has_map (λ (d : Described K D). d.key) es e h)) in
-      key_described same equality (description_at same es) keys e.key e.description used (entry_at
-      same equality es e (subst AreDistinct (sym entries) (first_uses_distinct same equality keys))
-      h)
+      key_described same equality (description_at same es) keys e.key e.description
+      (entry_used same keys es e entries h)
+      (entry_at same equality es e (rw entries (first_uses_distinct same equality keys)) h)
 
   map_learned : (us : List (Use K D)) → us ≡ uses_behind same (description_at same es) [] keys
       → Learns same [] us es × DescribeFirstUses us
