@@ -7,7 +7,7 @@ use Rattle.std.specs.Int.{from_bool}
 use Rattle.std.specs.Int.Signed.{lt_z}
 use Rattle.std.proofs.Math.Seq.{take-add, take-append_seam, take-append-add}
 use Rattle.std.specs.Fmt.{signed_decimal}
-use Rattle.std.proofs.lemmas.Fmt.{decimal_digit, decimal_step}
+use Rattle.std.proofs.lemmas.Fmt.{decimal_digit, decimal_step, length-decimal-le}
 use Rattle.std.proofs.Math.Dec.{leb-suc-zero}
 use Rattle.gf_fraction.specs.NumberText.{number_text}
 
@@ -58,26 +58,23 @@ pub length_one : (n : ℕ) → n < 10 → length (decimal n) ≡ 1
 length_one n h = ap length (decimal_digit n h)
 
 pub length_two : (n : ℕ) → 10 ≤ n → n < 100 → length (decimal n) ≡ 2
-length_two n lo hi =
-    omega (arith, longer n lo (omega arith), length_one (n / 10) (omega arith))
+length_two n lo hi = grind (arith, longer, length_one)
 
 pub length_three : (n : ℕ) → 100 ≤ n → n < 1000 → length (decimal n) ≡ 3
-length_three n lo hi =
-    omega (arith, longer n (omega arith) (omega arith), length_two (n / 10) (omega arith) (omega arith))
+length_three n lo hi = grind (arith, longer, length_two)
 
 pub length_four : (n : ℕ) → 1000 ≤ n → n < 10000 → length (decimal n) ≡ 4
-length_four n lo hi =
-    omega (arith, longer n (omega arith) (omega arith), length_three (n / 10) (omega arith) (omega arith))
+length_four n lo hi = grind (arith, longer, length_three)
 
 pub four_longer : (n : ℕ) → 10000 ≤ n → n < 2 ^ 64
     → length (decimal n) ≡ length (decimal (n / 10000)) + 4
 four_longer n lo hi =
-    let a = longer n (omega arith) hi in
-    let b = longer (n / 10) (omega arith) (omega arith) in
-    let c = longer (n / 10 / 10) (omega arith) (omega arith) in
-    let d = longer (n / 10 / 10 / 10) (omega arith) (omega arith) in
     let e : n / 10 / 10 / 10 / 10 ≡ n / 10000 = omega arith in
-    let f = ap (λ m. length (decimal m)) e in
-    omega (arith, a, b, c, d, f)
+    grind (arith, longer, e)
+
+pub few_digits : (n : ℕ) → n < 2 ^ 64 → length (decimal n) ≤ 20
+few_digits n h = length-decimal-le 20 n (omega arith) (omega arith) h
 
 pub ruleset short_counts = (length_one, length_two, length_three, length_four)
+
+pub ruleset all_counts = (few_digits, four_longer)

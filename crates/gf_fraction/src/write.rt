@@ -8,7 +8,7 @@ use crate::fraction::Fraction;
 use itoa::{Buffer, write_digits};
 use std::alloc::AllocError;
 
-/// Room for a sign, nineteen digits, a slash and twenty digits.
+/// Room for a sign, nineteen digits, a slash and twenty digits, in whole vectors of the machine.
 const ROOM: usize = 48;
 
 /// How many digits a number of at most four has.
@@ -31,8 +31,10 @@ fn short_count(n: u64) -> usize
 
 /// How many digits a number has.
 #[inline(always)]
+#[tactic(auto, using(crate::proofs::WrittenText::all_counts))]
 fn digit_count(n: u64) -> usize
-    ensures { result ≡ length (decimal n) }
+    ensures count { result ≡ length (decimal n) }
+    ensures short { result ≤ 20 }
 {
     let mut left = n;
     let mut count = 0;
@@ -80,7 +82,8 @@ fn write_parts(start: usize, size: u64, den: u64, text: &mut [u8]) -> usize
     write_under(end, den, text)
 }
 
-/// Appends `n`, or `n/d` if the denominator is above 1.
+/// Appends `n`, or `n/d` if the denominator is above 1. Digits are written where they stay: to read
+/// back a few of them at once takes longer than to write them, until they have left the processor.
 fn write_words(num: i64, den: u64, out: &mut Vec<u8>) -> Result<(), AllocError>
     ensures ok { OnOk result
         (out.new.items ≡ out.old.items ++ number_text (record { num = num; den = den })) }
@@ -95,6 +98,27 @@ fn write_words(num: i64, den: u64, out: &mut Vec<u8>) -> Result<(), AllocError>
     Ok(())
 }
 
+/// Appends the same for parts of any size.
+#[inline(never)]
+#[tactic(auto, unfolding(crate::specs::NumberText::number_text))]
+fn write_wide(num: i128, den: u128, out: &mut Vec<u8>) -> Result<(), AllocError>
+    ensures ok { OnOk result
+        (out.new.items ≡ out.old.items ++ number_text (record { num = num; den = den })) }
+    ensures err { OnErr result (out.new.items ≡ out.old.items) }
+{
+    let mut buffer = Buffer::new();
+    let num = buffer.format(num).as_bytes();
+    if den == 1 {
+        return out.extend_from_slice(num);
+    }
+    let mut buffer = Buffer::new();
+    let den = buffer.format(den).as_bytes();
+    out.reserve(num.len() + 1 + den.len())?;
+    out.extend_from_slice(num)?;
+    out.push(b'/')?;
+    out.extend_from_slice(den)
+}
+
 impl Fraction {
     /// Appends `n`, or `n/d` if the denominator is above 1, in decimal digits. `Fraction::read`
     /// reads it back.
@@ -107,30 +131,11 @@ impl Fraction {
         ensures ok { OnOk result (out.new.items ≡ out.old.items ++ number_text self) }
         ensures err { OnErr result (out.new.items ≡ out.old.items) }
     {
-        match (i64::try_from(self.num()), u64::try_from(self.den())) {
-            // Words are passed in registers.
+        // Both parts are passed in registers: to read back what was only just stored takes long.
+        let (num, den) = (self.num(), self.den());
+        match (i64::try_from(num), u64::try_from(den)) {
             (Ok(num), Ok(den)) => write_words(num, den, out),
-            _ => self.write_wide(out),
+            _ => write_wide(num, den, out),
         }
-    }
-
-    /// The same for parts of any size.
-    #[inline(never)]
-    #[tactic(auto, unfolding(crate::specs::NumberText::number_text))]
-    fn write_wide(self, out: &mut Vec<u8>) -> Result<(), AllocError>
-        ensures ok { OnOk result (out.new.items ≡ out.old.items ++ number_text self) }
-        ensures err { OnErr result (out.new.items ≡ out.old.items) }
-    {
-        let mut buffer = Buffer::new();
-        let num = buffer.format(self.num()).as_bytes();
-        if self.den() == 1 {
-            return out.extend_from_slice(num);
-        }
-        let mut buffer = Buffer::new();
-        let den = buffer.format(self.den()).as_bytes();
-        out.reserve(num.len() + 1 + den.len())?;
-        out.extend_from_slice(num)?;
-        out.push(b'/')?;
-        out.extend_from_slice(den)
     }
 }
