@@ -108,6 +108,17 @@ fn digits_end(input: &[u8], first: usize) -> (usize, u64)
     (at, value)
 }
 
+/// Whether no byte of a bare token stands at this place. Most end before a space or a new line.
+#[inline(always)]
+fn is_over(input: &[u8], at: usize) -> bool
+    ensures over { result ≡ true → at < length input.now
+        → is_bare (slice_index input.now at) ≡ false }
+    ensures more { result ≡ false
+        → (at < length input.now) × (is_bare (slice_index input.now at) ≡ true) }
+{
+    at >= input.len() || matches!(input[at], b' ' | b'\n') || !is_bare(input[at])
+}
+
 /// Where the bare token ends that begins at `start`, and the index that it spells, if it spells
 /// one. Digits are read in the scan that finds their end.
 #[tactic(auto, using(crate::proofs::ScannedNumbers::index_steps))]
@@ -123,7 +134,7 @@ pub(crate) fn index_end(input: &[u8], start: usize) -> (usize, Option<u32>)
 {
     if input[start].is_ascii_digit() {
         let (at, value) = digits_end(input, start);
-        if at >= input.len() || !is_bare(input[at]) {
+        if is_over(input, at) {
             return (at, index_of_value(value));
         }
     }
@@ -157,12 +168,12 @@ fn short_number_end(input: &[u8], start: usize) -> Option<(usize, Fraction)>
         return None;
     }
     let (at, value) = digits_end(input, first);
-    if at == input.len() || !is_bare(input[at]) {
+    if is_over(input, at) {
         return Some((at, Fraction::whole(negative, value)));
     }
     let (number, len) = Fraction::after_digits(negative, value, &input[at..])?;
     let end = at + len;
-    if end == input.len() || !is_bare(input[end]) {
+    if is_over(input, end) {
         Some((end, number))
     } else {
         None
