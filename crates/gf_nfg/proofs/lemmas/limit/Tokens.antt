@@ -39,26 +39,22 @@ Parted xs x us u = ((xs ≡ us) × (x ≡ u)) ⊎ (StandsIn xs x us ⊎ StandsIn
 
 parted_more : (z w : Token) (xs : List Token) (x : Token) (us : List Token) (u : Token)
     → z ≡ w → Parted xs x us u → Parted (z ∷ xs) x (w ∷ us) u
-parted_more z w xs x us u e (inl h) = inl ((λ i. e i ∷ h.0 i), h.1)
-parted_more z w xs x us u e (inr (inl h)) = inr (inl (h.0, (λ i. sym e i ∷ h.1 i)))
-parted_more z w xs x us u e (inr (inr h)) = inr (inr (h.0, (λ i. e i ∷ h.1 i)))
+parted_more z w xs x us u e h = grind arith
 
 pub parted : (xs : List Token) (x : Token) (ys us : List Token) (u : Token) (vs : List Token)
     → xs ++ x ∷ ys ≡ us ++ u ∷ vs → Parted xs x us u
-parted [] x ys [] u vs e = inl (refl, cc)
-parted [] x ys (w ∷ us) u vs e = let first : w ≡ x = cc in inr (inl (us, (λ i. first i ∷ us)))
-parted (z ∷ xs) x ys [] u vs e = let first : z ≡ u = cc in inr (inr (xs, (λ i. first i ∷ xs)))
+parted [] x ys [] u vs e = grind arith
+parted [] x ys (w ∷ us) u vs e = inr (inl (us, cc))
+parted (z ∷ xs) x ys [] u vs e = inr (inr (xs, cc))
 parted (z ∷ xs) x ys (w ∷ us) u vs e =
     grind (arith, parted_more z w xs x us u (cc) (parted xs x ys us u vs (cc)))
 
-none_behind : (xs : List Token) (x : Token) (us : List Token) (u : Token)
-    → xs ++ x ∷ [] ≡ us ++ u ∷ [] → StandsIn xs x us → ⊥
-none_behind xs x us u e h =
-    grind (arith, length-append xs (x ∷ []), length-append us (u ∷ []), length-append xs (x ∷ h.0))
-
 same_last : (xs : List Token) (x : Token) (us : List Token) (u : Token)
     → xs ++ x ∷ [] ≡ us ++ u ∷ [] → (xs ≡ us) × (x ≡ u)
-same_last xs x us u e = grind (arith, parted, none_behind)
+same_last [] x [] u e = (refl, cc)
+same_last (y ∷ xs) x (w ∷ us) u e = let h = same_last xs x us u (cc) in (cc, h.1)
+same_last [] x (w ∷ us) u e = absurd (grind (arith, length-append us (u ∷ [])))
+same_last (y ∷ xs) x [] u e = absurd (grind (arith, length-append xs (x ∷ [])))
 
 -- ---- a token at which the machine passes the limit
 

@@ -2,9 +2,9 @@
 -- does so.
 use Rattle.gf_nfg.proofs.Common.{◌≡◌, ℕ, zero, suc, ◌-◌, ◌<◌, Bool, true, false, List, length}
 use Rattle.gf_nfg.proofs.Common.{Option, Some, None, Result, Ok, Err, refl, sym, subst, arith}
-use Rattle.gf_nfg.proofs.Common.{nat_eq, inl, inr, ◌⊎◌, ◌||◌, ◌==◌, if◌then◌else◌, not, codes}
-use Rattle.gf_nfg.proofs.Common.{pointwise, nat_tests, Token, Opening, Closing, Comma, Text, Bare}
-use Rattle.gf_nfg.proofs.Common.{Broken, IsIndex, why_of, What, Why, Expected, BadIndex, NoEntry}
+use Rattle.gf_nfg.proofs.Common.{nat_eq, ◌⊎◌, ◌||◌, ◌==◌, if◌then◌else◌, not, codes, pointwise}
+use Rattle.gf_nfg.proofs.Common.{nat_tests, Token, Opening, Closing, Comma, Text, Bare, Broken}
+use Rattle.gf_nfg.proofs.Common.{IsIndex, why_of, What, Why, Expected, BadIndex, NoEntry}
 use Rattle.gf_nfg.proofs.Common.{UnknownOutcome, Ratio, HasNumberFault, Reads, NumberFault}
 use Rattle.gf_nfg.proofs.Common.{number_is_computed, number_is, number_again, Position, Role, Suits}
 use Rattle.gf_nfg.proofs.Common.{Format, Version, Letter, Count, Payoff, OutcomeNumber, count_of}
@@ -169,8 +169,7 @@ row_at p.OutcomeNumbers s =
 
 letter_again : (b : List ℕ) → Suits Letter b
     → (pointwise nat_eq b (codes "R") || pointwise nat_eq b (codes "D")) ≡ true
-letter_again b (inl e) = rw e refl
-letter_again b (inr e) = rw e refl
+letter_again b h = grind (arith, same_word)
 
 pub answers : (q : Position) (s : State) (t : Token)
     → Answers (unfilled q s) (row_at q s) t (step_at q s t)

@@ -13,11 +13,12 @@ use Rattle.gf_token.proofs.TokensAhead.{in_order}
 use Rattle.gf_nfg.specs.inner.Heard.Fails.{of_file, of_memory}
 use Rattle.gf_nfg.specs.inner.Position.{Position as p}
 use Rattle.gf_nfg.specs.declared.reader.Reader.{Reader}
-use Rattle.gf_nfg.proofs.lemmas.places.Judged.{accepted, broken, end_of, err, limit, only_expected}
-use Rattle.gf_nfg.proofs.lemmas.places.Judged.{refusal, refusal_end, span_of}
+use Rattle.gf_nfg.proofs.lemmas.places.Judged.{accepted, end_of, err, limit, only_expected, refusal}
+use Rattle.gf_nfg.proofs.lemmas.places.Judged.{refusal_end, span_of}
 use Rattle.gf_nfg.proofs.lemmas.places.Led.{Led, led_more, led_none, read_whole}
 use Rattle.gf_nfg.proofs.lemmas.limit.Stays.{bounded, past}
-use Rattle.gf_nfg.proofs.lemmas.places.Reasons.{IsWhole}
+use Rattle.gf_nfg.proofs.lemmas.places.DueTable.{broken_refused}
+use Rattle.gf_nfg.proofs.lemmas.places.Reasons.{IsWhole, broken_reason, reason}
 use Rattle.gf_nfg.proofs.lemmas.runs.Sentence.{Read}
 
 -- ---- reasons
@@ -56,14 +57,16 @@ module _ (bytes : List ℕ) (all : List Lexeme) (spelled : Spells 0 bytes all) w
   took_step s l ls (Ok after) h few whole is =
       took_past s after l ls (is_past after.position after.content.profiles) h few is refl
   took_step s l ls (Err why) h few whole is = refuses why refl
-      (refused_by why bytes (span_of l) (refusal bytes all ls l s why spelled h few whole is))
+      (refused_by why bytes (span_of l) (refusal bytes all ls l s why why spelled h few
+      (reason (tokens_of h.seen) (tokens_of ls) l.token s why h.leads whole is) is))
 
   took : (s : State) (start end : ℕ) (t : Token) (ls : List Lexeme)
       → Led all (lexeme start end t ∷ ls) s → s.content.profiles ≤ profile_limit
       → Took bytes all ls (lexeme start end t) (taken s t)
   took s start end Broken ls h few =
-      refuses Unterminated refl
-      (refused_by Unterminated bytes _ (broken bytes all ls start end s spelled h few))
+      let b = broken_refused s in
+      refuses Unterminated refl (refused_by Unterminated bytes _ (refusal bytes all ls _ s
+      Unterminated b.0 spelled h few (broken_reason (tokens_of h.seen) (tokens_of ls)) b.1))
   took s start end t ls h few = took_step s _ ls (step s t) h few tt refl
 
 -- ---- all tokens

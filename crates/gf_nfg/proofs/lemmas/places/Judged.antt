@@ -1,20 +1,19 @@
 -- Where the reader refuses, no file goes on, or each file that does is above the limit.
 use Rattle.gf_nfg.proofs.Common.{◌≡◌, ℕ, ◌<◌, ◌≤◌, List, [], ◌∷◌, ◌++◌, length, Option, None, Some}
 use Rattle.gf_nfg.proofs.Common.{Result, Ok, Err, refl, sym, subst, ◌∙◌, append_assoc, arith}
-use Rattle.gf_nfg.proofs.Common.{append-nil, map-append, Token, Lexeme, lexeme, Broken, Spells}
-use Rattle.gf_nfg.proofs.Common.{Fault, Span, What, Why, TooLong, Unterminated, Expected, Memory}
-use Rattle.gf_nfg.proofs.Common.{TooManyProfiles, profile_limit, Table, Sentence, IsStrategicFile}
-use Rattle.gf_nfg.proofs.Common.{SpellsTable, tokens_of, IsOffendingPlace, IsLimitPlace}
-use Rattle.gf_nfg.proofs.Common.{IsWithinLimit, State, Content, step, finish, ended, IsRefusal}
-use Rattle.gf_nfg.proofs.Common.{IsAcceptedWithinLimit, IsJudged}
+use Rattle.gf_nfg.proofs.Common.{append-nil, map-append, Token, Lexeme, Spells, Fault, Span, What}
+use Rattle.gf_nfg.proofs.Common.{Why, TooLong, Expected, Memory, TooManyProfiles, profile_limit}
+use Rattle.gf_nfg.proofs.Common.{Table, Sentence, IsStrategicFile, SpellsTable, tokens_of}
+use Rattle.gf_nfg.proofs.Common.{IsOffendingPlace, IsLimitPlace, IsReason, IsWithinLimit, State}
+use Rattle.gf_nfg.proofs.Common.{Content, step, finish, ended, IsRefusal, IsAcceptedWithinLimit}
+use Rattle.gf_nfg.proofs.Common.{IsJudged}
 use Rattle.gf_token.proofs.Places.{no_file as refused_no_file}
 use Rattle.gf_nfg.proofs.lemmas.limit.Counts.{limit_by_files}
 use Rattle.gf_nfg.proofs.lemmas.limit.Passed.{later, nowhere}
-use Rattle.gf_nfg.proofs.lemmas.places.DueTable.{broken_refused}
 use Rattle.gf_nfg.proofs.lemmas.places.Led.{Led, spelled_as}
 use Rattle.gf_nfg.proofs.lemmas.limit.Stays.{stays_within}
 use Rattle.gf_nfg.proofs.lemmas.limit.Tokens.{limit_token}
-use Rattle.gf_nfg.proofs.lemmas.places.Reasons.{IsWhole, reason, broken_reason, end_reason}
+use Rattle.gf_nfg.proofs.lemmas.places.Reasons.{end_reason}
 use Rattle.gf_nfg.proofs.lemmas.runs.Walks.{leads_more}
 use Rattle.gf_nfg.proofs.lemmas.places.Walk.{begins, no_file, refused}
 
@@ -26,27 +25,24 @@ end_of size = record { start = size; end = size }
 
 -- ---- a token that is refused
 
-abbrev offending : (bytes : List ℕ) (all rest : List Lexeme) (l : Lexeme) (s : State) (why : Why)
-    → Spells 0 bytes all → Led all (l ∷ rest) s → step s l.token ≡ Err why
-    → IsOffendingPlace IsStrategicFile bytes (span_of l)
-offending bytes all rest l s why spelled h e = record {
-  before = h.seen;
-  after = l ∷ rest;
-  spelled = subst (λ (ls : List Lexeme). Spells 0 bytes ls) h.parts spelled;
-  place = (refl, refl);
-  begins = begins (tokens_of h.seen) s h.leads;
-  refused = refused (tokens_of h.seen) l.token s why h.leads e;
-}
-
-pub refusal : (bytes : List ℕ) (all rest : List Lexeme) (l : Lexeme) (s : State) (why : Why)
-    → Spells 0 bytes all → Led all (l ∷ rest) s → s.content.profiles ≤ profile_limit
-    → IsWhole l.token → step s l.token ≡ Err why → IsRefusal why bytes (span_of l)
-refusal bytes all rest l s why spelled h within whole e = record {
-  place = offending bytes all rest l s why spelled h e;
-  reason = reason (tokens_of h.seen) (tokens_of rest) l.token s why h.leads whole e;
-  within = nowhere bytes (span_of l) (offending bytes all rest l s why spelled h e)
-      (stays_within (tokens_of h.seen) s h.leads within);
-}
+pub refusal : (bytes : List ℕ) (all rest : List Lexeme) (l : Lexeme) (s : State) (why other : Why)
+    → Spells 0 bytes all → (h : Led all (l ∷ rest) s) → s.content.profiles ≤ profile_limit
+    → IsReason why (tokens_of h.seen) (l.token ∷ tokens_of rest) → step s l.token ≡ Err other
+    → IsRefusal why bytes (span_of l)
+refusal bytes all rest l s why other spelled h within reason e =
+    let off : IsOffendingPlace IsStrategicFile bytes (span_of l) = record {
+      before = h.seen;
+      after = l ∷ rest;
+      spelled = subst (λ (ls : List Lexeme). Spells 0 bytes ls) h.parts spelled;
+      place = (refl, refl);
+      begins = begins (tokens_of h.seen) s h.leads;
+      refused = refused (tokens_of h.seen) l.token s other h.leads e;
+    } in
+    record {
+      place = off;
+      reason = reason;
+      within = nowhere bytes (span_of l) off (stays_within (tokens_of h.seen) s h.leads within);
+    }
 
 pub limit : (bytes : List ℕ) (all rest : List Lexeme) (l : Lexeme) (s after : State)
     → Spells 0 bytes all → Led all (l ∷ rest) s → s.content.profiles ≤ profile_limit
@@ -89,22 +85,6 @@ accepted bytes all rest l s after spelled h e within =
         accepted = begins through after leads;
       };
       within = later bytes h.seen rest l parts (stays_within through after leads within);
-    }
-
--- ---- an unterminated text
-
-pub broken : (bytes : List ℕ) (all rest : List Lexeme) (from to : ℕ) (s : State)
-    → Spells 0 bytes all → Led all (lexeme from to Broken ∷ rest) s
-    → s.content.profiles ≤ profile_limit
-    → IsRefusal Unterminated bytes (record { start = from; end = to })
-broken bytes all rest from to s spelled h within =
-    let b = broken_refused s in
-    let l = lexeme from to Broken in
-    record {
-      place = offending bytes all rest l s b.0 spelled h b.1;
-      reason = broken_reason (tokens_of h.seen) (tokens_of rest);
-      within = nowhere bytes (span_of l) (offending bytes all rest l s b.0 spelled h b.1)
-          (stays_within (tokens_of h.seen) s h.leads within);
     }
 
 -- ---- the end

@@ -37,24 +37,17 @@ either_letter b is_r is_d h h2 h3 = grind (arith, same_bytes)
 only_letter : (ts : List Token) (r : Content) → run (at p.Letter 0 0 0 nothing) ts ≡ Ok r
     → (letter : List ℕ) × (rest : List Token) × (ts ≡ Bare letter ∷ rest)
     × ((letter ≡ codes "R") ⊎ (letter ≡ codes "D")) × (run (at p.Title 0 0 0 nothing) rest ≡ Ok r)
-only_letter (Bare b ∷ rest) r e = grind (
-  arith,
-  either_letter b (pointwise nat_eq b (codes "R"))
-      (pointwise nat_eq b (codes "D")) refl refl (guard_ok (pointwise nat_eq b (codes "R") ||
-      pointwise nat_eq b (codes "D")) (at p.Title 0 0 0 nothing) (Expected what.Letter) rest r e).0,
-)
+only_letter (Bare b ∷ rest) r e =
+    let h = guard_ok (pointwise nat_eq b (codes "R") || pointwise nat_eq b (codes "D"))
+    (at p.Title 0 0 0 nothing) (Expected what.Letter) rest r e in
+    (b, rest, refl, either_letter b _ _ refl refl h.0, h.1)
 only_letter _ r e = absurd cc
 
 only_title : (ts : List Token) (r : Content) → run (at p.Title 0 0 0 nothing) ts ≡ Ok r
-    → (title : List ℕ) × (rest : List Token) × (ts ≡ Text title ∷ rest)
-    × (run (at p.BeforePlayers 0 0 0 (with_title nothing title)) rest ≡ Ok r)
-only_title (Text title ∷ rest) r e = (title, rest, refl, e)
+    → (title : List ℕ) × (rest : List Token) × (ts ≡ Text title ∷ Opening ∷ rest)
+    × (run (at p.InPlayers 0 0 0 (with_title nothing title)) rest ≡ Ok r)
+only_title (Text title ∷ Opening ∷ rest) r e = (title, rest, refl, e)
 only_title _ r e = absurd cc
-
-only_before_players : (ts : List Token) (c r : Content) → run (at p.BeforePlayers 0 0 0 c) ts ≡ Ok r
-    → (rest : List Token) × (ts ≡ Opening ∷ rest) × (run (at p.InPlayers 0 0 0 c) rest ≡ Ok r)
-only_before_players (Opening ∷ rest) c r e = (rest, refl, e)
-only_before_players _ c r e = absurd cc
 
 -- Text* Closing
 players_found : (ts : List Token) (c r : Content) → run (at p.InPlayers 0 0 0 c) ts ≡ Ok r
@@ -92,27 +85,26 @@ pub record Heading (ts : List Token) (r : Content) : Type 0 where
   pub is_letter : (letter ≡ codes "R") ⊎ (letter ≡ codes "D")
   pub goes_on : run (at p.BeforeStrategies (length players) 0 0 (heading title players)) rest ≡ Ok r
 
-joined : (ts t1 t2 t3 t4 t5 rest : List Token) (letter title : List ℕ) (players : List (List ℕ))
-    → ts ≡ Bare (codes "NFG") ∷ t1 → t1 ≡ Bare (codes "1") ∷ t2 → t2 ≡ Bare letter ∷ t3
-    → t3 ≡ Text title ∷ t4 → t4 ≡ Opening ∷ t5 → t5 ≡ map Text players ++ Closing ∷ rest
-    → ts ≡ Bare (codes "NFG") ∷ Bare (codes "1") ∷ Bare letter ∷ Text title
-    ∷ (braced (map Text players) ++ rest)
-joined ts t1 t2 t3 t4 t5 rest letter title players e1 e2 e3 e4 e5 e6 = grind (arith, append_assoc)
-
 pub heading_found : (ts : List Token) (r : Content) → run start ts ≡ Ok r → Heading ts r
 heading_found ts r e =
     let a = only_format ts r e in
     let b = only_version a.0 r a.2 in
     let c = only_letter b.0 r b.2 in
     let d = only_title c.1 r c.4 in
-    let f = only_before_players d.1 (with_title nothing d.0) r d.3 in
-    let g = players_found f.0 (with_title nothing d.0) r f.2 in
+    let g = players_found d.1 (with_title nothing d.0) r d.3 in
     record {
       letter = c.0;
       title = d.0;
       players = g.0;
       rest = g.1;
-      parts = joined ts a.0 b.0 c.1 d.1 f.0 g.1 c.0 d.0 g.0 a.1 b.1 c.2 d.2 f.1 g.2;
+      parts = cc (
+        a.1,
+        b.1,
+        c.2,
+        d.2,
+        g.2,
+        append_assoc (map Text g.0) (Closing ∷ []) g.1,
+      );
       is_letter = c.3;
       goes_on = g.3;
     }

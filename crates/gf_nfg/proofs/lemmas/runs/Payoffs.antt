@@ -1,6 +1,6 @@
 -- Runs over payoffs: the flat list, and one outcome's in braces.
-use Rattle.gf_nfg.proofs.Common.{◌≡◌, ℕ, zero, suc, ◌-◌, Bool, true, false, List, [], ◌∷◌, ◌++◌}
-use Rattle.gf_nfg.proofs.Common.{length, Result, Ok, Err, refl, sym, ap, subst, ◌∙◌, append_assoc}
+use Rattle.gf_nfg.proofs.Common.{arith, ◌≡◌, ℕ, zero, suc, ◌-◌, Bool, true, false, List, [], ◌∷◌}
+use Rattle.gf_nfg.proofs.Common.{◌++◌, length, Result, Ok, refl, sym, ap, subst, ◌∙◌, append_assoc}
 use Rattle.gf_nfg.proofs.Common.{inl, inr, ◌⊎◌, Token, Closing, Comma, Bare, Each, IsPayoffInBraces}
 use Rattle.gf_nfg.proofs.Common.{Ratio, NumberFault, Position, number_is, number_again, IsPayoff}
 use Rattle.gf_nfg.proofs.Common.{State, Content, at, run, paid, with_payoffs, next_outcome, ◌>>=◌}
@@ -15,8 +15,7 @@ paid_found : (q : Position) (s : State) (o : Result Ratio NumberFault) (ts : Lis
     (r : Content) → (paid q s o >>= λ after. run after ts) ≡ Ok r
     → (n : Ratio) × (o ≡ Ok n) × (run (at q (s.due - 1) s.list_start s.outcomes (with_payoffs
     s.content (n ∷ []))) ts ≡ Ok r)
-paid_found q s (Ok n) ts r e = (n, refl, e)
-paid_found q s (Err fault) ts r e = absurd cc
+paid_found q s o ts r e = grind arith
 
 -- ---- the flat list
 
@@ -130,22 +129,19 @@ braced_step : (may : Bool) (b : List ℕ) (due outcomes : ℕ) (n : Ratio) (c : 
     (ts : List Token) → number_of b ≡ Ok n
     → run (at (braced_at may) (suc due) 0 outcomes c) (Bare b ∷ ts) ≡ run (at p.AfterBracedPayoff
     due 0 outcomes (with_payoffs c (n ∷ []))) ts
-braced_step true b due outcomes n c ts e = rw (not_zero, e, pred_suc) refl
-braced_step false b due outcomes n c ts e = rw (not_zero, e, pred_suc) refl
+braced_step may b due outcomes n c ts e = grind arith
 
 comma_step : (comma ts : List Token) (due outcomes : ℕ) (c : Content) (o : Result Content _)
     → (comma ≡ []) ⊎ (comma ≡ Comma ∷ [])
     → ((may : Bool) → run (at (braced_at may) due 0 outcomes c) ts ≡ o)
     → run (at p.AfterBracedPayoff due 0 outcomes c) (comma ++ ts) ≡ o
-comma_step comma ts due outcomes c o (inl e) h = rw e (h true)
-comma_step comma ts due outcomes c o (inr e) h = rw e (h false)
+comma_step comma ts due outcomes c o e h = grind (arith, h true, h false)
 
 pub braces_again : (numbers : List Ratio) (inner rest : List Token) (outcomes : ℕ) (c : Content)
     → Each IsPayoffInBraces inner numbers → (may : Bool)
     → run (at (braced_at may) (length numbers) 0 outcomes c) (inner ++ Closing ∷ rest) ≡ run (at
     p.InOutcomes 0 0 (next_outcome outcomes) (with_payoffs c numbers)) rest
-braces_again [] inner rest outcomes c h true = cc (with_no_payoffs c)
-braces_again [] inner rest outcomes c h false = cc (with_no_payoffs c)
+braces_again [] inner rest outcomes c h may = grind (arith, with_no_payoffs)
 braces_again (n ∷ numbers) inner rest outcomes c h may =
     let b = h.3.0 in
     let comma = h.3.1 in

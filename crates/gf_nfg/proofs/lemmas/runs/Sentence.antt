@@ -31,8 +31,7 @@ use Rattle.gf_nfg.proofs.lemmas.runs.Body.{Body, comment_found, flat_body_again,
 either_kind : (k : Kind) (inner : List Token) (strategies : Strategies)
     → Each (IsGroup k) inner strategies
     → Each IsCount inner strategies ⊎ Each IsLabelList inner strategies
-either_kind ByCounts inner strategies h = inl h
-either_kind ByLists inner strategies h = inr h
+either_kind k inner strategies h = grind arith
 
 pub kind_of : (inner : List Token) (strategies : Strategies)
     → Each IsCount inner strategies ⊎ Each IsLabelList inner strategies
@@ -55,8 +54,7 @@ strategies_mean ByLists strategies inner h some =
 
 labels_fit : (counts : List ℕ) (labels : List (List ℕ)) → length labels ≡ sum counts
     → HasLabels counts labels
-labels_fit counts [] e = tt
-labels_fit counts (label ∷ labels) e = e
+labels_fit counts labels e = grind arith
 
 labels_kept : (k : Kind) (strategies : Strategies)
     → HasLabels (map length strategies) (labels_in k strategies)
@@ -89,14 +87,12 @@ only_opening _ due c r e = absurd cc
 
 rows_chosen : (c : Content) (choices : List ℕ) → 0 < length choices
     → rows_by c choices ≡ map (row_of (length c.players) c.payoffs) choices
-rows_chosen c [] some = absurd (omega arith)
-rows_chosen c (k ∷ choices) some = refl
+rows_chosen c choices some = grind arith
 
 has_chosen : (c : Content) (outcomes : ℕ) (choices : List ℕ) → 0 < length choices
     → length c.payoffs ≡ length c.players * outcomes → length choices ≡ c.profiles
     → AllByRecursion (λ k. k ≤ outcomes) choices → HasPayoffs c choices
-has_chosen c outcomes [] some fits count known = absurd (omega arith)
-has_chosen c outcomes (k ∷ choices) some fits count known = (outcomes, fits, count, known)
+has_chosen c outcomes choices some fits count known = grind arith
 
 known_all : (n : ℕ) (choices : List ℕ) → AllByRecursion (λ k. k ≤ greatest n) choices
     → AllByRecursion (λ k. k ≤ n) choices

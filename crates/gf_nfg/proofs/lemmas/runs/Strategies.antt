@@ -57,27 +57,19 @@ with_counts c counts labels = record c {
 pub all_groups : (k : Kind) (strategies : Strategies) (c : Content)
     → all_in (with_group k) c strategies
     ≡ with_counts c (map length strategies) (labels_in k strategies)
-all_groups ByCounts [] c = grind (arith, append-nil, mul-one)
-all_groups ByLists [] c = grind (arith, append-nil, mul-one)
-all_groups ByCounts (labels ∷ strategies) c = grind (
+all_groups k [] c = grind (arith, append-nil, mul-one)
+all_groups k (labels ∷ strategies) c = grind (
   arith,
   append_assoc,
   append-nil,
   mul_assoc,
-  all_groups ByCounts strategies (with_count c (length labels)),
-)
-all_groups ByLists (labels ∷ strategies) c = grind (
-  arith,
-  append_assoc,
-  mul_assoc,
   joined,
-  all_groups ByLists strategies (with_count (with_labels c labels) (length labels)),
+  all_groups k strategies (with_group k c labels),
 )
 
 pub grows_by : (k : Kind) (c : Content) (labels : List (List ℕ))
     → (with_group k c labels).profiles ≡ c.profiles * length labels
-grows_by ByCounts c labels = refl
-grows_by ByLists c labels = refl
+grows_by k c labels = grind arith
 
 -- after the closing brace: a payoff is due for each player at each profile
 abbrev pub ended : Content → State
@@ -132,8 +124,7 @@ labels_found _ due from c r e = absurd cc
 listed_found : (s : State) (n : ℕ) (ts : List Token) (r : Content)
     → (listed s n >>= λ after. run after ts) ≡ Ok r
     → (0 < n) × (run (at p.BeforeList s.due 0 s.outcomes (with_count s.content n)) ts ≡ Ok r)
-listed_found s zero ts r e = absurd cc
-listed_found s (suc n) ts r e = (omega arith, e)
+listed_found s n ts r e = grind arith
 
 behind_front : {A : Type 0} (xs ys : List A) → length (xs ++ ys) - length xs ≡ length ys
 behind_front xs ys = omega (arith, length-append xs ys)
@@ -172,8 +163,7 @@ closed_found : (k : Kind) (ts : List Token) (c r : Content) → run (due_at k 0 
     → (rest : List Token) × (ts ≡ Closing ∷ rest) × (run (ended c) rest ≡ Ok r)
 closed_found ByCounts (Closing ∷ ts) c r e = (ts, refl, e)
 closed_found ByLists (Closing ∷ ts) c r e = (ts, refl, e)
-closed_found ByCounts _ c r e = absurd cc
-closed_found ByLists _ c r e = absurd cc
+closed_found k _ c r e = grind arith
 
 of_groups : (k : Kind) (ts : List Token) (due : ℕ) (c r : Content)
     → Groups (IsSome k) (due_at k) (with_group k) ts due c r → Read ts due c r
@@ -231,19 +221,16 @@ labels_walk (label ∷ labels) due from c =
 
 list_closed : (s : State) (n : ℕ) → 0 < n
     → listed s n ≡ Ok (at p.BeforeList s.due 0 s.outcomes (with_count s.content n))
-list_closed s zero some = absurd (omega arith)
-list_closed s (suc n) some = refl
+list_closed s n some = grind arith
 
 count_step : (q : Position) → Takes ByCounts q → (b : List ℕ) (n due : ℕ) (c : Content)
     → count_of b ≡ Some n
     → step (at q (suc due) 0 0 c) (Bare b) ≡ Ok (at p.Counts due 0 0 (with_count c n))
-count_step q (inl e) b n due c h = rw (e, not_zero, h, pred_suc) refl
-count_step q (inr e) b n due c h = rw (e, not_zero, h, pred_suc) refl
+count_step q takes b n due c h = grind arith
 
 open_step : (q : Position) → Takes ByLists q → (due : ℕ) (c : Content)
     → step (at q (suc due) 0 0 c) Opening ≡ Ok (at p.InList due (length c.labels) 0 c)
-open_step q (inl e) due c = rw (e, not_zero, pred_suc) refl
-open_step q (inr e) due c = rw (e, not_zero, pred_suc) refl
+open_step q takes due c = grind arith
 
 pub taken : (k : Kind) (q : Position) → Takes k q → (due : ℕ) (c : Content) (group : List Token)
     (labels : List (List ℕ)) → IsGroup k group labels → 0 < length labels
@@ -293,9 +280,7 @@ groups_walk k (labels ∷ strategies) inner q takes due c h some =
 
 closed : (k : Kind) (q : Position) → Takes k q → (rest : List Token) (c : Content)
     → run (at q 0 0 0 c) (Closing ∷ rest) ≡ run (ended c) rest
-closed k q (inl e) rest c = rw e refl
-closed ByCounts q (inr e) rest c = rw e refl
-closed ByLists q (inr e) rest c = rw e refl
+closed k q takes rest c = grind arith
 
 pub strategies_again : (k : Kind) (strategies : Strategies) (inner rest : List Token) (c : Content)
     → Each (IsGroup k) inner strategies → AllSome strategies
