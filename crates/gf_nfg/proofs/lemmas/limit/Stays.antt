@@ -1,9 +1,9 @@
 -- No token makes the number of profiles smaller, so above their limit they stay there.
-use Rattle.gf_nfg.proofs.Common.{◌≡◌, ℕ, ◌<◌, ◌≤◌, true, false, List, [], ◌∷◌, ◌++◌, length, Option}
-use Rattle.gf_nfg.proofs.Common.{Result, Ok, Err, sym, subst, ◌∙◌, arith, is_past, Token, What, Why}
-use Rattle.gf_nfg.proofs.Common.{Position, Table, Sentence, State, Content, step, run, start}
-use Rattle.gf_nfg.proofs.Common.{settled, due_at, ended, table_of, profile_limit, BeginsWithinLimit}
-use Rattle.gf_nfg.proofs.Common.{StaysWithinLimit, IsBareOrClosing}
+use Rattle.gf_nfg.proofs.Common.{◌≡◌, ℕ, ◌<◌, ◌≤◌, true, false, List, [], ◌∷◌, ◌++◌, length, Result}
+use Rattle.gf_nfg.proofs.Common.{Ok, Err, sym, subst, ◌∙◌, arith, is_past, Token, Why, Position}
+use Rattle.gf_nfg.proofs.Common.{Table, Sentence, State, Content, step, run, start, settled}
+use Rattle.gf_nfg.proofs.Common.{table_of, profile_limit, BeginsWithinLimit, StaysWithinLimit}
+use Rattle.gf_nfg.proofs.Common.{IsBareOrClosing}
 use Rattle.gf_nfg.specs.inner.Position.{Position as p}
 use Rattle.gf_nfg.proofs.lemmas.tables.Meaning.{length-entries}
 use Rattle.gf_nfg.proofs.lemmas.runs.Sentence.{sentence_found, sentence_again}
@@ -33,15 +33,10 @@ IsKept s (Err why) = Unit {0}
 kept : (s : State) (t : Token) → IsKept s (step s t)
 kept s t = grind arith
 
-bounded_by : (q : Position) (m n : ℕ) → IsKeptAt q m n → m ≤ profile_limit → is_past q n ≡ false
-    → n ≤ profile_limit
-bounded_by q m n h within not = grind arith
-
 pub bounded : (s after : State) (t : Token) → step s t ≡ Ok after
     → s.content.profiles ≤ profile_limit
     → is_past after.position after.content.profiles ≡ false → after.content.profiles ≤ profile_limit
-bounded s after t e within not = bounded_by after.position s.content.profiles
-    after.content.profiles (subst (IsKept s) e (kept s t)) within not
+bounded s after t e within not = let h = subst (IsKept s) e (kept s t) in grind arith
 
 pub past : (q : Position) (n : ℕ) → is_past q n ≡ true → profile_limit < n
 past q n h = grind arith
@@ -51,20 +46,14 @@ settles : (s after : State) (t : Token) → step s t ≡ Ok after → IsBareOrCl
     → IsSettled after.position
 settles s after t e h = grind arith
 
-ended_keeps : (c : Content) (o : Option What) (r : Content) → ended c o ≡ Ok r
-    → c.profiles ≤ r.profiles
-ended_keeps c o r h = grind arith
-
 -- a run that ends well has read no fewer profiles than there were
 
 pub run_grows : (ts : List Token) (s : State) (r : Content) → run s ts ≡ Ok r
     → s.content.profiles ≤ r.profiles
-run_grows [] s r e = ended_keeps s.content (due_at s.position s.due) r e
+run_grows [] s r e = grind arith
 run_grows (t ∷ ts) s r e =
     let h = then_ok (step s t) (λ x. run x ts) r e in
-    let first = step_grows s h.0 t h.1 in
-    let rest = run_grows ts h.0 r h.2 in
-    omega (arith, first, rest)
+    omega (arith, step_grows s h.0 t h.1, run_grows ts h.0 r h.2)
 
 -- ---- above the limit
 
@@ -74,9 +63,7 @@ walk_grows : (ts : List Token) (s after : State) → walk s ts ≡ Ok after
 walk_grows [] s after e = grind arith
 walk_grows (t ∷ ts) s after e =
     let h = then_ok (step s t) (λ x. walk x ts) after e in
-    let first = step_grows s h.0 t h.1 in
-    let rest = walk_grows ts h.0 after h.2 in
-    omega (arith, first, rest)
+    omega (arith, step_grows s h.0 t h.1, walk_grows ts h.0 after h.2)
 
 -- a file has the profiles that were read
 size_read : (ts : List Token) (r : Content) → run start ts ≡ Ok r

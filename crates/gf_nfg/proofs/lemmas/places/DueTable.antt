@@ -1,15 +1,14 @@
 -- What a row names is due there, and no other token may follow than those that it accepts.
-use Rattle.gf_nfg.proofs.Common.{◌≡◌, ℕ, zero, suc, Bool, true, false, List, [], ◌∷◌, length, map}
-use Rattle.gf_nfg.proofs.Common.{arith, Option, Some, None, Result, Ok, Err, refl, subst, ap, inl}
-use Rattle.gf_nfg.proofs.Common.{inr, ◌⊎◌, ◌↔◌, not, Token, Opening, Closing, Text, Bare, Broken}
-use Rattle.gf_nfg.proofs.Common.{What, Why, Expected, Position, MayFollow, IsStrategicFile, Role}
-use Rattle.gf_nfg.proofs.Common.{RoleIsDue, IsDue, Format, Version, Letter, Count, Payoff}
-use Rattle.gf_nfg.proofs.Common.{OutcomeNumber, State, Content, at, to, due_at, ended, step}
-use Rattle.gf_nfg.proofs.Common.{with_labels}
+use Rattle.gf_nfg.proofs.Common.{◌≡◌, ℕ, zero, suc, true, false, List, [], ◌∷◌, length, map, arith}
+use Rattle.gf_nfg.proofs.Common.{Option, Some, None, Ok, Err, refl, subst, ap, inl, inr, ◌⊎◌, ◌↔◌}
+use Rattle.gf_nfg.proofs.Common.{not, Token, Opening, Closing, Text, Bare, Broken, What, Why}
+use Rattle.gf_nfg.proofs.Common.{Expected, Position, MayFollow, IsStrategicFile, Role, RoleIsDue}
+use Rattle.gf_nfg.proofs.Common.{IsDue, Format, Version, Letter, Count, Payoff, OutcomeNumber}
+use Rattle.gf_nfg.proofs.Common.{State, Content, at, to, due_at, ended, step, with_labels}
 use Rattle.gf_token.specs.declared.fault.What.TheVariants as what
 use Rattle.gf_nfg.specs.inner.Position.{Position as p}
-use Rattle.gf_nfg.proofs.lemmas.places.DueRows.{Row, Accepts, AcceptsBare, Answers, answers, no}
-use Rattle.gf_nfg.proofs.lemmas.places.DueRows.{row_at, unfilled, has_some, listed_in}
+use Rattle.gf_nfg.proofs.lemmas.places.DueRows.{Row, Accepts, AcceptsBare, answers, no, row_at}
+use Rattle.gf_nfg.proofs.lemmas.places.DueRows.{unfilled, has_some, listed_in}
 use Rattle.gf_nfg.proofs.lemmas.runs.Walks.{Leads, walk}
 use Rattle.gf_nfg.proofs.lemmas.places.Walk.{follows, is_file, refused}
 
@@ -54,14 +53,8 @@ row_of s = row_at s.position s
 
 -- ---- an unterminated text is refused in each state
 
-broken_by : (unfilled : Bool) (row : Row) (o : Result State Why) → Answers unfilled row Broken o
-    → (why : Why) × (o ≡ Err why)
-broken_by unfilled row (Ok after) h = absurd (no h)
-broken_by unfilled row (Err why) h = (why, refl)
-
 pub broken_refused : (s : State) → (why : Why) × (step s Broken ≡ Err why)
-broken_refused s =
-    broken_by (unfilled s.position s) (row_of s) (step s Broken) (answers s.position s Broken)
+broken_refused s = let a = answers s.position s Broken in grind arith
 
 -- ---- texts after a refused brace
 
@@ -100,18 +93,14 @@ no_texts_follow q s e f = let b = broken_refused (to q s) in (b.0, rw b.1 refl)
 
 -- ---- what may follow
 
-by_step : (ts : List Token) (s : State) (unfilled : Bool) (token : Token) (o : Result State Why)
-    → Leads ts s → step s token ≡ o → Answers unfilled (row_of s) token o
-    → MayFollow IsStrategicFile ts token ↔ Accepts (row_of s) token
-by_step ts s unfilled token (Ok after) h e a = (λ _. a, λ _. follows ts token s after h e)
-by_step ts s unfilled token (Err why) h e a =
-    (λ f. absurd (refused ts token s why h e f), λ accepted. absurd (a.0 accepted))
-
 -- limits aside, a token may follow exactly if its row accepts it
 pub may_follow : (ts : List Token) (s : State) → Leads ts s → (token : Token)
     → MayFollow IsStrategicFile ts token ↔ Accepts (row_of s) token
-may_follow ts s h token = by_step ts s (unfilled s.position s) token (step s token) h refl
-    (answers s.position s token)
+may_follow ts s h token =
+    let a = answers s.position s token in
+    let b = λ (after : State). follows ts token s after h in
+    let d = λ (why : Why). refused ts token s why h in
+    grind (arith, a, b, d)
 
 pub role_is_due : (ts : List Token) (s : State) (role : Role) → Leads ts s
     → (row_of s).bare ≡ Some role → RoleIsDue ts role

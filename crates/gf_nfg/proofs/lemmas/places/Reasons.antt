@@ -9,7 +9,6 @@ use Rattle.gf_nfg.proofs.Common.{same_fault, Begins, MayFollow, IsStrategicFile,
 use Rattle.gf_nfg.proofs.Common.{RoleIsDue, IsDue, Format, Version, Letter, Count, Payoff}
 use Rattle.gf_nfg.proofs.Common.{OutcomeNumber, Applies, IsReason, count_of, Content, State, ended}
 use Rattle.gf_nfg.proofs.Common.{finish, step, index_is, index_again, count_is, count_again}
-use Rattle.gf_token.specs.declared.fault.What.TheVariants as what
 use Rattle.gf_fraction.specs.Computed.{number_of, lowest_of, gcd_within}
 use Rattle.gf_fraction.specs.declared.fraction.NumberFault.TheVariants as number
 use Rattle.gf_token.specs.Indices.{index_of}
@@ -142,8 +141,7 @@ differs bytes word differ same e = grind arith
 
 no_letter : (bytes : List ℕ) → ¬ (bytes ≡ codes "R") → ¬ (bytes ≡ codes "D")
     → ¬ (Suits Letter bytes)
-no_letter bytes r d (inl e) = r e
-no_letter bytes r d (inr e) = d e
+no_letter bytes r d h = grind arith
 
 follows_as : (ts : List Token) (s : State) (h : Leads ts s) (o : Option Role) (b : List ℕ)
     → (row_of s).bare ≡ o → MayFollow IsStrategicFile ts (Bare b) → AcceptsBare o b
@@ -186,8 +184,7 @@ bare_reason ts after b s h why (Some (OutcomeNumber outcomes)) e n (inr r) =
     rw r.0 ((outcomes, (due, r.1)), lowest_outcome ts b outcomes r.1.0 due r.1.1)
 
 is_false : (b : Bool) → ¬ (b ≡ true) → b ≡ false
-is_false true h = absurd (h refl)
-is_false false h = refl
+is_false b h = grind arith
 
 closing_reason : (ts after : List Token) (s : State) (h : Leads ts s) (why : Why) (empty : Bool)
     → unfilled s.position s ≡ empty → ¬ ((row_of s).closing ≡ true)
@@ -243,8 +240,7 @@ broken_reason ts after = (tt, lowest_broken ts)
 
 end_names : (c : Content) (expected named : What)
     → ended c (unless_end expected) ≡ Err (Expected named) → expected ≡ named
-end_names c what.End named e = absurd cc
-end_names c _ named e = cc
+end_names c expected named e = grind arith
 
 pub end_reason : (ts : List Token) (s : State) (named : What)
     → Leads ts s → finish s ≡ Err (Expected named) → IsReason (Expected named) ts []
