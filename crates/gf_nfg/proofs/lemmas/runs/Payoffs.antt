@@ -112,8 +112,8 @@ pub braces_found : (ts : List Token) (due outcomes : ℕ) (c r : Content)
     × (ts ≡ inner ++ Closing ∷ rest) × Each IsPayoffInBraces inner numbers × (length numbers ≡ due)
     × (run (at p.InOutcomes 0 0 (next_outcome outcomes) (with_payoffs c numbers)) rest ≡ Ok r)
 braces_found ts due outcomes c r e =
-    let h = groups_found IsPayoffInBraces (braced_due outcomes) with_one (one_braced outcomes) ts due
-    c r e in
+    let h = groups_found IsPayoffInBraces (braced_due outcomes) with_one (one_braced outcomes) ts
+    due c r e in
     let k = brace_found h.rest outcomes (all_in with_one c h.items) r h.goes_on in (
       h.items,
       h.inner,
