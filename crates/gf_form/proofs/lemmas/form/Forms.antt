@@ -108,12 +108,8 @@ one_strategic_form g =
     one_form_by (strategy_labels g) (ArePayoffsAt g) g
     (λ profile i a b. one_row g (choices_by g (strategies_at g profile)) a b (players_of g))
 
-pub labels_counted : (g : Game) → map length (map (strategy_labels g) (players_of g))
-    ≡ map (λ player. length (strategies g player)) (players_of g)
-labels_counted g = grind (arith, length-map, map_twice)
-
 pub all_profiles : (g : Game) → form_profiles (strategy_labels g) g ≡ full_profiles g
-all_profiles g = ap profiles (labels_counted g)
+all_profiles g = grind (arith, length-map, map_twice)
 
 pub strategic_form_exists : (g : Game) → ((t : Table) × IsStrategicForm g t) ↔ PaysFractions g
 strategic_form_exists g = (

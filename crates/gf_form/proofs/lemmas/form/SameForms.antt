@@ -1,18 +1,17 @@
 -- Games that a renumbering carries to each other have the same payoffs, bottom-up values and
 -- strategic form.
 use Rattle.gf_form.proofs.Common.{◌≡◌, ℕ, true, List, ◌∷◌, Option, Some, None, arith, MatchOption}
-use Rattle.gf_form.proofs.Common.{map, refl, ap, inl, inr, ◌↔◌, ◌==◌, ◌||◌, option_map}
-use Rattle.gf_form.proofs.Common.{option_and_then, unwrap_or, if◌then◌else◌, AllZip, option_map_or}
-use Rattle.gf_form.proofs.Common.{Ratio, IsFraction, IsEqual, zero_ratio, one_ratio, all_weaker}
+use Rattle.gf_form.proofs.Common.{map, refl, inl, inr, ◌↔◌, ◌==◌, ◌||◌, option_map, option_and_then}
+use Rattle.gf_form.proofs.Common.{unwrap_or, if◌then◌else◌, AllZip, option_map_or, Ratio}
+use Rattle.gf_form.proofs.Common.{IsFraction, IsEqual, zero_ratio, one_ratio, all_weaker}
 use Rattle.gf_form.proofs.Common.{at_position, Table, flatten, SetKey, InformationSet, same_set}
 use Rattle.gf_form.proofs.Common.{Described, Node, Game, IsGame, used_sets, set_at, outcome_at}
 use Rattle.gf_form.proofs.Common.{Renumbering, IsRenumbering, renumbered_set, renumbered_node}
 use Rattle.gf_form.proofs.Common.{renumbered, player_sets, player_keys, same_set_equality, Has}
 use Rattle.gf_form.proofs.Common.{all_of_each, filter_of_map, map_twice, same_tests, held}
 use Rattle.gf_form.proofs.Common.{sets_apart, SameGame, same_back, carried_is_renumbered}
-use Rattle.gf_form.proofs.Common.{action_counts, strategies, all_choices, players_of, choice_at}
-use Rattle.gf_form.proofs.Common.{choices_by, strategies_at, payoff, IsValue, ArePayoffs}
-use Rattle.gf_form.proofs.Common.{IsStrategicForm}
+use Rattle.gf_form.proofs.Common.{strategies, players_of, choice_at, choices_by, strategies_at}
+use Rattle.gf_form.proofs.Common.{payoff, IsValue, ArePayoffs, IsStrategicForm}
 use Rattle.gf_tree.specs.PrefixOrder.{Entry}
 use Rattle.gf_tree.proofs.lemmas.games.Carried.{entry_used}
 use Rattle.gf_tree.proofs.lemmas.games.Renumbered.{set_at_image, outcome_at_image}
@@ -44,9 +43,6 @@ module _ (g : Game) (r : Renumbering) (game : IsGame g) (is : IsRenumbering g r)
   pub key_used : (player : ℕ) (key : SetKey) → Has (player_keys g player) key
       → Has (used_sets g.tree) key
   key_used player key i = grind (arith, own_set, entry_used)
-
-  counts_carried : (player : ℕ) → action_counts h player ≡ action_counts g player
-  counts_carried player = grind (arith, sets_carried, map_twice)
 
   -- what a player's strategy chooses at a set
   pub strategy_carried : (player : ℕ) (strategy : List ℕ) (key : SetKey)
@@ -141,7 +137,7 @@ module _ (g : Game) (r : Renumbering) (game : IsGame g) (is : IsRenumbering g r)
   -- ---- the form
 
   pub strategies_carried : (player : ℕ) → strategies h player ≡ strategies g player
-  strategies_carried player = ap all_choices (counts_carried player)
+  strategies_carried player = grind (arith, sets_carried, map_twice)
 
   strategies_at_carried : (profile : List ℕ) → strategies_at h profile ≡ strategies_at g profile
   strategies_at_carried profile = grind (arith, strategies_carried)

@@ -1,11 +1,11 @@
 -- Demands by their digits, the slowest first: which digit a demand has at a set, what another
 -- action there changes, and which choices meet it.
-use Rattle.gf_form.proofs.Common.{◌≡◌, ℕ, zero, suc, ◌+◌, ◌-◌, ◌*◌, ◌/◌, ◌%◌, ◌<◌, ◌≤◌, Bool, true}
-use Rattle.gf_form.proofs.Common.{List, [], ◌∷◌, length, get_or, set, map, arith, refl, ap, ◌∙◌}
-use Rattle.gf_form.proofs.Common.{subst, inl, inr, ◌==◌, ◌&&◌, ◌||◌, ⊤, ◌∣◌, and_parts, cases_lt}
-use Rattle.gf_form.proofs.Common.{eq-eqb, lt-ltb, ne_eqb, div-mul_cancel, dvd-mul_left}
-use Rattle.gf_form.proofs.Common.{mod-eq_of_lt, mul-le-mul_right, mul_above, product, meets, spans}
-use Rattle.gf_form.proofs.Common.{steps_of, demanded}
+use Rattle.gf_form.proofs.Common.{◌≡◌, ℕ, zero, suc, ◌+◌, ◌-◌, ◌*◌, ◌/◌, ◌<◌, ◌≤◌, Bool, true, List}
+use Rattle.gf_form.proofs.Common.{[], ◌∷◌, length, get_or, set, map, arith, refl, ap, subst, inl}
+use Rattle.gf_form.proofs.Common.{inr, ◌==◌, ◌&&◌, ◌||◌, ⊤, ◌∣◌, and_parts, cases_lt, eq-eqb}
+use Rattle.gf_form.proofs.Common.{lt-ltb, ne_eqb, div-mul_cancel, dvd-mul_left, mod-eq_of_lt}
+use Rattle.gf_form.proofs.Common.{mul-le-mul_right, mul_above, product, meets, spans, steps_of}
+use Rattle.gf_form.proofs.Common.{demanded}
 use Rattle.std.proofs.lemmas.Bool.{le-leb, le-ltb, lt-leb}
 use Rattle.std.proofs.lemmas.Nat.{div-mul-add}
 use Rattle.std.proofs.Math.Nat.{add-mul-mod_self_right, dvd-mul_left_of_dvd, mul-add-div}
@@ -44,10 +44,6 @@ within_length actions ds h = grind arith
 
 -- ---- the digit at a place
 
-first_digit : (d n p r : ℕ) → d ≤ n → r < p → demanded (d * p + r) p n ≡ d
-first_digit d n p r h k =
-    ap (λ q. q % (n + 1)) (div-mul-add d p r k) ∙ mod-eq_of_lt (omega (arith, h))
-
 -- a slower digit counts for nothing
 faster_digit : (d p r s m : ℕ) → 0 < s → s * (m + 1) ∣ p → demanded (d * p + r) s m ≡ demanded r s m
 faster_digit d p r s m above h =
@@ -77,7 +73,7 @@ pub digit_is : (actions ds : List ℕ) (place : ℕ) → AreWithin actions ds �
     → demanded (pack actions ds) (get_or (steps_of actions) place 0) (get_or actions place 0)
     ≡ get_or ds place 0
 digit_is (n ∷ faster) (d ∷ ds) zero h within =
-    first_digit d n (product (spans faster)) (pack faster ds) h.0 (pack_below faster ds h.1)
+    grind (arith, pack, pack_below, div-mul-add, mod-eq_of_lt)
 digit_is (n ∷ faster) (d ∷ ds) (suc place) h within =
     let there : place < length faster = omega (arith, within) in
     grind (arith, faster_digit, step_above, step_divides, digit_is faster ds place h.1 there)
@@ -101,9 +97,6 @@ set_pack actions ds place k h within free = grind arith
 
 and_turned : (a b : Bool) → (a && b) ≡ (b && a)
 and_turned a b = grind arith
-
-and_grouped : (a b c : Bool) → (a && (b && c)) ≡ ((a && b) && c)
-and_grouped a b c = grind arith
 
 abbrev pub met : List ℕ → List ℕ → Bool
 met (c ∷ cs) (d ∷ ds) = (d == 0 || d == c) && met cs ds
@@ -141,8 +134,7 @@ pub met_set : (choices ds : List ℕ) (place k : ℕ) → length choices ≡ len
     → get_or ds place 0 ≡ 0 → 1 ≤ k
     → met choices (set ds place k) ≡ (met choices ds && k == get_or choices place 0)
 met_set (c ∷ cs) (d ∷ ds) (suc place) k e within free some =
-    let later = met_set cs ds place k (omega (arith, e)) (omega (arith, within)) free some in
-    grind (arith, and_grouped, later)
+    grind (arith, met_set cs ds place k (omega (arith, e)) (omega (arith, within)) free some)
 met_set choices ds place k e within free some = grind arith
 
 -- a demand that is met is the choice

@@ -1,20 +1,12 @@
 -- The nodes that pay somebody something have all shares.
-use Rattle.gf_form.proofs.Common.{◌≡◌, ℕ, suc, Bool, true, false, List, [], ◌∷◌, length, refl}
-use Rattle.gf_form.proofs.Common.{arith, Some, ℤ, pos, nat_lt, if◌then◌else◌, AllByRecursion}
-use Rattle.gf_form.proofs.Common.{HasValue, IsFraction, Ratio, zero_ratio, SetKey, Game, IsGame}
-use Rattle.gf_form.proofs.Common.{IsSpellable, steps_of, is_paid, paid_reached, reached, root_path}
-use Rattle.gf_form.proofs.Common.{ArePaid, at_place, AreDigits, FitsAt, IsExactIfMet, met_bounds}
-use Rattle.gf_form.proofs.Common.{pay_at, share, share_bound, sum_of_shares, value, Reached}
+use Rattle.gf_form.proofs.Common.{◌≡◌, ℕ, suc, false, List, [], ◌∷◌, length, refl, arith, Some, pos}
+use Rattle.gf_form.proofs.Common.{nat_lt, AllByRecursion, HasValue, IsFraction, Ratio, zero_ratio}
+use Rattle.gf_form.proofs.Common.{SetKey, Game, IsGame, IsSpellable, steps_of, is_paid}
+use Rattle.gf_form.proofs.Common.{paid_reached, reached, root_path, ArePaid, at_place, AreDigits}
+use Rattle.gf_form.proofs.Common.{FitsAt, IsExactIfMet, met_bounds, pay_at, share, share_bound}
+use Rattle.gf_form.proofs.Common.{sum_of_shares, value, Reached}
 use Rattle.std.specs.List.{filter}
 use Rattle.gf_form.proofs.lemmas.rows.ReachedValues.{reached_value}
-
-unpaid : (b : Bool) (z : ℤ) → z ≡ pos 0 → (if b then z else pos 0) ≡ pos 0
-unpaid true z nothing = nothing
-unpaid false z nothing = refl
-
-unbound : (b : Bool) (n : ℕ) → n ≡ 0 → (if b then n else 0) ≡ 0
-unbound true n nothing = nothing
-unbound false n nothing = refl
 
 empty_row : (row : List Ratio) (k : ℕ) → nat_lt 0 (length row) ≡ false → at_place row k ≡ zero_ratio
 empty_row [] k h = refl
@@ -33,14 +25,14 @@ module _ (g : Game) (den : ℕ) (rows : List (List Ratio)) (are : ArePaid g rows
       ≡ sum_of_shares g (suc k) den steps choices rs
   kept_shares k steps choices [] = refl
   kept_shares k steps choices (r ∷ rs) =
-      grind (arith, unpaid, no_share, empty_row, kept_shares k steps choices rs)
+      grind (arith, no_share, empty_row, kept_shares k steps choices rs)
 
   kept_bounds : (k : ℕ) (steps choices : List ℕ) (rs : List Reached)
       → met_bounds g (suc k) den steps choices (filter (is_paid rows) rs)
       ≡ met_bounds g (suc k) den steps choices rs
   kept_bounds k steps choices [] = refl
   kept_bounds k steps choices (r ∷ rs) =
-      grind (arith, unbound, no_bound, empty_row, kept_bounds k steps choices rs)
+      grind (arith, no_bound, empty_row, kept_bounds k steps choices rs)
 
   kept_exact : (k : ℕ) (steps choices : List ℕ) (rs : List Reached)
       → AllByRecursion (IsExactIfMet g (suc k) den steps choices) (filter (is_paid rows) rs)

@@ -1,4 +1,5 @@
--- The digits of the sets along a path, and that nothing is added if choices do not meet them.
+-- The digits of the sets along a path, where it goes on below a node, and that nothing is added if
+-- choices do not meet the digits.
 use Rattle.gf_form.proofs.Common.{◌≡◌, ℕ, zero, suc, pos, ◌+◌, ◌^◌, ◌<◌, ◌≤◌, Bool, true, false}
 use Rattle.gf_form.proofs.Common.{List, ◌++◌, Option, Some, None, MatchOption, length, get_or, set}
 use Rattle.gf_form.proofs.Common.{refl, ap, sym, ◌∙◌, arith, ℤ, ◌==◌, ◌&&◌, option_map}

@@ -46,13 +46,9 @@ each_any o = grind arith
 pub next_position : {A : Type 0} (xs : List A) (i : ℕ) → at_position xs (1 + i) ≡ slice_get xs i
 next_position xs i = let next : 1 + i ≡ suc i = omega arith in ap (at_position xs) next
 
-pub next_strategy : {A : Type 0} (xs : List (List A)) (i : ℕ)
-    → strategy_at xs (1 + i) ≡ get_or xs i []
-next_strategy xs i = ap (λ o. unwrap_or o []) (next_position xs i) ∙ unwrap_or-slice_get xs i []
-
 pub strategy_before : {A : Type 0} (xs : List (List A)) (position : ℕ) → 1 ≤ position
     → strategy_at xs position ≡ get_or xs (position - 1) []
-strategy_before xs position above = grind (arith, next_strategy xs (position - 1))
+strategy_before xs position above = grind (arith, next_position, unwrap_or-slice_get)
 
 -- numbers in turn give the elements of a list in turn
 pub in_turn : {A : Type 0} (f : ℕ → A) (k : ℕ) (xs : List A) (d : A)

@@ -22,24 +22,6 @@ pub all_at : {A : Type 0} (P : A → Type 0) (xs : List A) (i : ℕ) (d : A) →
 all_at P (x ∷ xs) (suc i) d h less = all_at P xs i d h.1 (omega (arith, less))
 all_at P xs i d h less = grind arith
 
-pub choices_next : (count : ℕ) (counts : List ℕ) (rest : ℕ) → 0 < product counts
-    → rest < count * product counts → get_or (all_choices (count ∷ counts)) rest []
-    ≡ (rest / product counts + 1) ∷ get_or (all_choices counts) (rest % product counts) []
-choices_next count counts rest some below =
-    let p = product counts in
-    let others = get_or (all_choices counts) (rest % p) [] in
-    let inside : rest % p < length (all_choices counts) =
-    omega (arith, mod-lt rest some, length-all_choices counts) in
-    let first : rest / p < count = (div-lt_iff_lt-mul some).1 below in
-    let there = at_its_place (count ∷ counts) ((rest / p + 1) ∷ others) (
-      (omega arith, omega (arith, first)),
-      all_at (IsChoice counts) (all_choices counts) (rest % p) [] (are_choices counts) inside,
-    ) in
-    let less : rest / p + 1 - 1 ≡ rest / p = omega arith in
-    let placed : (rest / p + 1 - 1) * p + place counts others ≡ rest =
-    rw less (omega (arith, place_at counts (rest % p) [] inside, div-add-mod rest p)) in
-    rw placed at there.1
-
 -- ---- sets that come after others
 
 both_choices : (xs ys f b : List ℕ) → IsChoice xs f → IsChoice ys b → IsChoice (xs ++ ys) (f ++ b)
@@ -65,6 +47,29 @@ joined_at xs ys i j hi hj =
     (all_at (IsChoice ys) (all_choices ys) j [] (are_choices ys) in_ys) in
     let number = both.1 ∙ (λ k. place_at xs i [] in_xs k * product ys + place_at ys j [] in_ys k) in
     grind (arith, at_its_place, number)
+
+-- an action at the first set, and a choice at the others
+pub choices_row : (n : ℕ) (counts : List ℕ) (before k : ℕ) → before < n → k < product counts
+    → get_or (all_choices (n ∷ counts)) (before * product counts + k) []
+    ≡ (before + 1) ∷ get_or (all_choices counts) k []
+choices_row n counts before k within less =
+    let one : (before + 1 - 1) * 1 + 0 ≡ before = omega arith in
+    let alone = at_its_place (n ∷ []) ((before + 1) ∷ []) ((omega arith, omega (arith, within)), tt)
+    in
+    (joined_at (n ∷ []) counts before k (omega (arith, within)) less).1
+    ∙ ap (λ (c : List ℕ). c ++ get_or (all_choices counts) k []) (rw one at alone.1)
+
+pub choices_next : (count : ℕ) (counts : List ℕ) (rest : ℕ) → 0 < product counts
+    → rest < count * product counts → get_or (all_choices (count ∷ counts)) rest []
+    ≡ (rest / product counts + 1) ∷ get_or (all_choices counts) (rest % product counts) []
+choices_next count counts rest some below =
+    let whole : rest / product counts * product counts + rest % product counts ≡ rest =
+    omega (arith, div-add-mod rest (product counts)) in
+    ap (λ (m : ℕ). get_or (all_choices (count ∷ counts)) m []) (sym whole)
+    ∙ choices_row count counts (rest / product counts) (rest % product counts)
+    ((div-lt_iff_lt-mul some).1 below) (mod-lt rest some)
+
+-- ---- one action after another
 
 -- what is written, and what is left to be
 pub record Goes (counts : List ℕ) (number i stride rest : ℕ) (strategy : List ℕ) : Type 0 where

@@ -1,11 +1,11 @@
 -- Which plays follow the same choices.
 use Rattle.gf_form.proofs.Common.{◌≡◌, ℕ, suc, ◌+◌, ◌<◌, ◌≤◌, Bool, true, false, List, [], ◌∷◌}
 use Rattle.gf_form.proofs.Common.{◌++◌, Option, Some, MatchOption, length, map, refl, sym, ap, ◌∙◌}
-use Rattle.gf_form.proofs.Common.{subst, arith, inl, inr, ◌⊎◌, ◌↔◌, ◌==◌, ◌||◌, option_map}
-use Rattle.gf_form.proofs.Common.{AllByRecursion, list_all, option_map_or, eqb-true, all_parts}
-use Rattle.gf_form.proofs.Common.{Tree, Trees, count, branch, none, more, flatten, flatten_all}
-use Rattle.gf_form.proofs.Common.{SetKey, Node, Game, HasChildren, set_at, Has, mapped_from, Step}
-use Rattle.gf_form.proofs.Common.{Play, from_node, plays, plays_from, is_chosen, follows}
+use Rattle.gf_form.proofs.Common.{subst, arith, inl, inr, ◌⊎◌, ◌↔◌, ◌==◌, option_map}
+use Rattle.gf_form.proofs.Common.{AllByRecursion, list_all, eqb-true, all_parts, Tree, Trees, count}
+use Rattle.gf_form.proofs.Common.{branch, none, more, flatten, flatten_all, SetKey, Node, Game}
+use Rattle.gf_form.proofs.Common.{HasChildren, set_at, Has, mapped_from, Step, Play, from_node}
+use Rattle.gf_form.proofs.Common.{plays, plays_from, is_chosen, follows}
 use Rattle.gf_form.specs.Plays.{PartAtChance}
 
 -- ---- a play's moves are the choices
@@ -14,11 +14,6 @@ use Rattle.gf_form.specs.Plays.{PartAtChance}
 abbrev Chooses : (SetKey → ℕ) → Option SetKey → ℕ → Type 0
 Chooses choices o k = (key : SetKey) → o ≡ Some key → 0 < key.player → choices key ≡ k
 
-chosen_move : (choices : SetKey → ℕ) (o : Option SetKey) (k : ℕ)
-    → (option_map_or (λ key. key.player == 0 || choices key == k) o true ≡ true)
-    ↔ Chooses choices o k
-chosen_move choices o k = grind arith
-
 abbrev pub ChoosesMoves : (SetKey → ℕ) → List Step → Type 0
 ChoosesMoves choices steps = AllByRecursion
     (λ s. (key : SetKey) → s.node.set ≡ Some key → 0 < key.player → choices key ≡ s.taken) steps
@@ -26,8 +21,7 @@ ChoosesMoves choices steps = AllByRecursion
 chosen_moves : (choices : SetKey → ℕ) (steps : List Step)
     → (list_all (is_chosen choices) steps ≡ true) ↔ ChoosesMoves choices steps
 chosen_moves choices [] = (λ h. tt, λ h. refl)
-chosen_moves choices (s ∷ steps) =
-    grind (arith, chosen_move choices s.node.set s.taken, chosen_moves choices steps)
+chosen_moves choices (s ∷ steps) = grind (arith, chosen_moves choices steps)
 
 pub follows_moves : (choices : SetKey → ℕ) (play : Play)
     → (follows choices play ≡ true) ↔ ChoosesMoves choices play.steps

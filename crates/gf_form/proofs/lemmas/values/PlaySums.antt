@@ -24,10 +24,6 @@ module _ (choices : SetKey → ℕ) (n : Node) (k : ℕ) where
       → cond (a && b) (from_node n k p ∷ ps) ps ≡ map (from_node n k) (cond b (p ∷ qs) qs)
   kept a b p ps qs e h = grind arith
 
-  dropped : (a b : Bool) (p : Play) (ps : List Play) → a ≡ false → ps ≡ []
-      → cond (a && b) (p ∷ ps) ps ≡ []
-  dropped a b p ps e h = grind arith
-
   pub followed_chosen : is_chosen choices (record { node = n; taken = k }) ≡ true → (ps : List Play)
       → filter (follows choices) (map (from_node n k) ps)
       ≡ map (from_node n k) (filter (follows choices) ps)
@@ -37,7 +33,7 @@ module _ (choices : SetKey → ℕ) (n : Node) (k : ℕ) where
   pub followed_other : is_chosen choices (record { node = n; taken = k }) ≡ false → (ps : List Play)
       → filter (follows choices) (map (from_node n k) ps) ≡ []
   followed_other e [] = refl
-  followed_other e (p ∷ ps) = grind (arith, dropped, followed_other e ps)
+  followed_other e (p ∷ ps) = grind (arith, followed_other e ps)
 
 module _ (g : Game) (spellable : IsSpellable g) where
   abbrev pub weight : List Play → Ratio

@@ -1,15 +1,14 @@
 -- The plays that follow choices of actions have probability one in all, so there are some.
-use Rattle.gf_form.proofs.Common.{◌≡◌, ℕ, zero, suc, pos, ◌+◌, ◌<◌, ◌≤◌, Bool, true, false, List}
-use Rattle.gf_form.proofs.Common.{[], ◌∷◌, Option, Some, None, MatchOption, length, map, refl, sym}
-use Rattle.gf_form.proofs.Common.{ap, subst, arith, inl, ◌==◌, option_map, unsigned_abs}
-use Rattle.gf_form.proofs.Common.{AllByRecursion, Contains, Ratio, IsEqual, zero_ratio, one_ratio}
-use Rattle.gf_form.proofs.Common.{times, total, all_parts, equal_refl, times_comm, times_one}
-use Rattle.gf_form.proofs.Common.{IsAbove, ◌then◌, back, plus_left, plus_right, times_left}
-use Rattle.gf_form.proofs.Common.{times_right, numbers_from, Tree, Trees, count, branch, none, more}
-use Rattle.gf_form.proofs.Common.{flatten, flatten_all, SetKey, InformationSet, Node, Game, IsGame}
-use Rattle.gf_form.proofs.Common.{HasChildren, set_at, IsSpellable, Has, contains, of_filter, Play}
-use Rattle.gf_form.proofs.Common.{from_node, is_chosen, follows, plays, HasActions, probability}
-use Rattle.gf_form.proofs.Common.{play_probability}
+use Rattle.gf_form.proofs.Common.{◌≡◌, ℕ, zero, suc, ◌+◌, ◌<◌, ◌≤◌, Bool, true, false, List, []}
+use Rattle.gf_form.proofs.Common.{◌∷◌, Option, Some, None, MatchOption, length, map, refl, sym}
+use Rattle.gf_form.proofs.Common.{subst, arith, inl, ◌==◌, option_map, AllByRecursion, Contains}
+use Rattle.gf_form.proofs.Common.{Ratio, IsEqual, zero_ratio, one_ratio, times, total, all_parts}
+use Rattle.gf_form.proofs.Common.{equal_refl, times_comm, times_one, IsAbove, ◌then◌, back}
+use Rattle.gf_form.proofs.Common.{plus_left, plus_right, times_left, times_right, numbers_from}
+use Rattle.gf_form.proofs.Common.{Tree, Trees, count, branch, none, more, flatten, flatten_all}
+use Rattle.gf_form.proofs.Common.{SetKey, InformationSet, Node, Game, IsGame, HasChildren, set_at}
+use Rattle.gf_form.proofs.Common.{IsSpellable, Has, contains, of_filter, Play, from_node, is_chosen}
+use Rattle.gf_form.proofs.Common.{follows, plays, HasActions, probability, play_probability}
 use Rattle.gf_form.proofs.lemmas.values.Denominators.{probability_above, play_probability_above}
 use Rattle.gf_form.proofs.lemmas.values.Lotteries.{actions_at, chances_add, no_chance}
 use Rattle.gf_form.proofs.lemmas.values.PlaySums.{sum_joined, weight, weight_above, weight_after}
@@ -166,12 +165,9 @@ module _ (g : Game) (game : IsGame g) (spellable : IsSpellable g) (choices : Set
   pub whole : HasActions g choices → IsWhole (followed_in choices g.tree)
   whole actions = tree_whole actions g.tree game.children
 
-  same_size : (m n : ℕ) → pos m ≡ pos n → m ≡ n
-  same_size m n h = ap unsigned_abs h
-
   -- what is not empty has a play in it
   first_of : (ps : List Play) → IsWhole ps → (play : Play) × Has ps play
-  first_of [] h = let none = same_size 0 1 h.crosswise in absurd (omega arith)
+  first_of [] h = grind arith
   first_of (p ∷ ps) h = (p, inl refl)
 
   pub some_play_in : HasActions g choices → (t : Tree Node) → AllByRecursion (HasChildren g)
