@@ -38,9 +38,6 @@ pub each_or : {A : Type 0} (P : A → Type 0) (o : Option A) (default : A) → P
     → P (unwrap_or o default)
 each_or P o default d h = grind arith
 
-pub each_any : {A : Type 0} (o : Option A) → Each (λ _. ⊤) o
-each_any o = grind arith
-
 -- ---- positions
 
 pub next_position : {A : Type 0} (xs : List A) (i : ℕ) → at_position xs (1 + i) ≡ slice_get xs i

@@ -100,7 +100,7 @@ module _ (g : Game) (game : IsGame g) (spellable : IsSpellable g) (player : ℕ)
       let times_w = times_above (own n) (w first) (own_above n) (w_above first) in
       let times_later = times_above (own n) (w later) (own_above n) (w_above later) in
       let first_paid : IsEqual (e first) (plus (times (own n) (w first)) y) =
-      worth_after g spellable player n k ps
+      worth_after g spellable n k player ps
       then times_plus (q n k) (times (own n) (w ps)) (e ps) (q_above n k)
       (times_above (own n) (w ps) (own_above n) (w_above ps)) (e_above ps)
       then plus_both (times (q n k) (times (own n) (w ps))) (times (own n) (w first))
@@ -150,7 +150,7 @@ module _ (g : Game) (game : IsGame g) (spellable : IsSpellable g) (player : ℕ)
         whole = this_whole g game spellable choices n key k t ts at personal same pays.whole;
         paid = subst (λ l. IsEqual (plus (own n) value) (e l))
             (sym (only_this choices n key at personal k t ts same))
-            (back (worth_after g spellable player n k ps
+            (back (worth_after g spellable n k player ps
             then by_one (q n k) (plus (times (own n) (w ps)) (e ps))
             (plus_above (times (own n) (w ps)) (e ps) times_w (e_above ps)) sure
             then plus_both (times (own n) (w ps)) (own n) (e ps) value

@@ -8,7 +8,7 @@ use Rattle.gf_form.proofs.Common.{play_payoff}
 use Rattle.gf_fraction.proofs.Rationals.{ratio_product_above}
 use Rattle.gf_tree.specs.Spellable.{IsSpellableAction, IsSpellableSet, IsSpellableOutcome}
 use Rattle.gf_form.proofs.lemmas.strategies.Lookups.{Each, each_at, each_described, each_then}
-use Rattle.gf_form.proofs.lemmas.strategies.Lookups.{each_or, each_any}
+use Rattle.gf_form.proofs.lemmas.strategies.Lookups.{each_or}
 
 -- what is so of the actions of a node's set is so of the one that is taken there
 pub each_action : (g : Game) (P : Action → Type 0) (s : Step)
@@ -61,7 +61,7 @@ module _ (g : Game) (spellable : IsSpellable g) where
       (λ number _. each_then (λ outcome. AllByRecursion IsFraction outcome.payoffs) IsFraction
       (λ outcome. at_position outcome.payoffs player) (outcome_at g number)
       (λ outcome h. each_at IsFraction outcome.payoffs player h) (payoffs_of number))
-      (each_any n.outcome))
+      (grind arith))
 
   pub payoff_above : (player : ℕ) (n : Node) → IsAbove (payoff_at g player n)
   payoff_above player n = (payoff_fraction player n).den_above_zero

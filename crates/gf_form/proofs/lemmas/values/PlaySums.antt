@@ -42,6 +42,13 @@ module _ (g : Game) (spellable : IsSpellable g) where
   pub weight_above : (ps : List Play) → IsAbove (weight ps)
   weight_above ps = total_above (play_probability g) (play_probability_above g spellable) ps
 
+  module _ (player : ℕ) where
+    abbrev pub worth : List Play → Ratio
+    worth ps = total (map (λ play. times (play_probability g play) (play_payoff g player play)) ps)
+
+    pub all_worth_above : (ps : List Play) → IsAbove (worth ps)
+    all_worth_above ps = grind (arith, total_above, worth_above)
+
   module _ (n : Node) (k : ℕ) where
     abbrev q : Ratio
     q = probability g (record { node = n; taken = k })
@@ -59,60 +66,47 @@ module _ (g : Game) (spellable : IsSpellable g) where
         then back (times_plus q (play_probability g p) (weight ps) q_above
         (play_probability_above g spellable p) (weight_above ps))
 
-module _ (g : Game) (spellable : IsSpellable g) (player : ℕ) where
-  abbrev pub worth : List Play → Ratio
-  worth ps = total (map (λ play. times (play_probability g play) (play_payoff g player play)) ps)
+    module _ (player : ℕ) where
+      abbrev own : Ratio
+      own = payoff_at g player n
 
-  pub all_worth_above : (ps : List Play) → IsAbove (worth ps)
-  all_worth_above ps = grind (arith, total_above, worth_above)
+      own_above : IsAbove own
+      own_above = payoff_above g spellable player n
 
-  module _ (n : Node) (k : ℕ) where
-    abbrev r : Ratio
-    r = probability g (record { node = n; taken = k })
-
-    r_above : IsAbove r
-    r_above = probability_above g spellable (record { node = n; taken = k })
-
-    abbrev own : Ratio
-    own = payoff_at g player n
-
-    own_above : IsAbove own
-    own_above = payoff_above g spellable player n
-
-    pub worth_after : (ps : List Play) → IsEqual (worth (map (from_node n k) ps))
-        (times r (plus (times own (weight g spellable ps)) (worth ps)))
-    worth_after [] =
-        back (times_right r r_above (plus_left zero_ratio (omega arith) (times_zero own own_above)
-        then plus_zero zero_ratio (omega arith)) then times_zero r r_above)
-    worth_after (p ∷ ps) =
-        let chance = play_probability g p in
-        let pay = play_payoff g player p in
-        let chance_above = play_probability_above g spellable p in
-        let pay_above = play_payoff_above g spellable player p in
-        let w = weight g spellable ps in
-        let e = worth ps in
-        let w_above = weight_above g spellable ps in
-        let e_above = all_worth_above ps in
-        let first = times chance (plus own pay) in
-        let first_above =
-        times_above chance (plus own pay) chance_above (plus_above own pay own_above pay_above) in
-        let others = plus (times own w) e in
-        let others_above =
-        plus_above (times own w) e (times_above own w own_above w_above) e_above in
-        let split = times_plus chance own pay chance_above own_above pay_above then plus_left (times
-        chance pay) (times_above chance pay chance_above pay_above) (times_comm chance own
-        chance_above own_above) in
-        let sum = plus_left others others_above split then plus_across (times own chance) (times
-        chance pay) (times own w) e (times_above own chance own_above chance_above) (times_above
-        chance pay chance_above pay_above) (times_above own w own_above w_above) e_above then
-        plus_left (plus (times chance pay) e) (plus_above (times chance pay) e (times_above chance
-        pay chance_above pay_above) e_above) (back (times_plus own chance w own_above chance_above
-        w_above)) in
-        grind (
-          arith,
-          plus_left (worth (map (from_node n k) ps)) (all_worth_above (map (from_node n
-              k) ps)) (times_assoc r chance (plus own pay) r_above chance_above (plus_above own pay
-              own_above pay_above)) then plus_right (times r first) (times_above r first r_above
-              first_above) (worth_after ps) then back (times_plus r first others r_above first_above
-              others_above) then times_right r r_above sum,
-        )
+      pub worth_after : (ps : List Play) → IsEqual (worth player (map (from_node n k) ps))
+          (times q (plus (times own (weight ps)) (worth player ps)))
+      worth_after [] =
+          back (times_right q q_above (plus_left zero_ratio (omega arith) (times_zero own own_above)
+          then plus_zero zero_ratio (omega arith)) then times_zero q q_above)
+      worth_after (p ∷ ps) =
+          let chance = play_probability g p in
+          let pay = play_payoff g player p in
+          let chance_above = play_probability_above g spellable p in
+          let pay_above = play_payoff_above g spellable player p in
+          let w = weight ps in
+          let e = worth player ps in
+          let w_above = weight_above ps in
+          let e_above = all_worth_above player ps in
+          let first = times chance (plus own pay) in
+          let first_above =
+          times_above chance (plus own pay) chance_above (plus_above own pay own_above pay_above) in
+          let others = plus (times own w) e in
+          let others_above =
+          plus_above (times own w) e (times_above own w own_above w_above) e_above in
+          let split = times_plus chance own pay chance_above own_above pay_above then plus_left
+          (times chance pay) (times_above chance pay chance_above pay_above) (times_comm chance own
+          chance_above own_above) in
+          let sum = plus_left others others_above split then plus_across (times own chance) (times
+          chance pay) (times own w) e (times_above own chance own_above chance_above) (times_above
+          chance pay chance_above pay_above) (times_above own w own_above w_above) e_above then
+          plus_left (plus (times chance pay) e) (plus_above (times chance pay) e (times_above chance
+          pay chance_above pay_above) e_above) (back (times_plus own chance w own_above chance_above
+          w_above)) in
+          grind (
+            arith,
+            plus_left (worth player (map (from_node n k) ps)) (all_worth_above player (map
+                (from_node n k) ps)) (times_assoc q chance (plus own pay) q_above chance_above
+                (plus_above own pay own_above pay_above)) then plus_right (times q first)
+                (times_above q first q_above first_above) (worth_after ps) then back (times_plus q
+                first others q_above first_above others_above) then times_right q q_above sum,
+          )
