@@ -149,7 +149,7 @@ pub use Rattle.std.proofs.Common.{arith, suc, Bool, true, false, cond, subst, re
 pub use Rattle.std.proofs.Common.{Option, Some, None, MatchOption, option_map, ℤ, pos, ◌+◌, ◌-◌}
 pub use Rattle.std.proofs.Common.{◌^◌, get_or, nat_eq, ◌*ℤ◌, ◌++◌, ◌&&◌, zero, take, add-one, drop}
 pub use Rattle.std.proofs.Common.{append_assoc, set, ◌/◌, ◌%◌, ◌⊎◌, slice_get, Vec, Global, ◌+ℤ◌}
-pub use Rattle.std.proofs.Common.{lit<, Err, OnOk, rules, of_z, to_z}
+pub use Rattle.std.proofs.Common.{lit<, Err, OnOk, rules, of_z, to_z, vec_capacity, vec_len}
 pub use Rattle.std.proofs.Math.Bool.{or-false}
 pub use Rattle.std.proofs.Math.IntN.{zero-*ℤ, +ℤ_assoc, +ℤ_idl, *ℤ_comm, *ℤ-zero}
 pub use Rattle.std.proofs.Math.ListN.{drop_of_length-le}

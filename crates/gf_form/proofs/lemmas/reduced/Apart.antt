@@ -1,26 +1,15 @@
 -- Strategies that agree with the same plays reduce to the same one.
-use Rattle.std.proofs.Common.{◌≡◌, ℕ, ◌+◌, ◌<◌, ◌≤◌, Bool, true, false, List, [], ◌∷◌, ◌++◌, Option}
-use Rattle.std.proofs.Common.{Some, None, length, map, refl, sym, ap, ◌∙◌, subst, arith, inl, inr}
-use Rattle.std.specs.Prelude.{◌==◌, ◌||◌, ◌&&◌, not, if◌then◌else◌}
-use Rattle.std.specs.List.{AllByRecursion, Contains, list_all, list_any}
-use Rattle.std.specs.Option.{option_map_or}
-use Rattle.std.proofs.lemmas.Bool.{and_from, and_parts, cases_Bool}
-use Rattle.std.proofs.lemmas.Bool.{eqb-true, false≢true}
-use Rattle.gf_fraction.proofs.AllElements.{all_parts}
-use Rattle.gf_tree.specs.Tree.{Tree, Trees}
-use Rattle.gf_tree.specs.Tree.Tree.{branch}
-use Rattle.gf_tree.specs.Tree.Trees.{none, more}
-use Rattle.gf_tree.specs.PrefixOrder.{flatten, flatten_all}
-use Rattle.gf_tree.specs.Description.{SetKey, same_set}
-use Rattle.gf_tree.specs.Game.{Node, Game, IsGame, HasChildren}
-use Rattle.gf_tree.specs.Spellable.{IsSpellable}
-use Rattle.gf_tree.specs.FirstUse.{player_keys}
-use Rattle.gf_tree.proofs.lemmas.games.TreesOnce.{same_set_equality}
-use Rattle.gf_tree.proofs.lemmas.games.Uses.{Has, contains, has_map}
-use Rattle.gf_tree.proofs.lemmas.games.Members.{map_same, in_left, in_right}
-use Rattle.gf_form.specs.Strategies.{choice_at, strategies}
-use Rattle.gf_form.specs.Plays.{Step, Play, from_node, is_chosen, plays, plays_from, HasActions}
-use Rattle.gf_form.specs.Reduced.{is_own_choice, agrees, comes_to, is_relevant, reduced}
+use Rattle.gf_form.proofs.Common.{◌≡◌, ℕ, ◌+◌, ◌<◌, ◌≤◌, Bool, true, false, List, [], ◌∷◌, ◌++◌}
+use Rattle.gf_form.proofs.Common.{Option, Some, None, length, map, refl, sym, ap, ◌∙◌, subst, arith}
+use Rattle.gf_form.proofs.Common.{inl, inr, ◌==◌, ◌||◌, ◌&&◌, not, if◌then◌else◌, AllByRecursion}
+use Rattle.gf_form.proofs.Common.{Contains, list_all, list_any, option_map_or, and_from, and_parts}
+use Rattle.gf_form.proofs.Common.{eqb-true, false≢true, all_parts, Tree, Trees, branch, none, more}
+use Rattle.gf_form.proofs.Common.{flatten, flatten_all, SetKey, same_set, Node, Game, IsGame}
+use Rattle.gf_form.proofs.Common.{HasChildren, IsSpellable, player_keys, same_set_equality, Has}
+use Rattle.gf_form.proofs.Common.{contains, has_map, map_same, in_left, in_right, choice_at}
+use Rattle.gf_form.proofs.Common.{strategies, Step, Play, from_node, is_chosen, plays, plays_from}
+use Rattle.gf_form.proofs.Common.{HasActions, is_own_choice, agrees, comes_to, is_relevant, reduced}
+use Rattle.std.proofs.lemmas.Bool.{cases_Bool}
 use Rattle.gf_form.proofs.lemmas.strategies.Chosen.{his_actions}
 use Rattle.gf_form.proofs.lemmas.values.Following.{IsPlayOf, play_of, taken_child}
 use Rattle.gf_form.proofs.lemmas.values.Lotteries.{actions_at}

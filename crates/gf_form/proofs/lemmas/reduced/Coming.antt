@@ -1,23 +1,13 @@
 -- A set is relevant exactly if the choices come to it in the tree.
-use Rattle.std.proofs.Common.{◌≡◌, ℕ, ◌+◌, ◌<◌, Bool, true, false, List, [], ◌∷◌, Option}
-use Rattle.std.proofs.Common.{Some, None, MatchOption, length, map, refl, ap, ◌∙◌, arith}
-use Rattle.std.proofs.Common.{subst}
-use Rattle.std.specs.Prelude.{◌||◌, ◌&&◌, option_map}
-use Rattle.std.specs.List.{AllByRecursion, list_any}
-use Rattle.std.specs.Option.{option_map_or}
+use Rattle.gf_form.proofs.Common.{◌≡◌, ℕ, ◌+◌, ◌<◌, Bool, true, false, List, [], ◌∷◌, Option, Some}
+use Rattle.gf_form.proofs.Common.{None, MatchOption, length, map, refl, ap, ◌∙◌, arith, subst, ◌||◌}
+use Rattle.gf_form.proofs.Common.{◌&&◌, option_map, AllByRecursion, list_any, option_map_or}
+use Rattle.gf_form.proofs.Common.{list_any-append, all_parts, Tree, Trees, count, branch, none}
+use Rattle.gf_form.proofs.Common.{more, InformationSet, SetKey, same_set, Node, Game, IsGame}
+use Rattle.gf_form.proofs.Common.{HasChildren, set_at, flatten, flatten_all, has_map, tree_comes}
+use Rattle.gf_form.proofs.Common.{trees_come, Play, from_node, plays, plays_from, comes_to}
+use Rattle.gf_form.proofs.Common.{is_own_choice, is_relevant}
 use Rattle.std.proofs.Math.Bool.{and-or_distrib_left}
-use Rattle.std.proofs.lemmas.List.Folds.{list_any-append}
-use Rattle.gf_fraction.proofs.AllElements.{all_parts}
-use Rattle.gf_tree.specs.Tree.{Tree, Trees, count}
-use Rattle.gf_tree.specs.Tree.Tree.{branch}
-use Rattle.gf_tree.specs.Tree.Trees.{none, more}
-use Rattle.gf_tree.specs.Description.{InformationSet, SetKey, same_set}
-use Rattle.gf_tree.specs.Game.{Node, Game, IsGame, HasChildren, set_at}
-use Rattle.gf_tree.specs.PrefixOrder.{flatten, flatten_all}
-use Rattle.gf_tree.proofs.lemmas.games.Uses.{has_map}
-use Rattle.gf_form.specs.inner.reduced.Comes.{tree_comes, trees_come}
-use Rattle.gf_form.specs.Plays.{Play, from_node, plays, plays_from}
-use Rattle.gf_form.specs.Reduced.{comes_to, is_own_choice, is_relevant}
 use Rattle.gf_form.proofs.lemmas.strategies.KnownSets.{set_is}
 use Rattle.gf_form.proofs.lemmas.reduced.ReducedValues.{first_play}
 use Rattle.gf_form.proofs.lemmas.reduced.Reducing.{any_has}

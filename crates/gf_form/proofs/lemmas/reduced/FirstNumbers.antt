@@ -1,15 +1,9 @@
 -- The numbers of the first strategies, one after another, and flags that say which are first.
-use Rattle.std.proofs.Common.{◌≡◌, ℕ, zero, suc, ◌+◌, ◌<◌, ◌≤◌, Bool, true, false, List, [], ◌∷◌}
-use Rattle.std.proofs.Common.{◌++◌, length, map, get_or, take, refl, ap, subst, ◌∙◌}
-use Rattle.std.proofs.Common.{add-one, arith}
-use Rattle.std.specs.Prelude.{◌==◌, ◌||◌, filter}
-use Rattle.std.specs.List.{AllByRecursion}
-use Rattle.std.proofs.Math.Seq.{take-suc}
-use Rattle.std.proofs.lemmas.Bool.{and_from, and_parts, eq-eqb}
-use Rattle.std.proofs.lemmas.List.{append-nil, map-append}
-use Rattle.std.proofs.lemmas.List.Elements.{filter-append}
-use Rattle.gf_fraction.proofs.AllElements.{all_both}
-use Rattle.gf_form.specs.inner.reduced.Shown.{chooses_first}
+use Rattle.gf_form.proofs.Common.{◌≡◌, ℕ, zero, suc, ◌+◌, ◌<◌, ◌≤◌, Bool, true, false, List, []}
+use Rattle.gf_form.proofs.Common.{◌∷◌, ◌++◌, length, map, get_or, take, refl, ap, subst, ◌∙◌}
+use Rattle.gf_form.proofs.Common.{add-one, arith, ◌==◌, ◌||◌, filter, AllByRecursion, take-suc}
+use Rattle.gf_form.proofs.Common.{and_from, and_parts, eq-eqb, append-nil, map-append}
+use Rattle.gf_form.proofs.Common.{filter-append, all_both, chooses_first}
 
 -- ---- by flags
 

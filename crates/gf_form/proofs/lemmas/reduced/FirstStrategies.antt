@@ -1,31 +1,19 @@
 -- The first of the strategies that reduce to the same one: it has the first action wherever no
 -- choice matters.
-use Rattle.std.proofs.Common.{◌≡◌, ℕ, zero, suc, ◌+◌, ◌<◌, ◌≤◌, Bool, true, false}
-use Rattle.std.proofs.Common.{List, [], ◌∷◌, ◌++◌, Some, None, length, map, get_or, drop}
-use Rattle.std.proofs.Common.{refl, sym, ap, subst, ◌∙◌, append-nil, append_assoc, arith, inl}
-use Rattle.std.proofs.Common.{inr}
-use Rattle.std.specs.Prelude.{filter, if◌then◌else◌}
-use Rattle.std.specs.List.{list_any}
-use Rattle.std.specs.Cmp.Lexicographic.{pointwise}
-use Rattle.std.proofs.lemmas.Bool.{eqb-true, false≢true}
-use Rattle.std.proofs.lemmas.Bool.{false_from_ne_true}
-use Rattle.std.proofs.lemmas.List.{length-map, map-append}
-use Rattle.std.proofs.lemmas.List.Elements.{filter-append}
-use Rattle.std.proofs.lemmas.Slice.Zip.{AllZip-long}
-use Rattle.gf_nfg.specs.Profiles.{numbers_from, product}
-use Rattle.gf_tree.specs.Description.{SetKey, same_set}
-use Rattle.gf_tree.specs.FiniteMap.{first_uses}
-use Rattle.gf_tree.specs.FirstUse.{player_keys}
-use Rattle.gf_tree.specs.Game.{Game, IsGame}
-use Rattle.gf_tree.proofs.lemmas.games.FirstUses.{AreDistinct}
+use Rattle.gf_form.proofs.Common.{◌≡◌, ℕ, zero, suc, ◌+◌, ◌<◌, ◌≤◌, Bool, true, false, List, []}
+use Rattle.gf_form.proofs.Common.{◌∷◌, ◌++◌, Some, None, length, map, get_or, drop, refl, sym, ap}
+use Rattle.gf_form.proofs.Common.{subst, ◌∙◌, append_assoc, arith, inl, inr, filter, if◌then◌else◌}
+use Rattle.gf_form.proofs.Common.{list_any, pointwise, eqb-true, false≢true, false_from_ne_true}
+use Rattle.gf_form.proofs.Common.{length-map, map-append, filter-append, AllZip-long, numbers_from}
+use Rattle.gf_form.proofs.Common.{product, SetKey, same_set, first_uses, player_keys, Game, IsGame}
+use Rattle.gf_form.proofs.Common.{AreDistinct, in_left, in_right, map_same, same_set_equality, Has}
+use Rattle.gf_form.proofs.Common.{each, has, has_map, mapped_from, is_relevant, reduced}
+use Rattle.gf_form.proofs.Common.{reduced_strategies, same_choice, chooses_first, is_first}
+use Rattle.gf_form.proofs.Common.{relevant_sets, shown, action_counts, all_choices, choice_at}
+use Rattle.gf_form.proofs.Common.{strategies}
+use Rattle.std.proofs.Common.{append-nil}
 use Rattle.gf_tree.proofs.lemmas.stores.KnownKeys.{known_more, more_known, used_before}
-use Rattle.gf_tree.proofs.lemmas.games.Members.{in_left, in_right, map_same}
-use Rattle.gf_tree.proofs.lemmas.games.TreesOnce.{same_set_equality}
-use Rattle.gf_tree.proofs.lemmas.games.Uses.{Has, IsEquality, each, has, has_map, mapped_from}
-use Rattle.gf_form.specs.Reduced.{is_relevant, reduced, reduced_strategies, same_choice}
-use Rattle.gf_form.specs.inner.reduced.Shown.{chooses_first, is_first, relevant_sets}
-use Rattle.gf_form.specs.inner.reduced.Shown.{shown}
-use Rattle.gf_form.specs.Strategies.{action_counts, all_choices, choice_at, strategies}
+use Rattle.gf_tree.proofs.lemmas.games.Uses.{IsEquality}
 use Rattle.gf_form.proofs.lemmas.strategies.Choices.{IsChoice, are_choices, every_choice, place}
 use Rattle.gf_form.proofs.lemmas.strategies.Choices.{places_are}
 use Rattle.gf_form.proofs.lemmas.values.Following.{in_either}

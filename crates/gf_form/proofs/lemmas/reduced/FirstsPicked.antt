@@ -1,34 +1,20 @@
 -- The profiles of the first strategies that reduce to each reduced strategy are those of the
 -- reduced form, in its order.
-use Rattle.std.proofs.Common.{◌≡◌, ℕ, zero, suc, ◌+◌, ◌-◌, ◌<◌, ◌≤◌, List, [], ◌∷◌}
-use Rattle.std.proofs.Common.{Option, Some, length, map, get_or, take, refl, sym, ap, subst}
-use Rattle.std.proofs.Common.{◌∙◌, ◌++◌, add-one, arith, inl, inr}
-use Rattle.std.specs.Prelude.{zip}
-use Rattle.std.specs.List.{AllByRecursion, AllZip, Contains}
-use Rattle.std.proofs.Math.Nat.{mul-le-mul}
-use Rattle.std.proofs.Math.Seq.{take-suc}
-use Rattle.std.proofs.lemmas.List.{get_or-map, length-map}
-use Rattle.std.proofs.lemmas.Option.{unwrap_or-slice_get}
-use Rattle.gf_fraction.specs.Ratio.{IsFraction, Ratio}
-use Rattle.gf_fraction.proofs.AllElements.{all_weaker}
-use Rattle.gf_token.specs.Positions.{at_position}
-use Rattle.gf_nfg.specs.Limit.{profile_limit}
-use Rattle.gf_nfg.specs.ProfilePlaces.{IsProfile}
-use Rattle.gf_nfg.specs.Profiles.{product, profiles}
-use Rattle.gf_nfg.specs.Table.{Entry, Table}
-use Rattle.gf_nfg.proofs.lemmas.tables.Profiles.{every_profile, length-profiles}
-use Rattle.gf_nfg.proofs.lemmas.tables.NumbersInTurn.{get_or-numbers_from, length-numbers_from}
-use Rattle.gf_tree.specs.Game.{Game, IsGame}
-use Rattle.gf_tree.proofs.lemmas.games.Uses.{Has, all_of_each, contains, each, has_map}
-use Rattle.gf_form.specs.inner.reduced.Firsts.{AreFirsts, AreFirstsOf, IsPaidAt}
-use Rattle.gf_form.specs.inner.rows.ProfileRows.{AreRowsAt}
-use Rattle.gf_form.specs.Reduced.{AreReducedPayoffsAt, IsReducedForm, reduced, reduced_at}
-use Rattle.gf_form.specs.Reduced.{reduced_by}
-use Rattle.gf_form.specs.Reduced.{reduced_labels, reduced_profiles, reduced_strategies}
-use Rattle.gf_form.specs.Refusal.{HasReducedValues, HasValues}
-use Rattle.gf_form.specs.Refusal.{IsFirstWithout, ReducedOverflowsAt}
-use Rattle.gf_form.specs.StrategicForm.{ArePayoffsAt, IsFormBy}
-use Rattle.gf_form.specs.Strategies.{full_profiles, players_of, strategies, strategy_at}
+use Rattle.gf_form.proofs.Common.{◌≡◌, ℕ, zero, suc, ◌+◌, ◌-◌, ◌<◌, ◌≤◌, List, [], ◌∷◌, Option}
+use Rattle.gf_form.proofs.Common.{Some, length, map, get_or, take, refl, sym, ap, subst, ◌∙◌, ◌++◌}
+use Rattle.gf_form.proofs.Common.{add-one, arith, inl, inr, zip, AllByRecursion, AllZip, Contains}
+use Rattle.gf_form.proofs.Common.{mul-le-mul, take-suc, get_or-map, length-map, unwrap_or-slice_get}
+use Rattle.gf_form.proofs.Common.{IsFraction, Ratio, all_weaker, at_position, profile_limit}
+use Rattle.gf_form.proofs.Common.{IsProfile, product, profiles, Table, every_profile}
+use Rattle.gf_form.proofs.Common.{length-profiles, get_or-numbers_from, length-numbers_from, Game}
+use Rattle.gf_form.proofs.Common.{IsGame, Has, all_of_each, contains, each, has_map, AreFirstsOf}
+use Rattle.gf_form.proofs.Common.{IsPaidAt, AreRowsAt, AreReducedPayoffsAt, IsReducedForm, reduced}
+use Rattle.gf_form.proofs.Common.{reduced_at, reduced_by, reduced_labels, reduced_profiles}
+use Rattle.gf_form.proofs.Common.{reduced_strategies, HasReducedValues, HasValues, IsFirstWithout}
+use Rattle.gf_form.proofs.Common.{ReducedOverflowsAt, ArePayoffsAt, IsFormBy, full_profiles}
+use Rattle.gf_form.proofs.Common.{players_of, strategies, strategy_at}
+use Rattle.gf_nfg.specs.Table.{Entry}
+use Rattle.gf_form.specs.inner.reduced.Firsts.{AreFirsts}
 use Rattle.gf_form.proofs.lemmas.strategies.CountedActions.{strategy_counts}
 use Rattle.gf_form.proofs.lemmas.reduced.FirstStrategies.{fewer_reduced}
 use Rattle.gf_form.proofs.lemmas.form.FormMade.{full_row, row_fractions}

@@ -1,20 +1,11 @@
 -- What is left of a player's visits after a choice, visit by visit.
-use Rattle.std.proofs.Common.{◌≡◌, ℕ, ◌+◌, ◌-◌, ◌<◌, ◌≤◌, true, false, List, [], ◌∷◌}
-use Rattle.std.proofs.Common.{◌++◌, Some, None, length, get_or, set, take, ap}
-use Rattle.std.proofs.Common.{◌∙◌, arith}
-use Rattle.std.specs.Prelude.{◌||◌}
-use Rattle.std.specs.Option.{option_map_or}
-use Rattle.std.proofs.Math.Bool.{or-false}
-use Rattle.std.proofs.lemmas.Grind.{get_or-set_at}
-use Rattle.std.proofs.lemmas.List.{get_or-set_other, length-set, take_more}
-use Rattle.std.proofs.lemmas.List.Folds.{list_any-append}
-use Rattle.gf_fraction.proofs.AllElements.{all_both}
+use Rattle.gf_form.proofs.Common.{◌≡◌, ℕ, ◌+◌, ◌-◌, ◌<◌, ◌≤◌, true, false, List, [], ◌∷◌, ◌++◌}
+use Rattle.gf_form.proofs.Common.{Some, None, length, get_or, set, take, ap, ◌∙◌, arith, ◌||◌}
+use Rattle.gf_form.proofs.Common.{option_map_or, or-false, get_or-set_at, get_or-set_other}
+use Rattle.gf_form.proofs.Common.{length-set, take_more, list_any-append, all_both, meets}
+use Rattle.gf_form.proofs.Common.{ArePositive, IsLevel, is_left, left_of, is_met, is_met_on, Level}
+use Rattle.gf_form.proofs.Common.{Visit}
 use Rattle.gf_form.proofs.lemmas.strategies.StrategiesByNumber.{all_at}
-use Rattle.gf_form.specs.inner.rows.Demands.{meets}
-use Rattle.gf_form.specs.inner.reduced.Levels.{ArePositive, IsLevel, is_left, left_of}
-use Rattle.gf_form.specs.inner.reduced.Visits.{is_met, is_met_on}
-use Rattle.gf_form.specs.declared.reduced.level.Level.{Level}
-use Rattle.gf_form.specs.declared.reduced.visits.Visit.{Visit}
 
 -- no demands are met
 pub meets_none : (steps choices : List ℕ) → ArePositive steps → meets steps choices 0 ≡ true

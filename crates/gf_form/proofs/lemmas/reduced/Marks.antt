@@ -1,16 +1,9 @@
 -- Marks of the sets that can be met on a level, visit by visit.
-use Rattle.std.proofs.Common.{◌≡◌, ℕ, suc, ◌+◌, ◌-◌, ◌<◌, ◌≤◌, Bool, true, false, List}
-use Rattle.std.proofs.Common.{length, get_or, set, take, arith}
-use Rattle.std.specs.Prelude.{◌==◌, ◌||◌}
-use Rattle.std.specs.List.{list_any}
-use Rattle.std.proofs.Math.Bool.{or-false, or-true}
-use Rattle.std.proofs.Math.Seq.{take-length}
-use Rattle.std.proofs.lemmas.Grind.{get_or-set_at}
-use Rattle.std.proofs.lemmas.List.{get_or-set_other, length-set, take_more}
-use Rattle.std.proofs.lemmas.List.Folds.{list_any-append}
-use Rattle.gf_form.specs.inner.reduced.Levels.{can_be_met}
-use Rattle.gf_form.specs.declared.reduced.level.Level.{Level}
-use Rattle.gf_form.specs.declared.reduced.visits.Visit.{Visit}
+use Rattle.gf_form.proofs.Common.{◌≡◌, ℕ, suc, ◌+◌, ◌-◌, ◌<◌, ◌≤◌, Bool, true, false, List, length}
+use Rattle.gf_form.proofs.Common.{get_or, set, take, arith, ◌==◌, ◌||◌, list_any, or-false}
+use Rattle.gf_form.proofs.Common.{take-length, get_or-set_at, get_or-set_other, length-set}
+use Rattle.gf_form.proofs.Common.{take_more, list_any-append, can_be_met, Level, Visit}
+use Rattle.std.proofs.Math.Bool.{or-true}
 use Rattle.gf_form.proofs.lemmas.reduced.LevelsChosen.{no_visit}
 
 flag_on : (flags : List Bool) (at place : ℕ) → at < length flags

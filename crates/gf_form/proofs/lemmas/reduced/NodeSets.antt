@@ -1,29 +1,15 @@
 -- The set at a node: its position among its player's, how many actions it has, and what is chosen
 -- there.
-use Rattle.std.proofs.Common.{◌≡◌, ℕ, zero, suc, ◌-◌, ◌<◌, ◌≤◌}
-use Rattle.std.proofs.Common.{List, ◌∷◌, Some, length, get_or, refl, sym, ap, ◌∙◌}
-use Rattle.std.proofs.Common.{subst, arith}
-use Rattle.std.specs.Prelude.{◌==◌}
-use Rattle.std.specs.Prelude.{unwrap_or}
-use Rattle.std.specs.List.{AllByRecursion}
-use Rattle.std.proofs.lemmas.Option.{slice_get-map, slice_get_within, unwrap_or-slice_get}
-use Rattle.gf_token.specs.Positions.{at_position}
-use Rattle.gf_fraction.proofs.AllElements.{all_both, all_parts}
-use Rattle.gf_tree.specs.Description.{InformationSet, SetKey, same_set, set_of}
-use Rattle.gf_tree.specs.FirstUse.{player_keys}
-use Rattle.gf_tree.specs.Game.{Game, HasChildren, IsGame, Node, set_at}
-use Rattle.gf_tree.specs.PrefixOrder.{flatten, flatten_all}
-use Rattle.gf_tree.specs.Subtrees.{child_trees, list_of, root_node, subtree_at, subtrees}
+use Rattle.gf_form.proofs.Common.{◌≡◌, ℕ, zero, suc, ◌-◌, ◌<◌, ◌≤◌, List, ◌∷◌, Some, length, get_or}
+use Rattle.gf_form.proofs.Common.{refl, sym, ap, ◌∙◌, subst, arith, ◌==◌, unwrap_or, AllByRecursion}
+use Rattle.gf_form.proofs.Common.{slice_get-map, unwrap_or-slice_get, at_position, all_both}
+use Rattle.gf_form.proofs.Common.{all_parts, InformationSet, SetKey, same_set, set_of, player_keys}
+use Rattle.gf_form.proofs.Common.{Game, HasChildren, IsGame, Node, set_at, flatten, flatten_all}
+use Rattle.gf_form.proofs.Common.{child_trees, list_of, root_node, subtree_at, subtrees, Tree}
+use Rattle.gf_form.proofs.Common.{Trees, count, branch, none, more, AreDistinct, has_at}
+use Rattle.gf_form.proofs.Common.{same_set_equality, Has, action_counts, choice_at, steps_behind}
+use Rattle.std.proofs.lemmas.Option.{slice_get_within}
 use Rattle.gf_tree.specs.Subtrees.{subtrees_all}
-use Rattle.gf_tree.specs.Tree.{Tree, Trees, count}
-use Rattle.gf_tree.specs.Tree.Tree.{branch}
-use Rattle.gf_tree.specs.Tree.Trees.{none, more}
-use Rattle.gf_tree.proofs.lemmas.games.FirstUses.{AreDistinct}
-use Rattle.gf_tree.proofs.lemmas.games.Members.{has_at}
-use Rattle.gf_tree.proofs.lemmas.games.TreesOnce.{same_set_equality}
-use Rattle.gf_tree.proofs.lemmas.games.Uses.{Has}
-use Rattle.gf_form.specs.Strategies.{action_counts, choice_at}
-use Rattle.gf_form.specs.inner.rows.DigitSteps.{steps_behind}
 use Rattle.gf_form.proofs.lemmas.reduced.OwnDemands.{IsSetAt}
 use Rattle.gf_form.proofs.lemmas.strategies.StrategiesByNumber.{all_at}
 use Rattle.gf_form.proofs.lemmas.values.Walks.{choice_there}

@@ -1,37 +1,21 @@
 -- A player with one strategy: he has one action at each set, so all his sets are relevant.
-use Rattle.std.proofs.Common.{◌≡◌, ℕ, zero, suc, ◌+◌, ◌*◌, ◌<◌, ◌≤◌, Bool, true, false, cond, List}
-use Rattle.std.proofs.Common.{[], ◌∷◌, Option, Some, None, MatchOption, length, map, get_or}
-use Rattle.std.proofs.Common.{refl, sym, ap, subst, ◌∙◌, arith, inl, inr}
-use Rattle.std.specs.Prelude.{◌||◌, ◌&&◌, codes, decimal, filter, find, option_map}
-use Rattle.std.specs.Prelude.{unwrap_or}
-use Rattle.std.specs.List.{AllByRecursion, Contains, filter_map, join_with_byte}
-use Rattle.std.specs.Option.{option_map_or}
-use Rattle.std.proofs.lemmas.Bool.{or_left, or_right}
-use Rattle.std.proofs.lemmas.List.{get_or_default, length-map}
-use Rattle.std.proofs.lemmas.Option.{none-some}
-use Rattle.gf_fraction.proofs.AllElements.{all_parts}
-use Rattle.gf_nfg.specs.Profiles.{product}
-use Rattle.gf_tree.specs.Description.{SetKey, InformationSet, same_set}
-use Rattle.gf_tree.specs.FiniteMap.{Described, description_at}
-use Rattle.gf_tree.specs.FirstUse.{player_keys, player_sets}
-use Rattle.gf_tree.specs.Game.{Game, HasChildren, IsGame, Node, set_at}
-use Rattle.gf_tree.specs.PrefixOrder.{Entry, flatten, flatten_all}
-use Rattle.gf_tree.specs.Tree.{Tree, Trees, count}
-use Rattle.gf_tree.specs.Tree.Tree.{branch}
-use Rattle.gf_tree.specs.Tree.Trees.{none, more}
-use Rattle.gf_tree.proofs.lemmas.games.FirstUses.{was_used}
-use Rattle.gf_tree.proofs.lemmas.games.Members.{map_same, map_twice}
-use Rattle.gf_tree.proofs.lemmas.games.TreesOnce.{same_set_equality}
-use Rattle.gf_tree.proofs.lemmas.games.Uses.{Has, has_map}
-use Rattle.gf_form.specs.inner.reduced.Comes.{tree_comes, trees_come}
-use Rattle.gf_form.specs.inner.reduced.Firsts.{AreFirstsOf}
-use Rattle.gf_form.specs.Reduced.{is_own_choice, is_relevant, reduced, reduced_label}
-use Rattle.gf_form.specs.Reduced.{reduced_labels}
-use Rattle.gf_form.specs.Reduced.{reduced_strategies}
-use Rattle.gf_form.specs.inner.reduced.Shown.{chooses_first, is_first, relevant_sets}
-use Rattle.gf_form.specs.inner.reduced.Shown.{shown}
-use Rattle.gf_form.specs.Strategies.{action_counts, all_choices, choice_at, strategies}
-use Rattle.gf_form.specs.Strategies.{strategy_label}
+use Rattle.gf_form.proofs.Common.{◌≡◌, ℕ, zero, suc, ◌+◌, ◌*◌, ◌<◌, ◌≤◌, Bool, true, false, cond}
+use Rattle.gf_form.proofs.Common.{List, [], ◌∷◌, Option, Some, None, MatchOption, length, map}
+use Rattle.gf_form.proofs.Common.{get_or, refl, sym, ap, subst, ◌∙◌, arith, inl, inr, ◌||◌, ◌&&◌}
+use Rattle.gf_form.proofs.Common.{codes, decimal, filter, find, option_map, unwrap_or}
+use Rattle.gf_form.proofs.Common.{AllByRecursion, Contains, join_with_byte, option_map_or, or_left}
+use Rattle.gf_form.proofs.Common.{or_right, get_or_default, length-map, none-some, all_parts}
+use Rattle.gf_form.proofs.Common.{product, SetKey, InformationSet, same_set, Described}
+use Rattle.gf_form.proofs.Common.{description_at, player_keys, player_sets, Game, HasChildren}
+use Rattle.gf_form.proofs.Common.{IsGame, Node, set_at, flatten, flatten_all, Tree, Trees, count}
+use Rattle.gf_form.proofs.Common.{branch, none, more, was_used, map_same, map_twice}
+use Rattle.gf_form.proofs.Common.{same_set_equality, Has, has_map, tree_comes, trees_come}
+use Rattle.gf_form.proofs.Common.{AreFirstsOf, is_own_choice, is_relevant, reduced, reduced_label}
+use Rattle.gf_form.proofs.Common.{reduced_labels, reduced_strategies, chooses_first, is_first}
+use Rattle.gf_form.proofs.Common.{relevant_sets, shown, action_counts, all_choices, choice_at}
+use Rattle.gf_form.proofs.Common.{strategies, strategy_label}
+use Rattle.std.specs.List.{filter_map}
+use Rattle.gf_tree.specs.PrefixOrder.{Entry}
 use Rattle.gf_form.proofs.lemmas.strategies.Choices.{length-all_choices}
 use Rattle.gf_form.proofs.lemmas.strategies.Chosen.{among_his, his_actions}
 use Rattle.gf_form.proofs.lemmas.reduced.Coming.{relevant_is}

@@ -1,21 +1,12 @@
 -- The demands on one player by the digits of his sets: what they say of one set, and what another
 -- action there adds to them.
-use Rattle.std.proofs.Common.{◌≡◌, ℕ, ◌+◌, ◌*◌, ◌/◌, ◌%◌, ◌<◌, ◌≤◌, Bool, true, false}
-use Rattle.std.proofs.Common.{List, [], ◌∷◌, length, get_or, set, refl, sym, ap, ◌∙◌}
-use Rattle.std.proofs.Common.{arith}
-use Rattle.std.specs.Prelude.{◌==◌, ◌&&◌, if◌then◌else◌}
-use Rattle.std.proofs.Math.Nat.{div-add-mod, div-lt_iff_lt-mul, div-zero, mod-eq_of_lt, mod-lt}
-use Rattle.std.proofs.Math.Nat.{mul_comm}
-use Rattle.std.proofs.lemmas.Bool.{eqb-false, eqb-true}
-use Rattle.std.proofs.lemmas.List.{append-nil}
-use Rattle.std.proofs.lemmas.Slice.Zip.{AllZip-long}
-use Rattle.gf_nfg.specs.Profiles.{product}
-use Rattle.gf_form.specs.inner.reduced.Survey.{meets_own}
-use Rattle.gf_form.specs.inner.reduced.Visits.{AreActions}
-use Rattle.gf_form.specs.inner.rows.Demands.{meets, spans, steps_of}
-use Rattle.gf_form.specs.inner.rows.DigitSteps.{picked, steps_behind, width}
-use Rattle.gf_form.specs.inner.rows.ReachedNodes.{demanded}
-use Rattle.gf_form.specs.inner.rows.Shares.{IsDigitOf}
+use Rattle.gf_form.proofs.Common.{◌≡◌, ℕ, ◌+◌, ◌*◌, ◌/◌, ◌%◌, ◌<◌, ◌≤◌, Bool, true, false, List, []}
+use Rattle.gf_form.proofs.Common.{◌∷◌, length, get_or, set, refl, sym, ap, ◌∙◌, arith, ◌==◌, ◌&&◌}
+use Rattle.gf_form.proofs.Common.{if◌then◌else◌, div-add-mod, div-lt_iff_lt-mul, mod-eq_of_lt}
+use Rattle.gf_form.proofs.Common.{mod-lt, mul_comm, eqb-false, eqb-true, append-nil, AllZip-long}
+use Rattle.gf_form.proofs.Common.{product, meets_own, AreActions, meets, spans, steps_of, picked}
+use Rattle.gf_form.proofs.Common.{steps_behind, width, demanded, IsDigitOf}
+use Rattle.std.proofs.Math.Nat.{div-zero}
 use Rattle.gf_form.proofs.lemmas.rows.DemandDigits.{AreWithin, digit_is, meets_is, met, met_digit}
 use Rattle.gf_form.proofs.lemmas.rows.DemandDigits.{met_set, no_demands, none_met, none_pack}
 use Rattle.gf_form.proofs.lemmas.rows.DemandDigits.{none_within, pack, pack_below, set_pack}

@@ -1,13 +1,7 @@
 -- The digits of one player's sets: they fit into 64 bits, and their steps.
-use Rattle.std.proofs.Common.{◌≡◌, ℕ, zero, suc, ◌+◌, ◌*◌, ◌^◌, ◌<◌, ◌≤◌, List, [], ◌∷◌, ◌++◌}
-use Rattle.std.proofs.Common.{length, drop, get_or, refl, arith}
-use Rattle.std.proofs.Common.{append_assoc}
-use Rattle.std.proofs.Math.Nat.{mul-le-mul}
-use Rattle.gf_nfg.specs.Profiles.{product}
-use Rattle.gf_form.specs.inner.rows.DigitSteps.{steps_behind, width}
-use Rattle.gf_form.specs.inner.reduced.Levels.{ArePositive}
-use Rattle.gf_form.specs.inner.reduced.OwnDigits.{digits_from}
-use Rattle.gf_form.specs.declared.reduced.digits.OwnDigit.{OwnDigit}
+use Rattle.gf_form.proofs.Common.{◌≡◌, ℕ, zero, suc, ◌+◌, ◌*◌, ◌^◌, ◌<◌, ◌≤◌, List, [], ◌∷◌, ◌++◌}
+use Rattle.gf_form.proofs.Common.{length, drop, get_or, refl, arith, append_assoc, mul-le-mul}
+use Rattle.gf_form.proofs.Common.{product, steps_behind, width, ArePositive, digits_from, OwnDigit}
 use Rattle.gf_form.proofs.lemmas.rows.DigitsMade.{next_is}
 
 -- with more than one action, one more is at most the square

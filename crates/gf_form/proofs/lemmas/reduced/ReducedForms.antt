@@ -1,32 +1,17 @@
 -- The reduced form of a game: some full profile reduces to each of its profiles, and each full
 -- profile reduces to one.
-use Rattle.std.proofs.Common.{◌≡◌, ℕ, zero, suc, ◌≤◌, List, [], ◌∷◌, Option, None}
-use Rattle.std.proofs.Common.{length, map, refl, sym, ap, ◌∙◌, subst, arith, inl, inr}
-use Rattle.std.specs.Prelude.{◌↔◌, zip}
-use Rattle.std.specs.Bool.{Decides}
-use Rattle.std.specs.List.{AllZip, Contains}
-use Rattle.std.specs.Cmp.Lexicographic.{pointwise}
-use Rattle.std.proofs.lemmas.List.{length-map}
+use Rattle.gf_form.proofs.Common.{◌≡◌, ℕ, zero, suc, ◌≤◌, List, [], ◌∷◌, Option, None, length, map}
+use Rattle.gf_form.proofs.Common.{refl, sym, ap, ◌∙◌, subst, arith, inl, inr, ◌↔◌, zip, Decides}
+use Rattle.gf_form.proofs.Common.{AllZip, Contains, pointwise, length-map, Ratio, IsFraction}
+use Rattle.gf_form.proofs.Common.{IsEqual, IsProfile, profiles, Table, every_profile, Game, is_used}
+use Rattle.gf_form.proofs.Common.{was_used, map_same, map_twice, Has, contains, has, has_map}
+use Rattle.gf_form.proofs.Common.{mapped_from, payoff, AreReducedPayoffsAt, IsReducedForm, reduced}
+use Rattle.gf_form.proofs.Common.{reduced_at, reduced_by, reduced_labels, reduced_strategies}
+use Rattle.gf_form.proofs.Common.{same_choice, ArePayoffsAt, PaysFractions, choices_by}
+use Rattle.gf_form.proofs.Common.{full_profiles, players_of, strategies, strategies_at, strategy_at}
 use Rattle.std.proofs.lemmas.Slice.Eq.{slice_eq-Decides}
-use Rattle.gf_fraction.specs.Ratio.{Ratio, IsFraction}
-use Rattle.gf_fraction.specs.Rational.{IsEqual}
-use Rattle.gf_nfg.specs.ProfilePlaces.{IsProfile}
-use Rattle.gf_nfg.specs.Profiles.{profiles}
-use Rattle.gf_nfg.specs.Table.{Table}
-use Rattle.gf_nfg.proofs.lemmas.tables.Profiles.{every_profile}
-use Rattle.gf_tree.specs.Game.{Game}
-use Rattle.gf_tree.proofs.lemmas.games.FirstUses.{is_used, was_used}
-use Rattle.gf_tree.proofs.lemmas.games.Members.{map_same, map_twice}
-use Rattle.gf_tree.proofs.lemmas.games.Uses.{Has, contains, has, has_map, mapped_from}
-use Rattle.gf_form.specs.Payoff.{payoff}
-use Rattle.gf_form.specs.Reduced.{AreReducedPayoffsAt, IsReducedForm, reduced}
-use Rattle.gf_form.specs.Reduced.{reduced_at, reduced_by}
-use Rattle.gf_form.specs.Reduced.{reduced_labels, reduced_strategies, same_choice}
-use Rattle.gf_form.specs.StrategicForm.{ArePayoffsAt, PaysFractions}
-use Rattle.gf_form.specs.Strategies.{choices_by, full_profiles, players_of}
-use Rattle.gf_form.specs.Strategies.{strategies, strategies_at, strategy_at}
-use Rattle.gf_form.proofs.lemmas.form.Forms.{form_profiles, of_row, one_form_by, one_row}
-use Rattle.gf_form.proofs.lemmas.form.Forms.{row_of, rows_of_form, some_form_by}
+use Rattle.gf_form.proofs.lemmas.form.Forms.{form_profiles, of_row, one_form_by, one_row, row_of}
+use Rattle.gf_form.proofs.lemmas.form.Forms.{rows_of_form, some_form_by}
 use Rattle.gf_form.proofs.lemmas.reduced.ReducedPays.{reduced_pay}
 
 -- ---- positions

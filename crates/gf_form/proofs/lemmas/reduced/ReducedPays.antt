@@ -1,23 +1,13 @@
 -- Full profiles that reduce to the same one have the same payoffs.
-use Rattle.std.proofs.Common.{◌≡◌, ℕ, zero, suc, ◌+◌, ◌-◌, ◌<◌, Bool, true, false}
-use Rattle.std.proofs.Common.{List, [], ◌∷◌, Option, Some, None, length, map}
-use Rattle.std.proofs.Common.{get_or, drop, refl, sym, ap, ◌∙◌, arith, inl, inr}
-use Rattle.std.specs.Prelude.{◌==◌, ◌||◌, ◌&&◌, not, zip, filter}
-use Rattle.std.specs.List.{Contains, list_all}
-use Rattle.std.specs.Option.{option_map_or}
-use Rattle.std.proofs.lemmas.Bool.{and_parts, and_from, eqb-false, eq-eqb}
-use Rattle.gf_fraction.specs.Rational.{times, total}
-use Rattle.gf_nfg.specs.Profiles.{numbers_from}
-use Rattle.gf_nfg.proofs.lemmas.tables.NumbersInTurn.{length-numbers_from}
-use Rattle.gf_tree.specs.Description.{SetKey}
-use Rattle.gf_tree.specs.Game.{Game}
-use Rattle.gf_tree.specs.FirstUse.{player_keys}
-use Rattle.gf_tree.proofs.lemmas.games.Uses.{Has, contains}
-use Rattle.gf_form.specs.Strategies.{choice_at, choices_by, players_of, strategies}
-use Rattle.gf_form.specs.Strategies.{strategies_at, strategy_at, full_profiles}
-use Rattle.gf_form.specs.Plays.{Step, Play, plays, is_chosen, follows}
-use Rattle.gf_form.specs.Payoff.{payoff, play_probability, play_payoff}
-use Rattle.gf_form.specs.Reduced.{is_own_choice, reduced, reduced_by}
+use Rattle.gf_form.proofs.Common.{◌≡◌, ℕ, zero, suc, ◌+◌, ◌-◌, ◌<◌, Bool, true, false, List, []}
+use Rattle.gf_form.proofs.Common.{◌∷◌, Option, Some, None, length, map, get_or, drop, refl, sym, ap}
+use Rattle.gf_form.proofs.Common.{◌∙◌, arith, inl, inr, ◌==◌, ◌||◌, ◌&&◌, not, zip, filter}
+use Rattle.gf_form.proofs.Common.{Contains, list_all, option_map_or, and_parts, and_from, eqb-false}
+use Rattle.gf_form.proofs.Common.{eq-eqb, times, total, numbers_from, length-numbers_from, SetKey}
+use Rattle.gf_form.proofs.Common.{Game, player_keys, Has, contains, choice_at, choices_by}
+use Rattle.gf_form.proofs.Common.{players_of, strategies, strategies_at, strategy_at, full_profiles}
+use Rattle.gf_form.proofs.Common.{Step, Play, plays, is_chosen, follows, payoff, play_probability}
+use Rattle.gf_form.proofs.Common.{play_payoff, is_own_choice, reduced, reduced_by}
 use Rattle.gf_form.proofs.lemmas.form.FormTables.{as_many}
 use Rattle.gf_form.proofs.lemmas.strategies.Lookups.{strategy_before}
 use Rattle.gf_form.proofs.lemmas.strategies.Chosen.{profile_strategies}

@@ -1,31 +1,19 @@
 -- The reduced strategies of a player: what his strategies reduce to, each once, with labels that
 -- differ; and the profiles of the reduced form, to each of which some full profile reduces.
-use Rattle.std.proofs.Common.{◌≡◌, ℕ, zero, suc, ◌-◌, ◌^◌, ◌<◌, Bool}
-use Rattle.std.proofs.Common.{List, [], ◌∷◌, Option, Some, None, MatchOption, length, map, get_or}
-use Rattle.std.proofs.Common.{drop, refl, sym, ap, subst, ◌∙◌, arith, inl, inr}
-use Rattle.std.specs.Prelude.{◌↔◌, ⊤, codes, decimal, if◌then◌else◌, zip}
-use Rattle.std.specs.List.{AllByRecursion, Contains}
-use Rattle.std.specs.Cmp.Lexicographic.{pointwise}
-use Rattle.std.proofs.lemmas.Fmt.{decimal_injective}
-use Rattle.std.proofs.lemmas.List.{length-map}
-use Rattle.gf_nfg.specs.ProfilePlaces.{IsProfile}
-use Rattle.gf_nfg.proofs.lemmas.tables.Profiles.{every_profile}
-use Rattle.gf_tree.specs.Description.{SetKey}
-use Rattle.gf_tree.specs.FirstUse.{player_keys}
-use Rattle.gf_tree.specs.Game.{Game}
-use Rattle.gf_tree.proofs.lemmas.games.FirstUses.{AreDistinct, first_uses_distinct, is_used}
-use Rattle.gf_tree.proofs.lemmas.games.FirstUses.{was_used}
-use Rattle.gf_tree.proofs.lemmas.games.Uses.{Has, contains, has, has_map, mapped_from}
-use Rattle.gf_form.specs.inner.strategies.LabelTexts.{choice_text}
-use Rattle.gf_form.specs.Reduced.{is_relevant, reduced, reduced_at, reduced_by, reduced_label}
-use Rattle.gf_form.specs.Reduced.{reduced_profiles, reduced_strategies, same_choice}
-use Rattle.gf_form.specs.Strategies.{action_counts, choice_at, full_profiles, players_of}
-use Rattle.gf_form.specs.Strategies.{strategies, strategy_at}
+use Rattle.gf_form.proofs.Common.{◌≡◌, ℕ, zero, suc, ◌-◌, ◌^◌, ◌<◌, Bool, List, [], ◌∷◌, Option}
+use Rattle.gf_form.proofs.Common.{Some, None, MatchOption, length, map, get_or, drop, refl, sym, ap}
+use Rattle.gf_form.proofs.Common.{subst, ◌∙◌, arith, inl, inr, ◌↔◌, ⊤, codes, decimal}
+use Rattle.gf_form.proofs.Common.{if◌then◌else◌, zip, AllByRecursion, Contains, pointwise}
+use Rattle.gf_form.proofs.Common.{decimal_injective, length-map, IsProfile, every_profile, SetKey}
+use Rattle.gf_form.proofs.Common.{player_keys, Game, AreDistinct, first_uses_distinct, is_used}
+use Rattle.gf_form.proofs.Common.{was_used, Has, contains, has, has_map, mapped_from, choice_text}
+use Rattle.gf_form.proofs.Common.{is_relevant, reduced, reduced_at, reduced_by, reduced_label}
+use Rattle.gf_form.proofs.Common.{reduced_profiles, reduced_strategies, same_choice, action_counts}
+use Rattle.gf_form.proofs.Common.{choice_at, full_profiles, players_of, strategies, strategy_at}
 use Rattle.gf_form.proofs.lemmas.strategies.Choices.{every_choice}
 use Rattle.gf_form.proofs.lemmas.reduced.FirstsPicked.{reduced_form_profiles}
 use Rattle.gf_form.proofs.lemmas.strategies.JoinedTexts.{AreDigits, AreUndashed, digits_of}
-use Rattle.gf_form.proofs.lemmas.strategies.JoinedTexts.{same_joined}
-use Rattle.gf_form.proofs.lemmas.strategies.JoinedTexts.{undashed_number}
+use Rattle.gf_form.proofs.lemmas.strategies.JoinedTexts.{same_joined, undashed_number}
 use Rattle.gf_form.proofs.lemmas.strategies.Lookups.{strategy_before}
 use Rattle.gf_form.proofs.lemmas.reduced.ReducedForms.{choices_equality, some_full, some_reduced}
 use Rattle.gf_form.proofs.lemmas.strategies.StrategyLabels.{AreSmall, small_choice}

@@ -1,15 +1,10 @@
 -- The reduced form of a game is a table.
-use Rattle.std.proofs.Common.{◌≡◌, ℕ, ◌<◌, Bool, List, [], ◌∷◌}
-use Rattle.std.proofs.Common.{length, map, sym, ap, ◌∙◌, subst, arith}
-use Rattle.std.proofs.lemmas.List.{length-map}
-use Rattle.gf_nfg.specs.Profiles.{profiles}
-use Rattle.gf_nfg.specs.Table.{Entry, IsTable, Table}
-use Rattle.gf_tree.specs.FiniteMap.{first_uses}
-use Rattle.gf_tree.specs.Game.{Game, IsGame}
-use Rattle.gf_tree.proofs.lemmas.games.Uses.{Has, each, has_map}
-use Rattle.gf_form.specs.Reduced.{AreReducedPayoffsAt, IsReducedForm, reduced_label}
-use Rattle.gf_form.specs.Reduced.{reduced_labels, reduced_strategies}
-use Rattle.gf_form.specs.Strategies.{players_of}
+use Rattle.gf_form.proofs.Common.{◌≡◌, ℕ, ◌<◌, Bool, List, [], ◌∷◌, length, map, sym, ap, ◌∙◌}
+use Rattle.gf_form.proofs.Common.{subst, arith, length-map, profiles, IsTable, Table, first_uses}
+use Rattle.gf_form.proofs.Common.{Game, IsGame, Has, each, has_map, AreReducedPayoffsAt}
+use Rattle.gf_form.proofs.Common.{IsReducedForm, reduced_label, reduced_labels, reduced_strategies}
+use Rattle.gf_form.proofs.Common.{players_of}
+use Rattle.gf_nfg.specs.Table.{Entry}
 use Rattle.gf_form.proofs.lemmas.form.Forms.{form_profiles}
 use Rattle.gf_form.proofs.lemmas.form.FormTables.{as_many, some_strategy, table_by}
 use Rattle.gf_form.proofs.lemmas.reduced.ReducedForms.{some_full}

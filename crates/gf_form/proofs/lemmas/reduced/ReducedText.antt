@@ -1,16 +1,9 @@
 -- The text of a reduced strategy, written choice by choice.
-use Rattle.std.proofs.Common.{◌≡◌, ℕ, zero, suc, ◌+◌, ◌-◌, ◌<◌, ◌≤◌, ◌^◌, Bool, true, false, List}
-use Rattle.std.proofs.Common.{[], ◌∷◌}
-use Rattle.std.proofs.Common.{◌++◌, Option, Some, None, length, get_or, take, refl, ap}
-use Rattle.std.proofs.Common.{◌∙◌, append_assoc, add-one, arith}
-use Rattle.std.specs.Prelude.{if◌then◌else◌}
-use Rattle.std.specs.List.{AllByRecursion}
-use Rattle.std.proofs.Math.Seq.{take-append_seam}
-use Rattle.std.proofs.lemmas.List.{append-nil, length-append}
-use Rattle.gf_fraction.proofs.AllElements.{all_both}
-use Rattle.gf_form.specs.inner.strategies.LabelTexts.{IsPlain, choice_text}
-use Rattle.gf_form.specs.Reduced.{reduced_label}
-use Rattle.gf_form.specs.inner.reduced.Shown.{shown}
+use Rattle.gf_form.proofs.Common.{◌≡◌, ℕ, zero, suc, ◌+◌, ◌-◌, ◌<◌, ◌≤◌, ◌^◌, Bool, true, false}
+use Rattle.gf_form.proofs.Common.{List, [], ◌∷◌, ◌++◌, Option, Some, None, length, get_or, take}
+use Rattle.gf_form.proofs.Common.{refl, ap, ◌∙◌, append_assoc, add-one, arith, if◌then◌else◌}
+use Rattle.gf_form.proofs.Common.{AllByRecursion, take-append_seam, append-nil, length-append}
+use Rattle.gf_form.proofs.Common.{all_both, IsPlain, choice_text, reduced_label, shown}
 use Rattle.gf_form.proofs.lemmas.strategies.CountedActions.{take_past}
 use Rattle.gf_form.proofs.lemmas.strategies.StrategiesByNumber.{plain_number}
 

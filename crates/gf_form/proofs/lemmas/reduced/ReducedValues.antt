@@ -1,25 +1,13 @@
 -- Full profiles that reduce to the same one have the same bottom-up values.
-use Rattle.std.proofs.Common.{◌≡◌, ℕ, zero, suc, ◌+◌, ◌<◌, Bool, true, false, List, []}
-use Rattle.std.proofs.Common.{◌∷◌, ◌++◌, Option, Some, None, MatchOption, map, refl}
-use Rattle.std.proofs.Common.{sym, ◌∙◌, subst, arith, inl, append_assoc}
-use Rattle.std.specs.Prelude.{◌↔◌, ◌==◌}
-use Rattle.std.specs.Bool.{MatchBool}
-use Rattle.std.specs.List.{Contains, list_all}
-use Rattle.std.proofs.lemmas.Bool.{and_from, eqb-false}
-use Rattle.gf_fraction.specs.Ratio.{Ratio}
-use Rattle.gf_fraction.specs.Rational.{zero_ratio}
-use Rattle.gf_tree.specs.Tree.{Tree, Trees}
-use Rattle.gf_tree.specs.Tree.Tree.{branch}
-use Rattle.gf_tree.specs.Tree.Trees.{none, more}
-use Rattle.gf_tree.specs.Description.{SetKey}
-use Rattle.gf_tree.specs.Game.{Node, Game}
-use Rattle.gf_tree.proofs.lemmas.games.Members.{in_left, in_right}
-use Rattle.gf_tree.proofs.lemmas.games.Uses.{Has, has_map}
-use Rattle.gf_form.specs.BottomUp.{IsChanceValue, IsMoveValue}
-use Rattle.gf_form.specs.BottomUp.{IsTerminalValue, IsValue, IsChildValue}
-use Rattle.gf_form.specs.Plays.{Play, Step, from_node, is_chosen, plays, plays_from}
-use Rattle.gf_form.specs.Reduced.{comes_to, is_own_choice, reduced_by}
-use Rattle.gf_form.specs.Strategies.{choices_by, full_profiles, strategies_at}
+use Rattle.gf_form.proofs.Common.{◌≡◌, ℕ, zero, suc, ◌+◌, ◌<◌, Bool, true, false, List, [], ◌∷◌}
+use Rattle.gf_form.proofs.Common.{◌++◌, Option, Some, None, MatchOption, map, refl, sym, ◌∙◌, subst}
+use Rattle.gf_form.proofs.Common.{arith, inl, append_assoc, ◌↔◌, ◌==◌, MatchBool, Contains}
+use Rattle.gf_form.proofs.Common.{list_all, and_from, eqb-false, Ratio, zero_ratio, Tree, Trees}
+use Rattle.gf_form.proofs.Common.{branch, none, more, SetKey, Node, Game, in_left, in_right, Has}
+use Rattle.gf_form.proofs.Common.{has_map, IsChanceValue, IsMoveValue, IsTerminalValue, IsValue}
+use Rattle.gf_form.proofs.Common.{IsChildValue, Play, Step, from_node, is_chosen, plays, plays_from}
+use Rattle.gf_form.proofs.Common.{comes_to, is_own_choice, reduced_by, choices_by, full_profiles}
+use Rattle.gf_form.proofs.Common.{strategies_at}
 use Rattle.gf_form.proofs.lemmas.reduced.ReducedPays.{AreReducedAlike, all_own, his, his_steps}
 use Rattle.gf_form.proofs.lemmas.reduced.ReducedPays.{reduced_alike}
 use Rattle.gf_form.proofs.lemmas.reduced.Reducing.{any_has, same_where_relevant}

@@ -1,19 +1,11 @@
 -- Strategies that reduce to the same one agree with the same plays.
-use Rattle.std.proofs.Common.{arith}
-use Rattle.std.proofs.Common.{◌≡◌, ℕ, Bool, true, false, List, [], ◌∷◌, Option, Some, None}
-use Rattle.std.proofs.Common.{map, get_or, drop, refl, sym, ap, ◌∙◌, subst, inl, inr}
-use Rattle.std.specs.Prelude.{◌⊎◌, ◌==◌, ◌||◌, ◌&&◌, not, if◌then◌else◌}
-use Rattle.std.specs.List.{Contains, list_all, list_any}
-use Rattle.std.specs.Option.{option_map_or}
-use Rattle.std.proofs.lemmas.Bool.{and_parts, or_left, or_right}
-use Rattle.gf_tree.specs.Description.{SetKey, same_set}
-use Rattle.gf_tree.specs.Game.{Game}
-use Rattle.gf_tree.specs.FirstUse.{player_keys}
-use Rattle.gf_tree.proofs.lemmas.games.TreesOnce.{same_set_equality}
-use Rattle.gf_tree.proofs.lemmas.games.Uses.{Has, has}
-use Rattle.gf_form.specs.Strategies.{choice_at}
-use Rattle.gf_form.specs.Plays.{Step, Play, plays}
-use Rattle.gf_form.specs.Reduced.{is_own_choice, agrees, comes_to, is_relevant, reduced}
+use Rattle.gf_form.proofs.Common.{arith, ◌≡◌, ℕ, Bool, true, false, List, [], ◌∷◌, Option, Some}
+use Rattle.gf_form.proofs.Common.{None, map, get_or, drop, refl, sym, ap, ◌∙◌, subst, inl, inr, ◌⊎◌}
+use Rattle.gf_form.proofs.Common.{◌==◌, ◌||◌, ◌&&◌, not, if◌then◌else◌, Contains, list_all}
+use Rattle.gf_form.proofs.Common.{list_any, option_map_or, and_parts, or_left, or_right, SetKey}
+use Rattle.gf_form.proofs.Common.{same_set, Game, player_keys, same_set_equality, Has, has}
+use Rattle.gf_form.proofs.Common.{choice_at, Step, Play, plays, is_own_choice, agrees, comes_to}
+use Rattle.gf_form.proofs.Common.{is_relevant, reduced}
 
 -- ---- tests
 

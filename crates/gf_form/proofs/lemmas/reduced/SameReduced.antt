@@ -1,48 +1,26 @@
 -- Games that are the same have the same plays except for their numbers, and so the same reduced
 -- strategies and the same reduced form.
-use Rattle.std.proofs.Common.{arith}
-use Rattle.std.proofs.Common.{◌≡◌, ℕ, ◌+◌, Bool, true, false, List, [], ◌∷◌}
-use Rattle.std.proofs.Common.{Option, Some, None, map, refl, ap, ◌∙◌, subst}
-use Rattle.std.specs.Prelude.{◌↔◌, ◌==◌, ◌&&◌, ◌||◌, not, option_map, zip, if◌then◌else◌}
-use Rattle.std.specs.List.{AllByRecursion, AllZip, Contains, list_any}
-use Rattle.std.specs.Option.{option_map_or}
-use Rattle.std.specs.Cmp.Lexicographic.{pointwise}
-use Rattle.std.proofs.lemmas.List.{map-append}
-use Rattle.gf_fraction.specs.Ratio.{Ratio, IsFraction}
-use Rattle.gf_fraction.specs.Rational.{IsEqual}
-use Rattle.gf_fraction.proofs.AllElements.{all_both, all_images, all_parts, all_weaker}
-use Rattle.gf_nfg.specs.Table.{Table}
-use Rattle.gf_tree.specs.Tree.{Tree, Trees, map_tree, map_trees}
-use Rattle.gf_tree.specs.Tree.Tree.{branch}
-use Rattle.gf_tree.specs.Tree.Trees.{none, more}
-use Rattle.gf_tree.specs.PrefixOrder.{Entry, flatten, flatten_all}
-use Rattle.gf_tree.specs.Description.{SetKey, same_set}
-use Rattle.gf_tree.specs.FiniteMap.{first_uses}
-use Rattle.gf_tree.specs.FirstUse.{player_keys}
-use Rattle.gf_tree.specs.Game.{Node, Game, IsGame, used_sets}
-use Rattle.gf_tree.specs.Renumbering.{Renumbering, IsRenumbering, renumbered_set}
-use Rattle.gf_tree.specs.Renumbering.{renumbered_node, renumbered}
-use Rattle.gf_tree.specs.SameGame.{SameGame}
-use Rattle.gf_tree.proofs.lemmas.games.Canonical.{carried_is_renumbered}
-use Rattle.gf_tree.proofs.lemmas.games.FirstUseNumbers.{same_tests}
-use Rattle.gf_tree.proofs.lemmas.games.MappedTrees.{held}
-use Rattle.gf_tree.proofs.lemmas.games.Members.{map_same, map_twice}
-use Rattle.gf_tree.proofs.lemmas.games.Renumberings.{sets_apart}
-use Rattle.gf_tree.proofs.lemmas.games.Same.{same_back}
-use Rattle.gf_tree.proofs.lemmas.games.TreesOnce.{same_set_equality}
-use Rattle.gf_tree.proofs.lemmas.games.Uses.{Has, all_of_each}
-use Rattle.gf_form.specs.Payoff.{payoff}
-use Rattle.gf_form.specs.Plays.{Step, Play, from_node, plays, plays_from}
-use Rattle.gf_form.specs.Reduced.{AreReducedPayoffsAt, comes_to, IsReducedForm, is_relevant}
-use Rattle.gf_form.specs.Reduced.{reduced, reduced_at, reduced_by}
-use Rattle.gf_form.specs.Reduced.{reduced_profiles, reduced_strategies, same_choice}
-use Rattle.gf_form.specs.Refusal.{HasReducedValues, ReducedOverflowsAt}
-use Rattle.gf_form.specs.StrategicForm.{ArePayoffsAt}
-use Rattle.gf_form.specs.Strategies.{choice_at, choices_by, full_profiles, players_of}
-use Rattle.gf_form.specs.Strategies.{strategies, strategies_at}
+use Rattle.gf_form.proofs.Common.{arith, ◌≡◌, ℕ, ◌+◌, Bool, true, false, List, [], ◌∷◌, Option}
+use Rattle.gf_form.proofs.Common.{Some, None, map, refl, ap, ◌∙◌, subst, ◌↔◌, ◌==◌, ◌&&◌, ◌||◌, not}
+use Rattle.gf_form.proofs.Common.{option_map, zip, if◌then◌else◌, AllByRecursion, AllZip, Contains}
+use Rattle.gf_form.proofs.Common.{list_any, option_map_or, pointwise, map-append, Ratio, IsFraction}
+use Rattle.gf_form.proofs.Common.{IsEqual, all_both, all_images, all_parts, all_weaker, Table, Tree}
+use Rattle.gf_form.proofs.Common.{Trees, map_tree, map_trees, branch, none, more, flatten}
+use Rattle.gf_form.proofs.Common.{flatten_all, SetKey, same_set, first_uses, player_keys, Node}
+use Rattle.gf_form.proofs.Common.{Game, IsGame, used_sets, Renumbering, IsRenumbering}
+use Rattle.gf_form.proofs.Common.{renumbered_set, renumbered_node, renumbered, SameGame}
+use Rattle.gf_form.proofs.Common.{carried_is_renumbered, same_tests, held, map_same, map_twice}
+use Rattle.gf_form.proofs.Common.{sets_apart, same_back, same_set_equality, Has, all_of_each}
+use Rattle.gf_form.proofs.Common.{payoff, Step, Play, from_node, plays, plays_from}
+use Rattle.gf_form.proofs.Common.{AreReducedPayoffsAt, comes_to, IsReducedForm, is_relevant}
+use Rattle.gf_form.proofs.Common.{reduced, reduced_at, reduced_by, reduced_profiles}
+use Rattle.gf_form.proofs.Common.{reduced_strategies, same_choice, HasReducedValues}
+use Rattle.gf_form.proofs.Common.{ReducedOverflowsAt, ArePayoffsAt, choice_at, choices_by}
+use Rattle.gf_form.proofs.Common.{full_profiles, players_of, strategies, strategies_at}
+use Rattle.gf_tree.specs.PrefixOrder.{Entry}
 use Rattle.gf_form.proofs.lemmas.form.SameForms.{key_used, keys_carried, same_payoffs}
-use Rattle.gf_form.proofs.lemmas.form.SameForms.{same_strategies_at}
-use Rattle.gf_form.proofs.lemmas.form.SameForms.{strategies_carried, strategy_carried}
+use Rattle.gf_form.proofs.lemmas.form.SameForms.{same_strategies_at, strategies_carried}
+use Rattle.gf_form.proofs.lemmas.form.SameForms.{strategy_carried}
 use Rattle.gf_form.proofs.lemmas.form.SameRefusals.{first_too, players_too, same_profiles}
 use Rattle.gf_form.proofs.lemmas.form.SameRefusals.{values_too}
 

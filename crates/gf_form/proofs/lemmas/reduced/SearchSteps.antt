@@ -1,35 +1,22 @@
 -- A search for first strategies, choice by choice: what is under the choices so far.
-use Rattle.std.proofs.Common.{◌≡◌, ℕ, zero, suc, ◌+◌, ◌-◌, ◌*◌, ◌/◌, ◌%◌, ◌^◌, ◌<◌, ◌≤◌, Bool, true}
-use Rattle.std.proofs.Common.{false, List}
-use Rattle.std.proofs.Common.{[], ◌∷◌, ◌++◌, Some, length, drop, get_or, set, take, refl, sym}
-use Rattle.std.proofs.Common.{ap, subst, ◌∙◌, arith, add-one, append_assoc, inl, inr, ◌⊎◌}
-use Rattle.std.proofs.Math.Seq.{drop-cons, take-suc, take-suc-set}
-use Rattle.std.specs.Prelude.{◌==◌}
-use Rattle.std.proofs.Math.Nat.{div-add-mod, div-lt_iff_lt-mul, mod-lt, mul-div_cancel_left}
-use Rattle.std.proofs.Math.Nat.{mul_comm, mul-le-mul_right}
-use Rattle.std.proofs.lemmas.Bool.{cases_lt, eqb-false, eqb-true}
-use Rattle.std.proofs.Math.ListN.{drop_of_length-le}
-use Rattle.std.proofs.lemmas.List.{get_or-append_right, get_or-set_other, get_or_default}
-use Rattle.std.proofs.lemmas.List.{length-set, length-take-le, take-set-le, take-take}
-use Rattle.gf_token.specs.Positions.{at_position}
-use Rattle.gf_nfg.specs.Profiles.{product}
-use Rattle.gf_tree.specs.Description.{SetKey}
-use Rattle.gf_tree.specs.FirstUse.{player_keys}
-use Rattle.gf_tree.specs.Game.{Game}
-use Rattle.gf_form.specs.Strategies.{all_choices}
-use Rattle.gf_form.specs.inner.rows.Demands.{steps_of}
-use Rattle.gf_form.specs.inner.rows.DigitSteps.{picked, width}
-use Rattle.gf_form.specs.inner.reduced.Levels.{ArePositive, IsChosen, IsLevel, is_left}
-use Rattle.gf_form.specs.inner.reduced.OwnDigits.{digits_from, own_steps}
-use Rattle.gf_form.specs.inner.reduced.Search.{IsSearchBy, IsUnderBy, digit_at}
-use Rattle.gf_form.specs.inner.reduced.Visits.{AreActions}
-use Rattle.gf_form.specs.declared.reduced.digits.OwnDigit.{OwnDigit}
-use Rattle.gf_form.specs.declared.reduced.level.Level.{Level}
-use Rattle.gf_form.proofs.lemmas.rows.DigitChoices.{at_place as choice_at_place}
-use Rattle.gf_form.proofs.lemmas.rows.DigitChoices.{choice_at_number}
+use Rattle.gf_form.proofs.Common.{◌≡◌, ℕ, zero, suc, ◌+◌, ◌-◌, ◌*◌, ◌/◌, ◌%◌, ◌^◌, ◌<◌, ◌≤◌, Bool}
+use Rattle.gf_form.proofs.Common.{true, false, List, [], ◌∷◌, ◌++◌, Some, length, drop, get_or, set}
+use Rattle.gf_form.proofs.Common.{take, refl, sym, ap, subst, ◌∙◌, arith, add-one, append_assoc}
+use Rattle.gf_form.proofs.Common.{inl, inr, ◌⊎◌, drop-cons, take-suc, ◌==◌, div-add-mod}
+use Rattle.gf_form.proofs.Common.{div-lt_iff_lt-mul, mod-lt, mul-div_cancel_left, mul_comm}
+use Rattle.gf_form.proofs.Common.{mul-le-mul_right, cases_lt, eqb-false, eqb-true}
+use Rattle.gf_form.proofs.Common.{drop_of_length-le, get_or-set_other, get_or_default, length-set}
+use Rattle.gf_form.proofs.Common.{length-take-le, at_position, product, SetKey, player_keys, Game}
+use Rattle.gf_form.proofs.Common.{all_choices, steps_of, picked, width, ArePositive, IsChosen}
+use Rattle.gf_form.proofs.Common.{IsLevel, is_left, digits_from, own_steps, IsSearchBy, IsUnderBy}
+use Rattle.gf_form.proofs.Common.{digit_at, AreActions, OwnDigit, Level}
+use Rattle.std.proofs.Math.Seq.{take-suc-set}
+use Rattle.std.proofs.lemmas.List.{get_or-append_right, take-set-le, take-take}
+use Rattle.gf_form.proofs.lemmas.rows.DigitChoices.{at_place as choice_at_place, choice_at_number}
 use Rattle.gf_form.proofs.lemmas.rows.DemandDigits.{spans_above}
 use Rattle.gf_form.proofs.lemmas.strategies.Choices.{length-all_choices, place, place_at}
 use Rattle.gf_form.proofs.lemmas.strategies.CountedActions.{positive_at}
+use Rattle.gf_form.proofs.lemmas.strategies.StrategiesByNumber.{choices_row}
 use Rattle.gf_form.proofs.lemmas.reduced.OwnDigits.{from_several, width_fits}
 
 -- ---- actions in turn
@@ -40,19 +27,6 @@ actions_more (m ∷ counts) (b ∷ strategy) n a h some within =
     (h.0, actions_more counts strategy n a h.1 some within)
 actions_more [] [] n a h some within = ((some, within), tt)
 actions_more counts strategy n a h some within = absurd h
-
--- the choices with this action at the first set have numbers in turn
-choices_row : (n : ℕ) (counts : List ℕ) (before k : ℕ) → before < n → k < product counts
-    → get_or (all_choices (n ∷ counts)) (before * product counts + k) []
-    ≡ (before + 1) ∷ get_or (all_choices counts) k []
-choices_row n counts before k within less =
-    let others = get_or (all_choices counts) k [] in
-    let here : k ≡ place counts others =
-    sym (place_at counts k [] (omega (arith, less, length-all_choices counts))) in
-    let one : before ≡ before + 1 - 1 = omega arith in
-    (λ i. get_or (all_choices (n ∷ counts)) (one i * product counts + here i) [])
-    ∙ choice_at_place (n ∷ counts) ((before + 1) ∷ others)
-    ((omega arith, omega (arith, within)), choice_at_number counts k less)
 
 -- after those with the first action at the first set, another one is chosen there
 other_action : (n : ℕ) (counts : List ℕ) (k : ℕ) → product counts ≤ k → k < n * product counts

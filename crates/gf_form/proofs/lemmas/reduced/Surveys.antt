@@ -1,43 +1,23 @@
 -- A survey of a tree: what is found when it goes into a branch.
-use Rattle.std.proofs.Common.{◌≡◌, ℕ, suc, ◌+◌, ◌*◌, ◌-◌, ◌<◌, ◌≤◌, Bool, true, false, List, []}
-use Rattle.std.proofs.Common.{◌∷◌, ◌++◌, Option, Some, None, length, get_or, refl, sym, ap}
-use Rattle.std.proofs.Common.{Vec, Global, subst, arith, inl, inr}
-use Rattle.std.specs.Prelude.{◌==◌, ◌||◌, ◌&&◌, ◌⊎◌, if◌then◌else◌, not}
-use Rattle.std.specs.List.{AllByRecursion, list_any}
+use Rattle.gf_form.proofs.Common.{◌≡◌, ℕ, suc, ◌+◌, ◌*◌, ◌-◌, ◌<◌, ◌≤◌, Bool, true, false, List, []}
+use Rattle.gf_form.proofs.Common.{◌∷◌, ◌++◌, Option, Some, None, length, get_or, refl, sym, ap, Vec}
+use Rattle.gf_form.proofs.Common.{Global, subst, arith, inl, inr, ◌==◌, ◌||◌, ◌&&◌, ◌⊎◌}
+use Rattle.gf_form.proofs.Common.{if◌then◌else◌, not, AllByRecursion, list_any, list_any-append}
+use Rattle.gf_form.proofs.Common.{length-append, at_position, all_both, all_parts, branches_given}
+use Rattle.gf_form.proofs.Common.{branches_left, game_of_branches, SetKey, same_set, player_keys}
+use Rattle.gf_form.proofs.Common.{Game, IsGame, Node, used_sets, flatten, flatten_all, child_trees}
+use Rattle.gf_form.proofs.Common.{list_of, root_node, subtree_at, subtrees, Tree, Trees, branch}
+use Rattle.gf_form.proofs.Common.{none, more, AreDistinct, first_uses_distinct, sets_by_first_use}
+use Rattle.gf_form.proofs.Common.{same_set_equality, Has, tree_comes, trees_come, is_own_choice}
+use Rattle.gf_form.proofs.Common.{own_steps, FindRelevance, action_counts, choice_at, FindsMore}
+use Rattle.gf_form.proofs.Common.{IsOpen, IsSurvey, meets_own, open_comes, sizes, survey_size}
+use Rattle.gf_form.proofs.Common.{AreActions, AreWithin, Meets, is_met_on, visits_of, picked}
+use Rattle.gf_form.proofs.Common.{steps_behind, width, demanded, Open, Survey, Visit}
 use Rattle.std.proofs.Math.Bool.{and-false}
-use Rattle.std.proofs.lemmas.List.Folds.{list_any-append}
-use Rattle.std.proofs.lemmas.List.{length-append}
-use Rattle.gf_token.specs.Positions.{at_position}
-use Rattle.gf_fraction.proofs.AllElements.{all_both, all_parts}
-use Rattle.gf_tree.specs.BranchesLeft.{branches_given, branches_left, game_of_branches}
-use Rattle.gf_tree.specs.Description.{SetKey, same_set}
-use Rattle.gf_tree.specs.FirstUse.{player_keys, sets_of}
-use Rattle.gf_tree.specs.Game.{Game, IsGame, Node, used_sets}
-use Rattle.gf_tree.specs.PrefixOrder.{flatten, flatten_all}
-use Rattle.gf_tree.specs.Subtrees.{child_trees, list_of, root_node, subtree_at, subtrees}
+use Rattle.gf_tree.specs.FirstUse.{sets_of}
 use Rattle.gf_tree.specs.declared.game.branches.Branches.{Branches}
-use Rattle.gf_tree.specs.Tree.{Tree, Trees}
-use Rattle.gf_tree.specs.Tree.Tree.{branch}
-use Rattle.gf_tree.specs.Tree.Trees.{none, more}
-use Rattle.gf_tree.proofs.lemmas.games.FirstUses.{AreDistinct, first_uses_distinct}
-use Rattle.gf_tree.proofs.lemmas.games.PlayerSets.{sets_by_first_use}
-use Rattle.gf_tree.proofs.lemmas.games.TreesOnce.{same_set_equality}
-use Rattle.gf_tree.proofs.lemmas.games.Uses.{Has}
-use Rattle.gf_form.specs.inner.reduced.Comes.{list_comes, tree_comes, trees_come}
-use Rattle.gf_form.specs.Reduced.{is_own_choice}
-use Rattle.gf_form.specs.inner.reduced.OwnDigits.{own_steps}
-use Rattle.gf_form.specs.inner.reduced.Relevance.{FindRelevance}
-use Rattle.gf_form.specs.Strategies.{action_counts, choice_at}
-use Rattle.gf_form.specs.inner.reduced.Survey.{FindsMore, IsOpen, IsSurvey, leads_to, meets_own}
-use Rattle.gf_form.specs.inner.reduced.Survey.{open_comes, open_size, sizes, survey_comes}
-use Rattle.gf_form.specs.inner.reduced.Survey.{survey_size}
-use Rattle.gf_form.specs.inner.reduced.Visits.{AreActions, AreWithin, Meets, is_met_on}
-use Rattle.gf_form.specs.inner.reduced.Visits.{visits_of}
-use Rattle.gf_form.specs.inner.rows.DigitSteps.{picked, steps_behind, width}
-use Rattle.gf_form.specs.inner.rows.ReachedNodes.{demanded}
-use Rattle.gf_form.specs.declared.reduced.survey.Open.{Open}
-use Rattle.gf_form.specs.declared.reduced.survey.Survey.{Survey}
-use Rattle.gf_form.specs.declared.reduced.visits.Visit.{Visit}
+use Rattle.gf_form.specs.inner.reduced.Comes.{list_comes}
+use Rattle.gf_form.specs.inner.reduced.Survey.{leads_to, open_size, survey_comes}
 use Rattle.gf_form.proofs.lemmas.reduced.Coming.{relevant_is}
 use Rattle.gf_form.proofs.lemmas.reduced.NodeSets.{key_there, own_choice, same_position}
 use Rattle.gf_form.proofs.lemmas.reduced.NodeSets.{set_at_node}

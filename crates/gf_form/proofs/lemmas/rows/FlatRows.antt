@@ -1,26 +1,15 @@
 -- Terms whose numbers stand one row after another.
-use Rattle.std.proofs.Common.{◌≡◌, ℕ, ℤ, suc, ◌+◌, ◌*◌, ◌<◌, ◌≤◌, ◌/◌, ◌+ℤ◌, ◌*ℤ◌, List}
-use Rattle.std.proofs.Common.{[], ◌∷◌, ◌++◌, Bool, true, false, pos, inl, inr, ◌⊎◌, length, get_or}
-use Rattle.std.proofs.Common.{take, drop, refl, ap, sym, subst, ◌∙◌, arith, map}
-use Rattle.std.proofs.Math.Seq.{take-length, get_or-append_seam}
-use Rattle.std.specs.Int.{◌∣◌}
-use Rattle.std.proofs.Math.IntN.{zero-*ℤ}
-use Rattle.std.proofs.lemmas.Bool.{cases_lt}
-use Rattle.std.proofs.lemmas.List.{get_or_past}
-use Rattle.std.proofs.lemmas.List.{get_or_append_left, length-take-le, append_assoc}
-use Rattle.std.proofs.lemmas.List.{drop-append-le, drop-drop, take-append-drop, length-append}
-use Rattle.std.proofs.lemmas.List.{length-drop, map-append, take-append-le}
-use Rattle.std.proofs.lemmas.Nat.Gcd.{dvd_refl}
-use Rattle.gf_fraction.specs.Ratio.{IsWithin}
-use Rattle.gf_fraction.proofs.AllElements.{all_both, all_parts}
-use Rattle.std.specs.List.{AllByRecursion}
-use Rattle.gf_form.specs.inner.rows.Entries.{Entry, HasNumbers, IsScale, IsShaped, IsSumOf}
-use Rattle.gf_form.specs.inner.rows.Entries.{entries, entries_of, entry_at, heads, heads_of}
-use Rattle.gf_form.specs.inner.rows.Entries.{no_entry, no_head, number_at}
-use Rattle.gf_form.specs.declared.rows.sums.Scale.{Scale}
-use Rattle.gf_form.specs.declared.rows.terms.Head.{Head}
-use Rattle.gf_form.specs.declared.rows.terms.Scaled.{Scaled}
-use Rattle.gf_form.specs.declared.rows.terms.Terms.{Terms}
+use Rattle.gf_form.proofs.Common.{◌≡◌, ℕ, ℤ, suc, ◌+◌, ◌*◌, ◌<◌, ◌≤◌, ◌/◌, ◌+ℤ◌, ◌*ℤ◌, List, []}
+use Rattle.gf_form.proofs.Common.{◌∷◌, ◌++◌, Bool, true, false, pos, inl, inr, ◌⊎◌, length, get_or}
+use Rattle.gf_form.proofs.Common.{take, drop, refl, ap, sym, subst, ◌∙◌, arith, map, take-length}
+use Rattle.gf_form.proofs.Common.{get_or-append_seam, ◌∣◌, zero-*ℤ, cases_lt, get_or_past}
+use Rattle.gf_form.proofs.Common.{get_or_append_left, length-take-le, drop-drop, take-append-drop}
+use Rattle.gf_form.proofs.Common.{length-append, map-append, dvd_refl, IsWithin, all_both}
+use Rattle.gf_form.proofs.Common.{all_parts, AllByRecursion, Entry, IsScale, IsShaped, IsSumOf}
+use Rattle.gf_form.proofs.Common.{entries, entries_of, entry_at, heads, heads_of, no_entry}
+use Rattle.gf_form.proofs.Common.{number_at, Scale, Head, Scaled, Terms}
+use Rattle.std.proofs.lemmas.List.{append_assoc, drop-append-le, length-drop, take-append-le}
+use Rattle.gf_form.specs.inner.rows.Entries.{HasNumbers, no_head}
 
 pub none_taken : {X : Type 0} (xs : List X) → take 0 xs ≡ []
 none_taken xs = grind arith

@@ -1,19 +1,9 @@
 -- The rows of a game's profiles, by its terms.
-use Rattle.std.proofs.Common.{◌≡◌, ℕ, ◌-◌, ◌<◌, List, [], arith, get_or, length, map}
-use Rattle.gf_fraction.specs.Ratio.{Ratio}
-use Rattle.gf_tree.specs.Game.{Game, IsGame}
-use Rattle.gf_tree.specs.Spellable.{IsSpellable}
-use Rattle.gf_form.specs.inner.rows.Demands.{steps_of}
-use Rattle.gf_form.specs.inner.rows.Entries.{entries}
-use Rattle.gf_form.specs.inner.rows.GameDigits.{HasDigits, digit_actions}
-use Rattle.gf_form.specs.inner.rows.KeptNodes.{paid_reached}
-use Rattle.gf_form.specs.inner.rows.ListedNodes.{AreTermsOf}
-use Rattle.gf_form.specs.inner.values.Rows.{ArePaid}
-use Rattle.gf_form.specs.inner.strategies.ProfileNumbers.{AreProfileNumbers}
-use Rattle.gf_form.specs.inner.rows.SettledRows.{Settles, SettlesAt}
-use Rattle.gf_form.specs.Strategies.{all_choices, choices_by, full_profiles, strategies_at}
-use Rattle.gf_form.specs.declared.rows.digits.Digits.{Digits}
-use Rattle.gf_form.specs.declared.rows.terms.Terms.{Terms}
+use Rattle.gf_form.proofs.Common.{◌≡◌, ℕ, ◌-◌, ◌<◌, List, [], arith, get_or, length, map, Ratio}
+use Rattle.gf_form.proofs.Common.{Game, IsGame, IsSpellable, steps_of, entries, HasDigits}
+use Rattle.gf_form.proofs.Common.{digit_actions, paid_reached, AreTermsOf, ArePaid}
+use Rattle.gf_form.proofs.Common.{AreProfileNumbers, Settles, SettlesAt, all_choices, choices_by}
+use Rattle.gf_form.proofs.Common.{full_profiles, strategies_at, Digits, Terms}
 use Rattle.gf_form.proofs.lemmas.rows.KeptShares.{paid_value}
 use Rattle.gf_form.proofs.lemmas.strategies.StrategiesByNumber.{all_at}
 

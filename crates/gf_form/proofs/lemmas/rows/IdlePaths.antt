@@ -1,10 +1,6 @@
 -- Paths below a child of probability 0.
-use Rattle.std.proofs.Common.{◌≡◌, ℕ, ◌≤◌, false, Some, arith}
-use Rattle.std.specs.Prelude.{unsigned_abs}
-use Rattle.gf_fraction.specs.Ratio.{Ratio}
-use Rattle.gf_tree.specs.Description.{SetKey}
-use Rattle.gf_form.specs.inner.rows.ReachedNodes.{by_chance, is_sum_at}
-use Rattle.gf_form.specs.declared.rows.paths.Path.{Path}
+use Rattle.gf_form.proofs.Common.{◌≡◌, ℕ, ◌≤◌, false, Some, arith, unsigned_abs, Ratio, SetKey}
+use Rattle.gf_form.proofs.Common.{by_chance, is_sum_at, Path}
 
 -- ---- after an action
 

@@ -1,17 +1,12 @@
 -- Terms, when the last two become their sum.
-use Rattle.std.proofs.Common.{◌≡◌, ℕ, ℤ, zero, suc, ◌+◌, ◌-◌, ◌*◌, List, [], ◌∷◌, ◌++◌, ap, arith}
-use Rattle.std.proofs.Common.{drop, get_or, length, refl, subst, sym, take, ◌∙◌}
+use Rattle.gf_form.proofs.Common.{◌≡◌, ℕ, ℤ, zero, suc, ◌+◌, ◌-◌, ◌*◌, List, [], ◌∷◌, ◌++◌, ap}
+use Rattle.gf_form.proofs.Common.{arith, drop, get_or, length, refl, subst, sym, take, ◌∙◌}
+use Rattle.gf_form.proofs.Common.{get_or-take, get_or_default, Game, AreOrdered, EndsBelow, Entry}
+use Rattle.gf_form.proofs.Common.{HasSum, entries, entries_of, entry_at, heads_of, lowered}
+use Rattle.gf_form.proofs.Common.{AreTermsOf, Reached, Head, Scaled, Terms}
 use Rattle.std.proofs.Math.Seq.{take-nil}
-use Rattle.std.proofs.lemmas.List.{drop-take, get_or-take, get_or_default, length-take}
+use Rattle.std.proofs.lemmas.List.{drop-take, length-take}
 use Rattle.std.proofs.lemmas.List.Sorted.{IsNonDecreasingBy-take}
-use Rattle.gf_tree.specs.Game.{Game}
-use Rattle.gf_form.specs.inner.rows.Entries.{AreOrdered, EndsBelow, Entry, HasSum, entries}
-use Rattle.gf_form.specs.inner.rows.Entries.{entries_of, entry_at, heads_of, lowered}
-use Rattle.gf_form.specs.inner.rows.ListedNodes.{AreTermsOf}
-use Rattle.gf_form.specs.declared.rows.paths.Reached.{Reached}
-use Rattle.gf_form.specs.declared.rows.terms.Head.{Head}
-use Rattle.gf_form.specs.declared.rows.terms.Scaled.{Scaled}
-use Rattle.gf_form.specs.declared.rows.terms.Terms.{Terms}
 use Rattle.gf_form.proofs.lemmas.rows.FlatRows.{demands_more, entry_demands, terms_count}
 use Rattle.gf_form.proofs.lemmas.rows.ListedEntries.{one_term_less}
 use Rattle.gf_form.proofs.lemmas.rows.Merges.{below_more, demands_at, ordered_more}

@@ -1,27 +1,16 @@
 -- The terms of nodes say what the nodes add.
-use Rattle.std.proofs.Common.{◌≡◌, ℕ, ℤ, pos, suc, ◌+◌, ◌*◌, ◌/◌, ◌<◌, ◌≤◌, ◌*ℤ◌, Bool, true, List}
-use Rattle.std.proofs.Common.{[], ◌∷◌, ◌++◌, ap, sym, subst, ◌∙◌, arith, get_or, length, take}
-use Rattle.std.specs.Prelude.{if◌then◌else◌}
-use Rattle.std.specs.Int.{◌∣◌}
-use Rattle.std.proofs.Math.Nat.{dvd-mul_right, mul-le-mul_right, mul-div_cancel, pos_of_dvd_of_pos}
-use Rattle.std.proofs.lemmas.Int.{ints, unsigned_abs-mul}
-use Rattle.std.proofs.lemmas.Nat.Gcd.{dvd_trans}
-use Rattle.gf_fraction.proofs.AllElements.{all_both, all_parts}
-use Rattle.gf_fraction.proofs.Integers.{*ℤ_assoc}
-use Rattle.gf_fraction.specs.Ratio.{Ratio}
-use Rattle.gf_tree.specs.Game.{Game}
-use Rattle.gf_form.specs.inner.rows.Demands.{meets}
-use Rattle.gf_form.specs.inner.rows.Entries.{Entry, IsExactAt, IsSumOf, number_at, AreOrdered}
-use Rattle.gf_form.specs.inner.rows.Entries.{EndsBelow, IsShaped, entries}
-use Rattle.gf_form.specs.inner.rows.ListedNodes.{AreTermsOf, HasShare, IsTermMore, IsTermOf}
-use Rattle.gf_form.specs.inner.values.Rows.{ArePaid}
-use Rattle.gf_form.specs.declared.rows.terms.Terms.{Terms}
+use Rattle.gf_form.proofs.Common.{◌≡◌, ℕ, ℤ, pos, suc, ◌+◌, ◌*◌, ◌/◌, ◌<◌, ◌≤◌, ◌*ℤ◌, Bool, true}
+use Rattle.gf_form.proofs.Common.{List, [], ◌∷◌, ◌++◌, ap, sym, subst, ◌∙◌, arith, get_or, length}
+use Rattle.gf_form.proofs.Common.{take, if◌then◌else◌, ◌∣◌, dvd-mul_right, mul-le-mul_right}
+use Rattle.gf_form.proofs.Common.{mul-div_cancel, pos_of_dvd_of_pos, ints, unsigned_abs-mul}
+use Rattle.gf_form.proofs.Common.{dvd_trans, all_both, all_parts, *ℤ_assoc, Ratio, Game, meets}
+use Rattle.gf_form.proofs.Common.{Entry, IsExactAt, IsSumOf, number_at, AreOrdered, EndsBelow}
+use Rattle.gf_form.proofs.Common.{IsShaped, entries, AreTermsOf, HasShare, IsTermOf, ArePaid, Terms}
+use Rattle.gf_form.proofs.Common.{IsNonDecreasingBy, get_or_default, take_more, IsExact}
+use Rattle.gf_form.proofs.Common.{IsExactIfMet, over, pay_at, share, share_bound, Reached}
+use Rattle.gf_form.specs.inner.rows.ListedNodes.{IsTermMore}
 use Rattle.gf_form.proofs.lemmas.rows.Merges.{below_more, ordered_more}
-use Rattle.std.specs.List.Sorted.{IsNonDecreasingBy}
-use Rattle.std.proofs.lemmas.List.{get_or_default, take_more}
-use Rattle.gf_form.specs.inner.rows.Shares.{IsExact, IsExactIfMet, over, pay_at, scale, share}
-use Rattle.gf_form.specs.inner.rows.Shares.{share_bound}
-use Rattle.gf_form.specs.declared.rows.paths.Reached.{Reached}
+use Rattle.gf_form.specs.inner.rows.Shares.{scale}
 use Rattle.gf_form.proofs.lemmas.rows.MergedEntries.{both_size, both_sum, exact_first, exact_second}
 use Rattle.gf_form.proofs.lemmas.rows.MergedEntries.{size_append, sum_append}
 use Rattle.gf_form.proofs.lemmas.rows.OverOneDenominator.{quotient_above, quotient_through}

@@ -1,21 +1,11 @@
 -- What terms come to, part by part, and while they are merged.
-use Rattle.std.proofs.Common.{◌≡◌, ℕ, ℤ, pos, ◌+◌, ◌-◌, ◌*◌, ◌/◌, ◌<◌, ◌≤◌, ◌+ℤ◌, ◌*ℤ◌, Bool, true}
-use Rattle.std.proofs.Common.{false, List, [], ◌∷◌, ◌++◌, refl, ap, sym, subst, arith, map}
-use Rattle.std.proofs.Common.{◌⊎◌}
-use Rattle.std.specs.Prelude.{if◌then◌else◌}
-use Rattle.std.specs.Int.{◌∣◌}
-use Rattle.std.specs.List.{AllByRecursion}
-use Rattle.std.proofs.Math.IntN.{+ℤ_assoc, +ℤ_idl}
-use Rattle.std.proofs.Math.Nat.{mul-le-mul_right}
-use Rattle.std.proofs.lemmas.Bool.{lt-ltb}
-use Rattle.std.proofs.lemmas.Int.{ints}
-use Rattle.std.proofs.lemmas.Nat.Gcd.{dvd_trans}
-use Rattle.gf_fraction.proofs.AllElements.{all_both, all_parts}
-use Rattle.gf_fraction.proofs.Integers.{*ℤ_assoc, add-*ℤ}
-use Rattle.gf_form.specs.inner.rows.Demands.{meets}
-use Rattle.gf_form.specs.inner.rows.Entries.{AreExactAt, AreMerged, ComeTo, Entry, IsExactAt}
-use Rattle.gf_form.specs.inner.rows.Entries.{IsSumOf, lowered, number_at, size_of_entries}
-use Rattle.gf_form.specs.inner.rows.Entries.{sum_of_entries}
+use Rattle.gf_form.proofs.Common.{◌≡◌, ℕ, ℤ, pos, ◌+◌, ◌-◌, ◌*◌, ◌/◌, ◌<◌, ◌≤◌, ◌+ℤ◌, ◌*ℤ◌, Bool}
+use Rattle.gf_form.proofs.Common.{true, false, List, [], ◌∷◌, ◌++◌, refl, ap, sym, subst, arith}
+use Rattle.gf_form.proofs.Common.{map, ◌⊎◌, if◌then◌else◌, ◌∣◌, AllByRecursion, +ℤ_assoc, +ℤ_idl}
+use Rattle.gf_form.proofs.Common.{mul-le-mul_right, lt-ltb, ints, dvd_trans, all_both, all_parts}
+use Rattle.gf_form.proofs.Common.{*ℤ_assoc, add-*ℤ, meets, AreExactAt, AreMerged, Entry, IsExactAt}
+use Rattle.gf_form.proofs.Common.{IsSumOf, lowered, number_at, size_of_entries, sum_of_entries}
+use Rattle.gf_form.specs.inner.rows.Entries.{ComeTo}
 use Rattle.gf_form.proofs.lemmas.rows.OverOneDenominator.{quotient_through}
 
 false_true : ¬ (false ≡ true)

@@ -1,20 +1,15 @@
 -- Two ranges of terms while they are merged by the code.
-use Rattle.std.proofs.Common.{◌≡◌, ℕ, zero, suc, ◌+◌, ◌-◌, ◌*◌, ◌<◌, ◌≤◌, List, [], ◌∷◌, ◌++◌}
-use Rattle.std.proofs.Common.{length, get_or, take, drop, map, ap, sym, subst, ◌∙◌, arith, add-one}
-use Rattle.std.proofs.Common.{inl, inr}
-use Rattle.std.specs.List.{AllByRecursion}
-use Rattle.std.specs.List.Sorted.{IsNonDecreasing}
-use Rattle.std.proofs.Math.Nat.{mul-le-mul_right}
-use Rattle.std.proofs.Math.Seq.{drop-cons, get_or-append_seam}
-use Rattle.std.proofs.lemmas.List.{drop-drop, get_or_default, length-append, take-append-drop}
+use Rattle.gf_form.proofs.Common.{◌≡◌, ℕ, zero, suc, ◌+◌, ◌-◌, ◌*◌, ◌<◌, ◌≤◌, List, [], ◌∷◌, ◌++◌}
+use Rattle.gf_form.proofs.Common.{length, get_or, take, drop, map, ap, sym, subst, ◌∙◌, arith}
+use Rattle.gf_form.proofs.Common.{add-one, inl, inr, AllByRecursion, IsNonDecreasing}
+use Rattle.gf_form.proofs.Common.{mul-le-mul_right, drop-cons, get_or-append_seam, drop-drop}
+use Rattle.gf_form.proofs.Common.{get_or_default, length-append, take-append-drop}
+use Rattle.gf_form.proofs.Common.{IsNonDecreasingBy-push, AreAlike, AreChosen, AreMerged}
+use Rattle.gf_form.proofs.Common.{AreOrdered, EndsBelow, Entry, HasSum, IsShaped, entries, entry_at}
+use Rattle.gf_form.proofs.Common.{lowered, no_entry, part, Chosen, Terms}
 use Rattle.std.proofs.lemmas.List.{take_rest}
-use Rattle.std.proofs.lemmas.List.Sorted.{IsNonDecreasingBy-push, IsNonDecreasingBy-short}
-use Rattle.gf_form.specs.inner.rows.Entries.{AreAlike, AreChosen, AreMerged, AreOrdered}
+use Rattle.std.proofs.lemmas.List.Sorted.{IsNonDecreasingBy-short}
 use Rattle.gf_form.specs.inner.rows.Entries.{CountsBelow}
-use Rattle.gf_form.specs.inner.rows.Entries.{EndsBelow, Entry, HasSum, IsShaped, entries, entry_at}
-use Rattle.gf_form.specs.inner.rows.Entries.{lowered, no_entry, part}
-use Rattle.gf_form.specs.declared.rows.chosen.Chosen.{Chosen}
-use Rattle.gf_form.specs.declared.rows.terms.Terms.{Terms}
 use Rattle.gf_form.proofs.lemmas.rows.FlatRows.{demands_more, entry_demands, none_taken}
 use Rattle.gf_form.proofs.lemmas.rows.FlatRows.{terms_count}
 use Rattle.gf_form.proofs.lemmas.rows.MergedEntries.{IsFree, IsOther, IsOwn, Merging, Ranges}

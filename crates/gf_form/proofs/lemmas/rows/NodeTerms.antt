@@ -1,23 +1,13 @@
 -- The term of a node, number by number.
-use Rattle.std.proofs.Common.{◌≡◌, ℕ, ℤ, pos, ◌+◌, ◌<◌, ◌≤◌, ◌⊎◌, inl, inr, List, [], ◌∷◌, ◌++◌}
-use Rattle.std.proofs.Common.{Bool, true, false, get_or, length, refl, sym, subst, ◌∙◌, arith, ◌*◌}
-use Rattle.std.proofs.Common.{◌/◌, suc}
-use Rattle.std.specs.Int.{◌∣◌}
-use Rattle.std.specs.List.{AllByRecursion}
-use Rattle.std.proofs.Math.Seq.{get_or-append_seam}
-use Rattle.std.proofs.lemmas.Bool.{cases_lt}
-use Rattle.std.proofs.lemmas.List.{append_assoc, get_or_append_left, length-append}
-use Rattle.gf_fraction.proofs.AllElements.{all_both}
-use Rattle.std.proofs.Math.Nat.{one-dvd}
-use Rattle.gf_fraction.specs.Ratio.{IsWithin, Ratio, whole}
-use Rattle.gf_tree.specs.Game.{Game}
-use Rattle.gf_form.specs.inner.rows.Entries.{Entry}
-use Rattle.gf_form.specs.inner.rows.ListedNodes.{HasShare, IsTermOf}
-use Rattle.gf_form.specs.inner.values.Rows.{ArePaid, at_place, row_at}
-use Rattle.gf_form.specs.inner.rows.Shares.{IsShare, share_bound}
+use Rattle.gf_form.proofs.Common.{◌≡◌, ℕ, ℤ, pos, ◌+◌, ◌<◌, ◌≤◌, ◌⊎◌, inl, inr, List, [], ◌∷◌, ◌++◌}
+use Rattle.gf_form.proofs.Common.{Bool, true, false, get_or, length, refl, sym, subst, ◌∙◌, arith}
+use Rattle.gf_form.proofs.Common.{◌*◌, ◌/◌, suc, ◌∣◌, AllByRecursion, get_or-append_seam, cases_lt}
+use Rattle.gf_form.proofs.Common.{get_or_append_left, length-append, all_both, one-dvd, IsWithin}
+use Rattle.gf_form.proofs.Common.{Ratio, whole, Game, Entry, HasShare, IsTermOf, ArePaid, at_place}
+use Rattle.gf_form.proofs.Common.{row_at, share_bound, Path, Reached}
+use Rattle.std.proofs.lemmas.List.{append_assoc}
+use Rattle.gf_form.specs.inner.rows.Shares.{IsShare}
 use Rattle.gf_form.specs.declared.rows.share.Share.{Share}
-use Rattle.gf_form.specs.declared.rows.paths.Path.{Path}
-use Rattle.gf_form.specs.declared.rows.paths.Reached.{Reached}
 
 -- nothing is added to a payoff of zero
 pub zero_share : (path : Path) (pay : Ratio) (times : ℕ) (s : Share) → pay ≡ whole (pos 0)

@@ -1,26 +1,21 @@
 -- Fractions with their numerators over one denominator for all: sums and products of them fit if
 -- the numerators are within bounds.
-use Rattle.std.proofs.Common.{◌≡◌, ℕ, ℤ, suc, zero, pos, ◌+◌, ◌*◌, ◌/◌, ◌%◌, ◌^◌, ◌<◌, ◌≤◌, arith}
-use Rattle.std.proofs.Common.{refl, ap, sym, subst, ◌∙◌, Some}
-use Rattle.std.specs.Prelude.{◌*ℤ◌, ◌+ℤ◌, unsigned_abs}
-use Rattle.std.specs.Int.{IsGcd, ◌∣◌}
-use Rattle.std.proofs.lemmas.Int.{ints, unsigned_abs-mul}
+use Rattle.gf_form.proofs.Common.{◌≡◌, ℕ, ℤ, suc, zero, pos, ◌+◌, ◌*◌, ◌/◌, ◌%◌, ◌^◌, ◌<◌, ◌≤◌}
+use Rattle.gf_form.proofs.Common.{arith, refl, ap, sym, subst, ◌∙◌, Some, ◌*ℤ◌, ◌+ℤ◌, unsigned_abs}
+use Rattle.gf_form.proofs.Common.{◌∣◌, ints, unsigned_abs-mul, div-mul_cancel, dvd-mul_left, mod-lt}
+use Rattle.gf_form.proofs.Common.{pos_of_dvd_of_pos, Ratio, HasValue, IsFraction, IsWithin, IsEqual}
+use Rattle.gf_form.proofs.Common.{plus, times, IsLcm, IsProduct, IsSum, SumFits, scaled_num}
+use Rattle.gf_form.proofs.Common.{product_of, ◌then◌, back, lowest_of-fraction, product_of-some}
+use Rattle.gf_form.proofs.Common.{sum_of-some, *ℤ-cancel_right, *ℤ_assoc, add-*ℤ, mul_pos_right}
+use Rattle.gf_form.proofs.Common.{mul_above, equal_refl, plus_both, IsLcm-from_gcd, over}
+use Rattle.std.specs.Int.{IsGcd}
 use Rattle.std.proofs.lemmas.Nat.Gcd.{IsGcd-from_mod, IsGcd-from_zero, IsGcd-swap, le_of_dvd}
-use Rattle.std.proofs.Math.Nat.{div-mul_cancel, dvd-mul_left, mod-lt, pos_of_dvd_of_pos}
-use Rattle.gf_fraction.specs.Ratio.{Ratio, HasValue, IsFraction, IsWithin}
-use Rattle.gf_fraction.specs.Rational.{IsEqual, plus, times}
-use Rattle.gf_fraction.specs.Fits.{IsLcm, IsProduct, IsSum, SumFits, scaled_num}
-use Rattle.gf_fraction.specs.Computed.{lowest_of, product_of, sum_of}
-use Rattle.gf_fraction.proofs.Chains.{◌then◌, back}
-use Rattle.gf_fraction.proofs.ComputedArithmetic.{lowest_of-fraction, lowest_of-value}
-use Rattle.gf_fraction.proofs.ComputedArithmetic.{product_of-some, sum_of-some}
+use Rattle.gf_fraction.specs.Computed.{lowest_of, sum_of}
+use Rattle.gf_fraction.proofs.ComputedArithmetic.{lowest_of-value}
 use Rattle.gf_fraction.proofs.Divisors.{dvd_of_dvd-mul}
-use Rattle.gf_fraction.proofs.Integers.{*-cancel_right, *ℤ-cancel_right, *ℤ_assoc, add-*ℤ}
-use Rattle.gf_fraction.proofs.LowestTerms.{mul_pos_left, mul_pos_right}
-use Rattle.gf_fraction.proofs.Products.{mul_above}
-use Rattle.gf_fraction.proofs.Rationals.{equal_refl, plus_both, same_parts, times_both}
-use Rattle.gf_fraction.proofs.Sums.{IsLcm-from_gcd}
-use Rattle.gf_form.specs.inner.rows.Shares.{over}
+use Rattle.gf_fraction.proofs.Integers.{*-cancel_right}
+use Rattle.gf_fraction.proofs.LowestTerms.{mul_pos_left}
+use Rattle.gf_fraction.proofs.Rationals.{same_parts, times_both}
 
 -- ---- quotients
 

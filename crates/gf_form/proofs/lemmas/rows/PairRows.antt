@@ -1,46 +1,27 @@
 -- Rows at the fastest digit, as what at most two terms come to.
-use Rattle.std.proofs.Common.{◌≡◌, ℕ, ℤ, suc, ◌+◌, ◌-◌, ◌*◌, ◌/◌, ◌<◌, ◌≤◌, ◌^◌, List, [], ◌∷◌}
-use Rattle.std.proofs.Common.{◌++◌, Some, drop, get_or, length, lit<, map, take, refl, ap}
-use Rattle.std.proofs.Common.{subst, ◌∙◌, arith, true, Option}
-use Rattle.std.specs.Prelude.{IfSome, ◌==◌}
-use Rattle.std.specs.List.{AllByRecursion}
-use Rattle.std.proofs.Math.Seq.{get_or-append_seam, take-length}
-use Rattle.std.proofs.lemmas.Bool.{cases_lt, eqb-true}
-use Rattle.std.proofs.lemmas.List.{append-nil, append_assoc, get_or_append_left, length-append}
-use Rattle.std.proofs.lemmas.List.{length-take-le}
-use Rattle.gf_fraction.specs.Ratio.{HasValue, IsFraction, Ratio}
-use Rattle.gf_fraction.proofs.AllElements.{all_both}
-use Rattle.gf_fraction.proofs.LowestTerms.{one_fraction}
-use Rattle.gf_tree.specs.Game.{Game, IsGame}
-use Rattle.gf_tree.specs.Spellable.{IsSpellable}
-use Rattle.gf_form.specs.Refusal.{HasValues}
-use Rattle.gf_form.specs.StrategicForm.{ArePayoffsAt}
-use Rattle.gf_form.specs.Strategies.{all_choices, choices_by, full_profiles, strategies_at}
-use Rattle.gf_form.specs.inner.rows.Demands.{meets, steps_of}
-use Rattle.gf_form.specs.inner.rows.Entries.{AreChosen, AreExactAt, Entry, IsScale, entries}
-use Rattle.gf_form.specs.inner.rows.Entries.{entries_of, entry_at, heads_of, lowered, part}
-use Rattle.gf_form.specs.inner.rows.Entries.{size_of_entries, sum_of_entries}
-use Rattle.gf_form.specs.inner.rows.Pairs.{ComeToOne, ComeToPair, HasPairRow, IsOnly, IsPaidPair}
-use Rattle.gf_form.specs.inner.rows.Pairs.{entry_of, pair_number}
-use Rattle.gf_form.specs.inner.rows.GameDigits.{actions_at}
-use Rattle.gf_form.specs.inner.rows.SettledRows.{PaysOver, SettleAlike, SettleRows, Settles}
-use Rattle.gf_form.specs.inner.rows.SettledRows.{SettlesAt}
-use Rattle.gf_form.specs.inner.values.Rows.{at_place}
-use Rattle.gf_form.specs.inner.values.Values.{value}
-use Rattle.gf_form.specs.declared.rows.chosen.Chosen.{Chosen}
-use Rattle.gf_form.specs.declared.rows.digits.Digit.{Digit}
+use Rattle.gf_form.proofs.Common.{◌≡◌, ℕ, ℤ, suc, ◌+◌, ◌-◌, ◌*◌, ◌/◌, ◌<◌, ◌≤◌, ◌^◌, List, [], ◌∷◌}
+use Rattle.gf_form.proofs.Common.{◌++◌, Some, drop, get_or, length, lit<, map, take, refl, ap}
+use Rattle.gf_form.proofs.Common.{subst, ◌∙◌, arith, true, Option, IfSome, ◌==◌, AllByRecursion}
+use Rattle.gf_form.proofs.Common.{get_or-append_seam, take-length, cases_lt, eqb-true, append-nil}
+use Rattle.gf_form.proofs.Common.{get_or_append_left, length-append, length-take-le, HasValue}
+use Rattle.gf_form.proofs.Common.{IsFraction, Ratio, all_both, one_fraction, Game, IsGame}
+use Rattle.gf_form.proofs.Common.{IsSpellable, HasValues, ArePayoffsAt, all_choices, choices_by}
+use Rattle.gf_form.proofs.Common.{full_profiles, strategies_at, meets, steps_of, AreChosen}
+use Rattle.gf_form.proofs.Common.{AreExactAt, Entry, IsScale, entries, entries_of, entry_at}
+use Rattle.gf_form.proofs.Common.{heads_of, lowered, part, size_of_entries, sum_of_entries}
+use Rattle.gf_form.proofs.Common.{HasPairRow, IsPaidPair, pair_number, actions_at, SettleRows}
+use Rattle.gf_form.proofs.Common.{Settles, SettlesAt, at_place, value, Chosen, Digit, Scale, Scaled}
+use Rattle.gf_form.proofs.Common.{Terms, Asked, Run}
+use Rattle.std.proofs.lemmas.List.{append_assoc}
+use Rattle.gf_form.specs.inner.rows.Pairs.{ComeToOne, ComeToPair, IsOnly, entry_of}
+use Rattle.gf_form.specs.inner.rows.SettledRows.{PaysOver, SettleAlike}
 use Rattle.gf_form.specs.declared.rows.pairs.Only.{Only}
 use Rattle.gf_form.specs.declared.rows.pairs.Pair.{Pair}
-use Rattle.gf_form.specs.declared.rows.sums.Scale.{Scale}
-use Rattle.gf_form.specs.declared.rows.terms.Scaled.{Scaled}
-use Rattle.gf_form.specs.declared.rows.terms.Terms.{Terms}
-use Rattle.gf_form.specs.declared.rows.written.Asked.{Asked}
-use Rattle.gf_form.specs.declared.rows.written.Run.{Run}
 use Rattle.gf_form.proofs.lemmas.rows.DemandDigits.{spans_above}
 use Rattle.gf_form.proofs.lemmas.rows.FlatRows.{terms_count}
 use Rattle.gf_form.proofs.lemmas.rows.MergedEntries.{first_parts}
 use Rattle.gf_form.proofs.lemmas.rows.Merges.{part_next, part_past, ranges}
-use Rattle.gf_form.proofs.lemmas.rows.SettledRows.{choice_first}
+use Rattle.gf_form.proofs.lemmas.strategies.StrategiesByNumber.{choices_row}
 use Rattle.gf_form.proofs.lemmas.values.PayoffsGiven.{are_payoffs, have_values}
 use Rattle.gf_form.proofs.lemmas.values.RowSums.{fraction_at}
 
@@ -129,7 +110,7 @@ paid_pair g n terms least number action pair before is come =
     let there : r < n = let to = before.to in omega (arith, to) in
     let whole : r ≡ r * 1 + 0 = omega arith in
     let choices : get_or (all_choices (n ∷ [])) r [] ≡ action ∷ [] =
-    cc (choice_first n [] r 0 there (lit< tt)) in
+    cc (choices_row n [] r 0 there (lit< tt)) in
     grind arith
 
 pub row_settled : (g : Game) → IsGame g → IsSpellable g → (number players : ℕ)

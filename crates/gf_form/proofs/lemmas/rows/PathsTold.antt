@@ -1,26 +1,15 @@
 -- The nodes that choices can reach, given by a walk through branches.
-use Rattle.std.proofs.Common.{arith, ◌≡◌, ℕ, zero, suc, ◌+◌, List, [], ◌∷◌, ◌++◌, length, Option}
-use Rattle.std.proofs.Common.{Some, None, refl, sym, ap, append_assoc}
-use Rattle.std.specs.Prelude.{◌==◌, if◌then◌else◌}
-use Rattle.std.proofs.lemmas.Bool.{eqb-true, eq-eqb, false_from_ne_true}
-use Rattle.gf_fraction.specs.Ratio.{Ratio}
-use Rattle.gf_token.specs.Positions.{at_position}
-use Rattle.gf_tree.specs.Tree.{Tree, Trees, count}
-use Rattle.gf_tree.specs.Tree.Tree.{branch}
-use Rattle.gf_tree.specs.Tree.Trees.{none, more}
-use Rattle.gf_tree.specs.Description.{SetKey}
-use Rattle.gf_tree.specs.Game.{Game, Node}
-use Rattle.gf_tree.specs.Subtrees.{child_trees, list_of, root_node}
+use Rattle.gf_form.proofs.Common.{arith, ◌≡◌, ℕ, zero, suc, ◌+◌, List, [], ◌∷◌, ◌++◌, length}
+use Rattle.gf_form.proofs.Common.{Option, Some, None, refl, sym, ap, append_assoc, ◌==◌}
+use Rattle.gf_form.proofs.Common.{if◌then◌else◌, eqb-true, eq-eqb, false_from_ne_true, Ratio}
+use Rattle.gf_form.proofs.Common.{at_position, Tree, Trees, count, branch, none, more, SetKey, Game}
+use Rattle.gf_form.proofs.Common.{Node, child_trees, list_of, root_node, by_action, by_any}
+use Rattle.gf_form.proofs.Common.{by_choice, by_lot, demanded, over_set, reached, choices_by}
+use Rattle.gf_form.proofs.Common.{chances_at, Path, Reached}
 use Rattle.gf_tree.specs.declared.game.branch.Branch.{Branch}
 use Rattle.gf_form.specs.inner.rows.PathsLeft.{any_nodes, below, lot_nodes, next_nodes, open_nodes}
 use Rattle.gf_form.specs.inner.rows.PathsLeft.{nodes_beneath, option_nodes, taken}
-use Rattle.gf_form.specs.inner.rows.ReachedNodes.{by_action, by_any, by_choice, by_lot}
-use Rattle.gf_form.specs.inner.rows.ReachedNodes.{demanded, over_set, reached}
-use Rattle.gf_form.specs.Strategies.{choices_by}
-use Rattle.gf_form.specs.inner.values.Values.{chances_at}
 use Rattle.gf_form.specs.declared.rows.paths.Open.{Open}
-use Rattle.gf_form.specs.declared.rows.paths.Path.{Path}
-use Rattle.gf_form.specs.declared.rows.paths.Reached.{Reached}
 
 -- ---- the nodes below a node by the list of its children
 

@@ -1,33 +1,19 @@
 -- Terms that fit together over one denominator, and those of them that add something.
-use Rattle.std.proofs.Common.{◌≡◌, ℕ, ℤ, pos, ◌+◌, ◌*◌, ◌/◌, ◌<◌, ◌≤◌, ◌^◌, ◌+ℤ◌, ◌*ℤ◌, Bool}
-use Rattle.std.proofs.Common.{true, List, [], ◌∷◌, ◌++◌, length, take, drop, ap, sym, subst}
-use Rattle.std.proofs.Common.{◌∙◌, arith, refl}
-use Rattle.std.specs.Prelude.{if◌then◌else◌}
-use Rattle.std.specs.Int.{◌∣◌}
-use Rattle.std.specs.List.{AllByRecursion}
-use Rattle.std.proofs.Math.IntN.{zero-*ℤ}
-use Rattle.std.proofs.Math.Nat.{div-mul_cancel}
-use Rattle.std.proofs.Math.Seq.{take-length, take-suc}
-use Rattle.std.proofs.lemmas.Nat.Gcd.{dvd_refl}
-use Rattle.gf_fraction.proofs.AllElements.{all_both, all_parts}
-use Rattle.gf_fraction.proofs.Integers.{*ℤ-cancel_right, *ℤ_assoc, *ℤ_right_comm, add-*ℤ}
-use Rattle.gf_tree.specs.Game.{Game}
-use Rattle.gf_form.specs.inner.rows.Demands.{meets}
-use Rattle.gf_form.specs.inner.rows.Entries.{AreAlike, AreExactAt, AreOrdered, EndsBelow}
-use Rattle.gf_form.specs.inner.rows.Entries.{Entry, IsShaped, entries, entries_of, entry_at}
-use Rattle.gf_form.specs.inner.rows.Entries.{heads, heads_of}
-use Rattle.gf_form.specs.inner.rows.Entries.{lowered, number_at, size_of_entries}
-use Rattle.gf_form.specs.inner.rows.Entries.{sum_of_entries}
+use Rattle.gf_form.proofs.Common.{◌≡◌, ℕ, ℤ, pos, ◌+◌, ◌*◌, ◌/◌, ◌<◌, ◌≤◌, ◌^◌, ◌+ℤ◌, ◌*ℤ◌, Bool}
+use Rattle.gf_form.proofs.Common.{true, List, [], ◌∷◌, ◌++◌, length, take, drop, ap, sym, subst}
+use Rattle.gf_form.proofs.Common.{◌∙◌, arith, refl, if◌then◌else◌, ◌∣◌, AllByRecursion, zero-*ℤ}
+use Rattle.gf_form.proofs.Common.{div-mul_cancel, take-length, take-suc, dvd_refl, all_both}
+use Rattle.gf_form.proofs.Common.{all_parts, *ℤ-cancel_right, *ℤ_assoc, add-*ℤ, Game, meets}
+use Rattle.gf_form.proofs.Common.{AreAlike, AreExactAt, AreOrdered, EndsBelow, Entry, IsShaped}
+use Rattle.gf_form.proofs.Common.{entries, entries_of, entry_at, heads, heads_of, lowered}
+use Rattle.gf_form.proofs.Common.{number_at, size_of_entries, sum_of_entries, SettlesAt, Head}
+use Rattle.gf_form.proofs.Common.{Scaled, Terms}
+use Rattle.gf_fraction.proofs.Integers.{*ℤ_right_comm}
 use Rattle.gf_form.specs.inner.rows.Paying.{FitOver, IsOver, Kept, SettleAsWell, sizes_of}
-use Rattle.gf_form.specs.inner.rows.SettledRows.{SettlesAt}
-use Rattle.gf_form.specs.declared.rows.terms.Head.{Head}
-use Rattle.gf_form.specs.declared.rows.terms.Scaled.{Scaled}
-use Rattle.gf_form.specs.declared.rows.terms.Terms.{Terms}
 use Rattle.gf_form.proofs.lemmas.rows.FlatRows.{demands_more, entry_demands, heads_count, itself}
 use Rattle.gf_form.proofs.lemmas.rows.FlatRows.{none_taken, terms_count, there}
 use Rattle.gf_form.proofs.lemmas.rows.MergedEntries.{sum_append}
-use Rattle.gf_form.proofs.lemmas.rows.Merges.{below_more, demands_at, lowered_none}
-use Rattle.gf_form.proofs.lemmas.rows.Merges.{ordered_more}
+use Rattle.gf_form.proofs.lemmas.rows.Merges.{below_more, demands_at, lowered_none, ordered_more}
 
 -- ---- all over one denominator
 

@@ -1,22 +1,15 @@
 -- Rows of payoffs at profiles in turn, and the table that they make.
-use Rattle.std.proofs.Common.{◌≡◌, ℕ, ◌+◌, ◌*◌, ◌<◌, List, [], ◌∷◌, ◌++◌, length, map, get_or, take}
-use Rattle.std.proofs.Common.{refl, sym, ap, subst, ◌∙◌, add-one, arith, zero, suc, Some, slice_get}
-use Rattle.std.proofs.lemmas.Option.{slice_get-get_or}
-use Rattle.std.specs.List.{AllByRecursion, AllZip, flat_map}
+use Rattle.gf_form.proofs.Common.{◌≡◌, ℕ, ◌+◌, ◌*◌, ◌<◌, List, [], ◌∷◌, ◌++◌, length, map, get_or}
+use Rattle.gf_form.proofs.Common.{take, refl, sym, ap, subst, ◌∙◌, add-one, arith, zero, suc, Some}
+use Rattle.gf_form.proofs.Common.{slice_get, slice_get-get_or, AllByRecursion, AllZip, flat_map}
+use Rattle.gf_form.proofs.Common.{take-append_seam, take-suc, flat_map-append, append-nil}
+use Rattle.gf_form.proofs.Common.{length-append, length-map, Ratio, IsFraction, all_both, Table}
+use Rattle.gf_form.proofs.Common.{IsTableOf, Game, at_position, AreRowsAt, IsFirstWithout, IsFormBy}
+use Rattle.gf_form.proofs.Common.{players_of}
 use Rattle.std.proofs.Math.Nat.{suc-mul}
-use Rattle.std.proofs.Math.Seq.{take-append_seam, take-suc}
-use Rattle.std.proofs.lemmas.Grind.{flat_map-append}
-use Rattle.std.proofs.lemmas.List.{append-nil, append_cancel_left, length-append, length-map}
-use Rattle.gf_fraction.specs.Ratio.{Ratio, IsFraction}
-use Rattle.gf_fraction.proofs.AllElements.{all_both, all_joined}
-use Rattle.gf_nfg.specs.Table.{Table, rows}
-use Rattle.gf_nfg.specs.TableAccess.{IsTableOf}
-use Rattle.gf_tree.specs.Game.{Game}
-use Rattle.gf_token.specs.Positions.{at_position}
-use Rattle.gf_form.specs.inner.rows.ProfileRows.{AreRowsAt}
-use Rattle.gf_form.specs.Refusal.{IsFirstWithout}
-use Rattle.gf_form.specs.StrategicForm.{IsFormBy}
-use Rattle.gf_form.specs.Strategies.{players_of}
+use Rattle.std.proofs.lemmas.List.{append_cancel_left}
+use Rattle.gf_fraction.proofs.AllElements.{all_joined}
+use Rattle.gf_nfg.specs.Table.{rows}
 use Rattle.gf_form.proofs.lemmas.form.FormTables.{as_many}
 use Rattle.gf_form.proofs.lemmas.form.Forms.{form_profiles}
 

@@ -1,35 +1,14 @@
 -- What is left of terms once an action is chosen, and the profiles that it settles.
-use Rattle.std.proofs.Common.{◌≡◌, ℕ, ◌+◌, ◌-◌, ◌*◌, ◌/◌, ◌<◌, ◌≤◌, ◌^◌, ◌⊎◌, inl, inr, List, []}
-use Rattle.std.proofs.Common.{◌∷◌, get_or, ap, sym, subst, ◌∙◌, arith}
-use Rattle.std.proofs.Math.Nat.{mul-div_cancel, mul-le-mul_right}
-use Rattle.std.proofs.lemmas.Bool.{cases_lt}
-use Rattle.gf_nfg.specs.Profiles.{product}
-use Rattle.gf_tree.specs.Game.{Game}
-use Rattle.gf_form.specs.inner.rows.Demands.{spans}
-use Rattle.gf_form.specs.inner.rows.Entries.{AreMerged, Entry, entries}
-use Rattle.gf_form.specs.inner.rows.SettledRows.{SettleRows, Settles, SettlesAt}
-use Rattle.gf_form.specs.declared.rows.written.Asked.{Asked}
-use Rattle.gf_form.specs.declared.rows.written.Run.{Run}
-use Rattle.gf_form.specs.Strategies.{all_choices}
-use Rattle.gf_form.specs.declared.rows.terms.Terms.{Terms}
+use Rattle.gf_form.proofs.Common.{◌≡◌, ℕ, ◌+◌, ◌-◌, ◌*◌, ◌/◌, ◌<◌, ◌≤◌, ◌^◌, ◌⊎◌, inl, inr, List}
+use Rattle.gf_form.proofs.Common.{[], ◌∷◌, get_or, ap, sym, subst, ◌∙◌, arith, mul-div_cancel}
+use Rattle.gf_form.proofs.Common.{mul-le-mul_right, cases_lt, product, Game, spans, AreMerged}
+use Rattle.gf_form.proofs.Common.{Entry, entries, SettleRows, Settles, SettlesAt, Asked, Run}
+use Rattle.gf_form.proofs.Common.{all_choices, Terms}
 use Rattle.gf_form.proofs.lemmas.strategies.Choices.{length-all_choices, place, place_at}
 use Rattle.gf_form.proofs.lemmas.rows.DigitChoices.{at_place as choice_there, choice_at_number}
-use Rattle.gf_form.proofs.lemmas.strategies.StrategiesByNumber.{positive_parts}
+use Rattle.gf_form.proofs.lemmas.strategies.StrategiesByNumber.{choices_row, positive_parts}
 
 -- ---- choices by their numbers
-
-pub choice_first : (n : ℕ) (ns : List ℕ) (b r : ℕ) → b < n → r < product ns
-    → get_or (all_choices (n ∷ ns)) (b * product ns + r) []
-    ≡ (b + 1) ∷ get_or (all_choices ns) r []
-choice_first n ns b r less within =
-    let c = get_or (all_choices ns) r [] in
-    let there : place ns c ≡ r =
-    place_at ns r [] (omega (arith, within, length-all_choices ns)) in
-    let back : b + 1 - 1 ≡ b = omega arith in
-    let at : place (n ∷ ns) ((b + 1) ∷ c) ≡ b * product ns + r = cc in
-    ap (λ (k : ℕ). get_or (all_choices (n ∷ ns)) k []) (sym at)
-    ∙ choice_there (n ∷ ns) ((b + 1) ∷ c)
-    ((omega arith, omega (arith, less)), choice_at_number ns r within)
 
 -- ---- profiles at which the choice at the slowest digit is the same
 
@@ -63,7 +42,7 @@ settled_behind g n ns terms left least number b first before less is from to mer
       let r = number - first in
       let whole : number - least ≡ b * product ns + r = omega (arith, is, from, before.from) in
       let choices : get_or (all_choices (n ∷ ns)) (number - least) []
-      ≡ (b + 1) ∷ get_or (all_choices ns) r [] = cc (choice_first n ns b r less to) in
+      ≡ (b + 1) ∷ get_or (all_choices ns) r [] = cc (choices_row n ns b r less to) in
       grind (arith, settled_left);
 }
 

@@ -1,12 +1,8 @@
-use Rattle.std.proofs.Common.{◌≤◌, ℕ, List, arith, length, subst, sym}
-use Rattle.std.proofs.lemmas.Result.{IfOk-weaker}
-use Rattle.gf_nfg.specs.Limit.{profile_limit}
-use Rattle.gf_form.specs.inner.reduced.Firsts.{IsPaidAt}
-use Rattle.gf_form.specs.inner.rows.ProfileRows.{AreRowsAt}
-use Rattle.gf_form.specs.Reduced.{reduced_labels}
+use Rattle.gf_form.proofs.Common.{◌≤◌, ℕ, List, arith, length, subst, sym, IfOk-weaker}
+use Rattle.gf_form.proofs.Common.{profile_limit, IsPaidAt, AreRowsAt, reduced_labels}
 use Rattle.gf_form.proofs.lemmas.reduced.FirstsPicked.{fewer_profiles, paid_fractions, paid_full}
-use Rattle.gf_form.proofs.lemmas.reduced.FirstsPicked.{reduced_made}
-use Rattle.gf_form.proofs.lemmas.reduced.FirstsPicked.{reduced_form_profiles, some_reduced_label}
+use Rattle.gf_form.proofs.lemmas.reduced.FirstsPicked.{reduced_made, reduced_form_profiles}
+use Rattle.gf_form.proofs.lemmas.reduced.FirstsPicked.{some_reduced_label}
 use Rattle.gf_form.proofs.lemmas.form.FormMade.{fits_table, form_made}
 use Rattle.gf_form.proofs.reduced_form.form_with.Goals as goal
 

@@ -1,28 +1,19 @@
-use Rattle.std.proofs.Common.{◌≡◌, ◌∙◌, ◌≤◌, ◌<◌, ℕ, [], List, Vec, Global, ap, arith, get_or}
-use Rattle.std.proofs.Common.{length, map, subst, sym}
-use Rattle.std.proofs.lemmas.List.{length-map}
-use Rattle.std.proofs.lemmas.Result.{IfOk-weaker, on_ok_weaker}
-use Rattle.std.specs.List.{AllByRecursion}
-use Rattle.gf_nfg.specs.Limit.{profile_limit}
-use Rattle.gf_tree.specs.Game.{Game}
-use Rattle.gf_form.specs.inner.rows.ProfileRows.{AreRowsAt}
-use Rattle.gf_nfg.specs.Profiles.{product}
-use Rattle.gf_nfg.proofs.lemmas.tables.Profiles.{length-profiles}
-use Rattle.gf_form.specs.inner.strategies.ProfileNumbers.{AreBelow, AreProfileNumbers}
-use Rattle.gf_form.specs.inner.strategies.ProfileNumbers.{numbered_profiles}
-use Rattle.gf_form.specs.Strategies.{full_profiles, players_of, strategies}
+use Rattle.gf_form.proofs.Common.{◌≡◌, ◌∙◌, ◌≤◌, ◌<◌, ℕ, [], List, Vec, Global, ap, arith, get_or}
+use Rattle.gf_form.proofs.Common.{length, map, subst, sym, length-map, IfOk-weaker, on_ok_weaker}
+use Rattle.gf_form.proofs.Common.{AllByRecursion, profile_limit, Game, AreRowsAt, product}
+use Rattle.gf_form.proofs.Common.{length-profiles, AreBelow, AreProfileNumbers, numbered_profiles}
+use Rattle.gf_form.proofs.Common.{full_profiles, players_of, strategies, HasValues, IsFirstWithout}
+use Rattle.gf_form.proofs.Common.{ArePayoffsAt}
 use Rattle.gf_form.proofs.lemmas.form.FormTables.{as_many}
 use Rattle.gf_form.proofs.lemmas.strategies.CountedActions.{product_positive, strategies_positive}
 use Rattle.gf_form.proofs.lemmas.strategies.CountedActions.{strategy_counts}
-use Rattle.gf_form.proofs.lemmas.strategies.PickedProfiles.{below}
-use Rattle.gf_form.specs.Refusal.{HasValues, IsFirstWithout}
-use Rattle.gf_form.specs.StrategicForm.{ArePayoffsAt}
+use Rattle.gf_form.proofs.lemmas.strategies.PickedProfiles.{below, are_profile_numbers}
+use Rattle.gf_form.proofs.lemmas.strategies.PickedProfiles.{counted_profiles, picked_profiles}
+use Rattle.gf_form.proofs.lemmas.strategies.PickedProfiles.{profiles_are}
 use Rattle.gf_form.proofs.lemmas.reduced.FirstsPicked.{are_numbers, few_firsts, reduced_overflow}
 use Rattle.gf_form.proofs.lemmas.reduced.FirstsPicked.{reduced_rows, reduced_values}
-use Rattle.gf_form.proofs.lemmas.strategies.PickedProfiles.{are_profile_numbers, counted_profiles}
-use Rattle.gf_form.proofs.lemmas.strategies.PickedProfiles.{picked_profiles, profiles_are}
-use Rattle.gf_form.proofs.reduced_form.reduced_rows.Goals as goal
 use Rattle.gf_form.proofs.reduced_form.reduced_rows.Goals.{After-deref-2}
+use Rattle.gf_form.proofs.reduced_form.reduced_rows.Goals as goal
 
 abbrev lists : List (Vec ℕ Global) → List (List ℕ)
 lists all = map (λ own. own.items) all

@@ -1,6 +1,4 @@
-use Rattle.std.proofs.Common.{◌≡◌, Some, arith, length}
-use Rattle.gf_fraction.specs.Rational.{zero_ratio}
-use Rattle.gf_form.specs.inner.values.Values.{plus_of}
+use Rattle.gf_form.proofs.Common.{◌≡◌, Some, arith, length, zero_ratio, plus_of}
 use Rattle.gf_form.proofs.lemmas.values.RowSums.{all_added, is_paid, not_paid, nothing_paid}
 use Rattle.gf_form.proofs.lemmas.values.RowSums.{one_added}
 use Rattle.gf_form.proofs.lemmas.values.ValuesComputed.{zero_fraction}

@@ -1,5 +1,4 @@
-use Rattle.std.proofs.Common.{Some}
-use Rattle.gf_form.specs.inner.values.Values.{plus_of}
+use Rattle.gf_form.proofs.Common.{Some, plus_of}
 use Rattle.gf_form.proofs.lemmas.values.RowSums.{Added}
 use Rattle.gf_form.proofs.rows.pay.Given as goal
 

@@ -1,8 +1,5 @@
-use Rattle.std.proofs.Common.{◌≡◌, Some, arith, length}
-use Rattle.gf_form.specs.inner.values.Values.{plus_of, times_of}
-use Rattle.gf_form.proofs.lemmas.values.RowSums.{all_added}
-use Rattle.gf_form.proofs.lemmas.values.RowSums.{one_added, weighed}
-use Rattle.gf_form.proofs.lemmas.values.RowSums.{zeros_weighed}
+use Rattle.gf_form.proofs.Common.{◌≡◌, Some, arith, length, plus_of, times_of}
+use Rattle.gf_form.proofs.lemmas.values.RowSums.{all_added, one_added, weighed, zeros_weighed}
 use Rattle.gf_form.proofs.rows.weigh.Goals as goal
 
 pub loop-i-preserved : goal.loop-i-preserved

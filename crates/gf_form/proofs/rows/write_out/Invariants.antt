@@ -1,8 +1,5 @@
-use Rattle.std.proofs.Common.{◌≡◌, ◌≤◌, ◌-◌, ℕ, length}
-use Rattle.std.specs.List.{AllByRecursion}
-use Rattle.gf_fraction.specs.Ratio.{IsFraction}
-use Rattle.gf_fraction.specs.Rational.{zero_ratio}
-use Rattle.gf_form.specs.inner.values.Rows.{at_place}
+use Rattle.gf_form.proofs.Common.{◌≡◌, ◌≤◌, ◌-◌, ℕ, length, AllByRecursion, IsFraction, zero_ratio}
+use Rattle.gf_form.proofs.Common.{at_place}
 use Rattle.gf_form.proofs.rows.write_out.Given as goal
 
 abbrev pub invariant-loop-row : goal.invariant-loop-row

@@ -1,7 +1,5 @@
-use Rattle.std.proofs.Common.{arith, sym}
-use Rattle.std.proofs.lemmas.List.{length-map}
-use Rattle.std.proofs.lemmas.Result.{IfOk-weaker}
-use Rattle.gf_form.specs.StrategicForm.{ArePayoffsAt, strategy_labels}
+use Rattle.gf_form.proofs.Common.{arith, sym, length-map, IfOk-weaker, ArePayoffsAt}
+use Rattle.gf_form.proofs.Common.{strategy_labels}
 use Rattle.gf_form.proofs.lemmas.form.FormMade.{fits_table, form_made, full_row, row_fractions}
 use Rattle.gf_form.proofs.lemmas.form.FormTables.{some_strategy}
 use Rattle.gf_form.proofs.lemmas.form.Forms.{all_profiles}

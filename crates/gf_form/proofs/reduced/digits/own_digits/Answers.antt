@@ -1,9 +1,8 @@
-use Rattle.std.proofs.Common.{◌∙◌, Vec, Global, ap, arith, get_or, length}
-use Rattle.gf_form.specs.declared.reduced.digits.OwnDigit.{OwnDigit}
+use Rattle.gf_form.proofs.Common.{◌∙◌, Vec, Global, ap, arith, get_or, length, OwnDigit}
 use Rattle.gf_form.proofs.lemmas.reduced.OwnDigits.{digit_more, digit_past, steps_long}
-use Rattle.gf_form.proofs.reduced.digits.own_digits.Goals as goal
 use Rattle.gf_form.proofs.reduced.digits.own_digits.Goals.{then-counts-place-gt1+in_ok-push}
 use Rattle.gf_form.proofs.reduced.digits.own_digits.Goals.{else-counts-place-gt1}
+use Rattle.gf_form.proofs.reduced.digits.own_digits.Goals as goal
 
 pub bounds-steps-place : goal.bounds-steps-place
 bounds-steps-place c =

@@ -1,5 +1,4 @@
-use Rattle.std.proofs.Common.{◌≡◌, ◌++◌, drop}
-use Rattle.gf_form.specs.inner.reduced.OwnDigits.{digits_from}
+use Rattle.gf_form.proofs.Common.{◌≡◌, ◌++◌, drop, digits_from}
 use Rattle.gf_form.proofs.reduced.digits.own_digits.Given as goal
 
 abbrev pub invariant-loop-place : goal.invariant-loop-place

@@ -1,4 +1,4 @@
-use Rattle.std.proofs.Common.{arith}
+use Rattle.gf_form.proofs.Common.{arith}
 use Rattle.gf_form.proofs.lemmas.reduced.OwnDigits.{width_fits}
 use Rattle.gf_form.proofs.reduced.digits.own_steps.Goals as goal
 

@@ -1,11 +1,6 @@
-use Rattle.std.proofs.Common.{◌<◌, ◌∷◌, ◌∙◌, [], ℕ, List, Vec, Global, ap, arith, length, map}
-use Rattle.std.proofs.Common.{subst, sym}
-use Rattle.std.specs.List.{AllZip}
-use Rattle.std.proofs.lemmas.List.{map-append}
-use Rattle.gf_nfg.proofs.lemmas.tables.NumbersInTurn.{length-numbers_from}
-use Rattle.gf_form.specs.inner.reduced.Firsts.{AreFirstsOf}
-use Rattle.gf_form.specs.Reduced.{reduced_labels}
-use Rattle.gf_form.specs.Strategies.{players_of}
+use Rattle.gf_form.proofs.Common.{◌<◌, ◌∷◌, ◌∙◌, [], ℕ, List, Vec, Global, ap, arith, length, map}
+use Rattle.gf_form.proofs.Common.{subst, sym, AllZip, map-append, length-numbers_from, AreFirstsOf}
+use Rattle.gf_form.proofs.Common.{reduced_labels, players_of}
 use Rattle.gf_form.proofs.lemmas.strategies.CountedActions.{as_many_players, of_player}
 use Rattle.gf_form.proofs.lemmas.strategies.CountedActions.{one_item_more, take_past}
 use Rattle.gf_form.proofs.lemmas.strategies.CountsGiven.{actions_of, all_counted, read_actions}

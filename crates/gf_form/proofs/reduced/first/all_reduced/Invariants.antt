@@ -1,8 +1,4 @@
-use Rattle.std.proofs.Common.{◌≡◌, map, take}
-use Rattle.std.specs.List.{AllZip}
-use Rattle.gf_form.specs.inner.reduced.Firsts.{AreFirstsOf}
-use Rattle.gf_form.specs.Reduced.{reduced_labels}
-use Rattle.gf_form.specs.Strategies.{players_of}
+use Rattle.gf_form.proofs.Common.{◌≡◌, map, take, AllZip, AreFirstsOf, reduced_labels, players_of}
 use Rattle.gf_form.proofs.reduced.first.all_reduced.Given as goal
 
 abbrev pub invariant-loop-place : goal.invariant-loop-place

@@ -1,10 +1,6 @@
-use Rattle.std.proofs.Common.{◌≡◌, ◌+◌, ◌∙◌, ℕ, ap, arith, length, subst, sym}
-use Rattle.gf_nfg.specs.Profiles.{product}
-use Rattle.gf_form.specs.Strategies.{action_counts}
-use Rattle.gf_form.specs.inner.reduced.Levels.{ArePositive, IsLevel}
-use Rattle.gf_form.specs.inner.reduced.OwnDigits.{digits_from}
-use Rattle.gf_form.specs.inner.reduced.Search.{AreFoundTo}
-use Rattle.gf_form.specs.inner.reduced.Visits.{visits_of}
+use Rattle.gf_form.proofs.Common.{◌≡◌, ◌+◌, ◌∙◌, ℕ, ap, arith, length, subst, sym, product}
+use Rattle.gf_form.proofs.Common.{action_counts, ArePositive, IsLevel, digits_from, AreFoundTo}
+use Rattle.gf_form.proofs.Common.{visits_of}
 use Rattle.gf_form.proofs.lemmas.strategies.CountedActions.{actions_positive}
 use Rattle.gf_form.proofs.lemmas.reduced.OwnDigits.{width_fits}
 use Rattle.gf_form.proofs.lemmas.reduced.SearchEnds.{firsts_are, labels_are, under_all}

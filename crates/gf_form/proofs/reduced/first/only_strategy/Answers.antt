@@ -1,7 +1,5 @@
-use Rattle.std.proofs.Common.{◌++◌, ◌∷◌, ◌∙◌, [], ℕ, List, ap, map, subst, sym}
-use Rattle.gf_nfg.specs.Profiles.{product}
-use Rattle.gf_form.specs.inner.reduced.Firsts.{AreFirstsOf}
-use Rattle.gf_form.specs.Strategies.{all_choices, strategy_label}
+use Rattle.gf_form.proofs.Common.{◌++◌, ◌∷◌, ◌∙◌, [], ℕ, List, ap, map, subst, sym, product}
+use Rattle.gf_form.proofs.Common.{AreFirstsOf, all_choices, strategy_label}
 use Rattle.gf_form.proofs.lemmas.reduced.OnlyStrategies.{only_first, only_label}
 use Rattle.gf_form.proofs.reduced.first.only_strategy.Goals as goal
 

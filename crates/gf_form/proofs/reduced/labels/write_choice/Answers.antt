@@ -1,4 +1,4 @@
-use Rattle.std.proofs.Common.{arith, rules}
+use Rattle.gf_form.proofs.Common.{arith, rules}
 use Rattle.gf_form.proofs.lemmas.reduced.ReducedText.{plain_choice, plain_more}
 use Rattle.gf_form.proofs.reduced.labels.write_choice.Goals as goal
 

@@ -1,7 +1,4 @@
-use Rattle.std.proofs.Common.{arith, subst, sym}
-use Rattle.std.specs.List.{AllByRecursion}
-use Rattle.gf_form.specs.inner.strategies.LabelTexts.{IsPlain}
-use Rattle.gf_form.specs.inner.reduced.Shown.{shown}
+use Rattle.gf_form.proofs.Common.{arith, subst, sym, AllByRecursion, IsPlain, shown}
 use Rattle.gf_form.proofs.lemmas.reduced.ReducedText.{all_marked, mark_removed, marked_more}
 use Rattle.gf_form.proofs.lemmas.strategies.StrategiesByNumber.{all_taken, plain_label}
 use Rattle.gf_form.proofs.reduced.labels.write_reduced_label.Goals as goal

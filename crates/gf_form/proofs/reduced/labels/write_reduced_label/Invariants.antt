@@ -1,7 +1,4 @@
-use Rattle.std.proofs.Common.{◌≡◌, take}
-use Rattle.std.specs.List.{AllByRecursion}
-use Rattle.gf_form.specs.inner.strategies.LabelTexts.{IsPlain}
-use Rattle.gf_form.specs.inner.reduced.Shown.{shown}
+use Rattle.gf_form.proofs.Common.{◌≡◌, take, AllByRecursion, IsPlain, shown}
 use Rattle.gf_form.proofs.lemmas.reduced.ReducedText.{marked}
 use Rattle.gf_form.proofs.reduced.labels.write_reduced_label.Given as goal
 

@@ -1,12 +1,7 @@
-use Rattle.std.proofs.Common.{◌≡◌, ◌∙◌, [], ℕ, ap, arith, subst, sym}
+use Rattle.gf_form.proofs.Common.{◌≡◌, ◌∙◌, [], ℕ, ap, arith, subst, sym, game_of, tree_of, Game}
+use Rattle.gf_form.proofs.Common.{action_counts, FindRelevance, FindsMore, IsOpen, IsSurvey}
+use Rattle.gf_form.proofs.Common.{open_comes, survey_size, visits_of, Survey}
 use Rattle.std.proofs.lemmas.List.{nil_from_length}
-use Rattle.gf_tree.specs.Branches.{game_of, tree_of}
-use Rattle.gf_tree.specs.Game.{Game}
-use Rattle.gf_form.specs.Strategies.{action_counts}
-use Rattle.gf_form.specs.inner.reduced.Relevance.{FindRelevance}
-use Rattle.gf_form.specs.inner.reduced.Survey.{FindsMore, IsOpen, IsSurvey, open_comes, survey_size}
-use Rattle.gf_form.specs.inner.reduced.Visits.{visits_of}
-use Rattle.gf_form.specs.declared.reduced.survey.Survey.{Survey}
 use Rattle.gf_form.proofs.lemmas.rows.DigitPlaces.{width_positive}
 use Rattle.gf_form.proofs.lemmas.reduced.Surveys.{Finds, begun, finds_relevance, popped_survey}
 use Rattle.gf_form.proofs.lemmas.reduced.Surveys.{survey_last, went_on, with_nodes}

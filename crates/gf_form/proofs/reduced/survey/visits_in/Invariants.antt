@@ -1,5 +1,4 @@
-use Rattle.std.proofs.Common.{◌≡◌}
-use Rattle.gf_form.specs.inner.reduced.Survey.{IsSurvey, survey_size}
+use Rattle.gf_form.proofs.Common.{◌≡◌, IsSurvey, survey_size}
 use Rattle.gf_form.proofs.lemmas.reduced.Surveys.{Finds}
 use Rattle.gf_form.proofs.reduced.survey.visits_in.Given as goal
 

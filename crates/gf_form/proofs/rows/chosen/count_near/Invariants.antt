@@ -1,4 +1,4 @@
-use Rattle.std.proofs.Common.{◌≤◌, ◌<◌, ◌-◌, get_or, length}
+use Rattle.gf_form.proofs.Common.{◌≤◌, ◌<◌, ◌-◌, get_or, length}
 use Rattle.gf_form.proofs.rows.chosen.count_near.Given as goal
 
 abbrev pub invariant-loop-count : goal.invariant-loop-count

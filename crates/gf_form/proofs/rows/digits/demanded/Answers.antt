@@ -1,5 +1,4 @@
-use Rattle.std.proofs.Common.{arith}
-use Rattle.std.proofs.Math.Nat.{mod-eq_of_lt}
+use Rattle.gf_form.proofs.Common.{arith, mod-eq_of_lt}
 use Rattle.gf_form.proofs.rows.digits.demanded.Goals as goal
 
 pub returns-in-None : goal.returns-in-None

@@ -1,11 +1,8 @@
-use Rattle.std.proofs.Common.{map, refl}
-use Rattle.std.proofs.lemmas.List.{map-append}
-use Rattle.gf_form.specs.declared.rows.digits.Digit.{Digit}
+use Rattle.gf_form.proofs.Common.{map, refl, map-append, Digit, arith}
 use Rattle.gf_form.proofs.lemmas.rows.DigitsMade.{picked_on, picked_past}
-use Rattle.gf_form.proofs.rows.digits.push_digits.Goals as goal
 use Rattle.gf_form.proofs.rows.digits.push_digits.Goals.{then-actions-place-gt1+in_ok-push}
 use Rattle.gf_form.proofs.rows.digits.push_digits.Goals.{else-actions-place-gt1}
-use Rattle.std.proofs.Common.{arith}
+use Rattle.gf_form.proofs.rows.digits.push_digits.Goals as goal
 
 pub loop-place-preserved : goal.loop-place-preserved
 loop-place-preserved c =

@@ -1,5 +1,4 @@
-use Rattle.std.proofs.Common.{◌≡◌, ◌++◌, drop, map}
-use Rattle.gf_form.specs.inner.rows.DigitSteps.{picked}
+use Rattle.gf_form.proofs.Common.{◌≡◌, ◌++◌, drop, map, picked}
 use Rattle.gf_form.proofs.rows.digits.push_digits.Given as goal
 
 abbrev pub invariant-loop-place : goal.invariant-loop-place

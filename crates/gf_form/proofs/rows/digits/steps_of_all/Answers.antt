@@ -1,11 +1,8 @@
-use Rattle.std.proofs.Common.{◌≡◌, ◌<◌, ◌*◌, ◌∷◌, ◌∙◌, ℕ, List, [], Vec, Global}
-use Rattle.std.proofs.Common.{ap, arith, get_or, length, map, refl, sym}
-use Rattle.std.proofs.lemmas.List.{length-map, map-append}
-use Rattle.gf_nfg.specs.Profiles.{product}
-use Rattle.gf_form.specs.inner.rows.DigitSteps.{all_steps, steps_behind, width}
+use Rattle.gf_form.proofs.Common.{◌≡◌, ◌<◌, ◌*◌, ◌∷◌, ◌∙◌, ℕ, List, [], Vec, Global, ap, arith}
+use Rattle.gf_form.proofs.Common.{get_or, length, map, refl, sym, length-map, map-append, product}
+use Rattle.gf_form.proofs.Common.{all_steps, steps_behind, width}
 use Rattle.gf_form.proofs.lemmas.strategies.CountsGiven.{actions_in, own_read}
-use Rattle.gf_form.proofs.lemmas.rows.DigitsMade.{player_steps}
-use Rattle.gf_form.proofs.lemmas.rows.DigitsMade.{player_values}
+use Rattle.gf_form.proofs.lemmas.rows.DigitsMade.{player_steps, player_values}
 use Rattle.gf_form.proofs.rows.digits.steps_of_all.Goals as goal
 
 pub loop-own-preserved : goal.loop-own-preserved

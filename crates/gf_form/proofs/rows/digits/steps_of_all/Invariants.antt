@@ -1,6 +1,4 @@
-use Rattle.std.proofs.Common.{◌≡◌, ◌<◌, ◌*◌, ◌^◌, ◌++◌, drop, map}
-use Rattle.gf_nfg.specs.Profiles.{product}
-use Rattle.gf_form.specs.inner.rows.DigitSteps.{all_steps, width}
+use Rattle.gf_form.proofs.Common.{◌≡◌, ◌<◌, ◌*◌, ◌^◌, ◌++◌, drop, map, product, all_steps, width}
 use Rattle.gf_form.proofs.lemmas.strategies.CountsGiven.{actions_in}
 use Rattle.gf_form.proofs.rows.digits.steps_of_all.Given as goal
 

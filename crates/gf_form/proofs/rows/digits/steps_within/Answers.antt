@@ -1,8 +1,8 @@
-use Rattle.std.proofs.Common.{get_or, refl}
+use Rattle.gf_form.proofs.Common.{get_or, refl}
 use Rattle.gf_form.proofs.lemmas.rows.DigitsMade.{step_more, step_same}
-use Rattle.gf_form.proofs.rows.digits.steps_within.Goals as goal
 use Rattle.gf_form.proofs.rows.digits.steps_within.Goals.{then-count-gt1+in_ok-push}
 use Rattle.gf_form.proofs.rows.digits.steps_within.Goals.{else-count-gt1+in_ok-push-2}
+use Rattle.gf_form.proofs.rows.digits.steps_within.Goals as goal
 
 pub loop-count-preserved : goal.loop-count-preserved
 loop-count-preserved c faster is =

@@ -1,5 +1,4 @@
-use Rattle.std.proofs.Common.{◌≡◌, ◌*◌, ◌++◌, ℕ, drop}
-use Rattle.gf_form.specs.inner.rows.DigitSteps.{steps_behind, width}
+use Rattle.gf_form.proofs.Common.{◌≡◌, ◌*◌, ◌++◌, ℕ, drop, steps_behind, width}
 use Rattle.gf_form.proofs.rows.digits.steps_within.Given as goal
 
 abbrev pub invariant-loop-count : goal.invariant-loop-count

@@ -1,6 +1,5 @@
-use Rattle.std.proofs.Common.{MatchOption, ◌≡◌, ◌≤◌, ◌<◌, ◌+◌, ◌*◌, ◌^◌, ℕ, ap, arith, get_or, refl}
-use Rattle.std.proofs.Common.{subst, sym}
-use Rattle.gf_form.specs.inner.rows.DigitSteps.{width}
+use Rattle.gf_form.proofs.Common.{MatchOption, ◌≡◌, ◌≤◌, ◌<◌, ◌+◌, ◌*◌, ◌^◌, ℕ, ap, arith, get_or}
+use Rattle.gf_form.proofs.Common.{refl, subst, sym, width}
 use Rattle.gf_form.proofs.lemmas.rows.DigitsMade.{values_past}
 use Rattle.gf_form.proofs.rows.digits.values_with.Goals as goal
 

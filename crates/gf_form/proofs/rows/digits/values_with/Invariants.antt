@@ -1,5 +1,4 @@
-use Rattle.std.proofs.Common.{◌≡◌, ◌<◌, ◌*◌, ◌^◌, drop}
-use Rattle.gf_form.specs.inner.rows.DigitSteps.{width}
+use Rattle.gf_form.proofs.Common.{◌≡◌, ◌<◌, ◌*◌, ◌^◌, drop, width}
 use Rattle.gf_form.proofs.rows.digits.values_with.Given as goal
 
 abbrev pub invariant-loop-count : goal.invariant-loop-count

@@ -1,5 +1,4 @@
-use Rattle.std.proofs.Math.Nat.{dvd-mul_right}
-use Rattle.std.proofs.lemmas.Nat.Gcd.{dvd_trans}
+use Rattle.gf_form.proofs.Common.{dvd-mul_right, dvd_trans}
 use Rattle.gf_form.proofs.rows.listed.denominator.Goals as goal
 
 pub returns-in-Some-checked_mul : goal.returns-in-Some-checked_mul

@@ -1,16 +1,6 @@
-use Rattle.std.proofs.Common.{◌∙◌, ℕ, List, ap, length, map, subst, sym}
-use Rattle.std.proofs.lemmas.List.{length-map}
-use Rattle.std.proofs.lemmas.Result.{IfOk-weaker}
-use Rattle.gf_token.specs.Label.{label_of}
-use Rattle.gf_tree.specs.Game.{Game}
-use Rattle.gf_form.specs.inner.rows.Entries.{entries}
-use Rattle.gf_form.specs.inner.rows.KeptNodes.{paid_reached}
-use Rattle.gf_form.specs.inner.rows.ListedNodes.{AreTermsOf}
-use Rattle.gf_form.specs.inner.values.PaidRows.{rows_of}
-use Rattle.gf_form.specs.inner.values.Rows.{ArePaid}
-use Rattle.gf_form.specs.Strategies.{choices_by}
-use Rattle.gf_form.specs.declared.rows.paths.Reached.{Reached}
-use Rattle.gf_form.specs.declared.rows.terms.Terms.{Terms}
+use Rattle.gf_form.proofs.Common.{◌∙◌, ℕ, List, ap, length, map, subst, sym, length-map}
+use Rattle.gf_form.proofs.Common.{IfOk-weaker, label_of, Game, entries, paid_reached, AreTermsOf}
+use Rattle.gf_form.proofs.Common.{rows_of, ArePaid, choices_by, Reached, Terms}
 use Rattle.gf_form.proofs.lemmas.rows.SummedNodes.{terms_of_sums}
 use Rattle.gf_form.proofs.rows.listed.game_terms.Goals as goal
 

@@ -1,6 +1,4 @@
-use Rattle.std.proofs.Common.{◌≡◌, ◌∙◌, arith, length}
-use Rattle.std.proofs.Math.Seq.{take-length}
-use Rattle.std.proofs.lemmas.List.{get_or_default}
+use Rattle.gf_form.proofs.Common.{◌≡◌, ◌∙◌, arith, length, take-length, get_or_default}
 use Rattle.gf_form.proofs.lemmas.rows.ListedEntries.{no_node, node_listed}
 use Rattle.gf_form.proofs.rows.listed.listed_over.Goals as goal
 

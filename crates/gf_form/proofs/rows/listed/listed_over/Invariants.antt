@@ -1,5 +1,4 @@
-use Rattle.std.proofs.Common.{◌≡◌}
-use Rattle.gf_form.specs.inner.values.PaidRows.{rows_of}
+use Rattle.gf_form.proofs.Common.{◌≡◌, rows_of}
 use Rattle.gf_form.proofs.lemmas.rows.ListedEntries.{Listing}
 use Rattle.gf_form.proofs.rows.listed.listed_over.Given as goal
 

@@ -1,21 +1,14 @@
-use Rattle.std.proofs.Common.{◌≡◌, ◌∙◌, ◌<◌, ◌∷◌, ◌++◌, [], ℕ, ℤ, ap, arith, get_or}
-use Rattle.std.proofs.Common.{◌/◌, refl, subst}
-use Rattle.std.proofs.Common.{lit<, of_z, pos, to_z, Vec, Global}
-use Rattle.std.specs.Int.{w128}
-use Rattle.std.proofs.Math.Nat.{pos_of_dvd_of_pos}
-use Rattle.std.proofs.lemmas.Int.{fits_signed_from_abs, to_z-of_z}
-use Rattle.gf_fraction.specs.Ratio.{IsWithin}
-use Rattle.gf_form.specs.inner.rows.Entries.{heads_of}
-use Rattle.gf_form.specs.inner.values.PaidRows.{rows_of}
-use Rattle.gf_form.specs.inner.values.Rows.{at_place, row_at}
-use Rattle.gf_form.specs.declared.rows.terms.Head.{Head}
+use Rattle.gf_form.proofs.Common.{◌≡◌, ◌∙◌, ◌<◌, ◌∷◌, ◌++◌, [], ℕ, ℤ, ap, arith, get_or, ◌/◌, refl}
+use Rattle.gf_form.proofs.Common.{subst, lit<, of_z, pos, to_z, Vec, Global, w128}
+use Rattle.gf_form.proofs.Common.{pos_of_dvd_of_pos, fits_signed_from_abs, to_z-of_z, IsWithin}
+use Rattle.gf_form.proofs.Common.{heads_of, rows_of, at_place, row_at, Head}
 use Rattle.gf_form.proofs.lemmas.rows.FlatRows.{Pushed, is_pushed}
 use Rattle.gf_form.proofs.lemmas.rows.NodeTerms.{IsNumber, is_number, is_term, none_known}
 use Rattle.gf_form.proofs.lemmas.rows.NodeTerms.{one_filled}
-use Rattle.gf_form.proofs.rows.listed.push_node.Goals as goal
 use Rattle.gf_form.proofs.rows.listed.push_node.Goals.{in-Some+in_ok-push, in_default+in_ok-push-2}
 use Rattle.gf_form.proofs.rows.listed.push_node.Goals.{then-fits, else-fits, then-den-eq0}
 use Rattle.gf_form.proofs.rows.listed.push_node.Goals.{else-den-eq0}
+use Rattle.gf_form.proofs.rows.listed.push_node.Goals as goal
 
 in_bits : (z : ℤ) → IsWithin z → to_z w128 (of_z w128 z) ≡ z
 in_bits z small = to_z-of_z w128 z (fits_signed_from_abs w128 z small)

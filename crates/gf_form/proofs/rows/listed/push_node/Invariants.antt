@@ -1,6 +1,4 @@
-use Rattle.std.proofs.Common.{◌≡◌, ℕ}
-use Rattle.gf_form.specs.inner.values.PaidRows.{rows_of}
-use Rattle.gf_form.specs.inner.values.Rows.{at_place, row_at}
+use Rattle.gf_form.proofs.Common.{◌≡◌, ℕ, rows_of, at_place, row_at}
 use Rattle.gf_form.proofs.lemmas.rows.NodeTerms.{Filling}
 use Rattle.gf_form.proofs.rows.listed.push_node.Given as goal
 

@@ -1,4 +1,4 @@
-use Rattle.std.proofs.Common.{◌≡◌, ◌<◌, ℕ, get_or, pos}
+use Rattle.gf_form.proofs.Common.{◌≡◌, ◌<◌, ℕ, get_or, pos}
 use Rattle.gf_form.proofs.rows.paying.are_zero.Given as goal
 
 abbrev pub invariant-loop-number : goal.invariant-loop-number

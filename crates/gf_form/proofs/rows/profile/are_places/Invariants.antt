@@ -1,4 +1,4 @@
-use Rattle.std.proofs.Common.{◌≡◌, ◌<◌, ℕ, get_or}
+use Rattle.gf_form.proofs.Common.{◌≡◌, ◌<◌, ℕ, get_or}
 use Rattle.gf_form.proofs.rows.profile.are_places.Given as goal
 
 abbrev pub invariant-loop-place : goal.invariant-loop-place

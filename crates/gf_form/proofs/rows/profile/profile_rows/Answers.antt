@@ -1,12 +1,5 @@
-use Rattle.std.proofs.Common.{List, arith, get_or, subst, sym}
-use Rattle.std.specs.Prelude.{IfSome}
-use Rattle.gf_tree.specs.Game.{Game, IsGame}
-use Rattle.gf_form.specs.inner.strategies.Counted.{AreCounts}
-use Rattle.gf_form.specs.inner.rows.GameDigits.{HasDigits, digit_actions}
-use Rattle.gf_form.specs.inner.values.PaidRows.{rows_of}
-use Rattle.gf_form.specs.inner.rows.SettledRows.{SettlesAt}
-use Rattle.gf_form.specs.inner.rows.GameDigits.{actions_at}
-use Rattle.gf_form.specs.declared.rows.digits.Digit.{Digit}
+use Rattle.gf_form.proofs.Common.{List, arith, get_or, subst, sym, IfSome, Game, IsGame, AreCounts}
+use Rattle.gf_form.proofs.Common.{HasDigits, digit_actions, rows_of, SettlesAt, actions_at, Digit}
 use Rattle.gf_form.proofs.lemmas.rows.GameRows.{settle_all}
 use Rattle.gf_form.proofs.lemmas.rows.PayingTerms.{settled_at}
 use Rattle.gf_form.proofs.rows.profile.profile_rows.Goals as goal

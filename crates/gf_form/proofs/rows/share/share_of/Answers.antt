@@ -1,10 +1,7 @@
-use Rattle.std.proofs.Common.{◌≡◌, ◌∙◌, ◌*◌, ◌/◌, ◌*ℤ◌, ℕ, ℤ, FitsSigned, ap, of_z, pos, refl}
-use Rattle.std.proofs.Common.{subst, sym, to_z}
-use Rattle.std.specs.Int.{◌∣◌, w128}
-use Rattle.std.specs.Prelude.{unsigned_abs}
-use Rattle.std.proofs.lemmas.Int.{fits_signed_from_abs, to_z-of_z}
-use Rattle.gf_fraction.proofs.EqualRatios.{Decides-ratio}
-use Rattle.gf_form.specs.inner.rows.Shares.{over}
+use Rattle.gf_form.proofs.Common.{◌≡◌, ◌∙◌, ◌*◌, ◌/◌, ◌*ℤ◌, ℕ, ℤ, ap, of_z, pos, refl, subst, sym}
+use Rattle.gf_form.proofs.Common.{to_z, ◌∣◌, w128, unsigned_abs, fits_signed_from_abs, to_z-of_z}
+use Rattle.gf_form.proofs.Common.{Decides-ratio, over}
+use Rattle.std.proofs.Common.{FitsSigned}
 use Rattle.gf_form.proofs.lemmas.rows.NodeTerms.{zero_share}
 use Rattle.gf_form.proofs.rows.share.share_of.Goals as goal
 

@@ -1,9 +1,8 @@
-use Rattle.std.proofs.Common.{◌≡◌, ◌<◌, ◌∙◌, arith, false, length, nat_eq, sym}
-use Rattle.std.proofs.lemmas.Bool.{eqb-false}
+use Rattle.gf_form.proofs.Common.{◌≡◌, ◌<◌, ◌∙◌, arith, false, length, nat_eq, sym, eqb-false}
 use Rattle.gf_form.proofs.lemmas.rows.SummedNodes.{all_added, first_adding, last_grows}
 use Rattle.gf_form.proofs.lemmas.rows.SummedNodes.{last_is_kept}
-use Rattle.gf_form.proofs.rows.shares.add_up.Goals as goal
 use Rattle.gf_form.proofs.rows.shares.add_up.Goals.{in-Some, in-None}
+use Rattle.gf_form.proofs.rows.shares.add_up.Goals as goal
 
 pub loop-place-init : goal.loop-place-init
 loop-place-init c =

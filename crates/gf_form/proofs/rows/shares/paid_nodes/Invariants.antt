@@ -1,9 +1,6 @@
-use Rattle.std.proofs.Common.{◌≡◌, ◌++◌, length, map}
+use Rattle.gf_form.proofs.Common.{◌≡◌, ◌++◌, length, map, is_paid, paid_reached, rows_of}
+use Rattle.gf_form.proofs.Common.{nodes_left, choices_by}
 use Rattle.std.specs.List.{filter}
-use Rattle.gf_form.specs.inner.rows.KeptNodes.{is_paid, paid_reached}
-use Rattle.gf_form.specs.inner.values.PaidRows.{rows_of}
-use Rattle.gf_form.specs.inner.rows.PathsLeft.{nodes_left}
-use Rattle.gf_form.specs.Strategies.{choices_by}
 use Rattle.gf_form.proofs.rows.shares.paid_nodes.Given as goal
 
 abbrev pub invariant-loop-paths : goal.invariant-loop-paths

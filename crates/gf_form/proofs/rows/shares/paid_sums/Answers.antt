@@ -1,6 +1,5 @@
-use Rattle.std.proofs.Common.{rules}
+use Rattle.gf_form.proofs.Common.{rules, order_of}
 use Rattle.std.proofs.lemmas.List.Sorted.{IsNonDecreasingBy-from_sort_by_key}
-use Rattle.gf_form.specs.inner.rows.SummedNodes.{order_of}
 use Rattle.gf_form.proofs.lemmas.rows.SummedNodes.{have_permuted, have_then, in_order}
 use Rattle.gf_form.proofs.rows.shares.paid_sums.Goals as goal
 

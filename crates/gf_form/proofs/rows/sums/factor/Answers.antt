@@ -1,5 +1,5 @@
-use Rattle.std.proofs.Common.{ℕ, arith, subst, sym}
-use Rattle.std.proofs.Math.Nat.{div-one, one-dvd}
+use Rattle.gf_form.proofs.Common.{ℕ, arith, subst, sym, one-dvd}
+use Rattle.std.proofs.Math.Nat.{div-one}
 use Rattle.gf_form.specs.inner.rows.Entries.{IsFactor}
 use Rattle.gf_form.proofs.rows.sums.factor.Goals as goal
 

@@ -1,4 +1,4 @@
-use Rattle.std.proofs.Common.{arith}
+use Rattle.gf_form.proofs.Common.{arith}
 use Rattle.gf_form.proofs.lemmas.rows.FlatRows.{same_scale}
 use Rattle.gf_form.proofs.rows.sums.scale_of.Goals as goal
 

@@ -1,4 +1,4 @@
-use Rattle.std.proofs.Common.{◌≡◌, ◌+◌, ◌-◌, ◌≤◌, ◌++◌, length, take, vec_capacity, vec_len}
+use Rattle.gf_form.proofs.Common.{◌≡◌, ◌+◌, ◌-◌, ◌≤◌, ◌++◌, length, take, vec_capacity, vec_len}
 use Rattle.gf_form.proofs.rows.terms.push_few.Given as goal
 
 abbrev pub invariant-loop-place : goal.invariant-loop-place

@@ -1,13 +1,10 @@
-use Rattle.std.proofs.Common.{◌≡◌, ◌∙◌, ◌<◌, ◌+ℤ◌, ◌*ℤ◌, ◌++◌, ◌∷◌, [], ℤ, List, get_or, length}
-use Rattle.std.proofs.Common.{lit<, pos, ap, arith, of_z, to_z}
+use Rattle.gf_form.proofs.Common.{◌≡◌, ◌∙◌, ◌<◌, ◌+ℤ◌, ◌*ℤ◌, ◌++◌, ◌∷◌, [], ℤ, List, get_or, length}
+use Rattle.gf_form.proofs.Common.{lit<, pos, ap, arith, of_z, to_z, w128, AllByRecursion}
+use Rattle.gf_form.proofs.Common.{fits_signed_from_abs, to_z-of_z, IsWithin}
 use Rattle.gf_form.proofs.lemmas.rows.FlatRows.{all_added, none_added, one_added}
-use Rattle.std.specs.Int.{w128}
-use Rattle.std.specs.List.{AllByRecursion}
-use Rattle.std.proofs.lemmas.Int.{fits_signed_from_abs, to_z-of_z}
-use Rattle.gf_fraction.specs.Ratio.{IsWithin}
 use Rattle.gf_form.proofs.lemmas.strategies.StrategiesByNumber.{all_at}
-use Rattle.gf_form.proofs.rows.terms.push_numbers.Goals as goal
 use Rattle.gf_form.proofs.rows.terms.push_numbers.Goals.{in-None, in-Some}
+use Rattle.gf_form.proofs.rows.terms.push_numbers.Goals as goal
 
 in_bits : (z : ℤ) → IsWithin z → to_z w128 (of_z w128 z) ≡ z
 in_bits z small = to_z-of_z w128 z (fits_signed_from_abs w128 z small)

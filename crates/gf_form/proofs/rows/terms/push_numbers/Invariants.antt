@@ -1,4 +1,4 @@
-use Rattle.std.proofs.Common.{◌+◌, ◌-◌, ◌≤◌, length, vec_capacity, vec_len}
+use Rattle.gf_form.proofs.Common.{◌+◌, ◌-◌, ◌≤◌, length, vec_capacity, vec_len}
 use Rattle.gf_form.proofs.lemmas.rows.FlatRows.{Adding}
 use Rattle.gf_form.proofs.rows.terms.push_numbers.Given as goal
 

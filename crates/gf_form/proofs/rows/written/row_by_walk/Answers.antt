@@ -1,8 +1,6 @@
-use Rattle.std.proofs.Common.{List, ℕ, subst, sym}
-use Rattle.std.specs.Prelude.{IfOk, OnOk}
-use Rattle.gf_form.specs.Refusal.{HasValuesBy}
-use Rattle.gf_form.specs.StrategicForm.{ArePayoffs}
-use Rattle.gf_form.specs.Strategies.{AreStrategies, choices_by}
+use Rattle.gf_form.proofs.Common.{List, ℕ, subst, sym, OnOk, HasValuesBy, ArePayoffs, AreStrategies}
+use Rattle.gf_form.proofs.Common.{choices_by}
+use Rattle.std.specs.Prelude.{IfOk}
 use Rattle.gf_form.proofs.lemmas.strategies.PickedProfiles.{are_strategies}
 use Rattle.gf_form.proofs.rows.written.row_by_walk.Goals as goal
 

@@ -1,4 +1,4 @@
-use Rattle.std.proofs.Common.{◌+◌, ◌-◌, ◌<◌, ◌≤◌, ℕ, get_or}
+use Rattle.gf_form.proofs.Common.{◌+◌, ◌-◌, ◌<◌, ◌≤◌, ℕ, get_or}
 use Rattle.gf_form.proofs.rows.written.run_end.Given as goal
 
 abbrev pub invariant-loop-end : goal.invariant-loop-end

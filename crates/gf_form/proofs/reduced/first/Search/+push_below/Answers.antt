@@ -1,11 +1,8 @@
-use Rattle.std.proofs.Common.{◌≡◌, ◌+◌, ◌*◌, ◌/◌, ◌^◌, ◌<◌, ◌∙◌, ℕ, OnOk, arith}
-use Rattle.std.proofs.Common.{refl, subst, sym}
-use Rattle.gf_form.specs.inner.reduced.Levels.{IsChosen, IsLevel}
-use Rattle.gf_form.specs.inner.reduced.Search.{AreOpen, IsFound, IsShut}
+use Rattle.gf_form.proofs.Common.{◌≡◌, ◌+◌, ◌*◌, ◌/◌, ◌^◌, ◌<◌, ◌∙◌, ℕ, OnOk, arith, refl, subst}
+use Rattle.gf_form.proofs.Common.{sym, IsChosen, IsLevel, AreOpen, IsFound, IsShut}
 use Rattle.gf_form.proofs.lemmas.reduced.SearchEnds.{IsLast, all_found, at_last, none_found}
-use Rattle.gf_form.proofs.lemmas.reduced.SearchSteps.{next_search, next_under}
-use Rattle.gf_form.proofs.lemmas.reduced.SearchSteps.{place_inside, some_actions}
-use Rattle.gf_form.proofs.lemmas.reduced.SearchSteps.{step_fits, still}
+use Rattle.gf_form.proofs.lemmas.reduced.SearchSteps.{next_search, next_under, place_inside}
+use Rattle.gf_form.proofs.lemmas.reduced.SearchSteps.{some_actions, step_fits, still}
 use Rattle.gf_form.proofs.reduced.first.Search.+push_below.Goals as goal
 
 pub returns-then-not-is_open-clause-found : goal.returns-then-not-is_open-clause-found

@@ -1,6 +1,5 @@
-use Rattle.std.proofs.Common.{◌≡◌, ◌+◌, ◌*◌, ◌-◌, ℕ, drop, length, take}
-use Rattle.gf_form.specs.inner.reduced.OwnDigits.{digits_from}
-use Rattle.gf_form.specs.inner.reduced.Search.{IsFound, IsSearch, counts_of}
+use Rattle.gf_form.proofs.Common.{◌≡◌, ◌+◌, ◌*◌, ◌-◌, ℕ, drop, length, take, digits_from, IsFound}
+use Rattle.gf_form.specs.inner.reduced.Search.{IsSearch, counts_of}
 use Rattle.gf_form.proofs.reduced.first.Search.+push_below.Given as goal
 
 abbrev pub decreases-push_below : goal.decreases-push_below

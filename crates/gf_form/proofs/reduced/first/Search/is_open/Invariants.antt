@@ -1,4 +1,4 @@
-use Rattle.gf_form.specs.inner.reduced.Search.{AreOpen}
+use Rattle.gf_form.proofs.Common.{AreOpen}
 use Rattle.gf_form.proofs.reduced.first.Search.is_open.Given as goal
 
 abbrev pub invariant-loop-digit : goal.invariant-loop-digit

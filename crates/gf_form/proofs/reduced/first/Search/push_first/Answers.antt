@@ -1,8 +1,5 @@
-use Rattle.std.proofs.Common.{◌∙◌, [], get_or, length, ap, sym}
-use Rattle.gf_token.specs.Label.{label_of}
-use Rattle.gf_form.specs.Reduced.{reduced, reduced_label}
-use Rattle.gf_form.specs.Strategies.{strategies}
-use Rattle.gf_form.specs.inner.reduced.Shown.{is_first, relevant_sets, shown}
+use Rattle.gf_form.proofs.Common.{◌∙◌, [], get_or, length, ap, sym, label_of, reduced}
+use Rattle.gf_form.proofs.Common.{reduced_label, strategies, is_first, relevant_sets, shown}
 use Rattle.gf_form.proofs.lemmas.reduced.FirstNumbers.{AreFirst, first_kept, one_image_more}
 use Rattle.gf_form.proofs.lemmas.reduced.FirstStrategies.{flags_fit, reduced_shown_at}
 use Rattle.gf_form.proofs.reduced.first.Search.push_first.Goals as goal

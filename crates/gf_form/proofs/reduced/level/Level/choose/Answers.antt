@@ -1,13 +1,11 @@
-use Rattle.std.proofs.Common.{◌≡◌, ◌<◌, ◌-◌, ◌∙◌, arith, false, true, length}
-use Rattle.std.proofs.Common.{Some, get_or, set, ap, subst, sym, ◌+◌, ◌++◌, ◌∷◌, []}
-use Rattle.std.proofs.lemmas.List.{get_or_default}
-use Rattle.gf_form.specs.declared.reduced.level.Level.{Level}
-use Rattle.gf_form.specs.inner.reduced.Levels.{left_of}
+use Rattle.gf_form.proofs.Common.{◌≡◌, ◌<◌, ◌-◌, ◌∙◌, arith, false, true, length, Some, get_or, set}
+use Rattle.gf_form.proofs.Common.{ap, subst, sym, ◌+◌, ◌++◌, ◌∷◌, [], get_or_default, Level}
+use Rattle.gf_form.proofs.Common.{left_of}
 use Rattle.gf_form.proofs.lemmas.reduced.LevelsChosen.{ChosenTo, at_visit, known_passed, made_known}
 use Rattle.gf_form.proofs.lemmas.reduced.LevelsChosen.{no_visit, none_left, one_left}
-use Rattle.gf_form.proofs.reduced.level.Level.choose.Goals as goal
 use Rattle.gf_form.proofs.reduced.level.Level.choose.Goals.{in-None, in-Some-eq0}
 use Rattle.gf_form.proofs.reduced.level.Level.choose.Goals.{in-Some+in_ok-push-in-Some}
+use Rattle.gf_form.proofs.reduced.level.Level.choose.Goals as goal
 
 pub loop-visit-preserved-then-index : goal.loop-visit-preserved-then-index
 loop-visit-preserved-then-index c =

@@ -1,22 +1,15 @@
-use Rattle.std.proofs.Common.{◌≡◌, ◌∙◌, ◌++◌, ◌∷◌, ◌-◌, ℕ, [], List, Some, ap, arith, get_or}
-use Rattle.std.proofs.Common.{length, refl, subst, sym}
-use Rattle.gf_token.specs.Positions.{at_position}
-use Rattle.gf_tree.specs.Branches.{game_of, tree_of}
-use Rattle.gf_tree.specs.FirstUse.{player_keys}
-use Rattle.gf_form.specs.Strategies.{action_counts}
-use Rattle.gf_form.specs.inner.reduced.Survey.{sizes, survey_size}
-use Rattle.gf_form.specs.inner.reduced.Visits.{AreWithin, Meets, visits_of}
-use Rattle.gf_form.specs.inner.rows.ReachedNodes.{demanded}
-use Rattle.gf_form.specs.declared.reduced.survey.Open.{Open}
-use Rattle.gf_form.specs.declared.reduced.survey.Survey.{Survey}
+use Rattle.gf_form.proofs.Common.{◌≡◌, ◌∙◌, ◌++◌, ◌∷◌, ◌-◌, ℕ, [], List, Some, ap, arith, get_or}
+use Rattle.gf_form.proofs.Common.{length, refl, subst, sym, at_position, game_of, tree_of}
+use Rattle.gf_form.proofs.Common.{player_keys, action_counts, sizes, survey_size, AreWithin, Meets}
+use Rattle.gf_form.proofs.Common.{visits_of, demanded, Open, Survey}
 use Rattle.gf_form.proofs.lemmas.rows.DigitPlaces.{steps_have_shape}
 use Rattle.gf_form.proofs.lemmas.reduced.Surveys.{IsOpened, entered_other, entered_own, met_within}
-use Rattle.gf_form.proofs.lemmas.reduced.Surveys.{opened_other, opened_own}
-use Rattle.gf_form.proofs.lemmas.reduced.Surveys.{survey_kept, survey_last, tree_size}
+use Rattle.gf_form.proofs.lemmas.reduced.Surveys.{opened_other, opened_own, survey_kept}
+use Rattle.gf_form.proofs.lemmas.reduced.Surveys.{survey_last, tree_size}
 use Rattle.gf_form.proofs.lemmas.reduced.NodeSets.{position_within, set_at_node}
-use Rattle.gf_form.proofs.reduced.survey.Survey.enter.Goals as goal
 use Rattle.gf_form.proofs.reduced.survey.Survey.enter.Goals.{else-player-self}
 use Rattle.gf_form.proofs.reduced.survey.Survey.enter.Goals.{then-player-self+in_ok-meet}
+use Rattle.gf_form.proofs.reduced.survey.Survey.enter.Goals as goal
 
 pub bounds-self-set : goal.bounds-self-set
 bounds-self-set c =

@@ -1,12 +1,8 @@
-use Rattle.std.proofs.Common.{◌∙◌, ap, arith, subst, sym, ◌&&◌}
-use Rattle.std.proofs.lemmas.Result.{on_ok_weaker}
-use Rattle.gf_tree.specs.Branches.{tree_of}
-use Rattle.gf_tree.specs.BranchesLeft.{game_of_branches}
-use Rattle.gf_tree.specs.Game.{Game}
-use Rattle.gf_form.specs.inner.reduced.Comes.{tree_comes}
-use Rattle.gf_form.specs.inner.reduced.Survey.{FindsMore, meets_own, sizes, survey_size}
-use Rattle.gf_form.proofs.lemmas.reduced.Surveys.{found_child, survey_last, tree_size}
-use Rattle.gf_form.proofs.lemmas.reduced.Surveys.{with_nodes, with_rest}
+use Rattle.gf_form.proofs.Common.{◌∙◌, ap, arith, subst, sym, ◌&&◌, on_ok_weaker, tree_of}
+use Rattle.gf_form.proofs.Common.{game_of_branches, Game, tree_comes, FindsMore, meets_own, sizes}
+use Rattle.gf_form.proofs.Common.{survey_size}
+use Rattle.gf_form.proofs.lemmas.reduced.Surveys.{found_child, survey_last, tree_size, with_nodes}
+use Rattle.gf_form.proofs.lemmas.reduced.Surveys.{with_rest}
 use Rattle.gf_form.proofs.reduced.survey.Survey.go_on.Goals as goal
 
 pub returns-in-Some-below-clause-found : goal.returns-in-Some-below-clause-found

@@ -1,4 +1,4 @@
-use Rattle.std.proofs.Common.{◌+◌, arith}
+use Rattle.gf_form.proofs.Common.{◌+◌, arith}
 use Rattle.gf_form.proofs.reduced.visits.Visits.meet.Goals as goal
 
 pub returns : goal.returns

@@ -1,12 +1,6 @@
-use Rattle.std.proofs.Common.{◌≡◌, ◌+◌, ◌-◌, ◌<◌, ◌^◌, ◌∙◌, ℕ, List}
-use Rattle.std.proofs.Common.{Option, Some, Vec, Global, ap, arith, drop, length, map}
-use Rattle.std.proofs.Common.{subst, sym}
-use Rattle.std.specs.Prelude.{IfSome}
-use Rattle.std.proofs.lemmas.List.{length-map}
-use Rattle.gf_nfg.specs.Profiles.{product}
-use Rattle.gf_form.specs.inner.rows.DigitSteps.{all_steps, at_digits, width}
-use Rattle.gf_form.specs.declared.strategies.counts.Counts.{Counts}
-use Rattle.gf_form.specs.declared.rows.digits.Digits.{Digits}
+use Rattle.gf_form.proofs.Common.{◌≡◌, ◌+◌, ◌-◌, ◌<◌, ◌^◌, ◌∙◌, ℕ, List, Option, Some, Vec, Global}
+use Rattle.gf_form.proofs.Common.{ap, arith, drop, length, map, subst, sym, IfSome, length-map}
+use Rattle.gf_form.proofs.Common.{product, all_steps, at_digits, width, Counts, Digits}
 use Rattle.gf_form.proofs.lemmas.strategies.CountsGiven.{actions_in, own_read}
 use Rattle.gf_form.proofs.lemmas.rows.DigitPlaces.{steps_have_shape}
 use Rattle.gf_form.proofs.lemmas.rows.DigitsMade.{as_many_steps, digits_more, shape_at}

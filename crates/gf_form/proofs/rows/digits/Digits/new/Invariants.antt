@@ -1,5 +1,4 @@
-use Rattle.std.proofs.Common.{◌≡◌, drop, map}
-use Rattle.gf_form.specs.inner.rows.DigitSteps.{at_digits}
+use Rattle.gf_form.proofs.Common.{◌≡◌, drop, map, at_digits}
 use Rattle.gf_form.proofs.lemmas.strategies.CountsGiven.{actions_in}
 use Rattle.gf_form.proofs.rows.digits.Digits.new.Given as goal
 

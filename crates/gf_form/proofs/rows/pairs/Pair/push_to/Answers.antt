@@ -1,8 +1,5 @@
-use Rattle.std.proofs.Common.{◌≡◌, ◌∙◌, ◌+ℤ◌, ◌*ℤ◌, ℤ, of_z, pos, subst, to_z}
-use Rattle.std.specs.Int.{w128}
-use Rattle.std.proofs.lemmas.Int.{fits_signed_from_abs, to_z-of_z}
-use Rattle.gf_fraction.specs.Ratio.{HasValue}
-use Rattle.gf_form.specs.inner.rows.Pairs.{pair_number}
+use Rattle.gf_form.proofs.Common.{◌≡◌, ◌∙◌, ◌+ℤ◌, ◌*ℤ◌, ℤ, of_z, pos, subst, to_z, w128}
+use Rattle.gf_form.proofs.Common.{fits_signed_from_abs, to_z-of_z, HasValue, pair_number}
 use Rattle.gf_form.proofs.lemmas.rows.PairRows.{no_row, one_more}
 use Rattle.gf_form.proofs.rows.pairs.Pair.push_to.Goals as goal
 

@@ -1,4 +1,4 @@
-use Rattle.gf_form.specs.inner.rows.Pairs.{HasPairRow}
+use Rattle.gf_form.proofs.Common.{HasPairRow}
 use Rattle.gf_form.proofs.rows.pairs.Pair.push_to.Given as goal
 
 abbrev pub invariant-loop-place : goal.invariant-loop-place

@@ -1,4 +1,4 @@
-use Rattle.std.proofs.Common.{append_assoc, arith}
+use Rattle.gf_form.proofs.Common.{append_assoc, arith}
 use Rattle.gf_form.proofs.lemmas.rows.PathsTold.{below_last}
 use Rattle.gf_form.proofs.rows.paths.Paths.draw.Goals as goal
 

@@ -1,17 +1,11 @@
-use Rattle.std.proofs.Common.{◌∙◌}
-use Rattle.std.proofs.lemmas.Result.{on_ok_weaker}
-use Rattle.gf_tree.specs.Branches.{game_of, tree_of}
-use Rattle.gf_tree.specs.BranchesLeft.{branches_given, branches_left, game_of_branches}
-use Rattle.gf_tree.specs.Subtrees.{child_trees}
+use Rattle.gf_form.proofs.Common.{◌∙◌, on_ok_weaker, game_of, tree_of, branches_given}
+use Rattle.gf_form.proofs.Common.{branches_left, game_of_branches, child_trees, steps_of_paths}
+use Rattle.gf_form.proofs.Common.{choices_by, Chance, arith}
 use Rattle.gf_form.specs.inner.values.CodeLeft.{branch_chances}
-use Rattle.gf_form.specs.inner.rows.PathsLeft.{steps_of_paths}
-use Rattle.gf_form.specs.Strategies.{choices_by}
-use Rattle.gf_form.specs.declared.rows.paths.Open.TheVariants.{Chance}
 use Rattle.gf_form.proofs.lemmas.rows.PathsTold.{choice_beneath, first_drawn, last_pushed}
 use Rattle.gf_form.proofs.lemmas.rows.PathsTold.{lot_beneath}
 use Rattle.gf_form.proofs.lemmas.values.Walks.{choice_is}
 use Rattle.gf_form.proofs.rows.paths.Paths.enter.Goals as goal
-use Rattle.std.proofs.Common.{arith}
 
 pub returns-then-player-eq0-clause-left : goal.returns-then-player-eq0-clause-left
 returns-then-player-eq0-clause-left c =

@@ -1,9 +1,5 @@
-use Rattle.std.proofs.Common.{arith}
-use Rattle.gf_tree.specs.Branches.{game_of, tree_of}
-use Rattle.gf_tree.specs.BranchesLeft.{branches_given, branches_left, game_of_branches}
-use Rattle.gf_tree.specs.Subtrees.{child_trees}
-use Rattle.gf_form.specs.inner.rows.PathsLeft.{steps_of_paths}
-use Rattle.gf_form.specs.declared.rows.paths.Open.TheVariants.{Choice}
+use Rattle.gf_form.proofs.Common.{arith, game_of, tree_of, branches_given, branches_left}
+use Rattle.gf_form.proofs.Common.{game_of_branches, child_trees, steps_of_paths, Choice}
 use Rattle.gf_form.proofs.lemmas.rows.PathsTold.{first_chosen, last_pushed}
 use Rattle.gf_form.proofs.rows.paths.Paths.follow.Goals as goal
 

@@ -1,7 +1,5 @@
-use Rattle.std.proofs.Common.{◌∙◌, ◌++◌, [], ◌∷◌, ap, sym}
-use Rattle.gf_form.specs.inner.rows.PathsLeft.{steps_of_paths}
+use Rattle.gf_form.proofs.Common.{◌∙◌, ◌++◌, [], ◌∷◌, ap, sym, steps_of_paths, Chance, Choice}
 use Rattle.gf_form.specs.declared.rows.paths.Open.{Open}
-use Rattle.gf_form.specs.declared.rows.paths.Open.TheVariants.{Chance, Choice}
 use Rattle.gf_form.proofs.lemmas.rows.PathsTold.{last_pushed}
 use Rattle.gf_form.proofs.rows.paths.Paths.next.Goals as goal
 

@@ -1,5 +1,5 @@
-use Rattle.std.proofs.Common.{◌≡◌}
-use Rattle.gf_form.specs.inner.rows.PathsLeft.{nodes_left, steps_of_paths, turns_left}
+use Rattle.gf_form.proofs.Common.{◌≡◌, nodes_left, steps_of_paths}
+use Rattle.gf_form.specs.inner.rows.PathsLeft.{turns_left}
 use Rattle.gf_form.proofs.rows.paths.Paths.next.Given as goal
 
 abbrev pub invariant-loop-branch : goal.invariant-loop-branch

@@ -1,6 +1,5 @@
-use Rattle.std.proofs.Common.{◌+◌, ◌*◌, ◌<◌, ◌^◌, ℕ, List, subst, sym}
-use Rattle.gf_form.specs.inner.rows.Entries.{AreChosen, AreMerged, entries}
-use Rattle.gf_form.specs.inner.rows.GameDigits.{actions_at}
+use Rattle.gf_form.proofs.Common.{◌+◌, ◌*◌, ◌<◌, ◌^◌, ℕ, List, subst, sym, AreChosen, AreMerged}
+use Rattle.gf_form.proofs.Common.{entries, actions_at}
 use Rattle.gf_form.proofs.lemmas.rows.SettledRows.{settled_next, some_stride, step_within}
 use Rattle.gf_form.proofs.lemmas.rows.SettledRows.{stride_is}
 use Rattle.gf_form.proofs.rows.terms.Terms.choose.Goals as goal

@@ -1,4 +1,4 @@
-use Rattle.std.proofs.Common.{arith}
+use Rattle.gf_form.proofs.Common.{arith}
 use Rattle.gf_form.proofs.lemmas.rows.PayingTerms.{all_fit, more_fitting}
 use Rattle.gf_form.proofs.rows.terms.Terms.fit_over.Goals as goal
 

@@ -1,4 +1,4 @@
-use Rattle.gf_form.specs.inner.rows.Entries.{heads}
+use Rattle.gf_form.proofs.Common.{heads}
 use Rattle.gf_form.proofs.lemmas.rows.PayingTerms.{Fitting}
 use Rattle.gf_form.proofs.rows.terms.Terms.fit_over.Given as goal
 

@@ -1,5 +1,5 @@
-use Rattle.std.proofs.Common.{◌≡◌, ◌∙◌, ◌+◌, ◌-◌, ◌≤◌, ◌∷◌, ◌++◌, [], arith, length}
-use Rattle.gf_form.specs.inner.rows.Entries.{entries_of, entry_at, heads_of, lowered}
+use Rattle.gf_form.proofs.Common.{◌≡◌, ◌∙◌, ◌+◌, ◌-◌, ◌≤◌, ◌∷◌, ◌++◌, [], arith, length, entries_of}
+use Rattle.gf_form.proofs.Common.{entry_at, heads_of, lowered}
 use Rattle.gf_form.proofs.lemmas.rows.JoinedTerms.{Joined, joined}
 use Rattle.gf_form.proofs.lemmas.rows.Merges.{demands_at, demands_read}
 use Rattle.gf_form.proofs.rows.terms.Terms.join_last.Goals as goal

@@ -1,4 +1,4 @@
-use Rattle.std.proofs.Common.{◌*◌, ◌∙◌, arith}
+use Rattle.gf_form.proofs.Common.{◌*◌, ◌∙◌, arith}
 use Rattle.gf_form.proofs.lemmas.rows.FlatRows.{entry_demands}
 use Rattle.gf_form.proofs.lemmas.rows.Merges.{both_go, first_merge, free_goes, last_merge, own_goes}
 use Rattle.gf_form.proofs.lemmas.rows.Merges.{demands_read}

@@ -1,4 +1,4 @@
-use Rattle.std.proofs.Common.{◌≤◌, ◌<◌, ◌+◌, ◌-◌}
+use Rattle.gf_form.proofs.Common.{◌≤◌, ◌<◌, ◌+◌, ◌-◌}
 use Rattle.gf_form.proofs.lemmas.rows.Merges.{Merges}
 use Rattle.gf_form.proofs.rows.terms.Terms.merge.Given as goal
 

@@ -1,5 +1,4 @@
-use Rattle.std.proofs.Common.{◌≡◌, ◌≤◌, ◌-◌, length}
-use Rattle.gf_form.specs.inner.rows.Entries.{AreAlike, heads}
+use Rattle.gf_form.proofs.Common.{◌≡◌, ◌≤◌, ◌-◌, length, AreAlike, heads}
 use Rattle.gf_form.proofs.rows.terms.Terms.note.Given as goal
 
 abbrev pub invariant-loop-self : goal.invariant-loop-self

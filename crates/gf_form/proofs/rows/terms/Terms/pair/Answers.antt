@@ -1,4 +1,4 @@
-use Rattle.std.proofs.Common.{arith}
+use Rattle.gf_form.proofs.Common.{arith}
 use Rattle.gf_form.proofs.lemmas.rows.PairRows.{come_alone, come_to_pair}
 use Rattle.gf_form.proofs.rows.terms.Terms.pair.Goals as goal
 

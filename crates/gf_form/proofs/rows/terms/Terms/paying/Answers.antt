@@ -1,11 +1,10 @@
-use Rattle.std.proofs.Common.{◌<◌, ◌∙◌, ℤ, List, ap, arith, get_or, length, pos, subst, sym, Vec}
-use Rattle.std.proofs.Common.{Global, ℕ}
-use Rattle.std.specs.List.Sorted.{IsNonDecreasing}
+use Rattle.gf_form.proofs.Common.{◌<◌, ◌∙◌, ℤ, List, ap, arith, get_or, length, pos, subst, sym}
+use Rattle.gf_form.proofs.Common.{Vec, Global, ℕ, IsNonDecreasing}
 use Rattle.gf_form.proofs.lemmas.rows.PayingTerms.{first_paying, last_paying, more_paying}
 use Rattle.gf_form.proofs.lemmas.rows.PayingTerms.{same_paying, settled_as_well}
-use Rattle.gf_form.proofs.rows.terms.Terms.paying.Goals as goal
 use Rattle.gf_form.proofs.rows.terms.Terms.paying.Goals.{then-not-are_zero+in_ok-push}
 use Rattle.gf_form.proofs.rows.terms.Terms.paying.Goals.{else-not-are_zero}
+use Rattle.gf_form.proofs.rows.terms.Terms.paying.Goals as goal
 
 pub loop-place-init : goal.loop-place-init
 loop-place-init c = grind (arith, first_paying)

@@ -1,6 +1,5 @@
-use Rattle.std.proofs.Common.{◌∙◌, ◌-◌, ◌++◌, ◌∷◌, [], ℤ, Global, List, Vec, ap, arith, sym}
-use Rattle.std.proofs.lemmas.List.{get_or_default}
-use Rattle.gf_form.specs.inner.rows.Entries.{entry_at, heads, lowered}
+use Rattle.gf_form.proofs.Common.{◌∙◌, ◌-◌, ◌++◌, ◌∷◌, [], ℤ, Global, List, Vec, ap, arith, sym}
+use Rattle.gf_form.proofs.Common.{get_or_default, entry_at, heads, lowered}
 use Rattle.gf_form.proofs.lemmas.rows.FlatRows.{Pushed, entry_demands, is_pushed, row_in_bound}
 use Rattle.gf_form.proofs.lemmas.rows.FlatRows.{row_length}
 use Rattle.gf_form.proofs.rows.terms.Terms.push.Goals as goal

@@ -1,9 +1,8 @@
-use Rattle.std.proofs.Common.{arith}
-use Rattle.std.proofs.lemmas.List.{get_or_default}
+use Rattle.gf_form.proofs.Common.{arith, get_or_default}
 use Rattle.gf_form.proofs.lemmas.rows.FlatRows.{head_is, one_like}
-use Rattle.gf_form.proofs.rows.terms.Terms.push_like.Goals as goal
 use Rattle.gf_form.proofs.rows.terms.Terms.push_like.Goals.{then-place-len+in_ok-note}
 use Rattle.gf_form.proofs.rows.terms.Terms.push_like.Goals.{else-place-len}
+use Rattle.gf_form.proofs.rows.terms.Terms.push_like.Goals as goal
 
 pub returns-clause-heads : goal.returns-clause-heads
 returns-clause-heads c =

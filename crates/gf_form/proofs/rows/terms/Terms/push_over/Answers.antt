@@ -1,11 +1,9 @@
-use Rattle.std.proofs.Common.{◌≡◌, ◌∙◌, ◌<◌, ◌+ℤ◌, ◌*ℤ◌, ap, arith, get_or, length, pos, ℕ, ℤ}
-use Rattle.std.proofs.Common.{sym, true, Vec, Global}
-use Rattle.std.proofs.lemmas.List.{get_or_default}
-use Rattle.gf_form.specs.inner.rows.Entries.{entry_at}
+use Rattle.gf_form.proofs.Common.{◌≡◌, ◌∙◌, ◌<◌, ◌+ℤ◌, ◌*ℤ◌, ap, arith, get_or, length, pos, ℕ, ℤ}
+use Rattle.gf_form.proofs.Common.{sym, true, Vec, Global, get_or_default, entry_at}
 use Rattle.gf_form.proofs.lemmas.rows.FlatRows.{Pushed, entry_demands, is_pushed, row_in_bound}
 use Rattle.gf_form.proofs.lemmas.rows.FlatRows.{row_length, sum_made}
-use Rattle.gf_form.proofs.rows.terms.Terms.push_over.Goals as goal
 use Rattle.gf_form.proofs.rows.terms.Terms.push_over.Goals.{then-fits, else-fits}
+use Rattle.gf_form.proofs.rows.terms.Terms.push_over.Goals as goal
 
 pub push_numbers-requires-clause-alike : goal.push_numbers-requires-clause-alike
 push_numbers-requires-clause-alike c = grind (arith, row_length)

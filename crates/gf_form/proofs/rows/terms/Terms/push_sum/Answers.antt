@@ -1,4 +1,4 @@
-use Rattle.std.proofs.Common.{arith}
+use Rattle.gf_form.proofs.Common.{arith}
 use Rattle.gf_form.proofs.lemmas.rows.FlatRows.{plain_scale}
 use Rattle.gf_form.proofs.rows.terms.Terms.push_sum.Goals as goal
 

@@ -1,4 +1,4 @@
-use Rattle.std.proofs.Common.{sym}
+use Rattle.gf_form.proofs.Common.{sym}
 use Rattle.gf_form.proofs.rows.terms.Terms.scale_between.Goals as goal
 
 pub returns-in-Some : goal.returns-in-Some

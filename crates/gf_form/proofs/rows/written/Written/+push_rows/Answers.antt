@@ -1,4 +1,4 @@
-use Rattle.std.proofs.Common.{sym, ◌∙◌}
+use Rattle.gf_form.proofs.Common.{sym, ◌∙◌}
 use Rattle.gf_form.proofs.lemmas.rows.PairRows.{no_digit, one_digit, one_for_all, rest_settled}
 use Rattle.gf_form.proofs.rows.written.Written.+push_rows.Goals as goal
 

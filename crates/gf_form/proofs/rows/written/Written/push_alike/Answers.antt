@@ -1,4 +1,4 @@
-use Rattle.std.proofs.Common.{arith, get_or}
+use Rattle.gf_form.proofs.Common.{arith, get_or}
 use Rattle.gf_form.proofs.lemmas.rows.PairRows.{paid_alike, some_weaker}
 use Rattle.gf_form.proofs.rows.written.Written.push_alike.Goals as goal
 

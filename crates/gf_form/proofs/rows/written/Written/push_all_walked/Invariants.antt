@@ -1,4 +1,4 @@
-use Rattle.gf_form.specs.inner.rows.SettledRows.{AreWritten}
+use Rattle.gf_form.proofs.Common.{AreWritten}
 use Rattle.gf_form.proofs.rows.written.Written.push_all_walked.Given as goal
 
 abbrev pub invariant-loop-before : goal.invariant-loop-before

@@ -1,5 +1,4 @@
-use Rattle.std.proofs.Common.{◌+◌, ℕ, List, ap, arith, get_or, subst}
-use Rattle.gf_form.specs.inner.rows.Entries.{AreChosen}
+use Rattle.gf_form.proofs.Common.{◌+◌, ℕ, List, ap, arith, get_or, subst, AreChosen}
 use Rattle.gf_form.proofs.lemmas.rows.PairRows.{paid_pair, some_weaker}
 use Rattle.gf_form.proofs.rows.written.Written.push_last.Goals as goal
 

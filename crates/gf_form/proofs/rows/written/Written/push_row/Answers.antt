@@ -1,10 +1,6 @@
-use Rattle.std.proofs.Common.{[], get_or, subst, sym}
-use Rattle.std.specs.Prelude.{IfSome}
-use Rattle.gf_form.specs.inner.rows.Pairs.{IsPaidPair}
-use Rattle.gf_form.specs.inner.rows.SettledRows.{asked_profiles}
+use Rattle.gf_form.proofs.Common.{[], get_or, subst, sym, IfSome, IsPaidPair, asked_profiles}
+use Rattle.gf_form.proofs.Common.{HasValues, ArePayoffsAt}
 use Rattle.gf_form.proofs.lemmas.strategies.PickedProfiles.{numbered_at}
-use Rattle.gf_form.specs.Refusal.{HasValues}
-use Rattle.gf_form.specs.StrategicForm.{ArePayoffsAt}
 use Rattle.gf_form.proofs.lemmas.rows.PairRows.{row_settled}
 use Rattle.gf_form.proofs.lemmas.rows.RowsMade.{all_more, one_row_more}
 use Rattle.gf_form.proofs.rows.written.Written.push_row.Goals as goal

@@ -1,10 +1,6 @@
-use Rattle.std.proofs.Common.{◌≡◌, ◌+◌, ◌∙◌, ◌++◌, [], ℕ, Err, List, ap, arith, subst}
-use Rattle.std.proofs.Common.{sym}
-use Rattle.gf_fraction.specs.Ratio.{Ratio}
-use Rattle.gf_form.specs.inner.rows.SettledRows.{asked_profiles}
+use Rattle.gf_form.proofs.Common.{◌≡◌, ◌+◌, ◌∙◌, ◌++◌, [], ℕ, Err, List, ap, arith, subst, sym}
+use Rattle.gf_form.proofs.Common.{Ratio, asked_profiles, HasValues, IsFirstWithout, ArePayoffsAt}
 use Rattle.gf_form.proofs.lemmas.strategies.PickedProfiles.{numbered_at}
-use Rattle.gf_form.specs.Refusal.{HasValues, IsFirstWithout}
-use Rattle.gf_form.specs.StrategicForm.{ArePayoffsAt}
 use Rattle.gf_form.proofs.lemmas.rows.RowsMade.{all_more, first_without, one_row_more}
 use Rattle.gf_form.proofs.rows.written.Written.push_walked.Goals as goal
 
