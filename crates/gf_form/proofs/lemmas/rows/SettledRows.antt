@@ -8,8 +8,6 @@ use Rattle.gf_form.proofs.lemmas.strategies.Choices.{length-all_choices, place, 
 use Rattle.gf_form.proofs.lemmas.rows.DigitChoices.{at_place as choice_there, choice_at_number}
 use Rattle.gf_form.proofs.lemmas.strategies.StrategiesByNumber.{choices_row, positive_parts}
 
--- ---- choices by their numbers
-
 -- ---- profiles at which the choice at the slowest digit is the same
 
 -- the choice of a number, from 0, at the slowest digit of this many actions, and the first number
