@@ -4,8 +4,8 @@ ghost use Rattle.std.specs.Prelude.{◌≡◌, ◌<◌, ℕ, List, [], Ok, lengt
 ghost use Rattle.gf_tree.specs.inner.Machine.Position.{ChanceName, NodeDue, PersonalName};
 ghost use Rattle.gf_tree.specs.inner.Machine.Position.{PlayerNumber, SetNumber, TerminalName};
 ghost use Rattle.gf_tree.specs.inner.ReaderState.{answer, content_of, Fails, Goes, GoesTelling};
-ghost use Rattle.gf_tree.specs.inner.ReaderState.{HasBegunNode, HasReadAll, HasRoom, IsNoLonger, ReadsNode};
-ghost use Rattle.gf_tree.specs.inner.ReaderState.{heading_read};
+ghost use Rattle.gf_tree.specs.inner.ReaderState.{HasBegunNode, HasReadAll, HasRoom, IsNoLonger};
+ghost use Rattle.gf_tree.specs.inner.ReaderState.{ReadsNode, heading_read};
 
 use super::Reader;
 use crate::reader::readings;

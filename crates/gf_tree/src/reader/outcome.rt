@@ -15,7 +15,7 @@ ghost use Rattle.gf_tree.specs.inner.Machine.{Begun, behind_outcome, with_outcom
 ghost use Rattle.gf_tree.specs.inner.Machine.Position.{KnownOutcomeName, NewOutcomeName};
 ghost use Rattle.gf_tree.specs.inner.Machine.Position.{NewPayoff, NodeDue, OutcomeNumber};
 ghost use Rattle.gf_tree.specs.inner.ReaderState.{answer, begun_with, content_of};
-ghost use Rattle.gf_tree.specs.inner.ReaderState.{Goes, GoesTelling, Grows, HasBegunNode, HasRoom};
+ghost use Rattle.gf_tree.specs.inner.ReaderState.{Goes, GoesTelling, Grows, HasBegunNode};
 ghost use Rattle.gf_tree.specs.inner.ReaderState.{IsNoLonger, ReadsNode, ReadsPayoff, heard_from};
 
 use super::Reader;

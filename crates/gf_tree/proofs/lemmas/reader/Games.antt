@@ -2,8 +2,8 @@
 -- bytes spell, or a refusal where one is due.
 use Rattle.gf_tree.proofs.Common.{◌≡◌, ℕ, List, [], ◌∷◌, ◌++◌, length, Ok, Err, refl, sym, ap}
 use Rattle.gf_tree.proofs.Common.{subst, ◌∙◌, Token, Lexeme, Spells, tokens_of, Fault, Span, Why}
-use Rattle.gf_tree.proofs.Common.{Game, IsGame, Node}
-use Rattle.gf_tree.proofs.Common.{SpellsGame, Parts, game_with, IsRefusal, Kept, entries_with, game_of}
+use Rattle.gf_tree.proofs.Common.{Game, IsGame, Node, Parts}
+use Rattle.gf_tree.proofs.Common.{SpellsGame, game_with, IsRefusal, Kept, entries_with, game_of}
 use Rattle.gf_tree.proofs.Common.{IsSpellable, Content, nothing, run, Format, Entry, Fills, heard}
 use Rattle.gf_token.specs.Place.{IsSpanOf}
 use Rattle.gf_token.specs.declared.fault.Why.TheVariants.{Memory, TooLong, UnknownOutcome}

@@ -22,8 +22,8 @@ pub loop-place-preserved : goal.loop-place-preserved
 loop-place-preserved c =
     set_added c.args.self.now (its_game _ _ c.self.invariant.is_game c.self.view_is)
     (map (λ own. own.items) c.args.sets.now) c.requires.0 c.requires.1
-    c.self.inside.parts.sets.known c.loop-place.renumbered.known c.add_set.new.to.known c.loop-place.place
-    c.listed_number-number.result
+    c.self.inside.parts.sets.known c.loop-place.renumbered.known c.add_set.new.to.known
+    c.loop-place.place c.listed_number-number.result
     (ap (λ (g : Game). g.sets) c.self.view_is) c.loop-place.invariant.0
     (omega (
       arith,
