@@ -46,7 +46,7 @@ pub use Rattle.gf_form.specs.inner.reduced.Relevance.{FindRelevance}
 pub use Rattle.gf_form.specs.inner.reduced.Search.{AreFoundTo, AreOpen, IsSearchBy, IsShut}
 pub use Rattle.gf_form.specs.inner.reduced.Search.{IsUnderBy, digit_at, IsFound}
 pub use Rattle.gf_form.specs.inner.reduced.Shown.{chooses_first, is_first, relevant_sets, shown}
-pub use Rattle.gf_form.specs.inner.reduced.Survey.{meets_own, taken, FindsMore, IsOpen, IsSurvey}
+pub use Rattle.gf_form.specs.inner.reduced.Survey.{meets_own, FindsMore, IsOpen, IsSurvey}
 pub use Rattle.gf_form.specs.inner.reduced.Survey.{open_comes, sizes, survey_size}
 pub use Rattle.gf_form.specs.inner.reduced.Visits.{is_met, is_met_on, AreActions, AreWithin, Meets}
 pub use Rattle.gf_form.specs.inner.reduced.Visits.{visits_of}

@@ -5,7 +5,7 @@ use Rattle.gf_form.proofs.Common.{IsFraction, IsEqual, one_fraction, profiles, T
 use Rattle.gf_form.proofs.Common.{map_twice, Has, contains, has, each, mapped_from, payoff}
 use Rattle.gf_form.proofs.Common.{ArePayoffsAt, IsFormBy, IsStrategicForm, PaysFractions}
 use Rattle.gf_form.proofs.Common.{strategy_labels, choices_by, full_profiles, players_of}
-use Rattle.gf_form.proofs.Common.{strategies, strategies_at}
+use Rattle.gf_form.proofs.Common.{strategies_at}
 use Rattle.gf_nfg.specs.Table.{Entry}
 use Rattle.gf_form.specs.StrategicForm.{PaysFraction}
 

@@ -12,9 +12,8 @@ use Rattle.gf_form.proofs.Common.{IsLevel, is_left, digits_from, own_steps, IsSe
 use Rattle.gf_form.proofs.Common.{digit_at, AreActions, OwnDigit, Level}
 use Rattle.std.proofs.Math.Seq.{take-suc-set}
 use Rattle.std.proofs.lemmas.List.{get_or-append_right, take-set-le, take-take}
-use Rattle.gf_form.proofs.lemmas.rows.DigitChoices.{at_place as choice_at_place, choice_at_number}
 use Rattle.gf_form.proofs.lemmas.rows.DemandDigits.{spans_above}
-use Rattle.gf_form.proofs.lemmas.strategies.Choices.{length-all_choices, place, place_at}
+use Rattle.gf_form.proofs.lemmas.strategies.Choices.{place}
 use Rattle.gf_form.proofs.lemmas.strategies.CountedActions.{positive_at}
 use Rattle.gf_form.proofs.lemmas.strategies.StrategiesByNumber.{choices_row}
 use Rattle.gf_form.proofs.lemmas.reduced.OwnDigits.{from_several, width_fits}

@@ -1,6 +1,6 @@
 -- Demands by their digits, the slowest first: which digit a demand has at a set, what another
 -- action there changes, and which choices meet it.
-use Rattle.gf_form.proofs.Common.{◌≡◌, ℕ, zero, suc, ◌+◌, ◌-◌, ◌*◌, ◌/◌, ◌<◌, ◌≤◌, Bool, true, List}
+use Rattle.gf_form.proofs.Common.{◌≡◌, ℕ, zero, suc, ◌+◌, ◌*◌, ◌/◌, ◌<◌, ◌≤◌, Bool, true, List}
 use Rattle.gf_form.proofs.Common.{[], ◌∷◌, length, get_or, set, map, arith, refl, ap, subst, inl}
 use Rattle.gf_form.proofs.Common.{inr, ◌==◌, ◌&&◌, ◌||◌, ⊤, ◌∣◌, and_parts, cases_lt, eq-eqb}
 use Rattle.gf_form.proofs.Common.{lt-ltb, ne_eqb, div-mul_cancel, dvd-mul_left, mod-eq_of_lt}

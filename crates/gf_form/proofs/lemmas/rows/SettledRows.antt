@@ -1,11 +1,9 @@
 -- What is left of terms once an action is chosen, and the profiles that it settles.
 use Rattle.gf_form.proofs.Common.{◌≡◌, ℕ, ◌+◌, ◌-◌, ◌*◌, ◌/◌, ◌<◌, ◌≤◌, ◌^◌, ◌⊎◌, inl, inr, List}
-use Rattle.gf_form.proofs.Common.{[], ◌∷◌, get_or, ap, sym, subst, ◌∙◌, arith, mul-div_cancel}
+use Rattle.gf_form.proofs.Common.{[], ◌∷◌, get_or, ap, subst, ◌∙◌, arith, mul-div_cancel}
 use Rattle.gf_form.proofs.Common.{mul-le-mul_right, cases_lt, product, Game, spans, AreMerged}
 use Rattle.gf_form.proofs.Common.{Entry, entries, SettleRows, Settles, SettlesAt, Asked, Run}
 use Rattle.gf_form.proofs.Common.{all_choices, Terms}
-use Rattle.gf_form.proofs.lemmas.strategies.Choices.{length-all_choices, place, place_at}
-use Rattle.gf_form.proofs.lemmas.rows.DigitChoices.{at_place as choice_there, choice_at_number}
 use Rattle.gf_form.proofs.lemmas.strategies.StrategiesByNumber.{choices_row, positive_parts}
 
 -- ---- profiles at which the choice at the slowest digit is the same

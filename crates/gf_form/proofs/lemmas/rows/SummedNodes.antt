@@ -1,5 +1,5 @@
 -- Nodes that differ in weight alone have the shares of their sum.
-use Rattle.gf_form.proofs.Common.{◌≡◌, ℕ, ℤ, pos, ◌+◌, ◌-◌, ◌*◌, ◌<◌, ◌≤◌, ◌*ℤ◌, Bool, List, []}
+use Rattle.gf_form.proofs.Common.{◌≡◌, ℕ, ℤ, pos, ◌+◌, ◌-◌, ◌<◌, ◌≤◌, ◌*ℤ◌, Bool, List, []}
 use Rattle.gf_form.proofs.Common.{◌∷◌, ◌++◌, arith, refl, ap, sym, subst, ◌∙◌, get_or, length, set}
 use Rattle.gf_form.proofs.Common.{take, ◌+ℤ◌, if◌then◌else◌, IsNonDecreasingBy, IsPermutation}
 use Rattle.gf_form.proofs.Common.{mod-lt, get_or-append_seam, take-length, get_or_default}
