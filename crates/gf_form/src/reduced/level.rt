@@ -2,7 +2,9 @@
 
 ghost use Rattle.std.specs.Prelude.{◌≡◌, ◌<◌, ◌+◌, ◌*◌, ◌^◌, false, [], IfOk, OnOk, get_or, length};
 ghost use Rattle.std.specs.Prelude.{ℕ, suc};
-ghost use Rattle.gf_form.specs.inner.reduced.Levels.{IsChosen, IsLevel, can_be_met, left_of};
+ghost use Rattle.std.specs.List.Sorted.{IsNonDecreasingBy, IsPermutation};
+ghost use Rattle.gf_form.specs.inner.reduced.Levels.{AddsLeft, HasSets, HaveBelow, IsChosen};
+ghost use Rattle.gf_form.specs.inner.reduced.Levels.{IsLevel, can_be_met, left_of};
 ghost use Rattle.gf_form.specs.inner.reduced.Visits.{AreWithin};
 
 use crate::reduced::visits::Visit;
@@ -11,7 +13,8 @@ use std::alloc::{AllocError, Global};
 /// The visits that the choices so far allow.
 #[derive(Drop)]
 pub(crate) struct Level {
-    /// Those to sets that are not known to be met, with their demands at the digits that are left.
+    /// Those to sets that are not known to be met, with their demands at the digits that are left,
+    /// in order of demands.
     pub visits: Vec<Visit>,
     /// Whether each set is known to be met, whatever is chosen at the digits that are left.
     pub known: Vec<bool>,
@@ -33,6 +36,14 @@ fn left_of(demands: u64, step: u64, action: u64) -> Option<u64>
     }
 }
 
+/// How many of these visits, in order of demands, demand less than a number.
+fn count_below(visits: &[Visit], number: u64) -> usize
+    requires { IsNonDecreasingBy (λ (v : Visit). v.demands) visits.now }
+    ensures { HaveBelow visits.now number result }
+{
+    visits.partition_point(|visit| visit.demands < number)
+}
+
 impl Level {
     /// No visits.
     pub(crate) fn none(alloc: Global) -> Level
@@ -52,7 +63,7 @@ impl Level {
         sets: usize,
     ) -> Result<Level, AllocError>
         requires { AreWithin sets visits.now }
-        ensures visits { IfOk result (λ level. level.visits.items ≡ visits.now) }
+        ensures visits { IfOk result (λ level. IsPermutation visits.now level.visits.items) }
         ensures unknown { IfOk result (λ level. (place : ℕ)
             → get_or level.known.items place false ≡ false) }
         ensures level { IfOk result (IsLevel sets) }
@@ -60,21 +71,29 @@ impl Level {
         let mut level = Level::none(alloc);
         level.visits.extend_from_slice(visits)?;
         level.known.resize(sets, false)?;
+        level.sort();
         Ok(level)
     }
 
-    /// Replaces this by what is left of another level if this action is chosen at its slowest
-    /// digit, with this step.
-    pub(crate) fn choose(&mut self, from: &Level, step: u64, action: u64) -> Result<(), AllocError>
-        requires fits { action * step + step < 2 ^ 64 }
-        requires level { IsLevel (length from.now.known.items) from.now }
-        ensures chosen { OnOk result (IsChosen step action from.now self.new) }
-        ensures level { OnOk result (IsLevel (length from.now.known.items) self.new) }
+    /// Puts the visits in order of demands.
+    fn sort(&mut self)
+        ensures known { self.new.known ≡ self.old.known }
+        ensures visits { IsPermutation self.old.visits.items self.new.visits.items }
+        ensures level { (sets : ℕ) → HasSets sets self.old → IsLevel sets self.new }
     {
-        self.visits.clear();
-        self.known.clear();
-        self.known.extend_from_slice(&from.known)?;
-        for visit in &from.visits {
+        self.visits.sort_unstable_by_key(|visit| visit.demands);
+    }
+
+    /// Adds what is left of these visits if this action is chosen at the slowest digit, with this
+    /// step.
+    fn add_left(&mut self, visits: &[Visit], step: u64, action: u64) -> Result<(), AllocError>
+        requires fits { action * step + step < 2 ^ 64 }
+        requires within { AreWithin (length self.old.known.items) visits.now }
+        requires sets { HasSets (length self.old.known.items) self.old }
+        ensures left { OnOk result (AddsLeft step action visits.now self.old self.new) }
+        ensures sets { OnOk result (HasSets (length self.old.known.items) self.new) }
+    {
+        for visit in visits {
             let place = visit.set as usize - 1;
             if self.known[place] {
                 continue;
@@ -88,6 +107,41 @@ impl Level {
                 })?,
             }
         }
+        Ok(())
+    }
+
+    /// The same for visits in order of demands. Goes through those alone that demand nothing at
+    /// the digit or the action.
+    fn add_chosen(&mut self, visits: &[Visit], step: u64, action: u64) -> Result<(), AllocError>
+        requires fits { action * step + step < 2 ^ 64 }
+        requires within { AreWithin (length self.old.known.items) visits.now }
+        requires ordered { IsNonDecreasingBy (λ (v : Visit). v.demands) visits.now }
+        requires sets { HasSets (length self.old.known.items) self.old }
+        ensures left { OnOk result (AddsLeft step action visits.now self.old self.new) }
+        ensures sets { OnOk result (HasSets (length self.old.known.items) self.new) }
+    {
+        let lowest = action * step;
+        let free = count_below(visits, step);
+        let start = count_below(visits, lowest);
+        self.add_left(&visits[..free], step, action)?;
+        let rest = &visits[start..];
+        let count = count_below(rest, lowest + step);
+        self.add_left(&rest[..count], step, action)
+    }
+
+    /// Replaces this by what is left of another level if this action is chosen at its slowest
+    /// digit, with this step.
+    pub(crate) fn choose(&mut self, from: &Level, step: u64, action: u64) -> Result<(), AllocError>
+        requires fits { action * step + step < 2 ^ 64 }
+        requires level { IsLevel (length from.now.known.items) from.now }
+        ensures chosen { OnOk result (IsChosen step action from.now self.new) }
+        ensures level { OnOk result (IsLevel (length from.now.known.items) self.new) }
+    {
+        self.visits.clear();
+        self.known.clear();
+        self.known.extend_from_slice(&from.known)?;
+        self.add_chosen(&from.visits, step, action)?;
+        self.sort();
         Ok(())
     }
 

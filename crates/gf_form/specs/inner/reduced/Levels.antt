@@ -3,8 +3,10 @@ use Rattle.std.specs.Prelude.{◌≡◌, ◌≤◌, ◌<◌, ◌-◌, ◌*◌, �
 use Rattle.std.specs.Prelude.{◌∷◌, Option, Some, None, get_or, length, nat_le, nat_lt}
 use Rattle.std.specs.Prelude.{if◌then◌else◌}
 use Rattle.std.specs.List.{AllByRecursion, list_any}
+use Rattle.std.specs.List.Sorted.{IsNonDecreasingBy}
 use Rattle.gf_form.specs.inner.reduced.Visits.{AreWithin, is_met}
 use Rattle.gf_form.specs.declared.reduced.level.Level.{Level}
+use Rattle.gf_form.specs.declared.reduced.visits.Visit.{Visit}
 
 -- the demands that are left if this action is chosen at the slowest digit, with this step; none if
 -- they demand another one there
@@ -21,12 +23,31 @@ is_left position steps choices l =
     get_or l.known.items (position - 1) false || is_met position steps choices l.visits.items
 
 -- the visits are to sets of which it is said whether they are known
-pub record IsLevel (sets : ℕ) (l : Level) : Type 0 where
+pub record HasSets (sets : ℕ) (l : Level) : Type 0 where
   pub counted : length l.known.items ≡ sets
   pub within : AreWithin sets l.visits.items
 
+-- and stand in order of their demands
+pub record IsLevel (sets : ℕ) (l : Level) : Type 0 where
+  pub has : HasSets sets l
+  pub ordered : IsNonDecreasingBy (λ v. v.demands) l.visits.items
+
 abbrev pub ArePositive : List ℕ → Type 0
 ArePositive steps = AllByRecursion (λ step. 0 < step) steps
+
+-- so many of these visits, the first ones, demand less than a number
+pub record HaveBelow (visits : List Visit) (number count : ℕ) : Type 0 where
+  pub bound : count ≤ length visits
+  pub below : (k : ℕ) (d : Visit) → k < count → (get_or visits k d).demands < number
+  pub above : (k : ℕ) (d : Visit) → count ≤ k → k < length visits
+      → number ≤ (get_or visits k d).demands
+
+-- the second level has in addition what is left of these visits if this action is chosen
+abbrev pub AddsLeft : ℕ → ℕ → List Visit → Level → Level → Type 0
+AddsLeft step action visits before after = (position : ℕ) (steps choices : List ℕ) → 1 ≤ position
+    → ArePositive steps → is_left position steps choices after
+    ≡ (is_left position steps choices before
+    || is_met position (step ∷ steps) (action ∷ choices) visits)
 
 -- the second level is what is left of the first if this action is chosen
 abbrev pub IsChosen : ℕ → ℕ → Level → Level → Type 0

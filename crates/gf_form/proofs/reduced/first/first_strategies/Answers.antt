@@ -35,7 +35,7 @@ push_below-requires-clause-under c =
     let level = c.in_ok-level.ensures in
     under_all c.args.game.now c.args.player c.in_ok-digits.digits.items
     c.in_ok-search.search.strategy.items c.in_ok-level.level (visits_of c.in_ok-visits.visits)
-    c.args.whole c.in_ok-visits.ensures (level.visits ∙ c.all.ensures) level.unknown
+    c.args.whole c.in_ok-visits.ensures (rw c.all.ensures at level.visits) level.unknown
     (subst (λ (sets : ℕ). IsLevel sets c.in_ok-level.level) (ap length counts) level.level)
     (c.in_ok-digits.ensures ∙ ap (digits_from 0) counts) (c.requires.whole ∙ ap product counts)
 

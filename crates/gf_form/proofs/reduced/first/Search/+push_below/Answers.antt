@@ -22,7 +22,7 @@ last c =
     (c.if-depth-len.true ∙ c.len.ensures ∙ c.args.player.now.digits.ok.0)
     (subst (λ ds. AreOpen ds c.args.depth c.args.self.now.strategy.items c.mark.new.met.items)
     c.deref.ensures.value (c.is_open.ensures.«open» c.if-not-is_open.false))
-    (c.in_ok-mark.ensures.counted ∙ c.requires.under.levelled.counted)
+    (c.in_ok-mark.ensures.counted ∙ c.requires.under.levelled.has.counted)
 
 pub push_first-requires-clause-within : goal.push_first-requires-clause-within
 push_first-requires-clause-within t c = (last c).within
@@ -43,7 +43,7 @@ returns-then-depth-len-clause-found t c =
     (c.if-depth-len.true ∙ c.len.ensures ∙ c.args.player.now.digits.ok.0)
     (subst (λ ds. AreOpen ds c.args.depth c.args.self.now.strategy.items c.mark.new.met.items)
     c.deref.ensures.value (c.is_open.ensures.«open» c.if-not-is_open.false))
-    (c.in_ok-mark.ensures.counted ∙ c.requires.under.levelled.counted) in
+    (c.in_ok-mark.ensures.counted ∙ c.requires.under.levelled.has.counted) in
     subst (λ (k : ℕ). OnOk c.push_first.result (IsFound c.args.player.now c.push_first.new.self
     (c.args.number + k))) (sym last.one) c.push_first.ensures.found
 
@@ -78,7 +78,7 @@ push_below-requires t c =
     omega (arith, c.loop-before-test.true, c.actions_tried-tried.ensures.upto) in
     let len = c.len.ensures ∙ c.args.player.now.digits.ok.0 in
     let left = c.choose.new.self in
-    let levelled = subst (λ (sets : ℕ). IsLevel sets left) c.requires.under.levelled.counted
+    let levelled = subst (λ (sets : ℕ). IsLevel sets left) c.requires.under.levelled.has.counted
     c.in_ok-choose.ensures.level in
     let chosen = subst (λ (a : ℕ). IsChosen c.index-digit.result.now.step a c.args.level.now left)
     c.from.ensures c.in_ok-choose.ensures.chosen in (
@@ -126,7 +126,7 @@ actions_tried-tried-requires-clause-there t c =
           (λ place listed. refl),
       c.requires.search.wide,
       c.in_ok-mark.ensures.counted,
-      c.requires.under.levelled.counted,
+      c.requires.under.levelled.has.counted,
     )
 
 pub returns-clause-found : goal.returns-clause-found
