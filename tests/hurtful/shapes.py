@@ -278,6 +278,18 @@ def set_never_met(actions, count):
     return tree.game(form, without=["table"], relevant=True)
 
 
+def one_later_set(actions, player):
+    """A move with many actions, and after each of them a move of this player, always at the same set."""
+    tree = Tree(2)
+    tree.move(1, 1, actions)
+    for action in range(actions):
+        tree.move(player, 2)
+        for number in (2 * action % 50 + 1, 2 * action % 50 + 2):
+            tree.end(number, number, -number)
+    # Whatever is chosen before, play comes to the later set.
+    return tree.game(relevant=True)
+
+
 def sets_in_conflict(sets):
     """The first nodes of late sets are out of reach, and others come after choices that exclude each other."""
     tree = Tree(1)
@@ -366,6 +378,7 @@ SHAPES = {
     "a full tree": (partial(full_tree, 17), partial(side_by_side, 17)),
     "a mixed tree": (partial(mixed_tree, 12, 16), partial(side_by_side, 16)),
     "a wide tree reduced": (partial(wide_tree, 100, 6, 14), partial(side_by_side, 14)),
+    "a move that is forgotten": (partial(one_later_set, 2**17, 1), partial(one_later_set, 2**17, 2)),
     "a set that is never met": (partial(set_never_met, 2**19, 350_000), partial(set_never_met, 2, 350_000)),
 }
 
