@@ -161,7 +161,7 @@ pub use Rattle.std.proofs.Math.Seq.{take-suc, take-length, take-append_seam, dro
 pub use Rattle.std.proofs.Math.Seq.{get_or-append_seam}
 pub use Rattle.std.proofs.lemmas.Bool.{eqb-false, and_from, and_parts, eqb-true, false≢true, eq-eqb}
 pub use Rattle.std.proofs.lemmas.Bool.{false_from_ne_true, or_left, or_right, cases_lt, lt-ltb}
-pub use Rattle.std.proofs.lemmas.Bool.{ne_eqb}
+pub use Rattle.std.proofs.lemmas.Bool.{ne_eqb, cases_Bool}
 pub use Rattle.std.proofs.lemmas.Fmt.{decimal_injective}
 pub use Rattle.std.proofs.lemmas.Grind.{get_or-set_at, flat_map-append, get_or_default_zero}
 pub use Rattle.std.proofs.lemmas.Int.{ints, unsigned_abs-mul, fits_signed_from_abs, to_z-of_z}
@@ -169,10 +169,13 @@ pub use Rattle.std.proofs.lemmas.List.{length-map, append-nil, map-append, get_o
 pub use Rattle.std.proofs.lemmas.List.{get_or-set_other, length-set, take_more, get_or_default}
 pub use Rattle.std.proofs.lemmas.List.{length-append, get_or-take, get_or_append_left}
 pub use Rattle.std.proofs.lemmas.List.{length-take-le, get_or_past, drop-drop, take-append-drop}
-pub use Rattle.std.proofs.lemmas.List.{take_more_set}
+pub use Rattle.std.proofs.lemmas.List.{take_more_set, length-drop, length-take}
 pub use Rattle.std.proofs.lemmas.List.Elements.{filter-append, All-from_recursion}
+pub use Rattle.std.proofs.lemmas.List.Elements.{recursion_from_All}
 pub use Rattle.std.proofs.lemmas.List.Folds.{list_any-append}
-pub use Rattle.std.proofs.lemmas.List.Sorted.{IsNonDecreasingBy-push}
+pub use Rattle.std.proofs.lemmas.List.Sorted.{IsNonDecreasingBy-push, All-permutation}
+pub use Rattle.std.proofs.lemmas.List.Sorted.{list_any-IsPermutation}
+pub use Rattle.std.proofs.lemmas.List.Sorted.{IsNonDecreasingBy-from_sort_by_key}
 pub use Rattle.std.proofs.lemmas.Nat.Gcd.{dvd_refl, dvd_trans}
 pub use Rattle.std.proofs.lemmas.Option.{unwrap_or-slice_get, slice_get-map, none-some}
 pub use Rattle.std.proofs.lemmas.Option.{slice_get-get_or, slice_get_past}

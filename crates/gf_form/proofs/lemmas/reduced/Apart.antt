@@ -9,7 +9,7 @@ use Rattle.gf_form.proofs.Common.{HasChildren, IsSpellable, player_keys, same_se
 use Rattle.gf_form.proofs.Common.{contains, has_map, map_same, in_left, in_right, choice_at}
 use Rattle.gf_form.proofs.Common.{strategies, Step, Play, from_node, is_chosen, plays, plays_from}
 use Rattle.gf_form.proofs.Common.{HasActions, is_own_choice, agrees, comes_to, is_relevant, reduced}
-use Rattle.std.proofs.lemmas.Bool.{cases_Bool}
+use Rattle.gf_form.proofs.Common.{cases_Bool}
 use Rattle.gf_form.proofs.lemmas.strategies.Chosen.{his_actions}
 use Rattle.gf_form.proofs.lemmas.values.Following.{IsPlayOf, play_of, taken_child}
 use Rattle.gf_form.proofs.lemmas.values.Lotteries.{actions_at}

@@ -1,29 +1,17 @@
 -- What is left of a player's visits after a choice, visit by visit.
-use Rattle.std.proofs.Common.{◌≡◌, ℕ, ◌+◌, ◌-◌, ◌*◌, ◌<◌, ◌≤◌, ◌⊎◌, inl, inr, Bool, true, false}
-use Rattle.std.proofs.Common.{List, [], ◌∷◌, ◌++◌, Some, None, length, get_or, set, take, drop}
-use Rattle.std.proofs.Common.{ap, sym, ◌∙◌, arith}
-use Rattle.std.specs.Prelude.{◌||◌}
-use Rattle.std.specs.List.{list_any}
-use Rattle.std.specs.List.Sorted.{IsPermutation}
-use Rattle.std.specs.Option.{option_map_or}
-use Rattle.std.proofs.Math.Bool.{or-false}
-use Rattle.std.proofs.Math.Seq.{take-length}
-use Rattle.std.proofs.lemmas.Bool.{cases_Bool, cases_lt, or_left, or_right}
-use Rattle.std.proofs.lemmas.Grind.{get_or-set_at}
-use Rattle.std.proofs.lemmas.List.{get_or-drop, get_or-set_other, get_or-take, length-drop}
-use Rattle.std.proofs.lemmas.List.{length-set, length-take, take-append-drop}
-use Rattle.std.proofs.lemmas.List.Elements.{All-from_recursion, recursion_from_All}
-use Rattle.std.proofs.lemmas.List.Folds.{Any-from_list_any, list_any-append, list_any_at}
-use Rattle.std.proofs.lemmas.List.Folds.{list_any_more}
-use Rattle.std.proofs.lemmas.List.Sorted.{All-permutation, list_any-IsPermutation}
-use Rattle.gf_fraction.proofs.AllElements.{all_both}
+use Rattle.gf_form.proofs.Common.{◌≡◌, ℕ, ◌+◌, ◌-◌, ◌*◌, ◌<◌, ◌≤◌, ◌⊎◌, inl, inr, Bool, true, false}
+use Rattle.gf_form.proofs.Common.{List, [], ◌∷◌, ◌++◌, Some, None, length, get_or, set, take, drop}
+use Rattle.gf_form.proofs.Common.{ap, sym, ◌∙◌, arith, ◌||◌, list_any, IsPermutation, option_map_or}
+use Rattle.gf_form.proofs.Common.{or-false, take-length, cases_Bool, cases_lt, or_left, or_right}
+use Rattle.gf_form.proofs.Common.{get_or-set_at, get_or-set_other, get_or-take, length-drop}
+use Rattle.gf_form.proofs.Common.{length-set, length-take, take-append-drop, All-from_recursion}
+use Rattle.gf_form.proofs.Common.{recursion_from_All, list_any-append, All-permutation}
+use Rattle.gf_form.proofs.Common.{list_any-IsPermutation, all_both, meets, ArePositive, IsChosen}
+use Rattle.gf_form.proofs.Common.{is_left, left_of, AreWithin, is_met, is_met_on, Level, Visit}
+use Rattle.std.proofs.lemmas.List.{get_or-drop}
+use Rattle.std.proofs.lemmas.List.Folds.{Any-from_list_any, list_any_at, list_any_more}
 use Rattle.gf_form.proofs.lemmas.strategies.StrategiesByNumber.{all_at}
-use Rattle.gf_form.specs.inner.rows.Demands.{meets}
-use Rattle.gf_form.specs.inner.reduced.Levels.{AddsLeft, ArePositive, HasSets, HaveBelow, IsChosen}
-use Rattle.gf_form.specs.inner.reduced.Levels.{is_left, left_of}
-use Rattle.gf_form.specs.inner.reduced.Visits.{AreWithin, is_met, is_met_on}
-use Rattle.gf_form.specs.declared.reduced.level.Level.{Level}
-use Rattle.gf_form.specs.declared.reduced.visits.Visit.{Visit}
+use Rattle.gf_form.specs.inner.reduced.Levels.{AddsLeft, HasSets, HaveBelow}
 
 -- no demands are met
 pub meets_none : (steps choices : List ℕ) → ArePositive steps → meets steps choices 0 ≡ true

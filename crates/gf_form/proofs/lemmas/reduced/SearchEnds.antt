@@ -1,39 +1,23 @@
 -- A search for first strategies: what it finds where it goes no further.
-use Rattle.std.proofs.Common.{◌≡◌, ℕ, zero, suc, ◌+◌, ◌-◌, ◌*◌, ◌/◌, ◌<◌, ◌≤◌, Bool, true, false}
-use Rattle.std.proofs.Common.{List, [], ◌∷◌, ◌++◌, Some, length, drop, get_or, map, take, slice_get}
-use Rattle.std.proofs.Common.{refl, sym, ap, subst, ◌∙◌, arith, append-nil, inl, inr, ◌⊎◌}
-use Rattle.std.specs.Prelude.{◌==◌, ◌||◌, filter, if◌then◌else◌}
-use Rattle.std.specs.List.{AllByRecursion, list_any}
-use Rattle.std.specs.List.Sorted.{IsPermutation}
-use Rattle.std.proofs.Math.ListN.{drop_of_length-le}
-use Rattle.std.proofs.Math.Seq.{take-length}
-use Rattle.std.proofs.lemmas.Bool.{cases_lt, false_from_ne_true}
-use Rattle.std.proofs.lemmas.List.{ext_get_or, get_or-map, get_or-take, get_or_append_left}
-use Rattle.std.proofs.lemmas.List.{length-map, length-take-le}
-use Rattle.std.proofs.lemmas.List.Sorted.{list_any-IsPermutation}
-use Rattle.std.proofs.lemmas.Option.{slice_get-get_or}
-use Rattle.gf_nfg.specs.Profiles.{product}
-use Rattle.gf_tree.specs.Description.{SetKey}
-use Rattle.gf_tree.specs.FirstUse.{player_keys}
-use Rattle.gf_tree.specs.Game.{Game, IsGame}
-use Rattle.gf_form.specs.Reduced.{is_relevant, reduced, reduced_label, reduced_labels}
-use Rattle.gf_form.specs.Strategies.{action_counts, all_choices, choice_at, strategies}
-use Rattle.gf_form.specs.inner.rows.DigitSteps.{picked}
-use Rattle.gf_form.specs.inner.reduced.Firsts.{AreFirstsOf}
-use Rattle.gf_form.specs.inner.reduced.Levels.{IsLevel, can_be_met, is_left}
-use Rattle.gf_form.specs.inner.reduced.OwnDigits.{digits_from, own_steps}
-use Rattle.gf_form.specs.inner.reduced.Relevance.{FindRelevance}
-use Rattle.gf_form.specs.inner.reduced.Search.{AreFoundTo, AreOpen, IsSearchBy, IsShut, IsUnderBy}
-use Rattle.gf_form.specs.inner.reduced.Search.{digit_at}
-use Rattle.gf_form.specs.inner.reduced.Shown.{chooses_first, is_first, relevant_sets}
-use Rattle.gf_form.specs.inner.reduced.Visits.{AreActions, is_met, is_met_on}
-use Rattle.gf_form.specs.declared.reduced.digits.OwnDigit.{OwnDigit}
-use Rattle.gf_form.specs.declared.reduced.level.Level.{Level}
-use Rattle.gf_form.specs.declared.reduced.visits.Visit.{Visit}
+use Rattle.gf_form.proofs.Common.{◌≡◌, ℕ, zero, suc, ◌+◌, ◌-◌, ◌*◌, ◌/◌, ◌<◌, ◌≤◌, Bool, true}
+use Rattle.gf_form.proofs.Common.{false, List, [], ◌∷◌, ◌++◌, Some, length, drop, get_or, map, take}
+use Rattle.gf_form.proofs.Common.{slice_get, refl, sym, ap, subst, ◌∙◌, arith, inl, inr, ◌⊎◌, ◌==◌}
+use Rattle.gf_form.proofs.Common.{◌||◌, filter, if◌then◌else◌, AllByRecursion, list_any}
+use Rattle.gf_form.proofs.Common.{IsPermutation, drop_of_length-le, take-length, cases_lt}
+use Rattle.gf_form.proofs.Common.{false_from_ne_true, get_or-map, get_or-take, get_or_append_left}
+use Rattle.gf_form.proofs.Common.{length-map, length-take-le, list_any-IsPermutation}
+use Rattle.gf_form.proofs.Common.{slice_get-get_or, product, SetKey, player_keys, Game, IsGame}
+use Rattle.gf_form.proofs.Common.{is_relevant, reduced, reduced_label, reduced_labels}
+use Rattle.gf_form.proofs.Common.{action_counts, all_choices, choice_at, strategies, picked}
+use Rattle.gf_form.proofs.Common.{AreFirstsOf, IsLevel, can_be_met, is_left, digits_from, own_steps}
+use Rattle.gf_form.proofs.Common.{FindRelevance, AreFoundTo, AreOpen, IsSearchBy, IsShut, IsUnderBy}
+use Rattle.gf_form.proofs.Common.{digit_at, chooses_first, is_first, relevant_sets, AreActions}
+use Rattle.gf_form.proofs.Common.{is_met, is_met_on, OwnDigit, Level, Visit, map_twice}
+use Rattle.std.proofs.Common.{append-nil}
+use Rattle.std.proofs.lemmas.List.{ext_get_or}
 use Rattle.gf_form.proofs.lemmas.rows.DigitChoices.{choice_at_number}
 use Rattle.gf_form.proofs.lemmas.strategies.Choices.{length-all_choices}
 use Rattle.gf_form.proofs.lemmas.strategies.CountedActions.{sets_counted, take_past}
-use Rattle.gf_tree.proofs.lemmas.games.Members.{map_twice}
 use Rattle.gf_form.proofs.lemmas.reduced.FirstNumbers.{AreFirst, chooses_all, first_where}
 use Rattle.gf_form.proofs.lemmas.reduced.FirstNumbers.{passed_by}
 use Rattle.gf_form.proofs.lemmas.reduced.FirstStrategies.{flags_fit, reduced_strategies_are}

@@ -1,9 +1,9 @@
 -- Demands by their digits, the slowest first: which digit a demand has at a set, what another
 -- action there changes, and which choices meet it.
-use Rattle.gf_form.proofs.Common.{◌≡◌, ℕ, zero, suc, ◌+◌, ◌*◌, ◌/◌, ◌<◌, ◌≤◌, Bool, true, List}
-use Rattle.gf_form.proofs.Common.{[], ◌∷◌, length, get_or, set, map, arith, refl, ap, subst, inl}
-use Rattle.gf_form.proofs.Common.{inr, ◌==◌, ◌&&◌, ◌||◌, ⊤, ◌∣◌, and_parts, cases_lt, eq-eqb}
-use Rattle.gf_form.proofs.Common.{lt-ltb, ne_eqb, div-mul_cancel, dvd-mul_left, mod-eq_of_lt}
+use Rattle.gf_form.proofs.Common.{◌≡◌, ℕ, zero, suc, ◌+◌, ◌*◌, ◌/◌, ◌<◌, ◌≤◌, Bool, true, List, []}
+use Rattle.gf_form.proofs.Common.{◌∷◌, length, get_or, set, map, arith, refl, ap, subst, inl, inr}
+use Rattle.gf_form.proofs.Common.{◌==◌, ◌&&◌, ◌||◌, ⊤, ◌∣◌, and_parts, cases_lt, eq-eqb, lt-ltb}
+use Rattle.gf_form.proofs.Common.{ne_eqb, div-mul_cancel, dvd-mul_left, mod-eq_of_lt}
 use Rattle.gf_form.proofs.Common.{mul-le-mul_right, mul_above, product, meets, spans, steps_of}
 use Rattle.gf_form.proofs.Common.{demanded}
 use Rattle.std.proofs.lemmas.Bool.{le-leb, le-ltb, lt-leb}

@@ -1,6 +1,6 @@
 -- The choices of the profile with a number: they have that number among all choices at the digits.
-use Rattle.gf_form.proofs.Common.{◌≡◌, ℕ, zero, suc, ◌+◌, ◌*◌, ◌/◌, ◌%◌, ◌<◌, List, [], ◌∷◌}
-use Rattle.gf_form.proofs.Common.{◌++◌, map, get_or, refl, ◌∙◌, arith, AllByRecursion, AllZip}
+use Rattle.gf_form.proofs.Common.{◌≡◌, ℕ, zero, suc, ◌+◌, ◌*◌, ◌/◌, ◌%◌, ◌<◌, List, [], ◌∷◌, ◌++◌}
+use Rattle.gf_form.proofs.Common.{map, get_or, refl, ◌∙◌, arith, AllByRecursion, AllZip}
 use Rattle.gf_form.proofs.Common.{mod-add-div, mul_comm, AllZip-long, product, at_digits, picked}
 use Rattle.gf_form.proofs.Common.{all_choices, mod-eq_of_lt, mod-lt}
 use Rattle.gf_form.proofs.lemmas.strategies.Choices.{IsChoice, are_choices, length-all_choices}

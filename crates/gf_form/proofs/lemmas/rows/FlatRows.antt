@@ -7,8 +7,8 @@ use Rattle.gf_form.proofs.Common.{get_or_append_left, length-take-le, drop-drop,
 use Rattle.gf_form.proofs.Common.{length-append, map-append, dvd_refl, IsWithin, all_both}
 use Rattle.gf_form.proofs.Common.{all_parts, AllByRecursion, Entry, IsScale, IsShaped, IsSumOf}
 use Rattle.gf_form.proofs.Common.{entries, entries_of, entry_at, heads, heads_of, no_entry}
-use Rattle.gf_form.proofs.Common.{number_at, Scale, Head, Scaled, Terms}
-use Rattle.std.proofs.lemmas.List.{append_assoc, drop-append-le, length-drop, take-append-le}
+use Rattle.gf_form.proofs.Common.{number_at, Scale, Head, Scaled, Terms, length-drop}
+use Rattle.std.proofs.lemmas.List.{append_assoc, drop-append-le, take-append-le}
 use Rattle.gf_form.specs.inner.rows.Entries.{HasNumbers, no_head}
 
 pub none_taken : {X : Type 0} (xs : List X) → take 0 xs ≡ []

@@ -3,9 +3,9 @@ use Rattle.gf_form.proofs.Common.{◌≡◌, ℕ, ℤ, zero, suc, ◌+◌, ◌-�
 use Rattle.gf_form.proofs.Common.{arith, drop, get_or, length, refl, subst, sym, take, ◌∙◌}
 use Rattle.gf_form.proofs.Common.{get_or-take, get_or_default, Game, AreOrdered, EndsBelow, Entry}
 use Rattle.gf_form.proofs.Common.{HasSum, entries, entries_of, entry_at, heads_of, lowered}
-use Rattle.gf_form.proofs.Common.{AreTermsOf, Reached, Head, Scaled, Terms}
+use Rattle.gf_form.proofs.Common.{AreTermsOf, Reached, Head, Scaled, Terms, length-take}
 use Rattle.std.proofs.Math.Seq.{take-nil}
-use Rattle.std.proofs.lemmas.List.{drop-take, length-take}
+use Rattle.std.proofs.lemmas.List.{drop-take}
 use Rattle.std.proofs.lemmas.List.Sorted.{IsNonDecreasingBy-take}
 use Rattle.gf_form.proofs.lemmas.rows.FlatRows.{demands_more, entry_demands, terms_count}
 use Rattle.gf_form.proofs.lemmas.rows.ListedEntries.{one_term_less}

@@ -1,15 +1,14 @@
 -- Nodes that differ in weight alone have the shares of their sum.
-use Rattle.gf_form.proofs.Common.{◌≡◌, ℕ, ℤ, pos, ◌+◌, ◌-◌, ◌<◌, ◌≤◌, ◌*ℤ◌, Bool, List, []}
-use Rattle.gf_form.proofs.Common.{◌∷◌, ◌++◌, arith, refl, ap, sym, subst, ◌∙◌, get_or, length, set}
-use Rattle.gf_form.proofs.Common.{take, ◌+ℤ◌, if◌then◌else◌, IsNonDecreasingBy, IsPermutation}
-use Rattle.gf_form.proofs.Common.{mod-lt, get_or-append_seam, take-length, get_or_default}
-use Rattle.gf_form.proofs.Common.{get_or-set_other, length-append, length-set, take_more}
-use Rattle.gf_form.proofs.Common.{take_more_set, All-from_recursion, IsNonDecreasingBy-push}
-use Rattle.gf_form.proofs.Common.{all_both, all_parts, Game, Entry, AreTermsOf, IsExactIfMet}
-use Rattle.gf_form.proofs.Common.{order_of, Reached}
+use Rattle.gf_form.proofs.Common.{◌≡◌, ℕ, ℤ, pos, ◌+◌, ◌-◌, ◌<◌, ◌≤◌, ◌*ℤ◌, Bool, List, [], ◌∷◌}
+use Rattle.gf_form.proofs.Common.{◌++◌, arith, refl, ap, sym, subst, ◌∙◌, get_or, length, set, take}
+use Rattle.gf_form.proofs.Common.{◌+ℤ◌, if◌then◌else◌, IsNonDecreasingBy, IsPermutation, mod-lt}
+use Rattle.gf_form.proofs.Common.{get_or-append_seam, take-length, get_or_default, get_or-set_other}
+use Rattle.gf_form.proofs.Common.{length-append, length-set, take_more, take_more_set}
+use Rattle.gf_form.proofs.Common.{All-from_recursion, IsNonDecreasingBy-push, all_both, all_parts}
+use Rattle.gf_form.proofs.Common.{Game, Entry, AreTermsOf, IsExactIfMet, order_of, Reached}
+use Rattle.gf_form.proofs.Common.{recursion_from_All, All-permutation}
 use Rattle.std.proofs.lemmas.List.{append_assoc}
-use Rattle.std.proofs.lemmas.List.Elements.{recursion_from_All}
-use Rattle.std.proofs.lemmas.List.Sorted.{All-permutation, IsPermutation-sym}
+use Rattle.std.proofs.lemmas.List.Sorted.{IsPermutation-sym}
 use Rattle.gf_form.specs.inner.rows.SummedNodes.{HaveSharesOf, IsNodeSum, weighing}
 use Rattle.gf_form.proofs.lemmas.rows.FlatRows.{none_taken}
 use Rattle.gf_form.proofs.lemmas.rows.ListedEntries.{no_node, node_at}

@@ -1,7 +1,6 @@
-use Rattle.std.proofs.Common.{rules, arith, nat_lt}
+use Rattle.gf_form.proofs.Common.{rules, arith, nat_lt, Visit}
 use Rattle.std.proofs.lemmas.Bool.{ltb-false, ltb-true}
 use Rattle.std.proofs.lemmas.List.Sorted.{IsPartitionPoint-from_clause, IsPartitionedBy-ltb}
-use Rattle.gf_form.specs.declared.reduced.visits.Visit.{Visit}
 use Rattle.gf_form.proofs.reduced.level.count_below.Goals as goal
 
 pub returns : goal.returns

@@ -1,5 +1,4 @@
-use Rattle.gf_form.proofs.Common.{rules, order_of}
-use Rattle.std.proofs.lemmas.List.Sorted.{IsNonDecreasingBy-from_sort_by_key}
+use Rattle.gf_form.proofs.Common.{rules, order_of, IsNonDecreasingBy-from_sort_by_key}
 use Rattle.gf_form.proofs.lemmas.rows.SummedNodes.{have_permuted, have_then, in_order}
 use Rattle.gf_form.proofs.rows.shares.paid_sums.Goals as goal
 

@@ -1,7 +1,5 @@
-use Rattle.std.proofs.Common.{◌≡◌, ◌∙◌, ◌-◌, ap, drop, length, sym, take}
-use Rattle.std.proofs.Math.Seq.{take-length}
-use Rattle.std.proofs.lemmas.List.{length-drop}
-use Rattle.std.proofs.lemmas.Result.{on_ok_weaker}
+use Rattle.gf_form.proofs.Common.{◌≡◌, ◌∙◌, ◌-◌, ap, drop, length, sym, take, take-length}
+use Rattle.gf_form.proofs.Common.{length-drop, on_ok_weaker}
 use Rattle.gf_form.proofs.lemmas.reduced.LevelsChosen.{parts_added}
 use Rattle.gf_form.proofs.reduced.level.Level.add_chosen.Goals as goal
 

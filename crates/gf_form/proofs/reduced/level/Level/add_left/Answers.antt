@@ -1,13 +1,10 @@
-use Rattle.std.proofs.Common.{◌≡◌, ◌<◌, ◌-◌, ◌∙◌, arith, false, length}
-use Rattle.std.proofs.Common.{Some, get_or, ap, subst, sym, ◌+◌}
-use Rattle.std.proofs.lemmas.List.{get_or_default}
-use Rattle.gf_form.specs.declared.reduced.level.Level.{Level}
-use Rattle.gf_form.specs.inner.reduced.Levels.{left_of}
+use Rattle.gf_form.proofs.Common.{◌≡◌, ◌<◌, ◌-◌, ◌∙◌, arith, false, length, Some, get_or, ap, subst}
+use Rattle.gf_form.proofs.Common.{sym, ◌+◌, get_or_default, Level, left_of}
 use Rattle.gf_form.proofs.lemmas.reduced.LevelsChosen.{AddedTo, all_added, at_visit, known_passed}
 use Rattle.gf_form.proofs.lemmas.reduced.LevelsChosen.{made_known, no_visit, none_left, one_left}
-use Rattle.gf_form.proofs.reduced.level.Level.add_left.Goals as goal
 use Rattle.gf_form.proofs.reduced.level.Level.add_left.Goals.{in-None, in-Some-eq0}
 use Rattle.gf_form.proofs.reduced.level.Level.add_left.Goals.{in-Some+in_ok-push-in-Some}
+use Rattle.gf_form.proofs.reduced.level.Level.add_left.Goals as goal
 
 pub loop-visit-preserved-then-index : goal.loop-visit-preserved-then-index
 loop-visit-preserved-then-index c =

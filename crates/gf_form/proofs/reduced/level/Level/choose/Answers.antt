@@ -1,5 +1,4 @@
-use Rattle.std.proofs.Common.{◌≡◌, ℕ, ap, arith, length, subst}
-use Rattle.gf_form.specs.inner.reduced.Levels.{IsLevel}
+use Rattle.gf_form.proofs.Common.{◌≡◌, ℕ, ap, arith, length, subst, IsLevel}
 use Rattle.gf_form.proofs.lemmas.reduced.LevelsChosen.{chosen_by}
 use Rattle.gf_form.proofs.reduced.level.Level.choose.Goals as goal
 

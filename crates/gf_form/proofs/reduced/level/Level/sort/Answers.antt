@@ -1,6 +1,4 @@
-use Rattle.std.proofs.Common.{rules}
-use Rattle.std.proofs.lemmas.List.Sorted.{IsNonDecreasingBy-from_sort_by_key}
-use Rattle.gf_form.specs.declared.reduced.visits.Visit.{Visit}
+use Rattle.gf_form.proofs.Common.{rules, IsNonDecreasingBy-from_sort_by_key, Visit}
 use Rattle.gf_form.proofs.lemmas.reduced.LevelsChosen.{within_permuted}
 use Rattle.gf_form.proofs.reduced.level.Level.sort.Goals as goal
 
