@@ -2,7 +2,6 @@
 //! program itself is tested by the files and scripts of tests/.
 #![tactic(auto)]
 
-#[cfg(test)]
-mod again;
+pub mod again;
 #[cfg(test)]
 mod tests;
