@@ -82,15 +82,15 @@ fn write_parts(start: usize, size: u64, den: u64, text: &mut [u8]) -> usize
     write_under(end, den, text)
 }
 
-/// Appends `n`, or `n/d` if the denominator is above 1. Digits are written where they stay: to read
-/// back a few of them at once takes longer than to write them, until they have left the processor.
+/// Appends `n`, or `n/d` if the denominator is above 1. Digits are written where they stay: it takes
+/// long to read back, several at once, bytes that were only just written.
 fn write_words(num: i64, den: u64, out: &mut Vec<u8>) -> Result<(), AllocError>
     ensures ok { OnOk result
         (out.new.items ≡ out.old.items ++ number_text (record { num = num; den = den })) }
     ensures err { OnErr result (out.new.items ≡ out.old.items) }
 {
     // A sign is present about as often as not, so the minus is stored without a branch. What is
-    // stored too much is cut off.
+    // stored past the end is cut off.
     let start = out.len() + usize::from(num < 0);
     out.extend_from_slice(&[b'-'; ROOM])?;
     let end = write_parts(start, num.unsigned_abs(), den, out.as_mut_slice());
@@ -131,7 +131,7 @@ impl Fraction {
         ensures ok { OnOk result (out.new.items ≡ out.old.items ++ number_text self) }
         ensures err { OnErr result (out.new.items ≡ out.old.items) }
     {
-        // Both parts are passed in registers: to read back what was only just stored takes long.
+        // Both parts are passed in registers: it takes long to read back what was only just stored.
         let (num, den) = (self.num(), self.den());
         match (i64::try_from(num), u64::try_from(den)) {
             (Ok(num), Ok(den)) => write_words(num, den, out),
