@@ -20,6 +20,7 @@ pub use Rattle.gf_form.specs.WorkedForms.{overflowing, unlikely, balancing, endi
 pub use Rattle.gf_form.specs.declared.reduced.digits.OwnDigit.{OwnDigit}
 pub use Rattle.gf_form.specs.declared.reduced.level.Level.{Level}
 pub use Rattle.gf_form.specs.declared.reduced.survey.Open.{Open}
+pub use Rattle.gf_form.specs.declared.reduced.survey.Owner.{Owner}
 pub use Rattle.gf_form.specs.declared.reduced.survey.Survey.{Survey}
 pub use Rattle.gf_form.specs.declared.reduced.visits.Visit.{Visit}
 pub use Rattle.gf_form.specs.declared.rows.chosen.Chosen.{Chosen}
@@ -46,8 +47,8 @@ pub use Rattle.gf_form.specs.inner.reduced.Relevance.{FindRelevance}
 pub use Rattle.gf_form.specs.inner.reduced.Search.{AreFoundTo, AreOpen, IsSearchBy, IsShut}
 pub use Rattle.gf_form.specs.inner.reduced.Search.{IsUnderBy, digit_at, IsFound}
 pub use Rattle.gf_form.specs.inner.reduced.Shown.{chooses_first, is_first, relevant_sets, shown}
-pub use Rattle.gf_form.specs.inner.reduced.Survey.{meets_own, FindsMore, IsOpen, IsSurvey}
-pub use Rattle.gf_form.specs.inner.reduced.Survey.{open_comes, sizes, survey_size}
+pub use Rattle.gf_form.specs.inner.reduced.Survey.{FindsMore, sizes, survey_size, visits_at}
+pub use Rattle.gf_form.specs.inner.reduced.Survey.{visits_below, own_step, own_visit}
 pub use Rattle.gf_form.specs.inner.reduced.Visits.{is_met, is_met_on, AreActions, AreWithin, Meets}
 pub use Rattle.gf_form.specs.inner.reduced.Visits.{visits_of}
 pub use Rattle.gf_form.specs.inner.rows.Demands.{meets, spans, steps_of}

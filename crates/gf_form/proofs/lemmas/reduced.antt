@@ -20,3 +20,4 @@ pub mod SameReduced
 pub mod SearchEnds
 pub mod SearchSteps
 pub mod Surveys
+pub mod VisitsFound

@@ -1,6 +1,7 @@
 //! The digits of one player's demands: one for each of his sets at which he has several actions.
 
-ghost use Rattle.std.specs.Prelude.{◌≡◌, ◌<◌, ◌^◌, IfOk};
+ghost use Rattle.std.specs.Prelude.{◌≡◌, ◌<◌, ◌^◌, IfOk, unwrap_or};
+ghost use Rattle.gf_token.specs.Positions.{at_position};
 ghost use Rattle.gf_nfg.specs.Profiles.{product};
 ghost use Rattle.gf_form.specs.inner.reduced.Levels.{ArePositive};
 ghost use Rattle.gf_form.specs.inner.reduced.OwnDigits.{digits_from};
@@ -29,6 +30,19 @@ pub(crate) fn own_steps(alloc: Global, counts: &[u32]) -> Result<Vec<u64>, Alloc
 {
     let values = values_with(counts, 1).unwrap();
     steps_within(alloc, counts, values)
+}
+
+/// The step of the digit of the set at this position; 0 if there is no such set.
+pub(crate) fn step_at(steps: &[u64], position: u32) -> u64
+    ensures { result ≡ unwrap_or (at_position steps.now position) 0 }
+{
+    if position == 0 {
+        return 0;
+    }
+    match steps.get(position as usize - 1) {
+        Some(step) => *step,
+        None => 0,
+    }
 }
 
 /// The digits of sets with this many actions, from the slowest on, and with these steps.

@@ -1,19 +1,19 @@
 //! The visits of a player, which one walk through the tree finds, whatever he chooses.
 
-ghost use Rattle.std.specs.Prelude.{◌≡◌, ◌≤◌, ◌<◌, ◌+◌, ◌*◌, ◌^◌, ◌&&◌, ◌==◌, ℕ, IfOk, None, OnOk};
-ghost use Rattle.std.specs.Prelude.{Some, length, if◌then◌else◌};
-ghost use Rattle.gf_nfg.specs.Profiles.{product};
+ghost use Rattle.std.specs.Prelude.{◌≡◌, ◌<◌, ◌+◌, ◌*◌, ◌%◌, ◌^◌, ◌==◌, IfOk, None, OnOk, Some};
+ghost use Rattle.std.specs.Prelude.{length, if◌then◌else◌, unwrap_or};
+ghost use Rattle.gf_token.specs.Positions.{at_position};
 ghost use Rattle.gf_tree.specs.Branches.{game_of, tree_of};
-ghost use Rattle.gf_tree.specs.BranchesLeft.{branches_given, game_of_branches};
+ghost use Rattle.gf_tree.specs.BranchesLeft.{branches_given};
 ghost use Rattle.gf_tree.specs.PrefixOrder.{flatten};
 ghost use Rattle.gf_form.specs.Strategies.{action_counts};
-ghost use Rattle.gf_form.specs.inner.reduced.Comes.{tree_comes};
 ghost use Rattle.gf_form.specs.inner.reduced.Relevance.{FindRelevance};
-ghost use Rattle.gf_form.specs.inner.reduced.Survey.{FindsMore, IsOpen, IsSurvey, meets_own};
-ghost use Rattle.gf_form.specs.inner.reduced.Survey.{open_comes, open_size, survey_size};
-ghost use Rattle.gf_form.specs.inner.reduced.Visits.{visits_of};
+ghost use Rattle.gf_form.specs.inner.reduced.Survey.{FindsMore, open_size, open_visits};
+ghost use Rattle.gf_form.specs.inner.reduced.Survey.{survey_size, visits_at};
+ghost use Rattle.gf_form.specs.inner.reduced.Visits.{Meets, visits_of};
 ghost use Rattle.gf_form.specs.inner.rows.DigitSteps.{steps_behind, width};
 
+use crate::reduced::digits::step_at;
 use crate::reduced::visits::{Visit, Visits};
 use crate::rows::digits::demanded;
 use gf_tree::{Branch, Branches, Game};
@@ -32,12 +32,17 @@ struct Open<'g, 'a> {
     taken: u64,
 }
 
-/// A walk through a tree that finds the visits of a player to his sets.
+/// Whose visits are looked for.
 #[derive(Drop)]
-struct Survey<'s, 'g, 'a> {
+struct Owner<'s> {
     player: u32,
     /// The steps of the digits of his sets.
     steps: &'s [u64],
+}
+
+/// A walk through a tree that finds the visits of a player to his sets.
+#[derive(Drop)]
+struct Survey<'g, 'a> {
     visits: Visits,
     /// The nodes on the path to the branch that comes next.
     nodes: Vec<Open<'g, 'a>>,
@@ -45,18 +50,16 @@ struct Survey<'s, 'g, 'a> {
 
 impl<'g, 'a> Open<'g, 'a> {
     /// What the path to the child that was given last demands; `None` if it demands two actions at
-    /// one set.
+    /// one set. The demands fit: the digits have fewer than 2^64 values together.
     fn demands_below(&self) -> Option<u64>
-        requires { self.now.taken ≡ 0
-            → self.now.demands + branches_given self.now.rest * self.now.step < 2 ^ 64 }
         ensures { result ≡ (if self.now.taken == 0
-            then Some (self.now.demands + branches_given self.now.rest * self.now.step)
+            then Some ((self.now.demands + branches_given self.now.rest * self.now.step) % 2 ^ 64)
             else if branches_given self.now.rest == self.now.taken then Some self.now.demands
             else None) }
     {
         let action = self.rest.given() as u64;
         if self.taken == 0 {
-            Some(self.demands + action * self.step)
+            Some(self.demands.wrapping_add(action.wrapping_mul(self.step)))
         } else if action == self.taken {
             Some(self.demands)
         } else {
@@ -65,27 +68,47 @@ impl<'g, 'a> Open<'g, 'a> {
     }
 }
 
-impl<'s, 'g, 'a> Survey<'s, 'g, 'a> {
+impl<'g, 'a> Survey<'g, 'a> {
+    /// Adds a visit to a set, if it is the player's, and gives the step of the digit there.
+    fn meet(
+        &mut self,
+        owner: &Owner<'_>,
+        mover: (u32, u32),
+        demands: u64,
+    ) -> Result<u64, AllocError>
+        ensures nodes { self.new.nodes ≡ self.old.nodes }
+        ensures own { IfOk result (λ step. mover.0 ≡ owner.now.player
+            → Meets (visits_of self.old.visits) (record { demands = demands; set = mover.1 })
+            (visits_of self.new.visits)
+            × (step ≡ unwrap_or (at_position owner.now.steps.now mover.1) 0)) }
+        ensures other { IfOk result (λ step. ¬ (mover.0 ≡ owner.now.player)
+            → (self.new.visits ≡ self.old.visits) × (step ≡ 0)) }
+    {
+        let (player, set) = mover;
+        if player != owner.player {
+            return Ok(0);
+        }
+        self.visits.meet(Visit { demands, set })?;
+        Ok(step_at(owner.steps, set))
+    }
+
     /// Goes into a branch, if the path to it has these demands.
-    fn enter(&mut self, branch: Branch<'g, 'a>, demands: u64) -> Result<(), AllocError>
-        requires demands { demands < width (action_counts (game_of branch) self.old.player) }
-        requires survey { IsSurvey (game_of branch) self.old }
-        ensures player { self.new.player ≡ self.old.player }
-        ensures survey { OnOk result (IsSurvey (game_of branch.entry) self.new) }
-        ensures found { OnOk result (FindsMore (game_of branch.entry) self.old self.new
-            (λ counts strategy choices key. meets_own counts strategy demands
-            && tree_comes choices key (tree_of branch.entry))) }
+    #[tactic(auto, using(crate::proofs::lemmas::reduced::Surveys::survey_steps))]
+    fn enter(
+        &mut self,
+        owner: &Owner<'_>,
+        branch: Branch<'g, 'a>,
+        demands: u64,
+    ) -> Result<(), AllocError>
+        ensures found { OnOk result (FindsMore owner.now self.old self.new
+            (visits_at (game_of branch.entry) owner.now demands (tree_of branch.entry))) }
         ensures smaller { OnOk result (survey_size self.new.nodes.items
             < survey_size self.old.nodes.items + 2 * length (flatten (tree_of branch.entry))) }
     {
-        let Some((player, set)) = branch.mover() else {
+        let Some(mover) = branch.mover() else {
             return Ok(());
         };
-        let mut step = 0;
-        if player == self.player {
-            self.visits.meet(Visit { demands, set })?;
-            step = self.steps[set as usize - 1];
-        }
+        let step = self.meet(owner, mover, demands)?;
         self.nodes.push(Open {
             taken: demanded(demands, step, branch.children()),
             rest: branch.child_branches(),
@@ -96,14 +119,10 @@ impl<'s, 'g, 'a> Survey<'s, 'g, 'a> {
     }
 
     /// Goes into the next branch below a node.
-    fn go_on(&mut self, mut node: Open<'g, 'a>) -> Result<(), AllocError>
-        requires node { IsOpen (game_of_branches node.rest)
-            (action_counts (game_of_branches node.rest) self.old.player) node }
-        requires survey { IsSurvey (game_of_branches node.rest) self.old }
-        ensures player { self.new.player ≡ self.old.player }
-        ensures survey { OnOk result (IsSurvey (game_of_branches node.entry.rest) self.new) }
-        ensures found { OnOk result (FindsMore (game_of_branches node.entry.rest) self.old self.new
-            (λ counts strategy choices key. open_comes counts strategy choices key node.entry)) }
+    #[tactic(auto, using(crate::proofs::lemmas::reduced::Surveys::survey_steps))]
+    fn go_on(&mut self, owner: &Owner<'_>, mut node: Open<'g, 'a>) -> Result<(), AllocError>
+        ensures found { OnOk result
+            (FindsMore owner.now self.old self.new (open_visits owner.now node.entry)) }
         ensures smaller { OnOk result (survey_size self.new.nodes.items
             < open_size node.entry + survey_size self.old.nodes.items) }
     {
@@ -113,13 +132,14 @@ impl<'s, 'g, 'a> Survey<'s, 'g, 'a> {
         let below = node.demands_below();
         self.nodes.push(node)?;
         match below {
-            Some(demands) => self.enter(child, demands),
+            Some(demands) => self.enter(owner, child, demands),
             None => Ok(()),
         }
     }
 }
 
 /// The visits of a player to his sets, whose digits have these steps.
+#[tactic(auto, using(crate::proofs::lemmas::reduced::Surveys::survey_steps))]
 pub(crate) fn visits_in(
     alloc: Global,
     game: &Game<'_>,
@@ -131,15 +151,14 @@ pub(crate) fn visits_in(
     ensures { IfOk result (λ visits. FindRelevance game.now player (visits_of visits)) }
 {
     let _players = game.players();
+    let owner = Owner { player, steps };
     let mut survey = Survey {
-        player,
-        steps,
         visits: Visits::new(alloc),
         nodes: Vec::new(alloc),
     };
-    survey.enter(game.root(), 0)?;
+    survey.enter(&owner, game.root(), 0)?;
     while let Some(node) = survey.nodes.pop() {
-        survey.go_on(node)?;
+        survey.go_on(&owner, node)?;
     }
     Ok(survey.visits)
 }

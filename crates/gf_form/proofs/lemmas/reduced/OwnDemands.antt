@@ -1,10 +1,10 @@
 -- The demands on one player by the digits of his sets: what they say of one set, and what another
 -- action there adds to them.
 use Rattle.gf_form.proofs.Common.{◌≡◌, ℕ, ◌+◌, ◌*◌, ◌/◌, ◌%◌, ◌<◌, ◌≤◌, Bool, true, false, List, []}
-use Rattle.gf_form.proofs.Common.{◌∷◌, length, get_or, set, refl, sym, ap, ◌∙◌, arith, ◌==◌, ◌&&◌}
+use Rattle.gf_form.proofs.Common.{◌∷◌, length, get_or, set, refl, sym, ◌∙◌, arith, ◌==◌, ◌&&◌}
 use Rattle.gf_form.proofs.Common.{if◌then◌else◌, div-add-mod, div-lt_iff_lt-mul, mod-eq_of_lt}
 use Rattle.gf_form.proofs.Common.{mod-lt, mul_comm, eqb-false, eqb-true, append-nil, AllZip-long}
-use Rattle.gf_form.proofs.Common.{product, meets_own, AreActions, meets, spans, steps_of, picked}
+use Rattle.gf_form.proofs.Common.{product, AreActions, meets, spans, steps_of, picked, own_steps}
 use Rattle.gf_form.proofs.Common.{steps_behind, width, demanded, IsDigitOf}
 use Rattle.std.proofs.Math.Nat.{div-zero}
 use Rattle.gf_form.proofs.lemmas.rows.DemandDigits.{AreWithin, digit_is, meets_is, met, met_digit}
@@ -13,6 +13,10 @@ use Rattle.gf_form.proofs.lemmas.rows.DemandDigits.{none_within, pack, pack_belo
 use Rattle.gf_form.proofs.lemmas.rows.DemandDigits.{set_within, spans_above, within_length}
 use Rattle.gf_form.proofs.lemmas.rows.DigitPlaces.{as_many_picked, own_alone, own_digit}
 use Rattle.gf_form.proofs.lemmas.strategies.ActionCounts.{zip_at}
+
+-- a strategy of the player meets these demands, if he has this many actions at each set
+abbrev pub meets_own : List ℕ → List ℕ → ℕ → Bool
+meets_own counts strategy demands = meets (own_steps counts) (picked counts strategy) demands
 
 -- ---- the digits of a number
 
@@ -71,17 +75,20 @@ module _ (all choices ds : List ℕ) (demands step actions choice : ℕ)
     fits : own ≡ 0 → demands + k * step < product (spans all)
     fits free = grind (arith, added, pack_below, added_within)
 
-    met_added : own ≡ 0 → 1 ≤ k
-        → are_met (demands + k * step) ≡ (are_met demands && k == choice)
-    met_added free from =
-        grind (arith, added, met_is, meets_is, added_within, met_set, within_length, own_is)
-
-    met_taken : ¬ (own ≡ 0) → (are_met demands && choice == k) ≡ (k == own && are_met demands)
-    met_taken some = grind (arith, met_is, met_digit, within_length, own_is)
-
     leads : 1 ≤ k → (are_met demands && choice == k)
         ≡ (if own == 0 then are_met (demands + k * step) else k == own && are_met demands)
-    leads from = grind (arith, met_added, met_taken)
+    leads from =
+        grind (
+          arith,
+          added,
+          met_is,
+          meets_is,
+          added_within,
+          met_set,
+          met_digit,
+          within_length,
+          own_is,
+        )
 
 module _ (counts : List ℕ) (demands place step actions : ℕ) (valid : demands < width counts)
     (here : IsSetAt counts place step actions) where
@@ -111,10 +118,13 @@ module _ (counts : List ℕ) (demands place step actions : ℕ) (valid : demands
           has.within has.are d k upto free
 
   -- the demands with an action, where that is the one that is demanded or any will do
-  pub leads_on : (strategy : List ℕ) → AreActions counts strategy → (k : ℕ) → 1 ≤ k → k ≤ actions
-      → (meets_own counts strategy demands && get_or strategy place 0 == k)
+  abbrev pub Leads : List ℕ → ℕ → Type 0
+  Leads strategy k = (meets_own counts strategy demands && get_or strategy place 0 == k)
       ≡ (if demanded demands step actions == 0 then meets_own counts strategy (demands + k * step)
       else k == demanded demands step actions && meets_own counts strategy demands)
+
+  pub leads_on : (strategy : List ℕ) → AreActions counts strategy → (k : ℕ) → 1 ≤ k → k ≤ actions
+      → Leads strategy k
   leads_on strategy chosen k from upto = by (step == 0) refl
     where
       wide : length strategy ≡ length counts
@@ -127,11 +137,7 @@ module _ (counts : List ℕ) (demands place step actions : ℕ) (valid : demands
           chosen place (omega (arith, wide, here.within)) in
           grind (arith, own_alone)
 
-      by : (b : Bool) → (step == 0) ≡ b
-          → (meets_own counts strategy demands && get_or strategy place 0 == k)
-          ≡ (if demanded demands step actions == 0
-          then meets_own counts strategy (demands + k * step)
-          else k == demanded demands step actions && meets_own counts strategy demands)
+      by : (b : Bool) → (step == 0) ≡ b → Leads strategy k
       by true e =
           let none = eqb-true step 0 e in
           grind (arith, one, no_digit demands step actions none)
@@ -144,9 +150,7 @@ pub meets_none : (counts strategy : List ℕ) → AreActions counts strategy
     → meets_own counts strategy 0 ≡ true
 meets_none counts strategy chosen =
     let all = picked counts counts in
-    let wide = sym (AllZip-long (λ action count. (1 ≤ action) × (action ≤ count)) strategy counts
-    chosen) in
-    ap (meets (steps_of all) (picked counts strategy)) (sym (none_pack all))
-    ∙ meets_is all (picked counts strategy) (no_demands all) (as_many_picked counts strategy wide)
-    (none_within all)
-    ∙ none_met (picked counts strategy) all
+    let wide = AllZip-long _ strategy counts chosen in
+    let is = meets_is all (picked counts strategy) (no_demands all)
+    (as_many_picked counts strategy (sym wide)) (none_within all) in
+    grind (arith, none_pack, none_met)

@@ -1,7 +1,7 @@
 -- What is made from the numbers of actions are the digits of the game.
 use Rattle.gf_form.proofs.Common.{◌≡◌, ℕ, suc, ◌-◌, ◌<◌, ◌≤◌, ◌^◌, Bool, true, false, cond, List}
 use Rattle.gf_form.proofs.Common.{[], ◌∷◌, ◌++◌, Some, length, map, get_or, refl, sym, ap, subst}
-use Rattle.gf_form.proofs.Common.{◌∙◌, arith, option_map, find, append-nil, get_or_default}
+use Rattle.gf_form.proofs.Common.{◌∙◌, arith, option_map, slice_get, find, append-nil, get_or_default}
 use Rattle.gf_form.proofs.Common.{length-map, none-some, AllZip-long, product, length-profiles}
 use Rattle.gf_form.proofs.Common.{SetKey, InformationSet, same_set, Described, description_at}
 use Rattle.gf_form.proofs.Common.{player_sets, Game, IsGame, set_at, spans, steps_of, all_steps}
@@ -25,14 +25,15 @@ use Rattle.gf_form.proofs.lemmas.strategies.NumberedProfiles.{numbered, numbered
 -- ---- a set among a player's
 
 -- its place, which has its number of actions and what is chosen there
-record IsAmong (ss : List (Described SetKey InformationSet)) (key : SetKey) (set : InformationSet)
-    : Type 0 where
-  place : ℕ
-  within : place < length ss
-  count : get_or (map (λ s. length s.description.actions) ss) place 0 ≡ length set.actions
-  choice : (xs : List ℕ) → choice_at (map (λ s. s.key) ss) xs key ≡ get_or xs place 0
+pub record IsAmong (ss : List (Described SetKey InformationSet)) (key : SetKey)
+    (set : InformationSet) : Type 0 where
+  pub place : ℕ
+  pub within : place < length ss
+  pub there : slice_get (map (λ s. s.key) ss) place ≡ Some key
+  pub count : get_or (map (λ s. length s.description.actions) ss) place 0 ≡ length set.actions
+  pub choice : (xs : List ℕ) → choice_at (map (λ s. s.key) ss) xs key ≡ get_or xs place 0
 
-among : (ss : List (Described SetKey InformationSet)) (key : SetKey) (set : InformationSet)
+pub among : (ss : List (Described SetKey InformationSet)) (key : SetKey) (set : InformationSet)
     → description_at same_set ss key ≡ Some set → IsAmong ss key set
 among [] key set is = absurd (none-some set is)
 among (s ∷ ss) key set is = by (same_set s.key key) refl (among ss key set) is
@@ -58,6 +59,7 @@ among (s ∷ ss) key set is = by (same_set s.key key) refl (among ss key set) is
         record {
           place = suc later.place;
           within = omega (arith, later.within);
+          there = later.there;
           count = later.count;
           choice = behind other later.place later.choice;
         }

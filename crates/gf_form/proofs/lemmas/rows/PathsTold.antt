@@ -13,7 +13,7 @@ use Rattle.gf_form.specs.declared.rows.paths.Open.{Open}
 
 -- ---- the nodes below a node by the list of its children
 
-length-list_of : {N : Type 0} (ts : Trees N) → length (list_of ts) ≡ count ts
+pub length-list_of : {N : Type 0} (ts : Trees N) → length (list_of ts) ≡ count ts
 length-list_of none = refl
 length-list_of (more t ts) = ap suc (length-list_of ts)
 

@@ -1,5 +1,5 @@
 -- Whether choices come to a set, by recursion over the tree.
-use Rattle.std.specs.Prelude.{ℕ, ◌+◌, ◌&&◌, ◌||◌, Bool, false, List, [], ◌∷◌}
+use Rattle.std.specs.Prelude.{ℕ, ◌+◌, ◌&&◌, ◌||◌, Bool, false}
 use Rattle.std.specs.Option.{option_map_or}
 use Rattle.gf_tree.specs.Tree.{Tree, Trees}
 use Rattle.gf_tree.specs.Tree.Tree.{branch}
@@ -20,9 +20,3 @@ abbrev mutual
   trees_come choices key n k (more t ts) =
       (is_own_choice choices key.player (record { node = n; taken = k })
       && tree_comes choices key t) || trees_come choices key n (k + 1) ts
-
--- it does so in one of these trees; a tree counts if its position passes the test
-abbrev pub list_comes : (SetKey → ℕ) → SetKey → (ℕ → Bool) → ℕ → List (Tree Node) → Bool
-list_comes choices key counts k [] = false
-list_comes choices key counts k (t ∷ ts) =
-    (counts k && tree_comes choices key t) || list_comes choices key counts (k + 1) ts

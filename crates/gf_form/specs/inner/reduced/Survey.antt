@@ -1,71 +1,82 @@
--- What a survey of a tree has found, and what it has yet to find.
-use Rattle.std.specs.Prelude.{◌≡◌, ◌+◌, ◌*◌, ◌<◌, ◌≤◌, ◌^◌, ◌==◌, ◌&&◌, ◌||◌, ℕ, Bool, List, []}
-use Rattle.std.specs.Prelude.{◌∷◌, length, Some, if◌then◌else◌}
-use Rattle.std.specs.List.{AllByRecursion, list_any}
-use Rattle.gf_token.specs.Positions.{at_position}
+-- The visits of a player in a tree, and what a survey has yet to find of them.
+use Rattle.std.specs.Prelude.{◌≡◌, ◌+◌, ◌*◌, ◌%◌, ◌^◌, ◌==◌, ◌||◌, ◌++◌, ℕ, Bool, List, [], ◌∷◌}
+use Rattle.std.specs.Prelude.{length, if◌then◌else◌}
+use Rattle.std.specs.List.{list_any}
+use Rattle.std.specs.Option.{option_map_or}
+use Rattle.gf_nfg.specs.Profiles.{positions}
 use Rattle.gf_tree.specs.BranchesLeft.{branches_given, branches_left, game_of_branches}
 use Rattle.gf_tree.specs.Description.{SetKey}
 use Rattle.gf_tree.specs.FirstUse.{player_keys}
 use Rattle.gf_tree.specs.Game.{Game, Node}
 use Rattle.gf_tree.specs.PrefixOrder.{flatten}
-use Rattle.gf_tree.specs.Tree.{Tree}
-use Rattle.gf_form.specs.inner.reduced.Comes.{list_comes}
-use Rattle.gf_form.specs.inner.reduced.OwnDigits.{own_steps}
-use Rattle.gf_form.specs.inner.reduced.Visits.{AreActions, AreWithin, is_met, visits_of}
-use Rattle.gf_form.specs.inner.rows.Demands.{meets}
-use Rattle.gf_form.specs.inner.rows.DigitSteps.{picked, steps_behind, width}
-use Rattle.gf_form.specs.Strategies.{action_counts, choice_at}
+use Rattle.gf_tree.specs.Tree.{Tree, Trees, count}
+use Rattle.gf_tree.specs.Tree.Tree.{branch}
+use Rattle.gf_tree.specs.Tree.Trees.{none, more}
+use Rattle.gf_form.specs.inner.reduced.Visits.{visits_of}
+use Rattle.gf_form.specs.inner.rows.ReachedNodes.{demanded}
+use Rattle.gf_form.specs.Strategies.{choice_at}
 use Rattle.gf_form.specs.declared.reduced.survey.Open.{Open}
+use Rattle.gf_form.specs.declared.reduced.survey.Owner.{Owner}
 use Rattle.gf_form.specs.declared.reduced.survey.Survey.{Survey}
+use Rattle.gf_form.specs.declared.reduced.visits.Visit.{Visit}
 
--- a strategy of the player meets these demands, if he has this many actions at each set
-abbrev pub meets_own : List ℕ → List ℕ → ℕ → Bool
-meets_own counts strategy demands = meets (own_steps counts) (picked counts strategy) demands
+-- the step of the digit at a set of the player's; 0 at any other
+abbrev pub own_step : Game → Owner → SetKey → ℕ
+own_step g own key =
+    if key.player == own.player
+    then choice_at (player_keys g own.player) own.steps.now key
+    else 0
 
--- the strategy meets the demands of the path to the child at this position
-abbrev pub leads_to : List ℕ → List ℕ → Open → ℕ → Bool
-leads_to counts strategy o k =
-    if o.taken == 0 then meets_own counts strategy (o.demands + k * o.step)
-    else k == o.taken && meets_own counts strategy o.demands
+-- the visit to a set, if it is the player's
+abbrev pub own_visit : Game → Owner → ℕ → SetKey → List Visit
+own_visit g own demands key =
+    let keys = player_keys g own.player in
+    if key.player == own.player
+    then record { demands = demands; set = choice_at keys (positions (length keys)) key } ∷ []
+    else []
 
--- the set occurs below the node, in a branch that is left
-abbrev pub open_comes : List ℕ → List ℕ → (SetKey → ℕ) → SetKey → Open → Bool
-open_comes counts strategy choices key o =
-    list_comes choices key (leads_to counts strategy o) (branches_given o.rest + 1)
+abbrev mutual
+  -- the visits in a tree, if the path to it has these demands
+  pub visits_at : Game → Owner → ℕ → Tree Node → List Visit
+  visits_at g own demands (branch n ts) =
+      option_map_or (λ key. own_visit g own demands key
+      ++ visits_below g own demands (own_step g own key)
+      (demanded demands (own_step g own key) (count ts)) 1 ts) n.set []
+
+  -- those below a node, in these children, the first of which has position k, if this action is
+  -- taken, or any if it is 0, at a set whose digit has this step
+  pub visits_below : Game → Owner → ℕ → ℕ → ℕ → ℕ → Trees Node → List Visit
+  visits_below g own demands step taken k none = []
+  visits_below g own demands step taken k (more t ts) =
+      (if taken == 0 then visits_at g own ((demands + k * step) % 2 ^ 64) t
+      else if k == taken then visits_at g own demands t
+      else [])
+      ++ visits_below g own demands step taken (k + 1) ts
+
+-- the same in a list of children
+abbrev pub list_visits : Game → Owner → ℕ → ℕ → ℕ → ℕ → List (Tree Node) → List Visit
+list_visits g own demands step taken k [] = []
+list_visits g own demands step taken k (t ∷ ts) =
+    (if taken == 0 then visits_at g own ((demands + k * step) % 2 ^ 64) t
+    else if k == taken then visits_at g own demands t
+    else [])
+    ++ list_visits g own demands step taken (k + 1) ts
+
+-- those below an open node, in the branches that are left
+abbrev pub open_visits : Owner → Open → List Visit
+open_visits own o =
+    list_visits (game_of_branches o.rest) own o.demands o.step o.taken (branches_given o.rest + 1)
     (branches_left o.rest)
 
--- it was met already, or occurs below an open node
-abbrev pub survey_comes : List ℕ → List ℕ → (SetKey → ℕ) → ℕ → SetKey → Survey → Bool
-survey_comes counts strategy choices position key s =
-    is_met position (own_steps counts) (picked counts strategy) (visits_of s.visits)
-    || list_any (open_comes counts strategy choices key) s.nodes.items
+-- a visit that passes the test was found, or is below an open node
+abbrev pub finds : Owner → (Visit → Bool) → Survey → Bool
+finds own test s = list_any test (visits_of s.visits)
+    || list_any (λ o. list_any test (open_visits own o)) s.nodes.items
 
--- The later survey comes to what the earlier one comes to, and to this.
-abbrev pub FindsMore : Game → Survey → Survey
-    → (List ℕ → List ℕ → (SetKey → ℕ) → SetKey → Bool) → Type 0
-FindsMore g old new this = (strategy : List ℕ) (position : ℕ) (key : SetKey)
-    → AreActions (action_counts g old.player) strategy
-    → at_position (player_keys g old.player) position ≡ Some key
-    → survey_comes (action_counts g old.player) strategy
-    (choice_at (player_keys g old.player) strategy) position key new
-    ≡ (survey_comes (action_counts g old.player) strategy
-    (choice_at (player_keys g old.player) strategy) position key old
-    || this (action_counts g old.player) strategy
-    (choice_at (player_keys g old.player) strategy) key)
-
--- an open node of the game, where the demands of the path to each of its children fit
-pub record IsOpen (g : Game) (counts : List ℕ) (o : Open) : Type 0 where
-  pub game_is : game_of_branches o.rest ≡ g
-  pub demands : o.demands < width counts
-  pub children : (k : ℕ) → k ≤ branches_given o.rest + length (branches_left o.rest)
-      → o.taken ≡ 0 → o.demands + k * o.step < width counts
-
--- its steps are those of the player's sets, and its visits are to these
-pub record IsSurvey (g : Game) (s : Survey) : Type 0 where
-  pub steps : s.steps.now ≡ steps_behind 1 (action_counts g s.player)
-  pub fits : width (action_counts g s.player) < 2 ^ 64
-  pub nodes : AllByRecursion (IsOpen g (action_counts g s.player)) s.nodes.items
-  pub visited : AreWithin (length (player_keys g s.player)) (visits_of s.visits)
+-- the later survey finds what the earlier one does, and these
+abbrev pub FindsMore : Owner → Survey → Survey → List Visit → Type 0
+FindsMore own old new visits = (test : Visit → Bool)
+    → finds own test new ≡ (finds own test old || list_any test visits)
 
 -- a measure of what is left
 abbrev pub sizes : List (Tree Node) → ℕ
