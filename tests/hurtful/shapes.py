@@ -278,6 +278,40 @@ def set_never_met(actions, count):
     return tree.game(form, without=["table"], relevant=True)
 
 
+def set_behind_a_later_one(actions, count, met=True):
+    """After one of two choices play comes to a set with many actions, and after the other one to a later set with as
+    many, whose first action leads to the earlier set too, if that is met there. Beside them stand many sets of one
+    action, after another choice.
+    """
+    tree = Tree(1)
+    tree.toss(1, ["1/2", "1/2"])
+    tree.move(1, 1)
+    tree.move(1, 2, actions)
+    for _ in range(actions):
+        tree.end()
+    tree.move(1, 3, actions)
+    if met:
+        tree.move(1, 2, actions)
+    for _ in range(2 * actions - 1 if met else actions):
+        tree.end()
+    tree.move(1, 4)
+    for number in range(5, count + 5):
+        tree.move(1, number, 1)
+    tree.end()
+    tree.end()
+    first, others = range(1, actions + 1), range(2, actions + 1)
+    # In the order of the first strategies, by the actions at the three sets.
+    chosen = [f"1-{action}-*" for action in first]
+    if met:
+        chosen += ["2-1-1", *(f"2-*-{action}" for action in others), *(f"2-{action}-1" for action in others)]
+    else:
+        chosen += [f"2-*-{action}" for action in first]
+    behind = ["-1" * (count + 1), "-2" + "-*" * count]
+    labels = [before + after for before in chosen for after in behind]
+    form = Answer(table_text("s", tree.players, [labels], "0\n" * len(labels)).encode())
+    return tree.game(form, without=["table"], relevant=True)
+
+
 def one_later_set(actions, player):
     """A move with many actions, and after each of them a move of this player, always at the same set."""
     tree = Tree(2)
@@ -380,6 +414,10 @@ SHAPES = {
     "a wide tree reduced": (partial(wide_tree, 100, 6, 14), partial(side_by_side, 14)),
     "a move that is forgotten": (partial(one_later_set, 2**17, 1), partial(one_later_set, 2**17, 2)),
     "a set that is never met": (partial(set_never_met, 2**19, 350_000), partial(set_never_met, 2, 350_000)),
+    "a set behind a later one": (
+        partial(set_behind_a_later_one, 512, 5_000),
+        partial(set_behind_a_later_one, 512, 5_000, met=False),
+    ),
 }
 
 # The same of shapes that are too slow at full size, which docs/DECISIONS.md lists: at a size that passes.

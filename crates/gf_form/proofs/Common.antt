@@ -41,11 +41,14 @@ pub use Rattle.gf_form.specs.declared.values.op.Op.TheVariants.{Push, Begin, Not
 pub use Rattle.gf_form.specs.inner.reduced.Comes.{tree_comes, trees_come}
 pub use Rattle.gf_form.specs.inner.reduced.Firsts.{AreFirstsOf, IsPaidAt}
 pub use Rattle.gf_form.specs.inner.reduced.Levels.{ArePositive, IsLevel, is_left, left_of}
-pub use Rattle.gf_form.specs.inner.reduced.Levels.{can_be_met, IsChosen}
+pub use Rattle.gf_form.specs.inner.reduced.Levels.{can_be_met, IsChosen, IsChosenAt}
 pub use Rattle.gf_form.specs.inner.reduced.OwnDigits.{digits_from, own_steps}
 pub use Rattle.gf_form.specs.inner.reduced.Relevance.{FindRelevance}
-pub use Rattle.gf_form.specs.inner.reduced.Search.{AreFoundTo, AreOpen, IsSearchBy, IsShut}
-pub use Rattle.gf_form.specs.inner.reduced.Search.{IsUnderBy, digit_at, IsFound}
+pub use Rattle.gf_form.specs.inner.reduced.Search.{AreFirstBelow, AreFoundTo, AreInTurn}
+pub use Rattle.gf_form.specs.inner.reduced.Search.{AreLabelledTo, AreOwn, HaveChoices, HaveNumbers}
+pub use Rattle.gf_form.specs.inner.reduced.Search.{IsElsewhere, IsKept, IsLast, IsNextBelow}
+pub use Rattle.gf_form.specs.inner.reduced.Search.{IsSearched, IsToldBy, IsWritten, actions_of}
+pub use Rattle.gf_form.specs.inner.reduced.Search.{digit_at, is_relevant_at, is_settled, numbered}
 pub use Rattle.gf_form.specs.inner.reduced.Shown.{chooses_first, is_first, relevant_sets, shown}
 pub use Rattle.gf_form.specs.inner.reduced.Survey.{FindsMore, sizes, survey_size, visits_at}
 pub use Rattle.gf_form.specs.inner.reduced.Survey.{visits_below, own_step, own_visit}

@@ -9,6 +9,7 @@ pub mod NodeSets
 pub mod OnlyStrategies
 pub mod OwnDemands
 pub mod OwnDigits
+pub mod OwnVisits
 pub mod ReducedForms
 pub mod ReducedPays
 pub mod ReducedStrategies
@@ -18,6 +19,8 @@ pub mod ReducedValues
 pub mod Reducing
 pub mod SameReduced
 pub mod SearchEnds
+pub mod SearchLabels
+pub mod SearchStarts
 pub mod SearchSteps
 pub mod Surveys
 pub mod VisitsFound

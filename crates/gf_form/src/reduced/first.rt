@@ -1,26 +1,27 @@
 //! The reduced strategies of a player. Among the strategies that reduce to the same one, only the
 //! first has the first action at each set that is not relevant under it.
 
-ghost use Rattle.std.specs.Prelude.{◌≡◌, ◌≤◌, ◌<◌, ◌+◌, ℕ, suc, true, false, [], IfOk, OnOk, drop};
-ghost use Rattle.std.specs.Prelude.{get_or, if◌then◌else◌, length, map, take};
+ghost use Rattle.std.specs.Prelude.{◌≡◌, ◌≤◌, ◌<◌, ◌+◌, ◌^◌, ℕ, List, false, true, IfOk, MatchOption};
+ghost use Rattle.std.specs.Prelude.{OnOk, get_or, if◌then◌else◌, length, map};
 ghost use Rattle.gf_nfg.specs.Profiles.{product};
 ghost use Rattle.gf_form.specs.inner.strategies.Counted.{AreCounts};
 ghost use Rattle.gf_form.specs.inner.reduced.Firsts.{AreFirsts, AreFirstsOf};
 ghost use Rattle.gf_form.specs.inner.reduced.OwnDigits.{digits_from};
-ghost use Rattle.gf_form.specs.inner.reduced.Search.{AreOpen, IsFound, IsSearch, IsShut, IsUnder};
-ghost use Rattle.gf_form.specs.inner.reduced.Search.{counts_of, digit_at};
-ghost use Rattle.gf_form.specs.inner.reduced.Shown.{is_first, relevant_sets};
+ghost use Rattle.gf_form.specs.inner.reduced.Relevance.{FindRelevance};
+ghost use Rattle.gf_form.specs.inner.reduced.Search.{AreFirstBelow, AreFoundTo, AreOwn};
+ghost use Rattle.gf_form.specs.inner.reduced.Search.{HaveChoices, IsSearched, digit_at};
+ghost use Rattle.gf_form.specs.inner.reduced.Visits.{AreWithin};
 ghost use Rattle.gf_form.specs.Reduced.{reduced_labels};
 ghost use Rattle.gf_form.specs.Strategies.{action_counts, players_of, strategies};
 
 use crate::reduced::digits::{OwnDigit, own_digits, own_steps};
-use crate::reduced::labels::write_reduced_label;
+use crate::reduced::labels::labels_of;
 use crate::reduced::level::Level;
 use crate::reduced::survey::visits_in;
+use crate::reduced::visits::Visit;
 use crate::strategies::counts::Counts;
 use crate::strategies::numbered::strategy_labels;
 use gf_nfg::Labels;
-use gf_token::Label;
 use gf_tree::Game;
 use std::alloc::{AllocError, Global};
 
@@ -34,101 +35,71 @@ pub(crate) struct Player<'q, 'a> {
 
 /// A search for the first strategies of a player that reduce to each of his reduced ones. It
 /// chooses at one digit after another, the slowest first, and goes no further if a set at which it
-/// chose an action other than the first cannot be met any more.
+/// chose an action other than the first cannot be met any more. Sets without a digit have one
+/// action, so they never decide this. Its levels leave them out, since most levels may be in vain.
 #[derive(Drop)]
-pub(crate) struct Search {
+struct Search {
     alloc: Global,
-    /// The choices so far, and anything at the digits that are left.
-    pub strategy: Vec<u32>,
-    /// Whether each set can still be met.
-    pub met: Vec<bool>,
-    text: Vec<u8>,
-    /// The numbers of the first strategies, from 0, and the labels of the reduced ones.
-    pub numbers: Vec<u32>,
-    pub labels: Labels,
+    /// Whether the set of each digit can still be met, or need not be.
+    met: Vec<bool>,
+    /// The numbers of the first strategies, from 0.
+    numbers: Vec<u32>,
     /// Levels whose room is used again.
     spare: Vec<Level>,
 }
 
+/// Whether all flags are set.
+fn are_set(flags: &[bool]) -> bool
+    ensures set { result ≡ true → (k : ℕ) → k < length flags.now → get_or flags.now k false ≡ true }
+    ensures unset { result ≡ false
+        → (k : ℕ) × (k < length flags.now) × (get_or flags.now k false ≡ false) }
+{
+    for flag in flags {
+        if !*flag {
+            return false;
+        }
+    }
+    true
+}
+
 impl Search {
-    /// A search before the first choice, for a player with this many sets.
-    fn new(alloc: Global, sets: usize) -> Result<Search, AllocError>
-        ensures wide { IfOk result (λ s. length s.strategy.items ≡ sets) }
-        ensures strategy { IfOk result (λ s. (place : ℕ) → place < sets
-            → get_or s.strategy.items place 0 ≡ 1) }
-        ensures numbers { IfOk result (λ s. s.numbers.items ≡ []) }
-        ensures labels { IfOk result (λ s. s.labels ≡ []) }
+    /// Appends these numbers, from this one on, all of first strategies.
+    fn push_all(
+        &mut self,
+        player: &Player<'_, '_>,
+        number: u32,
+        count: u32,
+    ) -> Result<(), AllocError>
+        requires found { AreFoundTo player.now.game.now player.now.number self.old.numbers.items
+            number }
+        requires within { number + count
+            ≤ length (strategies player.now.game.now player.now.number) }
+        requires few { number + count < 2 ^ 32 }
+        requires firsts { AreFirstBelow player.now.game.now player.now.number number count }
+        ensures found { OnOk result (AreFoundTo player.now.game.now player.now.number
+            self.new.numbers.items (number + count)) }
     {
-        let mut strategy = Vec::new(alloc);
-        strategy.resize(sets, 1)?;
-        Ok(Search {
-            alloc,
-            strategy,
-            met: Vec::new(alloc),
-            text: Vec::new(alloc),
-            numbers: Vec::new(alloc),
-            labels: Labels::new(alloc),
-            spare: Vec::new(alloc),
-        })
-    }
-
-    /// Whether each set at which an action other than the first was chosen, among those of the
-    /// first digits, can be met.
-    fn is_open(&self, digits: &[OwnDigit], depth: usize) -> bool
-        requires deep { depth ≤ length digits.now }
-        requires places { (k : ℕ) → k < depth
-            → (digit_at digits.now k).place < length self.now.strategy.items }
-        requires met { length self.now.met.items ≡ length self.now.strategy.items }
-        ensures open { result ≡ true
-            → AreOpen digits.now depth self.now.strategy.items self.now.met.items }
-        ensures shut { result ≡ false
-            → IsShut digits.now depth self.now.strategy.items self.now.met.items }
-    {
-        for digit in &digits[..depth] {
-            if self.strategy[digit.place] != 1 && !self.met[digit.place] {
-                return false;
-            }
+        for before in 0..count {
+            self.numbers.push(number + before)?;
         }
-        true
-    }
-
-    /// How many actions are tried at a digit: if its set cannot be met, the first one alone.
-    fn actions_tried(&self, digit: OwnDigit) -> u32
-        requires some { 0 < digit.actions }
-        requires there { digit.place < length self.now.met.items }
-        ensures all { result
-            ≡ (if get_or self.now.met.items digit.place false then digit.actions else 1) }
-        ensures upto { result ≤ digit.actions }
-    {
-        if self.met[digit.place] {
-            digit.actions
-        } else {
-            1
-        }
-    }
-
-    /// Appends the strategy, which has this number and meets the sets that are marked.
-    fn push_first(&mut self, player: &Player<'_, '_>, number: u32) -> Result<(), AllocError>
-        requires found { IsFound player.now self.old number }
-        requires within { number < length (strategies player.now.game.now player.now.number) }
-        requires strategy { self.old.strategy.items
-            ≡ get_or (strategies player.now.game.now player.now.number) number [] }
-        requires met { self.old.met.items
-            ≡ relevant_sets player.now.game.now player.now.number self.old.strategy.items }
-        requires first { is_first player.now.game.now player.now.number self.old.strategy.items
-            ≡ true }
-        ensures strategy { self.new.strategy ≡ self.old.strategy }
-        ensures found { OnOk result (IsFound player.now self.new (number + 1)) }
-    {
-        let _players = player.game.players();
-        write_reduced_label(&self.met, &self.strategy, &mut self.text)?;
-        self.labels.push(Label::of_spelling(&self.text))?;
-        self.numbers.push(number)?;
         Ok(())
     }
 
-    /// Appends the first strategies among those with the choices at the first digits, as many as
-    /// the depth says. They have numbers from this one on, and there are `count` of them.
+    /// How many actions are tried at the digit at this depth: if its set cannot be met, the first
+    /// one alone.
+    fn actions_tried(&self, depth: usize, digit: OwnDigit) -> u32
+        requires some { 0 < digit.actions }
+        requires there { depth < length self.now.met.items }
+        ensures all { result
+            ≡ (if get_or self.now.met.items depth false then digit.actions else 1) }
+        ensures upto { result ≤ digit.actions }
+    {
+        if self.met[depth] { digit.actions } else { 1 }
+    }
+
+    /// Appends the numbers of the first strategies among those with the choices at the first
+    /// digits, as many as the depth says. They have numbers from this one on, and there are `count`
+    /// of them.
     fn push_below(
         &mut self,
         player: &Player<'_, '_>,
@@ -137,38 +108,104 @@ impl Search {
         number: u32,
         count: u32,
     ) -> Result<(), AllocError>
-        requires search { IsSearch player.now self.old }
-        requires found { IsFound player.now self.old number }
-        requires under { IsUnder player.now self.old level.now depth number count }
-        ensures search { OnOk result (IsSearch player.now self.new) }
-        ensures found { OnOk result (IsFound player.now self.new (number + count)) }
-        ensures earlier { OnOk result ((place : ℕ) → drop depth player.now.digits.items
-            ≡ digits_from place (drop place (counts_of player.now))
-            → take place self.new.strategy.items ≡ take place self.old.strategy.items) }
+        requires below { IsSearched player.now.game.now player.now.number player.now.digits.items
+            level.now depth number count }
+        requires found { AreFoundTo player.now.game.now player.now.number self.old.numbers.items
+            number }
+        ensures found { OnOk result (AreFoundTo player.now.game.now player.now.number
+            self.new.numbers.items (number + count)) }
     {
         let _players = player.game.players();
+        if are_set(&level.known) {
+            return self.push_all(player, number, count);
+        }
         level.mark(&mut self.met)?;
-        if !self.is_open(&player.digits, depth) {
+        if !are_set(&self.met[..depth]) {
             return Ok(());
         }
         if depth == player.digits.len() {
-            return self.push_first(player, number);
+            return self.push_all(player, number, count);
         }
         let digit = player.digits[depth];
         let each = count / digit.actions;
-        let tried = self.actions_tried(digit);
+        let tried = self.actions_tried(depth, digit);
         let mut left = match self.spare.pop() {
             Some(level) => level,
             None => Level::none(self.alloc),
         };
         for before in 0..tried {
-            self.strategy[digit.place] = before + 1;
-            left.choose(level, digit.step, u64::from(before + 1))?;
+            left.choose_at(level, digit.step, u64::from(before + 1), depth)?;
             self.push_below(player, &left, depth + 1, number + before * each, each)?;
         }
         self.spare.push(left)?;
         Ok(())
     }
+}
+
+/// The position, from 0, of the digit of the set at a place; `None` if it has none.
+fn digit_of(digits: &[OwnDigit], place: usize) -> Option<usize>
+    ensures { MatchOption result
+        ((k : ℕ) → k < length digits.now → ¬ ((digit_at digits.now k).place ≡ place))
+        (λ k. (k < length digits.now) × ((digit_at digits.now k).place ≡ place)) }
+{
+    for position in 0..digits.len() {
+        if digits[position].place == place {
+            return Some(position);
+        }
+    }
+    None
+}
+
+/// The visits to sets with a digit, each to the position of the digit, from 1.
+fn own_visits(
+    alloc: Global,
+    visits: &[Visit],
+    digits: &[OwnDigit],
+) -> Result<Vec<Visit>, AllocError>
+    requires digits { (counts : List ℕ) × (digits.now ≡ digits_from 0 counts) }
+    requires few { length digits.now < 2 ^ 32 }
+    requires within { (sets : ℕ) × AreWithin sets visits.now }
+    ensures { IfOk result (λ own. AreOwn digits.now visits.now own.items) }
+{
+    let mut own = Vec::new(alloc);
+    for visit in visits {
+        let Some(position) = digit_of(digits, visit.set as usize - 1) else {
+            continue;
+        };
+        own.push(Visit {
+            demands: visit.demands,
+            set: position as u32 + 1,
+        })?;
+    }
+    Ok(own)
+}
+
+/// The numbers of the first strategies of a player, from 0, of whom these are the visits.
+fn first_numbers(
+    alloc: Global,
+    player: &Player<'_, '_>,
+    visits: &[Visit],
+    whole: u32,
+) -> Result<Vec<u32>, AllocError>
+    requires digits { player.now.digits.items
+        ≡ digits_from 0 (action_counts player.now.game.now player.now.number) }
+    requires choices { HaveChoices player.now.game.now player.now.number player.now.digits.items 0
+        whole }
+    requires visits { FindRelevance player.now.game.now player.now.number visits.now }
+    ensures { IfOk result (λ numbers. AreFoundTo player.now.game.now player.now.number
+        numbers.items whole) }
+{
+    let _players = player.game.players();
+    let own = own_visits(alloc, visits, &player.digits)?;
+    let level = Level::of_visits(alloc, &own, player.digits.len())?;
+    let mut search = Search {
+        alloc,
+        met: Vec::new(alloc),
+        numbers: Vec::new(alloc),
+        spare: Vec::new(alloc),
+    };
+    search.push_below(player, &level, 0, 0, whole)?;
+    Ok(search.numbers)
 }
 
 /// The numbers of the first strategies that reduce to each reduced strategy of a player, from 0,
@@ -190,15 +227,14 @@ fn first_strategies(
     let steps = own_steps(alloc, counts)?;
     let digits = own_digits(alloc, counts, &steps)?;
     let visits = visits_in(alloc, game, player, &steps)?;
-    let level = Level::of_visits(alloc, visits.all(), counts.len())?;
     let player = Player {
         game,
         number: player,
         digits,
     };
-    let mut search = Search::new(alloc, counts.len())?;
-    search.push_below(&player, &level, 0, 0, whole)?;
-    Ok((search.numbers, search.labels))
+    let numbers = first_numbers(alloc, &player, visits.all(), whole)?;
+    let labels = labels_of(alloc, &player, visits.all(), &numbers, whole, counts.len())?;
+    Ok((numbers, labels))
 }
 
 /// The same for a player who has one strategy. He has one action at each of his sets, so all of

@@ -1,14 +1,26 @@
 //! The labels of reduced strategies.
 
-ghost use Rattle.std.specs.Prelude.{◌≡◌, ◌++◌, [], ◌∷◌, None, Some, OnOk, length, if◌then◌else◌};
+ghost use Rattle.std.specs.Prelude.{◌≡◌, ◌≤◌, ◌<◌, ◌+◌, ◌++◌, [], ◌∷◌, None, Some, IfOk, OnOk};
+ghost use Rattle.std.specs.Prelude.{drop, false, get_or, if◌then◌else◌, length, true, ℕ};
 ghost use Rattle.std.specs.List.{AllByRecursion};
 ghost use Rattle.gf_token.specs.LabelSpelling.{IsLabel};
 ghost use Rattle.gf_form.specs.inner.strategies.LabelTexts.{IsPlain, choice_text};
-ghost use Rattle.gf_form.specs.Reduced.{reduced_label};
+ghost use Rattle.gf_form.specs.Reduced.{reduced_label, reduced_labels};
+ghost use Rattle.gf_form.specs.Strategies.{action_counts};
+ghost use Rattle.gf_form.specs.inner.reduced.OwnDigits.{digits_from};
+ghost use Rattle.gf_form.specs.inner.reduced.Relevance.{FindRelevance};
+ghost use Rattle.gf_form.specs.inner.reduced.Search.{AreFoundTo, AreInTurn, AreLabelledTo};
+ghost use Rattle.gf_form.specs.inner.reduced.Search.{HaveChoices, IsKept, IsLast, IsNextBelow};
+ghost use Rattle.gf_form.specs.inner.reduced.Search.{IsWritten};
 ghost use Rattle.gf_form.specs.inner.reduced.Shown.{shown};
 
+use crate::reduced::first::Player;
+use crate::reduced::level::Level;
+use crate::reduced::visits::Visit;
+use gf_nfg::Labels;
+use gf_token::Label;
 use itoa::Buffer;
-use std::alloc::AllocError;
+use std::alloc::{AllocError, Global};
 
 /// Appends the choice at a set to a text, or `*` if the set is not relevant, and a dash.
 fn write_choice(is_relevant: bool, action: u32, text: &mut Vec<u8>) -> Result<(), AllocError>
@@ -30,7 +42,7 @@ fn write_choice(is_relevant: bool, action: u32, text: &mut Vec<u8>) -> Result<()
 
 /// Replaces a text by the label of a reduced strategy: the actions at the relevant sets, and `*` at
 /// the others, joined by `-`.
-pub(crate) fn write_reduced_label(
+fn write_reduced_label(
     relevant: &[bool],
     strategy: &[u32],
     text: &mut Vec<u8>,
@@ -45,4 +57,152 @@ pub(crate) fn write_reduced_label(
     }
     text.pop();
     Ok(())
+}
+
+/// The labels of a player's reduced strategies, one after another. It goes down to the first
+/// strategy that reduces to each, digit by digit, so each level that it comes to is paid by a label.
+#[derive(Drop)]
+struct Labelling {
+    alloc: Global,
+    /// The choices so far, and anything at the digits that are left.
+    strategy: Vec<u32>,
+    /// Whether each set is met.
+    met: Vec<bool>,
+    text: Vec<u8>,
+    labels: Labels,
+    /// Levels whose room is used again.
+    spare: Vec<Level>,
+}
+
+impl Labelling {
+    /// No labels yet, for a player with this many sets.
+    fn new(alloc: Global, sets: usize) -> Result<Labelling, AllocError>
+        ensures wide { IfOk result (λ l. length l.strategy.items ≡ sets) }
+        ensures strategy { IfOk result (λ l. (place : ℕ) → place < sets
+            → get_or l.strategy.items place 0 ≡ 1) }
+        ensures labels { IfOk result (λ l. l.labels ≡ []) }
+    {
+        let mut strategy = Vec::new(alloc);
+        strategy.resize(sets, 1)?;
+        Ok(Labelling {
+            alloc,
+            strategy,
+            met: Vec::new(alloc),
+            text: Vec::new(alloc),
+            labels: Labels::new(alloc),
+            spare: Vec::new(alloc),
+        })
+    }
+
+    /// Whether the next of these numbers, which has no label yet, is less than this one.
+    fn is_next_below(&self, numbers: &[u32], number: u32) -> bool
+        ensures below { result ≡ true → IsNextBelow numbers.now self.now.labels number }
+        ensures past { result ≡ false → length self.now.labels < length numbers.now
+            → number ≤ get_or numbers.now (length self.now.labels) 0 }
+    {
+        let next = self.labels.len();
+        next < numbers.len() && numbers[next] < number
+    }
+
+    /// Appends the label of the strategy, which has this number and meets the sets that the level
+    /// tells.
+    fn push_label(
+        &mut self,
+        player: &Player<'_, '_>,
+        numbers: &[u32],
+        level: &Level,
+        number: u32,
+    ) -> Result<(), AllocError>
+        requires last { IsLast player.now.game.now player.now.number self.old.strategy.items
+            level.now number }
+        requires ordered { AreInTurn numbers.now }
+        requires next { IsNextBelow numbers.now self.old.labels (number + 1) }
+        requires labelled { AreLabelledTo player.now.game.now player.now.number numbers.now
+            self.old.labels number }
+        ensures strategy { self.new.strategy ≡ self.old.strategy }
+        ensures labelled { OnOk result (AreLabelledTo player.now.game.now player.now.number
+            numbers.now self.new.labels (number + 1)) }
+    {
+        let _players = player.game.players();
+        level.mark(&mut self.met)?;
+        write_reduced_label(&self.met, &self.strategy, &mut self.text)?;
+        self.labels.push(Label::of_spelling(&self.text))?;
+        Ok(())
+    }
+
+    /// Appends the labels of the strategies with these numbers among those with the choices at the
+    /// first digits, as many as the depth says. They have numbers from this one on, there are
+    /// `count` of them, and one of them at least has a label due.
+    fn push_below(
+        &mut self,
+        player: &Player<'_, '_>,
+        numbers: &[u32],
+        level: &Level,
+        depth: usize,
+        number: u32,
+        count: u32,
+    ) -> Result<(), AllocError>
+        requires below { IsWritten player.now.game.now player.now.number player.now.digits.items
+            self.old.strategy.items level.now depth number count }
+        requires ordered { AreInTurn numbers.now }
+        requires next { IsNextBelow numbers.now self.old.labels (number + count) }
+        requires labelled { AreLabelledTo player.now.game.now player.now.number numbers.now
+            self.old.labels number }
+        ensures kept { OnOk result (IsKept (drop depth player.now.digits.items)
+            self.old.strategy.items self.new.strategy.items) }
+        ensures labelled { OnOk result (AreLabelledTo player.now.game.now player.now.number
+            numbers.now self.new.labels (number + count)) }
+    {
+        let _players = player.game.players();
+        if depth == player.digits.len() {
+            return self.push_label(player, numbers, level, number);
+        }
+        let digit = player.digits[depth];
+        let each = count / digit.actions;
+        let mut left = match self.spare.pop() {
+            Some(level) => level,
+            None => Level::none(self.alloc),
+        };
+        for before in 0..digit.actions {
+            let first = number + before * each;
+            if !self.is_next_below(numbers, first + each) {
+                continue;
+            }
+            self.strategy[digit.place] = before + 1;
+            left.choose(level, digit.step, u64::from(before + 1))?;
+            self.push_below(player, numbers, &left, depth + 1, first, each)?;
+        }
+        self.spare.push(left)?;
+        Ok(())
+    }
+}
+
+/// The labels of a player's reduced strategies, if the first ones that reduce to them have these
+/// numbers among his `whole` strategies, and these are his visits to so many sets.
+pub(crate) fn labels_of(
+    alloc: Global,
+    player: &Player<'_, '_>,
+    visits: &[Visit],
+    numbers: &[u32],
+    whole: u32,
+    sets: usize,
+) -> Result<Labels, AllocError>
+    requires digits { player.now.digits.items
+        ≡ digits_from 0 (action_counts player.now.game.now player.now.number) }
+    requires choices { HaveChoices player.now.game.now player.now.number player.now.digits.items 0
+        whole }
+    requires visits { FindRelevance player.now.game.now player.now.number visits.now }
+    requires found { AreFoundTo player.now.game.now player.now.number numbers.now whole }
+    requires sets { sets ≡ length (action_counts player.now.game.now player.now.number) }
+    ensures { IfOk result
+        (λ labels. labels ≡ reduced_labels player.now.game.now player.now.number) }
+{
+    let _players = player.game.players();
+    let level = Level::of_visits(alloc, visits, sets)?;
+    let mut labelling = Labelling::new(alloc, sets)?;
+    if !labelling.is_next_below(numbers, whole) {
+        return Ok(labelling.labels);
+    }
+    labelling.push_below(player, numbers, &level, 0, 0, whole)?;
+    Ok(labelling.labels)
 }

@@ -4,7 +4,7 @@ ghost use Rattle.std.specs.Prelude.{◌≡◌, ◌<◌, ◌+◌, ◌*◌, ◌^�
 ghost use Rattle.std.specs.Prelude.{ℕ, suc};
 ghost use Rattle.std.specs.List.Sorted.{IsNonDecreasingBy, IsPermutation};
 ghost use Rattle.gf_form.specs.inner.reduced.Levels.{AddsLeft, HasSets, HaveBelow, IsChosen};
-ghost use Rattle.gf_form.specs.inner.reduced.Levels.{IsLevel, can_be_met, left_of};
+ghost use Rattle.gf_form.specs.inner.reduced.Levels.{IsChosenAt, IsLevel, can_be_met, left_of};
 ghost use Rattle.gf_form.specs.inner.reduced.Visits.{AreWithin};
 
 use crate::reduced::visits::Visit;
@@ -142,6 +142,27 @@ impl Level {
         self.known.extend_from_slice(&from.known)?;
         self.add_chosen(&from.visits, step, action)?;
         self.sort();
+        Ok(())
+    }
+
+    /// The same, but the set at this place need not be met if the action is the first one.
+    pub(crate) fn choose_at(
+        &mut self,
+        from: &Level,
+        step: u64,
+        action: u64,
+        place: usize,
+    ) -> Result<(), AllocError>
+        requires fits { action * step + step < 2 ^ 64 }
+        requires level { IsLevel (length from.now.known.items) from.now }
+        requires there { place < length from.now.known.items }
+        ensures chosen { OnOk result (IsChosenAt place step action from.now self.new) }
+        ensures level { OnOk result (IsLevel (length from.now.known.items) self.new) }
+    {
+        self.choose(from, step, action)?;
+        if action == 1 {
+            self.known[place] = true;
+        }
         Ok(())
     }
 

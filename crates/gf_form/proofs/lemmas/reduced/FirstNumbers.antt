@@ -1,9 +1,11 @@
 -- The numbers of the first strategies, one after another, and flags that say which are first.
 use Rattle.gf_form.proofs.Common.{◌≡◌, ℕ, zero, suc, ◌+◌, ◌<◌, ◌≤◌, Bool, true, false, List, []}
-use Rattle.gf_form.proofs.Common.{◌∷◌, ◌++◌, length, map, get_or, take, refl, ap, subst, ◌∙◌}
-use Rattle.gf_form.proofs.Common.{add-one, arith, ◌==◌, ◌||◌, filter, AllByRecursion, take-suc}
-use Rattle.gf_form.proofs.Common.{and_from, and_parts, eq-eqb, append-nil, map-append}
-use Rattle.gf_form.proofs.Common.{filter-append, all_both, chooses_first}
+use Rattle.gf_form.proofs.Common.{◌∷◌, ◌++◌, ◌⊎◌, inl, inr, length, map, get_or, take, refl, ap}
+use Rattle.gf_form.proofs.Common.{subst, ◌∙◌, add-one, arith, ◌==◌, ◌||◌, filter, AllByRecursion}
+use Rattle.gf_form.proofs.Common.{take-suc, and_from, and_parts, eq-eqb, append-nil, map-append}
+use Rattle.gf_form.proofs.Common.{filter-append, all_both, chooses_first, cases_lt, length-append}
+use Rattle.gf_form.proofs.Common.{get_or_append_left, get_or-append_seam, HaveNumbers}
+use Rattle.gf_form.proofs.lemmas.strategies.StrategiesByNumber.{all_at}
 
 -- ---- by flags
 
@@ -31,12 +33,6 @@ first_where (flag ∷ flags) (a ∷ s) (suc k) es h less f =
 
 -- ---- numbers
 
--- the numbers of those of the first i items that pass the test
-pub record AreFirst {A : Type 0} (test : A → Bool) (all : List A) (d : A) (numbers : List ℕ) (i : ℕ)
-    : Type 0 where
-  pub are : map (λ number. get_or all number d) numbers ≡ filter test (take i all)
-  pub within : AllByRecursion (λ number. number < i) numbers
-
 module _ {A : Type 0} (test : A → Bool) (all : List A) (d : A) (i : ℕ) (less : i < length all) where
   next_item : filter test (take (i + 1) all)
       ≡ filter test (take i all) ++ filter test (get_or all i d ∷ [])
@@ -49,30 +45,47 @@ module _ {A : Type 0} (test : A → Bool) (all : List A) (d : A) (i : ℕ) (less
   wider [] h = tt
   wider (n ∷ numbers) h = (omega (arith, h.0), wider numbers h.1)
 
-  pub first_kept : (numbers next : List ℕ) → AreFirst test all d numbers i
-      → test (get_or all i d) ≡ true → next ≡ numbers ++ i ∷ [] → AreFirst test all d next (i + 1)
-  first_kept numbers next h passes is = grind (arith, all_both, map-append, next_item, wider)
+  pub first_kept : (numbers next : List ℕ) → HaveNumbers test all d numbers i
+      → test (get_or all i d) ≡ true → next ≡ numbers ++ i ∷ [] → HaveNumbers test all d next (i + 1)
+  first_kept numbers next h passes is = record {
+    are = grind (arith, map-append, next_item, h.are);
+    within = grind (arith, all_both, wider, h.within);
+    ordered = λ k before. in_turn k (cases_lt (suc k) (length numbers)) before;
+  }
+    where
+      in_turn : (k : ℕ) → (suc k < length numbers) ⊎ (length numbers ≤ suc k)
+          → suc k < length next → get_or next k 0 < get_or next (suc k) 0
+      in_turn k (inl early) before =
+          grind (arith, get_or_append_left, h.ordered k early)
+      in_turn k (inr late) before =
+          let long : length next ≡ length numbers + 1 = grind (arith, length-append) in
+          let at : length numbers ≡ suc k = omega (arith, long, late, before) in
+          let last : get_or next (length numbers) 0 ≡ i =
+          rw is (get_or-append_seam numbers i [] 0) in
+          let there : get_or next k 0 ≡ get_or numbers k 0 =
+          rw is (get_or_append_left numbers (i ∷ []) 0 k (omega (arith, at))) in
+          omega (
+            arith,
+            ap (λ (n : ℕ). get_or next n 0) at,
+            last,
+            there,
+            all_at (λ number. number < i) numbers k 0 h.within (omega (arith, at)),
+          )
 
-  pub first_left : (numbers : List ℕ) → AreFirst test all d numbers i
-      → test (get_or all i d) ≡ false → AreFirst test all d numbers (i + 1)
+  pub first_left : (numbers : List ℕ) → HaveNumbers test all d numbers i
+      → test (get_or all i d) ≡ false → HaveNumbers test all d numbers (i + 1)
   first_left numbers h fails = grind (arith, append-nil, next_item, wider)
 
 -- items that do not pass are left out
 pub passed_by : {A : Type 0} (test : A → Bool) (all : List A) (d : A) (numbers : List ℕ) (i m : ℕ)
-    → AreFirst test all d numbers i → i + m ≤ length all
-    → ((k : ℕ) → i ≤ k → k < i + m → test (get_or all k d) ≡ false)
-    → AreFirst test all d numbers (i + m)
+    → HaveNumbers test all d numbers i → i + m ≤ length all
+    → ((k : ℕ) → k < m → test (get_or all (i + k) d) ≡ false)
+    → HaveNumbers test all d numbers (i + m)
 passed_by test all d numbers i zero h within fails = grind arith
 passed_by test all d numbers i (suc m) h within fails =
     let next : i + m + 1 ≡ i + suc m = omega arith in
-    subst (AreFirst test all d numbers) next
+    subst (HaveNumbers test all d numbers) next
     (first_left test all d (i + m) (omega (arith, within)) numbers
     (passed_by test all d numbers i m h (omega (arith, within))
-    (λ k from before. fails k from (omega (arith, before))))
-    (fails (i + m) (omega arith) (omega arith)))
-
--- the image of one more is kept too
-pub one_image_more : {A : Type 0} (f : ℕ → A) (numbers next : List ℕ) (images more : List A) (n : ℕ)
-    (image : A) → images ≡ map f numbers → image ≡ f n → next ≡ numbers ++ n ∷ []
-    → more ≡ images ++ image ∷ [] → more ≡ map f next
-one_image_more f numbers next images more n image are is next_is more_is = grind (arith, map-append)
+    (λ k less. fails k (omega (arith, less))))
+    (fails m (omega arith)))

@@ -28,7 +28,7 @@ product_picked [] h = refl
 product_picked (n ∷ counts) h = grind (arith, product_picked counts h.1)
 
 -- the choice with a number there is the choice with it at all sets
-picked_at : (counts : List ℕ) (number : ℕ) → ArePositive counts → number < product counts
+pub picked_at : (counts : List ℕ) (number : ℕ) → ArePositive counts → number < product counts
     → get_or (all_choices (picked counts counts)) number []
     ≡ picked counts (get_or (all_choices counts) number [])
 picked_at [] number h less = grind arith

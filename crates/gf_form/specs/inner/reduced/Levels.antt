@@ -1,5 +1,5 @@
 -- What is left of a player's visits after choices at the slower digits.
-use Rattle.std.specs.Prelude.{◌≡◌, ◌≤◌, ◌<◌, ◌-◌, ◌*◌, ◌+◌, ◌==◌, ◌&&◌, ◌||◌, ℕ, Bool, false, List}
+use Rattle.std.specs.Prelude.{◌≡◌, ◌≤◌, ◌<◌, ◌-◌, ◌*◌, ◌+◌, ◌==◌, ◌&&◌, ◌||◌, ℕ, suc, Bool, false, List}
 use Rattle.std.specs.Prelude.{◌∷◌, Option, Some, None, get_or, length, nat_le, nat_lt}
 use Rattle.std.specs.Prelude.{if◌then◌else◌}
 use Rattle.std.specs.List.{AllByRecursion, list_any}
@@ -54,6 +54,13 @@ abbrev pub IsChosen : ℕ → ℕ → Level → Level → Type 0
 IsChosen step action from left = (position : ℕ) (steps choices : List ℕ) → 1 ≤ position
     → ArePositive steps → is_left position steps choices left
     ≡ is_left position (step ∷ steps) (action ∷ choices) from
+
+-- the same, but the set at a place, from 0, need not be met if the action is the first one
+abbrev pub IsChosenAt : ℕ → ℕ → ℕ → Level → Level → Type 0
+IsChosenAt place step action from left = (position : ℕ) (steps choices : List ℕ) → 1 ≤ position
+    → ArePositive steps → is_left position steps choices left
+    ≡ (is_left position (step ∷ steps) (action ∷ choices) from
+    || (action == 1 && position == suc place))
 
 -- the set at this position is known to be met, or there is a visit to it
 abbrev pub can_be_met : ℕ → Level → Bool

@@ -1,95 +1,157 @@
--- A search for the first strategies of a player, digit by digit.
-use Rattle.std.specs.Prelude.{◌≡◌, ◌≤◌, ◌<◌, ◌+◌, ◌^◌, ℕ, Bool, false, List, []}
-use Rattle.std.specs.Prelude.{◌++◌, Some, drop, filter, get_or, length, map, take}
+-- A search for the first strategies of a player, digit by digit, and another one for their labels.
+use Rattle.std.specs.Prelude.{◌≡◌, ◌≤◌, ◌<◌, ◌+◌, ◌-◌, ◌^◌, ◌==◌, ◌&&◌, ◌||◌, ℕ, suc, Bool, false}
+use Rattle.std.specs.Prelude.{true, List, [], drop, filter, get_or, length, map, nat_le, take}
 use Rattle.std.specs.List.{AllByRecursion}
-use Rattle.gf_token.specs.Positions.{at_position}
 use Rattle.gf_nfg.specs.Profiles.{product}
-use Rattle.gf_tree.specs.Description.{SetKey}
 use Rattle.gf_tree.specs.FirstUse.{player_keys}
 use Rattle.gf_tree.specs.Game.{Game}
-use Rattle.gf_form.specs.Reduced.{is_relevant, reduced, reduced_label}
-use Rattle.gf_form.specs.Strategies.{action_counts, all_choices, choice_at, strategies}
-use Rattle.gf_form.specs.inner.reduced.Levels.{IsLevel, ArePositive, is_left}
-use Rattle.gf_form.specs.inner.reduced.OwnDigits.{digits_from, own_steps}
-use Rattle.gf_form.specs.inner.reduced.Shown.{is_first}
-use Rattle.gf_form.specs.inner.reduced.Visits.{AreActions}
-use Rattle.gf_form.specs.inner.rows.DigitSteps.{picked}
+use Rattle.gf_form.specs.Reduced.{reduced, reduced_label}
+use Rattle.gf_form.specs.Strategies.{action_counts, all_choices, strategies}
+use Rattle.gf_form.specs.inner.reduced.Levels.{ArePositive, IsLevel, can_be_met, is_left}
+use Rattle.gf_form.specs.inner.reduced.OwnDigits.{digits_from}
+use Rattle.gf_form.specs.inner.reduced.Shown.{is_first, relevant_sets}
+use Rattle.gf_form.specs.inner.reduced.Visits.{AreWithin, is_met}
+use Rattle.gf_form.specs.inner.rows.Demands.{spans, steps_of}
 use Rattle.gf_form.specs.declared.reduced.digits.OwnDigit.{OwnDigit}
-use Rattle.gf_form.specs.declared.reduced.first.Player.{Player}
-use Rattle.gf_form.specs.declared.reduced.first.Search.{Search}
 use Rattle.gf_form.specs.declared.reduced.level.Level.{Level}
+use Rattle.gf_form.specs.declared.reduced.visits.Visit.{Visit}
+
+-- ---- digits
 
 abbrev pub digit_at : List OwnDigit → ℕ → OwnDigit
 digit_at digits k = get_or digits k (record { place = 0; step = 0; actions = 0 })
 
--- these are the digits of the player's sets, and at a set without a digit the strategy has the only
--- action
-pub record IsSearchBy (counts : List ℕ) (digits : List OwnDigit) (strategy : List ℕ) : Type 0 where
-  pub digits_are : digits ≡ digits_from 0 counts
-  pub wide : length strategy ≡ length counts
-  pub alone : (place : ℕ) → place < length counts → get_or counts place 0 ≤ 1
-      → get_or strategy place 0 ≡ 1
-  pub some : ArePositive counts
-  pub few : product counts < 2 ^ 32
+-- how many actions there are at each digit
+abbrev pub actions_of : List OwnDigit → List ℕ
+actions_of digits = map (λ d. d.actions) digits
 
--- the first strategies among those before this number, with the labels of what they reduce to
-pub record AreFoundTo (g : Game) (player : ℕ) (numbers : List ℕ) (labels : List (List ℕ))
-    (number : ℕ) : Type 0 where
-  pub are : map (λ n. get_or (strategies g player) n []) numbers
-      ≡ filter (is_first g player) (take number (strategies g player))
-  pub before : AllByRecursion (λ n. n < number) numbers
-  pub labelled : labels
-      ≡ map (λ n. reduced_label (reduced g player (get_or (strategies g player) n []))) numbers
+-- the set at a place, from 0, has none of these digits
+abbrev pub IsElsewhere : ℕ → List OwnDigit → Type 0
+IsElsewhere place digits = AllByRecursion (λ d. ¬ (d.place ≡ place)) digits
 
--- As many digits are chosen as the depth says, those of the sets before some place. The strategies
--- with these choices have numbers from this one on, as many as the count says, and the level tells
--- which sets are relevant under each of them.
-pub record IsUnderBy (g : Game) (player : ℕ) (counts : List ℕ) (digits : List OwnDigit)
-    (strategy : List ℕ) (level : Level) (depth number count : ℕ) : Type 0 where
-  pub place : ℕ
-  pub within : place ≤ length counts
-  pub deep : depth ≤ length digits
-  pub early : (k : ℕ) → k < depth → (digit_at digits k).place < place
-  pub left : drop depth digits ≡ digits_from place (drop place counts)
-  pub chosen : AreActions (take place counts) (take place strategy)
-  pub counted : count ≡ product (drop place counts)
-  pub end : number + count ≤ product counts
-  pub numbered : (k : ℕ) → k < count → get_or (all_choices counts) (number + k) []
-      ≡ take place strategy ++ get_or (all_choices (drop place counts)) k []
-  pub levelled : IsLevel (length counts) level
-  pub relevant : (later : List ℕ) (position : ℕ) (key : SetKey)
-      → AreActions (drop place counts) later
-      → at_position (player_keys g player) position ≡ Some key
-      → is_relevant g (choice_at (player_keys g player) (take place strategy ++ later)) key
-      ≡ is_left position (own_steps (drop place counts)) (picked (drop place counts) later) level
+-- those of these visits that are to sets with a digit, each to the position of the digit, from 1
+pub record AreOwn (digits : List OwnDigit) (visits own : List Visit) : Type 0 where
+  pub within : AreWithin (length digits) own
+  pub same : (k : ℕ) (steps choices : List ℕ) → k < length digits
+      → is_met (suc k) steps choices own
+      ≡ is_met (suc (digit_at digits k).place) steps choices visits
 
--- the same of a search for a player's strategies
-abbrev pub counts_of : Player → List ℕ
-counts_of p = action_counts p.game.now p.number
+-- ---- strategies by their numbers, from 0
 
-abbrev pub IsSearch : Player → Search → Type 0
-IsSearch p s = IsSearchBy (counts_of p) p.digits.items s.strategy.items
+abbrev pub numbered : Game → ℕ → ℕ → List ℕ
+numbered g player number = get_or (strategies g player) number []
 
-abbrev pub IsFound : Player → Search → ℕ → Type 0
-IsFound p s number = AreFoundTo p.game.now p.number s.numbers.items s.labels number
+-- the set at a place, from 0, is relevant under the strategy with a number
+abbrev pub is_relevant_at : Game → ℕ → ℕ → ℕ → Bool
+is_relevant_at g player number place =
+    get_or (relevant_sets g player (numbered g player number)) place false
 
-abbrev pub IsUnder : Player → Search → Level → ℕ → ℕ → ℕ → Type 0
-IsUnder p s level depth number count =
-    IsUnderBy p.game.now p.number (counts_of p) p.digits.items s.strategy.items level depth number
-    count
-
--- a set at which the strategy has an action other than the first, among those of the first digits,
--- and that cannot be met
-pub record IsShut (digits : List OwnDigit) (depth : ℕ) (strategy : List ℕ) (met : List Bool)
-    : Type 0
+-- The strategies with numbers from this one on, as many as the count says, have all choices at
+-- these digits in turn.
+pub record HaveChoices (g : Game) (player : ℕ) (digits : List OwnDigit) (number count : ℕ) : Type 0
   where
-    pub digit : ℕ
-    pub early : digit < depth
-    pub moved : ¬ (get_or strategy (digit_at digits digit).place 0 ≡ 1)
-    pub unmet : get_or met (digit_at digits digit).place false ≡ false
+    pub steps : map (λ d. d.step) digits ≡ steps_of (actions_of digits)
+    pub some : ArePositive (actions_of digits)
+    pub fits : product (spans (actions_of digits)) < 2 ^ 64
+    pub counted : count ≡ product (actions_of digits)
+    pub end : number + count ≤ length (strategies g player)
+    pub few : length (strategies g player) < 2 ^ 32
+    pub chosen : (k : ℕ) → k < count
+        → map (λ d. get_or (numbered g player (number + k)) d.place 0) digits
+        ≡ get_or (all_choices (actions_of digits)) k []
 
--- there is none
-abbrev pub AreOpen : List OwnDigit → ℕ → List ℕ → List Bool → Type 0
-AreOpen digits depth strategy met = (k : ℕ) → k < depth
-    → get_or met (digit_at digits k).place false ≡ false
-    → get_or strategy (digit_at digits k).place 0 ≡ 1
+-- The level tells the flags at so many positions, by the choices that are left at digits with so
+-- many actions; the number is that of the first of these.
+pub record IsToldBy (flag : ℕ → ℕ → Bool) (positions : ℕ) (actions : List ℕ) (level : Level)
+    (number : ℕ) : Type 0
+  where
+    pub levelled : IsLevel positions level
+    pub tells : (k position : ℕ) → k < product actions → 1 ≤ position → position ≤ positions
+        → flag (number + k) position
+        ≡ is_left position (steps_of actions) (get_or (all_choices actions) k []) level
+
+-- ---- first strategies
+
+-- each number is more than the one before it
+abbrev pub AreInTurn : List ℕ → Type 0
+AreInTurn numbers = (k : ℕ) → suc k < length numbers
+    → get_or numbers k 0 < get_or numbers (suc k) 0
+
+-- The set of the digit at a position is relevant, or the digit is one of the first ones, as many as
+-- the depth says, and has the first action.
+abbrev pub is_settled : Game → ℕ → List OwnDigit → ℕ → ℕ → ℕ → Bool
+is_settled g player digits depth number position =
+    is_relevant_at g player number (digit_at digits (position - 1)).place
+    || (nat_le position depth
+    && get_or (numbered g player number) (digit_at digits (position - 1)).place 0 == 1)
+
+-- As many digits are chosen as the depth says, by the strategies with numbers from this one on.
+pub record IsSearched (g : Game) (player : ℕ) (digits : List OwnDigit) (level : Level)
+    (depth number count : ℕ) : Type 0
+  where
+    pub digits_are : digits ≡ digits_from 0 (action_counts g player)
+    pub deep : depth ≤ length digits
+    pub choices : HaveChoices g player (drop depth digits) number count
+    pub told : IsToldBy (is_settled g player digits depth) (length digits)
+        (actions_of (drop depth digits)) level number
+
+-- all strategies with these numbers are first ones
+abbrev pub AreFirstBelow : Game → ℕ → ℕ → ℕ → Type 0
+AreFirstBelow g player number count = (k : ℕ) → k < count
+    → is_first g player (numbered g player (number + k)) ≡ true
+
+-- the numbers of those of the first i items that pass the test, in turn
+pub record HaveNumbers {A : Type 0} (test : A → Bool) (all : List A) (d : A) (numbers : List ℕ)
+    (i : ℕ) : Type 0
+  where
+    pub are : map (λ number. get_or all number d) numbers ≡ filter test (take i all)
+    pub within : AllByRecursion (λ number. number < i) numbers
+    pub ordered : AreInTurn numbers
+
+-- those of the first strategies among those before this number
+abbrev pub AreFoundTo : Game → ℕ → List ℕ → ℕ → Type 0
+AreFoundTo g player numbers number =
+    HaveNumbers (is_first g player) (strategies g player) [] numbers number
+
+-- ---- labels
+
+-- the digits are chosen by a strategy too, which is right at each set that has none of the others
+pub record IsWritten (g : Game) (player : ℕ) (digits : List OwnDigit) (strategy : List ℕ)
+    (level : Level) (depth number count : ℕ) : Type 0
+  where
+    pub deep : depth ≤ length digits
+    pub choices : HaveChoices g player (drop depth digits) number count
+    pub told : IsToldBy (λ number position. is_relevant_at g player number (position - 1))
+        (length (player_keys g player)) (actions_of (drop depth digits)) level number
+    pub wide : length strategy ≡ length (action_counts g player)
+    pub inside : (j : ℕ) → j < length digits → (digit_at digits j).place < length strategy
+    pub chosen : (k place : ℕ) → k < count → place < length strategy
+        → IsElsewhere place (drop depth digits)
+        → get_or strategy place 0 ≡ get_or (numbered g player (number + k)) place 0
+
+-- with all digits chosen there is one strategy, and the level tells which sets are relevant
+pub record IsLast (g : Game) (player : ℕ) (strategy : List ℕ) (level : Level) (number : ℕ) : Type 0
+  where
+    pub levelled : IsLevel (length strategy) level
+    pub within : number < length (strategies g player)
+    pub is : strategy ≡ numbered g player number
+    pub met : (place : ℕ) → place < length strategy
+        → is_relevant_at g player number place ≡ can_be_met (suc place) level
+
+-- a strategy with other choices at these digits alone
+pub record IsKept (digits : List OwnDigit) (old new : List ℕ) : Type 0 where
+  pub wide : length new ≡ length old
+  pub same : (place : ℕ) → IsElsewhere place digits → get_or new place 0 ≡ get_or old place 0
+
+-- the labels of the first of the strategies with these numbers, all of which are before a number
+pub record AreLabelledTo (g : Game) (player : ℕ) (numbers : List ℕ) (labels : List (List ℕ))
+    (number : ℕ) : Type 0
+  where
+    pub are : labels ≡ map (λ n. reduced_label (reduced g player (numbered g player n)))
+        (take (length labels) numbers)
+    pub next : length labels < length numbers → number ≤ get_or numbers (length labels) 0
+
+-- the next of these numbers, if so many have a label, is less than this one
+abbrev pub IsNextBelow : List ℕ → List (List ℕ) → ℕ → Type 0
+IsNextBelow numbers labels number =
+    (length labels < length numbers) × (get_or numbers (length labels) 0 < number)

@@ -1,0 +1,15 @@
+use Rattle.gf_form.proofs.Common.{◌≡◌, ◌+◌, [], arith, subst, is_first, strategies, AreFoundTo}
+use Rattle.gf_form.proofs.lemmas.reduced.FirstNumbers.{first_kept}
+use Rattle.gf_form.proofs.reduced.first.Search.push_all.Goals as goal
+
+pub loop-before-preserved : goal.loop-before-preserved
+loop-before-preserved c =
+    let g = c.args.player.now.game.now in
+    let player = c.args.player.now.number in
+    let n = c.args.number + c.loop-before.before in
+    let next : n + 1 ≡ c.args.number + (c.loop-before.before + 1) = omega arith in
+    subst (AreFoundTo g player c.push.new.self.items) next
+    (first_kept (is_first g player) (strategies g player) [] n
+    (omega (arith, c.loop-before-test.true, c.requires.within)) c.loop-before.self.numbers.items
+    c.push.new.self.items c.loop-before.invariant
+    (c.requires.firsts c.loop-before.before c.loop-before-test.true) c.in_ok-push.ensures.items)

@@ -1,0 +1,5 @@
+use Rattle.gf_form.proofs.Common.{◌≡◌, ◌<◌, ℕ, true, false, get_or}
+use Rattle.gf_form.proofs.reduced.first.are_set.Given as goal
+
+abbrev pub invariant-loop-flag : goal.invariant-loop-flag
+invariant-loop-flag l = (k : ℕ) → k < l.flag-index → get_or l.flags k false ≡ true
