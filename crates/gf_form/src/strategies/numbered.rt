@@ -71,7 +71,7 @@ fn labels_in_turn(alloc: Global, counts: &[u32], whole: u32) -> Result<Labels, A
 
 /// How many strategies there are at sets with this many actions each; `None` above the greatest
 /// number.
-#[tactic(auto, using(crate::proofs::lemmas::strategies::LabelsJoined::one_count_more))]
+#[tactic(auto, using(crate::proofs::lemmas::strategies::CountedActions::product_steps))]
 fn strategy_count(counts: &[u32]) -> Option<u32>
     ensures { IfSome result (λ whole. whole ≡ product counts.now) }
 {

@@ -2,12 +2,15 @@
 //! The room of a row that is taken off is used for a later one, so a walk allocates no more rows
 //! once it has as many as it needs at a time.
 
-ghost use Rattle.std.specs.Prelude.{◌≡◌, ◌<◌, ◌≤◌, ℕ, List, [], ◌∷◌, ◌++◌, None, Option, Some};
+ghost use Rattle.std.specs.Prelude.{◌≡◌, ◌<◌, ◌≤◌, ℕ, suc, List, [], ◌∷◌, None, Option};
 ghost use Rattle.std.specs.Prelude.{OnOk};
 ghost use Rattle.std.specs.Prelude.{IsErrOf, OnErr, length, vec_capacity, vec_len};
 ghost use Rattle.gf_fraction.specs.Ratio.{Ratio};
-ghost use Rattle.gf_form.specs.inner.values.Rows.{AreRows, IsRow, PaysTo, WeighsTo, at_place};
-ghost use Rattle.gf_form.specs.inner.values.Rows.{column};
+ghost use Rattle.gf_tree.specs.Game.{Game};
+ghost use Rattle.gf_form.specs.inner.values.Program.{paid, run};
+ghost use Rattle.gf_form.specs.inner.values.Rows.{AreRows, IsRow, at_place, column};
+ghost use Rattle.gf_form.specs.declared.values.op.Op.{Op};
+ghost use Rattle.gf_form.specs.declared.values.op.Op.TheVariants.{Pay, Weigh};
 
 use crate::fault::EvalFault;
 use crate::rows::{pay, weigh};
@@ -49,7 +52,7 @@ impl Values {
 
     /// Puts a row onto the stack.
     pub(crate) fn push(&mut self, row: &[Fraction]) -> Result<(), EvalFault>
-        ensures pushed { OnOk result (rows_on self.new ≡ rows_on self.old ++ row.now ∷ []) }
+        ensures pushed { OnOk result (rows_on self.new ≡ row.now ∷ rows_on self.old) }
         ensures memory { IsErrOf result EvalFault.Overflow → ⊥ }
     {
         let mut own = match self.spare.pop() {
@@ -68,12 +71,15 @@ impl Values {
         requires rows { (players : ℕ) × AreRows players (rows_on self.old) }
         ensures rows { OnOk result ((players : ℕ) → AreRows players (rows_on self.old)
             → AreRows players (rows_on self.new)) }
-        ensures added { OnOk result ((k : ℕ)
-            → WeighsTo chance (column k (rows_on self.old)) (column k (rows_on self.new))) }
+        ensures added { OnOk result ((g : Game) (k : ℕ) (ops : List Op)
+            → run g (suc k) (Weigh chance ∷ ops) (column k (rows_on self.old))
+            ≡ run g (suc k) ops (column k (rows_on self.new))) }
         ensures overflow { IsErrOf result EvalFault.Overflow → (k : ℕ)
             × (below : List (Option Ratio))
             × ((players : ℕ) → AreRows players (rows_on self.old) → k < players)
-            × WeighsTo chance (column k (rows_on self.old)) (None ∷ below) }
+            × ((g : Game) (ops : List Op)
+            → run g (suc k) (Weigh chance ∷ ops) (column k (rows_on self.old))
+            ≡ run g (suc k) ops (None ∷ below)) }
     {
         let row = self.rows.pop().unwrap();
         let mut sum = self.rows.pop().unwrap();
@@ -85,23 +91,25 @@ impl Values {
         Ok(())
     }
 
-    /// Adds payoffs to the row on top, or nothing if there are none.
+    /// Adds payoffs to the row on top.
     pub(crate) fn pay(&mut self, payoffs: &[Fraction]) -> Result<(), EvalFault>
         requires one { 1 ≤ length (rows_on self.old) }
         requires rows { (players : ℕ) × AreRows players (rows_on self.old)
             × IsRow players payoffs.now }
         ensures rows { OnOk result ((players : ℕ) → AreRows players (rows_on self.old)
             → IsRow players payoffs.now → AreRows players (rows_on self.new)) }
-        ensures added { OnOk result ((k : ℕ) → PaysTo (at_place payoffs.now k)
-            (column k (rows_on self.old)) (column k (rows_on self.new))) }
+        ensures added { OnOk result ((g : Game) (k position : ℕ) (ops : List Op)
+            → at_place payoffs.now k ≡ paid g (suc k) position
+            → run g (suc k) (Pay position ∷ ops) (column k (rows_on self.old))
+            ≡ run g (suc k) ops (column k (rows_on self.new))) }
         ensures overflow { IsErrOf result EvalFault.Overflow → (k : ℕ)
             × (below : List (Option Ratio))
             × ((players : ℕ) → IsRow players payoffs.now → k < players)
-            × PaysTo (at_place payoffs.now k) (column k (rows_on self.old)) (None ∷ below) }
+            × ((g : Game) (position : ℕ) (ops : List Op)
+            → at_place payoffs.now k ≡ paid g (suc k) position
+            → run g (suc k) (Pay position ∷ ops) (column k (rows_on self.old))
+            ≡ run g (suc k) ops (None ∷ below)) }
     {
-        if payoffs.is_empty() {
-            return Ok(());
-        }
         let mut row = self.rows.pop().unwrap();
         if let Err(fault) = pay(payoffs, &mut row) {
             return Err(fault);
@@ -113,7 +121,7 @@ impl Values {
     /// Takes the row on top off the stack.
     pub(crate) fn pop(&mut self) -> Vec<Fraction>
         requires { 1 ≤ length (rows_on self.old) }
-        ensures { (rest : List (List Ratio)) × (rows_on self.old ≡ rest ++ result.items ∷ []) }
+        ensures { rows_on self.old ≡ result.items ∷ rows_on self.new }
     {
         self.rows.pop().unwrap()
     }

@@ -1,37 +1,20 @@
 -- A form of a game is a table; the strategic form.
-use Rattle.gf_form.proofs.Common.{◌≡◌, ℕ, suc, ◌<◌, List, [], ◌∷◌, length, map, sym, ap, ◌∙◌, subst}
-use Rattle.gf_form.proofs.Common.{arith, ◌==◌, filter, AllByRecursion, AllZip, length-map}
-use Rattle.gf_form.proofs.Common.{IfOk-weaker, Ratio, all_images, mul_above, product, Table}
-use Rattle.gf_form.proofs.Common.{IsTable, length-numbers_from, SetKey, InformationSet, IsSet}
-use Rattle.gf_form.proofs.Common.{Described, Game, IsGame, Has, all_of_each, each, action_counts}
-use Rattle.gf_form.proofs.Common.{strategies, players_of, ArePayoffsAt, IsFormBy, IsStrategicForm}
-use Rattle.gf_form.proofs.Common.{strategy_labels}
+use Rattle.gf_form.proofs.Common.{◌≡◌, ℕ, ◌<◌, List, length, map, sym, ap, ◌∙◌, arith}
+use Rattle.gf_form.proofs.Common.{AllByRecursion, AllZip, length-map, IfOk-weaker, Ratio}
+use Rattle.gf_form.proofs.Common.{all_images, Table, IsTable, length-numbers_from, Game, IsGame}
+use Rattle.gf_form.proofs.Common.{Has, all_of_each, each, players_of, ArePayoffsAt, IsFormBy}
+use Rattle.gf_form.proofs.Common.{IsStrategicForm, strategy_labels, AllZip-long}
 use Rattle.gf_nfg.specs.Table.{Entry}
-use Rattle.gf_form.proofs.lemmas.strategies.Choices.{length-all_choices}
+use Rattle.gf_form.proofs.lemmas.strategies.CountedActions.{some_strategy}
+use Rattle.gf_form.proofs.lemmas.strategies.Lookups.{all_mapped}
 
 pub as_many : {A B : Type 0} (R : A → B → Type 0) (xs : List A) (ys : List B) → AllZip R xs ys
     → length xs ≡ length ys
-as_many R (x ∷ xs) (y ∷ ys) h = ap suc (as_many R xs ys h.1)
-as_many R xs ys h = grind arith
-
-pub product_above : (players player : ℕ) (ss : List (Described SetKey InformationSet))
-    → AllByRecursion (λ s. IsSet players s.key s.description) ss
-    → 0
-    < product (map (λ s. length s.description.actions) (filter (λ s. s.key.player == player) ss))
-product_above players player [] h = omega arith
-product_above players player (s ∷ ss) h =
-    grind (arith, mul_above, product_above players player ss h.1)
-
--- a player has a strategy
-pub some_strategy : (g : Game) → IsGame g → (player : ℕ) → 0 < length (strategies g player)
-some_strategy g game player =
-    subst (λ n. 0 < n) (sym (length-all_choices (action_counts g player)))
-    (product_above (length g.players) player g.sets game.each_set)
+as_many R xs ys h = sym (AllZip-long R xs ys h)
 
 pub some_labels : (labels : ℕ → List (List ℕ)) → ((player : ℕ) → 0 < length (labels player))
     → (players : List ℕ) → AllByRecursion (λ own. 0 < length own) (map labels players)
-some_labels labels some [] = tt
-some_labels labels some (player ∷ players) = (some player, some_labels labels some players)
+some_labels labels some players = all_mapped (λ own. 0 < length own) labels players some
 
 module _ (labels : ℕ → List (List ℕ)) (R : List ℕ → List Ratio → Type 0) (g : Game) (t : Table)
     (form : IsFormBy labels R g t) where

@@ -21,9 +21,6 @@ same_entries : (R : List ℕ → List Ratio → Type 0) (es fs : List Entry)
     → R profile b → a ≡ b)
     → AllByRecursion (λ e. R e.profile e.payoffs) es
     → AllByRecursion (λ e. R e.profile e.payoffs) fs → es ≡ fs
-same_entries R [] [] q one h k = refl
-same_entries R [] (f ∷ fs) q one h k = absurd cc
-same_entries R (e ∷ es) [] q one h k = absurd cc
 same_entries R (e ∷ es) (f ∷ fs) q one h k =
     let profile : e.profile ≡ f.profile = cc in
     let rest : map (λ e. e.profile) es ≡ map (λ e. e.profile) fs = cc in
@@ -31,6 +28,8 @@ same_entries R (e ∷ es) (f ∷ fs) q one h k =
     (subst (λ p. R p f.payoffs) (sym profile) k.0) in
     let others = same_entries R es fs rest (λ p i. one p (inr i)) h.1 k.1 in
     λ i. record { profile = profile i; payoffs = payoffs i } ∷ others i
+same_entries R [] [] q one h k = refl
+same_entries R es fs q one h k = absurd (grind arith)
 
 -- if at most one row of payoffs is right at each profile, there is at most one form
 pub one_form_by : (labels : ℕ → List (List ℕ)) (R : List ℕ → List Ratio → Type 0) (g : Game)
@@ -79,13 +78,10 @@ pub one_row : (g : Game) (choices : SetKey → ℕ) (row others : List Ratio) (p
     → AllZip (λ paid player. IsFraction paid × IsEqual paid (payoff g choices player))
     others players
     → row ≡ others
-one_row g choices [] [] [] h k = refl
-one_row g choices [] (b ∷ others) [] h k = absurd k
-one_row g choices (a ∷ row) others [] h k = absurd h
-one_row g choices [] others (player ∷ players) h k = absurd h
-one_row g choices (a ∷ row) [] (player ∷ players) h k = absurd k
 one_row g choices (a ∷ row) (b ∷ others) (player ∷ players) h k =
     grind (arith, one_fraction, one_row g choices row others players h.1 k.1)
+one_row g choices [] [] [] h k = refl
+one_row g choices row others players h k = absurd (grind arith)
 
 pub row_of : (g : Game) (choices : SetKey → ℕ) (players : List ℕ)
     → AllByRecursion (PaysFraction g choices) players → (row : List Ratio)
@@ -99,6 +95,16 @@ pub of_row : (g : Game) (choices : SetKey → ℕ) (row : List Ratio) (players :
     → AllByRecursion (PaysFraction g choices) players
 of_row g choices (paid ∷ row) (player ∷ players) h = grind (arith, of_row g choices row players h.1)
 of_row g choices row players h = grind arith
+
+-- a row is right by other choices, in another game, with the same payoffs
+pub same_row : (g h : Game) (c d : SetKey → ℕ) (row : List Ratio) (players : List ℕ)
+    → ((player : ℕ) → payoff g c player ≡ payoff h d player)
+    → AllZip (λ paid player. IsFraction paid × IsEqual paid (payoff g c player)) row players
+    → AllZip (λ paid player. IsFraction paid × IsEqual paid (payoff h d player)) row players
+same_row g h c d row players same right =
+    subst (λ (pays : ℕ → Ratio).
+    AllZip (λ paid player. IsFraction paid × IsEqual paid (pays player)) row players)
+    (λ i player. same player i) right
 
 -- ---- the strategic form
 

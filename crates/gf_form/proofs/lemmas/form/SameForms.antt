@@ -11,10 +11,12 @@ use Rattle.gf_form.proofs.Common.{renumbered, player_sets, player_keys, same_set
 use Rattle.gf_form.proofs.Common.{all_of_each, filter_of_map, map_twice, same_tests, held}
 use Rattle.gf_form.proofs.Common.{sets_apart, SameGame, same_back, carried_is_renumbered}
 use Rattle.gf_form.proofs.Common.{strategies, players_of, choice_at, choices_by, strategies_at}
-use Rattle.gf_form.proofs.Common.{payoff, IsValue, ArePayoffs, IsStrategicForm}
+use Rattle.gf_form.proofs.Common.{payoff, IsValue, ArePayoffs, IsStrategicForm, length, ap, subst}
+use Rattle.gf_form.proofs.Common.{◌∙◌, positions, ArePayoffsAt, strategy_label}
 use Rattle.gf_tree.specs.PrefixOrder.{Entry}
 use Rattle.gf_tree.proofs.lemmas.games.Carried.{entry_used}
 use Rattle.gf_tree.proofs.lemmas.games.Renumbered.{set_at_image, outcome_at_image}
+use Rattle.gf_form.proofs.lemmas.form.Forms.{same_row}
 use Rattle.gf_form.proofs.lemmas.values.Alike.{IsAlike, AreAlike, same_payoff, same_value}
 use Rattle.gf_form.proofs.lemmas.strategies.KnownSets.{own_set}
 
@@ -142,31 +144,6 @@ module _ (g : Game) (r : Renumbering) (game : IsGame g) (is : IsRenumbering g r)
   strategies_at_carried : (profile : List ℕ) → strategies_at h profile ≡ strategies_at g profile
   strategies_at_carried profile = grind (arith, strategies_carried)
 
-  payoffs_carried : (profile : List ℕ) (payoffs : List Ratio) (players : List ℕ)
-      → AllZip (λ paid player.
-      IsFraction paid × IsEqual paid (payoff g (choices_by g (strategies_at g profile)) player))
-      payoffs players
-      → AllZip (λ paid player.
-      IsFraction paid × IsEqual paid (payoff h (choices_by h (strategies_at h profile)) player))
-      payoffs players
-  payoffs_carried profile (paid ∷ payoffs) (player ∷ players) all =
-      let same = strategies_at_carried profile in
-      let others = payoffs_carried profile payoffs players all.1 in
-      grind (arith, payoff_carried (strategies_at g profile) player, same, others)
-  payoffs_carried profile payoffs players all = grind arith
-
-  form_carried : (t : Table) → IsStrategicForm g t → IsStrategicForm h t
-  form_carried t form = record {
-    title = form.title;
-    comment = form.comment;
-    players = form.players;
-    strategies = grind (arith, strategies_carried);
-    profiles = form.profiles;
-    payoffs = all_weaker (λ e. ArePayoffs g (choices_by g (strategies_at g e.profile)) e.payoffs)
-        (λ e. ArePayoffs h (choices_by h (strategies_at h e.profile)) e.payoffs)
-        (λ e all. payoffs_carried e.profile e.payoffs (players_of g) all) t.entries form.payoffs;
-  }
-
 -- ---- games that are the same
 
 pub same_payoffs : (g h : Game) → IsGame g → IsGame h → SameGame g h → (all : List (List ℕ))
@@ -179,10 +156,6 @@ value_on : (g h : Game) → IsGame g → IsGame h → SameGame g h → (all : Li
 value_on g h game game' same all player value v =
     grind (arith, carried_is_renumbered, value_carried)
 
-form_on : (g h : Game) → IsGame g → IsGame h → SameGame g h → (t : Table) → IsStrategicForm g t
-    → IsStrategicForm h t
-form_on g h game game' same t form = grind (arith, carried_is_renumbered, form_carried)
-
 pub same_strategies : (g h : Game) → IsGame g → IsGame h → SameGame g h → (player : ℕ)
     → strategies g player ≡ strategies h player
 same_strategies g h game game' same player =
@@ -193,6 +166,36 @@ pub same_strategies_at : (g h : Game) → IsGame g → IsGame h → SameGame g h
 same_strategies_at g h game game' same profile =
     grind (arith, carried_is_renumbered, strategies_at_carried)
 
+pub players_too : (g h : Game) → SameGame g h → players_of g ≡ players_of h
+players_too g h same = ap (λ players. positions (length players)) same.1.players
+
+-- payoffs that are right at a profile are right there in both
+pub right_too : (g h : Game) → IsGame g → IsGame h → SameGame g h → (profile : List ℕ)
+    (payoffs : List Ratio) → ArePayoffsAt g profile payoffs → ArePayoffsAt h profile payoffs
+right_too g h game game' same profile payoffs right =
+    subst (λ all. ArePayoffs h (choices_by h all) payoffs)
+    (same_strategies_at g h game game' same profile)
+    (subst (λ players. AllZip (λ paid player.
+    IsFraction paid × IsEqual paid (payoff h (choices_by h (strategies_at g profile)) player))
+    payoffs players) (players_too g h same)
+    (same_row g h (choices_by g (strategies_at g profile)) (choices_by h (strategies_at g profile))
+    payoffs (players_of g) (same_payoffs g h game game' same (strategies_at g profile)) right))
+
+form_on : (g h : Game) → IsGame g → IsGame h → SameGame g h → (t : Table) → IsStrategicForm g t
+    → IsStrategicForm h t
+form_on g h game game' same t form = record {
+  title = form.title ∙ same.1.title;
+  comment = form.comment ∙ same.1.comment;
+  players = form.players ∙ same.1.players;
+  strategies = form.strategies
+      ∙ (λ i. map (λ player. map strategy_label (same_strategies g h game game' same player i))
+      (players_too g h same i));
+  profiles = form.profiles;
+  payoffs = all_weaker (λ e. ArePayoffsAt g e.profile e.payoffs)
+      (λ e. ArePayoffsAt h e.profile e.payoffs)
+      (λ e right. right_too g h game game' same e.profile e.payoffs right) t.entries form.payoffs;
+}
+
 pub same_values : (g h : Game) → IsGame g → IsGame h → SameGame g h → (all : List (List ℕ))
     (player : ℕ) (value : Ratio) → IsValue g (choices_by g all) player g.tree value
     ↔ IsValue h (choices_by h all) player h.tree value
@@ -200,4 +203,4 @@ same_values g h game game' same all player value = grind (arith, value_on, same_
 
 pub same_forms : (g h : Game) → IsGame g → IsGame h → SameGame g h → (t : Table)
     → IsStrategicForm g t ↔ IsStrategicForm h t
-same_forms g h game game' same t = grind (arith, form_on, h, same_back)
+same_forms g h game game' same t = grind (arith, form_on, same_back)

@@ -1,14 +1,12 @@
 -- Games that are the same have the same profiles, and no table for the same reason.
-use Rattle.gf_form.proofs.Common.{◌≡◌, ℕ, List, length, ap, arith, ◌↔◌, all_weaker, positions, Game}
-use Rattle.gf_form.proofs.Common.{IsGame, map_same, SameGame, same_back, HasTooManyProfiles}
-use Rattle.gf_form.proofs.Common.{HasValues, IsFirstWithout, full_profiles, players_of}
+use Rattle.gf_form.proofs.Common.{◌≡◌, ℕ, List, arith, ◌↔◌, all_weaker, Game, IsGame, map_same}
+use Rattle.gf_form.proofs.Common.{SameGame, same_back, HasTooManyProfiles, HasValues}
+use Rattle.gf_form.proofs.Common.{IsFirstWithout, full_profiles}
 use Rattle.gf_form.specs.Refusal.{HasBottomUpValue, OverflowsAt}
-use Rattle.gf_form.proofs.lemmas.form.SameForms.{same_strategies, same_strategies_at, same_values}
+use Rattle.gf_form.proofs.lemmas.form.SameForms.{players_too, same_strategies, same_strategies_at}
+use Rattle.gf_form.proofs.lemmas.form.SameForms.{same_values}
 
 module _ (g h : Game) (game : IsGame g) (game' : IsGame h) (same : SameGame g h) where
-  pub players_too : players_of g ≡ players_of h
-  players_too = ap (λ players. positions (length players)) same.1.players
-
   pub same_profiles : full_profiles g ≡ full_profiles h
   same_profiles = grind (arith, map_same, same_strategies)
 

@@ -1,27 +1,23 @@
 -- Worked games: their plays and payoffs, and what is left out of their strategies.
-use Rattle.gf_form.proofs.Common.{◌≡◌, ℕ, ℤ, pos, ◌+◌, ◌-◌, ◌*◌, ◌^◌, ◌<◌, true, false, Option}
-use Rattle.gf_form.proofs.Common.{None, List, [], ◌∷◌, map, get_or, refl, ap, ◌∙◌, subst, arith}
-use Rattle.gf_form.proofs.Common.{codes, nat_eq, nat_lt, unwrap_or, unsigned_abs, ◌*ℤ◌}
-use Rattle.gf_form.proofs.Common.{AllByRecursion, Contains, eqb-false, Ratio, IsFraction, whole}
-use Rattle.gf_form.proofs.Common.{AddsTo, MultipliesTo, SumFits, IsEqual, lowest_of-fraction}
-use Rattle.gf_form.proofs.Common.{sum_is_computed, whole_fraction, choices_by, strategies_at}
-use Rattle.gf_form.proofs.Common.{full_profiles, plays, payoff, IsValue, ArePayoffs}
+use Rattle.gf_form.proofs.Common.{◌≡◌, ℕ, pos, ◌+◌, ◌-◌, ◌*◌, ◌^◌, ◌<◌, true, false, Option, None}
+use Rattle.gf_form.proofs.Common.{List, [], ◌∷◌, map, get_or, refl, ap, arith, codes, nat_eq}
+use Rattle.gf_form.proofs.Common.{nat_lt, unwrap_or, ◌*ℤ◌, AllByRecursion, Contains, eqb-false}
+use Rattle.gf_form.proofs.Common.{Ratio, IsFraction, whole, IsEqual, lowest_of-fraction, Game}
+use Rattle.gf_form.proofs.Common.{IsGame, IsSpellable, whole_fraction, choices_by, strategies_at}
+use Rattle.gf_form.proofs.Common.{full_profiles, plays, payoff, IsValue, ArePayoffs, value}
 use Rattle.gf_form.proofs.Common.{IsStrategicForm, reduced_at, reduced_by, reduced_label}
 use Rattle.gf_form.proofs.Common.{reduced_strategies, IsReducedForm, overflowing, unlikely}
 use Rattle.gf_form.proofs.Common.{balancing, ending, contradicted}
 use Rattle.std.specs.Fmt.{digits}
-use Rattle.gf_fraction.specs.Computed.{lowest_of, gcd_within, sum_of}
-use Rattle.gf_fraction.proofs.SumsOnce.{first_sum, one_product}
+use Rattle.gf_fraction.specs.Computed.{lowest_of, gcd_within, product_of, sum_of}
 use Rattle.gf_fraction.proofs.WholeNumbers.{part_fraction}
-use Rattle.gf_tree.specs.WorkedTrees.{bonus, forgetful, half}
+use Rattle.gf_tree.specs.WorkedTrees.{bonus, forgetful}
 use Rattle.gf_form.specs.WorkedForms.{greatest, bonus_form, second, only, ending_form}
 use Rattle.gf_form.specs.WorkedForms.{ending_reduced}
+use Rattle.gf_form.proofs.lemmas.form.WorkedGames.{worked_games}
+use Rattle.gf_form.proofs.lemmas.values.ValuesComputed.{none_computed}
 
 -- ---- fractions
-
-fraction : (z : ℤ) (d : ℕ) (r : Ratio)
-    → 0 < d → d < 2 ^ 127 → unsigned_abs z < 2 ^ 127 → lowest_of z d ≡ r → IsFraction r
-fraction z d r above den num is = subst IsFraction is (lowest_of-fraction z d above den num)
 
 small : (n : ℕ) → n < 4 → IsFraction (whole (pos n))
 small n h = whole_fraction n (omega arith)
@@ -32,7 +28,7 @@ equal x y left right crosswise = grind arith
 
 three_halves : IsFraction (record { num = pos 3; den = 2 })
 unfolding lowest_of gcd_within
-three_halves = fraction (pos 3) 2 _ (omega arith) (omega arith) (omega arith) refl
+three_halves = lowest_of-fraction (pos 3) 2 (omega arith) (omega arith) (omega arith)
 
 -- ---- the bonus
 
@@ -49,17 +45,16 @@ form_of_bonus = grind (arith, three_halves, equal, small, part_fraction)
 pub greatest_payoff : IsEqual greatest (payoff overflowing (choices_by overflowing second) 1)
 greatest_payoff = record { left = omega arith; right = omega arith; crosswise = refl }
 
-no_sum : ¬ (SumFits greatest (whole (pos 1)))
-unfolding sum_of gcd_within
-no_sum = sum_is_computed greatest (whole (pos 1)) (whole_fraction (2 ^ 127 - 1) (omega arith))
-    (small 1 (omega arith))
-
-greatest_and_one : (r : Ratio) → r ≡ whole (pos 1) → ¬ (SumFits greatest r)
-greatest_and_one r is fits = no_sum (subst (SumFits greatest) is fits)
+-- no value is computed
+undefined : (g : Game) → IsGame g × IsSpellable g → (all : List (List ℕ))
+    → value g (choices_by g all) 1 g.tree ≡ None
+    → ¬ ((v : Ratio) × IsValue g (choices_by g all) 1 g.tree v)
+undefined g held all none = none_computed g held.1 (choices_by g all) 1 g.tree none
 
 pub no_value : ¬ ((value : Ratio)
     × IsValue overflowing (choices_by overflowing second) 1 overflowing.tree value)
-no_value h = greatest_and_one h.1.1.0 h.1.1.1 h.1.1.2.0
+unfolding sum_of product_of lowest_of gcd_within
+no_value = undefined overflowing worked_games.0 second refl
 
 -- ---- the child that has no probability
 
@@ -69,15 +64,8 @@ unlikely_payoff = equal _ _ refl refl refl
 -- the second child is evaluated, though chance never comes to it
 pub no_value_either : ¬ ((value : Ratio)
     × IsValue unlikely (choices_by unlikely only) 1 unlikely.tree value)
-no_value_either h =
-    let one = whole (pos 1) in
-    let child = h.1.1.6.3 in
-    let below = child.1 in
-    let product = one_product one one below.1 one (omega arith)
-    (subst (λ x. MultipliesTo one x below.1) below.3 below.4) (small 1 (omega arith)) refl in
-    let sum = first_sum one below.2 (omega arith)
-    (subst (λ y. AddsTo (whole (pos 0)) y below.2) product below.5) (small 1 (omega arith)) refl in
-    greatest_and_one child.0 (below.6 ∙ sum) child.2.0
+unfolding sum_of product_of lowest_of gcd_within
+no_value_either = undefined unlikely worked_games.1.0 only refl
 
 -- ---- the products that are added before the node's own payoff
 
@@ -85,37 +73,10 @@ pub balanced_payoff : IsEqual (whole (pos (2 ^ 126 - 1)))
     (payoff balancing (choices_by balancing only) 1)
 balanced_payoff = equal _ _ refl refl refl
 
-abbrev half_of_greatest : Ratio
-half_of_greatest = record { num = pos (2 ^ 127 - 1); den = 2 }
-
-half_of_greatest_is : IsFraction half_of_greatest
-unfolding lowest_of gcd_within
-half_of_greatest_is =
-    fraction (pos (2 ^ 127 - 1)) 2 half_of_greatest (omega arith) (omega arith) (omega arith) refl
-
-abbrev half_of_next : Ratio
-half_of_next = record { num = pos (2 ^ 127 - 3); den = 2 }
-
-half_of_next_is : IsFraction half_of_next
-unfolding lowest_of gcd_within
-half_of_next_is =
-    fraction (pos (2 ^ 127 - 3)) 2 half_of_next (omega arith) (omega arith) (omega arith) refl
-
-no_sum_of_halves : ¬ (SumFits half_of_greatest half_of_next)
-unfolding sum_of gcd_within
-no_sum_of_halves = sum_is_computed half_of_greatest half_of_next half_of_greatest_is half_of_next_is
-
 pub no_balanced_value : ¬ ((value : Ratio)
     × IsValue balancing (choices_by balancing only) 1 balancing.tree value)
-no_balanced_value h =
-    let next = whole (pos (2 ^ 127 - 3)) in
-    let first = h.1.1 in
-    let second = first.6 in
-    let left = one_product half greatest first.1 half_of_greatest (omega arith)
-    (subst (λ x. MultipliesTo half x first.1) first.3 first.4) half_of_greatest_is refl in
-    let right = one_product half next second.1 half_of_next (omega arith)
-    (subst (λ x. MultipliesTo half x second.1) second.3 second.4) half_of_next_is refl in
-    grind (arith, no_sum_of_halves)
+unfolding sum_of product_of lowest_of gcd_within
+no_balanced_value = undefined balancing worked_games.1.1.0 only refl
 
 -- ---- the action that ends the play
 

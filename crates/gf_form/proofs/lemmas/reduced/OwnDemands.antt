@@ -12,7 +12,7 @@ use Rattle.gf_form.proofs.lemmas.rows.DemandDigits.{met_set, no_demands, none_me
 use Rattle.gf_form.proofs.lemmas.rows.DemandDigits.{none_within, pack, pack_below, set_pack}
 use Rattle.gf_form.proofs.lemmas.rows.DemandDigits.{set_within, spans_above, within_length}
 use Rattle.gf_form.proofs.lemmas.rows.DigitPlaces.{as_many_picked, own_alone, own_digit}
-use Rattle.gf_form.proofs.lemmas.strategies.ActionCounts.{zip_at}
+use Rattle.gf_form.proofs.lemmas.strategies.Lookups.{zip_at}
 
 -- a strategy of the player meets these demands, if he has this many actions at each set
 abbrev pub meets_own : List ℕ → List ℕ → ℕ → Bool

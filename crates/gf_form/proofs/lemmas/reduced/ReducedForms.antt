@@ -2,16 +2,16 @@
 -- profile reduces to one.
 use Rattle.gf_form.proofs.Common.{◌≡◌, ℕ, zero, suc, ◌≤◌, List, [], ◌∷◌, Option, None, length, map}
 use Rattle.gf_form.proofs.Common.{refl, sym, ap, ◌∙◌, subst, arith, inl, inr, ◌↔◌, zip, Decides}
-use Rattle.gf_form.proofs.Common.{AllZip, Contains, pointwise, length-map, Ratio, IsFraction}
-use Rattle.gf_form.proofs.Common.{IsEqual, IsProfile, profiles, Table, every_profile, Game, is_used}
-use Rattle.gf_form.proofs.Common.{was_used, map_same, map_twice, Has, contains, has, has_map}
-use Rattle.gf_form.proofs.Common.{mapped_from, payoff, AreReducedPayoffsAt, IsReducedForm, reduced}
-use Rattle.gf_form.proofs.Common.{reduced_at, reduced_by, reduced_labels, reduced_strategies}
-use Rattle.gf_form.proofs.Common.{same_choice, ArePayoffsAt, PaysFractions, choices_by}
-use Rattle.gf_form.proofs.Common.{full_profiles, players_of, strategies, strategies_at, strategy_at}
+use Rattle.gf_form.proofs.Common.{Contains, pointwise, length-map, Ratio, IsProfile, profiles}
+use Rattle.gf_form.proofs.Common.{Table, every_profile, Game, is_used, was_used, map_same}
+use Rattle.gf_form.proofs.Common.{map_twice, Has, contains, has, has_map, mapped_from}
+use Rattle.gf_form.proofs.Common.{AreReducedPayoffsAt, IsReducedForm, reduced, reduced_at}
+use Rattle.gf_form.proofs.Common.{reduced_by, reduced_labels, reduced_strategies, same_choice}
+use Rattle.gf_form.proofs.Common.{ArePayoffsAt, PaysFractions, choices_by, full_profiles}
+use Rattle.gf_form.proofs.Common.{players_of, strategies, strategies_at, strategy_at}
 use Rattle.std.proofs.lemmas.Slice.Eq.{slice_eq-Decides}
 use Rattle.gf_form.proofs.lemmas.form.Forms.{form_profiles, of_row, one_form_by, one_row, row_of}
-use Rattle.gf_form.proofs.lemmas.form.Forms.{rows_of_form, some_form_by}
+use Rattle.gf_form.proofs.lemmas.form.Forms.{rows_of_form, same_row as same_pays, some_form_by}
 use Rattle.gf_form.proofs.lemmas.reduced.ReducedPays.{reduced_pay}
 
 -- ---- positions
@@ -147,21 +147,9 @@ module _ (g : Game) where
   pub same_row : (p q : List ℕ) → Contains (full_profiles g) p → Contains (full_profiles g) q
       → reduced_by g p ≡ reduced_by g q → (row : List Ratio) → ArePayoffsAt g p row
       → ArePayoffsAt g q row
-  same_row p q hp hq e row = go row (players_of g)
-    where
-      go : (row : List Ratio) (players : List ℕ)
-          → AllZip (λ paid player.
-          IsFraction paid × IsEqual paid (payoff g (choices_by g (strategies_at g p)) player))
-          row players
-          → AllZip (λ paid player.
-          IsFraction paid × IsEqual paid (payoff g (choices_by g (strategies_at g q)) player))
-          row players
-      go (paid ∷ row) (player ∷ players) h = (
-        (h.0.0, subst (IsEqual paid) (reduced_pay g player p q hp hq e) h.0.1),
-        go row players h.1,
-      )
-      go [] [] h = tt
-      go row players h = absurd h
+  same_row p q hp hq e row =
+      same_pays g g (choices_by g (strategies_at g p)) (choices_by g (strategies_at g q)) row
+      (players_of g) (λ player. reduced_pay g player p q hp hq e)
 
   pub reduced_form_exists : ((t : Table) × IsReducedForm g t) ↔ PaysFractions g
   reduced_form_exists = (

@@ -6,7 +6,8 @@ use Rattle.gf_form.proofs.Common.{IsReducedForm, reduced_label, reduced_labels, 
 use Rattle.gf_form.proofs.Common.{players_of}
 use Rattle.gf_nfg.specs.Table.{Entry}
 use Rattle.gf_form.proofs.lemmas.form.Forms.{form_profiles}
-use Rattle.gf_form.proofs.lemmas.form.FormTables.{as_many, some_strategy, table_by}
+use Rattle.gf_form.proofs.lemmas.form.FormTables.{as_many, table_by}
+use Rattle.gf_form.proofs.lemmas.strategies.CountedActions.{some_strategy}
 use Rattle.gf_form.proofs.lemmas.reduced.ReducedForms.{some_full}
 
 some_first : {K : Type 0} (same : K → K → Bool) (ks : List K) → 0 < length ks

@@ -1,11 +1,11 @@
 -- Strategies that reduce to the same one agree with the same plays.
 use Rattle.gf_form.proofs.Common.{arith, ◌≡◌, ℕ, Bool, true, false, List, [], ◌∷◌, Option, Some}
 use Rattle.gf_form.proofs.Common.{None, map, get_or, drop, refl, sym, ap, ◌∙◌, subst, inl, inr, ◌⊎◌}
-use Rattle.gf_form.proofs.Common.{◌==◌, ◌||◌, ◌&&◌, not, if◌then◌else◌, Contains, list_all}
-use Rattle.gf_form.proofs.Common.{list_any, option_map_or, and_parts, or_left, or_right, SetKey}
-use Rattle.gf_form.proofs.Common.{same_set, Game, player_keys, same_set_equality, Has, has}
-use Rattle.gf_form.proofs.Common.{choice_at, Step, Play, plays, is_own_choice, agrees, comes_to}
-use Rattle.gf_form.proofs.Common.{is_relevant, reduced}
+use Rattle.gf_form.proofs.Common.{◌||◌, ◌&&◌, if◌then◌else◌, Contains, list_all, list_any}
+use Rattle.gf_form.proofs.Common.{option_map_or, and_parts, or_left, or_right, SetKey, same_set}
+use Rattle.gf_form.proofs.Common.{Game, player_keys, same_set_equality, Has, has, choice_at, Step}
+use Rattle.gf_form.proofs.Common.{Play, plays, is_own_choice, agrees, comes_to, is_relevant}
+use Rattle.gf_form.proofs.Common.{reduced}
 
 -- ---- tests
 
@@ -71,16 +71,6 @@ module _ (g : Game) (player : ℕ) where
     abbrev IsRelevantBelow : List Step → Type 0
     IsRelevantBelow rest = (key : SetKey) → key.player ≡ player → comes_to c key rest ≡ true
         → is_relevant g c key ≡ true
-
-    own_move : (key : SetKey) (k : ℕ) (b : Bool) → (key.player == player) ≡ b
-        → (b ≡ true → c key ≡ d key)
-        → (not (key.player == player) || c key == k) ≡ (not (key.player == player) || d key == k)
-    own_move key k true e alike = λ i. not (key.player == player) || alike refl i == k
-    own_move key k false e alike = cc
-
-    step_same : (s : Step) (rest : List Step) → IsRelevantBelow (s ∷ rest)
-        → is_own_choice c player s ≡ is_own_choice d player s
-    step_same s rest relevant = grind arith
 
     -- after a move that he chooses, the rest is relevant too
     relevant_on : (s : Step) (rest : List Step) → IsRelevantBelow (s ∷ rest)

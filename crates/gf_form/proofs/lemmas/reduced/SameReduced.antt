@@ -1,28 +1,25 @@
 -- Games that are the same have the same plays except for their numbers, and so the same reduced
 -- strategies and the same reduced form.
 use Rattle.gf_form.proofs.Common.{arith, ◌≡◌, ℕ, ◌+◌, Bool, true, false, List, [], ◌∷◌, Option}
-use Rattle.gf_form.proofs.Common.{Some, None, map, refl, ap, ◌∙◌, subst, ◌↔◌, ◌==◌, ◌&&◌, ◌||◌, not}
-use Rattle.gf_form.proofs.Common.{option_map, zip, if◌then◌else◌, AllByRecursion, AllZip, Contains}
-use Rattle.gf_form.proofs.Common.{list_any, option_map_or, pointwise, map-append, Ratio, IsFraction}
-use Rattle.gf_form.proofs.Common.{IsEqual, all_both, all_images, all_parts, all_weaker, Table, Tree}
-use Rattle.gf_form.proofs.Common.{Trees, map_tree, map_trees, branch, none, more, flatten}
-use Rattle.gf_form.proofs.Common.{flatten_all, SetKey, same_set, first_uses, player_keys, Node}
-use Rattle.gf_form.proofs.Common.{Game, IsGame, used_sets, Renumbering, IsRenumbering}
-use Rattle.gf_form.proofs.Common.{renumbered_set, renumbered_node, renumbered, SameGame}
-use Rattle.gf_form.proofs.Common.{carried_is_renumbered, same_tests, held, map_same, map_twice}
-use Rattle.gf_form.proofs.Common.{sets_apart, same_back, same_set_equality, Has, all_of_each}
-use Rattle.gf_form.proofs.Common.{payoff, Step, Play, from_node, plays, plays_from}
+use Rattle.gf_form.proofs.Common.{Some, None, map, refl, ap, ◌∙◌, ◌↔◌, ◌==◌, ◌&&◌, ◌||◌, not}
+use Rattle.gf_form.proofs.Common.{option_map, zip, if◌then◌else◌, AllByRecursion, Contains}
+use Rattle.gf_form.proofs.Common.{list_any, option_map_or, pointwise, map-append, Ratio, all_both}
+use Rattle.gf_form.proofs.Common.{all_images, all_parts, all_weaker, Table, Tree, Trees, map_tree}
+use Rattle.gf_form.proofs.Common.{map_trees, branch, none, more, flatten, flatten_all, SetKey}
+use Rattle.gf_form.proofs.Common.{same_set, first_uses, player_keys, Node, Game, IsGame, used_sets}
+use Rattle.gf_form.proofs.Common.{Renumbering, IsRenumbering, renumbered_set, renumbered_node}
+use Rattle.gf_form.proofs.Common.{renumbered, SameGame, carried_is_renumbered, same_tests, held}
+use Rattle.gf_form.proofs.Common.{map_same, map_twice, sets_apart, same_back, same_set_equality}
+use Rattle.gf_form.proofs.Common.{Has, all_of_each, Step, Play, from_node, plays, plays_from}
 use Rattle.gf_form.proofs.Common.{AreReducedPayoffsAt, comes_to, IsReducedForm, is_relevant}
 use Rattle.gf_form.proofs.Common.{reduced, reduced_at, reduced_by, reduced_profiles}
 use Rattle.gf_form.proofs.Common.{reduced_strategies, same_choice, HasReducedValues}
-use Rattle.gf_form.proofs.Common.{ReducedOverflowsAt, ArePayoffsAt, choice_at, choices_by}
-use Rattle.gf_form.proofs.Common.{full_profiles, players_of, strategies, strategies_at}
+use Rattle.gf_form.proofs.Common.{ReducedOverflowsAt, choice_at, full_profiles, strategies}
 use Rattle.gf_tree.specs.PrefixOrder.{Entry}
-use Rattle.gf_form.proofs.lemmas.form.SameForms.{key_used, keys_carried, same_payoffs}
+use Rattle.gf_form.proofs.lemmas.form.SameForms.{key_used, keys_carried, players_too, right_too}
 use Rattle.gf_form.proofs.lemmas.form.SameForms.{same_strategies_at, strategies_carried}
 use Rattle.gf_form.proofs.lemmas.form.SameForms.{strategy_carried}
-use Rattle.gf_form.proofs.lemmas.form.SameRefusals.{first_too, players_too, same_profiles}
-use Rattle.gf_form.proofs.lemmas.form.SameRefusals.{values_too}
+use Rattle.gf_form.proofs.lemmas.form.SameRefusals.{first_too, same_profiles, values_too}
 
 -- ---- plays
 
@@ -173,7 +170,7 @@ module _ (g h : Game) (game : IsGame g) (game' : IsGame h) (same : SameGame g h)
 
   pub same_reduced_by : (profile : List ℕ) → reduced_by g profile ≡ reduced_by h profile
   same_reduced_by profile = λ i. map (λ p. same_reduced p.0 p.1 i)
-      (zip (players_too g h game game' same i) (same_strategies_at g h game game' same profile i))
+      (zip (players_too g h same i) (same_strategies_at g h game game' same profile i))
 
   same_reduced_at : (profile : List ℕ) → reduced_at g profile ≡ reduced_at h profile
   same_reduced_at profile = grind (arith, players_too, same_reduced_strategies)
@@ -192,29 +189,11 @@ module _ (g h : Game) (game : IsGame g) (game' : IsGame h) (same : SameGame g h)
       let at = at_full profile full there e in
       values_too g h game game' same full (values full at.0 at.1)
 
-  paid_too : (full : List ℕ) (player : ℕ)
-      → payoff g (choices_by g (strategies_at g full)) player
-      ≡ payoff h (choices_by h (strategies_at h full)) player
-  paid_too full player =
-      same_payoffs g h game game' same (strategies_at g full) player
-      ∙ ap (λ all. payoff h (choices_by h all) player)
-      (same_strategies_at g h game game' same full)
-
-  payoffs_too : (full : List ℕ) (payoffs : List Ratio) → ArePayoffsAt g full payoffs
-      → ArePayoffsAt h full payoffs
-  payoffs_too full payoffs right =
-      subst (λ (pays : ℕ → Ratio).
-      AllZip (λ paid player. IsFraction paid × IsEqual paid (pays player)) payoffs (players_of h))
-      (λ i player. paid_too full player i)
-      (subst (λ (players : List ℕ). AllZip (λ paid player. IsFraction paid
-      × IsEqual paid (payoff g (choices_by g (strategies_at g full)) player)) payoffs players)
-      (players_too g h game game' same) right)
-
   reduced_payoffs_too : (profile : List ℕ) (payoffs : List Ratio)
       → AreReducedPayoffsAt g profile payoffs → AreReducedPayoffsAt h profile payoffs
   reduced_payoffs_too profile payoffs right full there e =
       let at = at_full profile full there e in
-      payoffs_too full payoffs (right full at.0 at.1)
+      right_too g h game game' same full payoffs (right full at.0 at.1)
 
   reduced_form_on : (t : Table) → IsReducedForm g t → IsReducedForm h t
   reduced_form_on t form = record {

@@ -3,8 +3,9 @@ use Rattle.gf_form.proofs.Common.{◌≡◌, ℕ, zero, suc, ◌+◌, ◌*◌, �
 use Rattle.gf_form.proofs.Common.{length, map, get_or, refl, append_assoc, arith, AllZip, mul_assoc}
 use Rattle.gf_form.proofs.Common.{mul_comm, map-append, mul_above, product, spans, steps_of}
 use Rattle.gf_form.proofs.Common.{all_steps, at_digits, picked, steps_behind, width, IsDigitOf}
+use Rattle.gf_form.proofs.Common.{ArePositive}
 use Rattle.std.proofs.Common.{length-append}
-use Rattle.gf_form.proofs.lemmas.strategies.CountedActions.{ArePositive, product_positive}
+use Rattle.gf_form.proofs.lemmas.strategies.CountedActions.{product_positive}
 
 -- ---- products
 

@@ -1,14 +1,15 @@
 -- How many actions there are at a player's set, by its position among his.
-use Rattle.gf_form.proofs.Common.{◌≡◌, ℕ, zero, suc, ◌+◌, ◌<◌, ◌≤◌, List, [], ◌∷◌, length, map}
-use Rattle.gf_form.proofs.Common.{Option, Some, None, get_or, refl, sym, subst, ◌∙◌, arith, ◌==◌}
-use Rattle.gf_form.proofs.Common.{option_map, slice_get, AllZip, AllZip-long, get_or-numbers_from}
-use Rattle.gf_form.proofs.Common.{length-numbers_from, positions, length-map, slice_get-map}
-use Rattle.gf_form.proofs.Common.{at_position, SetKey, InformationSet, same_set, set_of, Described}
-use Rattle.gf_form.proofs.Common.{player_keys, player_sets, Game, IsGame, set_at, used_sets}
-use Rattle.gf_form.proofs.Common.{AreDistinct, first_uses_distinct, of_filter, same_set_equality}
-use Rattle.gf_form.proofs.Common.{AreStrategies, action_counts, players_of, has_at}
+use Rattle.gf_form.proofs.Common.{◌≡◌, ℕ, zero, suc, ◌+◌, ◌<◌, ◌≤◌, List, [], length, map, Option}
+use Rattle.gf_form.proofs.Common.{Some, None, get_or, refl, sym, subst, ◌∙◌, arith, ◌==◌}
+use Rattle.gf_form.proofs.Common.{option_map, slice_get, AllZip-long, length-numbers_from}
+use Rattle.gf_form.proofs.Common.{length-map, slice_get-map, at_position, SetKey, InformationSet}
+use Rattle.gf_form.proofs.Common.{same_set, set_of, Described, player_keys, player_sets, Game}
+use Rattle.gf_form.proofs.Common.{IsGame, set_at, used_sets, AreDistinct, first_uses_distinct}
+use Rattle.gf_form.proofs.Common.{of_filter, same_set_equality, AreStrategies, action_counts}
+use Rattle.gf_form.proofs.Common.{players_of, has_at}
 use Rattle.gf_tree.proofs.lemmas.games.Lookups.{entry_at}
 use Rattle.gf_form.proofs.lemmas.strategies.Choices.{IsChoice}
+use Rattle.gf_form.proofs.lemmas.strategies.Lookups.{zip_at, zip_by_places, zip_counted}
 use Rattle.gf_form.proofs.lemmas.values.PayoffsGiven.{zip_in_turn}
 
 abbrev Known : Type 0
@@ -62,25 +63,7 @@ pub choice_by_places : (choice counts : List ℕ) → length choice ≡ length c
     → ((k : ℕ) → k < length choice
     → (1 ≤ get_or choice k 0) × (get_or choice k 0 ≤ get_or counts k 0))
     → IsChoice counts choice
-choice_by_places (x ∷ choice) (y ∷ counts) e h = (
-  h 0 (omega arith),
-  choice_by_places choice counts (omega (arith, e)) (λ k less. h (suc k) (omega (arith, less))),
-)
-choice_by_places choice counts e h = grind arith
-
-pub zip_at : {A B : Type 0} (R : A → B → Type 0) (d : A) (e : B) (xs : List A) (ys : List B)
-    → AllZip R xs ys → (k : ℕ) → k < length xs → R (get_or xs k d) (get_or ys k e)
-zip_at R d e (x ∷ xs) (y ∷ ys) h (suc k) less = zip_at R d e xs ys h.1 k (omega (arith, less))
-zip_at R d e xs ys h k less = grind arith
-
--- numbered in turn from 1
-zip_counted : {A : Type 0} (R : A → ℕ → Type 0) (d : A) (xs : List A) (n : ℕ)
-    → AllZip R xs (positions n) → (k : ℕ) → k < length xs → R (get_or xs k d) (k + 1)
-zip_counted R d xs n h k less =
-    let long = AllZip-long R xs (positions n) h in
-    let there = get_or-numbers_from 1 n k 0 (omega (arith, less, long, length-numbers_from 1 n)) in
-    let number : get_or (positions n) k 0 ≡ k + 1 = omega (arith, there) in
-    subst (R (get_or xs k d)) number (zip_at R d 0 xs (positions n) h k less)
+choice_by_places choice counts e h = zip_by_places _ 0 0 choice counts e h
 
 pub choice_at : (choice counts : List ℕ) (k : ℕ) → IsChoice counts choice → k < length choice
     → (1 ≤ get_or choice k 0) × (get_or choice k 0 ≤ get_or counts k 0)

@@ -1,14 +1,14 @@
 -- The strategies of a profile choose an action at each set.
-use Rattle.gf_form.proofs.Common.{◌≡◌, ℕ, zero, suc, ◌+◌, ◌-◌, ◌<◌, ◌≤◌, Bool, true, cond, List, []}
-use Rattle.gf_form.proofs.Common.{◌∷◌, Some, length, map, get_or, refl, sym, ◌∙◌, subst, arith}
-use Rattle.gf_form.proofs.Common.{option_map, zip, filter, find, if◌then◌else◌, AllZip, Contains}
-use Rattle.gf_form.proofs.Common.{get_or_default, numbers_from, IsProfile, every_profile, SetKey}
-use Rattle.gf_form.proofs.Common.{InformationSet, same_set, Described, description_at, Game, IsGame}
-use Rattle.gf_form.proofs.Common.{set_at, player_keys, player_sets, action_counts, strategies}
-use Rattle.gf_form.proofs.Common.{players_of, strategies_at, strategy_at, choice_at, choices_by}
-use Rattle.gf_form.proofs.Common.{full_profiles, HasActions}
+use Rattle.gf_form.proofs.Common.{◌≡◌, ℕ, ◌+◌, ◌-◌, ◌<◌, ◌≤◌, Bool, true, cond, List, [], ◌∷◌, Some}
+use Rattle.gf_form.proofs.Common.{length, map, get_or, refl, sym, ◌∙◌, subst, arith, option_map}
+use Rattle.gf_form.proofs.Common.{zip, filter, find, if◌then◌else◌, AllZip, Contains}
+use Rattle.gf_form.proofs.Common.{get_or_default, IsProfile, every_profile, SetKey, InformationSet}
+use Rattle.gf_form.proofs.Common.{same_set, Described, description_at, Game, IsGame, set_at}
+use Rattle.gf_form.proofs.Common.{player_keys, player_sets, action_counts, strategies, players_of}
+use Rattle.gf_form.proofs.Common.{strategies_at, strategy_at, choice_at, choices_by, full_profiles}
+use Rattle.gf_form.proofs.Common.{HasActions, AllZip-long, length-numbers_from}
 use Rattle.gf_form.proofs.lemmas.strategies.Choices.{IsChoice, every_choice}
-use Rattle.gf_form.proofs.lemmas.strategies.Lookups.{strategy_before}
+use Rattle.gf_form.proofs.lemmas.strategies.Lookups.{strategy_before, zip_counted}
 use Rattle.gf_form.proofs.lemmas.strategies.KnownSets.{set_is}
 
 -- ---- a choice at each set of a list
@@ -50,14 +50,6 @@ abbrev AreStrategies : Game → List (List ℕ) → List ℕ → Type 0
 AreStrategies g all players =
     AllZip (λ strategy player. Contains (strategies g player) strategy) all players
 
-strategy_of : (g : Game) (all : List (List ℕ)) (k n i : ℕ) → AreStrategies g all (numbers_from k n)
-    → i < n → Contains (strategies g (k + i)) (get_or all i [])
-strategy_of g all k zero i h less = absurd (omega arith)
-strategy_of g [] k (suc n) i h less = absurd h
-strategy_of g (strategy ∷ all) k (suc n) zero h less = grind arith
-strategy_of g (strategy ∷ all) k (suc n) (suc i) h less =
-    grind (arith, strategy_of g all (k + 1) n i h.1 (omega arith))
-
 module _ (g : Game) (game : IsGame g) where
   pub his_actions : (strategy : List ℕ) (key : SetKey) (set : InformationSet)
       → Contains (strategies g key.player) strategy → set_at g key ≡ Some set
@@ -71,11 +63,21 @@ module _ (g : Game) (game : IsGame g) where
       → HasActions g (choices_by g all)
   have_actions all h key set is above =
       let known = (set_is g game key set is).player in
-      let player : 1 + (key.player - 1) ≡ key.player = omega arith in
-      let his = subst (Contains (strategies g key.player)) (sym (strategy_before all key.player
-      above)) (subst (λ p. Contains (strategies g p) (get_or all (key.player - 1) [])) player
-      (strategy_of g all 1 (length g.players) (key.player - 1) h (omega arith))) in
-      his_actions (strategy_at all key.player) key set his is
+      let k = key.player - 1 in
+      let player : k + 1 ≡ key.player = omega arith in
+      let less : k < length all =
+      omega (
+        arith,
+        known,
+        AllZip-long _ all (players_of g) h,
+        length-numbers_from 1 (length g.players),
+      ) in
+      let his = subst (λ p. Contains (strategies g p) (get_or all k [])) player
+      (zip_counted (λ strategy player. Contains (strategies g player) strategy) [] all
+      (length g.players) h k less) in
+      his_actions (strategy_at all key.player) key set
+      (subst (Contains (strategies g key.player)) (sym (strategy_before all key.player above)) his)
+      is
 
 -- ---- the strategies of a profile
 

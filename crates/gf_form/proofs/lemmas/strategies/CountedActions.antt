@@ -7,16 +7,15 @@ use Rattle.gf_form.proofs.Common.{length-map, unwrap_or-slice_get, mul_above, at
 use Rattle.gf_form.proofs.Common.{profile_limit, product, length-profiles, get_or-numbers_from}
 use Rattle.gf_form.proofs.Common.{length-numbers_from, SetKey, InformationSet, IsSet, Described}
 use Rattle.gf_form.proofs.Common.{player_keys, Game, IsGame, action_counts, players_of, strategies}
-use Rattle.gf_form.proofs.Common.{HasTooManyProfiles}
+use Rattle.gf_form.proofs.Common.{HasTooManyProfiles, ArePositive, All-from_recursion}
 use Rattle.std.proofs.Math.Nat.{mul-le-mul_left}
+use Rattle.std.proofs.lemmas.List.{take_all}
+use Rattle.std.proofs.lemmas.List.Elements.{All-get_or}
 use Rattle.gf_nfg.specs.declared.limit.ProfileCount.{ProfileCount}
 use Rattle.gf_form.proofs.lemmas.strategies.Choices.{length-all_choices}
-use Rattle.gf_form.proofs.lemmas.form.FormTables.{some_strategy}
+use Rattle.gf_form.proofs.lemmas.strategies.Lookups.{all_mapped}
 
 -- ---- products
-
-abbrev pub ArePositive : List ℕ → Type 0
-ArePositive counts = AllByRecursion (λ count. 0 < count) counts
 
 pub product_more : (counts : List ℕ) (i : ℕ) → i < length counts
     → product (take (suc i) counts) ≡ product (take i counts) * get_or counts i 0
@@ -58,21 +57,23 @@ count_at g player before = grind (arith, add-one, unwrap_or-slice_get)
 
 pub positive_at : (counts : List ℕ) (i : ℕ) → ArePositive counts → i < length counts
     → 0 < get_or counts i 0
-positive_at (c ∷ counts) (suc i) h less = positive_at counts i h.1 (omega (arith, less))
-positive_at counts i h less = grind arith
+positive_at counts i h less =
+    All-get_or (λ count. 0 < count) counts i 0 less (All-from_recursion (λ count. 0 < count) counts h)
 
 -- ---- the players
 
 abbrev pub strategy_counts : Game → List ℕ
 strategy_counts g = map (λ player. length (strategies g player)) (players_of g)
 
-all_positive : (g : Game) → IsGame g → (players : List ℕ)
-    → ArePositive (map (λ player. length (strategies g player)) players)
-all_positive g game [] = tt
-all_positive g game (player ∷ players) = grind (arith, some_strategy, all_positive g game players)
+-- a player has a strategy
+pub some_strategy : (g : Game) → IsGame g → (player : ℕ) → 0 < length (strategies g player)
+some_strategy g game player =
+    grind (arith, length-all_choices, product_positive, actions_positive g game player)
 
 pub strategies_positive : (g : Game) → IsGame g → ArePositive (strategy_counts g)
-strategies_positive g game = all_positive g game (players_of g)
+strategies_positive g game =
+    all_mapped (λ count. 0 < count) (λ player. length (strategies g player)) (players_of g)
+    (some_strategy g game)
 
 -- what is so of each player, at his place
 pub of_player : {A : Type 0} (g : Game) (f : ℕ → A) (before : ℕ) (d : A)
@@ -97,10 +98,7 @@ pub sets_counted : (g : Game) (player : ℕ)
 sets_counted g player = grind (arith, length-map)
 
 pub take_past : {A : Type 0} (i : ℕ) (xs : List A) → length xs ≤ i → take i xs ≡ xs
-take_past zero [] h = refl
-take_past (suc i) [] h = refl
-take_past zero (x ∷ xs) h = absurd (omega (arith, h))
-take_past (suc i) (x ∷ xs) h = ap (λ (ys : List _). x ∷ ys) (take_past i xs (omega (arith, h)))
+take_past i xs h = take_all i xs h
 
 -- ---- what is counted of a player
 
@@ -139,6 +137,8 @@ too_many_alone g game before made less made_is some past =
     let own = length (strategies g (before + 1)) in
     let more : 1 * own ≤ made * own = mul-le-mul some (omega arith) in
     too_many g game before made own less made_is refl (omega (arith, more, past))
+
+pub ruleset product_steps = (product_more, add-one)
 
 pub ruleset count_steps = (
   positive_at,

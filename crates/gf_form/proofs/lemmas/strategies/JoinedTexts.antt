@@ -1,6 +1,6 @@
 -- Texts without a dash can be recovered from the text that joins them by dashes.
 use Rattle.gf_form.proofs.Common.{◌≡◌, ℕ, ◌+◌, ◌%◌, ◌^◌, ◌<◌, ◌≤◌, List, [], ◌∷◌, ◌++◌, length, map}
-use Rattle.gf_form.proofs.Common.{get_or, drop, refl, sym, ap, arith, decimal, AllByRecursion}
+use Rattle.gf_form.proofs.Common.{get_or, drop, refl, ap, arith, decimal, AllByRecursion}
 use Rattle.gf_form.proofs.Common.{join_with_byte, length-map, all_both, all_images, all_weaker}
 use Rattle.std.proofs.lemmas.Fmt.{decimal_by_steps}
 
@@ -25,23 +25,20 @@ head_same x y xs ys e = ap (λ (zs : List ℕ). get_or zs 0 0) e
 -- what stands before the first dash, and after it
 cut : (xs ys us vs : List ℕ) → AreUndashed xs → AreUndashed ys → xs ++ 45 ∷ us ≡ ys ++ 45 ∷ vs
     → (xs ≡ ys) × (us ≡ vs)
-cut [] [] us vs hx hy e = (refl, ap (drop 1) e)
-cut [] (y ∷ ys) us vs hx hy e = absurd (hy.0 (sym (head_same 45 y us (ys ++ 45 ∷ vs) e)))
-cut (x ∷ xs) [] us vs hx hy e = absurd (hx.0 (head_same x 45 (xs ++ 45 ∷ us) vs e))
 cut (x ∷ xs) (y ∷ ys) us vs hx hy e =
     grind (arith, head_same, cut xs ys us vs hx.1 hy.1 (ap (drop 1) e))
+cut [] [] us vs hx hy e = (refl, ap (drop 1) e)
+cut xs ys us vs hx hy e = absurd (grind (arith, head_same))
 
 same_texts : (xs ys : List (List ℕ)) → length xs ≡ length ys → AllByRecursion AreUndashed xs
     → AllByRecursion AreUndashed ys → join_with_byte 45 xs ≡ join_with_byte 45 ys → xs ≡ ys
-same_texts [] [] n hx hy e = refl
-same_texts [] (y ∷ ys) n hx hy e = absurd (omega (arith, n))
-same_texts (x ∷ xs) [] n hx hy e = absurd (omega (arith, n))
-same_texts (x ∷ []) ys n hx hy e = grind arith
-same_texts (x ∷ u ∷ xs) (y ∷ []) n hx hy e = absurd (omega (arith, n))
 same_texts (x ∷ u ∷ xs) (y ∷ v ∷ ys) n hx hy e =
     let parts = cut x y (join_with_byte 45 (u ∷ xs)) (join_with_byte 45 (v ∷ ys)) hx.0 hy.0 e in
     let others = same_texts (u ∷ xs) (v ∷ ys) (omega (arith, n)) hx.1 hy.1 parts.1 in
     λ i. parts.0 i ∷ others i
+same_texts (x ∷ []) (y ∷ ys) n hx hy e = grind arith
+same_texts [] [] n hx hy e = refl
+same_texts xs ys n hx hy e = absurd (omega (arith, n))
 
 -- and so are items that are told from their texts
 module _ {X : Type 0} (text : X → List ℕ) (IsFine : X → Type 0)
@@ -49,10 +46,9 @@ module _ {X : Type 0} (text : X → List ℕ) (IsFine : X → Type 0)
     (one : (x y : X) → IsFine x → IsFine y → text x ≡ text y → x ≡ y) where
   same_items : (xs ys : List X) → AllByRecursion IsFine xs → AllByRecursion IsFine ys
       → map text xs ≡ map text ys → xs ≡ ys
-  same_items [] [] hx hy e = refl
-  same_items [] (y ∷ ys) hx hy e = absurd cc
-  same_items (x ∷ xs) [] hx hy e = absurd cc
   same_items (x ∷ xs) (y ∷ ys) hx hy e = grind (arith, same_items xs ys hx.1 hy.1 (ap (drop 1) e))
+  same_items [] [] hx hy e = refl
+  same_items xs ys hx hy e = absurd (grind arith)
 
   all_undashed : (xs : List X) → AllByRecursion IsFine xs → AllByRecursion AreUndashed (map text xs)
   all_undashed xs h = all_images AreUndashed text xs

@@ -1,8 +1,7 @@
 -- Labels of strategies, made from labels at the first sets and at the others.
-use Rattle.gf_form.proofs.Common.{◌≡◌, ◌∙◌, ℕ, suc, ◌+◌, ◌*◌, ◌<◌, List, [], ◌∷◌, ◌++◌, Some, map}
-use Rattle.gf_form.proofs.Common.{length, get_or, take, refl, ap, sym, add-one, arith, append_assoc}
-use Rattle.gf_form.proofs.Common.{slice_get, length-map, take-suc, product, all_choices}
-use Rattle.gf_form.proofs.Common.{strategy_label}
+use Rattle.gf_form.proofs.Common.{◌≡◌, ℕ, suc, ◌+◌, ◌*◌, ◌<◌, List, [], ◌∷◌, ◌++◌, Some, map}
+use Rattle.gf_form.proofs.Common.{length, get_or, take, refl, arith, append_assoc, slice_get}
+use Rattle.gf_form.proofs.Common.{length-map, product, all_choices, strategy_label}
 use Rattle.gf_form.proofs.lemmas.strategies.Choices.{are_choices, length-all_choices}
 use Rattle.gf_form.proofs.lemmas.strategies.CountedActions.{take_past}
 use Rattle.gf_form.proofs.lemmas.rows.DigitPlaces.{product_joined}
@@ -13,11 +12,10 @@ use Rattle.gf_form.proofs.lemmas.strategies.StrategiesByNumber.{all_at, joined_a
 
 label_of_both : (f b : List ℕ) → 0 < length f → 0 < length b
     → strategy_label (f ++ b) ≡ strategy_label f ++ 45 ∷ strategy_label b
-label_of_both [] b hf hb = absurd (omega (arith, hf))
-label_of_both (a ∷ f) [] hf hb = absurd (omega (arith, hb))
-label_of_both (a ∷ []) (c ∷ b) hf hb = refl
 label_of_both (a ∷ e ∷ f) (c ∷ b) hf hb =
     grind (arith, append_assoc, label_of_both (e ∷ f) (c ∷ b) (omega arith) hb)
+label_of_both (a ∷ []) (c ∷ b) hf hb = refl
+label_of_both f b hf hb = absurd (grind arith)
 
 got : (xs : List (List ℕ)) (i : ℕ) (v : List ℕ) → slice_get (map strategy_label xs) i ≡ Some v
     → i < length xs → v ≡ strategy_label (get_or xs i [])
@@ -57,17 +55,5 @@ pub all_joined : (firsts others labels : List (List ℕ)) (i : ℕ) → i ≡ le
     → labels ≡ map strategy_label (all_choices (xs ++ ys))
 all_joined firsts others labels i end h xs ys hx hy f o =
     grind (arith, counted, product_joined, take_past, length-all_choices)
-
--- ---- how many
-
-pub one_count_more : (counts : List ℕ) (i whole more : ℕ) → i < length counts
-    → whole ≡ product (take i counts) → more ≡ whole * get_or counts i 0
-    → more ≡ product (take (i + 1) counts)
-one_count_more counts i whole more less h is =
-    let one : product (get_or counts i 0 ∷ []) ≡ get_or counts i 0 = omega arith in
-    is ∙ (λ k. h k * sym one k)
-    ∙ sym (product_joined (take i counts) (get_or counts i 0 ∷ []))
-    ∙ sym (ap product (take-suc counts i 0 less))
-    ∙ ap (λ (n : ℕ). product (take n counts)) (sym (add-one i))
 
 pub ruleset joined_steps = (one_joined_more, row_joined, all_joined)

@@ -3,11 +3,17 @@ use Rattle.gf_form.proofs.Common.{refl, ◌<◌, length, map, numbers_from, ◌�
 use Rattle.gf_form.proofs.Common.{List, [], ◌∷◌, Option, MatchOption, ap, ◌∙◌, ◌≤◌, ◌-◌, ◌+◌}
 use Rattle.gf_form.proofs.Common.{get_or, arith, option_map, unwrap_or, option_and_then, slice_get}
 use Rattle.gf_form.proofs.Common.{⊤, AllByRecursion, unwrap_or-slice_get, at_position, strategy_at}
+use Rattle.gf_form.proofs.Common.{all_images, all_of_each, subst, AllZip, AllZip-long, positions}
+use Rattle.gf_form.proofs.Common.{get_or-numbers_from, length-numbers_from}
 use Rattle.std.specs.List.{find}
 
 -- a property of what there is, if there is something
 abbrev pub Each : {A : Type 0} → (A → Type 0) → Option A → Type 0
 Each P o = MatchOption o ⊤ P
+
+pub all_mapped : {A B : Type 0} (P : B → Type 0) (f : A → B) (xs : List A) → ((x : A) → P (f x))
+    → AllByRecursion P (map f xs)
+all_mapped P f xs h = all_images P f xs (all_of_each (λ x. P (f x)) xs (λ x _. h x))
 
 pub each_got : {A : Type 0} (P : A → Type 0) (xs : List A) (i : ℕ) → AllByRecursion P xs
     → Each P (slice_get xs i)
@@ -58,3 +64,28 @@ in_turn f k (x ∷ xs) d each =
     let others = in_turn f (k + 1) xs d (λ i h. let next : k + 1 + i ≡ k + suc i = omega arith in
     ap f next ∙ each (suc i) (omega arith)) in
     λ i. here i ∷ others i
+
+-- ---- lists place by place
+
+pub zip_by_places : {A B : Type 0} (R : A → B → Type 0) (d : A) (e : B) (xs : List A) (ys : List B)
+    → length xs ≡ length ys → ((k : ℕ) → k < length xs → R (get_or xs k d) (get_or ys k e))
+    → AllZip R xs ys
+zip_by_places R d e (x ∷ xs) (y ∷ ys) count h = (
+  h 0 (omega arith),
+  zip_by_places R d e xs ys (omega (arith, count)) (λ k less. h (suc k) (omega (arith, less))),
+)
+zip_by_places R d e xs ys count h = grind arith
+
+pub zip_at : {A B : Type 0} (R : A → B → Type 0) (d : A) (e : B) (xs : List A) (ys : List B)
+    → AllZip R xs ys → (k : ℕ) → k < length xs → R (get_or xs k d) (get_or ys k e)
+zip_at R d e (x ∷ xs) (y ∷ ys) h (suc k) less = zip_at R d e xs ys h.1 k (omega (arith, less))
+zip_at R d e xs ys h k less = grind arith
+
+-- numbered in turn from 1
+pub zip_counted : {A : Type 0} (R : A → ℕ → Type 0) (d : A) (xs : List A) (n : ℕ)
+    → AllZip R xs (positions n) → (k : ℕ) → k < length xs → R (get_or xs k d) (k + 1)
+zip_counted R d xs n h k less =
+    let long = AllZip-long R xs (positions n) h in
+    let there = get_or-numbers_from 1 n k 0 (omega (arith, less, long, length-numbers_from 1 n)) in
+    let number : get_or (positions n) k 0 ≡ k + 1 = omega (arith, there) in
+    subst (R (get_or xs k d)) number (zip_at R d 0 xs (positions n) h k less)

@@ -8,7 +8,7 @@ use Rattle.gf_form.proofs.Common.{numbers_from, positions, product, profiles, Is
 use Rattle.gf_form.proofs.Common.{every_profile, length-profiles, Game, AreCounts, Counts}
 use Rattle.gf_form.proofs.Common.{length-numbers_from, AreBelow, AreProfileNumbers}
 use Rattle.gf_form.proofs.Common.{numbered_profiles, numbers_with, AreStrategies, action_counts}
-use Rattle.gf_form.proofs.Common.{full_profiles, players_of, strategies, strategies_at}
+use Rattle.gf_form.proofs.Common.{full_profiles, players_of, strategies, strategies_at, all_images}
 use Rattle.std.proofs.lemmas.List.Folds.{flat_map-map}
 use Rattle.gf_nfg.specs.ProfilePlaces.{place}
 use Rattle.gf_nfg.proofs.lemmas.tables.Profiles.{are_profiles, place_at}
@@ -75,12 +75,10 @@ full_profile : (g : Game) (players : List ℕ) (picked : List (List ℕ)) (profi
     picked players
     → IsProfile (map length picked) profile
     → IsProfile (map (λ player. length (strategies g player)) players) (full_at picked profile)
-full_profile g [] [] profile h k = grind arith
-full_profile g [] (own ∷ picked) profile h k = absurd h
-full_profile g (player ∷ players) [] profile h k = absurd h
-full_profile g (player ∷ players) (own ∷ picked) [] h k = absurd k
 full_profile g (player ∷ players) (own ∷ picked) (s ∷ profile) h k =
     grind (arith, all_at, full_profile g players picked profile h.1 k.1)
+full_profile g [] [] profile h k = grind arith
+full_profile g players picked profile h k = absurd (grind arith)
 
 pub picked_full : (g : Game) (picked : List (List ℕ)) → AreNumbers g picked → (profile : List ℕ)
     → Contains (profiles (map length picked)) profile
@@ -115,9 +113,10 @@ sum_below count rest size number less below = grind arith
 sums_below : (count rest size : ℕ) (own : List ℕ) → rest < size
     → AllByRecursion (λ number. number < count) own
     → AllByRecursion (λ number. number < count * size) (map (λ number. number + count * rest) own)
-sums_below count rest size [] less h = tt
-sums_below count rest size (number ∷ own) less h =
-    (sum_below count rest size number less h.0, sums_below count rest size own less h.1)
+sums_below count rest size own less h =
+    all_images (λ number. number < count * size) (λ number. number + count * rest) own
+    (all_weaker (λ number. number < count) (λ number. number + count * rest < count * size)
+    (λ number. sum_below count rest size number less) own h)
 
 all_sums_below : (count size : ℕ) (own rests : List ℕ)
     → AllByRecursion (λ number. number < count) own → AllByRecursion (λ rest. rest < size) rests
@@ -184,9 +183,6 @@ by_all_positions own picked (others ∷ tails) =
 by_numbers : (counts : List ℕ) (picked : List (List ℕ)) → AreBelow counts picked
     → map (λ number. get_or (profiles counts) number []) (numbers_with counts picked)
     ≡ picked_profiles picked
-by_numbers [] [] h = refl
-by_numbers [] (own ∷ picked) h = absurd h
-by_numbers (count ∷ counts) [] h = absurd h
 by_numbers (count ∷ counts) (own ∷ picked) h =
     let rests = numbers_with counts picked in
     by_all_sums count counts own rests h.0 (numbers_within counts picked h.1)
@@ -194,15 +190,16 @@ by_numbers (count ∷ counts) (own ∷ picked) h =
     ∙ ap (flat_map (joined own)) (by_numbers counts picked h.1)
     ∙ flat_map-map (joined own) (full_at picked) (profiles (map length picked))
     ∙ sym (by_all_positions own picked (profiles (map length picked)))
+by_numbers [] [] h = refl
+by_numbers counts picked h = absurd (grind arith)
 
 are_below : (g : Game) (players : List ℕ) (picked : List (List ℕ))
     → AllZip (λ own player. AllByRecursion (λ number. number < length (strategies g player)) own)
     picked players
     → AreBelow (map (λ player. length (strategies g player)) players) picked
-are_below g [] [] h = tt
-are_below g [] (own ∷ picked) h = absurd h
-are_below g (player ∷ players) [] h = absurd h
 are_below g (player ∷ players) (own ∷ picked) h = (h.0, are_below g players picked h.1)
+are_below g [] [] h = tt
+are_below g players picked h = absurd (grind arith)
 
 -- ---- one player after another
 

@@ -2,35 +2,35 @@
 use Rattle.gf_form.proofs.Common.{◌≡◌, ℕ, suc, ◌+◌, ◌-◌, ◌*◌, ◌/◌, ◌%◌, ◌<◌, ◌≤◌, List, [], ◌∷◌}
 use Rattle.gf_form.proofs.Common.{◌++◌, length, map, get_or, take, drop, refl, sym, ap, subst, ◌∙◌}
 use Rattle.gf_form.proofs.Common.{append_assoc, add-one, arith, true, false, ◌^◌, decimal, ◌==◌}
-use Rattle.gf_form.proofs.Common.{AllByRecursion, flat_map, flat_map-append, div-add-mod}
-use Rattle.gf_form.proofs.Common.{div-lt_iff_lt-mul, mod-lt, mul-div_cancel_left, drop-cons}
-use Rattle.gf_form.proofs.Common.{take-append_seam, take-suc, append-nil, length-append, map-append}
-use Rattle.gf_form.proofs.Common.{product, IsPlain, all_choices, strategy_label, all_both}
-use Rattle.gf_form.proofs.Common.{mul_assoc}
+use Rattle.gf_form.proofs.Common.{AllByRecursion, flat_map, flat_map-append, mod-lt}
+use Rattle.gf_form.proofs.Common.{mul-div_cancel_left, drop-cons, take-append_seam, take-suc}
+use Rattle.gf_form.proofs.Common.{append-nil, length-append, map-append, product, IsPlain}
+use Rattle.gf_form.proofs.Common.{all_choices, strategy_label, all_both, mul_assoc}
+use Rattle.gf_form.proofs.Common.{All-from_recursion}
 use Rattle.std.specs.Str.Parse.{AllDigits}
 use Rattle.std.proofs.lemmas.Bool.Decides.{nat_tests}
 use Rattle.std.proofs.lemmas.Fmt.{decimal_is_IsNumeral_wide}
 use Rattle.gf_token.specs.LabelSpelling.{is_spelling_after, IsLabel}
 use Rattle.std.proofs.Math.Nat.{div-le_self}
 use Rattle.gf_form.proofs.lemmas.strategies.CountedActions.{take_past}
+pub use Rattle.gf_form.proofs.lemmas.strategies.Choices.{choices_next, choices_row, positive_parts}
 use Rattle.gf_form.proofs.lemmas.strategies.Choices.{IsChoice, are_choices, at_its_place}
 use Rattle.gf_form.proofs.lemmas.strategies.Choices.{length-all_choices, place, place_at}
+use Rattle.std.proofs.lemmas.List.Elements.{All-get_or}
 use Rattle.gf_form.proofs.lemmas.rows.DigitPlaces.{product_joined}
 
 pub all_at : {A : Type 0} (P : A → Type 0) (xs : List A) (i : ℕ) (d : A) → AllByRecursion P xs
     → i < length xs → P (get_or xs i d)
-all_at P (x ∷ xs) (suc i) d h less = all_at P xs i d h.1 (omega (arith, less))
-all_at P xs i d h less = grind arith
+all_at P xs i d h less = All-get_or P xs i d less (All-from_recursion P xs h)
 
 -- ---- sets that come after others
 
 both_choices : (xs ys f b : List ℕ) → IsChoice xs f → IsChoice ys b → IsChoice (xs ++ ys) (f ++ b)
     × (place (xs ++ ys) (f ++ b) ≡ place xs f * product ys + place ys b)
-both_choices [] ys [] b hf hb = (hb, omega arith)
-both_choices [] ys (a ∷ f) b hf hb = absurd hf
-both_choices (c ∷ xs) ys [] b hf hb = absurd hf
 both_choices (c ∷ xs) ys (a ∷ f) b hf hb =
     grind (arith, product_joined, mul_assoc, place, both_choices xs ys f b hf.1 hb)
+both_choices [] ys [] b hf hb = (hb, omega arith)
+both_choices xs ys f b hf hb = absurd (grind arith)
 
 -- the strategy with this number
 pub joined_at : (xs ys : List ℕ) (i j : ℕ) → i < product xs → j < product ys
@@ -45,29 +45,8 @@ joined_at xs ys i j hi hj =
     let both = both_choices xs ys f b
     (all_at (IsChoice xs) (all_choices xs) i [] (are_choices xs) in_xs)
     (all_at (IsChoice ys) (all_choices ys) j [] (are_choices ys) in_ys) in
-    let number = both.1 ∙ (λ k. place_at xs i [] in_xs k * product ys + place_at ys j [] in_ys k) in
+    let number = both.1 ∙ (λ k. place_at xs i in_xs k * product ys + place_at ys j in_ys k) in
     grind (arith, at_its_place, number)
-
--- an action at the first set, and a choice at the others
-pub choices_row : (n : ℕ) (counts : List ℕ) (before k : ℕ) → before < n → k < product counts
-    → get_or (all_choices (n ∷ counts)) (before * product counts + k) []
-    ≡ (before + 1) ∷ get_or (all_choices counts) k []
-choices_row n counts before k within less =
-    let one : (before + 1 - 1) * 1 + 0 ≡ before = omega arith in
-    let alone = at_its_place (n ∷ []) ((before + 1) ∷ []) ((omega arith, omega (arith, within)), tt)
-    in
-    (joined_at (n ∷ []) counts before k (omega (arith, within)) less).1
-    ∙ ap (λ (c : List ℕ). c ++ get_or (all_choices counts) k []) (rw one at alone.1)
-
-pub choices_next : (count : ℕ) (counts : List ℕ) (rest : ℕ) → 0 < product counts
-    → rest < count * product counts → get_or (all_choices (count ∷ counts)) rest []
-    ≡ (rest / product counts + 1) ∷ get_or (all_choices counts) (rest % product counts) []
-choices_next count counts rest some below =
-    let whole : rest / product counts * product counts + rest % product counts ≡ rest =
-    omega (arith, div-add-mod rest (product counts)) in
-    ap (λ (m : ℕ). get_or (all_choices (count ∷ counts)) m []) (sym whole)
-    ∙ choices_row count counts (rest / product counts) (rest % product counts)
-    ((div-lt_iff_lt-mul some).1 below) (mod-lt rest some)
 
 -- ---- one action after another
 
@@ -85,9 +64,6 @@ pub record GoesOn (counts : List ℕ) (number i stride rest count : ℕ) (strate
   pub small : rest / (stride / count) ≤ rest
   pub goes : Goes counts number (i + 1) (stride / count) (rest % (stride / count))
       (strategy ++ (rest / (stride / count) + 1) ∷ [])
-
-pub positive_parts : (m n k : ℕ) → k < m * n → (0 < m) × (0 < n)
-positive_parts m n k h = grind arith
 
 pub goes_on : (counts : List ℕ) (number i stride rest count : ℕ) (strategy : List ℕ)
     → Goes counts number i stride rest strategy → i < length counts

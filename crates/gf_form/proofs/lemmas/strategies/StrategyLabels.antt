@@ -14,11 +14,10 @@ same_label = same_joined decimal (λ n. n < 2 ^ 64) undashed_number decimal_inje
 
 pub small_choice : (counts choice : List ℕ) → AreSmall counts → IsChoice counts choice
     → AreSmall choice × (length choice ≡ length counts)
-small_choice [] [] small h = (tt, refl)
-small_choice [] (a ∷ choice) small h = absurd h
-small_choice (n ∷ counts) [] small h = absurd h
 small_choice (n ∷ counts) (a ∷ choice) small h =
     grind (arith, small_choice counts choice small.1 h.1)
+small_choice [] [] small h = (tt, refl)
+small_choice counts choice small h = absurd (grind arith)
 
 pub labels_differ : (counts : List ℕ) (i j : ℕ) → AreSmall counts → i < length (all_choices counts)
     → j < length (all_choices counts) → strategy_label (get_or (all_choices counts) i [])

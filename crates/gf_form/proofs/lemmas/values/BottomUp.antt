@@ -1,21 +1,21 @@
 -- If the bottom-up value is defined, it is the payoff by plays.
 use Rattle.gf_form.proofs.Common.{◌≡◌, ℕ, zero, suc, ◌+◌, Bool, true, false, List, ◌++◌, Option}
 use Rattle.gf_form.proofs.Common.{Some, MatchOption, length, map, refl, sym, subst, arith, ◌==◌}
-use Rattle.gf_form.proofs.Common.{option_map, MatchBool, AllByRecursion, Ratio, IsFraction, IsEqual}
-use Rattle.gf_form.proofs.Common.{zero_ratio, one_ratio, plus, times, total, AddsTo, MultipliesTo}
-use Rattle.gf_form.proofs.Common.{mul_pos_right, one_fraction, all_parts, equal_refl, plus_both}
-use Rattle.gf_form.proofs.Common.{plus_zero, plus_assoc, times_comm, times_assoc, times_plus}
-use Rattle.gf_form.proofs.Common.{times_zero, times_one, IsAbove, plus_above, times_above, ◌then◌}
-use Rattle.gf_form.proofs.Common.{back, plus_left, plus_right, times_left, times_right, plus_across}
+use Rattle.gf_form.proofs.Common.{option_map, MatchBool, AllByRecursion, Ratio, IsEqual, zero_ratio}
+use Rattle.gf_form.proofs.Common.{one_ratio, plus, times, total, AddsTo, MultipliesTo}
+use Rattle.gf_form.proofs.Common.{mul_pos_right, all_parts, equal_refl, plus_both, plus_zero}
+use Rattle.gf_form.proofs.Common.{plus_assoc, times_comm, times_assoc, times_plus, times_zero}
+use Rattle.gf_form.proofs.Common.{times_one, IsAbove, plus_above, times_above, ◌then◌, back}
+use Rattle.gf_form.proofs.Common.{plus_left, plus_right, times_left, times_right, plus_across}
 use Rattle.gf_form.proofs.Common.{numbers_from, Tree, Trees, count, branch, none, more, flatten}
 use Rattle.gf_form.proofs.Common.{flatten_all, SetKey, Node, Game, IsGame, HasChildren, set_at}
 use Rattle.gf_form.proofs.Common.{IsSpellable, Play, from_node, is_chosen, probability, payoff_at}
 use Rattle.gf_form.proofs.Common.{payoff, play_probability, play_payoff, IsValue, IsChanceValue}
 use Rattle.gf_form.proofs.Common.{IsChildValue}
 use Rattle.gf_form.proofs.lemmas.values.Denominators.{probability_above, payoff_above}
-use Rattle.gf_form.proofs.lemmas.values.Denominators.{payoff_fraction, play_probability_above}
-use Rattle.gf_form.proofs.lemmas.values.Denominators.{worth_above}
+use Rattle.gf_form.proofs.lemmas.values.Denominators.{play_probability_above, worth_above}
 use Rattle.gf_form.proofs.lemmas.values.Lotteries.{no_chance}
+use Rattle.gf_form.proofs.lemmas.values.ValuesComputed.{value_is}
 use Rattle.gf_form.proofs.lemmas.values.Followed.{followed, followed_in, each_chosen, first_chosen}
 use Rattle.gf_form.proofs.lemmas.values.Followed.{only_this, not_this}
 use Rattle.gf_form.proofs.lemmas.values.Whole.{one_of, by_one, first_whole, this_whole}
@@ -271,14 +271,6 @@ module _ (g : Game) (game : IsGame g) (spellable : IsSpellable g) (player : ℕ)
       → IsEqual value (payoff g choices player)
   value_is_payoff value h = (tree_pays g.tree value game.children h).paid
 
-  fraction_at : (n : Node) (ts : Trees Node) (value : Ratio) (o : Option SetKey)
-      → ValueAt n ts value o → IsFraction value
-  fraction_at n ts value o h = grind (arith, payoff_fraction)
-
-  value_is_fraction : (t : Tree Node) (value : Ratio) → IsValue g choices player t value
-      → IsFraction value
-  value_is_fraction (branch n ts) value h = fraction_at n ts value n.set h
-
   pub one_value : (x y : Ratio)
       → IsValue g choices player g.tree x → IsValue g choices player g.tree y → x ≡ y
-  one_value x y hx hy = grind (arith, value_is_payoff, one_fraction, value_is_fraction)
+  one_value x y hx hy = grind (arith, value_is)

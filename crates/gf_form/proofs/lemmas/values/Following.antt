@@ -10,10 +10,6 @@ use Rattle.gf_form.specs.Plays.{PartAtChance}
 
 -- ---- a play's moves are the choices
 
--- the choice at this set is this child
-abbrev Chooses : (SetKey → ℕ) → Option SetKey → ℕ → Type 0
-Chooses choices o k = (key : SetKey) → o ≡ Some key → 0 < key.player → choices key ≡ k
-
 abbrev pub ChoosesMoves : (SetKey → ℕ) → List Step → Type 0
 ChoosesMoves choices steps = AllByRecursion
     (λ s. (key : SetKey) → s.node.set ≡ Some key → 0 < key.player → choices key ≡ s.taken) steps

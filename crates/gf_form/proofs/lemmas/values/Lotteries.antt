@@ -9,7 +9,7 @@ use Rattle.gf_form.proofs.Common.{Action, SetKey, InformationSet, AddToOne, Node
 use Rattle.gf_form.proofs.Common.{set_at, IsSpellable, action_at, probability}
 use Rattle.gf_tree.specs.Description.{AreActions}
 use Rattle.gf_form.proofs.lemmas.values.Denominators.{each_action, probability_above}
-use Rattle.gf_form.proofs.lemmas.strategies.Lookups.{Each, in_turn, next_position}
+use Rattle.gf_form.proofs.lemmas.strategies.Lookups.{Each, all_mapped, in_turn, next_position}
 use Rattle.gf_form.proofs.lemmas.strategies.KnownSets.{each_set}
 
 total_list : (ps : List Ratio) → AllByRecursion IsAbove ps → IsAbove (total ps)
@@ -36,16 +36,10 @@ each_probability : (actions : List Action) (ps : List Ratio) (i : ℕ)
     → map (λ a. a.probability) actions ≡ map Some ps
     → unwrap_or (option_and_then (λ a. a.probability) (slice_get actions i)) one_ratio
     ≡ get_or ps i one_ratio
-each_probability [] [] i e = refl
-each_probability [] (p ∷ ps) i e = grind arith
-each_probability (a ∷ actions) [] i e = grind arith
-each_probability (a ∷ actions) (p ∷ ps) zero e = ap (λ o. unwrap_or (get_or o 0 None) one_ratio) e
 each_probability (a ∷ actions) (p ∷ ps) (suc i) e = each_probability actions ps i (ap (drop 1) e)
-
-all_above : (f : ℕ → Ratio) → ((i : ℕ) → IsAbove (f i)) → (ns : List ℕ)
-    → AllByRecursion IsAbove (map f ns)
-all_above f above [] = tt
-all_above f above (n ∷ ns) = (above n, all_above f above ns)
+each_probability (a ∷ actions) (p ∷ ps) zero e = ap (λ o. unwrap_or (get_or o 0 None) one_ratio) e
+each_probability [] [] i e = refl
+each_probability actions ps i e = grind arith
 
 module _ (g : Game) (game : IsGame g) (spellable : IsSpellable g) where
   -- the actions of a set are those of its player
@@ -78,8 +72,9 @@ module _ (g : Game) (game : IsGame g) (spellable : IsSpellable g) where
       cc (at_set, each_probability set.actions ps i lottery.1) in
       let list : map f (numbers_from 1 (length ps)) ≡ ps =
       in_turn f 1 ps one_ratio (λ i _. taken i) in
-      let above = subst (AllByRecursion IsAbove) list (all_above f (λ k. probability_above g
-      spellable (record { node = n; taken = k })) (numbers_from 1 (length ps))) in
+      let above = subst (AllByRecursion IsAbove) list (all_mapped IsAbove f
+      (numbers_from 1 (length ps))
+      (λ k. probability_above g spellable (record { node = n; taken = k }))) in
       let all : ps ≡ map f (numbers_from 1 (length set.actions)) = cc (list, size) in
       subst (λ rs. IsEqual one_ratio (total rs)) all
       (adds_to_one zero_ratio ps (omega arith) above lottery.2

@@ -1,12 +1,14 @@
 -- The rows of payoffs that are kept, each at its position.
 use Rattle.gf_form.proofs.Common.{◌≡◌, ℕ, zero, suc, ◌+◌, ◌-◌, ◌<◌, ◌≤◌, List, [], ◌∷◌, ◌++◌}
-use Rattle.gf_form.proofs.Common.{length, map, get_or, slice_get, inl, inr, subst, Some, arith}
-use Rattle.gf_form.proofs.Common.{◌==◌, AllByRecursion, cases_lt, length-append, length-map}
+use Rattle.gf_form.proofs.Common.{length, map, get_or, inl, inr, subst, Some, arith, ◌==◌}
+use Rattle.gf_form.proofs.Common.{AllByRecursion, cases_lt, length-append, length-map}
 use Rattle.gf_form.proofs.Common.{slice_get-get_or, slice_get-map, slice_get_past}
 use Rattle.gf_form.proofs.Common.{unwrap_or-slice_get, Ratio, IsFraction, zero_ratio, at_position}
 use Rattle.gf_form.proofs.Common.{Outcome, Described, outcome_numbers, Game, IsGame, outcome_at}
 use Rattle.gf_form.proofs.Common.{IsSpellable, at_index, paid, ArePaid, IsRow, at_place, row_at}
+use Rattle.gf_form.proofs.Common.{get_or_append_left}
 use Rattle.std.proofs.Common.{Bor}
+use Rattle.std.proofs.lemmas.List.{get_or_push}
 use Rattle.gf_tree.specs.Description.{IsOutcome}
 use Rattle.gf_form.proofs.lemmas.values.Denominators.{payoffs_of}
 use Rattle.gf_form.proofs.lemmas.strategies.Lookups.{Each, each_described}
@@ -46,16 +48,6 @@ row_of_outcome g game spellable number outcome e = record {
 
 -- ---- rows that are kept one after another
 
-snoc_before : {A : Type 0} (xs : List A) (x : A) (k : ℕ) → k < length xs
-    → slice_get (xs ++ x ∷ []) k ≡ slice_get xs k
-snoc_before (y ∷ xs) x (suc k) h = snoc_before xs x k (omega (arith, h))
-snoc_before xs x k h = grind arith
-
-snoc_last : {A : Type 0} (xs : List A) (x : A) (k : ℕ) → k ≡ length xs
-    → slice_get (xs ++ x ∷ []) k ≡ Some x
-snoc_last (y ∷ xs) x (suc k) h = snoc_last xs x k (omega (arith, h))
-snoc_last xs x k h = grind arith
-
 -- the row at a position is that of the outcome there
 pub record IsPaidAt (g : Game) (row : List Ratio) (position : ℕ) : Type 0 where
   pub paid_is : (k : ℕ) → at_place row k ≡ paid g (suc k) position
@@ -85,8 +77,8 @@ one_row g rows row count are is = record {
     by (suc k) h = elim (cases_lt k count) [
       | inl less ↦
           let kept = are.each (suc k) (omega (arith, less)) in
-          let counted = are.counted in grind (arith, snoc_before rows row k)
-      | inr more ↦ let counted = are.counted in grind (arith, snoc_last rows row k)
+          let counted = are.counted in grind (arith, unwrap_or-slice_get, get_or_append_left)
+      | inr more ↦ let counted = are.counted in grind (arith, unwrap_or-slice_get, get_or_push)
     ]
 
 pub all_rows : (g : Game) (rows : List (List Ratio)) → ArePaidTo g rows (length (outcome_numbers g))

@@ -1,43 +1,39 @@
 -- The values of the players are their payoffs.
-use Rattle.gf_form.proofs.Common.{get_or, ◌≡◌, ℕ, zero, suc, ◌+◌, ◌<◌, List, [], ◌∷◌, Some, None}
-use Rattle.gf_form.proofs.Common.{length, sym, subst, ◌∙◌, arith, AllByRecursion, AllZip}
-use Rattle.gf_form.proofs.Common.{length-map, Ratio, IsFraction, IsEqual, zero_ratio, numbers_from}
-use Rattle.gf_form.proofs.Common.{positions, SetKey, Game, IsGame, IsSpellable, IsValue, payoff}
-use Rattle.gf_form.proofs.Common.{HasValuesBy, at_place, ArePayoffs, value}
+use Rattle.gf_form.proofs.Common.{get_or, ◌≡◌, ℕ, suc, ◌+◌, ◌<◌, List, Some, None, length, sym}
+use Rattle.gf_form.proofs.Common.{subst, arith, AllByRecursion, AllZip, length-map, Ratio}
+use Rattle.gf_form.proofs.Common.{IsFraction, IsEqual, zero_ratio, numbers_from, positions, SetKey}
+use Rattle.gf_form.proofs.Common.{Game, IsGame, IsSpellable, IsValue, payoff, HasValuesBy, at_place}
+use Rattle.gf_form.proofs.Common.{ArePayoffs, value, recursion_from_All, All-from_recursion}
+use Rattle.gf_form.proofs.Common.{get_or-numbers_from, length-numbers_from}
+use Rattle.std.proofs.lemmas.List.Elements.{All-from_get_or, All-get_or}
+use Rattle.gf_form.proofs.lemmas.strategies.Lookups.{zip_by_places}
 use Rattle.gf_form.proofs.lemmas.values.BottomUp.{value_is_payoff}
 use Rattle.gf_form.proofs.lemmas.values.RowSums.{fraction_at}
-use Rattle.gf_form.proofs.lemmas.values.ValuesComputed.{computed_value, value_computed}
+use Rattle.gf_form.proofs.lemmas.values.ValuesComputed.{none_computed, value_is}
 
 -- ---- numbers in turn
 
 pub zip_in_turn : {A : Type 0} (R : A → ℕ → Type 0) (d : A) (xs : List A) (first : ℕ)
     → ((k : ℕ) → k < length xs → R (get_or xs k d) (first + k))
     → AllZip R xs (numbers_from first (length xs))
-zip_in_turn R d [] first h = tt
-zip_in_turn R d (x ∷ xs) first h =
-    let here : first + 0 ≡ first = omega arith in (
-      subst (R x) here (h 0 (omega arith)),
-      zip_in_turn R d xs (first + 1) (λ k less.
-          let next : first + suc k ≡ first + 1 + k = omega arith in
-          subst (R (get_or xs k d)) next (h (suc k) (omega (arith, less)))),
-    )
+zip_in_turn R d xs first h =
+    zip_by_places R d 0 xs (numbers_from first (length xs))
+    (sym (length-numbers_from first (length xs)))
+    (λ k less. subst (R (get_or xs k d)) (sym (get_or-numbers_from first (length xs) k 0 less))
+    (h k less))
 
 all_in_turn : (P : ℕ → Type 0) (n first : ℕ) → ((k : ℕ) → k < n → P (first + k))
     → AllByRecursion P (numbers_from first n)
-all_in_turn P zero first h = tt
-all_in_turn P (suc n) first h =
-    let here : first + 0 ≡ first = omega arith in (
-      subst P here (h 0 (omega arith)),
-      all_in_turn P n (first + 1) (λ k less.
-          let next : first + suc k ≡ first + 1 + k = omega arith in
-          subst P next (h (suc k) (omega (arith, less)))),
-    )
+all_in_turn P n first h =
+    recursion_from_All P (numbers_from first n) (All-from_get_or P (numbers_from first n) 0
+    (λ k less. grind (arith, get_or-numbers_from, length-numbers_from, h)))
 
 one_in_turn : (P : ℕ → Type 0) (n first k : ℕ) → AllByRecursion P (numbers_from first n) → k < n
     → P (first + k)
-one_in_turn P (suc n) first (suc k) h less =
-    grind (arith, one_in_turn P n (first + 1) k h.1 (omega (arith, less)))
-one_in_turn P n first k h less = grind arith
+one_in_turn P n first k h less =
+    subst P (get_or-numbers_from first n k 0 less) (All-get_or P (numbers_from first n) k 0
+    (omega (arith, less, length-numbers_from first n))
+    (All-from_recursion P (numbers_from first n) h))
 
 -- ---- values and payoffs
 
@@ -51,7 +47,7 @@ module _ (g : Game) (game : IsGame g) (spellable : IsSpellable g) (choices : Set
 
   has_value : (row : List Ratio) → AreValues row → (k : ℕ) → k < length g.players
       → IsValue g choices (1 + k) g.tree (at_place row k)
-  has_value row h k less = grind (arith, computed_value)
+  has_value row h k less = grind (arith, value_is)
 
   pub are_payoffs : (row : List Ratio) → length row ≡ length g.players
       → AllByRecursion IsFraction row → AreValues row → ArePayoffs g choices row
@@ -73,11 +69,9 @@ module _ (g : Game) (game : IsGame g) (spellable : IsSpellable g) (choices : Set
 
   pub lacks_value : (k : ℕ) → k < length g.players → value g choices (suc k) g.tree ≡ None
       → HasValuesBy g choices → ⊥
-  lacks_value k less none h =
-      let v = one_in_turn HasValue (length g.players) 1 k h less in
+  lacks_value k less nothing h =
       let next : 1 + k ≡ suc k = omega arith in
-      let is = subst (λ (player : ℕ). IsValue g choices player g.tree v.0) next v.1 in
-      let some = (value_computed g spellable choices (suc k) g.tree v.0 is).0 in
-      let both : None ≡ Some v.0 = sym none ∙ some in cc
+      none_computed g spellable choices (suc k) g.tree nothing
+      (subst HasValue next (one_in_turn HasValue (length g.players) 1 k h less))
 
 pub ruleset payoff_steps = (are_payoffs, lacks_value, length-map)

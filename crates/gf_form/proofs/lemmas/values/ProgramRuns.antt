@@ -1,35 +1,28 @@
 -- The operations of a tree leave its value on the stack.
-use Rattle.gf_form.proofs.Common.{◌≡◌, ℕ, zero, suc, ◌+◌, Bool, true, false, List, [], ◌∷◌, ◌++◌}
-use Rattle.gf_form.proofs.Common.{Option, Some, None, refl, ◌∙◌, append_assoc, arith, cond, ◌==◌}
-use Rattle.gf_form.proofs.Common.{nat_eq, slice_get, if◌then◌else◌, AllByRecursion, Ratio}
-use Rattle.gf_form.proofs.Common.{zero_ratio, Tree, Trees, branch, none, more, SetKey, Game, Node}
-use Rattle.gf_form.proofs.Common.{payoff_at, chance_value, chances_at, child_value, plus_of}
-use Rattle.gf_form.proofs.Common.{times_of, value, value_over, chance_code, child_code, code}
-use Rattle.gf_form.proofs.Common.{code_over, paid, paid_at_node, run, Op, Push, Begin, Nothing}
-use Rattle.gf_form.proofs.Common.{Weigh, Pay}
+use Rattle.gf_form.proofs.Common.{◌≡◌, ℕ, zero, suc, ◌+◌, Bool, List, [], ◌∷◌, ◌++◌, Option, Some}
+use Rattle.gf_form.proofs.Common.{None, refl, ◌∙◌, append_assoc, arith, ◌==◌, nat_eq, slice_get}
+use Rattle.gf_form.proofs.Common.{if◌then◌else◌, AllByRecursion, Ratio, zero_ratio, Tree, Trees}
+use Rattle.gf_form.proofs.Common.{branch, none, more, SetKey, Game, Node, payoff_at, chance_value}
+use Rattle.gf_form.proofs.Common.{chances_at, child_value, plus_of, times_of, value, value_over}
+use Rattle.gf_form.proofs.Common.{chance_code, child_code, code, code_over, paid, paid_at_node, run}
+use Rattle.gf_form.proofs.Common.{Op, Push, Begin, Nothing, Weigh, Pay, slice_get-get_or, eqb-true}
+use Rattle.gf_form.proofs.Common.{get_or, ap, sym}
 use Rattle.std.specs.Prelude.{position}
-use Rattle.std.specs.List.{position_from}
+use Rattle.std.proofs.lemmas.List.Quantifiers.{position-Some}
 use Rattle.gf_tree.proofs.lemmas.stores.FoundKeys.{not_described}
-use Rattle.std.proofs.lemmas.Iterator.Adapters.{position_from-zero}
 
 -- ---- the payoffs of an outcome, by its position
 
-place_is : (n : ℕ) (ns : List ℕ) (start place : ℕ) → position_from (nat_eq n) start ns ≡ Some place
-    → (k : ℕ) × (start + k ≡ place) × (slice_get ns k ≡ Some n)
-place_is n [] start place h = absurd cc
-place_is n (m ∷ ns) start place h = by (nat_eq n m) refl (place_is n ns (start + 1) place) h
-  where
-    by : (b : Bool) → nat_eq n m ≡ b
-        → (position_from (nat_eq n) (start + 1) ns ≡ Some place
-        → (k : ℕ) × (start + 1 + k ≡ place) × (slice_get ns k ≡ Some n))
-        → cond b (Some start) (position_from (nat_eq n) (start + 1) ns) ≡ Some place
-        → (k : ℕ) × (start + k ≡ place) × (slice_get (m ∷ ns) k ≡ Some n)
-    by true is later e = grind arith
-    by false is later e = let r = later e in (suc r.0, omega (arith, r.1), r.2)
+place_is : (n : ℕ) (ns : List ℕ) (place : ℕ) → position (nat_eq n) ns ≡ Some place
+    → slice_get ns place ≡ Some n
+place_is n ns place h =
+    let there = position-Some (nat_eq n) ns place 0 h in
+    let same = eqb-true n (get_or ns place 0) there.1 in
+    slice_get-get_or ns place 0 there.0 ∙ ap Some (sym same)
 
 pub paid_is : (g : Game) (player : ℕ) (n : Node)
     → paid g player (paid_at_node g n) ≡ payoff_at g player n
-paid_is g player n = grind (arith, not_described, place_is, position_from-zero)
+paid_is g player n = grind (arith, not_described, place_is)
 
 -- ---- the operations of a tree
 

@@ -1,7 +1,7 @@
 use Rattle.gf_form.proofs.Common.{arith, sym, length-map, IfOk-weaker, ArePayoffsAt}
 use Rattle.gf_form.proofs.Common.{strategy_labels}
 use Rattle.gf_form.proofs.lemmas.form.FormMade.{fits_table, form_made, full_row, row_fractions}
-use Rattle.gf_form.proofs.lemmas.form.FormTables.{some_strategy}
+use Rattle.gf_form.proofs.lemmas.strategies.CountedActions.{some_strategy}
 use Rattle.gf_form.proofs.lemmas.form.Forms.{all_profiles}
 use Rattle.gf_form.proofs.strategic_form.form_with.Goals as goal
 

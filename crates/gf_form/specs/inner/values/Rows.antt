@@ -1,5 +1,5 @@
 -- Rows of numbers, one for each player. In an empty row each is zero.
-use Rattle.std.specs.Prelude.{◌≡◌, ℕ, suc, ◌<◌, List, [], ◌∷◌, get_or, length, Option, Some}
+use Rattle.std.specs.Prelude.{◌≡◌, ℕ, suc, ◌<◌, List, [], get_or, length, map, Option, Some}
 use Rattle.std.specs.Prelude.{unwrap_or}
 use Rattle.std.specs.List.{AllByRecursion}
 use Rattle.gf_fraction.specs.Ratio.{Ratio, IsFraction}
@@ -7,7 +7,6 @@ use Rattle.gf_fraction.specs.Rational.{zero_ratio}
 use Rattle.gf_token.specs.Positions.{at_position}
 use Rattle.gf_tree.specs.Game.{Game}
 use Rattle.gf_form.specs.inner.values.Program.{paid}
-use Rattle.gf_form.specs.inner.values.Values.{plus_of, times_of}
 
 -- the number at a place, from 0
 abbrev pub at_place : List Ratio → ℕ → Ratio
@@ -27,23 +26,9 @@ pub record ArePaid (g : Game) (rows : List (List Ratio)) : Type 0 where
   pub paid_is : (position k : ℕ) → at_place (row_at rows position) k ≡ paid g (suc k) position
   pub row : (position : ℕ) → IsRow (length g.players) (row_at rows position)
 
--- the values at a place of the rows on a stack, whose last row is on top
-abbrev pub column_on : ℕ → List (List Ratio) → List (Option Ratio) → List (Option Ratio)
-column_on k [] below = below
-column_on k (row ∷ rows) below = column_on k rows (Some (at_place row k) ∷ below)
-
+-- the values at a place of rows
 abbrev pub column : ℕ → List (List Ratio) → List (Option Ratio)
-column k rows = column_on k rows []
+column k rows = map (λ row. Some (at_place row k)) rows
 
 abbrev pub AreRows : ℕ → List (List Ratio) → Type 0
 AreRows players rows = AllByRecursion (IsRow players) rows
-
--- the value on top, times a probability, was added to the sum below it
-abbrev pub WeighsTo : Ratio → List (Option Ratio) → List (Option Ratio) → Type 0
-WeighsTo chance (value ∷ sum ∷ below) new = new ≡ plus_of sum (times_of chance value) ∷ below
-WeighsTo chance _ new = ⊥
-
--- this was added to the value on top
-abbrev pub PaysTo : Ratio → List (Option Ratio) → List (Option Ratio) → Type 0
-PaysTo payoff (value ∷ below) new = new ≡ plus_of (Some payoff) value ∷ below
-PaysTo payoff [] new = ⊥

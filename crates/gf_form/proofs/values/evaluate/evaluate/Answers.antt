@@ -1,7 +1,8 @@
 use Rattle.gf_form.proofs.Common.{suc, [], arith, map, append-nil, code_left, choices_by}
+use Rattle.gf_form.proofs.Common.{length-map}
 use Rattle.gf_form.specs.declared.fault.EvalFault.TheVariants.{Overflow}
 use Rattle.gf_form.proofs.lemmas.values.ProgramRuns.{code_runs}
-use Rattle.gf_form.proofs.lemmas.values.Stacks.{column_last, counted, enough, last_row, same_fault}
+use Rattle.gf_form.proofs.lemmas.values.Stacks.{enough, same_fault}
 use Rattle.gf_form.proofs.values.evaluate.evaluate.Goals as goal
 
 pub loop-walk-init : goal.loop-walk-init
@@ -16,7 +17,7 @@ loop-walk-init c =
     )
 
 pub step-requires-clause-shape : goal.step-requires-clause-shape
-step-requires-clause-shape c = grind (arith, enough, counted, c.loop-walk.invariant.1 0)
+step-requires-clause-shape c = grind (arith, enough, length-map, c.loop-walk.invariant.1 0)
 
 pub returns-in-Err-clause-overflow : goal.returns-in-Err-clause-overflow
 returns-in-Err-clause-overflow c h =
@@ -28,10 +29,10 @@ returns-in-Err-clause-overflow c h =
     (o.0, r.0, r.1 (code_left c.next.new.self) _ (rw left at run))
 
 pub pop-requires : goal.pop-requires
-pop-requires c = grind (arith, counted, c.loop-walk.invariant.1 0)
+pop-requires c = grind (arith, length-map, c.loop-walk.invariant.1 0)
 
 pub returns-clause-row : goal.returns-clause-row
-returns-clause-row c = (last_row _ _ c.pop.ensures.0 _ c.pop.ensures.1 c.loop-walk.invariant.0).1
+returns-clause-row c = (rw c.pop.ensures at c.loop-walk.invariant.0).0
 
 pub returns-clause-values : goal.returns-clause-values
-returns-clause-values c = grind (arith, column_last)
+returns-clause-values c = grind (arith, c.pop.ensures)

@@ -1,6 +1,5 @@
-use Rattle.gf_form.proofs.Common.{on_ok_weaker, arith}
+use Rattle.gf_form.proofs.Common.{on_ok_weaker, suc, sym, ◌∙◌}
 use Rattle.gf_form.proofs.lemmas.values.ProgramRuns.{stays_undefined}
-use Rattle.gf_form.proofs.lemmas.values.Stacks.{pay_runs, weigh_runs}
 use Rattle.gf_form.proofs.values.evaluate.step.Goals as goal
 
 pub returns-in-Weigh-clause-rows : goal.returns-in-Weigh-clause-rows
@@ -13,8 +12,7 @@ returns-in-Weigh-clause-overflow c h =
       o.0,
       λ g paid are some. (
         o.2 _ are,
-        λ ops v e. grind
-            (arith, stays_undefined, weigh_runs, o.3),
+        λ ops v e. stays_undefined g (suc o.0) ops o.1 v (sym (o.3 g ops) ∙ rw c.in-Weigh.is at e),
       ),
     )
 
@@ -29,6 +27,7 @@ returns-in-Pay-clause-overflow c h =
       o.0,
       λ g paid are some. (
         o.2 _ (rw c.at-in-Pay.ensures (paid.row c.in-Pay.outcome)),
-        λ ops v e. grind (arith, stays_undefined, pay_runs, o.3, c.at-in-Pay.ensures),
+        λ ops v e. stays_undefined g (suc o.0) ops o.1 v (sym (o.3 g _ ops (rw c.at-in-Pay.ensures
+            (paid.paid_is c.in-Pay.outcome o.0))) ∙ rw c.in-Pay.is at e),
       ),
     )
