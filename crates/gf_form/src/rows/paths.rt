@@ -4,9 +4,8 @@
 //! always is, and that of a player's node without an outcome is the value of a child. So a path is
 //! idle there: it starts anew at the next node whose value is a sum, if there is one.
 
-ghost use Rattle.std.specs.Prelude.{◌≡◌, ◌≤◌, ◌++◌, [], ◌∷◌, None, length, map, unwrap_or};
+ghost use Rattle.std.specs.Prelude.{◌≡◌, ◌≤◌, ◌++◌, [], ◌∷◌, None, length, map};
 ghost use Rattle.std.specs.Prelude.{IfOk, MatchOption, OnErr, OnOk, vec_capacity, vec_len};
-ghost use Rattle.gf_token.specs.Positions.{at_position};
 ghost use Rattle.gf_tree.specs.Branches.{game_of, tree_of};
 ghost use Rattle.gf_tree.specs.Subtrees.{child_trees, root_node};
 ghost use Rattle.gf_form.specs.inner.rows.PathsLeft.{nodes_behind, nodes_beneath, nodes_by};
@@ -14,10 +13,10 @@ ghost use Rattle.gf_form.specs.inner.rows.PathsLeft.{nodes_left};
 ghost use Rattle.gf_form.specs.inner.rows.PathsLeft.{open_nodes, steps_of_paths, taken, turns_left};
 ghost use Rattle.gf_form.specs.inner.rows.ReachedNodes.{by_chance, by_choice, is_sum, met_node};
 ghost use Rattle.gf_form.specs.inner.rows.ReachedNodes.{reached, root_path};
-ghost use Rattle.gf_form.specs.Strategies.{choices_by, strategy_at};
+ghost use Rattle.gf_form.specs.Strategies.{choices_by};
 
 use crate::rows::digits::{Digits, demanded};
-use crate::values::walk::chance_of;
+use crate::values::walk::{at_set, chance_of};
 use gf_fraction::Fraction;
 use gf_tree::{Branch, Branches, Game};
 use std::alloc::{AllocError, Global};
@@ -170,24 +169,6 @@ pub(crate) struct Paths<'d, 'g, 'a> {
     open: Vec<Open<'g, 'a>>,
 }
 
-/// The step of the digit at a set of a player, by the position of the set among his.
-#[tactic(auto, using(crate::proofs::lemmas::values::Walks::choice_steps))]
-fn step_at(steps: &[Vec<u64>], player: u32, position: u32) -> u64
-    ensures { result ≡ unwrap_or (at_position
-        (strategy_at (map (λ own. own.items) steps.now) player) position) 0 }
-{
-    if player == 0 || position == 0 {
-        return 0;
-    }
-    match steps.get(player as usize - 1) {
-        Some(own) => match own.get(position as usize - 1) {
-            Some(step) => *step,
-            None => 0,
-        },
-        None => 0,
-    }
-}
-
 impl<'d, 'g, 'a> Paths<'d, 'g, 'a> {
     /// A walk through the whole tree of a game.
     pub(crate) fn new(alloc: Global, game: &'g Game<'a>, digits: &'d Digits) -> Paths<'d, 'g, 'a>
@@ -299,7 +280,7 @@ impl<'d, 'g, 'a> Paths<'d, 'g, 'a> {
             })?;
             return Ok(());
         }
-        let step = step_at(&self.digits.steps, player, position);
+        let step = at_set(&self.digits.steps, player, position).unwrap_or(0);
         self.follow(branch, path, step)
     }
 

@@ -44,22 +44,16 @@ pub(crate) struct Walk<'c, 'g, 'a> {
     open: Vec<Open<'g, 'a>>,
 }
 
-/// The action that is chosen at a set of a player, by the position of the set among his.
+/// What is given for a set of a player, by the position of the set among his.
 #[tactic(auto, using(crate::proofs::lemmas::values::Walks::choice_steps))]
-fn choice_of(choices: &[Vec<u32>], player: u32, position: u32) -> u32
-    ensures { result ≡ unwrap_or (at_position
-        (strategy_at (map (λ own. own.items) choices.now) player) position) 0 }
+pub(crate) fn at_set<T: Copy>(all: &[Vec<T>], player: u32, position: u32) -> Option<T>
+    ensures { result ≡ at_position (strategy_at (map (λ own. own.items) all.now) player) position }
 {
     if player == 0 || position == 0 {
-        return 0;
+        return None;
     }
-    match choices.get(player as usize - 1) {
-        Some(own) => match own.get(position as usize - 1) {
-            Some(action) => *action,
-            None => 0,
-        },
-        None => 0,
-    }
+    let own = all.get(player as usize - 1)?;
+    own.get(position as usize - 1).copied()
 }
 
 /// The probability of the action at this position, or one if a player moves.
@@ -134,7 +128,7 @@ impl<'c, 'g, 'a> Walk<'c, 'g, 'a> {
         // It fails only if there was no room.
         ensures full { OnErr result (vec_capacity self.old.«open» ≤ vec_len self.old.«open») }
     {
-        let choice = choice_of(self.choices, player, position);
+        let choice = at_set(self.choices, player, position).unwrap_or(0);
         self.open.push(Open::Payoffs(node.outcome_position()))?;
         match node.child(choice as usize) {
             Some(child) => {

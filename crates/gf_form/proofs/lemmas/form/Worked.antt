@@ -86,20 +86,7 @@ paid n r h above crosswise = (small n h, equal (whole (pos n)) r refl above cros
 
 pub form_of_ending : IsStrategicForm ending ending_form
 unfolding digits
-form_of_ending = record {
-  title = refl;
-  comment = refl;
-  players = refl;
-  strategies = refl;
-  profiles = refl;
-  payoffs = (
-    (paid 1 _ (omega arith) refl refl, tt),
-    (
-      (paid 1 _ (omega arith) refl refl, tt),
-      ((paid 2 _ (omega arith) refl refl, tt), ((paid 3 _ (omega arith) refl refl, tt), tt)),
-    ),
-  );
-}
+form_of_ending = grind (arith, equal, small)
 
 -- ---- its reduced form
 

@@ -1,78 +1,25 @@
 -- Games that are the same have the same plays except for their numbers, and so the same reduced
 -- strategies and the same reduced form.
-use Rattle.gf_form.proofs.Common.{arith, ◌≡◌, ℕ, ◌+◌, Bool, true, false, List, [], ◌∷◌, Option}
-use Rattle.gf_form.proofs.Common.{Some, None, map, refl, ap, ◌∙◌, ◌↔◌, ◌==◌, ◌&&◌, ◌||◌, not}
-use Rattle.gf_form.proofs.Common.{option_map, zip, if◌then◌else◌, AllByRecursion, Contains}
-use Rattle.gf_form.proofs.Common.{list_any, option_map_or, pointwise, map-append, Ratio, all_both}
-use Rattle.gf_form.proofs.Common.{all_images, all_parts, all_weaker, Table, Tree, Trees, map_tree}
-use Rattle.gf_form.proofs.Common.{map_trees, branch, none, more, flatten, flatten_all, SetKey}
-use Rattle.gf_form.proofs.Common.{same_set, first_uses, player_keys, Node, Game, IsGame, used_sets}
-use Rattle.gf_form.proofs.Common.{Renumbering, IsRenumbering, renumbered_set, renumbered_node}
-use Rattle.gf_form.proofs.Common.{renumbered, SameGame, carried_is_renumbered, same_tests, held}
-use Rattle.gf_form.proofs.Common.{map_same, map_twice, sets_apart, same_back, same_set_equality}
-use Rattle.gf_form.proofs.Common.{Has, all_of_each, Step, Play, from_node, plays, plays_from}
+use Rattle.gf_form.proofs.Common.{arith, ◌≡◌, ℕ, Bool, true, false, List, [], ◌∷◌, Option, Some}
+use Rattle.gf_form.proofs.Common.{None, map, refl, ap, ◌∙◌, ◌↔◌, ◌==◌, ◌&&◌, ◌||◌, not, option_map}
+use Rattle.gf_form.proofs.Common.{zip, if◌then◌else◌, AllByRecursion, Contains, list_any}
+use Rattle.gf_form.proofs.Common.{option_map_or, pointwise, Ratio, all_weaker, Table, flatten}
+use Rattle.gf_form.proofs.Common.{SetKey, same_set, first_uses, player_keys, Node, Game, IsGame}
+use Rattle.gf_form.proofs.Common.{used_sets, Renumbering, IsRenumbering, renumbered_set}
+use Rattle.gf_form.proofs.Common.{renumbered_node, renumbered, SameGame, carried_is_renumbered}
+use Rattle.gf_form.proofs.Common.{same_tests, held, map_same, map_twice, sets_apart, same_back}
+use Rattle.gf_form.proofs.Common.{same_set_equality, Has, all_of_each, Step, plays}
 use Rattle.gf_form.proofs.Common.{AreReducedPayoffsAt, comes_to, IsReducedForm, is_relevant}
 use Rattle.gf_form.proofs.Common.{reduced, reduced_at, reduced_by, reduced_profiles}
 use Rattle.gf_form.proofs.Common.{reduced_strategies, same_choice, HasReducedValues}
 use Rattle.gf_form.proofs.Common.{ReducedOverflowsAt, choice_at, full_profiles, strategies}
 use Rattle.gf_tree.specs.PrefixOrder.{Entry}
+use Rattle.gf_form.proofs.lemmas.values.Alike.{OnPlay, OnSteps, carried_step, on_plays}
+use Rattle.gf_form.proofs.lemmas.values.Alike.{plays_carried}
 use Rattle.gf_form.proofs.lemmas.form.SameForms.{key_used, keys_carried, players_too, right_too}
 use Rattle.gf_form.proofs.lemmas.form.SameForms.{same_strategies_at, strategies_carried}
 use Rattle.gf_form.proofs.lemmas.form.SameForms.{strategy_carried}
 use Rattle.gf_form.proofs.lemmas.form.SameRefusals.{first_too, same_profiles, values_too}
-
--- ---- plays
-
--- the same steps, by other nodes
-abbrev carried_step : (Node → Node) → Step → Step
-carried_step f s = record { node = f s.node; taken = s.taken }
-
-abbrev carried_play : (Node → Node) → Play → Play
-carried_play f p = record { steps = map (carried_step f) p.steps; leaf = f p.leaf }
-
-mutual
-  plays_carried : (f : Node → Node) (t : Tree Node)
-      → plays (map_tree f t) ≡ map (carried_play f) (plays t)
-  plays_carried f (branch n none) = refl
-  plays_carried f (branch n (more t ts)) = children_carried f n 1 (more t ts)
-
-  children_carried : (f : Node → Node) (n : Node) (k : ℕ) (ts : Trees Node)
-      → plays_from (f n) k (map_trees f ts) ≡ map (carried_play f) (plays_from n k ts)
-  children_carried f n k none = refl
-  children_carried f n k (more t ts) =
-      grind (
-        arith,
-        plays_carried f t,
-        children_carried f n (k + 1) ts,
-        map_twice,
-        map-append,
-      )
-
--- what holds for the nodes of a tree holds for those on its plays
-module _ (P : Node → Type 0) where
-  abbrev OnSteps : List Step → Type 0
-  OnSteps steps = AllByRecursion (λ s. P s.node) steps
-
-  abbrev OnPlay : Play → Type 0
-  OnPlay p = OnSteps p.steps
-
-  mutual
-    on_plays : (t : Tree Node) → AllByRecursion (λ e. P e.node) (flatten t)
-        → AllByRecursion OnPlay (plays t)
-    on_plays (branch n none) h = (tt, tt)
-    on_plays (branch n (more t ts)) h = on_children (more t ts) n 1 h.0 h.1
-
-    on_children : (ts : Trees Node) (n : Node) (k : ℕ) → P n
-        → AllByRecursion (λ e. P e.node) (flatten_all ts)
-        → AllByRecursion OnPlay (plays_from n k ts)
-    on_children none n k here h = tt
-    on_children (more t ts) n k here h =
-        let both = all_parts (λ (e : Entry Node). P e.node) (flatten t) (flatten_all ts) h in
-        all_both OnPlay (map (from_node n k) (plays t)) (plays_from n (k + 1) ts)
-        (all_images OnPlay (from_node n k) (plays t)
-        (all_weaker OnPlay (λ p. OnPlay (from_node n k p)) (λ p steps. (here, steps)) (plays t)
-        (on_plays t both.0)))
-        (on_children ts n (k + 1) here both.1)
 
 any_carried : {X Y : Type 0} (f : X → Y) (p : Y → Bool) (q : X → Bool) (P : X → Type 0)
     → ((x : X) → P x → p (f x) ≡ q x) → (xs : List X) → AllByRecursion P xs

@@ -1,36 +1,71 @@
 -- Trees whose nodes are alike, each to its image, in what is chosen, how probable it is and what it
 -- pays: they have the same payoff, and the same bottom-up value.
-use Rattle.gf_form.proofs.Common.{◌≡◌, ℕ, zero, suc, ◌+◌, Bool, List, ◌++◌, arith, Option, Some}
-use Rattle.gf_form.proofs.Common.{None, map, refl, sym, ap, ◌∙◌, subst, ◌==◌, ◌&&◌, filter}
-use Rattle.gf_form.proofs.Common.{MatchOption, MatchBool, AllByRecursion, map-append, Ratio, plus}
-use Rattle.gf_form.proofs.Common.{times, total, zero_ratio, AddsTo, MultipliesTo, all_parts, Tree}
-use Rattle.gf_form.proofs.Common.{Trees, map_tree, map_trees, branch, none, more, flatten}
-use Rattle.gf_form.proofs.Common.{flatten_all, SetKey, Node, Game, map_twice, filter_of_map, Step}
-use Rattle.gf_form.proofs.Common.{Play, from_node, plays, plays_from, is_chosen, follows}
-use Rattle.gf_form.proofs.Common.{probability, payoff_at, play_probability, play_payoff, payoff}
-use Rattle.gf_form.proofs.Common.{IsValue, IsChanceValue, IsChildValue}
+use Rattle.gf_form.proofs.Common.{◌≡◌, ℕ, zero, suc, ◌+◌, List, arith, Option, Some, None, map}
+use Rattle.gf_form.proofs.Common.{refl, sym, ap, ◌∙◌, subst, ◌==◌, ◌&&◌, filter, MatchOption}
+use Rattle.gf_form.proofs.Common.{MatchBool, AllByRecursion, map-append, Ratio, plus, times, total}
+use Rattle.gf_form.proofs.Common.{zero_ratio, AddsTo, MultipliesTo, all_parts, Tree, Trees}
+use Rattle.gf_form.proofs.Common.{map_tree, map_trees, branch, none, more, flatten, flatten_all}
+use Rattle.gf_form.proofs.Common.{SetKey, Node, Game, map_twice, Step, Play, from_node, plays}
+use Rattle.gf_form.proofs.Common.{plays_from, is_chosen, follows, probability, payoff_at}
+use Rattle.gf_form.proofs.Common.{play_probability, play_payoff, payoff, IsValue, IsChanceValue}
+use Rattle.gf_form.proofs.Common.{IsChildValue, [], ◌∷◌, all_both, all_images, all_weaker, list_all}
+use Rattle.gf_fraction.specs.Rational.{ratio_product}
 use Rattle.gf_tree.specs.PrefixOrder.{Entry}
 
--- whether a play is followed, how probable it is, and what it pays
-record View : Type 0 where
-  followed : Bool
-  chance : Ratio
-  paid : Ratio
+-- ---- plays by other nodes
 
-view : Game → (SetKey → ℕ) → ℕ → Play → View
-view g choices player play = record {
-  followed = follows choices play;
-  chance = play_probability g play;
-  paid = play_payoff g player play;
-}
+-- the same steps, by other nodes
+abbrev pub carried_step : (Node → Node) → Step → Step
+carried_step f s = record { node = f s.node; taken = s.taken }
 
--- and from a parent on
-from_parent : Bool → Ratio → Ratio → View → View
-from_parent chosen q own v =
-    record { followed = chosen && v.followed; chance = times q v.chance; paid = plus own v.paid }
+abbrev pub carried_play : (Node → Node) → Play → Play
+carried_play f p = record { steps = map (carried_step f) p.steps; leaf = f p.leaf }
 
-pays_by : List View → Ratio
-pays_by vs = total (map (λ v. times v.chance v.paid) (filter (λ v. v.followed) vs))
+mutual
+  pub plays_carried : (f : Node → Node) (t : Tree Node)
+      → plays (map_tree f t) ≡ map (carried_play f) (plays t)
+  plays_carried f (branch n none) = refl
+  plays_carried f (branch n (more t ts)) = children_carried f n 1 (more t ts)
+
+  children_carried : (f : Node → Node) (n : Node) (k : ℕ) (ts : Trees Node)
+      → plays_from (f n) k (map_trees f ts) ≡ map (carried_play f) (plays_from n k ts)
+  children_carried f n k none = refl
+  children_carried f n k (more t ts) =
+      grind (
+        arith,
+        plays_carried f t,
+        children_carried f n (k + 1) ts,
+        map_twice,
+        map-append,
+      )
+
+-- what holds for the nodes of a tree holds for those on its plays
+module _ (P : Node → Type 0) where
+  abbrev pub OnSteps : List Step → Type 0
+  OnSteps steps = AllByRecursion (λ s. P s.node) steps
+
+  abbrev pub OnPlay : Play → Type 0
+  OnPlay p = OnSteps p.steps × P p.leaf
+
+  mutual
+    pub on_plays : (t : Tree Node) → AllByRecursion (λ e. P e.node) (flatten t)
+        → AllByRecursion OnPlay (plays t)
+    on_plays (branch n none) h = ((tt, h.0), tt)
+    on_plays (branch n (more t ts)) h = on_children (more t ts) n 1 h.0 h.1
+
+    on_children : (ts : Trees Node) (n : Node) (k : ℕ) → P n
+        → AllByRecursion (λ e. P e.node) (flatten_all ts)
+        → AllByRecursion OnPlay (plays_from n k ts)
+    on_children none n k here h = tt
+    on_children (more t ts) n k here h =
+        let both = all_parts (λ (e : Entry Node). P e.node) (flatten t) (flatten_all ts) h in
+        all_both OnPlay (map (from_node n k) (plays t)) (plays_from n (k + 1) ts)
+        (all_images OnPlay (from_node n k) (plays t)
+        (all_weaker OnPlay (λ p. OnPlay (from_node n k p)) (λ p on. ((here, on.0), on.1)) (plays t)
+        (on_plays t both.0)))
+        (on_children ts n (k + 1) here both.1)
+
+-- ---- payoffs
 
 module _ (g h : Game) (c d : SetKey → ℕ) (player : ℕ) (f : Node → Node) where
   pub record IsAlike (n : Node) : Type 0 where
@@ -45,58 +80,45 @@ module _ (g h : Game) (c d : SetKey → ℕ) (player : ℕ) (f : Node → Node) 
   abbrev pub AreAlike : List (Entry Node) → Type 0
   AreAlike es = AllByRecursion (λ e. IsAlike e.node) es
 
-  child_views : (n : Node) (k : ℕ) (ps qs : List Play) → IsAlike n → map (view h d player) qs
-      ≡ map (view g c player) ps → map (view h d player) (map (from_node (f n) k) qs)
-      ≡ map (view g c player) (map (from_node n k) ps)
-  unfolding view from_parent
-  child_views n k ps qs a e =
-      let s : Step = record { node = n; taken = k } in
-      let t : Step = record { node = f n; taken = k } in
-      map_twice (view h d player) (from_node (f n) k) qs
-      ∙ sym (map_twice (from_parent (is_chosen d t) (probability h t) (payoff_at h player (f n)))
-      (view h d player) qs)
-      ∙ (λ i. map (from_parent (a.chosen k i) (a.chance k i) (a.pays i)) (e i))
-      ∙ map_twice (from_parent (is_chosen c s) (probability g s) (payoff_at g player n))
-      (view g c player) ps
-      ∙ sym (map_twice (view g c player) (from_node n k) ps)
+  followed_alike : (steps : List Step) → OnSteps IsAlike steps
+      → list_all (is_chosen d) (map (carried_step f) steps) ≡ list_all (is_chosen c) steps
+  followed_alike [] all = refl
+  followed_alike (s ∷ steps) all =
+      λ i. all.0.chosen s.taken i && followed_alike steps all.1 i
 
-  leaf_view : (n : Node) → IsAlike n → map (view h d player) (plays (map_tree f (branch n none)))
-      ≡ map (view g c player) (plays (branch n none))
-  unfolding view
-  leaf_view n a = cc a.pays
+  chance_alike : (steps : List Step) → OnSteps IsAlike steps
+      → ratio_product (map (probability h) (map (carried_step f) steps))
+      ≡ ratio_product (map (probability g) steps)
+  chance_alike [] all = refl
+  chance_alike (s ∷ steps) all =
+      λ i. times (all.0.chance s.taken i) (chance_alike steps all.1 i)
 
-  mutual
-    tree_views : (t : Tree Node) → AreAlike (flatten t)
-        → map (view h d player) (plays (map_tree f t)) ≡ map (view g c player) (plays t)
-    tree_views (branch n none) a = leaf_view n a.0
-    tree_views (branch n (more t ts)) a = children_views (more t ts) n 1 a.0 a.1
+  paid_alike : (steps : List Step) (leaf : Node) → OnSteps IsAlike steps → IsAlike leaf
+      → play_payoff h player (carried_play f (record { steps = steps; leaf = leaf }))
+      ≡ play_payoff g player (record { steps = steps; leaf = leaf })
+  paid_alike [] leaf all is = λ i. plus (is.pays i) zero_ratio
+  paid_alike (s ∷ steps) leaf all is =
+      λ i. plus (all.0.pays i) (paid_alike steps leaf all.1 is i)
 
-    children_views : (ts : Trees Node) (n : Node) (k : ℕ) → IsAlike n → AreAlike (flatten_all ts)
-        → map (view h d player) (plays_from (f n) k (map_trees f ts))
-        ≡ map (view g c player) (plays_from n k ts)
-    children_views none n k a all = refl
-    children_views (more t ts) n k a all =
-        let both = all_parts (λ e. IsAlike e.node) (flatten t) (flatten_all ts) all in
-        map-append (view h d player) (map (from_node (f n) k) (plays (map_tree f t)))
-        (plays_from (f n) (k + 1) (map_trees f ts))
-        ∙ (λ i. child_views n k (plays t) (plays (map_tree f t)) a (tree_views t both.0) i
-        ++ children_views ts n (k + 1) a both.1 i)
-        ∙ sym
-        (map-append (view g c player) (map (from_node n k) (plays t)) (plays_from n (k + 1) ts))
+  abbrev worth : Game → List Play → Ratio
+  worth game ps =
+      total (map (λ play. times (play_probability game play) (play_payoff game player play)) ps)
 
-payoff_by_views : (g : Game) (c : SetKey → ℕ) (player : ℕ)
-    → payoff g c player ≡ pays_by (map (view g c player) (plays g.tree))
-unfolding view pays_by
-payoff_by_views g c player =
-    ap total (sym (ap (map (λ v. times v.chance v.paid))
-    (filter_of_map (λ v. v.followed) (follows c) (view g c player) (plays g.tree) (λ p i. refl))
-    ∙ map_twice (λ (v : View). times v.chance v.paid) (view g c player)
-    (filter (follows c) (plays g.tree))))
+  sum_alike : (ps : List Play) → AllByRecursion (OnPlay IsAlike) ps
+      → worth h (filter (follows d) (map (carried_play f) ps)) ≡ worth g (filter (follows c) ps)
+  sum_alike [] all = refl
+  sum_alike (p ∷ ps) all =
+      let followed = followed_alike p.steps all.0.0 in
+      let chance = chance_alike p.steps all.0.0 in
+      let paid = paid_alike p.steps p.leaf all.0.0 all.0.1 in
+      grind (arith, followed, chance, paid, sum_alike ps all.1)
 
-pub same_payoff : (g h : Game) (c d : SetKey → ℕ) (player : ℕ) (f : Node → Node)
-    → h.tree ≡ map_tree f g.tree → AreAlike g h c d player f (flatten g.tree)
-    → payoff h d player ≡ payoff g c player
-same_payoff g h c d player f tree a = grind (arith, payoff_by_views, tree, tree_views)
+  pub same_payoff : h.tree ≡ map_tree f g.tree → AreAlike (flatten g.tree)
+      → payoff h d player ≡ payoff g c player
+  same_payoff tree a =
+      ap (λ t. worth h (filter (follows d) (plays t))) tree
+      ∙ ap (λ ps. worth h (filter (follows d) ps)) (plays_carried f g.tree)
+      ∙ sum_alike (plays g.tree) (on_plays IsAlike g.tree a)
 
 -- ---- bottom-up values
 

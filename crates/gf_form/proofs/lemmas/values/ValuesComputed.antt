@@ -70,14 +70,7 @@ next_agrees p sum fp fs P Q o later agree stays v rest =
   where
     to : ((x y next : Ratio) × P x × MultipliesTo p x y × AddsTo sum y next × Q next v)
         → later (plus_of (Some sum) (times_of p o)) ≡ Some v
-    to h =
-        let x = agree h.0 in
-        cc (
-          x.1.0 h.3,
-          (product_agrees p h.0 h.1 fp (x.0 h.3)).1.0 h.4,
-          (sum_agrees sum h.1 h.2 fs h.4.0).1.0 h.5,
-          (rest h.2 h.5.1).1.0 h.6,
-        )
+    to h = grind (arith, product_agrees, sum_agrees, agree h.0, rest h.2 h.5.1)
 
     from : (s : Option Ratio) → plus_of (Some sum) (times_of p o) ≡ s → later s ≡ Some v
         → (x y next : Ratio) × P x × MultipliesTo p x y × AddsTo sum y next × Q next v

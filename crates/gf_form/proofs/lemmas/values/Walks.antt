@@ -95,28 +95,28 @@ pub no_action : (held : List Held) (position : ℕ) → ¬ (position ≡ 0)
     → length held ≤ position - 1 → at_position (actions_of held) position ≡ None
 no_action held position some past = grind (arith, at_index, slice_get-map, slice_get_past)
 
--- ---- if a player has no strategy
+-- ---- what is given for a player's set
 
-pub no_strategy : (choices : List (Vec ℕ Global)) (player position : ℕ) → ¬ (player ≡ 0)
-    → length choices ≤ player - 1
-    → unwrap_or (at_position (strategy_at (map (λ own. own.items) choices) player) position) 0 ≡ 0
-no_strategy choices player position some past =
+pub no_list : {A : Type 0} (all : List (Vec A Global)) (player position : ℕ) → ¬ (player ≡ 0)
+    → length all ≤ player - 1
+    → at_position (strategy_at (map (λ own. own.items) all) player) position ≡ None
+no_list all player position some past =
     grind (arith, at_index, slice_get_past, append_assoc, length-map, length-append, eq-eqb)
 
-pub action_there : (choices : List (Vec ℕ Global)) (player position : ℕ)
-    (own : Vec ℕ Global) (items : List ℕ) (action : ℕ) → ¬ (player ≡ 0) → ¬ (position ≡ 0)
-    → player - 1 < length choices → own ≡ get_or choices (player - 1) own → items ≡ own.items
-    → position - 1 < length items → action ≡ get_or items (position - 1) action → action
-    ≡ unwrap_or (at_position (strategy_at (map (λ own. own.items) choices) player) position) 0
-action_there choices player position own items action some at within is are inside here =
-    grind (arith, are, is, at_index, slice_get-map, slice_get-get_or, here)
+pub item_there : {A : Type 0} (all : List (Vec A Global)) (player position : ℕ) (own : Vec A Global)
+    (item : A) → ¬ (player ≡ 0) → ¬ (position ≡ 0) → player - 1 < length all
+    → own ≡ get_or all (player - 1) own → position - 1 < length own.items
+    → item ≡ get_or own.items (position - 1) item
+    → at_position (strategy_at (map (λ own. own.items) all) player) position ≡ Some item
+item_there all player position own item some at within is inside here =
+    grind (arith, is, at_index, slice_get-map, slice_get-get_or, here)
 
-pub nothing_there : (choices : List (Vec ℕ Global)) (player position : ℕ) (own : Vec ℕ Global)
-    (items : List ℕ) → ¬ (player ≡ 0) → ¬ (position ≡ 0) → player - 1 < length choices
-    → own ≡ get_or choices (player - 1) own → items ≡ own.items → length items ≤ position - 1
-    → unwrap_or (at_position (strategy_at (map (λ own. own.items) choices) player) position) 0 ≡ 0
-nothing_there choices player position own items some at within is are past =
-    grind (arith, are, is, at_index, slice_get-map, slice_get-get_or, slice_get_past)
+pub nothing_there : {A : Type 0} (all : List (Vec A Global)) (player position : ℕ)
+    (own : Vec A Global) → ¬ (player ≡ 0) → ¬ (position ≡ 0) → player - 1 < length all
+    → own ≡ get_or all (player - 1) own → length own.items ≤ position - 1
+    → at_position (strategy_at (map (λ own. own.items) all) player) position ≡ None
+nothing_there all player position own some at within is past =
+    grind (arith, is, at_index, slice_get-map, slice_get-get_or, slice_get_past)
 
 -- ---- the child that is followed
 
@@ -145,7 +145,7 @@ child_smaller (branch n ts) child position h = grind (arith, listed_smaller)
 
 -- ---- what the steps of the code need
 
-pub ruleset choice_steps = (no_strategy, action_there, nothing_there)
+pub ruleset choice_steps = (no_list, item_there, nothing_there)
 
 pub ruleset walk_steps = (opened_last, followed, not_followed, child_smaller)
 
