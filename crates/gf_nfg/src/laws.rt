@@ -50,6 +50,7 @@ pub fn limit_by_files()
 {}
 
 /// Files mean exactly the tables whose labels can be spelled and whose payoffs are fractions.
+#[tactic(auto, using(crate::proofs::lemmas::texts::OneTable::tables_of_files))]
 pub fn tables_of_files()
     ensures { (t : Table) → ((bytes : List ℕ) × SpellsTable bytes t) ↔ (IsTable t × IsSpellable t) }
 {}
@@ -64,6 +65,7 @@ pub fn text_reads_back()
 
 /// The profiles of players with this many strategies each are all choices of one strategy for each
 /// player, each once and at its place.
+#[tactic(auto, using(crate::proofs::lemmas::tables::Profiles::profile_laws))]
 pub fn every_profile()
     ensures each_choice { (counts profile : List ℕ)
         → Contains (profiles counts) profile ↔ IsProfile counts profile }
@@ -73,6 +75,7 @@ pub fn every_profile()
 
 /// If each table has an entry for each profile in turn, tables that are the same are equal, and
 /// tables that play alike have the same rows.
+#[tactic(auto, using(crate::proofs::lemmas::tables::Same::same_tables))]
 pub fn same_is_equal()
     ensures tables { (t u : Table) → IsTable t → IsTable u → SameTable t u ↔ (t ≡ u) }
     ensures play { (t u : Table) → IsTable t → IsTable u → SamePlay t u

@@ -104,6 +104,7 @@ impl<'a> Reader<'a> {
     }
 
     /// Tells the heading, whose last token is at this place.
+    #[tactic(auto, using(crate::proofs::lemmas::runs::ReaderSteps::body_told))]
     fn tell_heading<R: Receive<'a>>(
         &self,
         version: Version,
@@ -128,6 +129,7 @@ impl<'a> Reader<'a> {
     }
 
     /// Reads and tells the payoffs of the players at each profile, to the end.
+    #[tactic(auto, using(crate::proofs::lemmas::runs::ReaderSteps::told_ends))]
     fn tell_payoffs<R: Receive<'a>>(&mut self, to: &mut R) -> Result<(), Fault>
         ensures { (untold : R)
             → R.holds untold to.old (told_heading version.Payoffs self.old.heading)
@@ -143,6 +145,7 @@ impl<'a> Reader<'a> {
 
     /// Reads and tells the outcomes, after their opening brace, and the number of one at each
     /// profile, to the end.
+    #[tactic(auto, using(crate::proofs::lemmas::runs::ReaderSteps::told_ends))]
     fn tell_outcomes<R: Receive<'a>>(&mut self, to: &mut R) -> Result<(), Fault>
         ensures { (untold : R)
             → R.holds untold to.old (told_heading version.Outcomes self.old.heading)

@@ -101,6 +101,7 @@ impl Table {
 
     /// The table of these parts, as `new` makes it. The payoffs are not copied, nor are the labels
     /// of the strategies if there is only one player.
+    #[tactic(auto, using(crate::proofs::lemmas::tables::Made::made_of_labels))]
     pub fn with_labels(
         alloc: Global,
         title: Label<'_>,
@@ -137,6 +138,7 @@ impl Table {
     }
 
     /// Everything except the payoffs.
+    #[tactic(auto, using(crate::proofs::lemmas::tables::Rows::is_table))]
     pub(crate) fn names(&self) -> &Names
         ensures is_table { IsTable self.now }
         ensures spellable { IsSpellable self.now }
@@ -218,6 +220,7 @@ impl Table {
     /// profile one entry with one payoff for each player (`is_table`); its labels can be spelled,
     /// and its payoffs are fractions (`spellable`); and it is within the limit of profiles
     /// (`within`).
+    #[tactic(auto, using(crate::proofs::lemmas::tables::Rows::is_table))]
     pub fn profiles(&self) -> u32
         ensures number { result ≡ length self.now.entries }
         ensures is_table { IsTable self.now }

@@ -1,4 +1,3 @@
-pub mod AllBytes
 pub mod DueRows
 pub mod DueTable
 pub mod Heard
@@ -6,4 +5,3 @@ pub mod Judged
 pub mod Led
 pub mod Once
 pub mod Reasons
-pub mod Walk

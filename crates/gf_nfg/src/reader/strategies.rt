@@ -114,6 +114,7 @@ impl<'a> Reader<'a> {
     }
 
     /// Reads the strategies of the players, if there are players.
+    #[tactic(auto, using(crate::proofs::lemmas::runs::ReaderSteps::first_steps))]
     fn counts_or_lists(&mut self) -> Result<(), Fault>
         ensures machine { Goes
             (answer FirstStrategies (length self.old.heading.players.items) 0 self.old) result

@@ -15,6 +15,7 @@ use gf_token::Label;
 use std::alloc::{AllocError, Global};
 
 /// Whether the player at this place has the same strategies in both.
+#[tactic(auto, using(crate::proofs::lemmas::tables::Agreement::same_own_by_labels))]
 fn same_own(a: &Names, b: &Names, at: usize) -> bool
     requires left { at < length a.now.players }
     requires right { at < length b.now.players }
@@ -32,6 +33,7 @@ fn same_own(a: &Names, b: &Names, at: usize) -> bool
 }
 
 /// Whether both have the same players.
+#[tactic(auto, using(crate::proofs::lemmas::tables::Agreement::same_by_labels))]
 fn same_players(a: &Names, b: &Names) -> bool
     ensures { IsTrue result ↔ (a.now.players ≡ b.now.players) }
 {
@@ -47,6 +49,7 @@ fn same_players(a: &Names, b: &Names) -> bool
 }
 
 /// Whether the players of both have the same strategies.
+#[tactic(auto, using(crate::proofs::lemmas::tables::Agreement::same_by_own))]
 fn same_strategies(a: &Names, b: &Names) -> bool
     ensures { IsTrue result ↔ (a.now.strategies ≡ b.now.strategies) }
 {
@@ -87,6 +90,7 @@ pub(crate) fn same_heading(a: &Names, b: &Names, named: bool) -> bool
 }
 
 /// Whether both rows are the same.
+#[tactic(auto, using(crate::proofs::lemmas::tables::Agreement::same_by_payoffs))]
 fn same_row(a: &[Fraction], b: &[Fraction]) -> bool
     ensures { IsTrue result ↔ (a.now ≡ b.now) }
 {
@@ -94,6 +98,7 @@ fn same_row(a: &[Fraction], b: &[Fraction]) -> bool
 }
 
 /// Whether both have the same rows.
+#[tactic(auto, using(crate::proofs::lemmas::tables::Agreement::same_more))]
 fn same_rows(a: &Rows, b: &Rows) -> bool
     ensures { IsTrue result ↔ (a.now ≡ b.now) }
 {

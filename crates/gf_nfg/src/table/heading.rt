@@ -54,6 +54,7 @@ impl<'a> Heading<'a> {
     }
 
     /// The title, the comment, the players and their strategies, in memory of their own.
+    #[tactic(auto, using(crate::proofs::lemmas::tables::Strategies::as_many_lists))]
     pub(crate) fn names(&self, alloc: Global) -> Result<Names, AllocError>
         requires { HasCounts self.now }
         ensures { IfOk result (λ names. names ≡ names_in (content_in self.now)) }

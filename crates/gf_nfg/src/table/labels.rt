@@ -61,6 +61,7 @@ impl Labels {
     }
 
     /// How many labels there are.
+    #[tactic(auto, using(crate::proofs::lemmas::tables::Pieces::as_many_pieces))]
     pub fn len(&self) -> usize
         ensures len { result ≡ length self.now }
         ensures spelled { AreSpellings self.now }
@@ -69,6 +70,7 @@ impl Labels {
     }
 
     /// How many bytes the labels have, all together.
+    #[tactic(auto, using(crate::proofs::lemmas::tables::LabelsJoined::labels_size))]
     pub fn size(&self) -> usize
         ensures { result ≡ sum (map length self.now) }
     {
@@ -178,6 +180,7 @@ impl Labels {
     }
 
     /// The label at this place, from 0.
+    #[tactic(auto, using(crate::proofs::lemmas::tables::Pieces::one_piece))]
     pub fn label(&self, at: usize) -> Label<'_>
         requires { at < length self.now }
         ensures { slice_get self.now at ≡ Some (label_of result) }

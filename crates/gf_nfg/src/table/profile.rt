@@ -9,6 +9,7 @@ ghost use Rattle.gf_nfg.specs.TableParts.{place_of};
 use crate::table::names::Names;
 
 /// The place of a profile, from 0, or `None` if it is not a profile of these players.
+#[tactic(auto, using(crate::proofs::lemmas::tables::Places::places_found))]
 pub(crate) fn place_of(names: &Names, profile: &[u32]) -> Option<u32>
     requires one_list_each { length names.now.strategies ≡ length names.now.players }
     requires some_strategy { AllByRecursion (λ own. 0 < length own) names.now.strategies }

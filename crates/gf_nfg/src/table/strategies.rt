@@ -122,6 +122,7 @@ impl Strategies {
     }
 
     /// Labels that come one after another, this many for each player.
+    #[tactic(auto, using(crate::proofs::lemmas::tables::Strategies::next_group))]
     #[inline(never)]
     pub(crate) fn grouped(
         alloc: Global,

@@ -1,5 +1,4 @@
-use Rattle.gf_nfg.proofs.lemmas.places.AllBytes.{answered}
-use Rattle.gf_nfg.proofs.lemmas.places.Once.{not_both, refused_once}
+use Rattle.gf_nfg.proofs.lemmas.places.Once.{answered, not_both, refused_once}
 use Rattle.gf_nfg.proofs.laws.read_or_refused.Goals as goal
 
 pub returns-clause-one_of_both : goal.returns-clause-one_of_both

@@ -5,6 +5,7 @@ use Rattle.gf_nfg.proofs.Common.{◌⊎◌, append-nil, length-append, length-ma
 use Rattle.gf_nfg.proofs.Common.{AllByRecursion, Each, all_mapped, all_parts, profile_limit}
 use Rattle.gf_nfg.proofs.Common.{product, IsCount, IsLabelList, BeginsPastLimit, IsBareOrClosing}
 use Rattle.gf_nfg.proofs.Common.{StaysWithinLimit, Content, GivesCounts, State, at, step}
+use Rattle.std.proofs.lemmas.List.{same_from_push}
 use Rattle.gf_nfg.specs.inner.Position.{Position as p}
 use Rattle.gf_nfg.proofs.lemmas.limit.Stays.{makes_more, read_past, stays_within}
 use Rattle.gf_nfg.proofs.lemmas.limit.Products.{PassesAtLast, at_last}
@@ -14,7 +15,7 @@ use Rattle.gf_nfg.proofs.lemmas.runs.Sentence.{kind_of}
 use Rattle.gf_nfg.proofs.lemmas.runs.Strategies.{IsGroup, Kind, Strategies, all_groups, due_at}
 use Rattle.gf_nfg.proofs.lemmas.runs.Strategies.{groups_walk, grows_by, taken, with_group}
 use Rattle.gf_nfg.proofs.lemmas.runs.Walks.{Leads, leads_more, leads_on, walk}
-use Rattle.gf_nfg.proofs.lemmas.places.Walk.{begins}
+use Rattle.gf_nfg.proofs.lemmas.places.Led.{begins}
 
 -- ---- lists by their last items
 
@@ -46,15 +47,7 @@ pub parted : (xs : List Token) (x : Token) (ys us : List Token) (u : Token) (vs 
 parted [] x ys [] u vs e = grind arith
 parted [] x ys (w ∷ us) u vs e = inr (inl (us, cc))
 parted (z ∷ xs) x ys [] u vs e = inr (inr (xs, cc))
-parted (z ∷ xs) x ys (w ∷ us) u vs e =
-    grind (arith, parted_more z w xs x us u (cc) (parted xs x ys us u vs (cc)))
-
-same_last : (xs : List Token) (x : Token) (us : List Token) (u : Token)
-    → xs ++ x ∷ [] ≡ us ++ u ∷ [] → (xs ≡ us) × (x ≡ u)
-same_last [] x [] u e = (refl, cc)
-same_last (y ∷ xs) x (w ∷ us) u e = let h = same_last xs x us u (cc) in (cc, h.1)
-same_last [] x (w ∷ us) u e = absurd (grind (arith, length-append us (u ∷ [])))
-same_last (y ∷ xs) x [] u e = absurd (grind (arith, length-append xs (x ∷ [])))
+parted (z ∷ xs) x ys (w ∷ us) u vs e = grind (arith, parted_more, parted xs x ys us u vs (cc))
 
 -- ---- a token at which the machine passes the limit
 
@@ -145,7 +138,7 @@ passes_given ts t counts g front labels parts passes k each =
       append_assoc before i.0 i.1,
       append_assoc (before ++ i.0) x.front (x.last ∷ []),
     ) in
-    let same = same_last ts t others x.last whole in
+    let same = same_from_push ts others t x.last whole in
     let one : d.profiles ≡ 1 * product (map length front) =
     ap (λ (e : Content). e.profiles) (all_groups k front c) in
     let grown : (with_group k d labels).profiles ≡ 1 * product (map length front) * length labels =

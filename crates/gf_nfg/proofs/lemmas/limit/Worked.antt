@@ -1,18 +1,14 @@
 -- Two worked files: the counts of one pass the limit at the second count, those of the other
 -- nowhere.
-use Rattle.gf_nfg.proofs.Common.{◌≡◌, ℕ, zero, suc, ◌<◌, ◌≤◌, List, [], ◌∷◌, ◌++◌, take, refl, sym}
-use Rattle.gf_nfg.proofs.Common.{ap, subst, ◌∙◌, arith, inl, codes, map-append, Token, Lexeme}
-use Rattle.gf_nfg.proofs.Common.{lexeme, Opening, Closing, Text, Bare, Spells, Each, Gap, IsIndex}
-use Rattle.gf_nfg.proofs.Common.{Span, found, same_tokens, decimal_is_index, profile_limit, product}
-use Rattle.gf_nfg.proofs.Common.{IsCount, counted_labels, tokens_of, GivesCounts, IsLimitPlace}
-use Rattle.gf_nfg.proofs.Common.{State}
-use Rattle.std.specs.Fmt.{digits}
+use Rattle.gf_nfg.proofs.Common.{◌≡◌, ℕ, ◌<◌, ◌≤◌, List, [], ◌∷◌, ◌++◌, Ok, refl, ap, ◌∙◌, arith}
+use Rattle.gf_nfg.proofs.Common.{codes, map-append, Token, Lexeme, lexeme, Opening, Closing, Text}
+use Rattle.gf_nfg.proofs.Common.{Bare, Gap, Span, found, same_tokens, profile_limit, tokens_of}
+use Rattle.gf_nfg.proofs.Common.{IsLimitPlace, State, step}
 use Rattle.gf_token.specs.inner.Lexing.{lex}
 use Rattle.gf_token.specs.Indices.{index_of}
-use Rattle.gf_nfg.proofs.lemmas.tables.Lists.{counts_back}
 use Rattle.gf_nfg.proofs.lemmas.limit.Stays.{stays_within}
-use Rattle.gf_nfg.proofs.lemmas.runs.Heading.{heading_line}
 use Rattle.gf_nfg.proofs.lemmas.limit.Counts.{limit_by_files}
+use Rattle.gf_nfg.proofs.lemmas.places.Judged.{limit}
 use Rattle.gf_nfg.proofs.lemmas.runs.Walks.{Leads}
 
 -- ---- one that passes it
@@ -34,54 +30,20 @@ lexemes : lex Gap 0 passing ≡ before_second ++ second ∷ lexeme 36 37 Closing
 unfolding lex
 lexemes = refl
 
--- what a file of two players gives through their counts
-two_counts : (a b : List ℕ) (n m : ℕ) → IsIndex a n → IsIndex b m → 0 < n → 0 < m
-    → GivesCounts
-    (heading_line (codes "R") (codes "b") (codes "A" ∷ codes "B" ∷ [])
-    ++ Opening ∷ Bare a ∷ Bare b ∷ [])
-    (n ∷ m ∷ [])
-two_counts a b n m a_is b_is a_some b_some = record {
-  letter = codes "R";
-  title = codes "b";
-  players = codes "A" ∷ codes "B" ∷ [];
-  inner = Bare a ∷ Bare b ∷ [];
-  strategies = counted_labels n ∷ counted_labels m ∷ [];
-  parts = refl;
-  is_letter = inl refl;
-  is_inner =
-      let second : Each IsCount (Bare b ∷ []) (counted_labels m ∷ []) =
-      (Bare b ∷ [], [], refl, (b, m, refl, b_is, refl), refl) in
-      inl (Bare a ∷ [], Bare b ∷ [], refl, (a, n, refl, a_is, refl), second);
-  are_counts = sym (counts_back (n ∷ m ∷ []));
-  some_strategy = (a_some, (b_some, tt));
-  first_players = omega arith;
-}
+-- where the tokens before the second count lead, and where it leads from there
+abbrev Crosses : Type 0
+Crosses = (s after : State) × Leads (tokens_of before_second) s × (step s second.token ≡ Ok after)
+    × (s.content.profiles ≤ profile_limit) × (profile_limit < after.content.profiles)
 
-within_first : (k : ℕ) → k < 2 → product (take k (1024 ∷ 1025 ∷ [])) ≤ profile_limit
-within_first zero h = omega arith
-within_first (suc zero) h = omega arith
-within_first (suc (suc k)) h = absurd (omega arith)
-
-index_1024 : IsIndex (codes "1024") 1024
-unfolding digits
-index_1024 = decimal_is_index 1024 (omega arith)
-
-index_1025 : IsIndex (codes "1025") 1025
-unfolding digits
-index_1025 = decimal_is_index 1025 (omega arith)
+crosses : Crosses
+unfolding index_of
+crosses = (_, _, refl, refl, omega arith, omega arith)
 
 pub at_second : IsLimitPlace passing (record { start = 31; end = 35 })
-at_second = record {
-  before = before_second;
-  lexeme = second;
-  after = lexeme 36 37 Closing ∷ [];
-  counts = 1024 ∷ 1025 ∷ [];
-  spelled = subst (λ (ls : List Lexeme). Spells 0 passing ls) lexemes (found passing 0);
-  place = (refl, refl);
-  gives = two_counts _ _ 1024 1025 index_1024 index_1025 (omega arith) (omega arith);
-  passes = omega arith;
-  nowhere_before = within_first;
-}
+at_second =
+    limit passing (lex Gap 0 passing) (lexeme 36 37 Closing ∷ []) second crosses.0 crosses.1
+    (found passing 0) (record { seen = before_second; parts = lexemes; leads = crosses.2 })
+    crosses.4 crosses.3 crosses.5
 
 -- ---- one that does not
 

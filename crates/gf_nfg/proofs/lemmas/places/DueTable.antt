@@ -10,7 +10,7 @@ use Rattle.gf_nfg.specs.inner.Position.{Position as p}
 use Rattle.gf_nfg.proofs.lemmas.places.DueRows.{Row, Accepts, AcceptsBare, answers, no, row_at}
 use Rattle.gf_nfg.proofs.lemmas.places.DueRows.{unfilled, has_some, listed_in}
 use Rattle.gf_nfg.proofs.lemmas.runs.Walks.{Leads, walk}
-use Rattle.gf_nfg.proofs.lemmas.places.Walk.{follows, is_file, refused}
+use Rattle.gf_nfg.proofs.lemmas.places.Led.{follows, is_file, refused}
 
 -- what a row names it accepts
 abbrev pub Names : Row → What → Type 0
@@ -38,15 +38,7 @@ Named row expected = Names row row.expected × (expected ≡ unless_end row.expe
 
 named_at : (q : Position) (s : State) → Named (row_at q s) (due_at q s.due)
 named_at p.FirstStrategies s = grind arith
-named_at p.Counts s = grind arith
-named_at p.BeforeList s = grind arith
-named_at p.AfterStrategies s = grind arith
-named_at p.AfterComment s = grind arith
-named_at p.FlatPayoffs s = grind arith
-named_at p.BracedPayoff s = grind arith
-named_at p.AfterBracedPayoff s = grind arith
-named_at p.OutcomeNumbers s = grind arith
-named_at _ s = (refl, refl)
+named_at q s = grind arith
 
 abbrev pub row_of : State → Row
 row_of s = row_at s.position s
@@ -74,8 +66,7 @@ abbrev pub two_texts : List Token
 two_texts = Text [] ∷ Text [] ∷ []
 
 some_or_unfilled : (n : ℕ) → has_some n ≡ false → not (has_some n) ≡ false → ⊥
-some_or_unfilled zero e f = absurd cc
-some_or_unfilled (suc n) e f = absurd cc
+some_or_unfilled n e f = grind arith
 
 -- otherwise, no two texts may follow
 pub no_texts_follow : (q : Position) (s : State) → (row_at q s).closing ≡ false

@@ -101,8 +101,7 @@ module _ (bytes : List ℕ) (all : List Lexeme) (spelled : Spells 0 bytes all) w
       → ((after : State) → Led all ls after → after.content.profiles ≤ profile_limit
       → IsAnswered bytes all (read_on (length bytes) after ls))
       → IsAnswered bytes all (answer_at (length bytes) ls l o)
-  token_answered l ls o (goes_on after is led more accepted) later = rw is (later after led more)
-  token_answered l ls o (refuses why is refused) later = grind arith
+  token_answered l ls o h later = grind arith
 
   answered_on : (s : State) (ls : List Lexeme) → Led all ls s → s.content.profiles ≤ profile_limit
       → IsAnswered bytes all (read_on (length bytes) s ls)
@@ -152,15 +151,13 @@ module _ (bytes : List ℕ) (all : List Lexeme) (spelled : Spells 0 bytes all) w
 
   last_token : (l : Lexeme) (ls : List Lexeme) (o : Result State Why) → Took bytes all ls l o
       → HasPassed (answer_at (length bytes) ls l o) l.start → Accepted l
-  last_token l ls o (goes_on after is led more accepted) passed = accepted
-  last_token l ls o (refuses why is judged) passed = grind arith
+  last_token l ls o h passed = grind arith
 
   first_token : (z l : Lexeme) (ls : List Lexeme) (o : Result State Why) → z.start < l.start
       → Took bytes all ls z o → HasPassed (answer_at (length bytes) ls z o) l.start
       → ((after : State) → Led all ls after → after.content.profiles ≤ profile_limit → HasPassed
       (read_on (length bytes) after ls) l.start → Accepted l) → Accepted l
-  first_token z l ls o less (goes_on after is led more accepted) passed later = grind arith
-  first_token z l ls o less (refuses why is judged) passed later = grind arith
+  first_token z l ls o less h passed later = grind arith
 
   passed_token : (from : ℕ) (s : State) (before after : List Lexeme) (l : Lexeme)
       → AreInOrder (length bytes) from (before ++ l ∷ after) → Led all (before ++ l ∷ after) s

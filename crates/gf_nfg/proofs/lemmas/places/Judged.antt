@@ -10,12 +10,11 @@ use Rattle.gf_nfg.proofs.Common.{IsJudged}
 use Rattle.gf_token.proofs.Places.{no_file as refused_no_file}
 use Rattle.gf_nfg.proofs.lemmas.limit.Counts.{limit_by_files}
 use Rattle.gf_nfg.proofs.lemmas.limit.Passed.{later, nowhere}
-use Rattle.gf_nfg.proofs.lemmas.places.Led.{Led, spelled_as}
+use Rattle.gf_nfg.proofs.lemmas.places.Led.{Led, spelled_as, begins, no_file, refused}
 use Rattle.gf_nfg.proofs.lemmas.limit.Stays.{stays_within}
 use Rattle.gf_nfg.proofs.lemmas.limit.Tokens.{limit_token}
 use Rattle.gf_nfg.proofs.lemmas.places.Reasons.{end_reason}
 use Rattle.gf_nfg.proofs.lemmas.runs.Walks.{leads_more}
-use Rattle.gf_nfg.proofs.lemmas.places.Walk.{begins, no_file, refused}
 
 abbrev pub span_of : Lexeme → Span
 span_of l = record { start = l.start; end = l.end }
@@ -108,8 +107,7 @@ err why = Err why
 
 pub only_expected : (c : Content) (o : Option What) (why : Why) → ended c o ≡ Err why
     → (what : What) × (why ≡ Expected what)
-only_expected c None why e = absurd cc
-only_expected c (Some what) why e = (what, cc)
+only_expected c o why e = grind arith
 
 -- no table within the limit passes it
 all_past : (bytes : List ℕ) (span : Span) (t : Table)

@@ -1,20 +1,20 @@
--- A strategic file is refused at one place, with one code.
+-- Each list of bytes is a file within the limit, or it is refused, at one place and with one code.
 use Rattle.gf_nfg.proofs.Common.{◌≡◌, ℕ, List, length, refl, sym, ap, subst, ◌∙◌, inl, inr, ◌⊎◌}
 use Rattle.gf_nfg.proofs.Common.{Lexeme, code_of, tokens_of, IsSpanOf, Span, Why, Memory}
 use Rattle.gf_nfg.proofs.Common.{TooManyProfiles, TooLong, one_span, one_offending_place, one_code}
 use Rattle.gf_nfg.proofs.Common.{Table, IsStrategicFile, SpellsTable, IsLimitPlace, IsWithinLimit}
-use Rattle.gf_nfg.proofs.Common.{IsDue, Holds, IsReason, IsRefusal, IsJudged, IsRefused}
+use Rattle.gf_nfg.proofs.Common.{IsDue, Holds, IsReason, IsRefusal, IsJudged, IsRefused, arith}
+use Rattle.gf_nfg.proofs.Common.{Result, Ok, Err, Spells, Fault, spelled_once, Content, table_of}
 use Rattle.gf_nfg.proofs.lemmas.limit.Passed.{one_limit_place}
 use Rattle.gf_nfg.proofs.lemmas.places.Judged.{only_memory}
+use Rattle.gf_nfg.proofs.lemmas.places.Heard.{IsAnswered, all_answered}
+use Rattle.gf_nfg.proofs.lemmas.tables.Meaning.{within_limit}
 
 -- ---- one judgement
 
 refusal_or_limit : (why : Why) (bytes : List ℕ) (s : Span) → ¬ (why ≡ Memory) → IsJudged why bytes s
     → IsRefusal why bytes s ⊎ ((why ≡ TooManyProfiles) × IsLimitPlace bytes s)
-refusal_or_limit Memory bytes s some h = absurd (some refl)
-refusal_or_limit TooManyProfiles bytes s some h = inr (refl, h)
-refusal_or_limit TooLong bytes s some h = absurd h
-refusal_or_limit why bytes s some h = inl h
+refusal_or_limit why bytes s some h = grind arith
 
 one_refusal : (why other : Why) (bytes : List ℕ) (s t : Span)
     → IsRefusal why bytes s → IsRefusal other bytes t → (s ≡ t) × (code_of why ≡ code_of other)
@@ -47,3 +47,17 @@ refused_once bytes why other s t h k = elim (refusal_or_limit why bytes s h.0 h.
 pub not_both : (bytes : List ℕ) (t : Table) (why : Why) (s : Span)
     → SpellsTable bytes t → IsWithinLimit t → ¬ (IsRefused why bytes s)
 not_both bytes t why s spelled within h = h.0 (only_memory why bytes s t h.1 spelled within)
+
+-- ---- one of both
+
+-- read, or refused
+abbrev pub Answered : List ℕ → Type 0
+Answered bytes = ((t : Table) × SpellsTable bytes t × IsWithinLimit t)
+    ⊎ ((why : Why) × (span : Span) × IsRefused why bytes span)
+
+by_answer : (bytes : List ℕ) (all : List Lexeme) (o : Result Content Fault) → Spells 0 bytes all
+    → IsAnswered bytes all o → Answered bytes
+by_answer bytes all o spelled a = grind (arith, table_of, within_limit)
+
+pub answered : (bytes : List ℕ) → Answered bytes
+answered bytes = grind (arith, spelled_once bytes, by_answer, all_answered)

@@ -9,6 +9,7 @@ use Rattle.gf_nfg.proofs.Common.{same_fault, Begins, MayFollow, IsStrategicFile,
 use Rattle.gf_nfg.proofs.Common.{RoleIsDue, IsDue, Format, Version, Letter, Count, Payoff}
 use Rattle.gf_nfg.proofs.Common.{OutcomeNumber, Applies, IsReason, count_of, Content, State, ended}
 use Rattle.gf_nfg.proofs.Common.{finish, step, index_is, index_again, count_is, count_again}
+use Rattle.std.proofs.lemmas.Bool.{false_from_ne_true}
 use Rattle.gf_fraction.specs.Computed.{number_of, lowest_of, gcd_within}
 use Rattle.gf_fraction.specs.declared.fraction.NumberFault.TheVariants as number
 use Rattle.gf_token.specs.Indices.{index_of}
@@ -19,7 +20,7 @@ use Rattle.gf_nfg.proofs.lemmas.places.DueTable.{row_of, unless_end, may_follow,
 use Rattle.gf_nfg.proofs.lemmas.places.DueTable.{expected_is, expected_is_due, labels_follow}
 use Rattle.gf_nfg.proofs.lemmas.places.DueTable.{no_texts_follow, two_texts}
 use Rattle.gf_nfg.proofs.lemmas.runs.Walks.{Leads, leads_on}
-use Rattle.gf_nfg.proofs.lemmas.places.Walk.{begins, stops}
+use Rattle.gf_nfg.proofs.lemmas.places.Led.{begins, stops}
 
 -- ---- no two roles of numbers are due at one place
 
@@ -183,9 +184,6 @@ bare_reason ts after b s h why (Some (OutcomeNumber outcomes)) e n (inr r) =
     let due = role_is_due ts s (OutcomeNumber outcomes) h e in
     rw r.0 ((outcomes, (due, r.1)), lowest_outcome ts b outcomes r.1.0 due r.1.1)
 
-is_false : (b : Bool) → ¬ (b ≡ true) → b ≡ false
-is_false b h = grind arith
-
 closing_reason : (ts after : List Token) (s : State) (h : Leads ts s) (why : Why) (empty : Bool)
     → unfilled s.position s ≡ empty → ¬ ((row_of s).closing ≡ true)
     → RefusesClosing empty (row_of s).expected why → Reason ts after Closing why
@@ -196,7 +194,7 @@ closing_reason ts after s h why true e n r =
     begins (ts ++ map Text labels) w.0 (leads_on ts (map Text labels) s w.0 h w.1) in
     grind (arith, may_follow ts s h Closing, lowest_entry ts)
 closing_reason ts after s h why false e n r =
-    let w = no_texts_follow s.position s (is_false (row_of s).closing n) e in
+    let w = no_texts_follow s.position s (false_from_ne_true (row_of s).closing n) e in
     expected_reason ts after Closing s h why r (none_of_closing ts (stops ts two_texts s w.0 h w.1))
 
 -- no code applies to these tokens

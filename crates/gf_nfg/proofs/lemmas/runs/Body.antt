@@ -1,75 +1,143 @@
 -- Runs over the comment and the body.
-use Rattle.gf_nfg.proofs.Common.{◌≡◌, ℕ, ◌*◌, ◌≤◌, arith, List, [], ◌∷◌, ◌++◌, length, Ok, refl}
-use Rattle.gf_nfg.proofs.Common.{append_assoc, inl, inr, ◌⊎◌, AllByRecursion, Token, Opening}
-use Rattle.gf_nfg.proofs.Common.{Closing, Text, Bare, Each, braced, IsComment, Ratio, IsPayoff}
-use Rattle.gf_nfg.proofs.Common.{IsOutcomeInBraces, Content, at, run, with_comment, with_payoffs}
-use Rattle.gf_nfg.proofs.Common.{with_choices}
+use Rattle.gf_nfg.proofs.Common.{◌≡◌, ℕ, ◌+◌, ◌*◌, ◌<◌, ◌≤◌, arith, List, [], ◌∷◌, ◌++◌, length, map, Ok}
+use Rattle.gf_nfg.proofs.Common.{refl, sym, subst, ◌∙◌, append_assoc, inl, inr, ◌⊎◌, Token, Opening}
+use Rattle.gf_nfg.proofs.Common.{AllByRecursion, Closing, Text, Bare, Each, braced, IsComment, Ratio}
+use Rattle.gf_nfg.proofs.Common.{IsPayoff, IsPayoffBody, IsOutcomeBody, Content, Position, at, run}
+use Rattle.gf_nfg.proofs.Common.{with_comment, HasPayoffs, row_of, rows_by}
 use Rattle.gf_nfg.specs.inner.Position.{Position as p}
-use Rattle.gf_nfg.proofs.lemmas.tables.Lists.{joined}
+use Rattle.gf_nfg.proofs.lemmas.tables.Lists.{joined, length-joined_rows}
+use Rattle.gf_nfg.proofs.lemmas.tables.Meaning.{rows_again}
+use Rattle.gf_nfg.proofs.lemmas.tables.Rows.{rows_numbered}
 use Rattle.gf_nfg.proofs.lemmas.runs.Payoffs.{flat_found, flat_again}
-use Rattle.gf_nfg.proofs.lemmas.runs.Outcomes.{Choices, IsChoice, greatest, outcomes_found}
-use Rattle.gf_nfg.proofs.lemmas.runs.Outcomes.{outcomes_again, choices_found, choices_again}
+use Rattle.gf_nfg.proofs.lemmas.runs.Outcomes.{greatest, outcomes_found, outcomes_again}
+use Rattle.gf_nfg.proofs.lemmas.runs.Outcomes.{choices_found, choices_again}
+use Rattle.gf_nfg.proofs.lemmas.runs.Rows.{rows_each, rows_joined, outcomes_full, choices_pay}
+use Rattle.gf_nfg.proofs.lemmas.runs.Rows.{choices_chosen}
 use Rattle.gf_nfg.proofs.lemmas.runs.Strategies.{ended}
 
--- payoffs in turn
-pub record FlatBody (ts : List Token) (due : ℕ) (c r : Content) : Type 0 where
-  pub numbers : List Ratio
-  pub each : Each IsPayoff ts numbers
-  pub count : length numbers ≡ due
-  pub got : r ≡ with_payoffs c numbers
+-- with the body
+abbrev pub filled : Content → List Ratio → List ℕ → Content
+filled c payoffs choices = record c { payoffs = payoffs; choices = choices }
 
--- outcomes in braces, and their numbers in turn
-pub record OutcomeBody (ts : List Token) (c r : Content) : Type 0 where
-  pub list : List Token
-  pub numbers : List Token
-  pub outcomes : List (List Ratio)
-  pub parts : ts ≡ braced list ++ numbers
-  pub each : Each (IsOutcomeInBraces (length c.players)) list outcomes
-  pub choices : Choices numbers c.profiles (greatest (length outcomes))
-      (with_payoffs c (joined outcomes)) r
+-- the body of these rows, as the grammar has it
+abbrev pub IsBody : ℕ → List Token → List (List Ratio) → Type 0
+IsBody players body rs = IsPayoffBody body rs ⊎ IsOutcomeBody players body rs
 
-abbrev pub Body : List Token → ℕ → Content → Content → Type 0
-Body ts due c r = FlatBody ts due c r ⊎ OutcomeBody ts c r
+pub rows_chosen : (c : Content) (choices : List ℕ) → 0 < length choices
+    → rows_by c choices ≡ map (row_of (length c.players) c.payoffs) choices
+rows_chosen c choices some = grind arith
 
-flat_body : (ts : List Token) (due : ℕ) (c r : Content)
-    → run (at p.FlatPayoffs due 0 0 c) ts ≡ Ok r → Body ts due c r
-flat_body ts due c r e = grind (arith, flat_found)
+-- ---- what was read
 
-body_found : (ts : List Token) (due : ℕ) (c r : Content)
-    → run (at p.AfterComment due 0 0 c) ts ≡ Ok r → Body ts due c r
-body_found (Opening ∷ ts) due c r e =
-    grind (arith, outcomes_found ts c r e, append_assoc, choices_found, greatest)
-body_found ts due c r e = flat_body ts due c r e
+-- a body, behind what is not of it
+pub record Body (body : List Token) (c r : Content) : Type 0 where
+  pub payoffs : List Ratio
+  pub choices : List ℕ
+  pub got : r ≡ filled c payoffs choices
+  pub has_rows : HasPayoffs (filled c payoffs choices) choices
+  pub is_body : IsBody (length c.players) body (rows_by (filled c payoffs choices) choices)
 
--- the comment and the body
-pub record Commented (ts : List Token) (due : ℕ) (c r : Content) : Type 0 where
+flat_body : (ts : List Token) (c r : Content)
+    → run (at p.FlatPayoffs (length c.players * c.profiles) 0 0 (filled c [] [])) ts ≡ Ok r
+    → Body ts c r
+flat_body ts c r e =
+    let h = flat_found ts (length c.players * c.profiles) (filled c [] []) r e in
+    record {
+      payoffs = h.0;
+      choices = [];
+      got = h.3;
+      has_rows = h.2;
+      is_body = inl (subst (IsPayoffBody ts) (sym (rows_numbered (length c.players) c.profiles h.0))
+          (rows_each (length c.players) c.profiles h.0 ts h.2 h.1));
+    }
+
+has_chosen : (c : Content) (outcomes : ℕ) (choices : List ℕ) → 0 < length choices
+    → length c.payoffs ≡ length c.players * outcomes → length choices ≡ c.profiles
+    → AllByRecursion (λ k. k ≤ outcomes) choices → HasPayoffs c choices
+has_chosen c outcomes choices some fits count known = grind arith
+
+known_all : (n : ℕ) (choices : List ℕ) → AllByRecursion (λ k. k ≤ greatest n) choices
+    → AllByRecursion (λ k. k ≤ n) choices
+known_all n [] h = tt
+known_all n (k ∷ choices) h = (let small = h.0 in omega (arith, small), known_all n choices h.1)
+
+outcome_body : (ts : List Token) (c r : Content) → 0 < c.profiles
+    → run (at p.InOutcomes 0 0 0 (filled c [] [])) ts ≡ Ok r → Body (Opening ∷ ts) c r
+outcome_body ts c r above e =
+    let h = outcomes_found ts (filled c [] []) r e in
+    let none : 0 + length h.outcomes ≡ length h.outcomes = omega arith in
+    let k = choices_found h.numbers c.profiles (greatest (length h.outcomes))
+    (filled c (joined h.outcomes) []) r (cc h.goes_on) in
+    let some : 0 < length k.choices = omega (arith, k.count, above) in
+    let full = outcomes_full (length c.players) h.outcomes h.list h.each in
+    let d : Content = filled c (joined h.outcomes) k.choices in
+    record {
+      payoffs = joined h.outcomes;
+      choices = k.choices;
+      got = k.got;
+      has_rows = has_chosen d (length h.outcomes) k.choices some
+          (length-joined_rows (length c.players) h.outcomes full) k.count
+          (known_all (length h.outcomes) k.choices k.known);
+      is_body = inr (record {
+        list = h.list;
+        numbers = h.numbers;
+        outcomes = h.outcomes;
+        parts = cc (h.parts, append_assoc h.list (Closing ∷ []) h.numbers);
+        listed = h.each;
+        chosen = rw (rows_chosen d k.choices some)
+            (choices_pay (length c.players) h.outcomes full k.choices h.numbers k.each k.known);
+      });
+    }
+
+body_found : (ts : List Token) (c r : Content) → 0 < c.profiles
+    → run (at p.AfterComment (length c.players * c.profiles) 0 0 (filled c [] [])) ts ≡ Ok r
+    → Body ts c r
+body_found (Opening ∷ ts) c r above e = outcome_body ts c r above e
+body_found ts c r above e = flat_body ts c r e
+
+-- the comment and the body, behind what is neither
+pub record Commented (ts : List Token) (c r : Content) : Type 0 where
   pub comment : List Token
   pub body : List Token
   pub said : List ℕ
   pub parts : ts ≡ comment ++ body
   pub is_comment : IsComment comment said
-  pub is_body : Body body due (with_comment c said) r
+  pub is_body : Body body (with_comment c said) r
 
-pub comment_found : (ts : List Token) (c r : Content) → c.comment ≡ []
-    → run (ended c) ts ≡ Ok r → Commented ts (length c.players * c.profiles) c r
-comment_found (Text said ∷ ts) c r none e = record {
+pub comment_found : (ts : List Token) (c r : Content) → 0 < c.profiles
+    → run (ended (filled (with_comment c []) [] [])) ts ≡ Ok r → Commented ts c r
+comment_found (Text said ∷ ts) c r above e = record {
   comment = Text said ∷ [];
   body = ts;
   said = said;
   parts = refl;
   is_comment = inr refl;
-  is_body = grind (arith, body_found);
+  is_body = body_found ts (with_comment c said) r above e;
 }
-comment_found ts c r none e = record {
+comment_found ts c r above e = record {
   comment = [];
   body = ts;
   said = [];
   parts = refl;
   is_comment = inl (refl, refl);
-  is_body = grind (arith, body_found);
+  is_body = body_found ts (with_comment c []) r above e;
 }
 
 -- ---- each body is read
+
+-- from here a body is read to these payoffs and choices
+abbrev GoesFrom : Position → List Token → Content → List Ratio → List ℕ → Type 0
+GoesFrom q body c payoffs choices =
+    run (at q (length c.players * c.profiles) 0 0 (filled c [] [])) body
+    ≡ Ok (filled c payoffs choices)
+
+-- a body is read to these rows, if there is a comment before it or not
+pub record Kept (body : List Token) (c : Content) (rs : List (List Ratio)) : Type 0 where
+  pub payoffs : List Ratio
+  pub choices : List ℕ
+  pub means : rows_by (filled c payoffs choices) choices ≡ rs
+  pub behind_strategies : GoesFrom p.AfterStrategies body c payoffs choices
+  pub behind_comment : GoesFrom p.AfterComment body c payoffs choices
 
 -- payoffs begin with a bare token, if there are any
 payoffs_begin : (t : Token) (ts : List Token) (numbers : List Ratio)
@@ -77,54 +145,47 @@ payoffs_begin : (t : Token) (ts : List Token) (numbers : List Ratio)
 payoffs_begin t ts [] h = absurd cc
 payoffs_begin t ts (n ∷ numbers) h = grind arith
 
-flat_behind_comment : (ts : List Token) (due : ℕ) (c : Content) (numbers : List Ratio)
+flat_behind : (ts : List Token) (due : ℕ) (c : Content) (numbers : List Ratio)
     → Each IsPayoff ts numbers
-    → run (at p.AfterComment due 0 0 c) ts ≡ run (at p.FlatPayoffs due 0 0 c) ts
-flat_behind_comment [] due c numbers h = refl
-flat_behind_comment (Bare b ∷ ts) due c numbers h = refl
-flat_behind_comment (t ∷ ts) due c numbers h = grind (arith, payoffs_begin)
+    → (run (at p.AfterStrategies due 0 0 c) ts ≡ run (at p.FlatPayoffs due 0 0 c) ts)
+    × (run (at p.AfterComment due 0 0 c) ts ≡ run (at p.FlatPayoffs due 0 0 c) ts)
+flat_behind [] due c numbers h = (refl, refl)
+flat_behind (Bare b ∷ ts) due c numbers h = (refl, refl)
+flat_behind (t ∷ ts) due c numbers h = absurd (grind (arith, payoffs_begin))
 
-flat_behind_strategies : (ts : List Token) (due : ℕ) (c : Content) (numbers : List Ratio)
-    → Each IsPayoff ts numbers
-    → run (at p.AfterStrategies due 0 0 c) ts ≡ run (at p.FlatPayoffs due 0 0 c) ts
-flat_behind_strategies [] due c numbers h = refl
-flat_behind_strategies (Bare b ∷ ts) due c numbers h = refl
-flat_behind_strategies (t ∷ ts) due c numbers h = grind (arith, payoffs_begin)
-
--- after an absent comment, or one that was read
-pub flat_body_again : (comment ts : List Token) (said : List ℕ) (c : Content) (numbers : List Ratio)
-    → c.comment ≡ [] → IsComment comment said → Each IsPayoff ts numbers
-    → length numbers ≡ length c.players * c.profiles
-    → run (ended c) (comment ++ ts) ≡ Ok (with_payoffs (with_comment c said) numbers)
-flat_body_again comment ts said c numbers h h2 h3 h4 =
-    grind (arith, flat_behind_strategies, flat_again, flat_behind_comment)
-
-numbered_again : (list numbers : List Token) (outcomes : List (List Ratio)) (choices : List ℕ)
-    (c : Content)
-    → Each (IsOutcomeInBraces (length c.players)) list outcomes → Each IsChoice numbers choices
-    → AllByRecursion (λ k. k ≤ greatest (length outcomes)) choices → length choices ≡ c.profiles
-    → run (at p.InOutcomes 0 0 0 c) ((list ++ Closing ∷ []) ++ numbers)
-    ≡ Ok (with_choices (with_payoffs c (joined outcomes)) choices)
-numbered_again list numbers outcomes choices c listed each known count =
-    cc (
-      append_assoc list (Closing ∷ []) numbers,
-      outcomes_again outcomes list numbers c
-          listed,
-      choices_again choices numbers (greatest (length outcomes))
-          (with_payoffs c (joined outcomes)) each known,
-    )
-
-pub outcome_body_again : (comment list numbers : List Token) (outcomes : List (List Ratio))
-    (choices : List ℕ) (said : List ℕ) (c : Content) → c.comment ≡ [] → IsComment comment said
-    → Each (IsOutcomeInBraces (length c.players)) list outcomes → Each IsChoice numbers choices
-    → AllByRecursion (λ k. k ≤ greatest (length outcomes)) choices → length choices ≡ c.profiles
-    → run (ended c) (comment ++ (braced list ++ numbers)) ≡ Ok (with_choices
-    (with_payoffs (with_comment c said) (joined outcomes)) choices)
-outcome_body_again comment list numbers outcomes choices said c none (inl h) listed each known
-    count = grind (arith, numbered_again)
-outcome_body_again comment list numbers outcomes choices said c none (inr h) listed each known
-    count = grind (
-      arith,
-      numbered_again list numbers outcomes choices
-          (with_comment c said) listed each known count,
-    )
+pub body_again : (body : List Token) (c : Content) (rs : List (List Ratio)) → 0 < c.profiles
+    → AllByRecursion (λ row. length row ≡ length c.players) rs → length rs ≡ c.profiles
+    → IsBody (length c.players) body rs → Kept body c rs
+body_again body c rs above full count (inl each) =
+    let all = rows_joined rs body each in
+    let size = length-joined_rows (length c.players) rs full in
+    let goes : GoesFrom p.FlatPayoffs body c (joined rs) [] =
+    cc (size, count, flat_again (joined rs) body (filled c [] []) all) in
+    let b = flat_behind body (length c.players * c.profiles) (filled c [] []) (joined rs) all in
+    record {
+      payoffs = joined rs;
+      choices = [];
+      means = cc (rows_again (length c.players) rs full);
+      behind_strategies = b.0 ∙ goes;
+      behind_comment = b.1 ∙ goes;
+    }
+body_again body c rs above full count (inr b) =
+    let paid = outcomes_full (length c.players) b.outcomes b.list b.listed in
+    let o = choices_chosen (length c.players) b.outcomes paid rs b.numbers b.chosen in
+    let some : 0 < length o.choices = omega (arith, o.count, count, above) in
+    let d : Content = filled c (joined b.outcomes) [] in
+    let goes : run (at p.InOutcomes 0 0 0 (filled c [] [])) ((b.list ++ Closing ∷ []) ++ b.numbers)
+    ≡ Ok (filled c (joined b.outcomes) o.choices) = cc (
+      append_assoc b.list (Closing ∷ []) b.numbers,
+      outcomes_again b.outcomes b.list b.numbers (filled c [] []) b.listed,
+      o.count,
+      count,
+      choices_again o.choices b.numbers (greatest (length b.outcomes)) d o.each o.known,
+    ) in
+    record {
+      payoffs = joined b.outcomes;
+      choices = o.choices;
+      means = rows_chosen (filled c (joined b.outcomes) o.choices) o.choices some ∙ o.rows;
+      behind_strategies = rw b.parts goes;
+      behind_comment = rw b.parts goes;
+    }

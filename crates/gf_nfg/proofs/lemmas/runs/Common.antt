@@ -17,12 +17,6 @@ ok_why x = Ok x
 pub ok_is : {A : Type 0} (x y : A) → ok_why x ≡ ok_why y → x ≡ y
 ok_is x y e = cc
 
--- one token was taken at a test
-pub guard_ok : (b : Bool) (s : State) (why : Why) (ts : List Token) (r : Content)
-    → (cond b (Ok s) (Err why) >>= λ after. run after ts) ≡ Ok r → (b ≡ true) × (run s ts ≡ Ok r)
-guard_ok true s why ts r e = (refl, e)
-guard_ok false s why ts r e = absurd cc
-
 pub same_bytes : (b word : List ℕ) → pointwise nat_eq b word ≡ true → b ≡ word
 same_bytes b word e = (slice_eq-Decides Decides-eqb b word (pointwise nat_eq b word) refl).0 e
 

@@ -4,11 +4,13 @@ use Rattle.gf_nfg.proofs.Common.{Some, Ok, refl, ap, subst, ◌∙◌, arith, na
 use Rattle.gf_nfg.proofs.Common.{le-leb, length-append, Token, Opening, Closing, Text, Bare, Comma}
 use Rattle.gf_nfg.proofs.Common.{Ratio, whole, Position, count_of, State, Content, at, step, run}
 use Rattle.gf_nfg.proofs.Common.{listed, with_title, with_labels, with_count, with_payoffs}
-use Rattle.gf_nfg.proofs.Common.{with_choices, next_outcome}
+use Rattle.gf_nfg.proofs.Common.{with_choices, next_outcome, inl, inr}
 use Rattle.gf_nfg.specs.inner.Position.{Position as p}
 use Rattle.gf_fraction.specs.Computed.{number_of, lowest_of, gcd_within}
 use Rattle.gf_token.specs.Indices.{index_of}
 use Rattle.gf_nfg.proofs.lemmas.runs.Common.{not_zero, pred_suc}
+use Rattle.gf_nfg.proofs.lemmas.runs.Strategies.{Takes}
+use Rattle.gf_nfg.proofs.lemmas.runs.Strategies.Kind.{ByCounts}
 
 -- it can be completed, to this many profiles
 abbrev pub EndsWith : State → ℕ → Type 0
@@ -99,30 +101,20 @@ name_ends due from outcomes c = then _ (at p.BracedPayoff (length c.players) fro
 by_one : (s : State) (profiles n : ℕ) → n ≡ 1 → EndsWith s (profiles * n) → EndsWith s profiles
 by_one s profiles n e h = subst (EndsWith s) (ap (λ (k : ℕ). profiles * k) e ∙ mul-one profiles) h
 
-counts_ends : (due from outcomes : ℕ) (c : Content) → Ends (at p.Counts due from outcomes c)
-counts_ends zero from outcomes c =
-    then _ (at p.AfterStrategies (length c.players * c.profiles) from outcomes c) Closing refl
-    (body_ends (length c.players * c.profiles) from outcomes c)
-counts_ends (suc due) from outcomes c =
+counted_ends : (q : Position) → Takes ByCounts q → (due from outcomes : ℕ) (c : Content)
+    → Ends (at q due from outcomes c)
+counted_ends q takes zero from outcomes c =
+    then _ (at p.AfterStrategies (length c.players * c.profiles) from outcomes c) Closing
+    (grind arith) (body_ends (length c.players * c.profiles) from outcomes c)
+counted_ends q takes (suc due) from outcomes c =
     then _ (at p.Counts due from outcomes (with_count c 1)) (Bare (codes "1"))
-    (rw (not_zero, one_is_count, pred_suc) refl)
+    (grind (arith, one_is_count))
     (by_one (at p.Counts due from outcomes (with_count c 1)) c.profiles 1 refl
-    (counts_ends due from outcomes (with_count c 1)))
-
-first_ends : (due from outcomes : ℕ) (c : Content) → Ends (at p.FirstStrategies due from outcomes c)
-first_ends zero from outcomes c =
-    then _ (at p.AfterStrategies (length c.players * c.profiles) from outcomes c) Closing refl
-    (body_ends (length c.players * c.profiles) from outcomes c)
-first_ends (suc due) from outcomes c =
-    then _ (at p.Counts due from outcomes (with_count c 1)) (Bare (codes "1"))
-    (rw (not_zero, one_is_count, pred_suc) refl)
-    (by_one (at p.Counts due from outcomes (with_count c 1)) c.profiles 1 refl
-    (counts_ends due from outcomes (with_count c 1)))
+    (counted_ends p.Counts (inr refl) due from outcomes (with_count c 1)))
 
 listed_step : (s : State) (n : ℕ) → 0 < n
     → listed s n ≡ Ok (at p.BeforeList s.due 0 s.outcomes (with_count s.content n))
-listed_step s zero some = absurd (omega arith)
-listed_step s (suc n) some = refl
+listed_step s n some = grind arith
 
 longer : (c : Content) → length (with_labels c ([] ∷ [])).labels ≡ length c.labels + 1
 longer c = length-append c.labels ([] ∷ [])
@@ -160,7 +152,7 @@ list_ends (suc n) due from outcomes c h =
 
 players_end : (due from outcomes : ℕ) (c : Content) → Ends (at p.InPlayers due from outcomes c)
 players_end due from outcomes c =
-    let k = first_ends (length c.players) from outcomes c in
+    let k = counted_ends p.FirstStrategies (inl refl) (length c.players) from outcomes c in
     (Closing ∷ Opening ∷ k.0, k.1, k.2, k.3)
 
 title_ends : (due from outcomes : ℕ) (c : Content) → Ends (at p.Title due from outcomes c)
@@ -188,9 +180,11 @@ ends_at p.BeforePlayers h due from outcomes c =
     let k = players_end due from outcomes c in (Opening ∷ k.0, k.1, k.2, k.3)
 ends_at p.InPlayers h due from outcomes c = players_end due from outcomes c
 ends_at p.BeforeStrategies h due from outcomes c =
-    let k = first_ends due from outcomes c in (Opening ∷ k.0, k.1, k.2, k.3)
-ends_at p.FirstStrategies h due from outcomes c = first_ends due from outcomes c
-ends_at p.Counts h due from outcomes c = counts_ends due from outcomes c
+    let k = counted_ends p.FirstStrategies (inl refl) due from outcomes c in (Opening ∷ k.0, k.1, k.2, k.3)
+ends_at p.FirstStrategies h due from outcomes c =
+    counted_ends p.FirstStrategies (inl refl) due from outcomes c
+ends_at p.Counts h due from outcomes c =
+    counted_ends p.Counts (inr refl) due from outcomes c
 ends_at p.BeforeList h due from outcomes c = lists_ends due from outcomes c
 ends_at p.InList h due from outcomes c = absurd h
 ends_at p.AfterStrategies h due from outcomes c = body_ends due from outcomes c

@@ -20,8 +20,7 @@ and_more_is (x ∷ xs) due = let h = and_more_is xs due in omega (arith, h)
 pub each_both : {A : Type 0} (P : List Token → A → Type 0) (Q : A → Type 0) (xs : List A)
     (ts : List Token) → Each (λ us x. P us x × Q x) ts xs → Each P ts xs × AllByRecursion Q xs
 each_both P Q [] ts h = (h, tt)
-each_both P Q (x ∷ xs) ts h =
-    let k = each_both P Q xs h.1 h.4 in ((h.0, h.1, h.2, h.3.0, k.0), (h.3.1, k.1))
+each_both P Q (x ∷ xs) ts h = grind (arith, each_both P Q xs h.1 h.4)
 
 pub each_parts : {A : Type 0} (P : List Token → A → Type 0) (xs ys : List A) (ts : List Token)
     → Each P ts (xs ++ ys)

@@ -5,49 +5,17 @@ use Rattle.gf_nfg.proofs.Common.{◌⊎◌, pointwise, Token, Opening, Closing, 
 use Rattle.gf_nfg.proofs.Common.{braced, Content, at, run, start, nothing, with_title, with_players}
 use Rattle.gf_token.specs.declared.fault.What.TheVariants as what
 use Rattle.gf_nfg.specs.inner.Position.{Position as p}
-use Rattle.gf_nfg.proofs.lemmas.runs.Common.{guard_ok, same_bytes, with_no_players}
+use Rattle.gf_nfg.proofs.lemmas.runs.Common.{same_bytes, with_no_players}
 use Rattle.gf_nfg.proofs.lemmas.runs.Common.{with_more_players}
 use Rattle.gf_nfg.proofs.lemmas.runs.Walks.{Leads, leads_more, leads_on, walk}
 
 -- ---- what was read
 
-only_format : (ts : List Token) (r : Content) → run start ts ≡ Ok r
-    → (rest : List Token) × (ts ≡ Bare (codes "NFG") ∷ rest)
-    × (run (at p.Version 0 0 0 nothing) rest ≡ Ok r)
-only_format (Bare b ∷ rest) r e =
-    let h = guard_ok (pointwise nat_eq b (codes "NFG")) (at p.Version 0 0 0 nothing)
-    (Expected what.Format) rest r e in
-    (rest, ap (λ (x : List ℕ). Bare x ∷ rest) (same_bytes b (codes "NFG") h.0), h.1)
-only_format _ r e = absurd cc
-
-only_version : (ts : List Token) (r : Content) → run (at p.Version 0 0 0 nothing) ts ≡ Ok r
-    → (rest : List Token) × (ts ≡ Bare (codes "1") ∷ rest)
-    × (run (at p.Letter 0 0 0 nothing) rest ≡ Ok r)
-only_version (Bare b ∷ rest) r e =
-    let h = guard_ok (pointwise nat_eq b (codes "1")) (at p.Letter 0 0 0 nothing)
-    (Expected what.Version) rest r e in
-    (rest, ap (λ (x : List ℕ). Bare x ∷ rest) (same_bytes b (codes "1") h.0), h.1)
-only_version _ r e = absurd cc
-
-either_letter : (b : List ℕ) (is_r is_d : Bool) → pointwise nat_eq b (codes "R") ≡ is_r
-    → pointwise nat_eq b (codes "D") ≡ is_d → (is_r || is_d) ≡ true
-    → (b ≡ codes "R") ⊎ (b ≡ codes "D")
-either_letter b is_r is_d h h2 h3 = grind (arith, same_bytes)
-
-only_letter : (ts : List Token) (r : Content) → run (at p.Letter 0 0 0 nothing) ts ≡ Ok r
-    → (letter : List ℕ) × (rest : List Token) × (ts ≡ Bare letter ∷ rest)
-    × ((letter ≡ codes "R") ⊎ (letter ≡ codes "D")) × (run (at p.Title 0 0 0 nothing) rest ≡ Ok r)
-only_letter (Bare b ∷ rest) r e =
-    let h = guard_ok (pointwise nat_eq b (codes "R") || pointwise nat_eq b (codes "D"))
-    (at p.Title 0 0 0 nothing) (Expected what.Letter) rest r e in
-    (b, rest, refl, either_letter b _ _ refl refl h.0, h.1)
-only_letter _ r e = absurd cc
-
-only_title : (ts : List Token) (r : Content) → run (at p.Title 0 0 0 nothing) ts ≡ Ok r
-    → (title : List ℕ) × (rest : List Token) × (ts ≡ Text title ∷ Opening ∷ rest)
-    × (run (at p.InPlayers 0 0 0 (with_title nothing title)) rest ≡ Ok r)
-only_title (Text title ∷ Opening ∷ rest) r e = (title, rest, refl, e)
-only_title _ r e = absurd cc
+begun_found : (format version letter : List ℕ) (ts : List Token) (r : Content)
+    → run start (Bare format ∷ Bare version ∷ Bare letter ∷ ts) ≡ Ok r
+    → (format ≡ codes "NFG") × (version ≡ codes "1")
+    × ((letter ≡ codes "R") ⊎ (letter ≡ codes "D")) × (run (at p.Title 0 0 0 nothing) ts ≡ Ok r)
+begun_found format version letter ts r e = grind (arith, same_bytes)
 
 -- Text* Closing
 players_found : (ts : List Token) (c r : Content) → run (at p.InPlayers 0 0 0 c) ts ≡ Ok r
@@ -86,28 +54,19 @@ pub record Heading (ts : List Token) (r : Content) : Type 0 where
   pub goes_on : run (at p.BeforeStrategies (length players) 0 0 (heading title players)) rest ≡ Ok r
 
 pub heading_found : (ts : List Token) (r : Content) → run start ts ≡ Ok r → Heading ts r
-heading_found ts r e =
-    let a = only_format ts r e in
-    let b = only_version a.0 r a.2 in
-    let c = only_letter b.0 r b.2 in
-    let d = only_title c.1 r c.4 in
-    let g = players_found d.1 (with_title nothing d.0) r d.3 in
+heading_found (Bare format ∷ Bare version ∷ Bare letter ∷ Text title ∷ Opening ∷ ts) r e =
+    let h = begun_found format version letter (Text title ∷ Opening ∷ ts) r e in
+    let g = players_found ts (with_title nothing title) r h.3 in
     record {
-      letter = c.0;
-      title = d.0;
+      letter = letter;
+      title = title;
       players = g.0;
       rest = g.1;
-      parts = cc (
-        a.1,
-        b.1,
-        c.2,
-        d.2,
-        g.2,
-        append_assoc (map Text g.0) (Closing ∷ []) g.1,
-      );
-      is_letter = c.3;
+      parts = cc (h.0, h.1, g.2, append_assoc (map Text g.0) (Closing ∷ []) g.1);
+      is_letter = h.2;
       goes_on = g.3;
     }
+heading_found _ r e = absurd (grind arith)
 
 -- ---- where each heading leads
 
@@ -121,8 +80,7 @@ title_line letter title =
 
 title_leads : (letter title : List ℕ) → (letter ≡ codes "R") ⊎ (letter ≡ codes "D")
     → Leads (title_line letter title) (at p.InPlayers 0 0 0 (with_title nothing title))
-title_leads letter title (inl e) = rw e refl
-title_leads letter title (inr e) = rw e refl
+title_leads letter title h = grind arith
 
 players_walk : (players : List (List ℕ)) (c : Content)
     → walk (at p.InPlayers 0 0 0 c) (map Text players)

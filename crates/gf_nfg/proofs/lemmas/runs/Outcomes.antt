@@ -122,18 +122,9 @@ pub record Choices (ts : List Token) (due outcomes : ℕ) (c r : Content) : Type
 
 pub choices_found : (ts : List Token) (due outcomes : ℕ) (c r : Content)
     → run (at p.OutcomeNumbers due 0 outcomes c) ts ≡ Ok r → Choices ts due outcomes c r
-choices_found [] zero outcomes c r e = record {
-  choices = [];
-  each = refl;
-  count = refl;
-  known = tt;
-  got = sym (ok_is c r e) ∙ sym (with_no_choices c);
-}
-choices_found (t ∷ ts) zero outcomes c r e = absurd cc
 choices_found (Bare b ∷ ts) (suc due) outcomes c r e =
     let s : State = at p.OutcomeNumbers (suc due) 0 outcomes c in
-    let f : (chosen s (index_of b) >>= λ after. run after ts) ≡ Ok r = rw not_zero at e in
-    let h = chosen_found s (index_of b) ts r f in
+    let h = chosen_found s (index_of b) ts r (rw not_zero at e) in
     let k = choices_found ts due outcomes (with_choices c (h.0 ∷ [])) r (rw pred_suc at h.3) in
     record {
       choices = h.0 ∷ k.choices;
@@ -142,7 +133,7 @@ choices_found (Bare b ∷ ts) (suc due) outcomes c r e =
       known = (h.2, k.known);
       got = k.got ∙ with_more_choices c h.0 k.choices;
     }
-choices_found _ (suc due) outcomes c r e = let f = rw not_zero at e in absurd cc
+choices_found ts due outcomes c r e = grind (arith, ok_is, with_no_choices)
 
 choice_step : (b : List ℕ) (due outcomes k : ℕ) (c : Content) (ts : List Token)
     → index_of b ≡ Some k → k ≤ outcomes

@@ -24,21 +24,16 @@ pub flat_found : (ts : List Token) (due : ℕ) (c r : Content)
     → run (at p.FlatPayoffs due 0 0 c) ts ≡ Ok r
     → (numbers : List Ratio) × Each IsPayoff ts numbers × (length numbers ≡ due)
     × (r ≡ with_payoffs c numbers)
-flat_found [] zero c r e =
-    ([], refl, refl, sym (ok_is c r e) ∙ sym (with_no_payoffs c))
-flat_found (t ∷ ts) zero c r e = absurd cc
 flat_found (Bare b ∷ ts) (suc due) c r e =
     let s : State = at p.FlatPayoffs (suc due) 0 0 c in
-    let f : (paid p.FlatPayoffs s (number_of b) >>= λ after. run after ts) ≡ Ok r =
-    rw not_zero at e in
-    let h = paid_found p.FlatPayoffs s (number_of b) ts r f in
+    let h = paid_found p.FlatPayoffs s (number_of b) ts r (rw not_zero at e) in
     let k = flat_found ts due (with_payoffs c (h.0 ∷ [])) r (rw pred_suc at h.2) in (
       h.0 ∷ k.0,
       (Bare b ∷ [], ts, refl, (b, refl, number_is b h.0 h.1), k.1),
       ap suc k.2,
       k.3 ∙ with_more_payoffs c (h.0 ∷ []) k.0,
     )
-flat_found _ (suc due) c r e = let f = rw not_zero at e in absurd cc
+flat_found ts due c r e = grind (arith, ok_is, with_no_payoffs)
 
 flat_step : (b : List ℕ) (due : ℕ) (n : Ratio) (c : Content) (ts : List Token) → number_of b ≡ Ok n
     → run (at p.FlatPayoffs (suc due) 0 0 c) (Bare b ∷ ts) ≡ run
@@ -76,18 +71,15 @@ comma_found : (ts : List Token) (due outcomes : ℕ) (c r : Content)
     → run (at p.AfterBracedPayoff due 0 outcomes c) ts ≡ Ok r
     → (comma : List Token) × (rest : List Token) × (ts ≡ comma ++ rest)
     × ((comma ≡ []) ⊎ (comma ≡ Comma ∷ [])) × (run (braced_due outcomes due c) rest ≡ Ok r)
-comma_found [] due outcomes c r e = ([], [], refl, inl refl, e)
 comma_found (Comma ∷ ts) due outcomes c r e = (Comma ∷ [], ts, refl, inr refl, e)
-comma_found (t ∷ ts) due outcomes c r e = ([], t ∷ ts, refl, inl refl, e)
+comma_found ts due outcomes c r e = grind arith
 
 one_braced : (outcomes : ℕ) (ts : List Token) (due : ℕ) (c r : Content)
     → run (braced_due outcomes (suc due) c) ts ≡ Ok r
     → First IsPayoffInBraces (braced_due outcomes) with_one ts due c r
 one_braced outcomes (Bare b ∷ ts) due c r e =
     let s : State = braced_due outcomes (suc due) c in
-    let f : (paid p.AfterBracedPayoff s (number_of b) >>= λ after. run after ts) ≡ Ok r =
-    rw not_zero at e in
-    let h = paid_found p.AfterBracedPayoff s (number_of b) ts r f in
+    let h = paid_found p.AfterBracedPayoff s (number_of b) ts r (rw not_zero at e) in
     let k = comma_found ts due outcomes (with_one c h.0) r (rw pred_suc at h.2) in
     record {
       first = Bare b ∷ k.0;
@@ -97,7 +89,7 @@ one_braced outcomes (Bare b ∷ ts) due c r e =
       is = (b, k.0, refl, number_is b h.0 h.1, k.3);
       goes_on = k.4;
     }
-one_braced outcomes _ due c r e = let f = rw not_zero at e in absurd cc
+one_braced outcomes _ due c r e = absurd (grind arith)
 
 brace_found : (ts : List Token) (outcomes : ℕ) (c r : Content)
     → run (braced_due outcomes 0 c) ts ≡ Ok r → (rest : List Token) × (ts ≡ Closing ∷ rest)

@@ -11,7 +11,7 @@ use Rattle.gf_nfg.specs.declared.table.heading.Heading.{Heading}
 use Rattle.gf_nfg.specs.declared.reader.Reader.{Reader}
 use Rattle.gf_nfg.specs.declared.reader.receive.Version.{Version}
 use Rattle.gf_nfg.specs.declared.reader.receive.Version.TheVariants as version
-use Rattle.gf_nfg.proofs.lemmas.places.Heard.{carried}
+use Rattle.gf_nfg.proofs.lemmas.places.Heard.{carried, wants_memory}
 
 -- ---- answers carried back
 
@@ -119,3 +119,9 @@ all_told holds (Err f) t same unnumbered holding goes fails = carried fails goes
 
 pub no_payoffs : {numbers : List ℕ} → version.Outcomes ≡ version.Payoffs → numbers ≡ []
 no_payoffs e = absurd cc
+
+pub ruleset body_told = (body_begins, wants_memory)
+
+pub ruleset told_ends = (carried, ends_back)
+
+pub ruleset first_steps = (first_opens, goes_from, goes_to, counts_end, lists_end)

@@ -5,7 +5,7 @@ use Rattle.gf_nfg.proofs.Common.{length-drop, AllByRecursion, mul-suc, slice_get
 use Rattle.gf_nfg.proofs.Common.{Each, Ratio, IsPayoff, IsOutcomeInBraces, IsOutcomeNumber, Pays}
 use Rattle.gf_nfg.proofs.Common.{row_of, take-append-drop}
 use Rattle.gf_nfg.proofs.lemmas.tables.Lists.{joined, get-joined}
-use Rattle.gf_nfg.proofs.lemmas.tables.Meaning.{rows_of}
+use Rattle.gf_nfg.proofs.lemmas.tables.Rows.{rows_of}
 use Rattle.gf_nfg.proofs.lemmas.runs.Groups.{each_parts}
 use Rattle.gf_nfg.proofs.lemmas.runs.Outcomes.{IsChoice, greatest}
 
@@ -26,14 +26,9 @@ rows_each size (suc n) numbers tokens e h =
 Each-append : {A : Type 0} (P : List Token → A → Type 0)
     (xs ys : List A) (first others : List Token)
     → Each P first xs → Each P others ys → Each P (first ++ others) (xs ++ ys)
-Each-append P [] ys first others h k = subst (λ ts. Each P (ts ++ others) ys) (sym h) k
-Each-append P (x ∷ xs) ys first others h k = (
-  h.0,
-  h.1 ++ others,
-  ap (λ ts. ts ++ others) h.2 ∙ append_assoc h.0 h.1 others,
-  h.3,
-  Each-append P xs ys h.1 others h.4 k,
-)
+Each-append P (x ∷ xs) ys first others h k =
+    grind (arith, append_assoc, Each-append P xs ys h.1 others h.4 k)
+Each-append P xs ys first others h k = grind arith
 
 pub rows_joined : (rs : List (List Ratio)) (tokens : List Token) → Each (Each IsPayoff) tokens rs
     → Each IsPayoff tokens (joined rs)
@@ -53,8 +48,7 @@ module _ (players : ℕ) (outcomes : List (List Ratio))
     (full : AllByRecursion (λ row. length row ≡ players) outcomes) where
   pays : (k : ℕ) → k ≤ greatest (length outcomes)
       → Pays players outcomes k (row_of players (joined outcomes) k)
-  pays zero h = refl
-  pays (suc k) h = get-joined players outcomes k full (omega arith)
+  pays k h = grind (arith, get-joined)
 
   pub choices_pay : (choices : List ℕ) (tokens : List Token) → Each IsChoice tokens choices
       → AllByRecursion (λ k. k ≤ greatest (length outcomes)) choices

@@ -96,8 +96,7 @@ one_count : (ts : List Token) (due : ℕ) (c r : Content)
     → run (at p.Counts (suc due) 0 0 c) ts ≡ Ok r → OneOf ByCounts ts due c r
 one_count (Bare b ∷ ts) due c r e =
     let s : State = at p.Counts (suc due) 0 0 c in
-    let f : (counted s (count_of b) >>= λ after. run after ts) ≡ Ok r = rw not_zero at e in
-    let h = counted_found s (count_of b) ts r f in
+    let h = counted_found s (count_of b) ts r (rw not_zero at e) in
     let k = count_is b h.0 h.1 in
     let n = length-counted_labels h.0 in
     record {
@@ -108,7 +107,7 @@ one_count (Bare b ∷ ts) due c r e =
       is = ((b, h.0, refl, k.1, refl), omega (arith, n, k.0));
       goes_on = cc (n, pred_suc due);
     }
-one_count _ due c r e = let f = rw not_zero at e in absurd cc
+one_count _ due c r e = absurd (grind arith)
 
 -- Text* Closing
 labels_found : (ts : List Token) (due from : ℕ) (c r : Content)
@@ -144,7 +143,7 @@ one_list (Opening ∷ ts) due c r e =
       is = (refl, k.0);
       goes_on = k.1;
     }
-one_list _ due c r e = let f = rw not_zero at e in absurd cc
+one_list _ due c r e = absurd (grind arith)
 
 -- what the strategies still due and the closing brace read
 pub record Read (ts : List Token) (due : ℕ) (c r : Content) : Type 0 where
@@ -152,7 +151,7 @@ pub record Read (ts : List Token) (due : ℕ) (c r : Content) : Type 0 where
   pub inner : List Token
   pub rest : List Token
   pub strategies : Strategies
-  pub parts : ts ≡ inner ++ Closing ∷ rest
+  pub parts : ts ≡ braced inner ++ rest
   pub each : Each (IsGroup kind) inner strategies
   pub some : AllSome strategies
   pub count : length strategies ≡ due
@@ -166,7 +165,7 @@ closed_found ByLists (Closing ∷ ts) c r e = (ts, refl, e)
 closed_found k _ c r e = grind arith
 
 of_groups : (k : Kind) (ts : List Token) (due : ℕ) (c r : Content)
-    → Groups (IsSome k) (due_at k) (with_group k) ts due c r → Read ts due c r
+    → Groups (IsSome k) (due_at k) (with_group k) ts due c r → Read (Opening ∷ ts) due c r
 of_groups k ts due c r h =
     let e = each_both (IsGroup k) (λ labels. 0 < length labels) h.items h.inner h.each in
     let z = closed_found k h.rest (all_in (with_group k) c h.items) r h.goes_on in
@@ -175,7 +174,7 @@ of_groups k ts due c r h =
       inner = h.inner;
       rest = z.0;
       strategies = h.items;
-      parts = cc (h.parts, z.1);
+      parts = cc (h.parts, z.1, append_assoc h.inner (Closing ∷ []) z.0);
       each = e.0;
       some = e.1;
       count = h.count;
@@ -183,21 +182,20 @@ of_groups k ts due c r h =
     }
 
 read_by : (k : Kind) (ts : List Token) (due : ℕ) (c r : Content) → run (due_at k due c) ts ≡ Ok r
-    → Read ts due c r
+    → Read (Opening ∷ ts) due c r
 read_by ByCounts ts due c r e =
     of_groups ByCounts ts due c r (groups_found _ _ _ one_count ts due c r e)
 read_by ByLists ts due c r e =
     of_groups ByLists ts due c r (groups_found _ _ _ one_list ts due c r e)
 
 pub strategies_found : (ts : List Token) (due : ℕ) (c r : Content)
-    → run (at p.FirstStrategies due 0 0 c) ts ≡ Ok r → Read ts due c r
-strategies_found [] zero c r e = absurd cc
-strategies_found (t ∷ ts) zero c r e = read_by ByCounts (t ∷ ts) zero c r e
-strategies_found (Bare b ∷ ts) (suc due) c r e =
+    → run (at p.BeforeStrategies due 0 0 c) ts ≡ Ok r → Read ts due c r
+strategies_found (Opening ∷ t ∷ ts) zero c r e = read_by ByCounts (t ∷ ts) zero c r e
+strategies_found (Opening ∷ Bare b ∷ ts) (suc due) c r e =
     read_by ByCounts (Bare b ∷ ts) (suc due) c r (rw not_zero (rw not_zero at e))
-strategies_found (Opening ∷ ts) (suc due) c r e =
+strategies_found (Opening ∷ Opening ∷ ts) (suc due) c r e =
     read_by ByLists (Opening ∷ ts) (suc due) c r (rw not_zero (rw not_zero at e))
-strategies_found _ (suc due) c r e = let f = rw not_zero at e in absurd cc
+strategies_found _ due c r e = absurd (grind arith)
 
 -- ---- where strategies lead
 

@@ -1,6 +1,6 @@
 -- Where tokens lead the machine.
 use Rattle.gf_nfg.proofs.Common.{◌≡◌, List, [], ◌∷◌, ◌++◌, Result, Ok, Err, refl, sym, ◌∙◌, Token}
-use Rattle.gf_nfg.proofs.Common.{Why, State, run, step, start, ◌>>=◌}
+use Rattle.gf_nfg.proofs.Common.{Why, State, run, step, start, ◌>>=◌, arith}
 
 -- where tokens lead from a state
 abbrev pub walk : State → List Token → Result State Why
@@ -13,13 +13,11 @@ Leads ts s = walk start ts ≡ Ok s
 
 pub then_ok : {A : Type 0} (o : Result State Why) (f : State → Result A Why) (r : A)
     → (o >>= f) ≡ Ok r → (mid : State) × (o ≡ Ok mid) × (f mid ≡ Ok r)
-then_ok (Ok mid) f r e = (mid, refl, e)
-then_ok (Err why) f r e = absurd cc
+then_ok o f r e = grind arith
 
 on_more : {A : Type 0} (o : Result State Why) (f : State → Result State Why)
     (g h : State → Result A Why) → ((s : State) → h s ≡ (f s >>= g)) → (o >>= h) ≡ ((o >>= f) >>= g)
-on_more (Ok s) f g h e = e s
-on_more (Err why) f g h e = refl
+on_more o f g h e = grind arith
 
 pub walk_run : (ts more : List Token) (s : State)
     → run s (ts ++ more) ≡ (walk s ts >>= λ after. run after more)

@@ -4,24 +4,20 @@ use Rattle.gf_nfg.proofs.Common.{slice_get, refl, sym, ap, ◌∙◌, arith, tak
 use Rattle.gf_nfg.proofs.Common.{not, nat_eq, true, false, slice_eq-Decides, Decides-eqb}
 use Rattle.gf_nfg.proofs.Common.{Decides-int_eq, Ratio, Entry, Table, IsTable, rows, entries_of}
 use Rattle.gf_nfg.proofs.Common.{pointwise}
+use Rattle.std.proofs.lemmas.Bool.{and_parts, not-false}
+use Rattle.std.proofs.lemmas.List.{take_more_same}
+use Rattle.std.proofs.lemmas.Option.{get_or_from_slice_get, slice_get_within}
 use Rattle.std.specs.Bool.{Decides}
 use Rattle.std.specs.Ordering.{int_eq}
 use Rattle.gf_nfg.proofs.lemmas.tables.Rows.{entries_again}
-
-same_next : {A : Type 0} (xs ys : List A) (k : ℕ) (x y : A) → slice_get xs k ≡ Some x
-    → slice_get ys k ≡ Some y → x ≡ y → take k xs ≡ take k ys → take (suc k) xs ≡ take (suc k) ys
-same_next [] ys k x y h g e s = absurd (cc)
-same_next (a ∷ xs) [] k x y h g e s = absurd (cc)
-same_next (a ∷ xs) (b ∷ ys) zero x y h g e s = let same : a ≡ b = cc in ap (λ c. c ∷ []) same
-same_next (a ∷ xs) (b ∷ ys) (suc k) x y h g e s =
-    let same : a ≡ b = cc in
-    let rest : take k xs ≡ take k ys = cc in
-    rw (same, same_next xs ys k x y h g e rest) refl
+use Rattle.gf_nfg.proofs.lemmas.texts.Pieces.{own_strategy, own_there}
 
 -- one more place
 pub same_more : {A : Type 0} (xs ys : List A) (k : ℕ) (x y : A) → slice_get xs k ≡ Some x
     → slice_get ys k ≡ Some y → x ≡ y → take k xs ≡ take k ys → take (k + 1) xs ≡ take (k + 1) ys
-same_more xs ys k x y h g e s = grind (arith, same_next)
+same_more xs ys k x y h g e s =
+    take_more_same xs ys k x (slice_get_within xs k x h) (slice_get_within ys k y g) s
+    (get_or_from_slice_get xs k x x h ∙ e ∙ sym (get_or_from_slice_get ys k y x g))
 
 -- at the end
 pub same_all : {A : Type 0} (xs ys : List A) (k : ℕ)
@@ -29,28 +25,12 @@ pub same_all : {A : Type 0} (xs ys : List A) (k : ℕ)
 same_all xs ys k h g s = sym (take_all k xs h) ∙ s ∙ take_all k ys g
 
 -- what a test of two labels says
-passed : (b : Bool) → not b ≡ false → b ≡ true
-passed true h = refl
-passed false h = absurd (cc)
-
 pub same_labels : (xs ys : List ℕ) → not (pointwise nat_eq xs ys) ≡ false → xs ≡ ys
-same_labels xs ys h = grind (arith, slice_eq-Decides, passed)
-
-both_pass : (p q : Bool) → p && q ≡ true → (p ≡ true) × (q ≡ true)
-both_pass true q h = (refl, h)
-both_pass false q h = absurd (cc)
+same_labels xs ys h = grind (arith, slice_eq-Decides, not-false)
 
 -- what a test of two fractions says
 pub Decides-ratio : (a b : Ratio) → Decides (int_eq a.num b.num && nat_eq a.den b.den) (a ≡ b)
-Decides-ratio a b = (
-  λ h. let both = both_pass (int_eq a.num b.num) (nat_eq a.den b.den) h in
-      let num : a.num ≡ b.num = (Decides-int_eq a.num b.num).0 both.0 in
-      let den : a.den ≡ b.den = (Decides-eqb a.den b.den).0 both.1 in
-      ap (λ n. let r : Ratio = record { num = n; den = a.den } in r) num
-      ∙ ap (λ d. let r : Ratio = record { num = b.num; den = d } in r) den,
-  λ e. let num = (Decides-int_eq a.num b.num).1 (ap (λ (r : Ratio). r.num) e) in
-      let den = (Decides-eqb a.den b.den).1 (ap (λ (r : Ratio). r.den) e) in rw (num, den) refl,
-)
+Decides-ratio a b = grind arith
 
 joined : (xs ys : List Entry) → map (λ e. e.profile) xs ≡ map (λ e. e.profile) ys
     → map (λ e. e.payoffs) xs ≡ map (λ e. e.payoffs) ys → xs ≡ ys
@@ -59,3 +39,11 @@ joined xs ys p q = sym (entries_again xs) ∙ (λ i. entries_of (p i) (q i)) ∙
 pub same_entries : (t u : Table)
     → IsTable t → IsTable u → t.strategies ≡ u.strategies → rows t ≡ rows u → t.entries ≡ u.entries
 same_entries t u h g s r = grind (arith, joined)
+
+pub ruleset same_by_labels = (same_labels, same_more)
+
+pub ruleset same_by_payoffs = (slice_eq-Decides, Decides-ratio)
+
+pub ruleset same_own_by_labels = (same_by_labels, own_strategy)
+
+pub ruleset same_by_own = (same_all, same_more, own_there)

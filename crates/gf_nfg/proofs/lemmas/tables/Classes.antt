@@ -133,12 +133,8 @@ pub compared_more : (first second : ℕ) (f g : ℕ → List Ratio) (xs ys : Lis
     → length parents ≡ length old
     → ((row : ℕ → List Ratio) → row m ≡ row (first + n) → ShareRows row old
     → ShareRows row parents) → IsCompared f g first second xs ys parents (at + 1)
-compared_more first second f g xs ys old parents at m n done h left right same size rows = record {
-  places = size ∙ done.places;
-  rows = rows (row_of_both first f g)
-      (row_of_first first f g m h ∙ same ∙ sym (row_of_second first f g n)) done.rows;
-  same = same_more xs ys at (f m) (g n) left right same done.same;
-}
+compared_more first second f g xs ys old parents at m n done h left right same size rows =
+    search (arith, row_of_first, row_of_second, same_more)
 
 pub rows_differ : (xs ys : List (List Ratio)) (at : ℕ) (x y : List Ratio)
     → slice_get xs at ≡ Some x → slice_get ys at ≡ Some y → xs ≡ ys → x ≡ y

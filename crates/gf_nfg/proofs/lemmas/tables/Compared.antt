@@ -83,11 +83,7 @@ module _ (named : Bool) (t : Table) (m n : Names) (bytes : List ℕ) (heading : 
 
   pub other_names : ¬ (names_by named m ≡ names_by named n)
       → IsTrue false ↔ SameTable (named_by named t) (named_by named told)
-  other_names not = (
-    λ x. absurd (cc),
-    λ s. absurd (not ((same_by_parts named t told m n (rows t) (rows told) ht is_told of_t of_told
-        refl refl).0 s).0),
-  )
+  other_names not = grind arith
 
   pub rows_compared : (rs qs : List (List Ratio)) (answer : Bool)
       → names_by named m ≡ names_by named n → rs ≡ rows t → qs ≡ rows told
@@ -135,11 +131,6 @@ module _ (named : Bool) (t : Table) (m n : Names) (bytes : List ℕ) (heading : 
           → c.kept.payoffs.items ≡ h.told.payoffs
       kept Payoffs is k = absurd (not is)
       kept Outcomes is k = k
-
-pub if_ok : {A E : Type 0} (P Q : A → Type 0) (r : Result A E) → IfOk r P → ((x : A) → P x → Q x)
-    → IfOk r Q
-if_ok P Q (Ok x) h f = f x h
-if_ok P Q (Err e) h f = tt
 
 -- the row at the next place
 pub next_row : (rs : List (List Ratio)) (row next all : List Ratio) (place : ℕ) → length row ≡ 0

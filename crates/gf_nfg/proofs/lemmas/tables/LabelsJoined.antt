@@ -63,16 +63,14 @@ joined_behind before (x ∷ xs) ys h l =
 -- labels that are joined by a dash make a label
 pub joined_label : (labels : List (List ℕ)) → AreSpellings labels
     → IsLabel (join_with_byte 45 labels)
-joined_label [] h = refl
-joined_label (x ∷ []) h = h.0
 joined_label (x ∷ y ∷ labels) h = grind (arith, joined_behind, joined_label (y ∷ labels) h.1)
+joined_label labels h = grind arith
 
 pub one_joined_more : (labels : List (List ℕ)) (x : List ℕ) → 0 < length labels
     → join_with_byte 45 (labels ++ x ∷ []) ≡ join_with_byte 45 labels ++ 45 ∷ x
-one_joined_more [] x some = absurd (omega arith)
-one_joined_more (y ∷ []) x some = refl
 one_joined_more (y ∷ z ∷ labels) x some =
     grind (arith, append_assoc, one_joined_more (z ∷ labels) x (omega arith))
+one_joined_more labels x some = grind arith
 
 -- ---- one more label
 

@@ -33,10 +33,6 @@ module _ (t : Table) (names : Names) (body : Body)
 
 -- ---- the table that was told
 
-pub empty_is : (numbers : List ℕ) → length numbers ≡ 0 → numbers ≡ []
-empty_is [] e = refl
-empty_is (n ∷ numbers) e = absurd (omega (arith, e))
-
 pub some_is : (numbers : List ℕ) → 0 < length numbers → ¬ (numbers ≡ [])
 some_is numbers some e = absurd (omega (arith, some, ap length e))
 
@@ -90,10 +86,7 @@ module _ (bytes : List ℕ) (heading : Heading) (l : Listing)
         → length (payoffs_in l.whole.items l.kept.payoffs.items)
         ≡ product (map length names.strategies) * length names.players
     in_turn_full none =
-        ap length h.holding.payoffs_are
-        ∙ subst (HasPayoffs told) (none_chosen none) h.complete.has_rows
-        ∙ mul_comm (length told.players) told.profiles
-        ∙ (λ i. sym count_is i * length (sym names_are i).players)
+        grind (arith, length, payoffs_are, none_chosen, mul_comm, count_is, names_are)
 
     pub rows_held : (rs : List (List Ratio)) → rs ≡ rows_by told told.choices → IsHeld names rs
     rows_held rs are =

@@ -4,26 +4,12 @@ use Rattle.gf_nfg.proofs.Common.{take, drop, Some, refl, ap, subst, ◌∙◌, a
 use Rattle.gf_nfg.proofs.Common.{slice_get, AllByRecursion, flat_map, mul-suc, one-le-mul}
 use Rattle.gf_nfg.proofs.Common.{length-append, length-map, positions, product, counted_labels}
 use Rattle.gf_nfg.proofs.Common.{groups}
+use Rattle.std.proofs.lemmas.List.{drop_at, take_at}
 use Rattle.std.proofs.lemmas.List.Sums.{sum_by-cons}
 use Rattle.gf_nfg.proofs.lemmas.tables.NumbersInTurn.{length-numbers_from}
 
 abbrev pub joined : {A : Type 0} → List (List A) → List A
 joined lists = flat_map (λ items. items) lists
-
-take-front : {A : Type 0} (xs ys : List A) → take (length xs) (xs ++ ys) ≡ xs
-take-front [] ys = refl
-take-front (x ∷ xs) ys = ap (λ zs. x ∷ zs) (take-front xs ys)
-
-drop-front : {A : Type 0} (xs ys : List A) → drop (length xs) (xs ++ ys) ≡ ys
-drop-front [] ys = refl
-drop-front (x ∷ xs) ys = drop-front xs ys
-
--- a prefix of this length, and what is after it
-pub take-by : {A : Type 0} (n : ℕ) (xs ys : List A) → length xs ≡ n → take n (xs ++ ys) ≡ xs
-take-by n xs ys e = subst (λ k. take k (xs ++ ys) ≡ xs) e (take-front xs ys)
-
-pub drop-by : {A : Type 0} (n : ℕ) (xs ys : List A) → length xs ≡ n → drop n (xs ++ ys) ≡ ys
-drop-by n xs ys e = subst (λ k. drop k (xs ++ ys) ≡ ys) e (drop-front xs ys)
 
 drop-more : {A : Type 0} (n m : ℕ) (xs ys : List A) → length xs ≡ n
     → drop (n + m) (xs ++ ys) ≡ drop m ys
@@ -47,7 +33,7 @@ sum-cons n ns = sum_by-cons (λ (x : ℕ). x) n ns
 pub groups-joined : {A : Type 0} (lists : List (List A))
     → groups (map length lists) (joined lists) ≡ lists
 groups-joined [] = refl
-groups-joined (xs ∷ lists) = grind (arith, drop-front, take-front, groups-joined lists)
+groups-joined (xs ∷ lists) = grind (arith, drop_at, take_at, groups-joined lists)
 
 pub length-joined : {A : Type 0} (lists : List (List A))
     → length (joined lists) ≡ sum (map length lists)
@@ -65,10 +51,9 @@ length-joined_rows size (xs ∷ lists) h =
 pub get-joined : {A : Type 0} (size : ℕ) (lists : List (List A)) (k : ℕ)
     → AllByRecursion (λ xs. length xs ≡ size) lists → k < length lists
     → slice_get lists k ≡ Some (take size (drop (k * size) (joined lists)))
-get-joined size [] k h less = absurd (omega arith)
-get-joined size (xs ∷ lists) zero h less = grind (arith, take-by)
 get-joined size (xs ∷ lists) (suc k) h less =
     grind (arith, drop-more, get-joined size lists k h.1 (omega arith))
+get-joined size lists k h less = grind (arith, take_at)
 
 -- of positive counts there are some
 pub product_above_zero : (counts : List ℕ) → AllByRecursion (λ n. 0 < n) counts → 0 < product counts

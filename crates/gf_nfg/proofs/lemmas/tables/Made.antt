@@ -18,10 +18,8 @@ lists_spelled (own ∷ lists) = (labels_spelled own.items, lists_spelled lists)
 -- the clones of fractions are these
 pub clones_are : (xs ys : List Ratio) → AllZip (λ x y. (y ≡ x) × IsFraction y) xs ys
     → AllByRecursion IsFraction ys
-clones_are [] [] h = tt
-clones_are [] (y ∷ ys) h = absurd h
-clones_are (x ∷ xs) [] h = absurd h
 clones_are (x ∷ xs) (y ∷ ys) h = (h.0.1, clones_are xs ys h.1)
+clones_are xs ys h = grind arith
 
 -- ---- parts that fit
 
@@ -40,23 +38,19 @@ pub parts_of_labels : (title comment : Label) (players : List Label)
     → length payoffs ≡ product (map length strategies) * length players
     → AllByRecursion (λ own. AreSpellings own) strategies
     → AreParts (names_with title comment players strategies) payoffs
-parts_of_labels title comment players strategies payoffs one some few fractions full spelled =
-    let as_many = length-map players label_of in
-    record {
-      one_list_each = one ∙ sym as_many;
-      some_strategy = some;
-      within = few;
-      one_row_each = full ∙ ap (λ (n : ℕ). product (map length strategies) * n) (sym as_many);
-      fractions = fractions;
-      spelled = (
-        title.spelled,
-        (
-          comment.spelled,
-          all_both IsLabel (map label_of players) (flat_map (λ own. own) strategies)
-              (labels_spelled players) (all_joined IsLabel strategies spelled),
-        ),
-      );
-    }
+parts_of_labels title comment players strategies payoffs one some few fractions full spelled = search (
+  arith,
+  length-map,
+  label_of,
+  ℕ,
+  product,
+  map,
+  length,
+  all_both,
+  flat_map,
+  labels_spelled,
+  all_joined,
+)
 
 pub parts_of_lists : {Z : Type 0} (title comment : Label) (players : List Label)
     (lists : List (Vec Label Z)) (payoffs : List Ratio)
@@ -86,10 +80,7 @@ pub record IsMade (names : Names) (payoffs : List Ratio) (players size : ℕ) (q
 module _ (names : Names) (payoffs : List Ratio) (players size : ℕ) (quotient : Option ℕ)
     (count : ℕ) (m : IsMade names payoffs players size quotient count) where
   pub made_counted : count ≡ product (map length names.strategies)
-  made_counted = cc (profiles_counted size players (map length names.strategies) quotient m.divided
-      (length-map names.strategies length ∙ m.parts.one_list_each ∙ sym m.players_are) (m.size_is
-      ∙ m.parts.one_row_each ∙ ap (λ (n : ℕ). product (map length names.strategies) * n) (sym
-      m.players_are)))
+  made_counted = grind (arith, profiles_counted, map, length, length-map, ℕ, product)
 
   pub made_whole : length payoffs ≡ count * players
   made_whole = m.parts.one_row_each ∙ (λ i. sym made_counted i * sym m.players_are i)
@@ -103,11 +94,7 @@ module _ (names : Names) (payoffs : List Ratio) (players size : ℕ) (quotient :
       (positions_have_rows players count payoffs [] made_whole)
 
   made_named : IsNamed names (length rs)
-  made_named = record {
-    one_list_each = m.parts.one_list_each;
-    some_strategy = m.parts.some_strategy;
-    counted = made_count ∙ made_counted;
-  }
+  made_named = grind (arith, made_count, made_counted)
 
   made_full : AllByRecursion (λ row. length row ≡ length names.players) rs
   made_full =
@@ -127,12 +114,7 @@ module _ (names : Names) (payoffs : List Ratio) (players size : ℕ) (quotient :
 
   pub made_held : (rows : List (List Ratio)) → rows ≡ map (row_of players payoffs) (positions count)
       → IsHeld names rows
-  made_held rows is = rw is (record {
-    named = made_named;
-    one_payoff_each = made_full;
-    within = omega (arith, made_count, made_counted, m.parts.within);
-    spellable = made_spellable;
-  })
+  made_held rows is = grind (arith, made_named, made_full, made_count, made_counted, made_spellable)
 
   pub made_is : (rows : List (List Ratio)) (t : Table)
       → rows ≡ map (row_of players payoffs) (positions count) → t ≡ table_with names rows
@@ -140,3 +122,5 @@ module _ (names : Names) (payoffs : List Ratio) (players size : ℕ) (quotient :
   made_is rows t is made =
       made_of_parts t names _ _ _ _ rs payoffs refl made_named made_full made_in_turn
       (made ∙ ap (table_with names) is)
+
+pub ruleset made_of_labels = (names_with, parts_of_labels)

@@ -7,8 +7,8 @@ use Rattle.gf_nfg.proofs.Common.{numbers_from, positions, profile_limit, IsWithi
 use Rattle.gf_nfg.proofs.Common.{IsTable, rows, Names, groups, numbers_of, row_of, IsHeld, IsNamed}
 use Rattle.gf_nfg.proofs.Common.{HasRows, Content, names_in, choices_of, strategies_of, rows_by}
 use Rattle.gf_nfg.proofs.Common.{table_of, HasPayoffs, HasLabels, IsComplete}
-use Rattle.gf_nfg.proofs.lemmas.tables.Lists.{joined, sum-cons, counts_back, groups-joined, take-by}
-use Rattle.gf_nfg.proofs.lemmas.tables.Lists.{drop-by}
+use Rattle.std.proofs.lemmas.List.{drop_at, take_at}
+use Rattle.gf_nfg.proofs.lemmas.tables.Lists.{joined, sum-cons, counts_back, groups-joined}
 use Rattle.gf_nfg.proofs.lemmas.tables.Rows as kept
 
 -- ---- strategies
@@ -28,8 +28,7 @@ length-groups (n ∷ sizes) items e = grind (
 -- the strategies are as many as the counts say
 pub counts-strategies_of : (counts : List ℕ) (labels : List (List ℕ)) → HasLabels counts labels
     → map length (strategies_of counts labels) ≡ counts
-counts-strategies_of counts [] h = counts_back counts
-counts-strategies_of counts (label ∷ labels) h = length-groups counts (label ∷ labels) h
+counts-strategies_of counts labels h = grind (arith, counts_back, length-groups)
 
 pub strategies_of-joined : (lists : List (List (List ℕ)))
     → AllByRecursion (λ n. 0 < n) (map length lists)
@@ -40,34 +39,18 @@ strategies_of-joined ((label ∷ labels) ∷ lists) h = groups-joined ((label �
 
 -- ---- rows
 
--- this many rows of this length, from the payoffs in turn
-abbrev pub rows_of : ℕ → ℕ → List Ratio → List (List Ratio)
-rows_of players zero payoffs = []
-rows_of players (suc n) payoffs = take players payoffs ∷ rows_of players n (drop players payoffs)
-
-numbered_rows : (players k n : ℕ) (payoffs : List Ratio)
-    → map (row_of players payoffs) (numbers_from (suc k) n)
-    ≡ rows_of players n (drop (k * players) payoffs)
-numbered_rows players k zero payoffs = refl
-numbered_rows players k (suc n) payoffs =
-    grind (arith, drop-drop, take, drop, numbered_rows players (suc k) n payoffs)
-
--- rows with the numbers from 1 are the rows in turn
-pub rows_in_turn : (players n : ℕ) (payoffs : List Ratio)
-    → map (row_of players payoffs) (positions n) ≡ rows_of players n payoffs
-rows_in_turn players n payoffs = grind (arith, numbered_rows)
-
 -- rows one after another are parted again
 rows_of-joined : (players : ℕ) (rs : List (List Ratio))
-    → AllByRecursion (λ row. length row ≡ players) rs → rows_of players (length rs) (joined rs) ≡ rs
+    → AllByRecursion (λ row. length row ≡ players) rs → kept.rows_of players (length rs) (joined rs) ≡ rs
 rows_of-joined players [] h = refl
 rows_of-joined players (row ∷ rs) h =
-    grind (arith, joined, drop-by, take-by, rows_of-joined players rs h.1)
+    grind (arith, joined, drop_at, take_at, rows_of-joined players rs h.1)
 
 pub rows_again : (players : ℕ) (rs : List (List Ratio))
     → AllByRecursion (λ row. length row ≡ players) rs
     → map (row_of players (joined rs)) (positions (length rs)) ≡ rs
-rows_again players rs h = rows_in_turn players (length rs) (joined rs) ∙ rows_of-joined players rs h
+rows_again players rs h =
+    kept.rows_numbered players (length rs) (joined rs) ∙ rows_of-joined players rs h
 
 choices_within : (players outcomes : ℕ) (choices : List ℕ) (payoffs : List Ratio)
     → length payoffs ≡ players * outcomes → AllByRecursion (λ k. k ≤ outcomes) choices
@@ -151,25 +134,20 @@ held c names rs names_are rows_are h within spellable =
 
 pub none_chosen : (profiles : ℕ) (choices : List ℕ) → length choices ≡ 0
     → numbers_of profiles (choices_of choices) ≡ positions profiles
-none_chosen profiles [] h = refl
-none_chosen profiles (k ∷ choices) h = absurd (omega (arith, h))
+none_chosen profiles choices h = grind arith
 
 pub some_chosen : (profiles : ℕ) (choices : List ℕ) → 0 < length choices
     → numbers_of profiles (choices_of choices) ≡ choices
-some_chosen profiles [] h = absurd (omega (arith, h))
-some_chosen profiles (k ∷ choices) h = refl
+some_chosen profiles choices h = grind arith
 
 pub payoffs_in_turn : (c : Content) (choices : List ℕ) → HasPayoffs c choices → length choices ≡ 0
     → length c.payoffs ≡ c.profiles * length c.players
-payoffs_in_turn c [] h none = h ∙ mul_comm (length c.players) c.profiles
-payoffs_in_turn c (k ∷ choices) h none = absurd (omega (arith, none))
+payoffs_in_turn c choices h none = grind arith
 
 pub count_chosen : (c : Content) (choices : List ℕ) → HasPayoffs c choices → 0 < length choices
     → length choices ≡ c.profiles
-count_chosen c [] h some = absurd (omega (arith, some))
-count_chosen c (k ∷ choices) h some = h.2
+count_chosen c choices h some = grind arith
 
 pub rows_chosen : (c : Content) (choices : List ℕ) → HasPayoffs c choices → 0 < length choices
     → AllByRecursion (λ number. number * length c.players ≤ length c.payoffs) choices
-rows_chosen c choices h some =
-    rw (← some_chosen c.profiles choices some) (has_rows c choices h).rows_kept
+rows_chosen c choices h some = grind (arith, some_chosen, has_rows)

@@ -16,9 +16,8 @@ length-numbers_from first zero = refl
 length-numbers_from first (suc n) = ap suc (length-numbers_from (first + 1) n)
 
 pub get_or-numbers_from : (first n i d : ℕ) → i < n → get_or (numbers_from first n) i d ≡ first + i
-get_or-numbers_from first zero i d h = absurd (omega arith)
-get_or-numbers_from first (suc n) zero d h = omega arith
 get_or-numbers_from first (suc n) (suc i) d h = grind (arith, get_or-numbers_from (first + 1) n)
+get_or-numbers_from first n i d h = grind arith
 
 -- an element, by what stands before it and after it
 abbrev pub IsIn : {X : Type 0} → List X → X → Type 0

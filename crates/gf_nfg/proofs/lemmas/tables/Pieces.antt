@@ -2,14 +2,13 @@
 use Rattle.gf_nfg.proofs.Common.{◌≡◌, ℕ, zero, suc, ◌+◌, ◌-◌, ◌<◌, ◌≤◌, List, [], ◌∷◌, ◌++◌, length}
 use Rattle.gf_nfg.proofs.Common.{take, drop, get_or, Some, slice_get, refl, ap, arith, true}
 use Rattle.gf_nfg.proofs.Common.{take-append-le, drop-append-le, length-drop, length-append}
-use Rattle.gf_nfg.proofs.Common.{take_all, drop_at, all_both, is_spelling, IsLabel, pieces}
+use Rattle.gf_nfg.proofs.Common.{take_all, drop_at, all_at, all_both, is_spelling, IsLabel, pieces}
 use Rattle.gf_nfg.proofs.Common.{start_of, RisesTo, IsCut}
 
 pub start_of_suc : (from : ℕ) (ends : List ℕ) (k d : ℕ) → k < length ends
     → start_of from ends (suc k) ≡ get_or ends k d
-start_of_suc from [] k d h = absurd (omega (arith, h))
-start_of_suc from (end ∷ ends) zero d h = refl
 start_of_suc from (end ∷ ends) (suc k) d h = start_of_suc end ends k d (omega (arith, h))
+start_of_suc from ends k d h = grind arith
 
 pub length-pieces : {A : Type 0} (from : ℕ) (ends : List ℕ) (items : List A)
     → length (pieces from ends items) ≡ length ends
@@ -20,9 +19,8 @@ length-pieces from (end ∷ ends) items = ap suc (length-pieces end ends items)
 pub piece_at : {A : Type 0} (from : ℕ) (ends : List ℕ) (items : List A) (k d : ℕ) → k < length ends
     → slice_get (pieces from ends items) k
     ≡ Some (take (get_or ends k d - start_of from ends k) (drop (start_of from ends k) items))
-piece_at from [] items k d h = absurd (omega (arith, h))
-piece_at from (end ∷ ends) items zero d h = refl
 piece_at from (end ∷ ends) items (suc k) d h = piece_at end ends items k d (omega (arith, h))
+piece_at from ends items k d h = grind arith
 
 pub rises_within : (whole from : ℕ) (ends : List ℕ) → RisesTo whole from ends → from ≤ whole
 rises_within whole from [] h = omega (arith, h)
@@ -30,17 +28,15 @@ rises_within whole from (end ∷ ends) h = omega (arith, h.0, rises_within whole
 
 pub start_before_end : (whole from : ℕ) (ends : List ℕ) (k d : ℕ)
     → RisesTo whole from ends → k < length ends → start_of from ends k ≤ get_or ends k d
-start_before_end whole from [] k d r h = absurd (omega (arith, h))
-start_before_end whole from (end ∷ ends) zero d r h = r.0
 start_before_end whole from (end ∷ ends) (suc k) d r h =
     start_before_end whole end ends k d r.1 (omega (arith, h))
+start_before_end whole from ends k d r h = grind arith
 
 pub end_within : (whole from : ℕ) (ends : List ℕ) (k d : ℕ)
     → RisesTo whole from ends → k < length ends → get_or ends k d ≤ whole
-end_within whole from [] k d r h = absurd (omega (arith, h))
-end_within whole from (end ∷ ends) zero d r h = rises_within whole end ends r.1
 end_within whole from (end ∷ ends) (suc k) d r h =
     end_within whole end ends k d r.1 (omega (arith, h))
+end_within whole from ends k d r h = grind (arith, rises_within)
 
 pub take_part : {A : Type 0} (n m : ℕ) (xs ys : List A) → m + n ≤ length xs
     → take n (drop m (xs ++ ys)) ≡ take n (drop m xs)
@@ -85,3 +81,7 @@ cut_more ends bytes more ends' bytes' m =
 pub within_ends : (ends bytes : List ℕ) (labels : List (List ℕ)) (at : ℕ)
     → pieces 0 ends bytes ≡ labels → at < length labels → at < length ends
 within_ends ends bytes labels at v h = grind (arith, length-pieces)
+
+pub ruleset as_many_pieces = (length-pieces)
+
+pub ruleset one_piece = (within_ends, all_at)

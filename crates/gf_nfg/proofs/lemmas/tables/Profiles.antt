@@ -124,3 +124,5 @@ pub every_profile : (counts profile : List ℕ)
     → Contains (profiles counts) profile ↔ IsProfile counts profile
 every_profile counts profile =
     grind (arith, All-contains, All-from_recursion, are_profiles, contains_in, profile_in)
+
+pub ruleset profile_laws = (every_profile, profiles_in_order)

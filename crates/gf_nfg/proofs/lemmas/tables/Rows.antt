@@ -3,35 +3,31 @@ use Rattle.gf_nfg.proofs.Common.{◌≡◌, ℕ, zero, suc, ◌+◌, ◌*◌, �
 use Rattle.gf_nfg.proofs.Common.{map, take, drop, Option, Some, None, slice_get, option_map, refl}
 use Rattle.gf_nfg.proofs.Common.{sym, ap, ◌∙◌, arith, pos, replicate, IsSome, SomeIff, unwrap_or}
 use Rattle.gf_nfg.proofs.Common.{vec_len, Vec, ◌/◌, AllByRecursion, flat_map, length-take}
-use Rattle.gf_nfg.proofs.Common.{length-drop, length-map, length-replicate, take_all, drop-drop}
+use Rattle.gf_nfg.proofs.Common.{length-drop, take-append-drop, length-map, length-replicate, take_all, drop-drop}
 use Rattle.gf_nfg.proofs.Common.{mul-div_cancel, mul-le-mul_left, mul-le-mul_right, one-le-mul}
-use Rattle.gf_nfg.proofs.Common.{slice_get-map, Ratio, whole, all_at, profile_limit, numbers_from}
+use Rattle.gf_nfg.proofs.Common.{slice_get-map, Ratio, whole, all_at, all_images, profile_limit, numbers_from}
 use Rattle.gf_nfg.proofs.Common.{positions, product, profiles, Entry, Table, IsTable, rows}
 use Rattle.gf_nfg.proofs.Common.{IsTableOf, Names, entries_of, kept_row, table_with, row_of}
 use Rattle.gf_nfg.proofs.Common.{number_in, numbers_of, IsNamed, HasRows}
 use Rattle.gf_nfg.proofs.lemmas.tables.Profiles.{length-profiles}
+use Rattle.gf_nfg.proofs.lemmas.tables.Lists.{product_above_zero}
 use Rattle.gf_nfg.proofs.lemmas.tables.NumbersInTurn.{length-numbers_from}
 
 pub length-entries_of : (ps : List (List ℕ)) (rs : List (List Ratio)) → length ps ≡ length rs
     → length (entries_of ps rs) ≡ length rs
-length-entries_of [] [] h = refl
-length-entries_of [] (r ∷ rs) h = absurd (omega (arith, h))
-length-entries_of (p ∷ ps) [] h = refl
 length-entries_of (p ∷ ps) (r ∷ rs) h = ap suc (length-entries_of ps rs (omega (arith, h)))
+length-entries_of ps rs h = grind arith
 
 pub profiles-entries_of : (ps : List (List ℕ)) (rs : List (List Ratio)) → length ps ≡ length rs
     → map (λ e. e.profile) (entries_of ps rs) ≡ ps
-profiles-entries_of [] [] h = refl
-profiles-entries_of [] (r ∷ rs) h = refl
-profiles-entries_of (p ∷ ps) [] h = absurd (omega (arith, h))
 profiles-entries_of (p ∷ ps) (r ∷ rs) h = cc (profiles-entries_of ps rs (omega (arith, h)))
+profiles-entries_of ps rs h = grind arith
 
 pub payoffs-entries_of : (ps : List (List ℕ)) (rs : List (List Ratio)) → length ps ≡ length rs
     → map (λ e. e.payoffs) (entries_of ps rs) ≡ rs
 payoffs-entries_of [] [] h = refl
-payoffs-entries_of [] (r ∷ rs) h = absurd (omega (arith, h))
-payoffs-entries_of (p ∷ ps) [] h = refl
 payoffs-entries_of (p ∷ ps) (r ∷ rs) h = cc (payoffs-entries_of ps rs (omega (arith, h)))
+payoffs-entries_of ps rs h = grind arith
 
 -- entries are found again from their profiles and their payoffs
 pub entries_again : (entries : List Entry)
@@ -50,24 +46,16 @@ matched names rs one = length-profiles (map length names.strategies) ∙ sym one
 pub length-entries : (names : Names) (rs : List (List Ratio))
     → length rs ≡ product (map length names.strategies)
     → length (table_with names rs).entries ≡ length rs
-length-entries names rs one =
-    length-entries_of (profiles (map length names.strategies)) rs (matched names rs one)
+length-entries names rs one = search (arith, length-entries_of, profiles, map, length, matched)
 
 pub rows-table_with : (names : Names) (rs : List (List Ratio))
     → length rs ≡ product (map length names.strategies) → rows (table_with names rs) ≡ rs
-rows-table_with names rs one =
-    payoffs-entries_of (profiles (map length names.strategies)) rs (matched names rs one)
+rows-table_with names rs one = search (arith, payoffs-entries_of, profiles, map, length, matched)
 
 pub is_table : (names : Names) (rs : List (List Ratio)) → IsNamed names (length rs)
     → AllByRecursion (λ row. length row ≡ length names.players) rs → IsTable (table_with names rs)
-is_table names rs named full = record {
-  one_list_each = named.one_list_each;
-  some_strategy = named.some_strategy;
-  one_entry_each =
-      profiles-entries_of (profiles (map length names.strategies)) rs
-      (matched names rs named.counted);
-  one_payoff_each = rw (rows-table_with names rs named.counted) full;
-}
+is_table names rs named full =
+    search (arith, profiles-entries_of, profiles, map, length, matched, rows-table_with)
 
 -- ---- rows by their numbers
 
@@ -114,37 +102,36 @@ positions_have_rows players count payoffs zeros h = record {
   zeros_kept = positions_above (zeros ≡ replicate players (whole (pos 0))) 1 count (omega arith);
 }
 
-take-nil : {A : Type 0} (n : ℕ) → take {A = A} n [] ≡ []
-take-nil zero = refl
-take-nil (suc n) = refl
+-- this many rows of this length, from the payoffs in turn
+abbrev pub rows_of : ℕ → ℕ → List Ratio → List (List Ratio)
+rows_of players zero payoffs = []
+rows_of players (suc n) payoffs = take players payoffs ∷ rows_of players n (drop players payoffs)
 
-take_two : {A : Type 0} (m n : ℕ) (xs : List A) → take m xs ++ take n (drop m xs) ≡ take (m + n) xs
-take_two zero n xs = let e : 0 + n ≡ n = omega arith in ap (λ (k : ℕ). take k xs) (sym e)
-take_two (suc m) n [] = grind (arith, take-nil)
-take_two (suc m) n (x ∷ xs) =
-    let e : suc m + n ≡ suc (m + n) = omega arith in
-    ap (λ ys. x ∷ ys) (take_two m n xs) ∙ ap (λ (k : ℕ). take k (x ∷ xs)) (sym e)
+numbered_rows : (players k n : ℕ) (payoffs : List Ratio)
+    → map (row_of players payoffs) (numbers_from (suc k) n)
+    ≡ rows_of players n (drop (k * players) payoffs)
+numbered_rows players k zero payoffs = refl
+numbered_rows players k (suc n) payoffs =
+    grind (arith, drop-drop, take, drop, numbered_rows players (suc k) n payoffs)
 
-numbered_from : (players : ℕ) (payoffs : List Ratio) (k n : ℕ)
-    → flat_map (λ row. row) (map (row_of players payoffs) (numbers_from (suc k) n))
-    ≡ take (n * players) (drop (k * players) payoffs)
-numbered_from players payoffs k zero = let none : 0 * players ≡ 0 = omega arith in rw none refl
-numbered_from players payoffs k (suc n) = grind (
-  arith,
-  take players (drop (k * players) payoffs),
-  numbered_from players payoffs (suc k) n,
-  drop-drop players (k * players) payoffs,
-  take_two players (n * players) (drop (k * players) payoffs),
-)
+-- rows with the numbers from 1 are the rows in turn
+pub rows_numbered : (players n : ℕ) (payoffs : List Ratio)
+    → map (row_of players payoffs) (positions n) ≡ rows_of players n payoffs
+rows_numbered players n payoffs = grind (arith, numbered_rows)
+
+joined_again : (players n : ℕ) (payoffs : List Ratio) → length payoffs ≡ n * players
+    → flat_map (λ row. row) (rows_of players n payoffs) ≡ payoffs
+joined_again players zero [] h = refl
+joined_again players zero (x ∷ payoffs) h = absurd (omega (arith, h))
+joined_again players (suc n) payoffs h =
+    let rest : length (drop players payoffs) ≡ n * players =
+    omega (arith, h, length-drop players payoffs) in
+    cc (joined_again players n (drop players payoffs) rest, take-append-drop players payoffs)
 
 -- rows of the profiles in turn are the payoffs
 pub rows_in_turn : (players count : ℕ) (payoffs : List Ratio) → length payoffs ≡ count * players
     → flat_map (λ row. row) (map (row_of players payoffs) (positions count)) ≡ payoffs
-rows_in_turn players count payoffs h = grind (
-  arith,
-  numbered_from players payoffs 0 count,
-  take_all (count * players) payoffs (omega (arith, h)),
-)
+rows_in_turn players count payoffs h = search (arith, rows_numbered, joined_again)
 
 -- ---- one row
 
@@ -157,8 +144,7 @@ pub record IsNumber (players count : ℕ) (payoffs zeros : List Ratio) (numbers 
 pub number_within : (players count : ℕ) (payoffs zeros : List Ratio) (numbers : List ℕ)
     (place number : ℕ) → IsNumber players count payoffs zeros numbers place number
     → number * players ≤ length payoffs
-number_within players count payoffs zeros numbers place number h =
-    all_at (λ n. n * players ≤ length payoffs) numbers place number h.kept.rows_kept h.number_is
+number_within players count payoffs zeros numbers place number h = grind (arith, all_at, length)
 
 pub number_zero : (players count : ℕ) (payoffs zeros : List Ratio) (numbers : List ℕ)
     (place number : ℕ) → IsNumber players count payoffs zeros numbers place number
@@ -168,8 +154,7 @@ number_zero players count payoffs zeros numbers place number h = grind (arith, a
 pub kept_row_is : (players : ℕ) (payoffs zeros : List Ratio) (number : ℕ)
     → (number ≡ 0 → zeros ≡ row_of players payoffs 0)
     → kept_row players payoffs zeros number ≡ row_of players payoffs number
-kept_row_is players payoffs zeros zero h = h refl
-kept_row_is players payoffs zeros (suc k) h = refl
+kept_row_is players payoffs zeros number h = grind arith
 
 pub row_is : (players count : ℕ) (payoffs zeros : List Ratio) (numbers : List ℕ)
     (place number : ℕ) → IsNumber players count payoffs zeros numbers place number
@@ -178,26 +163,19 @@ row_is players count payoffs zeros numbers place number h = grind (arith, slice_
 
 slice_get-numbers_from : (first n k : ℕ) → k < n
     → slice_get (numbers_from first n) k ≡ Some (first + k)
-slice_get-numbers_from first zero k h = absurd (omega (arith, h))
-slice_get-numbers_from first (suc n) zero h = let e : first ≡ first + 0 = omega arith in ap Some e
 slice_get-numbers_from first (suc n) (suc k) h =
     grind (arith, slice_get-numbers_from (first + 1) n k (omega (arith, h)))
+slice_get-numbers_from first n k h = grind arith
 
 pub number_found : (count : ℕ) (choices : Option (List ℕ)) (place : ℕ) → place < count
     → number_in choices place ≡ slice_get (numbers_of count choices) place
 number_found count choices place h = grind (arith, slice_get-numbers_from)
 
 pub some_from : {A : Type 0} (xs : List A) (k : ℕ) → k < length xs → IsSome (slice_get xs k)
-some_from [] k h = absurd (omega (arith, h))
-some_from (x ∷ xs) zero h = refl
 some_from (x ∷ xs) (suc k) h = some_from xs k (omega (arith, h))
+some_from xs k h = grind arith
 
 -- ---- a table's counts
-
-pub product_above : (strategies : List (List (List ℕ)))
-    → AllByRecursion (λ own. 0 < length own) strategies → 1 ≤ product (map length strategies)
-product_above [] h = omega arith
-product_above (own ∷ others) h = one-le-mul h.0 (product_above others h.1)
 
 -- if each player has a strategy, nobody has more strategies than there are profiles
 pub count_at_most : (strategies : List (List (List ℕ))) (k : ℕ) (own : List (List ℕ))
@@ -205,7 +183,8 @@ pub count_at_most : (strategies : List (List (List ℕ))) (k : ℕ) (own : List 
     → length own ≤ product (map length strategies)
 count_at_most [] k own h e = absurd (cc)
 count_at_most (first ∷ others) zero own h e =
-    grind (arith, mul-le-mul_left (length first) (product_above others h.1))
+    let some = product_above_zero (map length others) (all_images (λ n. 0 < n) length others h.1) in
+    grind (arith, mul-le-mul_left (length first) some)
 count_at_most (first ∷ others) (suc k) own h e = grind (
   arith,
   count_at_most others k own h.1 e,
@@ -237,8 +216,7 @@ profiles_counted rows (suc n) counts (Some q) is one h = grind (arith, mul-div_c
 
 pub counted_own : (o : Option (List (List ℕ))) (n : ℕ) → option_map length o ≡ Some n
     → (own : List (List ℕ)) × (o ≡ Some own) × (length own ≡ n)
-counted_own None n e = absurd (cc)
-counted_own (Some own) n e = let same : length own ≡ n = cc in (own, refl, same)
+counted_own o n e = grind arith
 
 pub own_count_within : (names : Names) (count k n : ℕ) → IsNamed names count → count ≤ profile_limit
     → option_map length (slice_get names.strategies k) ≡ Some n → n ≤ profile_limit

@@ -103,3 +103,5 @@ same_is_equal t u ht hu = (to, from)
       play = (same_play_by_rows t u ht hu).1
           (ap (λ x. x.players) e, ap (λ x. x.strategies) e, ap rows e);
     }
+
+pub ruleset same_tables = (same_is_equal, same_play_by_rows)

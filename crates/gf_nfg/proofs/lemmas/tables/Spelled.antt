@@ -56,8 +56,7 @@ AreFractions row = AllByRecursion IsFraction row
 
 paid : (players k : ℕ) (outcomes : List (List Ratio)) (row : List Ratio)
     → AllByRecursion AreFractions outcomes → Pays players outcomes k row → AreFractions row
-paid players zero outcomes row all h = subst AreFractions (sym h) (zeros players)
-paid players (suc k) outcomes row all h = all_at AreFractions outcomes k row all h
+paid players k outcomes row all h = grind (arith, zeros, all_at)
 
 payoffs_spelled : (players : ℕ) (tokens : List Token) (rs : List (List Ratio))
     → (IsPayoffBody tokens rs ⊎ IsOutcomeBody players tokens rs) → AllByRecursion AreFractions rs
@@ -101,5 +100,4 @@ is_spellable tokens t all h =
 
 pub spelled_is_spellable : (bytes : List ℕ) (t : Table) → SpellsTable bytes t
     → IsTable t × IsSpellable t
-spelled_is_spellable bytes t h =
-    (h.2.is_table, is_spellable (map (λ l. l.token) h.0) t (all_spelled h.0 0 bytes h.1) h.2)
+spelled_is_spellable bytes t h = search (arith, is_spellable, map, all_spelled)

@@ -45,8 +45,7 @@ length-groups (n ∷ sizes) items = ap suc (length-groups sizes (drop n items))
 
 pub length-strategies_of : (counts : List ℕ) (labels : List (List ℕ))
     → length (strategies_of counts labels) ≡ length counts
-length-strategies_of counts [] = length-map counts counted_labels
-length-strategies_of counts (label ∷ labels) = length-groups counts (label ∷ labels)
+length-strategies_of counts labels = grind (arith, length-map, counted_labels, length-groups)
 
 -- lists are made of the groups before this place
 pub record AreMade {A B : Type 0} (f : A → B) (all : List (List B)) (sizes : List ℕ)
@@ -135,3 +134,5 @@ label_at {labels} {lists} {at} {k} {start} {end} s h =
             (start + k) [] inside,
       );
     }
+
+pub ruleset as_many_lists = (length-strategies_of)

@@ -1,7 +1,8 @@
 use Rattle.gf_nfg.proofs.Common.{◌≡◌, ◌∙◌, ap, rules, sym, ◌↔◌, IsTrue, content_told, table_of}
 use Rattle.gf_nfg.proofs.Common.{SameTable, named_by}
+use Rattle.std.proofs.lemmas.Result.{IfOk-weaker}
 use Rattle.gf_nfg.specs.declared.reader.receive.Version.TheVariants.{Payoffs}
-use Rattle.gf_nfg.proofs.lemmas.tables.Compared.{if_ok, in_turn_compared, payoffs_compared}
+use Rattle.gf_nfg.proofs.lemmas.tables.Compared.{in_turn_compared, payoffs_compared}
 use Rattle.gf_nfg.proofs.lemmas.tables.Compared.{rows_compared, rows_kept}
 use Rattle.gf_nfg.proofs.lemmas.tables.Lists.{joined}
 use Rattle.gf_nfg.proofs.comparison.Comparison.is_same.Goals as goal
@@ -20,15 +21,16 @@ returns-in-Some c = λ bytes h.
     ∙ rows_kept c.args.named c.args.t.now c.names-2.result.now c.in_ok-names.names bytes
     c.args.heading c.args.self h c.names-2.ensures.is_table c.names-2.ensures.names
     c.in_ok-names.ensures not in
-    if_ok (λ answer. IsTrue answer ↔ (c.in-Some.own.now ≡ c.in_ok-rows.rows))
+    IfOk-weaker c.same_kept_rows.result
+    (λ answer. IsTrue answer ↔ (c.in-Some.own.now ≡ c.in_ok-rows.rows))
     (λ answer. IsTrue answer ↔ SameTable (named_by c.args.named c.args.t.now)
-    (named_by c.args.named (table_of (content_told h.told)))) c.same_kept_rows.result
-    c.same_kept_rows.ensures
+    (named_by c.args.named (table_of (content_told h.told))))
     (λ answer same.
     rows_compared c.args.named c.args.t.now c.names-2.result.now c.in_ok-names.names bytes
     c.args.heading c.args.self h c.names-2.ensures.is_table c.names-2.ensures.names
     c.in_ok-names.ensures c.in-Some.own.now c.in_ok-rows.rows answer
     (c.same_heading.ensures.0 c.if-not-same_heading.false) c.in-Some.ensures qs same)
+    c.same_kept_rows.ensures
 
 pub returns : goal.returns
 returns c = λ bytes h.

@@ -15,11 +15,3 @@ returns-in_err-list-clause-machine c =
     (ap (λ n. answer FirstStrategies n 0 c.args.self.now) (sym size)
     ∙ first_opens players (content_in c.args.self.now.heading) c.args.self.now.tokens
     c.opening.new.self c.in-Some.field-0 some c.in-Some.ensures.next c.in-Some.ensures.input))
-
-pub returns-in-Some-clause-machine : goal.returns-in-Some-clause-machine
-returns-in-Some-clause-machine c =
-    grind (arith, goes_from, first_opens, goes_to, lists_end, c.in_ok-list.ensures.machine)
-
-pub returns-clause-machine : goal.returns-clause-machine
-returns-clause-machine c =
-    grind (arith, goes_from, goes_to, counts_end, c.in_ok-count.ensures.first)

@@ -5,12 +5,6 @@ use Rattle.gf_nfg.proofs.lemmas.places.Heard.{carried}
 use Rattle.gf_nfg.proofs.lemmas.runs.ReaderSteps.{all_told, ends_back, no_payoffs}
 use Rattle.gf_nfg.proofs.reader.Reader.tell_outcomes.Goals as goal
 
-pub returns-in_err-outcomes : goal.returns-in_err-outcomes
-returns-in_err-outcomes g c = grind (arith, length-map, ends_back, c.in_err-outcomes.ensures)
-
-pub returns-in_err-numbers : goal.returns-in_err-numbers
-returns-in_err-numbers g c = grind (arith, length-map, carried, ends_back)
-
 pub returns : goal.returns
 returns g c = λ untold holding.
     let from = told_heading Outcomes c.args.self.now.heading in

@@ -5,9 +5,6 @@ use Rattle.gf_nfg.proofs.lemmas.places.Heard.{carried}
 use Rattle.gf_nfg.proofs.lemmas.runs.ReaderSteps.{all_told, ends_back}
 use Rattle.gf_nfg.proofs.reader.Reader.tell_payoffs.Goals as goal
 
-pub returns-in_err-payoffs : goal.returns-in_err-payoffs
-returns-in_err-payoffs g c = grind (arith, ends_back, carried, c.in_err-payoffs.ensures)
-
 pub returns : goal.returns
 returns g c = λ untold holding.
     let from = told_heading Payoffs c.args.self.now.heading in

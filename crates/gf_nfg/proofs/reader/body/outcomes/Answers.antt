@@ -1,12 +1,11 @@
 use Rattle.gf_nfg.proofs.Common.{◌≡◌, ◌∙◌, ap, refl, rules, next_outcome, InOutcomes, OutcomeName}
-use Rattle.gf_nfg.proofs.Common.{told_answer, paying}
+use Rattle.gf_nfg.proofs.Common.{told_answer, paying, arith}
 use Rattle.gf_nfg.proofs.lemmas.places.Heard.{carried}
 use Rattle.gf_nfg.proofs.lemmas.runs.ReaderSteps.{ends_back}
 use Rattle.gf_nfg.proofs.reader.body.outcomes.Goals as goal
 
 pub loop-tokens-init : goal.loop-tokens-init
-loop-tokens-init g c = λ untold told size holding.
-    record { told = told.payoffs; goes = refl; holding = holding }
+loop-tokens-init g c = grind arith
 
 pub returns-in_err-outcome : goal.returns-in_err-outcome
 returns-in_err-outcome g c = λ untold told size holding.

@@ -4,8 +4,7 @@ use Rattle.gf_nfg.proofs.lemmas.places.Heard.{carried}
 use Rattle.gf_nfg.proofs.reader.body.payoffs.Goals as goal
 
 pub loop-due-init : goal.loop-due-init
-loop-due-init g c = λ untold told holding.
-    record { told = told.payoffs; goes = refl; holding = holding }
+loop-due-init g c = grind arith
 
 pub loop-due-preserved : goal.loop-due-preserved
 loop-due-preserved g c = λ untold told holding.

@@ -4,13 +4,7 @@ use Rattle.gf_nfg.proofs.table.Table.in_turn.Goals as goal
 
 made : (c : goal.After-unwrap_or-profiles) → IsMade c.args.names c.args.rows.items
     c.players-players.result c.len.result c.checked_div.result c.unwrap_or-profiles.result
-made c = record {
-  parts = c.requires;
-  players_are = c.players-players.ensures.players;
-  size_is = c.len.ensures ∙ c.args.rows.ok.0;
-  divided = c.checked_div.ensures;
-  counted = c.unwrap_or-profiles.ensures;
-}
+made c = grind arith
 
 pub overflow_cast-profiles : goal.overflow_cast-profiles
 overflow_cast-profiles c = omega (arith, made_counted _ _ _ _ _ _ (made c), c.requires.within)

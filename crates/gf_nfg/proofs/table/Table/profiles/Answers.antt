@@ -8,14 +8,5 @@ returns-clause-number c =
     c.len.ensures ∙ sym (length-entries t.names t.payoffs c.self.invariant.named.counted)
     ∙ ap (λ t. length t.entries) c.self.view_is
 
-pub returns-clause-is_table : goal.returns-clause-is_table
-returns-clause-is_table c =
-    rw (← c.self.view_is) (is_table _ _ c.self.invariant.named c.self.invariant.one_payoff_each)
-
-pub returns-clause-spellable : goal.returns-clause-spellable
-returns-clause-spellable c = subst IsSpellable c.self.view_is c.self.invariant.spellable
-
 pub returns-clause-within : goal.returns-clause-within
-returns-clause-within c =
-    let number = returns-clause-number c in
-    omega (arith, number, c.len.ensures, c.self.invariant.within)
+returns-clause-within c = grind (arith, returns-clause-number)

@@ -3,9 +3,6 @@ use Rattle.gf_nfg.proofs.lemmas.tables.Places.{none_by_length, place_below, play
 use Rattle.gf_nfg.proofs.lemmas.tables.Places.{strategy_out, strategy_in, strategy_fits}
 use Rattle.gf_nfg.proofs.table.profile.place_of.Goals as goal
 
-pub returns-then-profile-players : goal.returns-then-profile-players
-returns-then-profile-players c = grind (arith, length-map, none_by_length)
-
 pub returns-then-strategy-eq0 : goal.returns-then-strategy-eq0
 returns-then-strategy-eq0 c = grind (arith, player_before, strategy_out, c.then-strategy-eq0.either)
 
@@ -20,12 +17,3 @@ overflow_mul-place c =
     let fits = strategy_fits player (omega (arith, c.if-strategy-eq0.false))
     c.if-strategy-count.false in
     omega (arith, fits)
-
-pub overflow_add-place : goal.overflow_add-place
-overflow_add-place c = grind (arith, player_before, strategy_fits)
-
-pub loop-at-preserved : goal.loop-at-preserved
-loop-at-preserved c = grind (arith, player_before, strategy_in)
-
-pub overflow_cast-result : goal.overflow_cast-result
-overflow_cast-result c = grind (arith, place_below)

@@ -1,5 +1,6 @@
 use Rattle.std.proofs.Common.{arith, ◌∙◌}
-use Rattle.gf_nfg.proofs.lemmas.tables.Listed.{empty_is, in_turn_full, listed_in_turn}
+use Rattle.std.proofs.lemmas.List.{nil_from_length}
+use Rattle.gf_nfg.proofs.lemmas.tables.Listed.{in_turn_full, listed_in_turn}
 use Rattle.gf_nfg.proofs.lemmas.tables.Listed.{parts_complete, rows_held, shared_rows, some_is}
 use Rattle.gf_nfg.proofs.lemmas.tables.Listed.{table_is}
 use Rattle.gf_nfg.proofs.lemmas.tables.Meaning.{lacking, present}
@@ -7,7 +8,7 @@ use Rattle.gf_nfg.proofs.table.listed.ListedTable.told.Goals as goal
 
 pub invariant_of-result : goal.invariant_of-result
 invariant_of-result c =
-    let none = empty_is _
+    let none = nil_from_length _
     (lacking _ _ _ c.is_empty.ensures c.if-is_empty.true c.args.listing.kept.numbers.ok.0) in
     let names = c.in_ok-names.ensures in
     record {
@@ -18,7 +19,7 @@ invariant_of-result c =
 
 pub returns-then-is_empty : goal.returns-then-is_empty
 returns-then-is_empty c = λ bytes h.
-    let none = empty_is _
+    let none = nil_from_length _
     (lacking _ _ _ c.is_empty.ensures c.if-is_empty.true c.args.listing.kept.numbers.ok.0) in
     let names = c.in_ok-names.ensures in
     table_is bytes _ _ h _ names _ (listed_in_turn bytes _ _ h _ names none)

@@ -1,3 +1,4 @@
+use Rattle.std.proofs.Common.{arith}
 use Rattle.gf_nfg.proofs.lemmas.tables.Strategies.{AreKept, StandsAt, is_within, kept_by}
 use Rattle.gf_nfg.proofs.lemmas.tables.Strategies.{length-list, stands_at}
 use Rattle.gf_nfg.proofs.table.strategies.Strategies.count.Goals as goal
@@ -10,9 +11,7 @@ piece_at-own-requires c = is_within (kept c) c.requires
 
 own : (c : goal.After-struct_known-1) → StandsAt c.self.inside.labels c.args.self.now c.args.at
     c.piece_at-own.result.start c.piece_at-own.result.end
-own c =
-    stands_at (kept_by c.self.invariant c.self.view_is c.deref.ensures.value) c.requires
-    c.piece_at-own.ensures.start c.piece_at-own.ensures.end
+own c = search (arith, stands_at, kept_by)
 
 pub overflow_sub-result : goal.overflow_sub-result
 overflow_sub-result c = (own c).ordered

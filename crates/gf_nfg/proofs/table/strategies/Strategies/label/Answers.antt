@@ -22,9 +22,4 @@ pub label-requires : goal.label-requires
 label-requires c = (own c).within
 
 pub returns : goal.returns
-returns c =
-    let player = has_list c.args.self.now c.args.at c.args.strategy c.requires in
-    let own = label_at (stands_at
-    (kept_by c.self.invariant c.self.view_is c.deref.ensures.value) player
-    c.piece_at-own.ensures.start c.piece_at-own.ensures.end) c.requires in
-    own.is ∙ c.label.ensures
+returns c = grind (arith, has_list, own, label_at, stands_at, kept_by)
