@@ -3,11 +3,12 @@ pub use Rattle.gf_fraction.proofs.AllElements.{all_at, all_both, all_images, all
 pub use Rattle.gf_fraction.proofs.AllElements.{all_mapped, all_parts, all_weaker}
 pub use Rattle.gf_fraction.proofs.ComputedAnswers.{number_again, number_is, number_is_computed}
 pub use Rattle.gf_fraction.proofs.ReadingBack.{same_fault, written_is_read}
+unfoldable pub use Rattle.gf_fraction.specs.Computed.{gcd_within, lowest_of, number_of}
 pub use Rattle.gf_fraction.specs.NumberSpelling.{HasNumberFault, Reads}
 pub use Rattle.gf_fraction.specs.Ratio.{IsFraction, Ratio, whole}
 pub use Rattle.gf_fraction.specs.declared.fraction.NumberFault.{NumberFault}
-pub use Rattle.gf_nfg.specs.Due.{IsDue, Role, RoleIsDue, Suits}
 pub use Rattle.gf_nfg.specs.Due.Role.{Count, Format, Letter, OutcomeNumber, Payoff, Version}
+pub use Rattle.gf_nfg.specs.Due.{IsDue, Role, RoleIsDue, Suits}
 pub use Rattle.gf_nfg.specs.Judgement.{IsAcceptedWithinLimit, IsJudged, IsRefusal, IsRefused}
 pub use Rattle.gf_nfg.specs.Limit.{profile_limit}
 pub use Rattle.gf_nfg.specs.LimitByFiles.{BeginsPastLimit, BeginsWithinLimit, IsBareOrClosing}
@@ -30,6 +31,9 @@ pub use Rattle.gf_nfg.specs.TableText.{SpellsTable, lines_text, list_text, named
 pub use Rattle.gf_nfg.specs.TableText.{table_text}
 pub use Rattle.gf_nfg.specs.WorkedTables.{no_players, no_players_text, selten, selten_by_counts}
 pub use Rattle.gf_nfg.specs.WorkedTables.{selten_by_outcomes, selten_text}
+pub use Rattle.gf_nfg.specs.declared.reader.Reader.{Reader}
+pub use Rattle.gf_nfg.specs.declared.reader.receive.Version.TheVariants.{Outcomes, Payoffs}
+pub use Rattle.gf_nfg.specs.declared.table.heading.Heading.{Heading}
 pub use Rattle.gf_nfg.specs.inner.Classes.{LeadBack, ShareRows}
 pub use Rattle.gf_nfg.specs.inner.ComparedTable.{ComparesBody, IsCompared}
 pub use Rattle.gf_nfg.specs.inner.Heard.{Answer, Fails, Goes, HasPassed, HasPassedPlace, at_end}
@@ -45,11 +49,12 @@ pub use Rattle.gf_nfg.specs.inner.Machine.{◌>>=◌}
 pub use Rattle.gf_nfg.specs.inner.Meaning.{HasLabels, HasPayoffs, IsComplete, choices_of, names_in}
 pub use Rattle.gf_nfg.specs.inner.Meaning.{rows_by, strategies_of, table_of}
 pub use Rattle.gf_nfg.specs.inner.PayoffLists.{payoffs_in, rows_in}
-pub use Rattle.gf_nfg.specs.inner.Position.{Position}
 pub use Rattle.gf_nfg.specs.inner.Position.Position.{AfterBracedPayoff, BeforeList, BeforePlayers}
 pub use Rattle.gf_nfg.specs.inner.Position.Position.{BracedPayoff, Counts, FirstStrategies}
 pub use Rattle.gf_nfg.specs.inner.Position.Position.{FlatPayoffs, InList, InOutcomes, InPlayers}
 pub use Rattle.gf_nfg.specs.inner.Position.Position.{OutcomeName, OutcomeNumbers}
+pub use Rattle.gf_nfg.specs.inner.Position.{Position as p}
+pub use Rattle.gf_nfg.specs.inner.Position.{Position}
 pub use Rattle.gf_nfg.specs.inner.ReaderState.{HasMore, HasTold, HasToldAll, answer, body_answer}
 pub use Rattle.gf_nfg.specs.inner.ReaderState.{content_in, content_of, content_told, content_with}
 pub use Rattle.gf_nfg.specs.inner.ReaderState.{labels_of, list_answer, told_answer}
@@ -69,23 +74,24 @@ pub use Rattle.gf_token.specs.Code.{code_of}
 pub use Rattle.gf_token.specs.Grammar.{Each, IsComment, IsPayoffInBraces, braced}
 pub use Rattle.gf_token.specs.Index.{IsIndex}
 pub use Rattle.gf_token.specs.Indices.{count_of}
+unfoldable pub use Rattle.gf_token.specs.Indices.{index_of}
 pub use Rattle.gf_token.specs.Label.{label_of}
 pub use Rattle.gf_token.specs.LabelSpelling.{IsLabel, is_spelling, is_spelling_after}
 pub use Rattle.gf_token.specs.NumberWhy.{why_of}
 pub use Rattle.gf_token.specs.Place.{Begins, IsAccepted, IsOffendingPlace, IsSpanOf, MayFollow}
 pub use Rattle.gf_token.specs.Place.{tokens_of}
 pub use Rattle.gf_token.specs.Remaining.{AreInOrder, Remaining, StandsBefore}
-pub use Rattle.gf_token.specs.Token.{Lexeme, Token, lexeme, spelling}
 pub use Rattle.gf_token.specs.Token.Token.{Bare, Broken, Closing, Comma, Opening, Text}
+pub use Rattle.gf_token.specs.Token.{Lexeme, Token, lexeme, spelling}
 pub use Rattle.gf_token.specs.TokenSpelling.{GoesOn, IsSpelled, MayPrecede, Spells}
 pub use Rattle.gf_token.specs.declared.fault.Fault.{Fault}
 pub use Rattle.gf_token.specs.declared.fault.Span.{Span}
 pub use Rattle.gf_token.specs.declared.fault.What.{What}
-pub use Rattle.gf_token.specs.declared.fault.Why.{Why}
 pub use Rattle.gf_token.specs.declared.fault.Why.TheVariants.{BadIndex, Expected, Memory, NoEntry}
 pub use Rattle.gf_token.specs.declared.fault.Why.TheVariants.{NotANumber, NumberTooLarge, TooLong}
 pub use Rattle.gf_token.specs.declared.fault.Why.TheVariants.{TooManyProfiles, UnknownOutcome}
 pub use Rattle.gf_token.specs.declared.fault.Why.TheVariants.{Unterminated, ZeroDenominator}
+pub use Rattle.gf_token.specs.declared.fault.Why.{Why}
 pub use Rattle.gf_token.specs.declared.label.Label.{Label}
 pub use Rattle.gf_token.specs.inner.Lexing.Mode.{Gap}
 pub use Rattle.std.proofs.Common.{Bool, Err, IfOk, List, None, Ok, Option, Result, Some, [], ap}
@@ -99,18 +105,21 @@ pub use Rattle.std.proofs.Math.Nat.{le-div_iff_mul-le, mul-div_cancel, mul-le-mu
 pub use Rattle.std.proofs.Math.Nat.{mul-le-mul_right, mul-one, mul-suc, mul_assoc, mul_comm}
 pub use Rattle.std.proofs.Math.Nat.{one-le-mul}
 pub use Rattle.std.proofs.Math.Seq.{take-append-add, take-append_seam}
-pub use Rattle.std.proofs.lemmas.Bool.{and_from, and_parts, cases_eq, cases_lt, le-leb, lt-ltb}
 pub use Rattle.std.proofs.lemmas.Bool.Decides.{Decides-eqb, Decides-int_eq, nat_tests}
+pub use Rattle.std.proofs.lemmas.Bool.{and_from, and_parts, cases_eq, cases_lt, le-leb, lt-ltb}
+pub use Rattle.std.proofs.lemmas.Bool.{cases_Bool, false_from_ne_true, not-false}
 pub use Rattle.std.proofs.lemmas.Grind.{flat_map-append, get_or-set_at, get_or_default_zero}
 pub use Rattle.std.proofs.lemmas.List.{at_drop_more, drop-append-le, drop-drop, drop-map, drop_all}
 pub use Rattle.std.proofs.lemmas.List.{drop_at, drop_min, drop_more, get_or-drop, get_or-map}
 pub use Rattle.std.proofs.lemmas.List.{get_or-set_other, get_or-take, get_or_at, get_or_default}
 pub use Rattle.std.proofs.lemmas.List.{get_or_past, length-map, length-replicate, length-set}
 pub use Rattle.std.proofs.lemmas.List.{map-append, map_push, same_lists, take-append-drop}
+pub use Rattle.std.proofs.lemmas.List.{same_from_push, take_at, take_more_same}
 pub use Rattle.std.proofs.lemmas.List.{take-append-le, take-map, take-take, take_all, take_min}
 pub use Rattle.std.proofs.lemmas.List.{take_more}
 pub use Rattle.std.proofs.lemmas.Option.{get_or_from_slice_get, slice_get-get_or, slice_get-map}
 pub use Rattle.std.proofs.lemmas.Option.{slice_get_within, unwrap_or-slice_get}
+pub use Rattle.std.proofs.lemmas.Result.{IfOk-weaker}
 pub use Rattle.std.proofs.lemmas.Slice.Eq.{slice_eq-Decides}
 pub use Rattle.std.specs.Cmp.Lexicographic.{pointwise}
 pub use Rattle.std.specs.List.{AllByRecursion, AllZip, Contains, flat_map, join_with_byte}

@@ -92,6 +92,7 @@ pub fn equal_texts()
 
 /// A worked table: a file in payoff version and one in outcome version mean it, and this is its
 /// text; and the text of the table without players.
+#[tactic(auto, using(crate::proofs::lemmas::tables::Worked::worked_tables))]
 pub fn worked_tables()
     ensures by_counts { SpellsTable selten_by_counts selten }
     ensures by_outcomes { SpellsTable selten_by_outcomes selten }

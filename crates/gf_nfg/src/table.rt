@@ -126,6 +126,7 @@ impl Table {
     }
 
     /// The table of these names and of payoffs in the order of a file.
+    #[tactic(auto, using(crate::proofs::lemmas::tables::Made::made_of_rows))]
     fn in_turn(alloc: Global, names: Names, rows: Vec<Fraction>) -> Table
         requires { AreParts names rows.items }
         ensures { IsTableOf result names.title names.comment names.players names.strategies

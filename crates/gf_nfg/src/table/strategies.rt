@@ -147,6 +147,7 @@ impl Strategies {
     }
 
     /// How many the player at this place, from 0, has.
+    #[tactic(auto, using(crate::proofs::lemmas::tables::Strategies::kept_lists))]
     pub(crate) fn count(&self, at: usize) -> usize
         requires { at < length self.now }
         ensures { option_map length (slice_get self.now at) ≡ Some result }

@@ -1,6 +1,6 @@
 use Rattle.gf_nfg.proofs.Common.{List, subst, Ratio, IsCompared, table_of, content_told}
 use Rattle.gf_nfg.proofs.Common.{HasToldTable}
-use Rattle.gf_nfg.proofs.lemmas.tables.Meaning.{within_limit}
+use Rattle.gf_nfg.proofs.lemmas.tables.Told.{told_means}
 use Rattle.gf_nfg.proofs.comparison.compare_nfg.Goals as goal
 
 pub is_same-requires : goal.is_same-requires
@@ -18,6 +18,6 @@ returns-clause-same c =
     c.new-comparison.ensures.left c.in_ok-heading.ensures.told in (
       table_of (content_told h.told),
       h.spelled,
-      within_limit (content_told h.told) h.complete h.told.heading.profiles.within,
+      (told_means _ _ _ _ h).within,
       c.is_same.ensures c.args.input.now h,
     )

@@ -34,7 +34,7 @@ at_last front labels h =
 
 -- it has as many entries as the product of its players' numbers of strategies
 pub entries_counted : (t : Table) → IsTable t → length t.entries ≡ product (map length t.strategies)
-entries_counted t h = grind (arith, length-map, length-profiles, map, length)
+entries_counted t h = grind (arith, length-map, length-profiles)
 
 -- this many profiles, and the first of these counts with which they are too many
 crossed : (ns : List ℕ) (base : ℕ) → base ≤ profile_limit → profile_limit < base * product ns

@@ -3,8 +3,7 @@ use Rattle.gf_nfg.proofs.Common.{◌≡◌, ℕ, ◌<◌, ◌≤◌, true, false
 use Rattle.gf_nfg.proofs.Common.{Ok, Err, sym, subst, ◌∙◌, arith, is_past, Token, Why, Position}
 use Rattle.gf_nfg.proofs.Common.{Table, Sentence, State, Content, step, run, start, settled}
 use Rattle.gf_nfg.proofs.Common.{table_of, profile_limit, BeginsWithinLimit, StaysWithinLimit}
-use Rattle.gf_nfg.proofs.Common.{IsBareOrClosing}
-use Rattle.gf_nfg.specs.inner.Position.{Position as p}
+use Rattle.gf_nfg.proofs.Common.{IsBareOrClosing, p}
 use Rattle.gf_nfg.proofs.lemmas.tables.Meaning.{length-entries}
 use Rattle.gf_nfg.proofs.lemmas.runs.Sentence.{sentence_found, sentence_again}
 use Rattle.gf_nfg.proofs.lemmas.runs.Ends.{IsSettled, settled_ends}

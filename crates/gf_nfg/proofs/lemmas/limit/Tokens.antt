@@ -5,8 +5,7 @@ use Rattle.gf_nfg.proofs.Common.{◌⊎◌, append-nil, length-append, length-ma
 use Rattle.gf_nfg.proofs.Common.{AllByRecursion, Each, all_mapped, all_parts, profile_limit}
 use Rattle.gf_nfg.proofs.Common.{product, IsCount, IsLabelList, BeginsPastLimit, IsBareOrClosing}
 use Rattle.gf_nfg.proofs.Common.{StaysWithinLimit, Content, GivesCounts, State, at, step}
-use Rattle.std.proofs.lemmas.List.{same_from_push}
-use Rattle.gf_nfg.specs.inner.Position.{Position as p}
+use Rattle.gf_nfg.proofs.Common.{same_from_push, p}
 use Rattle.gf_nfg.proofs.lemmas.limit.Stays.{makes_more, read_past, stays_within}
 use Rattle.gf_nfg.proofs.lemmas.limit.Products.{PassesAtLast, at_last}
 use Rattle.gf_nfg.proofs.lemmas.runs.Groups.{all_in, and_more, and_more_is, each_parts}

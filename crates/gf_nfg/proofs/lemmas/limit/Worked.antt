@@ -3,9 +3,8 @@
 use Rattle.gf_nfg.proofs.Common.{◌≡◌, ℕ, ◌<◌, ◌≤◌, List, [], ◌∷◌, ◌++◌, Ok, refl, ap, ◌∙◌, arith}
 use Rattle.gf_nfg.proofs.Common.{codes, map-append, Token, Lexeme, lexeme, Opening, Closing, Text}
 use Rattle.gf_nfg.proofs.Common.{Bare, Gap, Span, found, same_tokens, profile_limit, tokens_of}
-use Rattle.gf_nfg.proofs.Common.{IsLimitPlace, State, step}
+use Rattle.gf_nfg.proofs.Common.{IsLimitPlace, State, step, Spells, subst, index_of}
 use Rattle.gf_token.specs.inner.Lexing.{lex}
-use Rattle.gf_token.specs.Indices.{index_of}
 use Rattle.gf_nfg.proofs.lemmas.limit.Stays.{stays_within}
 use Rattle.gf_nfg.proofs.lemmas.limit.Counts.{limit_by_files}
 use Rattle.gf_nfg.proofs.lemmas.places.Judged.{limit}
@@ -41,9 +40,14 @@ crosses = (_, _, refl, refl, omega arith, omega arith)
 
 pub at_second : IsLimitPlace passing (record { start = 31; end = 35 })
 at_second =
-    limit passing (lex Gap 0 passing) (lexeme 36 37 Closing ∷ []) second crosses.0 crosses.1
-    (found passing 0) (record { seen = before_second; parts = lexemes; leads = crosses.2 })
-    crosses.4 crosses.3 crosses.5
+    limit passing (lexeme 36 37 Closing ∷ []) second crosses.0 crosses.1
+    (record {
+      seen = before_second;
+      spelled = subst (Spells 0 passing) lexemes (found passing 0);
+      leads = crosses.2;
+      few = crosses.4;
+    })
+    crosses.3 crosses.5
 
 -- ---- one that does not
 

@@ -9,11 +9,8 @@ use Rattle.gf_nfg.proofs.Common.{UnknownOutcome, Ratio, HasNumberFault, Reads, N
 use Rattle.gf_nfg.proofs.Common.{number_is_computed, number_is, number_again, Position, Role, Suits}
 use Rattle.gf_nfg.proofs.Common.{Format, Version, Letter, Count, Payoff, OutcomeNumber, count_of}
 use Rattle.gf_nfg.proofs.Common.{State, step_at, counted, paid, chosen, index_is, index_again}
-use Rattle.gf_nfg.proofs.Common.{count_is, count_again}
+use Rattle.gf_nfg.proofs.Common.{count_is, count_again, number_of, p, index_of}
 use Rattle.gf_token.specs.declared.fault.What.TheVariants as what
-use Rattle.gf_fraction.specs.Computed.{number_of}
-use Rattle.gf_nfg.specs.inner.Position.{Position as p}
-use Rattle.gf_token.specs.Indices.{index_of}
 use Rattle.gf_nfg.proofs.lemmas.runs.Common.{same_bytes}
 
 -- Which tokens a row accepts, bare ones by their role, and the `What` of its E3.

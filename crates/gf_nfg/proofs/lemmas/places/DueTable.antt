@@ -4,9 +4,8 @@ use Rattle.gf_nfg.proofs.Common.{Option, Some, None, Ok, Err, refl, subst, ap, i
 use Rattle.gf_nfg.proofs.Common.{not, Token, Opening, Closing, Text, Bare, Broken, What, Why}
 use Rattle.gf_nfg.proofs.Common.{Expected, Position, MayFollow, IsStrategicFile, Role, RoleIsDue}
 use Rattle.gf_nfg.proofs.Common.{IsDue, Format, Version, Letter, Count, Payoff, OutcomeNumber}
-use Rattle.gf_nfg.proofs.Common.{State, Content, at, to, due_at, ended, step, with_labels}
+use Rattle.gf_nfg.proofs.Common.{State, Content, at, to, due_at, ended, step, with_labels, p}
 use Rattle.gf_token.specs.declared.fault.What.TheVariants as what
-use Rattle.gf_nfg.specs.inner.Position.{Position as p}
 use Rattle.gf_nfg.proofs.lemmas.places.DueRows.{Row, Accepts, AcceptsBare, answers, no, row_at}
 use Rattle.gf_nfg.proofs.lemmas.places.DueRows.{unfilled, has_some, listed_in}
 use Rattle.gf_nfg.proofs.lemmas.runs.Walks.{Leads, walk}

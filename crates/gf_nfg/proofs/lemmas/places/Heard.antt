@@ -8,18 +8,15 @@ use Rattle.gf_nfg.proofs.Common.{What, Why, Memory, TooManyProfiles, Unterminate
 use Rattle.gf_nfg.proofs.Common.{Answer, Fails, HasPassed, HasPassedPlace, at_end, heard, is_past}
 use Rattle.gf_nfg.proofs.Common.{read_on, taken, then_on, within, IsAcceptedWithinLimit, IsJudged}
 use Rattle.gf_nfg.proofs.Common.{IsRefusal, IsRefused, profile_limit, Content, State, due_at, ended}
-use Rattle.gf_nfg.proofs.Common.{finish, nothing, start, step, answer, content_in}
+use Rattle.gf_nfg.proofs.Common.{finish, nothing, start, step, answer, content_in, p, Reader}
 use Rattle.gf_token.proofs.TokensAhead.{in_order}
 use Rattle.gf_nfg.specs.inner.Heard.Fails.{of_file, of_memory}
-use Rattle.gf_nfg.specs.inner.Position.{Position as p}
-use Rattle.gf_nfg.specs.declared.reader.Reader.{Reader}
 use Rattle.gf_nfg.proofs.lemmas.places.Judged.{accepted, end_of, err, limit, only_expected, refusal}
 use Rattle.gf_nfg.proofs.lemmas.places.Judged.{refusal_end, span_of}
-use Rattle.gf_nfg.proofs.lemmas.places.Led.{Led, led_more, led_none, read_whole}
+use Rattle.gf_nfg.proofs.lemmas.places.Led.{IsRead, Led, led_more, led_none, read_whole}
 use Rattle.gf_nfg.proofs.lemmas.limit.Stays.{bounded, past}
 use Rattle.gf_nfg.proofs.lemmas.places.DueTable.{broken_refused}
 use Rattle.gf_nfg.proofs.lemmas.places.Reasons.{IsWhole, broken_reason, reason}
-use Rattle.gf_nfg.proofs.lemmas.runs.Sentence.{Read}
 
 -- ---- reasons
 
@@ -30,88 +27,80 @@ refused_by why bytes span h = grind arith
 -- ---- a token
 
 -- what the machine does at a token: it goes on, and the token is accepted; or it is refused
-data Took (bytes : List ℕ) (all ls : List Lexeme) (l : Lexeme) (o : Result State Why) : Type 0 where
-  goes_on : (after : State) → o ≡ Ok after → Led all ls after
-      → after.content.profiles ≤ profile_limit → IsAcceptedWithinLimit bytes (span_of l)
-      → Took bytes all ls l o
-  refuses : (why : Why) → o ≡ Err why → IsRefused why bytes (span_of l) → Took bytes all ls l o
-
-module _ (bytes : List ℕ) (all : List Lexeme) (spelled : Spells 0 bytes all) where
-  took_past : (s after : State) (l : Lexeme) (ls : List Lexeme) (b : Bool) → Led all (l ∷ ls) s
-      → s.content.profiles ≤ profile_limit → step s l.token ≡ Ok after
-      → is_past after.position after.content.profiles ≡ b
-      → Took bytes all ls l (if b then Err TooManyProfiles else Ok after)
-  took_past s after l ls true h few is over = refuses TooManyProfiles refl (
-    λ same. absurd cc,
-    limit bytes all ls l s after spelled h few is
-        (past after.position after.content.profiles over),
-  )
-  took_past s after l ls false h few is not =
-      let more = bounded s after l.token is few not in
-      goes_on after refl (led_more all ls l s after h is) more
-      (accepted bytes all ls l s after spelled h is more)
-
-  took_step : (s : State) (l : Lexeme) (ls : List Lexeme) (o : Result State Why)
-      → Led all (l ∷ ls) s → s.content.profiles ≤ profile_limit → IsWhole l.token
-      → step s l.token ≡ o → Took bytes all ls l (within o)
-  took_step s l ls (Ok after) h few whole is =
-      took_past s after l ls (is_past after.position after.content.profiles) h few is refl
-  took_step s l ls (Err why) h few whole is = refuses why refl
-      (refused_by why bytes (span_of l) (refusal bytes all ls l s why why spelled h few
-      (reason (tokens_of h.seen) (tokens_of ls) l.token s why h.leads whole is) is))
-
-  took : (s : State) (start end : ℕ) (t : Token) (ls : List Lexeme)
-      → Led all (lexeme start end t ∷ ls) s → s.content.profiles ≤ profile_limit
-      → Took bytes all ls (lexeme start end t) (taken s t)
-  took s start end Broken ls h few =
-      let b = broken_refused s in
-      refuses Unterminated refl (refused_by Unterminated bytes _ (refusal bytes all ls _ s
-      Unterminated b.0 spelled h few (broken_reason (tokens_of h.seen) (tokens_of ls)) b.1))
-  took s start end t ls h few = took_step s _ ls (step s t) h few tt refl
-
--- ---- all tokens
-
--- what is known of an answer: the bytes mean a file within the limit, or they are refused
-abbrev pub IsAnswered : List ℕ → List Lexeme → Result Content Fault → Type 0
-IsAnswered bytes all (Ok c) = Read (tokens_of all) c × (c.profiles ≤ profile_limit)
-IsAnswered bytes all (Err f) = IsRefused f.why bytes f.span
+data Took (bytes : List ℕ) (ls : List Lexeme) (l : Lexeme) (o : Result State Why) : Type 0 where
+  goes_on : (after : State) → o ≡ Ok after → Led bytes ls after
+      → IsAcceptedWithinLimit bytes (span_of l) → Took bytes ls l o
+  refuses : (why : Why) → o ≡ Err why → IsRefused why bytes (span_of l) → Took bytes ls l o
 
 -- the answer if a token is taken so
 abbrev answer_at : ℕ → List Lexeme → Lexeme → Result State Why → Result Content Fault
 answer_at end ls l o = then_on l.start l.end o (λ next. read_on end next ls)
 
+-- what is known of an answer: the bytes mean a file within the limit, or they are refused
+abbrev pub IsAnswered : List ℕ → Result Content Fault → Type 0
+IsAnswered bytes (Ok c) = IsRead bytes c × (c.profiles ≤ profile_limit)
+IsAnswered bytes (Err f) = IsRefused f.why bytes f.span
+
 ended_is : (c r : Content) (o : Option What) → ended c o ≡ Ok r → c ≡ r
 ended_is c r o e = grind arith
 
-module _ (bytes : List ℕ) (all : List Lexeme) (spelled : Spells 0 bytes all) where
-  end_answered : (s : State) (o : Result Content Why) → Led all [] s
-      → s.content.profiles ≤ profile_limit → finish s ≡ o
-      → IsAnswered bytes all (at_end (length bytes) o)
-  end_answered s (Ok c) h few e = (
-    read_whole all s c h e,
-    subst (λ (r : Content). r.profiles ≤ profile_limit)
-        (ended_is s.content c (due_at s.position s.due) e) few,
+module _ (bytes : List ℕ) where
+  took_past : (s after : State) (l : Lexeme) (ls : List Lexeme) (b : Bool) → Led bytes (l ∷ ls) s
+      → step s l.token ≡ Ok after → is_past after.position after.content.profiles ≡ b
+      → Took bytes ls l (if b then Err TooManyProfiles else Ok after)
+  took_past s after l ls true h is over = refuses TooManyProfiles refl (
+    λ same. absurd cc,
+    limit bytes ls l s after h is (past after.position after.content.profiles over),
   )
-  end_answered s (Err why) h few e =
+  took_past s after l ls false h is not =
+      let few = bounded s after l.token is h.few not in
+      goes_on after refl (led_more bytes ls l s after h is few)
+      (accepted bytes ls l s after h is few)
+
+  took_step : (s : State) (l : Lexeme) (ls : List Lexeme) (o : Result State Why)
+      → Led bytes (l ∷ ls) s → IsWhole l.token → step s l.token ≡ o → Took bytes ls l (within o)
+  took_step s l ls (Ok after) h whole is =
+      took_past s after l ls (is_past after.position after.content.profiles) h is refl
+  took_step s l ls (Err why) h whole is = refuses why refl
+      (refused_by why bytes (span_of l) (refusal bytes ls l s why why h
+      (reason (tokens_of h.seen) (tokens_of ls) l.token s why h.leads whole is) is))
+
+  took : (s : State) (start end : ℕ) (t : Token) (ls : List Lexeme)
+      → Led bytes (lexeme start end t ∷ ls) s → Took bytes ls (lexeme start end t) (taken s t)
+  took s start end Broken ls h =
+      let b = broken_refused s in
+      refuses Unterminated refl (refused_by Unterminated bytes _ (refusal bytes ls _ s Unterminated
+      b.0 h (broken_reason (tokens_of h.seen) (tokens_of ls)) b.1))
+  took s start end t ls h = took_step s _ ls (step s t) h tt refl
+
+  -- ---- all tokens
+
+  end_answered : (s : State) (o : Result Content Why) → Led bytes [] s → finish s ≡ o
+      → IsAnswered bytes (at_end (length bytes) o)
+  end_answered s (Ok c) h e = (
+    read_whole bytes s c h e,
+    subst (λ (r : Content). r.profiles ≤ profile_limit)
+        (ended_is s.content c (due_at s.position s.due) e) h.few,
+  )
+  end_answered s (Err why) h e =
       let w = only_expected s.content (due_at s.position s.due) why e in
       subst (λ (x : Why). IsRefused x bytes (end_of (length bytes))) (sym w.1)
-      (λ same. absurd cc, refusal_end bytes all s w.0 spelled h few (e ∙ ap err w.1))
+      (λ same. absurd cc, refusal_end bytes s w.0 h (e ∙ ap err w.1))
 
-  token_answered : (l : Lexeme) (ls : List Lexeme) (o : Result State Why) → Took bytes all ls l o
-      → ((after : State) → Led all ls after → after.content.profiles ≤ profile_limit
-      → IsAnswered bytes all (read_on (length bytes) after ls))
-      → IsAnswered bytes all (answer_at (length bytes) ls l o)
+  token_answered : (l : Lexeme) (ls : List Lexeme) (o : Result State Why) → Took bytes ls l o
+      → ((after : State) → Led bytes ls after → IsAnswered bytes (read_on (length bytes) after ls))
+      → IsAnswered bytes (answer_at (length bytes) ls l o)
   token_answered l ls o h later = grind arith
 
-  answered_on : (s : State) (ls : List Lexeme) → Led all ls s → s.content.profiles ≤ profile_limit
-      → IsAnswered bytes all (read_on (length bytes) s ls)
-  answered_on s [] h few = end_answered s (finish s) h few refl
-  answered_on s (l ∷ ls) h few = token_answered l ls (taken s l.token)
-      (took bytes all spelled s l.start l.end l.token ls h few)
-      (λ after led more. answered_on after ls led more)
+  answered_on : (s : State) (ls : List Lexeme) → Led bytes ls s
+      → IsAnswered bytes (read_on (length bytes) s ls)
+  answered_on s [] h = end_answered s (finish s) h refl
+  answered_on s (l ∷ ls) h = token_answered l ls (taken s l.token)
+      (took s l.start l.end l.token ls h) (λ after led. answered_on after ls led)
 
-  pub all_answered : IsAnswered bytes all (read_on (length bytes) start all)
-  all_answered = answered_on start all (led_none all) (omega arith)
+  pub all_answered : (all : List Lexeme) → Spells 0 bytes all
+      → IsAnswered bytes (read_on (length bytes) start all)
+  all_answered all spelled = answered_on start all (led_none bytes all spelled)
 
 -- ---- memory
 
@@ -139,7 +128,7 @@ wants_memory {f} {span} {t} {a} stands is s goes = grind (arith, carried, passed
 
 -- ---- at a token that it has passed, memory may run out
 
-module _ (bytes : List ℕ) (all : List Lexeme) (spelled : Spells 0 bytes all) where
+module _ (bytes : List ℕ) where
   -- a token after others begins after them
   begins_later : (end from : ℕ) (before after : List Lexeme) (l : Lexeme)
       → AreInOrder end from (before ++ l ∷ after) → from ≤ l.start
@@ -149,58 +138,52 @@ module _ (bytes : List ℕ) (all : List Lexeme) (spelled : Spells 0 bytes all) w
   abbrev Accepted : Lexeme → Type 0
   Accepted l = IsAcceptedWithinLimit bytes (span_of l)
 
-  last_token : (l : Lexeme) (ls : List Lexeme) (o : Result State Why) → Took bytes all ls l o
+  last_token : (l : Lexeme) (ls : List Lexeme) (o : Result State Why) → Took bytes ls l o
       → HasPassed (answer_at (length bytes) ls l o) l.start → Accepted l
   last_token l ls o h passed = grind arith
 
   first_token : (z l : Lexeme) (ls : List Lexeme) (o : Result State Why) → z.start < l.start
-      → Took bytes all ls z o → HasPassed (answer_at (length bytes) ls z o) l.start
-      → ((after : State) → Led all ls after → after.content.profiles ≤ profile_limit → HasPassed
-      (read_on (length bytes) after ls) l.start → Accepted l) → Accepted l
+      → Took bytes ls z o → HasPassed (answer_at (length bytes) ls z o) l.start
+      → ((after : State) → Led bytes ls after
+      → HasPassed (read_on (length bytes) after ls) l.start → Accepted l) → Accepted l
   first_token z l ls o less h passed later = grind arith
 
   passed_token : (from : ℕ) (s : State) (before after : List Lexeme) (l : Lexeme)
-      → AreInOrder (length bytes) from (before ++ l ∷ after) → Led all (before ++ l ∷ after) s
-      → s.content.profiles ≤ profile_limit
+      → AreInOrder (length bytes) from (before ++ l ∷ after) → Led bytes (before ++ l ∷ after) s
       → HasPassed (read_on (length bytes) s (before ++ l ∷ after)) l.start → Accepted l
-  passed_token from s [] after l order h few passed =
-      last_token l after (taken s l.token)
-      (took bytes all spelled s l.start l.end l.token after h few) passed
-  passed_token from s (z ∷ zs) after l order h few passed =
+  passed_token from s [] after l order h passed =
+      last_token l after (taken s l.token) (took bytes s l.start l.end l.token after h) passed
+  passed_token from s (z ∷ zs) after l order h passed =
       let far = begins_later (length bytes) z.end zs after l order.2 in
       let some = order.1 in
       first_token z l (zs ++ l ∷ after) (taken s z.token) (omega (arith, far, some))
-      (took bytes all spelled s z.start z.end z.token (zs ++ l ∷ after) h few) passed
-      (λ next led more p. passed_token z.end next zs after l order.2 led more p)
+      (took bytes s z.start z.end z.token (zs ++ l ∷ after) h) passed
+      (λ next led p. passed_token z.end next zs after l order.2 led p)
 
   -- a place of a token that the machine has passed
-  pub memory_judged : (span : Span)
-      → HasPassedPlace (heard start (record { input = bytes; ahead = all }))
-      span → IsAcceptedWithinLimit bytes span
-  memory_judged span h = at_place h.place.0 h.place.1 h.place.2 h.place.3
+  pub memory_judged : (all : List Lexeme) → Spells 0 bytes all → (span : Span)
+      → HasPassedPlace (heard start (record { input = bytes; ahead = all })) span
+      → IsAcceptedWithinLimit bytes span
+  memory_judged all spelled span h = at_place h.place.0 h.place.1 h.place.2 h.place.3
     where
-      none : 0 + length bytes ≡ length bytes
-      none = omega arith
-
       at_place : (before after : List Lexeme) → Spells 0 bytes (before ++ after)
           → IsSpanOf after (length bytes) span → IsAcceptedWithinLimit bytes span
       at_place before [] k place =
           let a = place.0 in let b = place.1 in let some = h.some in
           absurd (omega (arith, a, b, some))
       at_place before (l ∷ after) k place =
-          let same : all ≡ before ++ l ∷ after =
-          same_tokens bytes all (before ++ l ∷ after) spelled k in
-          let order = subst (λ (n : ℕ). AreInOrder n 0 (before ++ l ∷ after)) none
-          (in_order 0 bytes (before ++ l ∷ after) k) in
-          let passed : HasPassed (read_on (length bytes) start (before ++ l ∷ after)) l.start =
-          subst (λ (n : ℕ). HasPassed (read_on (length bytes) start (before ++ l ∷ after)) n)
-          place.0
+          let whole = before ++ l ∷ after in
+          let none : 0 + length bytes ≡ length bytes = omega arith in
+          let order = subst (λ (n : ℕ). AreInOrder n 0 whole) none (in_order 0 bytes whole k) in
+          let same = same_tokens bytes all whole spelled k in
+          let passed : HasPassed (read_on (length bytes) start whole) l.start =
+          subst (λ (n : ℕ). HasPassed (read_on (length bytes) start whole) n) place.0
           (subst (λ (x : List Lexeme). HasPassed (read_on (length bytes) start x) span.start) same
           h.passed) in
           let is : span_of l ≡ span =
           (λ i. record { start = sym place.0 i; end = sym place.1 i }) in
-          subst (IsAcceptedWithinLimit bytes) is (passed_token 0 start before after l order
-          (subst (λ (x : List Lexeme). Led all x start) same (led_none all)) (omega arith) passed)
+          subst (IsAcceptedWithinLimit bytes) is
+          (passed_token 0 start before after l order (led_none bytes whole k) passed)
 
 -- ---- the answer to all tokens
 
@@ -213,7 +196,7 @@ answer_judged bytes all fault spelled (of_file e) = grind (arith, all_answered)
 answer_judged bytes all fault spelled (of_memory is h) = grind (arith, memory_judged)
 
 pub answer_read : (bytes : List ℕ) (all : List Lexeme) (c : Content) → Spells 0 bytes all
-    → (to_all bytes all).machine ≡ Ok c → Read (tokens_of all) c
+    → (to_all bytes all).machine ≡ Ok c → IsRead bytes c
 answer_read bytes all c spelled e = grind (arith, all_answered)
 
 pub heard_begun : (r : Reader) (bytes : List ℕ) → r.tokens.input ≡ bytes

@@ -24,15 +24,14 @@ end_of size = record { start = size; end = size }
 
 -- ---- a token that is refused
 
-pub refusal : (bytes : List ℕ) (all rest : List Lexeme) (l : Lexeme) (s : State) (why other : Why)
-    → Spells 0 bytes all → (h : Led all (l ∷ rest) s) → s.content.profiles ≤ profile_limit
-    → IsReason why (tokens_of h.seen) (l.token ∷ tokens_of rest) → step s l.token ≡ Err other
-    → IsRefusal why bytes (span_of l)
-refusal bytes all rest l s why other spelled h within reason e =
+pub refusal : (bytes : List ℕ) (rest : List Lexeme) (l : Lexeme) (s : State) (why other : Why)
+    → (h : Led bytes (l ∷ rest) s) → IsReason why (tokens_of h.seen) (l.token ∷ tokens_of rest)
+    → step s l.token ≡ Err other → IsRefusal why bytes (span_of l)
+refusal bytes rest l s why other h reason e =
     let off : IsOffendingPlace IsStrategicFile bytes (span_of l) = record {
       before = h.seen;
       after = l ∷ rest;
-      spelled = subst (λ (ls : List Lexeme). Spells 0 bytes ls) h.parts spelled;
+      spelled = h.spelled;
       place = (refl, refl);
       begins = begins (tokens_of h.seen) s h.leads;
       refused = refused (tokens_of h.seen) l.token s other h.leads e;
@@ -40,27 +39,26 @@ refusal bytes all rest l s why other spelled h within reason e =
     record {
       place = off;
       reason = reason;
-      within = nowhere bytes (span_of l) off (stays_within (tokens_of h.seen) s h.leads within);
+      within = nowhere bytes (span_of l) off (stays_within (tokens_of h.seen) s h.leads h.few);
     }
 
-pub limit : (bytes : List ℕ) (all rest : List Lexeme) (l : Lexeme) (s after : State)
-    → Spells 0 bytes all → Led all (l ∷ rest) s → s.content.profiles ≤ profile_limit
-    → step s l.token ≡ Ok after → profile_limit < after.content.profiles
+pub limit : (bytes : List ℕ) (rest : List Lexeme) (l : Lexeme) (s after : State)
+    → Led bytes (l ∷ rest) s → step s l.token ≡ Ok after → profile_limit < after.content.profiles
     → IsLimitPlace bytes (span_of l)
-limit bytes all rest l s after spelled h within e over =
+limit bytes rest l s after h e over =
     let k = limit_token (tokens_of h.seen) l.token (record {
       mid = s;
       after = after;
       leads = h.leads;
       steps = e;
-      within = within;
+      within = h.few;
       over = over;
     }) in
     (limit_by_files bytes (span_of l)).1 (record {
       before = h.seen;
       lexeme = l;
       after = rest;
-      spelled = subst (λ (ls : List Lexeme). Spells 0 bytes ls) h.parts spelled;
+      spelled = h.spelled;
       place = (refl, refl);
       grows = k.grows;
       past = k.past;
@@ -68,38 +66,36 @@ limit bytes all rest l s after spelled h within e over =
     })
 
 -- a token that is not refused
-pub accepted : (bytes : List ℕ) (all rest : List Lexeme) (l : Lexeme) (s after : State)
-    → Spells 0 bytes all → Led all (l ∷ rest) s → step s l.token ≡ Ok after
-    → after.content.profiles ≤ profile_limit → IsAcceptedWithinLimit bytes (span_of l)
-accepted bytes all rest l s after spelled h e within =
+pub accepted : (bytes : List ℕ) (rest : List Lexeme) (l : Lexeme) (s after : State)
+    → Led bytes (l ∷ rest) s → step s l.token ≡ Ok after → after.content.profiles ≤ profile_limit
+    → IsAcceptedWithinLimit bytes (span_of l)
+accepted bytes rest l s after h e few =
     let through = tokens_of h.seen ++ l.token ∷ [] in
     let leads = leads_more (tokens_of h.seen) l.token s after h.leads e in
-    let parts = subst (λ (ls : List Lexeme). Spells 0 bytes ls) h.parts spelled in
     record {
       place = record {
         before = h.seen;
         after = l ∷ rest;
-        spelled = parts;
+        spelled = h.spelled;
         place = (refl, refl);
         accepted = begins through after leads;
       };
-      within = later bytes h.seen rest l parts (stays_within through after leads within);
+      within = later bytes h.seen rest l h.spelled (stays_within through after leads few);
     }
 
 -- ---- the end
 
-pub refusal_end : (bytes : List ℕ) (all : List Lexeme) (s : State) (expected : What)
-    → Spells 0 bytes all → Led all [] s → s.content.profiles ≤ profile_limit
+pub refusal_end : (bytes : List ℕ) (s : State) (expected : What) → Led bytes [] s
     → finish s ≡ Err (Expected expected)
     → IsRefusal (Expected expected) bytes (end_of (length bytes))
-refusal_end bytes all s expected spelled h within e =
+refusal_end bytes s expected h e =
     let off : IsOffendingPlace IsStrategicFile bytes (end_of (length bytes)) =
     grind (arith, begins, refused, no_file) in
     record {
       place = off;
       reason = end_reason (tokens_of h.seen) s expected h.leads e;
       within = nowhere bytes (end_of (length bytes)) off
-          (stays_within (tokens_of h.seen) s h.leads within);
+          (stays_within (tokens_of h.seen) s h.leads h.few);
     }
 
 abbrev pub err : Why → Result Content Why
@@ -139,9 +135,7 @@ accepted_whole bytes t h within = record {
 pub memory_at_end : (bytes : List ℕ) (t : Table) (fault : Fault) (why : Why) → SpellsTable bytes t
     → IsWithinLimit t → fault ≡ record { span = end_of (length bytes); why = why } → why ≡ Memory
     → IsJudged fault.why bytes fault.span
-memory_at_end bytes t fault why h within is memory =
-    let P : Why → Type 0 = λ w. IsJudged w bytes (end_of (length bytes)) in
-    rw is (subst P (sym memory) (accepted_whole bytes t h within))
+memory_at_end bytes t fault why h within is memory = grind (arith, accepted_whole)
 
 -- ---- no table within the limit is refused but for lack of memory
 

@@ -4,7 +4,7 @@ use Rattle.gf_nfg.proofs.Common.{◌≡◌, ℕ, List, [], ◌∷◌, ◌++◌, 
 use Rattle.gf_nfg.proofs.Common.{append_assoc, map-append, Lexeme, Spells, Why, same_tokens, Table}
 use Rattle.gf_nfg.proofs.Common.{Sentence, SpellsTable, tokens_of, State, Content, run, step}
 use Rattle.gf_nfg.proofs.Common.{finish, start, Err, append-nil, Token, IsStrategicFile, Begins}
-use Rattle.gf_nfg.proofs.Common.{MayFollow, ◌>>=◌, table_of}
+use Rattle.gf_nfg.proofs.Common.{MayFollow, ◌>>=◌, table_of, profile_limit, ◌≤◌, subst}
 use Rattle.gf_nfg.proofs.lemmas.runs.Sentence.{Read, sentence_found, one_table, sentence_again}
 use Rattle.gf_nfg.proofs.lemmas.runs.Walks.{Leads, leads_more, leads_run, walk, walk_run}
 use Rattle.gf_nfg.proofs.lemmas.runs.Ends.{ends}
@@ -51,34 +51,38 @@ no_file ts s why h e = λ file.
 
 -- ---- the tokens of an input
 
-pub record Led (all rest : List Lexeme) (s : State) : Type 0 where
+-- what the tokens before the rest have led the machine to, within the limit
+pub record Led (bytes : List ℕ) (rest : List Lexeme) (s : State) : Type 0 where
   pub seen : List Lexeme
-  pub parts : all ≡ seen ++ rest
+  pub spelled : Spells 0 bytes (seen ++ rest)
   pub leads : Leads (tokens_of seen) s
+  pub few : s.content.profiles ≤ profile_limit
 
-pub led_none : (all : List Lexeme) → Led all all start
-led_none all = record { seen = []; parts = refl; leads = refl }
+pub led_none : (bytes : List ℕ) (all : List Lexeme) → Spells 0 bytes all → Led bytes all start
+led_none bytes all h = record { seen = []; spelled = h; leads = refl; few = omega arith }
 
-pub led_more : (all rest : List Lexeme) (l : Lexeme) (s after : State)
-    → Led all (l ∷ rest) s → step s l.token ≡ Ok after → Led all rest after
-led_more all rest l s after h e = record {
+pub led_more : (bytes : List ℕ) (rest : List Lexeme) (l : Lexeme) (s after : State)
+    → Led bytes (l ∷ rest) s → step s l.token ≡ Ok after → after.content.profiles ≤ profile_limit
+    → Led bytes rest after
+led_more bytes rest l s after h e few = record {
   seen = h.seen ++ l ∷ [];
-  parts = h.parts ∙ sym (append_assoc h.seen (l ∷ []) rest);
+  spelled = subst (Spells 0 bytes) (sym (append_assoc h.seen (l ∷ []) rest)) h.spelled;
   leads = grind (arith, Leads, map-append, leads_more);
+  few = few;
 }
 
--- ---- the end
+-- what all tokens mean
+abbrev pub IsRead : List ℕ → Content → Type 0
+IsRead bytes c = (ls : List Lexeme) × Spells 0 bytes ls × Read (tokens_of ls) c
 
-all_read : (all : List Lexeme) (s : State) (o : Result Content Why) → Led all [] s → finish s ≡ o
-    → run start (tokens_of all) ≡ o
-all_read all s o h e =
-    let k : tokens_of all ≡ tokens_of h.seen ++ [] =
-    ap tokens_of h.parts ∙ map-append (λ (x : Lexeme). x.token) h.seen [] in
-    ap (run start) k ∙ leads_run (tokens_of h.seen) [] s h.leads ∙ e
-
-pub read_whole : (all : List Lexeme) (s : State) (r : Content) → Led all [] s → finish s ≡ Ok r
-    → Read (tokens_of all) r
-read_whole all s r h e = sentence_found (tokens_of all) r (all_read all s (Ok r) h e)
+pub read_whole : (bytes : List ℕ) (s : State) (r : Content) → Led bytes [] s → finish s ≡ Ok r
+    → IsRead bytes r
+read_whole bytes s r h e = (
+  h.seen,
+  subst (Spells 0 bytes) (append-nil h.seen) h.spelled,
+  sentence_found (tokens_of h.seen) r (ap (run start) (sym (append-nil (tokens_of h.seen)))
+      ∙ leads_run (tokens_of h.seen) [] s h.leads ∙ e),
+)
 
 -- and so one table at most
 pub spelled_as : (bytes : List ℕ) (all : List Lexeme) (t : Table)

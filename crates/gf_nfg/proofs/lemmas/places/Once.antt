@@ -55,9 +55,11 @@ abbrev pub Answered : List ℕ → Type 0
 Answered bytes = ((t : Table) × SpellsTable bytes t × IsWithinLimit t)
     ⊎ ((why : Why) × (span : Span) × IsRefused why bytes span)
 
-by_answer : (bytes : List ℕ) (all : List Lexeme) (o : Result Content Fault) → Spells 0 bytes all
-    → IsAnswered bytes all o → Answered bytes
-by_answer bytes all o spelled a = grind (arith, table_of, within_limit)
+by_answer : (bytes : List ℕ) (o : Result Content Fault) → IsAnswered bytes o → Answered bytes
+by_answer bytes (Ok c) a =
+    inl (table_of c, (a.0.0, a.0.1, a.0.2.sentence), within_limit c a.0.2.complete a.1)
+by_answer bytes (Err f) a = inr (f.why, f.span, a)
 
 pub answered : (bytes : List ℕ) → Answered bytes
-answered bytes = grind (arith, spelled_once bytes, by_answer, all_answered)
+answered bytes =
+    let h = spelled_once bytes in by_answer bytes _ (all_answered bytes h.0 h.1)

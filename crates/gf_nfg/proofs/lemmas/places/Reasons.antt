@@ -9,10 +9,8 @@ use Rattle.gf_nfg.proofs.Common.{same_fault, Begins, MayFollow, IsStrategicFile,
 use Rattle.gf_nfg.proofs.Common.{RoleIsDue, IsDue, Format, Version, Letter, Count, Payoff}
 use Rattle.gf_nfg.proofs.Common.{OutcomeNumber, Applies, IsReason, count_of, Content, State, ended}
 use Rattle.gf_nfg.proofs.Common.{finish, step, index_is, index_again, count_is, count_again}
-use Rattle.std.proofs.lemmas.Bool.{false_from_ne_true}
-use Rattle.gf_fraction.specs.Computed.{number_of, lowest_of, gcd_within}
+use Rattle.gf_nfg.proofs.Common.{false_from_ne_true, number_of, lowest_of, gcd_within, index_of}
 use Rattle.gf_fraction.specs.declared.fraction.NumberFault.TheVariants as number
-use Rattle.gf_token.specs.Indices.{index_of}
 use Rattle.gf_nfg.proofs.lemmas.runs.Ends.{zero_text, zero_number, zero_is_number, zero_is_index}
 use Rattle.gf_nfg.proofs.lemmas.places.DueRows.{Accepts, AcceptsBare, RefusesBare, RefusesClosing}
 use Rattle.gf_nfg.proofs.lemmas.places.DueRows.{Refuses, Answers, answers, no, unfilled}

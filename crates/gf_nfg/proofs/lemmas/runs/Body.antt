@@ -1,10 +1,9 @@
 -- Runs over the comment and the body.
-use Rattle.gf_nfg.proofs.Common.{◌≡◌, ℕ, ◌+◌, ◌*◌, ◌<◌, ◌≤◌, arith, List, [], ◌∷◌, ◌++◌, length, map, Ok}
-use Rattle.gf_nfg.proofs.Common.{refl, sym, subst, ◌∙◌, append_assoc, inl, inr, ◌⊎◌, Token, Opening}
-use Rattle.gf_nfg.proofs.Common.{AllByRecursion, Closing, Text, Bare, Each, braced, IsComment, Ratio}
-use Rattle.gf_nfg.proofs.Common.{IsPayoff, IsPayoffBody, IsOutcomeBody, Content, Position, at, run}
-use Rattle.gf_nfg.proofs.Common.{with_comment, HasPayoffs, row_of, rows_by}
-use Rattle.gf_nfg.specs.inner.Position.{Position as p}
+use Rattle.gf_nfg.proofs.Common.{◌≡◌, ℕ, ◌+◌, ◌*◌, ◌<◌, ◌≤◌, arith, List, [], ◌∷◌, ◌++◌, length}
+use Rattle.gf_nfg.proofs.Common.{map, Ok, refl, sym, subst, ◌∙◌, append_assoc, inl, inr, ◌⊎◌, Token}
+use Rattle.gf_nfg.proofs.Common.{Opening, AllByRecursion, Closing, Text, Bare, Each, braced}
+use Rattle.gf_nfg.proofs.Common.{IsComment, Ratio, IsPayoff, IsPayoffBody, IsOutcomeBody, Content}
+use Rattle.gf_nfg.proofs.Common.{Position, at, run, with_comment, HasPayoffs, row_of, rows_by, p}
 use Rattle.gf_nfg.proofs.lemmas.tables.Lists.{joined, length-joined_rows}
 use Rattle.gf_nfg.proofs.lemmas.tables.Meaning.{rows_again}
 use Rattle.gf_nfg.proofs.lemmas.tables.Rows.{rows_numbered}

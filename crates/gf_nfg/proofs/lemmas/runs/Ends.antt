@@ -4,10 +4,8 @@ use Rattle.gf_nfg.proofs.Common.{Some, Ok, refl, ap, subst, ◌∙◌, arith, na
 use Rattle.gf_nfg.proofs.Common.{le-leb, length-append, Token, Opening, Closing, Text, Bare, Comma}
 use Rattle.gf_nfg.proofs.Common.{Ratio, whole, Position, count_of, State, Content, at, step, run}
 use Rattle.gf_nfg.proofs.Common.{listed, with_title, with_labels, with_count, with_payoffs}
-use Rattle.gf_nfg.proofs.Common.{with_choices, next_outcome, inl, inr}
-use Rattle.gf_nfg.specs.inner.Position.{Position as p}
-use Rattle.gf_fraction.specs.Computed.{number_of, lowest_of, gcd_within}
-use Rattle.gf_token.specs.Indices.{index_of}
+use Rattle.gf_nfg.proofs.Common.{with_choices, next_outcome, inl, inr, p, number_of, lowest_of}
+use Rattle.gf_nfg.proofs.Common.{gcd_within, index_of}
 use Rattle.gf_nfg.proofs.lemmas.runs.Common.{not_zero, pred_suc}
 use Rattle.gf_nfg.proofs.lemmas.runs.Strategies.{Takes}
 use Rattle.gf_nfg.proofs.lemmas.runs.Strategies.Kind.{ByCounts}
@@ -180,7 +178,8 @@ ends_at p.BeforePlayers h due from outcomes c =
     let k = players_end due from outcomes c in (Opening ∷ k.0, k.1, k.2, k.3)
 ends_at p.InPlayers h due from outcomes c = players_end due from outcomes c
 ends_at p.BeforeStrategies h due from outcomes c =
-    let k = counted_ends p.FirstStrategies (inl refl) due from outcomes c in (Opening ∷ k.0, k.1, k.2, k.3)
+    let k = counted_ends p.FirstStrategies (inl refl) due from outcomes c in
+    (Opening ∷ k.0, k.1, k.2, k.3)
 ends_at p.FirstStrategies h due from outcomes c =
     counted_ends p.FirstStrategies (inl refl) due from outcomes c
 ends_at p.Counts h due from outcomes c =

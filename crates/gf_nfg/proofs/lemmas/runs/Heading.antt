@@ -5,8 +5,7 @@ use Rattle.gf_nfg.proofs.Common.{◌⊎◌, pointwise, Token, Opening, Closing, 
 use Rattle.gf_nfg.proofs.Common.{braced, Content, at, run, start, nothing, with_title, with_players}
 use Rattle.gf_token.specs.declared.fault.What.TheVariants as what
 use Rattle.gf_nfg.specs.inner.Position.{Position as p}
-use Rattle.gf_nfg.proofs.lemmas.runs.Common.{same_bytes, with_no_players}
-use Rattle.gf_nfg.proofs.lemmas.runs.Common.{with_more_players}
+use Rattle.gf_nfg.proofs.lemmas.runs.Common.{same_bytes, with_no_players, with_more_players}
 use Rattle.gf_nfg.proofs.lemmas.runs.Walks.{Leads, leads_more, leads_on, walk}
 
 -- ---- what was read

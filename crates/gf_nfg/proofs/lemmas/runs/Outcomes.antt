@@ -4,9 +4,8 @@ use Rattle.gf_nfg.proofs.Common.{◌∷◌, ◌++◌, length, Option, Some, Ok, 
 use Rattle.gf_nfg.proofs.Common.{append_assoc, arith, AllByRecursion, length-append, Token, Opening}
 use Rattle.gf_nfg.proofs.Common.{Closing, Text, Bare, IsIndex, Each, braced, Ratio}
 use Rattle.gf_nfg.proofs.Common.{IsOutcomeInBraces, State, Content, at, run, chosen, with_payoffs}
-use Rattle.gf_nfg.proofs.Common.{with_choices, next_outcome, ◌>>=◌, index_is, index_again}
-use Rattle.gf_nfg.specs.inner.Position.{Position as p}
-use Rattle.gf_token.specs.Indices.{index_of}
+use Rattle.gf_nfg.proofs.Common.{with_choices, next_outcome, ◌>>=◌, index_is, index_again, p}
+use Rattle.gf_nfg.proofs.Common.{index_of}
 use Rattle.gf_nfg.proofs.lemmas.tables.Lists.{joined}
 use Rattle.gf_nfg.proofs.lemmas.runs.Common.{not_zero, pred_suc, ok_why, ok_is, with_no_payoffs}
 use Rattle.gf_nfg.proofs.lemmas.runs.Common.{with_more_payoffs, with_no_choices, with_more_choices}

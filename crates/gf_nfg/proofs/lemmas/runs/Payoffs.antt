@@ -4,8 +4,7 @@ use Rattle.gf_nfg.proofs.Common.{◌++◌, length, Result, Ok, refl, sym, ap, su
 use Rattle.gf_nfg.proofs.Common.{inl, inr, ◌⊎◌, Token, Closing, Comma, Bare, Each, IsPayoffInBraces}
 use Rattle.gf_nfg.proofs.Common.{Ratio, NumberFault, Position, number_is, number_again, IsPayoff}
 use Rattle.gf_nfg.proofs.Common.{State, Content, at, run, paid, with_payoffs, next_outcome, ◌>>=◌}
-use Rattle.gf_nfg.specs.inner.Position.{Position as p}
-use Rattle.gf_fraction.specs.Computed.{number_of}
+use Rattle.gf_nfg.proofs.Common.{p, number_of}
 use Rattle.gf_nfg.proofs.lemmas.runs.Common.{not_zero, pred_suc, ok_why, ok_is, with_no_payoffs}
 use Rattle.gf_nfg.proofs.lemmas.runs.Common.{with_more_payoffs}
 use Rattle.gf_nfg.proofs.lemmas.runs.Groups.{First, all_in, groups_found}

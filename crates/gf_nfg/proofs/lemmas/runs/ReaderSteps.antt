@@ -5,12 +5,9 @@ use Rattle.gf_nfg.proofs.Common.{refl, sym, ap, subst, ◌∙◌, arith, MatchRe
 use Rattle.gf_nfg.proofs.Common.{Lexeme, lexeme, Opening, Closing, Text, Fault, Span, Answer, Fails}
 use Rattle.gf_nfg.proofs.Common.{Goes, heard, read_on, then_on, within, Content, State, at, settled}
 use Rattle.gf_nfg.proofs.Common.{HasToldAll, body_answer, content_in, content_told, labels_of}
-use Rattle.gf_nfg.proofs.Common.{told_answer, Told, length-map}
-use Rattle.gf_nfg.specs.inner.Position.{Position as p}
-use Rattle.gf_nfg.specs.declared.table.heading.Heading.{Heading}
-use Rattle.gf_nfg.specs.declared.reader.Reader.{Reader}
-use Rattle.gf_nfg.specs.declared.reader.receive.Version.{Version}
+use Rattle.gf_nfg.proofs.Common.{told_answer, Told, length-map, p, Heading, Reader}
 use Rattle.gf_nfg.specs.declared.reader.receive.Version.TheVariants as version
+use Rattle.gf_nfg.specs.declared.reader.receive.Version.{Version}
 use Rattle.gf_nfg.proofs.lemmas.places.Heard.{carried, wants_memory}
 
 -- ---- answers carried back

@@ -1,12 +1,10 @@
 -- A run of the machine that succeeds has read a sentence, and each sentence is read.
-use Rattle.gf_nfg.proofs.Common.{◌≡◌, ℕ, ◌*◌, ◌<◌, List, [], ◌∷◌, ◌++◌, length, map, Ok, refl}
-use Rattle.gf_nfg.proofs.Common.{sym, ap, subst, ◌∙◌, append_assoc, arith, inl, inr, ◌⊎◌, sum}
-use Rattle.gf_nfg.proofs.Common.{length-map, Token, Closing, Each, braced}
-use Rattle.gf_nfg.proofs.Common.{IsComment, Ratio, all_images, product, Table, IsTable, rows}
-use Rattle.gf_nfg.proofs.Common.{Sentence, IsCount, IsLabelList}
-use Rattle.gf_nfg.proofs.Common.{counted_labels, Content, at, run, start, with_comment}
-use Rattle.gf_nfg.proofs.Common.{strategies_of, table_of, HasLabels, rows_by, IsComplete}
-use Rattle.gf_nfg.specs.inner.Position.{Position as p}
+use Rattle.gf_nfg.proofs.Common.{◌≡◌, ℕ, ◌*◌, ◌<◌, List, [], ◌∷◌, ◌++◌, length, map, Ok, refl, sym}
+use Rattle.gf_nfg.proofs.Common.{ap, subst, ◌∙◌, append_assoc, arith, inl, inr, ◌⊎◌, sum}
+use Rattle.gf_nfg.proofs.Common.{length-map, Token, Closing, Each, braced, IsComment, Ratio}
+use Rattle.gf_nfg.proofs.Common.{all_images, product, Table, IsTable, rows, Sentence, IsCount}
+use Rattle.gf_nfg.proofs.Common.{IsLabelList, counted_labels, Content, at, run, start, with_comment}
+use Rattle.gf_nfg.proofs.Common.{strategies_of, table_of, HasLabels, rows_by, IsComplete, p}
 use Rattle.gf_nfg.proofs.lemmas.tables.Lists.{joined, length-counted_labels, length-joined}
 use Rattle.gf_nfg.proofs.lemmas.tables.Lists.{product_above_zero}
 use Rattle.gf_nfg.proofs.lemmas.tables.Meaning.{is_table, rows-table_of, strategies_of-joined}
@@ -52,7 +50,7 @@ labels_fit counts labels e = grind arith
 
 labels_kept : (k : Kind) (strategies : Strategies)
     → HasLabels (map length strategies) (labels_in k strategies)
-labels_kept k strategies = grind (arith, labels_fit, map, length, joined, length-joined)
+labels_kept k strategies = grind (arith, labels_fit, joined, length-joined)
 
 -- of positive numbers of strategies there are some profiles
 some_profiles : (strategies : Strategies) → AllSome strategies

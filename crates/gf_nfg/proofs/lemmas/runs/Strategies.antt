@@ -5,8 +5,7 @@ use Rattle.gf_nfg.proofs.Common.{inl, inr, ◌⊎◌, AllByRecursion, append-nil
 use Rattle.gf_nfg.proofs.Common.{mul_assoc, Token, Opening, Closing, Text, Bare, Each, braced}
 use Rattle.gf_nfg.proofs.Common.{product, count_of, IsCount, IsLabelList, counted_labels, State}
 use Rattle.gf_nfg.proofs.Common.{Content, Position, at, run, step, counted, listed, opened}
-use Rattle.gf_nfg.proofs.Common.{with_count, with_labels, ◌>>=◌, count_is, count_again}
-use Rattle.gf_nfg.specs.inner.Position.{Position as p}
+use Rattle.gf_nfg.proofs.Common.{with_count, with_labels, ◌>>=◌, count_is, count_again, p}
 use Rattle.gf_nfg.proofs.lemmas.tables.Lists.{joined, length-counted_labels}
 use Rattle.gf_nfg.proofs.lemmas.runs.Common.{not_zero, pred_suc, with_no_labels, with_more_labels}
 use Rattle.gf_nfg.proofs.lemmas.runs.Groups.{First, Groups, all_in, and_more, and_more_is}

@@ -3,10 +3,8 @@ use Rattle.gf_nfg.proofs.Common.{◌≡◌, ℕ, zero, suc, ◌+◌, ◌≤◌, 
 use Rattle.gf_nfg.proofs.Common.{slice_get, refl, sym, ap, ◌∙◌, arith, take_all, Bool, ◌&&◌, map}
 use Rattle.gf_nfg.proofs.Common.{not, nat_eq, true, false, slice_eq-Decides, Decides-eqb}
 use Rattle.gf_nfg.proofs.Common.{Decides-int_eq, Ratio, Entry, Table, IsTable, rows, entries_of}
-use Rattle.gf_nfg.proofs.Common.{pointwise}
-use Rattle.std.proofs.lemmas.Bool.{and_parts, not-false}
-use Rattle.std.proofs.lemmas.List.{take_more_same}
-use Rattle.std.proofs.lemmas.Option.{get_or_from_slice_get, slice_get_within}
+use Rattle.gf_nfg.proofs.Common.{pointwise, and_parts, not-false, take_more_same}
+use Rattle.gf_nfg.proofs.Common.{get_or_from_slice_get, slice_get_within}
 use Rattle.std.specs.Bool.{Decides}
 use Rattle.std.specs.Ordering.{int_eq}
 use Rattle.gf_nfg.proofs.lemmas.tables.Rows.{entries_again}

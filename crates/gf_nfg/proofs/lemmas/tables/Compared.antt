@@ -5,12 +5,10 @@ use Rattle.gf_nfg.proofs.Common.{slice_get, ◌↔◌, IsTrue, mul_comm, length-
 use Rattle.gf_nfg.proofs.Common.{IsCompared, Content, IsComplete, rows_by, table_of, profiles}
 use Rattle.gf_nfg.proofs.Common.{content_in, content_of, content_told, content_with, SameTable}
 use Rattle.gf_nfg.proofs.Common.{IsTable, Table, rows, Names, table_with, named_by, names_by}
-use Rattle.gf_nfg.proofs.Common.{HasToldTable}
+use Rattle.gf_nfg.proofs.Common.{HasToldTable, Heading, Outcomes, Payoffs}
 use Rattle.gf_nfg.specs.inner.Meaning as meaning
 use Rattle.gf_nfg.specs.declared.comparison.Comparison.{Comparison}
-use Rattle.gf_nfg.specs.declared.table.heading.Heading.{Heading}
 use Rattle.gf_nfg.specs.declared.reader.receive.Version.{Version}
-use Rattle.gf_nfg.specs.declared.reader.receive.Version.TheVariants.{Outcomes, Payoffs}
 use Rattle.gf_nfg.proofs.lemmas.tables.Same.{names_in, same_is_equal}
 use Rattle.gf_nfg.proofs.lemmas.tables.Lists.{joined}
 use Rattle.gf_nfg.proofs.lemmas.tables.Meaning.{rows-table_of, rows_again}

@@ -3,15 +3,14 @@ use Rattle.gf_nfg.proofs.Common.{◌≡◌, ℕ, ℤ, ◌*◌, ◌<◌, List, []
 use Rattle.gf_nfg.proofs.Common.{arith, subst, ◌∙◌, Vec, mul_comm, Ratio, positions, product}
 use Rattle.gf_nfg.proofs.Common.{IsTable, Table, rows, IsHeld, Names, row_of, table_with, Content}
 use Rattle.gf_nfg.proofs.Common.{HasPayoffs, IsComplete, names_in, rows_by, table_of, payoffs_in}
-use Rattle.gf_nfg.proofs.Common.{content_in, content_of, content_told, HasToldTable}
+use Rattle.gf_nfg.proofs.Common.{content_in, content_of, content_told, HasToldTable, Outcomes}
+use Rattle.gf_nfg.proofs.Common.{Payoffs, Heading}
 use Rattle.std.specs.Global.{Global}
 use Rattle.gf_nfg.specs.inner.ListedTable.{IsListed, IsListing, listed_rows}
-use Rattle.gf_nfg.specs.declared.reader.receive.Version.{Version}
-use Rattle.gf_nfg.specs.declared.reader.receive.Version.TheVariants.{Outcomes, Payoffs}
-use Rattle.gf_nfg.specs.declared.table.heading.Heading.{Heading}
 use Rattle.gf_nfg.specs.declared.table.listed.Body.{Body}
 use Rattle.gf_nfg.specs.declared.table.listed.Body.TheVariants.{InTurn}
 use Rattle.gf_nfg.specs.declared.table.listed.Listing.{Listing}
+use Rattle.gf_nfg.specs.declared.reader.receive.Version.{Version}
 use Rattle.gf_nfg.proofs.lemmas.tables.Lists.{joined}
 use Rattle.gf_nfg.proofs.lemmas.tables.Meaning.{held, named}
 use Rattle.gf_nfg.proofs.lemmas.tables.Rows.{is_table, rows-table_with, rows_in_turn}
@@ -86,7 +85,7 @@ module _ (bytes : List ℕ) (heading : Heading) (l : Listing)
         → length (payoffs_in l.whole.items l.kept.payoffs.items)
         ≡ product (map length names.strategies) * length names.players
     in_turn_full none =
-        grind (arith, length, payoffs_are, none_chosen, mul_comm, count_is, names_are)
+        grind (arith, payoffs_are, none_chosen, mul_comm, count_is, names_are)
 
     pub rows_held : (rs : List (List Ratio)) → rs ≡ rows_by told told.choices → IsHeld names rs
     rows_held rs are =

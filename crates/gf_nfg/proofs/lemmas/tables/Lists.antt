@@ -3,8 +3,7 @@ use Rattle.gf_nfg.proofs.Common.{◌≡◌, ℕ, zero, suc, ◌+◌, ◌*◌, �
 use Rattle.gf_nfg.proofs.Common.{take, drop, Some, refl, ap, subst, ◌∙◌, arith, decimal, sum}
 use Rattle.gf_nfg.proofs.Common.{slice_get, AllByRecursion, flat_map, mul-suc, one-le-mul}
 use Rattle.gf_nfg.proofs.Common.{length-append, length-map, positions, product, counted_labels}
-use Rattle.gf_nfg.proofs.Common.{groups}
-use Rattle.std.proofs.lemmas.List.{drop_at, take_at}
+use Rattle.gf_nfg.proofs.Common.{groups, drop_at, take_at}
 use Rattle.std.proofs.lemmas.List.Sums.{sum_by-cons}
 use Rattle.gf_nfg.proofs.lemmas.tables.NumbersInTurn.{length-numbers_from}
 

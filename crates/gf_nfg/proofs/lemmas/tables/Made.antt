@@ -38,19 +38,8 @@ pub parts_of_labels : (title comment : Label) (players : List Label)
     → length payoffs ≡ product (map length strategies) * length players
     → AllByRecursion (λ own. AreSpellings own) strategies
     → AreParts (names_with title comment players strategies) payoffs
-parts_of_labels title comment players strategies payoffs one some few fractions full spelled = search (
-  arith,
-  length-map,
-  label_of,
-  ℕ,
-  product,
-  map,
-  length,
-  all_both,
-  flat_map,
-  labels_spelled,
-  all_joined,
-)
+parts_of_labels title comment players strategies payoffs one some few fractions full spelled =
+    search (arith, length-map, all_both, labels_spelled, all_joined)
 
 pub parts_of_lists : {Z : Type 0} (title comment : Label) (players : List Label)
     (lists : List (Vec Label Z)) (payoffs : List Ratio)
@@ -80,7 +69,7 @@ pub record IsMade (names : Names) (payoffs : List Ratio) (players size : ℕ) (q
 module _ (names : Names) (payoffs : List Ratio) (players size : ℕ) (quotient : Option ℕ)
     (count : ℕ) (m : IsMade names payoffs players size quotient count) where
   pub made_counted : count ≡ product (map length names.strategies)
-  made_counted = grind (arith, profiles_counted, map, length, length-map, ℕ, product)
+  made_counted = grind (arith, profiles_counted, length-map)
 
   pub made_whole : length payoffs ≡ count * players
   made_whole = m.parts.one_row_each ∙ (λ i. sym made_counted i * sym m.players_are i)
@@ -124,3 +113,5 @@ module _ (names : Names) (payoffs : List Ratio) (players size : ℕ) (quotient :
       (made ∙ ap (table_with names) is)
 
 pub ruleset made_of_labels = (names_with, parts_of_labels)
+
+pub ruleset made_of_rows = (made_counted, made_held, made_is, made_whole)

@@ -6,8 +6,7 @@ use Rattle.gf_nfg.proofs.Common.{mul-le-mul_right, drop-drop, length-map, Ratio,
 use Rattle.gf_nfg.proofs.Common.{numbers_from, positions, profile_limit, IsWithinLimit, IsSpellable}
 use Rattle.gf_nfg.proofs.Common.{IsTable, rows, Names, groups, numbers_of, row_of, IsHeld, IsNamed}
 use Rattle.gf_nfg.proofs.Common.{HasRows, Content, names_in, choices_of, strategies_of, rows_by}
-use Rattle.gf_nfg.proofs.Common.{table_of, HasPayoffs, HasLabels, IsComplete}
-use Rattle.std.proofs.lemmas.List.{drop_at, take_at}
+use Rattle.gf_nfg.proofs.Common.{table_of, HasPayoffs, HasLabels, IsComplete, drop_at, take_at}
 use Rattle.gf_nfg.proofs.lemmas.tables.Lists.{joined, sum-cons, counts_back, groups-joined}
 use Rattle.gf_nfg.proofs.lemmas.tables.Rows as kept
 
@@ -41,7 +40,8 @@ strategies_of-joined ((label ∷ labels) ∷ lists) h = groups-joined ((label �
 
 -- rows one after another are parted again
 rows_of-joined : (players : ℕ) (rs : List (List Ratio))
-    → AllByRecursion (λ row. length row ≡ players) rs → kept.rows_of players (length rs) (joined rs) ≡ rs
+    → AllByRecursion (λ row. length row ≡ players) rs
+    → kept.rows_of players (length rs) (joined rs) ≡ rs
 rows_of-joined players [] h = refl
 rows_of-joined players (row ∷ rs) h =
     grind (arith, joined, drop_at, take_at, rows_of-joined players rs h.1)

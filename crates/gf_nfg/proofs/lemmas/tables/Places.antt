@@ -7,9 +7,8 @@ use Rattle.gf_nfg.proofs.Common.{pointwise, drop_more, get_or_default, slice_get
 use Rattle.gf_nfg.proofs.Common.{slice_get_within, get_or_from_slice_get, Decides-eqb, nat_tests}
 use Rattle.gf_nfg.proofs.Common.{slice_eq-Decides, mul_comm, mul-le-mul_right, Ratio, all_images}
 use Rattle.gf_nfg.proofs.Common.{profile_limit, IsProfile, place, product, profiles, Table, rows}
-use Rattle.gf_nfg.proofs.Common.{payoffs_at, Names, entries_of, place_of, table_with}
-use Rattle.std.proofs.lemmas.Bool.{cases_Bool}
-use Rattle.std.proofs.lemmas.List.{length-map}
+use Rattle.gf_nfg.proofs.Common.{payoffs_at, Names, entries_of, place_of, table_with, cases_Bool}
+use Rattle.gf_nfg.proofs.Common.{length-map}
 use Rattle.gf_nfg.proofs.lemmas.tables.Profiles.{every_profile, place_at as stands_at}
 use Rattle.gf_nfg.proofs.lemmas.tables.Rows.{matched}
 

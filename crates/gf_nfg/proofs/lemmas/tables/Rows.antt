@@ -3,12 +3,13 @@ use Rattle.gf_nfg.proofs.Common.{◌≡◌, ℕ, zero, suc, ◌+◌, ◌*◌, �
 use Rattle.gf_nfg.proofs.Common.{map, take, drop, Option, Some, None, slice_get, option_map, refl}
 use Rattle.gf_nfg.proofs.Common.{sym, ap, ◌∙◌, arith, pos, replicate, IsSome, SomeIff, unwrap_or}
 use Rattle.gf_nfg.proofs.Common.{vec_len, Vec, ◌/◌, AllByRecursion, flat_map, length-take}
-use Rattle.gf_nfg.proofs.Common.{length-drop, take-append-drop, length-map, length-replicate, take_all, drop-drop}
-use Rattle.gf_nfg.proofs.Common.{mul-div_cancel, mul-le-mul_left, mul-le-mul_right, one-le-mul}
-use Rattle.gf_nfg.proofs.Common.{slice_get-map, Ratio, whole, all_at, all_images, profile_limit, numbers_from}
-use Rattle.gf_nfg.proofs.Common.{positions, product, profiles, Entry, Table, IsTable, rows}
-use Rattle.gf_nfg.proofs.Common.{IsTableOf, Names, entries_of, kept_row, table_with, row_of}
-use Rattle.gf_nfg.proofs.Common.{number_in, numbers_of, IsNamed, HasRows}
+use Rattle.gf_nfg.proofs.Common.{length-drop, take-append-drop, length-map, length-replicate}
+use Rattle.gf_nfg.proofs.Common.{take_all, drop-drop, mul-div_cancel, mul-le-mul_left}
+use Rattle.gf_nfg.proofs.Common.{mul-le-mul_right, one-le-mul, slice_get-map, Ratio, whole, all_at}
+use Rattle.gf_nfg.proofs.Common.{all_images, profile_limit, numbers_from, positions, product}
+use Rattle.gf_nfg.proofs.Common.{profiles, Entry, Table, IsTable, rows, IsTableOf, Names}
+use Rattle.gf_nfg.proofs.Common.{entries_of, kept_row, table_with, row_of, number_in, numbers_of}
+use Rattle.gf_nfg.proofs.Common.{IsNamed, HasRows}
 use Rattle.gf_nfg.proofs.lemmas.tables.Profiles.{length-profiles}
 use Rattle.gf_nfg.proofs.lemmas.tables.Lists.{product_above_zero}
 use Rattle.gf_nfg.proofs.lemmas.tables.NumbersInTurn.{length-numbers_from}
@@ -46,16 +47,16 @@ matched names rs one = length-profiles (map length names.strategies) ∙ sym one
 pub length-entries : (names : Names) (rs : List (List Ratio))
     → length rs ≡ product (map length names.strategies)
     → length (table_with names rs).entries ≡ length rs
-length-entries names rs one = search (arith, length-entries_of, profiles, map, length, matched)
+length-entries names rs one = search (arith, length-entries_of, matched)
 
 pub rows-table_with : (names : Names) (rs : List (List Ratio))
     → length rs ≡ product (map length names.strategies) → rows (table_with names rs) ≡ rs
-rows-table_with names rs one = search (arith, payoffs-entries_of, profiles, map, length, matched)
+rows-table_with names rs one = search (arith, payoffs-entries_of, matched)
 
 pub is_table : (names : Names) (rs : List (List Ratio)) → IsNamed names (length rs)
     → AllByRecursion (λ row. length row ≡ length names.players) rs → IsTable (table_with names rs)
 is_table names rs named full =
-    search (arith, profiles-entries_of, profiles, map, length, matched, rows-table_with)
+    search (arith, profiles-entries_of, matched, rows-table_with)
 
 -- ---- rows by their numbers
 
@@ -144,7 +145,7 @@ pub record IsNumber (players count : ℕ) (payoffs zeros : List Ratio) (numbers 
 pub number_within : (players count : ℕ) (payoffs zeros : List Ratio) (numbers : List ℕ)
     (place number : ℕ) → IsNumber players count payoffs zeros numbers place number
     → number * players ≤ length payoffs
-number_within players count payoffs zeros numbers place number h = grind (arith, all_at, length)
+number_within players count payoffs zeros numbers place number h = grind (arith, all_at)
 
 pub number_zero : (players count : ℕ) (payoffs zeros : List Ratio) (numbers : List ℕ)
     (place number : ℕ) → IsNumber players count payoffs zeros numbers place number

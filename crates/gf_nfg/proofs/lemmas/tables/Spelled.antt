@@ -100,4 +100,4 @@ is_spellable tokens t all h =
 
 pub spelled_is_spellable : (bytes : List ℕ) (t : Table) → SpellsTable bytes t
     → IsTable t × IsSpellable t
-spelled_is_spellable bytes t h = search (arith, is_spellable, map, all_spelled)
+spelled_is_spellable bytes t h = search (arith, is_spellable, all_spelled)

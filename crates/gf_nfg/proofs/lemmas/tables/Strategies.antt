@@ -45,7 +45,7 @@ length-groups (n ∷ sizes) items = ap suc (length-groups sizes (drop n items))
 
 pub length-strategies_of : (counts : List ℕ) (labels : List (List ℕ))
     → length (strategies_of counts labels) ≡ length counts
-length-strategies_of counts labels = grind (arith, length-map, counted_labels, length-groups)
+length-strategies_of counts labels = grind (arith, length-map, length-groups)
 
 -- lists are made of the groups before this place
 pub record AreMade {A B : Type 0} (f : A → B) (all : List (List B)) (sizes : List ℕ)
@@ -136,3 +136,5 @@ label_at {labels} {lists} {at} {k} {start} {end} s h =
     }
 
 pub ruleset as_many_lists = (length-strategies_of)
+
+pub ruleset kept_lists = (is_within, kept_by, length-list, stands_at)

@@ -3,11 +3,10 @@
 use Rattle.gf_nfg.proofs.Common.{◌≡◌, ℕ, List, map, Result, Ok, Err, refl, arith, Token, Gap, Why}
 use Rattle.gf_nfg.proofs.Common.{found, Content, run, start, table_of, Table, table_text}
 use Rattle.gf_nfg.proofs.Common.{SpellsTable, selten, selten_by_counts, selten_by_outcomes}
-use Rattle.gf_nfg.proofs.Common.{selten_text, no_players, no_players_text}
+use Rattle.gf_nfg.proofs.Common.{selten_text, no_players, no_players_text, gcd_within, lowest_of}
+use Rattle.gf_nfg.proofs.Common.{number_of, index_of}
 use Rattle.std.specs.Fmt.{digits}
-use Rattle.gf_fraction.specs.Computed.{gcd_within, lowest_of, number_of}
 use Rattle.gf_fraction.specs.NumberText.{number_text}
-use Rattle.gf_token.specs.Indices.{index_of}
 use Rattle.gf_token.specs.inner.Lexing.{lex}
 use Rattle.gf_nfg.proofs.lemmas.runs.Sentence.{sentence_found}
 
@@ -48,3 +47,5 @@ by_counts = meant selten_by_counts selten refl
 pub by_outcomes : SpellsTable selten_by_outcomes selten
 unfolding lex digits index_of number_of lowest_of gcd_within
 by_outcomes = meant selten_by_outcomes selten refl
+
+pub ruleset worked_tables = (by_counts, by_outcomes, text_of_selten, text_of_no_players)

@@ -23,8 +23,8 @@ returns-clause-told g c =
     record {
       told = h.told;
       same = h.same ∙ sym c.into_heading.ensures;
-      spelled = (c.new-reader.result.tokens.ahead, n.spelled, read.sentence);
-      complete = read.complete;
+      spelled = (read.0, read.1, read.2.sentence);
+      complete = read.2.complete;
       unnumbered = h.unnumbered;
       holding = h.holding;
     }

@@ -1,9 +1,7 @@
 use Rattle.gf_nfg.proofs.Common.{◌≡◌, ◌∙◌, ap, rules, sym, ◌↔◌, IsTrue, content_told, table_of}
-use Rattle.gf_nfg.proofs.Common.{SameTable, named_by}
-use Rattle.std.proofs.lemmas.Result.{IfOk-weaker}
-use Rattle.gf_nfg.specs.declared.reader.receive.Version.TheVariants.{Payoffs}
-use Rattle.gf_nfg.proofs.lemmas.tables.Compared.{in_turn_compared, payoffs_compared}
-use Rattle.gf_nfg.proofs.lemmas.tables.Compared.{rows_compared, rows_kept}
+use Rattle.gf_nfg.proofs.Common.{SameTable, named_by, IfOk-weaker, Payoffs}
+use Rattle.gf_nfg.proofs.lemmas.tables.Compared.{in_turn_compared, payoffs_compared, rows_compared}
+use Rattle.gf_nfg.proofs.lemmas.tables.Compared.{rows_kept}
 use Rattle.gf_nfg.proofs.lemmas.tables.Lists.{joined}
 use Rattle.gf_nfg.proofs.comparison.Comparison.is_same.Goals as goal
 

@@ -1,6 +1,5 @@
 use Rattle.gf_nfg.proofs.Common.{arith, ◌∙◌, ap, refl, sym, FlatPayoffs, content_told, told_answer}
-use Rattle.gf_nfg.proofs.Common.{paying, told_heading}
-use Rattle.gf_nfg.specs.declared.reader.receive.Version.TheVariants.{Payoffs}
+use Rattle.gf_nfg.proofs.Common.{paying, told_heading, Payoffs}
 use Rattle.gf_nfg.proofs.lemmas.places.Heard.{carried}
 use Rattle.gf_nfg.proofs.lemmas.runs.ReaderSteps.{all_told, ends_back}
 use Rattle.gf_nfg.proofs.reader.Reader.tell_payoffs.Goals as goal

@@ -1,8 +1,7 @@
 use Rattle.std.proofs.Common.{arith, ◌∙◌}
 use Rattle.std.proofs.lemmas.List.{nil_from_length}
-use Rattle.gf_nfg.proofs.lemmas.tables.Listed.{in_turn_full, listed_in_turn}
-use Rattle.gf_nfg.proofs.lemmas.tables.Listed.{parts_complete, rows_held, shared_rows, some_is}
-use Rattle.gf_nfg.proofs.lemmas.tables.Listed.{table_is}
+use Rattle.gf_nfg.proofs.lemmas.tables.Listed.{in_turn_full, listed_in_turn, parts_complete}
+use Rattle.gf_nfg.proofs.lemmas.tables.Listed.{rows_held, shared_rows, some_is, table_is}
 use Rattle.gf_nfg.proofs.lemmas.tables.Meaning.{lacking, present}
 use Rattle.gf_nfg.proofs.table.listed.ListedTable.told.Goals as goal
 
