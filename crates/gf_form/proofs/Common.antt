@@ -52,8 +52,7 @@ pub use Rattle.gf_form.specs.inner.reduced.Search.{digit_at, is_relevant_at, is_
 pub use Rattle.gf_form.specs.inner.reduced.Shown.{chooses_first, is_first, relevant_sets, shown}
 pub use Rattle.gf_form.specs.inner.reduced.Survey.{FindsMore, sizes, survey_size, visits_at}
 pub use Rattle.gf_form.specs.inner.reduced.Survey.{visits_below, own_step, own_visit}
-pub use Rattle.gf_form.specs.inner.reduced.Visits.{is_met, is_met_on, AreActions, AreWithin, Meets}
-pub use Rattle.gf_form.specs.inner.reduced.Visits.{visits_of}
+pub use Rattle.gf_form.specs.inner.reduced.Visits.{is_met, is_met_on, AreActions, AreWithin}
 pub use Rattle.gf_form.specs.inner.rows.Demands.{meets, spans, steps_of}
 pub use Rattle.gf_form.specs.inner.rows.DigitSteps.{steps_behind, picked, width, at_digits}
 pub use Rattle.gf_form.specs.inner.rows.DigitSteps.{all_steps}

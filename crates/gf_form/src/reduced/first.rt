@@ -232,8 +232,8 @@ fn first_strategies(
         number: player,
         digits,
     };
-    let numbers = first_numbers(alloc, &player, visits.all(), whole)?;
-    let labels = labels_of(alloc, &player, visits.all(), &numbers, whole, counts.len())?;
+    let numbers = first_numbers(alloc, &player, &visits, whole)?;
+    let labels = labels_of(alloc, &player, &visits, &numbers, whole, counts.len())?;
     Ok((numbers, labels))
 }
 

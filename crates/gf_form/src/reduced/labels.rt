@@ -17,6 +17,7 @@ ghost use Rattle.gf_form.specs.inner.reduced.Shown.{shown};
 use crate::reduced::first::Player;
 use crate::reduced::level::Level;
 use crate::reduced::visits::Visit;
+use crate::strategies::numbered::room_for_choices;
 use gf_nfg::Labels;
 use gf_token::Label;
 use itoa::Buffer;
@@ -42,6 +43,7 @@ fn write_choice(is_relevant: bool, action: u32, text: &mut Vec<u8>) -> Result<()
 
 /// Replaces a text by the label of a reduced strategy: the actions at the relevant sets, and `*` at
 /// the others, joined by `-`.
+#[tactic(auto, using(crate::proofs::lemmas::reduced::ReducedText::label_steps))]
 fn write_reduced_label(
     relevant: &[bool],
     strategy: &[u32],
@@ -75,8 +77,8 @@ struct Labelling {
 }
 
 impl Labelling {
-    /// No labels yet, for a player with this many sets.
-    fn new(alloc: Global, sets: usize) -> Result<Labelling, AllocError>
+    /// No labels yet, but room for so many, for a player with this many sets.
+    fn new(alloc: Global, count: usize, sets: usize) -> Result<Labelling, AllocError>
         ensures wide { IfOk result (λ l. length l.strategy.items ≡ sets) }
         ensures strategy { IfOk result (λ l. (place : ℕ) → place < sets
             → get_or l.strategy.items place 0 ≡ 1) }
@@ -89,7 +91,7 @@ impl Labelling {
             strategy,
             met: Vec::new(alloc),
             text: Vec::new(alloc),
-            labels: Labels::new(alloc),
+            labels: room_for_choices(alloc, count, sets)?,
             spare: Vec::new(alloc),
         })
     }
@@ -199,7 +201,7 @@ pub(crate) fn labels_of(
 {
     let _players = player.game.players();
     let level = Level::of_visits(alloc, visits, sets)?;
-    let mut labelling = Labelling::new(alloc, sets)?;
+    let mut labelling = Labelling::new(alloc, numbers.len(), sets)?;
     if !labelling.is_next_below(numbers, whole) {
         return Ok(labelling.labels);
     }

@@ -1,7 +1,7 @@
 //! The visits of a player, which one walk through the tree finds, whatever he chooses.
 
-ghost use Rattle.std.specs.Prelude.{◌≡◌, ◌<◌, ◌+◌, ◌*◌, ◌%◌, ◌^◌, ◌==◌, IfOk, None, OnOk, Some};
-ghost use Rattle.std.specs.Prelude.{length, if◌then◌else◌, unwrap_or};
+ghost use Rattle.std.specs.Prelude.{◌≡◌, ◌<◌, ◌+◌, ◌*◌, ◌%◌, ◌^◌, ◌==◌, ◌++◌, [], ◌∷◌, IfOk, None};
+ghost use Rattle.std.specs.Prelude.{OnOk, Some, length, if◌then◌else◌, unwrap_or};
 ghost use Rattle.gf_token.specs.Positions.{at_position};
 ghost use Rattle.gf_tree.specs.Branches.{game_of, tree_of};
 ghost use Rattle.gf_tree.specs.BranchesLeft.{branches_given};
@@ -10,11 +10,10 @@ ghost use Rattle.gf_form.specs.Strategies.{action_counts};
 ghost use Rattle.gf_form.specs.inner.reduced.Relevance.{FindRelevance};
 ghost use Rattle.gf_form.specs.inner.reduced.Survey.{FindsMore, open_size, open_visits};
 ghost use Rattle.gf_form.specs.inner.reduced.Survey.{survey_size, visits_at};
-ghost use Rattle.gf_form.specs.inner.reduced.Visits.{Meets, visits_of};
 ghost use Rattle.gf_form.specs.inner.rows.DigitSteps.{steps_behind, width};
 
 use crate::reduced::digits::step_at;
-use crate::reduced::visits::{Visit, Visits};
+use crate::reduced::visits::{Visit, keep_each_once};
 use crate::rows::digits::demanded;
 use gf_tree::{Branch, Branches, Game};
 use std::alloc::{AllocError, Global};
@@ -43,7 +42,7 @@ struct Owner<'s> {
 /// A walk through a tree that finds the visits of a player to his sets.
 #[derive(Drop)]
 struct Survey<'g, 'a> {
-    visits: Visits,
+    visits: Vec<Visit>,
     /// The nodes on the path to the branch that comes next.
     nodes: Vec<Open<'g, 'a>>,
 }
@@ -78,8 +77,8 @@ impl<'g, 'a> Survey<'g, 'a> {
     ) -> Result<u64, AllocError>
         ensures nodes { self.new.nodes ≡ self.old.nodes }
         ensures own { IfOk result (λ step. mover.0 ≡ owner.now.player
-            → Meets (visits_of self.old.visits) (record { demands = demands; set = mover.1 })
-            (visits_of self.new.visits)
+            → (self.new.visits.items
+            ≡ self.old.visits.items ++ record { demands = demands; set = mover.1 } ∷ [])
             × (step ≡ unwrap_or (at_position owner.now.steps.now mover.1) 0)) }
         ensures other { IfOk result (λ step. ¬ (mover.0 ≡ owner.now.player)
             → (self.new.visits ≡ self.old.visits) × (step ≡ 0)) }
@@ -88,7 +87,7 @@ impl<'g, 'a> Survey<'g, 'a> {
         if player != owner.player {
             return Ok(0);
         }
-        self.visits.meet(Visit { demands, set })?;
+        self.visits.push(Visit { demands, set })?;
         Ok(step_at(owner.steps, set))
     }
 
@@ -138,27 +137,29 @@ impl<'g, 'a> Survey<'g, 'a> {
     }
 }
 
-/// The visits of a player to his sets, whose digits have these steps.
+/// The visits of a player to his sets, whose digits have these steps, each once.
 #[tactic(auto, using(crate::proofs::lemmas::reduced::Surveys::survey_steps))]
 pub(crate) fn visits_in(
     alloc: Global,
     game: &Game<'_>,
     player: u32,
     steps: &[u64],
-) -> Result<Visits, AllocError>
+) -> Result<Vec<Visit>, AllocError>
     requires steps { steps.now ≡ steps_behind 1 (action_counts game.now player) }
     requires fits { width (action_counts game.now player) < 2 ^ 64 }
-    ensures { IfOk result (λ visits. FindRelevance game.now player (visits_of visits)) }
+    ensures { IfOk result (λ visits. FindRelevance game.now player visits.items) }
 {
     let _players = game.players();
     let owner = Owner { player, steps };
     let mut survey = Survey {
-        visits: Visits::new(alloc),
+        visits: Vec::new(alloc),
         nodes: Vec::new(alloc),
     };
     survey.enter(&owner, game.root(), 0)?;
     while let Some(node) = survey.nodes.pop() {
         survey.go_on(&owner, node)?;
     }
-    Ok(survey.visits)
+    let mut visits = survey.visits;
+    keep_each_once(&mut visits);
+    Ok(visits)
 }

@@ -1,14 +1,12 @@
 //! The visits of a player to his sets: the ways to come to them, as far as his own moves
 //! distinguish them.
 
-ghost use Rattle.std.specs.Prelude.{◌≡◌, [], OnOk};
-ghost use Rattle.gf_form.specs.inner.reduced.Visits.{Meets, visits_of};
-
-use indexmap::IndexSet;
-use std::alloc::{AllocError, Global};
+ghost use Rattle.std.specs.Prelude.{◌≡◌, Bool};
+ghost use Rattle.std.specs.List.{list_any};
+ghost use Rattle.gf_form.specs.declared.reduced.visits.Visit.{Visit};
 
 /// A way to come to a set.
-#[derive(Clone, Copy, PartialEq, Eq, Hash)]
+#[derive(Clone, Copy, PartialEq, Eq)]
 pub(crate) struct Visit {
     /// The choices that it demands of the player, by the digits of his sets.
     pub demands: u64,
@@ -16,34 +14,19 @@ pub(crate) struct Visit {
     pub set: u32,
 }
 
-/// The visits of a player, each once.
-#[derive(Drop)]
-pub(crate) struct Visits {
-    visits: IndexSet<Visit>,
+impl Visit {
+    /// A number that orders visits by demands, and those with the same demands by set.
+    fn order(self) -> u128 {
+        u128::from(self.demands) << 32 | u128::from(self.set)
+    }
 }
 
-impl Visits {
-    /// No visits.
-    pub(crate) fn new(alloc: Global) -> Visits
-        ensures { visits_of result ≡ [] }
-    {
-        Visits {
-            visits: IndexSet::new(alloc),
-        }
-    }
-
-    /// Adds a visit, unless it is there.
-    pub(crate) fn meet(&mut self, visit: Visit) -> Result<(), AllocError>
-        ensures { OnOk result (Meets (visits_of self.old) visit (visits_of self.new)) }
-    {
-        self.visits.insert_full(visit)?;
-        Ok(())
-    }
-
-    /// The visits, in order.
-    pub(crate) fn all(&self) -> &[Visit]
-        ensures { result.now ≡ visits_of self.now }
-    {
-        self.visits.as_slice()
-    }
+/// Keeps each of these visits once. They are sorted for this, and not hashed: a file could choose
+/// visits that collide.
+pub(crate) fn keep_each_once(visits: &mut Vec<Visit>)
+    ensures { (test : Visit → Bool)
+        → list_any test visits.new.items ≡ list_any test visits.old.items }
+{
+    visits.sort_unstable_by_key(|visit| visit.order());
+    visits.dedup();
 }

@@ -24,6 +24,7 @@ pub(crate) struct Digit {
 
 /// The action that a number demands at the digit with this step, if there are this many actions; 0
 /// if any will do, or if there is no digit, and the step is 0.
+#[tactic(auto, using(crate::proofs::lemmas::rows::DigitsMade::demand_steps))]
 pub(crate) fn demanded(demands: u64, step: u64, actions: usize) -> u64
     ensures { result ≡ demanded demands step actions }
 {
@@ -126,6 +127,7 @@ pub(crate) struct Digits {
 
 impl Digits {
     /// The digits of a game with this many actions; `None` if they have too many values together.
+    #[tactic(auto, using(crate::proofs::lemmas::rows::DigitsMade::digits_steps))]
     pub(crate) fn new(alloc: Global, counts: &Counts) -> Result<Option<Digits>, AllocError>
         ensures { IfOk result (λ made. IfSome made (λ digits. (g : Game) → IsGame g
             → AreCounts g counts.now → HasDigits g digits)) }

@@ -184,6 +184,7 @@ impl<'d, 'g, 'a> Paths<'d, 'g, 'a> {
     }
 
     /// Makes the next child of an open node of chance come next, if one is left.
+    #[tactic(auto, using(crate::proofs::lemmas::rows::PathsTold::path_steps))]
     fn draw(
         &mut self,
         node: Branch<'g, 'a>,
@@ -210,7 +211,7 @@ impl<'d, 'g, 'a> Paths<'d, 'g, 'a> {
     }
 
     /// Makes the next child of an open node of a player come next, if one is left.
-    #[tactic(auto, using(crate::proofs::lemmas::rows::PathsTold::choose_steps))]
+    #[tactic(auto, using(crate::proofs::lemmas::rows::PathsTold::path_steps))]
     fn choose(
         &mut self,
         mut rest: Branches<'g, 'a>,
@@ -237,6 +238,7 @@ impl<'d, 'g, 'a> Paths<'d, 'g, 'a> {
     }
 
     /// Opens what comes below a player's node, at a set whose digit has this step.
+    #[tactic(auto, using(crate::proofs::lemmas::rows::PathsTold::path_steps))]
     fn follow(&mut self, branch: Branch<'g, 'a>, path: Path, step: u64) -> Result<(), AllocError>
         requires { self.old.next ≡ None }
         ensures same { steps_of_paths self.new ≡ steps_of_paths self.old }
@@ -258,6 +260,7 @@ impl<'d, 'g, 'a> Paths<'d, 'g, 'a> {
     }
 
     /// Opens what comes below a node.
+    #[tactic(auto, using(crate::proofs::lemmas::rows::PathsTold::path_steps))]
     fn enter(&mut self, branch: Branch<'g, 'a>, path: Path) -> Result<(), AllocError>
         requires { self.old.next ≡ None }
         ensures same { steps_of_paths self.new ≡ steps_of_paths self.old }
@@ -285,6 +288,7 @@ impl<'d, 'g, 'a> Paths<'d, 'g, 'a> {
     }
 
     /// The next node, or `None` after the last one.
+    #[tactic(auto, using(crate::proofs::lemmas::rows::PathsTold::path_steps))]
     pub(crate) fn next(&mut self) -> Result<Option<Reached>, AllocError>
         ensures same { steps_of_paths self.new ≡ steps_of_paths self.old }
         ensures left { IfOk result (λ node. MatchOption node (nodes_left self.old ≡ [])

@@ -51,6 +51,21 @@ fn write_label(strategy: &[u32], text: &mut Vec<u8>) -> Result<(), AllocError>
     Ok(())
 }
 
+/// No labels, and room for this many with a choice at each of so many sets. A choice takes a byte at
+/// least, and there is a dash between any two.
+pub(crate) fn room_for_choices(
+    alloc: Global,
+    count: usize,
+    sets: usize,
+) -> Result<Labels, AllocError>
+    ensures { IfOk result (λ labels. labels ≡ []) }
+{
+    let least = sets.saturating_mul(2).saturating_sub(1);
+    let mut labels = Labels::new(alloc);
+    labels.reserve(count, count.saturating_mul(least))?;
+    Ok(labels)
+}
+
 /// The labels of all strategies at sets with this many actions each, one by one; there are `whole`
 /// strategies.
 #[tactic(auto, using(crate::proofs::lemmas::strategies::StrategiesByNumber::label_steps))]
@@ -58,7 +73,7 @@ fn labels_in_turn(alloc: Global, counts: &[u32], whole: u32) -> Result<Labels, A
     requires { whole ≡ product counts.now }
     ensures { IfOk result (λ labels. labels ≡ map strategy_label (all_choices counts.now)) }
 {
-    let mut labels = Labels::new(alloc);
+    let mut labels = room_for_choices(alloc, whole as usize, counts.len())?;
     let mut strategy = Vec::with_capacity(alloc, counts.len())?;
     let mut text = Vec::new(alloc);
     for number in 0..whole {

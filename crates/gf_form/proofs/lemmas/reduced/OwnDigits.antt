@@ -72,3 +72,5 @@ pub digit_past : (counts : List ℕ) (i : ℕ) (made next : List OwnDigit) → i
     → next ++ digits_from (i + 1) (drop (i + 1) counts) ≡ digits_from 0 counts
 digit_past counts i made next less one is before =
     grind (arith, next_is, from_one)
+
+pub ruleset own_digit_steps = (width_fits, steps_long, digit_more, digit_past)

@@ -5,7 +5,7 @@ use Rattle.gf_form.proofs.Common.{refl, ap, ◌∙◌, append_assoc, add-one, ar
 use Rattle.gf_form.proofs.Common.{AllByRecursion, take-append_seam, append-nil, length-append}
 use Rattle.gf_form.proofs.Common.{all_both, IsPlain, choice_text, reduced_label, shown}
 use Rattle.gf_form.proofs.lemmas.strategies.CountedActions.{take_past}
-use Rattle.gf_form.proofs.lemmas.strategies.StrategiesByNumber.{plain_number}
+use Rattle.gf_form.proofs.lemmas.strategies.StrategiesByNumber.{all_taken, plain_label, plain_number}
 
 -- each choice with a dash after it
 abbrev pub marked : List (Option ℕ) → List ℕ
@@ -67,3 +67,5 @@ plain_choice false action small = ((refl, refl), tt)
 pub plain_more : (old choice new : List ℕ) → new ≡ (old ++ choice) ++ 45 ∷ []
     → AllByRecursion IsPlain choice → AllByRecursion IsPlain old → AllByRecursion IsPlain new
 plain_more old choice new is plain h = grind (arith, all_both)
+
+pub ruleset label_steps = (marked_more, plain_label, all_taken)

@@ -1,21 +1,21 @@
 -- A survey of a tree: what it has yet to find while it goes into branches.
 use Rattle.gf_form.proofs.Common.{◌≡◌, ℕ, suc, ◌+◌, ◌*◌, ◌%◌, ◌^◌, Bool, true, false, List, [], ◌∷◌}
 use Rattle.gf_form.proofs.Common.{◌++◌, Option, Some, None, length, refl, ap, Vec, Global, arith}
-use Rattle.gf_form.proofs.Common.{inl, inr, ◌==◌, ◌||◌, ◌⊎◌, if◌then◌else◌, unwrap_or, eqb-false}
+use Rattle.gf_form.proofs.Common.{◌==◌, ◌||◌, if◌then◌else◌, unwrap_or, eqb-false}
 use Rattle.gf_form.proofs.Common.{eqb-true, list_any, list_any-append, length-append, at_position}
 use Rattle.gf_form.proofs.Common.{branches_given, branches_left, game_of_branches, SetKey}
 use Rattle.gf_form.proofs.Common.{player_keys, Game, IsGame, Node, flatten, flatten_all}
 use Rattle.gf_form.proofs.Common.{child_trees, list_of, root_node, Tree, Trees, branch, none, more}
-use Rattle.gf_form.proofs.Common.{Has, FindsMore, sizes, survey_size, own_step, own_visit}
-use Rattle.gf_form.proofs.Common.{visits_at, visits_below, Meets, visits_of, demanded, Open, Owner}
+use Rattle.gf_form.proofs.Common.{FindsMore, sizes, survey_size, own_step, own_visit}
+use Rattle.gf_form.proofs.Common.{visits_at, visits_below, demanded, Open, Owner}
 use Rattle.gf_form.proofs.Common.{Survey, Visit, AreDistinct, first_uses_distinct}
 use Rattle.gf_form.proofs.Common.{same_set_equality, same_set, sets_by_first_use, subst, sym}
 use Rattle.gf_form.proofs.Common.{used_sets}
 use Rattle.gf_tree.specs.FirstUse.{sets_of}
 use Rattle.gf_tree.specs.declared.game.branches.Branches.{Branches}
 use Rattle.gf_form.specs.inner.reduced.Survey.{finds, list_visits, open_size, open_visits}
-use Rattle.gf_form.proofs.lemmas.reduced.NodeSets.{key_there, number_is}
-use Rattle.gf_form.proofs.lemmas.reduced.Reducing.{any_has}
+use Rattle.std.specs.List.{dedup, dedup_from}
+use Rattle.gf_form.proofs.lemmas.reduced.NodeSets.{number_is}
 use Rattle.gf_form.proofs.lemmas.rows.PathsTold.{length-list_of}
 use Rattle.gf_form.proofs.lemmas.values.Walks.{choice_there}
 
@@ -39,21 +39,25 @@ module _ (g : Game) (own : Owner) (demands : ℕ) where
       (demanded demands (own_step g own key) (length (child_trees t))) 1 (child_trees t)
   visits_there (branch n ts) key is = grind (arith, below_list, length-list_of)
 
--- ---- one more visit
+-- ---- each visit once
 
-met : (test : Visit → Bool) (old new : List Visit) (visit : Visit) → Meets old visit new
-    → list_any test new ≡ (list_any test old || test visit)
-met test old new visit m = by m.grown
-  where
-    again : (b : Bool) → test visit ≡ b → Has old visit
-        → list_any test old ≡ (list_any test old || b)
-    again true e has = grind (arith, any_has)
-    again false e has = grind arith
+-- what a test finds is found again if neighbours that are equal are kept once
+module _ (same : Visit → Visit → Bool) (equal : (v w : Visit) → same v w ≡ true → v ≡ w)
+    (test : Visit → Bool) where
+  once_from : (v : Visit) (vs : List Visit)
+      → list_any test (dedup_from same v vs) ≡ list_any test (v ∷ vs)
+  once_from v [] = refl
+  once_from v (w ∷ vs) = by (same w v) refl (once_from v vs) (once_from w vs)
+    where
+      by : (b : Bool) → same w v ≡ b → list_any test (dedup_from same v vs) ≡ list_any test (v ∷ vs)
+          → list_any test (dedup_from same w vs) ≡ list_any test (w ∷ vs)
+          → list_any test (dedup_from same v (w ∷ vs)) ≡ list_any test (v ∷ w ∷ vs)
+      by true e here there = let is = equal w v e in grind arith
+      by false e here there = grind arith
 
-    by : (new ≡ old) ⊎ (new ≡ old ++ visit ∷ [])
-        → list_any test new ≡ (list_any test old || test visit)
-    by (inl same) = grind (arith, again, key_there)
-    by (inr grown) = grind (arith, list_any-append)
+  pub each_once : (vs : List Visit) → list_any test (dedup same vs) ≡ list_any test vs
+  each_once [] = refl
+  each_once (v ∷ vs) = once_from v vs
 
 -- ---- a node is opened
 
@@ -66,11 +70,10 @@ first_visits own g h demands step taken action k ts rest e f i j = rw (e, f, i, 
 pub entered : (g : Game) → IsGame g → (own : Owner) (old new : Survey) (t : Tree Node)
     (key : SetKey) (set : ℕ) (o : Open) → (root_node t).set ≡ Some key
     → at_position (player_keys g key.player) set ≡ Some key
-    → (key.player ≡ own.player → Meets (visits_of old.visits)
-    (record { demands = o.demands; set = set }) (visits_of new.visits)
+    → (key.player ≡ own.player
+    → (new.visits.items ≡ old.visits.items ++ record { demands = o.demands; set = set } ∷ [])
     × (o.step ≡ unwrap_or (at_position own.steps.now set) 0))
-    → (¬ (key.player ≡ own.player)
-    → (visits_of new.visits ≡ visits_of old.visits) × (o.step ≡ 0))
+    → (¬ (key.player ≡ own.player) → (new.visits.items ≡ old.visits.items) × (o.step ≡ 0))
     → new.nodes.items ≡ old.nodes.items ++ o ∷ [] → game_of_branches o.rest ≡ g
     → branches_left o.rest ≡ child_trees t → branches_given o.rest ≡ 0
     → o.taken ≡ demanded o.demands o.step (length (child_trees t))
@@ -79,8 +82,8 @@ entered g game own old new t key set o at there his other opened same_game left 
     by (key.player == own.player) refl
   where
     all : o.step ≡ own_step g own key
-        → list_any test (visits_of new.visits)
-        ≡ (list_any test (visits_of old.visits) || list_any test (own_visit g own o.demands key))
+        → list_any test new.visits.items
+        ≡ (list_any test old.visits.items || list_any test (own_visit g own o.demands key))
         → finds own test new ≡ (finds own test old || list_any test (visits_at g own o.demands t))
     all step_is found =
         let all_there = visits_there g own o.demands t key at in
@@ -96,8 +99,8 @@ entered g game own old new t key set o at there his other opened same_game left 
         let distinct = keys_distinct g game key.player in
         let step = choice_there (player_keys g key.player) own.steps.now set key distinct there in
         let number = number_is (player_keys g key.player) set key distinct there in
-        let now = met test (visits_of old.visits) (visits_of new.visits) _ (his is).0 in
-        all (grind arith) (grind arith)
+        let now = his is in
+        all (grind arith) (grind (arith, list_any-append))
     by false e =
         let same = other (eqb-false key.player own.player e) in
         all (grind arith) (grind arith)

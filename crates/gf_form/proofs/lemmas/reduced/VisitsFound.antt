@@ -10,7 +10,7 @@ use Rattle.gf_form.proofs.Common.{HasChildren, IsGame, Node, set_at, flatten, fl
 use Rattle.gf_form.proofs.Common.{Trees, count, branch, none, more, same_set_equality, tree_comes}
 use Rattle.gf_form.proofs.Common.{trees_come, is_own_choice, own_steps, FindRelevance}
 use Rattle.gf_form.proofs.Common.{action_counts, choice_at, own_step, own_visit, visits_at}
-use Rattle.gf_form.proofs.Common.{visits_below, AreActions, AreWithin, is_met_on, visits_of, picked}
+use Rattle.gf_form.proofs.Common.{visits_below, AreActions, AreWithin, is_met_on, picked}
 use Rattle.gf_form.proofs.Common.{steps_behind, width, demanded, Owner, Survey, Visit}
 use Rattle.gf_form.proofs.lemmas.reduced.Coming.{relevant_is}
 use Rattle.gf_form.proofs.lemmas.reduced.NodeSets.{key_there, same_position}
@@ -225,14 +225,18 @@ module _ (g : Game) (game : IsGame g) (own : Owner)
 
   -- ---- the whole tree
 
-  pub find_relevance : (s : Survey) → s.nodes.items ≡ []
+  pub find_relevance : (s : Survey) (once : List Visit) → s.nodes.items ≡ []
       → FindsAll own s (visits_at g own 0 g.tree)
-      → FindRelevance g own.player (visits_of s.visits)
-  find_relevance s nodes all = record {
-    within = within (visits_of s.visits)
-        (let all_now = all is_out in let are = all_in g.tree 0 game.children in grind arith);
+      → ((test : Visit → Bool) → list_any test once ≡ list_any test s.visits.items)
+      → FindRelevance g own.player once
+  find_relevance s once nodes all same = record {
+    within = within once
+        (let all_now = all is_out in let same_now = same is_out in
+        let are = all_in g.tree 0 game.children in grind arith);
     relevant = λ strategy position key chosen there.
-        let all_now = all (is_met_on position (own_steps counts) (picked counts strategy)) in
+        let test = is_met_on position (own_steps counts) (picked counts strategy) in
+        let all_now = all test in
+        let same_now = same test in
         let come = found strategy chosen position key there g.tree 0 game.children
         (width_positive counts) in
         let meets_first = meets_none counts strategy chosen in

@@ -3,7 +3,8 @@ use Rattle.gf_form.proofs.Common.{◌≡◌, ℕ, suc, ◌+◌, ◌*◌, ◌/◌
 use Rattle.gf_form.proofs.Common.{map, get_or, drop, refl, sym, ap, ◌∙◌, append_assoc, add-one}
 use Rattle.gf_form.proofs.Common.{arith, drop_of_length-le, mul-div_cancel_left, mul-le-mul}
 use Rattle.gf_form.proofs.Common.{mul_assoc, mul_comm, drop-cons, product, all_steps, at_digits}
-use Rattle.gf_form.proofs.Common.{picked, steps_behind, width}
+use Rattle.gf_form.proofs.Common.{picked, steps_behind, width, mod-eq_of_lt, length-map}
+use Rattle.gf_form.proofs.lemmas.strategies.CountsGiven.{own_read}
 use Rattle.gf_form.proofs.lemmas.rows.DigitPlaces.{HasShape, width_positive}
 
 -- ---- a set with a digit, and one without
@@ -139,4 +140,10 @@ pub digits_more : (counts xs : List (List ℕ)) (i : ℕ) (own x all next : List
     → next ≡ at_digits (drop i counts) (drop i xs)
 digits_more counts xs i own x all next less inside is there pushed h = grind (arith, next_is)
 
-pub ruleset value_steps = (values_more, values_same)
+-- ---- what the steps of the code need
+
+pub ruleset demand_steps = (mod-eq_of_lt)
+
+pub ruleset value_steps = (values_more, values_same, values_past)
+
+pub ruleset digits_steps = (own_read, as_many_steps, length-map)

@@ -6,6 +6,7 @@ use Rattle.gf_form.proofs.Common.{at_position, Tree, Trees, count, branch, none,
 use Rattle.gf_form.proofs.Common.{Node, child_trees, list_of, root_node, by_action, by_any}
 use Rattle.gf_form.proofs.Common.{by_choice, by_lot, demanded, over_set, reached, choices_by}
 use Rattle.gf_form.proofs.Common.{chances_at, Path, Reached}
+use Rattle.gf_form.proofs.lemmas.values.Walks.{choice_is}
 use Rattle.gf_tree.specs.declared.game.branch.Branch.{Branch}
 use Rattle.gf_form.specs.inner.rows.PathsLeft.{any_nodes, below, lot_nodes, next_nodes, open_nodes}
 use Rattle.gf_form.specs.inner.rows.PathsLeft.{nodes_beneath, option_nodes, taken}
@@ -101,4 +102,14 @@ pub last_pushed : (all : List (List ℕ)) (next : Option (Branch × Path)) (os i
     → open_nodes all o ++ below all os [] ≡ next_nodes all next ++ below all items []
 last_pushed all next os items o nothing are = rw (nothing, are) (sym (below_last all os o []))
 
-pub ruleset choose_steps = (next_chosen, below_last)
+pub ruleset path_steps = (
+  append_assoc,
+  next_chosen,
+  below_last,
+  first_drawn,
+  first_chosen,
+  last_pushed,
+  lot_beneath,
+  choice_beneath,
+  choice_is,
+)

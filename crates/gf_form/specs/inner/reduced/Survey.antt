@@ -12,7 +12,6 @@ use Rattle.gf_tree.specs.PrefixOrder.{flatten}
 use Rattle.gf_tree.specs.Tree.{Tree, Trees, count}
 use Rattle.gf_tree.specs.Tree.Tree.{branch}
 use Rattle.gf_tree.specs.Tree.Trees.{none, more}
-use Rattle.gf_form.specs.inner.reduced.Visits.{visits_of}
 use Rattle.gf_form.specs.inner.rows.ReachedNodes.{demanded}
 use Rattle.gf_form.specs.Strategies.{choice_at}
 use Rattle.gf_form.specs.declared.reduced.survey.Open.{Open}
@@ -70,7 +69,7 @@ open_visits own o =
 
 -- a visit that passes the test was found, or is below an open node
 abbrev pub finds : Owner → (Visit → Bool) → Survey → Bool
-finds own test s = list_any test (visits_of s.visits)
+finds own test s = list_any test s.visits.items
     || list_any (λ o. list_any test (open_visits own o)) s.nodes.items
 
 -- the later survey finds what the earlier one does, and these

@@ -1,13 +1,8 @@
 -- The visits of a player to his sets, and which of them come about by his own choices.
-use Rattle.std.specs.Prelude.{◌≡◌, ◌≤◌, ◌==◌, ◌&&◌, ◌⊎◌, ℕ, Bool, List, [], ◌∷◌, ◌++◌, Some}
+use Rattle.std.specs.Prelude.{◌≤◌, ◌==◌, ◌&&◌, ℕ, Bool, List}
 use Rattle.std.specs.List.{AllByRecursion, AllZip, list_any}
-use Rattle.gf_token.specs.Positions.{at_position}
 use Rattle.gf_form.specs.inner.rows.Demands.{meets}
 use Rattle.gf_form.specs.declared.reduced.visits.Visit.{Visit}
-use Rattle.gf_form.specs.declared.reduced.visits.Visits.{Visits}
-
-abbrev pub visits_of : Visits → List Visit
-visits_of v = v.visits.keys
 
 -- each is to one of this many sets
 abbrev pub AreWithin : ℕ → List Visit → Type 0
@@ -25,9 +20,3 @@ is_met_on position steps choices v = v.set == position && meets steps choices v.
 -- some visit to this set comes about
 abbrev pub is_met : ℕ → List ℕ → List ℕ → List Visit → Bool
 is_met position steps choices visits = list_any (is_met_on position steps choices) visits
-
--- the visit was there or is the last one
-pub record Meets (old : List Visit) (visit : Visit) (new : List Visit) : Type 0 where
-  pub position : ℕ
-  pub there : at_position new position ≡ Some visit
-  pub grown : (new ≡ old) ⊎ (new ≡ old ++ visit ∷ [])

@@ -1,13 +1,8 @@
-use Rattle.gf_form.proofs.Common.{◌≡◌, ◌∙◌, [], arith, sym}
+use Rattle.gf_form.proofs.Common.{◌≡◌, ◌∙◌, [], sym}
 use Rattle.std.proofs.lemmas.List.{nil_from_length}
 use Rattle.gf_form.proofs.lemmas.reduced.Surveys.{went_on}
 use Rattle.gf_form.proofs.lemmas.reduced.VisitsFound.{find_relevance}
 use Rattle.gf_form.proofs.reduced.survey.visits_in.Goals as goal
-
-pub loop-node-init : goal.loop-node-init
-loop-node-init c test =
-    let found = c.in_ok-enter.ensures.found test in
-    grind (arith, c.new.ensures, c.new-2.ensures.items, c.root.ensures.game, c.root.ensures.tree)
 
 pub loop-node-preserved : goal.loop-node-preserved
 loop-node-preserved c =
@@ -20,4 +15,4 @@ returns c =
     let none : s.nodes.items ≡ [] =
     nil_from_length s.nodes.items (sym s.nodes.ok.0 ∙ c.in_default.ensures.cases.0) in
     find_relevance c.args.game.now c.players-players.ensures.is_game _
-    c.requires.steps c.requires.fits s none c.loop-node.invariant
+    c.requires.steps c.requires.fits s _ none c.loop-node.invariant c.keep_each_once.ensures

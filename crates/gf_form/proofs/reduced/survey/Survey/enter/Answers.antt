@@ -1,4 +1,4 @@
-use Rattle.gf_form.proofs.Common.{◌∙◌, ap, sym, tree_of, game_of, visits_of, Open}
+use Rattle.gf_form.proofs.Common.{◌∙◌, ap, sym, tree_of, game_of, Open}
 use Rattle.gf_form.proofs.lemmas.reduced.Surveys.{entered}
 use Rattle.gf_form.proofs.reduced.survey.Survey.enter.Goals as goal
 
@@ -18,7 +18,7 @@ returns-clause-found c =
     (record { visits = c.meet.new.self.visits; nodes = c.push.new.self })
     (tree_of c.args.branch) m.0 c.in-Some.mover.1 (node c) m.1 (cc (m.2, m.3))
     (λ his. met.own (sym m.2 ∙ his))
-    (λ other. let same = met.other (λ e. other (m.2 ∙ e)) in (ap visits_of same.0, same.1))
+    (λ other. let same = met.other (λ e. other (m.2 ∙ e)) in (ap (λ vs. vs.items) same.0, same.1))
     (cc (c.in_ok-push.ensures.items, met.nodes))
     c.child_branches.ensures.game c.child_branches.ensures.trees c.child_branches.ensures.none
     (cc (c.demanded.ensures, c.children.ensures))

@@ -28,9 +28,6 @@ as_many counts steps h =
     ∙ as_many_steps (actions_in counts) 1
     ∙ length-map counts.actions.items (λ (own : Vec ℕ Global). own.items)
 
-pub index-requires-in-loop-place : goal.index-requires-in-loop-place
-index-requires-in-loop-place c = grind (arith, made, actions_in, as_many)
-
 pub push_digits-requires : goal.push_digits-requires
 push_digits-requires c =
     let counts = actions_in c.args.counts.now in
