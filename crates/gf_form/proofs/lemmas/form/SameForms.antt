@@ -1,18 +1,16 @@
 -- Games that a renumbering carries to each other have the same payoffs, bottom-up values and
 -- strategic form.
-use Rattle.gf_form.proofs.Common.{◌≡◌, ℕ, true, List, ◌∷◌, Option, Some, None, arith, MatchOption}
-use Rattle.gf_form.proofs.Common.{map, refl, inl, inr, ◌↔◌, ◌==◌, ◌||◌, option_map, option_and_then}
-use Rattle.gf_form.proofs.Common.{unwrap_or, if◌then◌else◌, AllZip, option_map_or, Ratio}
-use Rattle.gf_form.proofs.Common.{IsFraction, IsEqual, zero_ratio, one_ratio, all_weaker}
-use Rattle.gf_form.proofs.Common.{at_position, Table, flatten, SetKey, InformationSet, same_set}
-use Rattle.gf_form.proofs.Common.{Described, Node, Game, IsGame, used_sets, set_at, outcome_at}
-use Rattle.gf_form.proofs.Common.{Renumbering, IsRenumbering, renumbered_set, renumbered_node}
-use Rattle.gf_form.proofs.Common.{renumbered, player_sets, player_keys, same_set_equality, Has}
-use Rattle.gf_form.proofs.Common.{all_of_each, filter_of_map, map_twice, same_tests, held}
-use Rattle.gf_form.proofs.Common.{sets_apart, SameGame, same_back, carried_is_renumbered}
-use Rattle.gf_form.proofs.Common.{strategies, players_of, choice_at, choices_by, strategies_at}
-use Rattle.gf_form.proofs.Common.{payoff, IsValue, ArePayoffs, IsStrategicForm, length, ap, subst}
-use Rattle.gf_form.proofs.Common.{◌∙◌, positions, ArePayoffsAt, strategy_label}
+use Rattle.gf_form.proofs.Common.{◌≡◌, ℕ, List, ◌∷◌, Some, arith, map, refl, inl, inr, ◌↔◌}
+use Rattle.gf_form.proofs.Common.{if◌then◌else◌, AllZip, Ratio, IsFraction, IsEqual, all_weaker}
+use Rattle.gf_form.proofs.Common.{Table, flatten, SetKey, InformationSet, same_set, Described, Node}
+use Rattle.gf_form.proofs.Common.{Game, IsGame, used_sets, set_at, outcome_at, Renumbering}
+use Rattle.gf_form.proofs.Common.{IsRenumbering, renumbered_set, renumbered_node, renumbered}
+use Rattle.gf_form.proofs.Common.{player_sets, player_keys, same_set_equality, Has, all_of_each}
+use Rattle.gf_form.proofs.Common.{filter_of_map, map_twice, same_tests, held, sets_apart, SameGame}
+use Rattle.gf_form.proofs.Common.{same_back, carried_is_renumbered, strategies, players_of}
+use Rattle.gf_form.proofs.Common.{choice_at, choices_by, strategies_at, payoff, IsValue, ArePayoffs}
+use Rattle.gf_form.proofs.Common.{IsStrategicForm, length, ap, subst, ◌∙◌, positions, ArePayoffsAt}
+use Rattle.gf_form.proofs.Common.{strategy_label}
 use Rattle.gf_tree.specs.PrefixOrder.{Entry}
 use Rattle.gf_tree.proofs.lemmas.games.Carried.{entry_used}
 use Rattle.gf_tree.proofs.lemmas.games.Renumbered.{set_at_image, outcome_at_image}
@@ -69,39 +67,6 @@ module _ (g : Game) (r : Renumbering) (game : IsGame g) (is : IsRenumbering g r)
 
   -- ---- nodes
 
-  chosen_carried : (c d : SetKey → ℕ) (k : ℕ) (o : Option SetKey)
-      → ((key : SetKey) → o ≡ Some key → d (renumbered_set r key) ≡ c key)
-      → option_map_or (λ key. key.player == 0 || d key == k) (option_map (renumbered_set r) o) true
-      ≡ option_map_or (λ key. key.player == 0 || c key == k) o true
-  chosen_carried c d k o same = grind arith
-
-  chance_carried : (k : ℕ) (o : Option SetKey)
-      → ((key : SetKey) → o ≡ Some key → set_at h (renumbered_set r key) ≡ set_at g key)
-      → unwrap_or (option_and_then (λ a. a.probability)
-      (option_and_then (λ key. option_and_then (λ set. at_position set.actions k) (set_at h key))
-      (option_map (renumbered_set r) o))) one_ratio
-      ≡ unwrap_or (option_and_then (λ a. a.probability) (option_and_then
-      (λ key. option_and_then (λ set. at_position set.actions k) (set_at g key)) o))
-      one_ratio
-  chance_carried k o same = grind arith
-
-  pays_carried : (player : ℕ) (o : Option ℕ)
-      → ((number : ℕ) → o ≡ Some number → outcome_at h (r.outcome number) ≡ outcome_at g number)
-      → unwrap_or (option_and_then (λ number.
-      option_and_then (λ outcome. at_position outcome.payoffs player) (outcome_at h number))
-      (option_map r.outcome o)) zero_ratio
-      ≡ unwrap_or (option_and_then (λ number.
-      option_and_then (λ outcome. at_position outcome.payoffs player) (outcome_at g number)) o)
-      zero_ratio
-  pays_carried player o same = grind arith
-
-  moves_carried : (c d : SetKey → ℕ) (o : Option SetKey)
-      → ((key : SetKey) → o ≡ Some key → d (renumbered_set r key) ≡ c key)
-      → MatchOption o (option_map (renumbered_set r) o ≡ None)
-      (λ key. (other : SetKey) × (option_map (renumbered_set r) o ≡ Some other)
-      × ((other.player == 0) ≡ (key.player == 0)) × (d other ≡ c key))
-  moves_carried c d o same = grind arith
-
   node_alike : (all : List (List ℕ)) (player : ℕ) (e : Entry Node) → Has (flatten g.tree) e
       → IsAlike g h (choices_by g all) (choices_by h all) player (renumbered_node r) e.node
   node_alike all player e i =
@@ -110,13 +75,18 @@ module _ (g : Game) (r : Renumbering) (game : IsGame g) (is : IsRenumbering g r)
       let choice : (key : SetKey) → e.node.set ≡ Some key
       → choices_by h all (renumbered_set r key) ≡ choices_by g all key =
       λ key q. choices_carried all key (used key q) in
+      let sets : (key : SetKey) → e.node.set ≡ Some key
+      → set_at h (renumbered_set r key) ≡ set_at g key =
+      λ key q. set_at_image g r game is key (used key q) in
+      let outcomes : (number : ℕ) → e.node.outcome ≡ Some number
+      → outcome_at h (r.outcome number) ≡ outcome_at g number =
+      λ number q. outcome_at_image g r game is number
+      (held (λ n. n.outcome) (flatten g.tree) e number i q) in
       record {
-        chosen = λ k. chosen_carried (choices_by g all) (choices_by h all) k e.node.set choice;
-        chance =
-            λ k. chance_carried k e.node.set (λ key q. set_at_image g r game is key (used key q));
-        pays = pays_carried player e.node.outcome (λ number q. outcome_at_image g r game is number
-            (held (λ n. n.outcome) (flatten g.tree) e number i q));
-        moves = moves_carried (choices_by g all) (choices_by h all) e.node.set choice;
+        chosen = λ k. grind (arith, choice);
+        chance = λ k. grind (arith, sets);
+        pays = grind (arith, outcomes);
+        moves = grind (arith, choice);
       }
 
   alike : (all : List (List ℕ)) (player : ℕ) → AreAlike g h (choices_by g all) (choices_by h all)

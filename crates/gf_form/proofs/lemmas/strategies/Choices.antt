@@ -1,11 +1,11 @@
 -- All choices at sets with this many actions each: every one is in the list, once and at its place.
 use Rattle.gf_form.proofs.Common.{◌≡◌, ℕ, zero, suc, ◌+◌, ◌-◌, ◌*◌, ◌/◌, ◌%◌, ◌<◌, ◌≤◌, List, []}
-use Rattle.gf_form.proofs.Common.{◌∷◌, get_or_default, length, map, get_or, refl, sym, ap, ◌∙◌}
-use Rattle.gf_form.proofs.Common.{arith, ◌↔◌, AllByRecursion, AllZip, Contains, flat_map}
-use Rattle.gf_form.proofs.Common.{length-append, length-map, get_or-map, get_or_append_left}
-use Rattle.gf_form.proofs.Common.{recursion_from_All, numbers_from, product, length-numbers_from}
-use Rattle.gf_form.proofs.Common.{get_or-numbers_from, all_choices, div-add-mod, mod-lt}
-use Rattle.gf_form.proofs.Common.{div-lt_iff_lt-mul, mul-le-mul_right, All-from_recursion}
+use Rattle.gf_form.proofs.Common.{◌∷◌, get_or_default, length, map, get_or, refl, sym, ◌∙◌, arith}
+use Rattle.gf_form.proofs.Common.{◌↔◌, AllByRecursion, AllZip, Contains, flat_map, length-append}
+use Rattle.gf_form.proofs.Common.{length-map, get_or-map, get_or_append_left, recursion_from_All}
+use Rattle.gf_form.proofs.Common.{numbers_from, product, length-numbers_from, get_or-numbers_from}
+use Rattle.gf_form.proofs.Common.{all_choices, div-add-mod, mod-lt, div-lt_iff_lt-mul}
+use Rattle.gf_form.proofs.Common.{mul-le-mul_right, All-from_recursion}
 use Rattle.std.proofs.lemmas.List.{get_or-append-add, same_lists}
 use Rattle.std.proofs.lemmas.List.Elements.{All-contains, All-from_get_or}
 
@@ -31,20 +31,12 @@ turned_at first zero before k all within less = absurd (omega arith)
 turned_at first (suc n) zero k all within less =
     let at : 0 * length all + k ≡ k = omega arith in
     let here : first ≡ first + 0 = omega arith in
-    rw at (get_or_append_left (map (λ others. first ∷ others) all) (turned (first + 1) n all) [] k
-    (omega (arith, less, length-map all (λ (others : List ℕ). first ∷ others)))
-    ∙ get_or-map (λ others. first ∷ others) all k [] [] less
-    ∙ ap (λ (x : ℕ). x ∷ get_or all k []) here)
+    grind (arith, at, here, get_or_append_left, get_or-map, length-map)
 turned_at first (suc n) (suc before) k all within less =
-    let size = length-map all (λ (others : List ℕ). first ∷ others) in
-    let at : suc before * length all + k
-    ≡ length (map (λ others. first ∷ others) all) + (before * length all + k) =
-    omega (arith, size) in
     let next : first + 1 + before ≡ first + suc before = omega arith in
-    rw at (get_or-append-add (map (λ others. first ∷ others) all) (turned (first + 1) n all)
-    (before * length all + k) []
-    ∙ turned_at (first + 1) n before k all (omega (arith, within)) less
-    ∙ ap (λ (x : ℕ). x ∷ get_or all k []) next)
+    let at : suc before * length all + k ≡ length all + (before * length all + k) = omega arith in
+    let others = turned_at (first + 1) n before k all (omega (arith, within)) less in
+    grind (arith, at, next, others, get_or-append-add, length-map)
 
 -- an action at the first set, and a choice at the others
 pub choices_row : (n : ℕ) (counts : List ℕ) (before k : ℕ) → before < n → k < product counts
@@ -60,11 +52,13 @@ pub choices_next : (count : ℕ) (counts : List ℕ) (rest : ℕ) → 0 < produc
     → rest < count * product counts → get_or (all_choices (count ∷ counts)) rest []
     ≡ (rest / product counts + 1) ∷ get_or (all_choices counts) (rest % product counts) []
 choices_next count counts rest some below =
-    let whole : rest / product counts * product counts + rest % product counts ≡ rest =
-    omega (arith, div-add-mod rest (product counts)) in
-    ap (λ (m : ℕ). get_or (all_choices (count ∷ counts)) m []) (sym whole)
-    ∙ choices_row count counts (rest / product counts) (rest % product counts)
-    ((div-lt_iff_lt-mul some).1 below) (mod-lt rest some)
+    grind (
+      arith,
+      div-add-mod,
+      div-lt_iff_lt-mul,
+      mod-lt,
+      choices_row count counts (rest / product counts) (rest % product counts),
+    )
 
 -- ---- every choice
 

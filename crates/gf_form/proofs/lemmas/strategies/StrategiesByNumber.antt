@@ -97,14 +97,10 @@ pub dashed_more : (strategy : List ℕ) (i action : ℕ) → i < length strategy
     → action ≡ get_or strategy i 0
     → (dashed (take i strategy) ++ decimal action) ++ 45 ∷ [] ≡ dashed (take (i + 1) strategy)
 dashed_more strategy i action less is =
-    append_assoc (dashed (take i strategy)) (decimal action) (45 ∷ [])
-    ∙ ap (λ (bs : List ℕ). dashed (take i strategy) ++ bs)
-    (sym (append-nil (decimal action ++ 45 ∷ [])))
-    ∙ sym (flat_map-append (λ (action : ℕ). decimal action ++ 45 ∷ []) (take i strategy)
-    (action ∷ []))
-    ∙ ap dashed (ap (λ (a : ℕ). take i strategy ++ a ∷ []) is
-    ∙ sym (take-suc strategy i 0 less)
-    ∙ ap (λ (n : ℕ). take n strategy) (sym (add-one i)))
+    let taken = take-suc strategy i 0 less in
+    let more = flat_map-append (λ (action : ℕ). decimal action ++ 45 ∷ []) (take i strategy)
+    (action ∷ []) in
+    grind (arith, taken, more, add-one i, append_assoc, append-nil)
 
 -- after the last action stands one dash too many
 pub dash_last : (action : ℕ) (strategy : List ℕ)
@@ -136,12 +132,16 @@ pub one_label_more : (counts : List ℕ)
     → next ≡ map strategy_label (take (number + 1) (all_choices counts))
 one_label_more counts labels next number label strategy less is label_is labels_are next_is =
     let all = all_choices counts in
-    next_is
-    ∙ (λ i. labels_are i ++ (label_is ∙ ap strategy_label is) i ∷ [])
-    ∙ sym (map-append strategy_label (take number all) (get_or all number [] ∷ []))
-    ∙ ap (map strategy_label) (sym (take-suc all number []
-    (omega (arith, less, length-all_choices counts)))
-    ∙ ap (λ (n : ℕ). take n all) (sym (add-one number)))
+    let taken = take-suc all number [] (omega (arith, less, length-all_choices counts)) in
+    cc (
+      next_is,
+      labels_are,
+      label_is,
+      is,
+      taken,
+      add-one number,
+      map-append strategy_label (take number all) (get_or all number [] ∷ []),
+    )
 
 -- ---- spellings
 

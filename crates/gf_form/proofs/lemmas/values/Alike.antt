@@ -1,14 +1,14 @@
 -- Trees whose nodes are alike, each to its image, in what is chosen, how probable it is and what it
 -- pays: they have the same payoff, and the same bottom-up value.
-use Rattle.gf_form.proofs.Common.{◌≡◌, ℕ, zero, suc, ◌+◌, List, arith, Option, Some, None, map}
-use Rattle.gf_form.proofs.Common.{refl, sym, ap, ◌∙◌, subst, ◌==◌, ◌&&◌, filter, MatchOption}
-use Rattle.gf_form.proofs.Common.{MatchBool, AllByRecursion, map-append, Ratio, plus, times, total}
-use Rattle.gf_form.proofs.Common.{zero_ratio, AddsTo, MultipliesTo, all_parts, Tree, Trees}
-use Rattle.gf_form.proofs.Common.{map_tree, map_trees, branch, none, more, flatten, flatten_all}
-use Rattle.gf_form.proofs.Common.{SetKey, Node, Game, map_twice, Step, Play, from_node, plays}
-use Rattle.gf_form.proofs.Common.{plays_from, is_chosen, follows, probability, payoff_at}
-use Rattle.gf_form.proofs.Common.{play_probability, play_payoff, payoff, IsValue, IsChanceValue}
-use Rattle.gf_form.proofs.Common.{IsChildValue, [], ◌∷◌, all_both, all_images, all_weaker, list_all}
+use Rattle.gf_form.proofs.Common.{◌≡◌, ℕ, zero, suc, ◌+◌, List, arith, Some, None, map, refl, sym}
+use Rattle.gf_form.proofs.Common.{ap, ◌∙◌, subst, ◌==◌, ◌&&◌, filter, MatchOption, AllByRecursion}
+use Rattle.gf_form.proofs.Common.{map-append, Ratio, plus, times, total, zero_ratio, MultipliesTo}
+use Rattle.gf_form.proofs.Common.{all_parts, Tree, Trees, map_tree, map_trees, branch, none, more}
+use Rattle.gf_form.proofs.Common.{flatten, flatten_all, SetKey, Node, Game, map_twice, Step, Play}
+use Rattle.gf_form.proofs.Common.{from_node, plays, plays_from, is_chosen, follows, probability}
+use Rattle.gf_form.proofs.Common.{payoff_at, play_probability, play_payoff, payoff, IsValue}
+use Rattle.gf_form.proofs.Common.{IsChanceValue, IsChildValue, [], ◌∷◌, all_both, all_images}
+use Rattle.gf_form.proofs.Common.{all_weaker, list_all}
 use Rattle.gf_fraction.specs.Rational.{ratio_product}
 use Rattle.gf_tree.specs.PrefixOrder.{Entry}
 
@@ -123,15 +123,6 @@ module _ (g h : Game) (c d : SetKey → ℕ) (player : ℕ) (f : Node → Node) 
 -- ---- bottom-up values
 
 module _ (g h : Game) (c d : SetKey → ℕ) (player : ℕ) (f : Node → Node) where
-  -- the value at a node that has this set or none
-  abbrev ValueAt : Game → (SetKey → ℕ) → Node → Trees Node → Ratio → Option SetKey → Type 0
-  ValueAt game choices n ts value o = MatchOption o
-      (value ≡ payoff_at game player n)
-      (λ key. (below : Ratio)
-      × MatchBool (key.player == 0) (IsChanceValue game choices player n 1 zero_ratio ts below)
-      (IsChildValue game choices player (choices key) ts below)
-      × AddsTo (payoff_at game player n) below value)
-
   abbrev ChanceGoes : Node → Trees Node → Type 0
   ChanceGoes n ts = (value : Ratio) → IsChanceValue g c player n 1 zero_ratio ts value
       → IsChanceValue h d player (f n) 1 zero_ratio (map_trees f ts) value
@@ -141,18 +132,16 @@ module _ (g h : Game) (c d : SetKey → ℕ) (player : ℕ) (f : Node → Node) 
       → IsChildValue h d player position (map_trees f ts) value
 
   node_goes : (n : Node) (ts : Trees Node) (value : Ratio)
-      → IsAlike g h c d player f n → ChanceGoes n ts → ChildGoes ts → (o : Option SetKey)
-      → MatchOption o ((f n).set ≡ None) (λ key. (other : SetKey) × ((f n).set ≡ Some other)
-      × ((other.player == 0) ≡ (key.player == 0)) × (d other ≡ c key))
-      → ValueAt g c n ts value o → ValueAt h d (f n) (map_trees f ts) value (f n).set
-  node_goes n ts value a chance child o m v = grind arith
+      → IsAlike g h c d player f n → ChanceGoes n ts → ChildGoes ts
+      → IsValue g c player (branch n ts) value → IsValue h d player (map_tree f (branch n ts)) value
+  node_goes n ts value a chance child v = let moves = a.moves in let pays = a.pays in grind arith
 
   mutual
     value_goes : (t : Tree Node) (value : Ratio) → AreAlike g h c d player f (flatten t)
         → IsValue g c player t value → IsValue h d player (map_tree f t) value
     value_goes (branch n ts) value a v =
         node_goes n ts value a.0 (λ below is. chance_goes ts n 1 zero_ratio below a.0 a.1 is)
-        (λ position below is. child_goes ts position below a.1 is) n.set a.0.moves v
+        (λ position below is. child_goes ts position below a.1 is) v
 
     chance_goes : (ts : Trees Node) (n : Node) (k : ℕ) (sum value : Ratio)
         → IsAlike g h c d player f n → AreAlike g h c d player f (flatten_all ts)

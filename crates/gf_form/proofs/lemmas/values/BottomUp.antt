@@ -4,14 +4,13 @@ use Rattle.gf_form.proofs.Common.{Some, MatchOption, length, map, refl, sym, sub
 use Rattle.gf_form.proofs.Common.{option_map, MatchBool, AllByRecursion, Ratio, IsEqual, zero_ratio}
 use Rattle.gf_form.proofs.Common.{one_ratio, plus, times, total, AddsTo, MultipliesTo}
 use Rattle.gf_form.proofs.Common.{mul_pos_right, all_parts, equal_refl, plus_both, plus_zero}
-use Rattle.gf_form.proofs.Common.{plus_assoc, times_comm, times_assoc, times_plus, times_zero}
-use Rattle.gf_form.proofs.Common.{times_one, IsAbove, plus_above, times_above, ◌then◌, back}
-use Rattle.gf_form.proofs.Common.{plus_left, plus_right, times_left, times_right, plus_across}
-use Rattle.gf_form.proofs.Common.{numbers_from, Tree, Trees, count, branch, none, more, flatten}
-use Rattle.gf_form.proofs.Common.{flatten_all, SetKey, Node, Game, IsGame, HasChildren, set_at}
-use Rattle.gf_form.proofs.Common.{IsSpellable, Play, from_node, is_chosen, probability, payoff_at}
-use Rattle.gf_form.proofs.Common.{payoff, play_probability, play_payoff, IsValue, IsChanceValue}
-use Rattle.gf_form.proofs.Common.{IsChildValue}
+use Rattle.gf_form.proofs.Common.{plus_assoc, times_plus, times_zero, times_one, IsAbove}
+use Rattle.gf_form.proofs.Common.{plus_above, times_above, ◌then◌, back, plus_left, plus_right}
+use Rattle.gf_form.proofs.Common.{times_right, plus_across, numbers_from, Tree, Trees, count}
+use Rattle.gf_form.proofs.Common.{branch, none, more, flatten, flatten_all, SetKey, Node, Game}
+use Rattle.gf_form.proofs.Common.{IsGame, HasChildren, set_at, IsSpellable, Play, from_node}
+use Rattle.gf_form.proofs.Common.{is_chosen, probability, payoff_at, payoff, play_probability}
+use Rattle.gf_form.proofs.Common.{play_payoff, IsValue, IsChanceValue, IsChildValue}
 use Rattle.gf_form.proofs.lemmas.values.Denominators.{probability_above, payoff_above}
 use Rattle.gf_form.proofs.lemmas.values.Denominators.{play_probability_above, worth_above}
 use Rattle.gf_form.proofs.lemmas.values.Lotteries.{no_chance}
@@ -21,7 +20,7 @@ use Rattle.gf_form.proofs.lemmas.values.Followed.{only_this, not_this}
 use Rattle.gf_form.proofs.lemmas.values.Whole.{one_of, by_one, first_whole, this_whole}
 use Rattle.gf_form.proofs.lemmas.values.Whole.{chance_whole, node_by}
 use Rattle.gf_form.proofs.lemmas.values.PlaySums.{sum_joined, weight_above, all_worth_above}
-use Rattle.gf_form.proofs.lemmas.values.PlaySums.{weight_after, worth_after}
+use Rattle.gf_form.proofs.lemmas.values.PlaySums.{worth_after}
 
 -- ---- what the arithmetic of values says
 
@@ -100,15 +99,7 @@ module _ (g : Game) (game : IsGame g) (spellable : IsSpellable g) (player : ℕ)
       let times_w = times_above (own n) (w first) (own_above n) (w_above first) in
       let times_later = times_above (own n) (w later) (own_above n) (w_above later) in
       let first_paid : IsEqual (e first) (plus (times (own n) (w first)) y) =
-      worth_after g spellable n k player ps
-      then times_plus (q n k) (times (own n) (w ps)) (e ps) (q_above n k)
-      (times_above (own n) (w ps) (own_above n) (w_above ps)) (e_above ps)
-      then plus_both (times (q n k) (times (own n) (w ps))) (times (own n) (w first))
-      (times (q n k) (e ps)) y
-      (back (times_assoc (q n k) (own n) (w ps) (q_above n k) (own_above n) (w_above ps))
-      then times_left (w ps) (w_above ps) (times_comm (q n k) (own n) (q_above n k) (own_above n))
-      then times_assoc (own n) (q n k) (w ps) (own_above n) (q_above n k) (w_above ps)
-      then times_right (own n) (own_above n) (back (weight_after g spellable n k ps)))
+      worth_after g spellable n k player ps then plus_right (times (own n) (w first)) times_w
       (times_right (q n k) (q_above n k) (back pays.paid)
       then back (product_equal (q n k) x y (q_above n k) x_above product)) in
       let joined_w : IsEqual (w (first ++ later)) (plus (w first) (w later)) =
@@ -126,9 +117,8 @@ module _ (g : Game) (game : IsGame g) (spellable : IsSpellable g) (player : ℕ)
             first_whole g game spellable choices n k t ts (chosen k) pays.whole others.chances;
         paid = subst (λ l. IsEqual (e l) (plus (times (own n) (w l)) (plus y r))) (sym all)
             (joined_e
-            then plus_left (e later) (e_above later) first_paid
-            then plus_right (plus (times (own n) (w first)) y)
-            (plus_above (times (own n) (w first)) y times_w y_above) others.paid
+            then plus_both (e first) (plus (times (own n) (w first)) y) (e later)
+            (plus (times (own n) (w later)) r) first_paid others.paid
             then plus_across (times (own n) (w first)) y (times (own n) (w later)) r times_w y_above
             times_later others.above
             then plus_left (plus y r) (plus_above y r y_above others.above)
@@ -144,18 +134,19 @@ module _ (g : Game) (game : IsGame g) (spellable : IsSpellable g) (player : ℕ)
       → Pays (plus (own n) value) (followed choices n k (more t ts))
   this_child n key k value t ts at personal same pays =
       let ps = followed_in choices t in
-      let sure = one_of (q n k) (no_chance g game spellable n key k at personal) in
-      let times_w = times_above (own n) (w ps) (own_above n) (w_above ps) in
+      let first = map (from_node n k) ps in
+      let only = only_this choices n key at personal k t ts same in
+      let whole = this_whole g game spellable choices n key k t ts at personal same pays.whole in
       record {
-        whole = this_whole g game spellable choices n key k t ts at personal same pays.whole;
-        paid = subst (λ l. IsEqual (plus (own n) value) (e l))
-            (sym (only_this choices n key at personal k t ts same))
+        whole = whole;
+        paid = subst (λ l. IsEqual (plus (own n) value) (e l)) (sym only)
             (back (worth_after g spellable n k player ps
-            then by_one (q n k) (plus (times (own n) (w ps)) (e ps))
-            (plus_above (times (own n) (w ps)) (e ps) times_w (e_above ps)) sure
-            then plus_both (times (own n) (w ps)) (own n) (e ps) value
-            (times_right (own n) (own_above n) pays.whole then times_one (own n) (own_above n))
-            (back pays.paid)));
+            then plus_both (times (own n) (w first)) (own n) (times (q n k) (e ps)) value
+            (times_right (own n) (own_above n) (subst (λ l. IsEqual (w l) one_ratio) only whole)
+            then times_one (own n) (own_above n))
+            (by_one (q n k) (e ps) (e_above ps)
+            (one_of (q n k) (no_chance g game spellable n key k at personal))
+            then back pays.paid)));
       }
 
   other_child : (n : Node) (key : SetKey) (k : ℕ) (value : Ratio) (t : Tree Node) (ts : Trees Node)

@@ -1,7 +1,7 @@
 -- The probabilities of an information set: those of chance add up to one, and a player's actions
 -- have none.
-use Rattle.gf_form.proofs.Common.{◌≡◌, ℕ, zero, suc, ◌+◌, ◌<◌, false, List, [], ◌∷◌, Option, Some}
-use Rattle.gf_form.proofs.Common.{None, length, map, get_or, drop, refl, ap, subst, arith, ◌==◌}
+use Rattle.gf_form.proofs.Common.{◌≡◌, ℕ, zero, suc, ◌+◌, ◌<◌, false, List, [], ◌∷◌, Some, None}
+use Rattle.gf_form.proofs.Common.{length, map, get_or, drop, refl, ap, subst, arith, ◌==◌}
 use Rattle.gf_form.proofs.Common.{option_and_then, unwrap_or, slice_get, AllByRecursion, length-map}
 use Rattle.gf_form.proofs.Common.{Ratio, IsEqual, zero_ratio, one_ratio, plus, total, plus_zero}
 use Rattle.gf_form.proofs.Common.{plus_assoc, IsAbove, plus_above, ◌then◌, plus_left, numbers_from}
@@ -86,13 +86,8 @@ module _ (g : Game) (game : IsGame g) (spellable : IsSpellable g) where
   no_chance n key k at personal =
       let has = each_action g (λ a. a.probability ≡ None) (record { node = n; taken = k })
       (λ other is. let same : key ≡ other = cc in personal_set other (rw same at personal)) in
-      by_action (action_at g (record { node = n; taken = k })) has
+      grind (arith, has)
     where
-      by_action : (o : Option Action) → Each (λ a. a.probability ≡ None) o
-          → unwrap_or (option_and_then (λ a. a.probability) o) one_ratio ≡ one_ratio
-      by_action None h = refl
-      by_action (Some a) h = ap (λ o. unwrap_or o one_ratio) h
-
       personal_set : (key : SetKey) → (key.player == 0) ≡ false
           → Each (λ set. AllByRecursion (λ a. a.probability ≡ None) set.actions) (set_at g key)
       personal_set key personal = grind (arith, sets_have key)

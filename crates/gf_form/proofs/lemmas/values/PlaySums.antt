@@ -2,10 +2,10 @@
 use Rattle.gf_form.proofs.Common.{◌≡◌, ℕ, Bool, true, false, cond, List, [], ◌∷◌, ◌++◌, map, refl}
 use Rattle.gf_form.proofs.Common.{arith, ◌&&◌, filter, Ratio, IsEqual, zero_ratio, plus, times}
 use Rattle.gf_form.proofs.Common.{total, plus_zero, plus_assoc, times_comm, times_assoc, times_plus}
-use Rattle.gf_form.proofs.Common.{times_zero, IsAbove, plus_above, times_above, total_above, ◌then◌}
-use Rattle.gf_form.proofs.Common.{back, plus_left, plus_right, times_right, plus_across, SetKey}
-use Rattle.gf_form.proofs.Common.{Node, Game, IsSpellable, Play, from_node, is_chosen, follows}
-use Rattle.gf_form.proofs.Common.{probability, payoff_at, play_probability, play_payoff}
+use Rattle.gf_form.proofs.Common.{times_zero, IsAbove, times_above, total_above, ◌then◌, back}
+use Rattle.gf_form.proofs.Common.{plus_right, plus_across, SetKey, Node, Game, IsSpellable, Play}
+use Rattle.gf_form.proofs.Common.{from_node, is_chosen, follows, probability, payoff_at}
+use Rattle.gf_form.proofs.Common.{play_probability, play_payoff, plus_both}
 use Rattle.gf_form.proofs.lemmas.values.Denominators.{probability_above, payoff_above}
 use Rattle.gf_form.proofs.lemmas.values.Denominators.{play_probability_above, play_payoff_above}
 use Rattle.gf_form.proofs.lemmas.values.Denominators.{worth_above}
@@ -74,39 +74,34 @@ module _ (g : Game) (spellable : IsSpellable g) where
       own_above = payoff_above g spellable player n
 
       pub worth_after : (ps : List Play) → IsEqual (worth player (map (from_node n k) ps))
-          (times q (plus (times own (weight ps)) (worth player ps)))
+          (plus (times own (weight (map (from_node n k) ps))) (times q (worth player ps)))
       worth_after [] =
-          back (times_right q q_above (plus_left zero_ratio (omega arith) (times_zero own own_above)
-          then plus_zero zero_ratio (omega arith)) then times_zero q q_above)
+          back (plus_both (times own zero_ratio) zero_ratio (times q zero_ratio) zero_ratio
+          (times_zero own own_above) (times_zero q q_above) then plus_zero zero_ratio (omega arith))
       worth_after (p ∷ ps) =
           let chance = play_probability g p in
           let pay = play_payoff g player p in
+          let moved = times q chance in
+          let paid = times chance pay in
+          let w = weight (map (from_node n k) ps) in
+          let e = worth player ps in
           let chance_above = play_probability_above g spellable p in
           let pay_above = play_payoff_above g spellable player p in
-          let w = weight ps in
-          let e = worth player ps in
-          let w_above = weight_above ps in
+          let moved_above = times_above q chance q_above chance_above in
+          let paid_above = times_above chance pay chance_above pay_above in
+          let w_above = weight_above (map (from_node n k) ps) in
           let e_above = all_worth_above player ps in
-          let first = times chance (plus own pay) in
-          let first_above =
-          times_above chance (plus own pay) chance_above (plus_above own pay own_above pay_above) in
-          let others = plus (times own w) e in
-          let others_above =
-          plus_above (times own w) e (times_above own w own_above w_above) e_above in
-          let split = times_plus chance own pay chance_above own_above pay_above then plus_left
-          (times chance pay) (times_above chance pay chance_above pay_above) (times_comm chance own
-          chance_above own_above) in
-          let sum = plus_left others others_above split then plus_across (times own chance) (times
-          chance pay) (times own w) e (times_above own chance own_above chance_above) (times_above
-          chance pay chance_above pay_above) (times_above own w own_above w_above) e_above then
-          plus_left (plus (times chance pay) e) (plus_above (times chance pay) e (times_above chance
-          pay chance_above pay_above) e_above) (back (times_plus own chance w own_above chance_above
-          w_above)) in
-          grind (
-            arith,
-            plus_left (worth player (map (from_node n k) ps)) (all_worth_above player (map
-                (from_node n k) ps)) (times_assoc q chance (plus own pay) q_above chance_above
-                (plus_above own pay own_above pay_above)) then plus_right (times q first)
-                (times_above q first q_above first_above) (worth_after ps) then back (times_plus q
-                first others q_above first_above others_above) then times_right q q_above sum,
-          )
+          plus_both (times moved (plus own pay)) (plus (times own moved) (times q paid))
+          (worth player (map (from_node n k) ps)) (plus (times own w) (times q e))
+          (times_plus moved own pay moved_above own_above pay_above
+          then plus_both (times moved own) (times own moved) (times moved pay) (times q paid)
+          (times_comm moved own moved_above own_above)
+          (times_assoc q chance pay q_above chance_above pay_above))
+          (worth_after ps)
+          then plus_across (times own moved) (times q paid) (times own w) (times q e)
+          (times_above own moved own_above moved_above) (times_above q paid q_above paid_above)
+          (times_above own w own_above w_above) (times_above q e q_above e_above)
+          then plus_both (plus (times own moved) (times own w)) (times own (plus moved w))
+          (plus (times q paid) (times q e)) (times q (plus paid e))
+          (back (times_plus own moved w own_above moved_above w_above))
+          (back (times_plus q paid e q_above paid_above e_above))

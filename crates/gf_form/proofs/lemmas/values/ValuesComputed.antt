@@ -38,13 +38,11 @@ plus_agrees : (own : Ratio) → IsFraction own → (P : Ratio → Type 0) (o : O
     → ((x : Ratio) → Agree P o x) → (v : Ratio)
     → Agree (λ v. (x : Ratio) × P x × AddsTo own x v) (plus_of (Some own) o) v
 plus_agrees own f P None agree v = (λ h. h.2.1, (λ h. absurd (grind arith), λ e. absurd cc))
-plus_agrees own f P (Some x) agree v = (
-  λ h. h.2.1,
-  (
-    λ h. grind (arith, sum_agrees, agree h.0),
-    λ e. let p = (agree x).1.1 refl in (x, p, (sum_agrees own x v f ((agree x).0 p)).1.1 e),
-  ),
-)
+plus_agrees own f P (Some x) agree v =
+    let is = agree x in
+    let p = is.1.1 refl in
+    let sum = sum_agrees own x v f (is.0 p) in
+    (λ h. h.2.1, (λ h. grind (arith, sum_agrees, agree h.0), λ e. (x, p, sum.1.1 e)))
 
 -- a sum that is defined has defined parts
 record Parts (p : Ratio) (o : Option Ratio) (sum next : Ratio) : Type 0 where

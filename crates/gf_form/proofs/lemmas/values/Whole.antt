@@ -4,11 +4,11 @@ use Rattle.gf_form.proofs.Common.{◌∷◌, Option, Some, None, MatchOption, le
 use Rattle.gf_form.proofs.Common.{subst, arith, inl, ◌==◌, option_map, AllByRecursion, Contains}
 use Rattle.gf_form.proofs.Common.{Ratio, IsEqual, zero_ratio, one_ratio, times, total, all_parts}
 use Rattle.gf_form.proofs.Common.{equal_refl, times_comm, times_one, IsAbove, ◌then◌, back}
-use Rattle.gf_form.proofs.Common.{plus_left, plus_right, times_left, times_right, numbers_from}
-use Rattle.gf_form.proofs.Common.{Tree, Trees, count, branch, none, more, flatten, flatten_all}
-use Rattle.gf_form.proofs.Common.{SetKey, InformationSet, Node, Game, IsGame, HasChildren, set_at}
-use Rattle.gf_form.proofs.Common.{IsSpellable, Has, contains, of_filter, Play, from_node, is_chosen}
-use Rattle.gf_form.proofs.Common.{follows, plays, HasActions, probability, play_probability}
+use Rattle.gf_form.proofs.Common.{times_left, times_right, numbers_from, Tree, Trees, count, branch}
+use Rattle.gf_form.proofs.Common.{none, more, flatten, flatten_all, SetKey, InformationSet, Node}
+use Rattle.gf_form.proofs.Common.{Game, IsGame, HasChildren, set_at, IsSpellable, Has, contains}
+use Rattle.gf_form.proofs.Common.{of_filter, Play, from_node, is_chosen, follows, plays, HasActions}
+use Rattle.gf_form.proofs.Common.{probability, play_probability, plus_both}
 use Rattle.gf_form.proofs.lemmas.values.Denominators.{probability_above, play_probability_above}
 use Rattle.gf_form.proofs.lemmas.values.Lotteries.{actions_at, chances_add, no_chance}
 use Rattle.gf_form.proofs.lemmas.values.PlaySums.{sum_joined, weight, weight_above, weight_after}
@@ -60,10 +60,9 @@ module _ (g : Game) (game : IsGame g) (spellable : IsSpellable g) (choices : Set
       subst (λ l. IsEqual (w l) (total (map (q n) (numbers_from k (count (more t ts))))))
       (sym (first_chosen choices n k t ts chosen))
       (sum_joined (play_probability g) (play_probability_above g spellable) first later
-      then plus_left (w later) (w_above later) (weight_after g spellable n k (followed_in choices t)
-      then times_right (q n k) (q_above n k) whole
-      then times_one (q n k) (q_above n k))
-      then plus_right (q n k) (q_above n k) others)
+      then plus_both (w first) (q n k) (w later) (total (map (q n) (numbers_from (k + 1) (count ts))))
+      (weight_after g spellable n k (followed_in choices t)
+      then times_right (q n k) (q_above n k) whole then times_one (q n k) (q_above n k)) others)
 
   pub this_whole : (n : Node) (key : SetKey) (k : ℕ) (t : Tree Node) (ts : Trees Node)
       → n.set ≡ Some key → (key.player == 0) ≡ false → choices key ≡ k
