@@ -83,7 +83,7 @@ pub use Rattle.gf_form.specs.inner.strategies.ProfileNumbers.{numbered_profiles,
 pub use Rattle.gf_form.specs.inner.values.CodeLeft.{code_left, strategies_of_walk}
 pub use Rattle.gf_form.specs.inner.values.PaidRows.{rows_of}
 pub use Rattle.gf_form.specs.inner.values.Program.{run, paid_at_node, paid, chance_code, child_code}
-pub use Rattle.gf_form.specs.inner.values.Program.{code, code_over}
+pub use Rattle.gf_form.specs.inner.values.Program.{code}
 pub use Rattle.gf_form.specs.inner.values.Rows.{ArePaid, at_place, row_at, IsRow, AreRows, column}
 pub use Rattle.gf_form.specs.inner.values.Values.{value, chances_at, chance_value, child_value}
 pub use Rattle.gf_form.specs.inner.values.Values.{plus_of, times_of, value_over}

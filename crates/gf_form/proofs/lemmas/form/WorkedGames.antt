@@ -26,19 +26,11 @@ overflowing_file =
     ++ codes "p \"\" 1 1 \"i\" { \"a\" \"b\" } 1 \"x\" { -1 } t \"\" 0 p \"\" 1 2 \"j\" { \"c\" } "
     ++ codes "2 \"y\" { 170141183460469231731687303715884105727 } t \"\" 3 \"z\" { 1 }"
 
-overflowing_is_held : IsHeld overflowing
-unfolding lex digits index_of number_of sum_of lowest_of gcd_within
-overflowing_is_held = held overflowing_file overflowing refl
-
 abbrev unlikely_file : List ℕ
 unlikely_file =
     codes "EFG 2 R \"q\" { \"A\" } "
     ++ codes "c \"\" 1 \"n\" { \"a\" 1 \"b\" 0 } 0 t \"\" 1 \"x\" { 1 } c \"\" 2 \"k\" { \"e\" 1 } "
     ++ codes "2 \"y\" { 170141183460469231731687303715884105727 } t \"\" 1"
-
-unlikely_is_held : IsHeld unlikely
-unfolding lex digits index_of number_of sum_of lowest_of gcd_within
-unlikely_is_held = held unlikely_file unlikely refl
 
 abbrev balancing_file : List ℕ
 balancing_file =
@@ -48,20 +40,12 @@ balancing_file =
     ++ codes "t \"\" 2 \"y\" { 170141183460469231731687303715884105727 } "
     ++ codes "t \"\" 3 \"z\" { 170141183460469231731687303715884105725 }"
 
-balancing_is_held : IsHeld balancing
-unfolding lex digits index_of number_of sum_of lowest_of gcd_within
-balancing_is_held = held balancing_file balancing refl
-
 abbrev ending_file : List ℕ
 ending_file =
     codes "EFG 2 R \"r\" { \"A\" } "
     ++ codes "p \"\" 1 1 \"i\" { \"a\" \"b\" } 0 t \"\" 1 \"x\" { 1 } "
     ++ codes "p \"\" 1 2 \"j\" { \"c\" \"d\" } 0 "
     ++ codes "t \"\" 2 \"y\" { 2 } t \"\" 3 \"z\" { 3 }"
-
-ending_is_held : IsHeld ending
-unfolding lex digits index_of number_of sum_of lowest_of gcd_within
-ending_is_held = held ending_file ending refl
 
 abbrev contradicted_file : List ℕ
 contradicted_file =
@@ -70,13 +54,16 @@ contradicted_file =
     ++ codes "p \"\" 1 2 \"\" { \"\" \"\" } 0 t \"\" 0 "
     ++ codes "t \"\" 0 t \"\" 0"
 
-contradicted_is_held : IsHeld contradicted
-unfolding lex digits index_of number_of sum_of lowest_of gcd_within
-contradicted_is_held = held contradicted_file contradicted refl
-
 pub worked_games : AllByRecursion IsHeld
     (overflowing ∷ unlikely ∷ balancing ∷ ending ∷ contradicted ∷ [])
+unfolding lex digits index_of number_of sum_of lowest_of gcd_within
 worked_games = (
-  overflowing_is_held,
-  (unlikely_is_held, (balancing_is_held, (ending_is_held, (contradicted_is_held, tt)))),
+  held overflowing_file overflowing refl,
+  (
+    held unlikely_file unlikely refl,
+    (
+      held balancing_file balancing refl,
+      (held ending_file ending refl, (held contradicted_file contradicted refl, tt)),
+    ),
+  ),
 )

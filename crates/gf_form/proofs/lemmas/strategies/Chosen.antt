@@ -1,37 +1,26 @@
 -- The strategies of a profile choose an action at each set.
-use Rattle.gf_form.proofs.Common.{◌≡◌, ℕ, ◌+◌, ◌-◌, ◌<◌, ◌≤◌, Bool, true, cond, List, [], ◌∷◌, Some}
-use Rattle.gf_form.proofs.Common.{length, map, get_or, refl, sym, ◌∙◌, subst, arith, option_map}
-use Rattle.gf_form.proofs.Common.{zip, filter, find, if◌then◌else◌, AllZip, Contains}
-use Rattle.gf_form.proofs.Common.{get_or_default, IsProfile, every_profile, SetKey, InformationSet}
-use Rattle.gf_form.proofs.Common.{same_set, Described, description_at, Game, IsGame, set_at}
-use Rattle.gf_form.proofs.Common.{player_keys, player_sets, action_counts, strategies, players_of}
-use Rattle.gf_form.proofs.Common.{strategies_at, strategy_at, choice_at, choices_by, full_profiles}
-use Rattle.gf_form.proofs.Common.{HasActions, AllZip-long, length-numbers_from}
+use Rattle.gf_form.proofs.Common.{◌≡◌, ℕ, ◌+◌, ◌-◌, ◌<◌, ◌≤◌, Bool, true, List, [], ◌∷◌, Some}
+use Rattle.gf_form.proofs.Common.{length, map, get_or, refl, sym, ◌∙◌, subst, arith, zip, filter}
+use Rattle.gf_form.proofs.Common.{find, AllZip, Contains, get_or_default, IsProfile, every_profile}
+use Rattle.gf_form.proofs.Common.{SetKey, InformationSet, same_set, Described, description_at, Game}
+use Rattle.gf_form.proofs.Common.{IsGame, set_at, player_keys, player_sets, action_counts}
+use Rattle.gf_form.proofs.Common.{strategies, players_of, strategies_at, strategy_at, choice_at}
+use Rattle.gf_form.proofs.Common.{choices_by, full_profiles, HasActions, AllZip-long}
+use Rattle.gf_form.proofs.Common.{length-numbers_from}
 use Rattle.gf_form.proofs.lemmas.strategies.Choices.{IsChoice, every_choice}
 use Rattle.gf_form.proofs.lemmas.strategies.Lookups.{strategy_before, zip_counted}
 use Rattle.gf_form.proofs.lemmas.strategies.KnownSets.{set_is}
 
 -- ---- a choice at each set of a list
 
-within : (key : SetKey) (s : Described SetKey InformationSet)
-    (ss : List (Described SetKey InformationSet)) (action : ℕ) (others : List ℕ)
-    (set : InformationSet) (b : Bool)
-    → (1 ≤ action) × (action ≤ length s.description.actions)
-    → (option_map (λ e. e.description) (find (λ e. same_set e.key key) ss) ≡ Some set
-    → (1 ≤ choice_at (map (λ e. e.key) ss) others key)
-    × (choice_at (map (λ e. e.key) ss) others key ≤ length set.actions))
-    → option_map (λ e. e.description) (cond b (Some s) (find (λ e. same_set e.key key) ss))
-    ≡ Some set
-    → (1 ≤ (if b then action else choice_at (map (λ e. e.key) ss) others key))
-    × ((if b then action else choice_at (map (λ e. e.key) ss) others key) ≤ length set.actions)
-within key s ss action others set b here later is = grind arith
-
 choice_within : (key : SetKey) (ss : List (Described SetKey InformationSet)) (strategy : List ℕ)
     (set : InformationSet) → IsChoice (map (λ s. length s.description.actions) ss) strategy
     → description_at same_set ss key ≡ Some set → (1 ≤ choice_at (map (λ s. s.key) ss) strategy key)
     × (choice_at (map (λ s. s.key) ss) strategy key ≤ length set.actions)
-choice_within key (s ∷ ss) (action ∷ others) set h is = within key s ss action others set
-    (same_set s.key key) h.0 (choice_within key ss others set h.1) is
+choice_within key (s ∷ ss) (action ∷ others) set h is =
+    let here = h.0 in
+    let later = choice_within key ss others set h.1 in
+    grind (arith, here, later)
 choice_within key ss others set h is = grind arith
 
 -- a set is found among its owner's

@@ -114,8 +114,7 @@ no_counts g player o h e = grind (arith, length-all_choices)
 pub some_counts : (g : Game) (player : ℕ) (o : Option (Vec ℕ Global × ProfileCount))
     (own : Vec ℕ Global) (count : ProfileCount) → OwnCounts g player o → o ≡ Some (own, count)
     → (own.items ≡ action_counts g player) × (count.count ≡ length (strategies g player))
-some_counts g player None own count h e = absurd cc
-some_counts g player (Some x) own count h e = grind (arith, length-all_choices, length-map)
+some_counts g player o own count h e = grind (arith, length-all_choices, length-map)
 
 pub strategies_at_place : (g : Game) (before : ℕ) → before < length g.players
     → get_or (strategy_counts g) before 0 ≡ length (strategies g (before + 1))

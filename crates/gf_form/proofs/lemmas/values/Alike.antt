@@ -136,6 +136,11 @@ module _ (g h : Game) (c d : SetKey → ℕ) (player : ℕ) (f : Node → Node) 
       → IsValue g c player (branch n ts) value → IsValue h d player (map_tree f (branch n ts)) value
   node_goes n ts value a chance child v = let moves = a.moves in let pays = a.pays in grind arith
 
+  both_alike : (t : Tree Node) (ts : Trees Node) → AreAlike g h c d player f (flatten_all (more t ts))
+      → AreAlike g h c d player f (flatten t) × AreAlike g h c d player f (flatten_all ts)
+  both_alike t ts all =
+      all_parts (λ e. IsAlike g h c d player f e.node) (flatten t) (flatten_all ts) all
+
   mutual
     value_goes : (t : Tree Node) (value : Ratio) → AreAlike g h c d player f (flatten t)
         → IsValue g c player t value → IsValue h d player (map_tree f t) value
@@ -149,8 +154,7 @@ module _ (g h : Game) (c d : SetKey → ℕ) (player : ℕ) (f : Node → Node) 
         → IsChanceValue h d player (f n) k sum (map_trees f ts) value
     chance_goes none n k sum value a all v = v
     chance_goes (more t ts) n k sum value a all v =
-        let both =
-        all_parts (λ e. IsAlike g h c d player f e.node) (flatten t) (flatten_all ts) all in (
+        let both = both_alike t ts all in (
           v.0,
           v.1,
           v.2,
@@ -163,16 +167,10 @@ module _ (g h : Game) (c d : SetKey → ℕ) (player : ℕ) (f : Node → Node) 
     child_goes : (ts : Trees Node) (position : ℕ) (value : Ratio)
         → AreAlike g h c d player f (flatten_all ts) → IsChildValue g c player position ts value
         → IsChildValue h d player position (map_trees f ts) value
-    child_goes none position value all v = absurd v
-    child_goes (more t ts) zero value all v = absurd v
-    child_goes (more t ts) (suc zero) value all v =
-        let both =
-        all_parts (λ e. IsAlike g h c d player f e.node) (flatten t) (flatten_all ts) all in
-        value_goes t value both.0 v
+    child_goes (more t ts) (suc zero) value all v = value_goes t value (both_alike t ts all).0 v
     child_goes (more t ts) (suc (suc position)) value all v =
-        let both =
-        all_parts (λ e. IsAlike g h c d player f e.node) (flatten t) (flatten_all ts) all in
-        child_goes ts (suc position) value both.1 v
+        child_goes ts (suc position) value (both_alike t ts all).1 v
+    child_goes ts position value all v = absurd v
 
 pub same_value : (g h : Game) (c d : SetKey → ℕ) (player : ℕ) (f : Node → Node) (value : Ratio)
     → h.tree ≡ map_tree f g.tree → AreAlike g h c d player f (flatten g.tree)

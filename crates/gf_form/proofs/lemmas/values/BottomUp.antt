@@ -1,6 +1,6 @@
 -- If the bottom-up value is defined, it is the payoff by plays.
-use Rattle.gf_form.proofs.Common.{◌≡◌, ℕ, zero, suc, ◌+◌, Bool, true, false, List, ◌++◌, Option}
-use Rattle.gf_form.proofs.Common.{Some, MatchOption, length, map, refl, sym, subst, arith, ◌==◌}
+use Rattle.gf_form.proofs.Common.{◌≡◌, ℕ, zero, suc, ◌+◌, true, false, List, ◌++◌, Option, Some}
+use Rattle.gf_form.proofs.Common.{MatchOption, length, map, refl, sym, subst, arith, ◌==◌}
 use Rattle.gf_form.proofs.Common.{option_map, MatchBool, AllByRecursion, Ratio, IsEqual, zero_ratio}
 use Rattle.gf_form.proofs.Common.{one_ratio, plus, times, total, AddsTo, MultipliesTo}
 use Rattle.gf_form.proofs.Common.{mul_pos_right, all_parts, equal_refl, plus_both, plus_zero}
@@ -212,16 +212,16 @@ module _ (g : Game) (game : IsGame g) (spellable : IsSpellable g) (player : ℕ)
       node_by g game spellable choices (Pays value) n ts children
       (λ at. leaf_pays n value (subst (ValueAt n ts value) at h))
       (λ key at c. let v = subst (ValueAt n ts value) at h in
-      by_kind key (key.player == 0) v.0 at refl c v.1 v.2)
-    where
-      by_kind : (key : SetKey) (b : Bool) (below : Ratio) → n.set ≡ Some key → (key.player == 0) ≡ b
-          → option_map (λ set. length set.actions) (set_at g key) ≡ Some (count ts)
-          → MatchBool b (IsChanceValue g choices player n 1 zero_ratio ts below)
-          (IsChildValue g choices player (choices key) ts below)
-          → AddsTo (own n) below value → Pays value (followed choices n 1 ts)
-      by_kind key true below at is c v adds =
-          chance_pays n ts key below value at is c chances v adds
-      by_kind key false below at is c v adds = player_pays n ts key below value at is child v adds
+      grind (
+        arith,
+        at,
+        c,
+        v,
+        chance_pays n ts key v.0 value,
+        player_pays n ts key v.0 value,
+        chances,
+        child,
+      ))
 
   -- ---- the tree
 
@@ -248,8 +248,6 @@ module _ (g : Game) (game : IsGame g) (spellable : IsSpellable g) (player : ℕ)
         → n.set ≡ Some key → (key.player == 0) ≡ false → choices key + 1 ≡ k + a
         → AllByRecursion (HasChildren g) (flatten_all ts) → IsChildValue g choices player a ts value
         → Pays (plus (own n) value) (followed choices n k ts)
-    child_pays none n key k a value at personal place children h = absurd h
-    child_pays (more t ts) n key k zero value at personal place children h = absurd h
     child_pays (more t ts) n key k (suc zero) value at personal place children h =
         let c = all_parts (HasChildren g) (flatten t) (flatten_all ts) children in
         this_child n key k value t ts at personal (omega arith) (tree_pays t value c.0 h)
@@ -257,6 +255,7 @@ module _ (g : Game) (game : IsGame g) (spellable : IsSpellable g) (player : ℕ)
         let c = all_parts (HasChildren g) (flatten t) (flatten_all ts) children in
         other_child n key k (plus (own n) value) t ts at personal (λ same. omega arith)
         (child_pays ts n key (k + 1) (suc a) value at personal (omega arith) c.1 h)
+    child_pays ts n key k a value at personal place children h = absurd h
 
   pub value_is_payoff : (value : Ratio) → IsValue g choices player g.tree value
       → IsEqual value (payoff g choices player)

@@ -1,8 +1,8 @@
 -- The plays that follow choices, child by child.
-use Rattle.gf_form.proofs.Common.{◌≡◌, ℕ, ◌+◌, ◌<◌, Bool, true, false, List, [], ◌++◌, Some, map}
-use Rattle.gf_form.proofs.Common.{refl, arith, ◌==◌, ◌||◌, filter, filter-append, Tree, Trees}
-use Rattle.gf_form.proofs.Common.{count, branch, none, more, SetKey, Node, Play, from_node}
-use Rattle.gf_form.proofs.Common.{is_chosen, follows, plays, plays_from}
+use Rattle.gf_form.proofs.Common.{◌≡◌, ℕ, ◌+◌, ◌<◌, true, false, List, [], ◌++◌, Some, map, refl}
+use Rattle.gf_form.proofs.Common.{arith, ◌==◌, filter, filter-append, Tree, Trees, count, branch}
+use Rattle.gf_form.proofs.Common.{none, more, SetKey, Node, Play, from_node, is_chosen, follows}
+use Rattle.gf_form.proofs.Common.{plays, plays_from}
 use Rattle.std.proofs.Common.{append-nil}
 use Rattle.gf_form.proofs.lemmas.values.PlaySums.{followed_chosen, followed_other}
 
@@ -18,12 +18,6 @@ module _ (choices : SetKey → ℕ) where
       → followed_in (branch n ts) ≡ followed n 1 ts
   in_children n ts some = grind arith
 
-  -- whether this step is chosen, at a node of this set
-  chosen_at : (n : Node) (k : ℕ) (key : SetKey) (b : Bool)
-      → n.set ≡ Some key → (key.player == 0 || choices key == k) ≡ b
-      → is_chosen choices (record { node = n; taken = k }) ≡ b
-  chosen_at n k key b at h = cc (at, h)
-
   -- the plays of the children are those of the first and those of the others
   parts : (n : Node) (k : ℕ) (t : Tree Node) (ts : Trees Node) → followed n k (more t ts)
       ≡ filter (follows choices) (map (from_node n k) (plays t)) ++ followed n (k + 1) ts
@@ -33,7 +27,7 @@ module _ (choices : SetKey → ℕ) where
 
   pub each_chosen : (n : Node) (key : SetKey) → n.set ≡ Some key → (key.player == 0) ≡ true
       → (k : ℕ) → is_chosen choices (record { node = n; taken = k }) ≡ true
-  each_chosen n key at chance k = chosen_at n k key true at (λ i. chance i || choices key == k)
+  each_chosen n key at chance k = grind (arith, at, chance)
 
   pub first_chosen : (n : Node) (k : ℕ) (t : Tree Node) (ts : Trees Node)
       → is_chosen choices (record { node = n; taken = k }) ≡ true
@@ -55,7 +49,7 @@ module _ (choices : SetKey → ℕ) where
 
     pub only_this : (k : ℕ) (t : Tree Node) (ts : Trees Node) → choices key ≡ k
         → followed n k (more t ts) ≡ map (from_node n k) (followed_in t)
-    only_this k t ts same = grind (arith, chosen_at, first_chosen, none_later, append-nil)
+    only_this k t ts same = grind (arith, first_chosen, none_later, append-nil)
 
     pub not_this : (k : ℕ) (t : Tree Node) (ts : Trees Node) → ¬ (choices key ≡ k)
         → followed n k (more t ts) ≡ followed n (k + 1) ts

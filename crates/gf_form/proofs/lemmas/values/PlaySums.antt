@@ -1,11 +1,11 @@
 -- Sums over lists of plays: of their probabilities, and of probability times payoff.
-use Rattle.gf_form.proofs.Common.{◌≡◌, ℕ, Bool, true, false, cond, List, [], ◌∷◌, ◌++◌, map, refl}
-use Rattle.gf_form.proofs.Common.{arith, ◌&&◌, filter, Ratio, IsEqual, zero_ratio, plus, times}
-use Rattle.gf_form.proofs.Common.{total, plus_zero, plus_assoc, times_comm, times_assoc, times_plus}
-use Rattle.gf_form.proofs.Common.{times_zero, IsAbove, times_above, total_above, ◌then◌, back}
-use Rattle.gf_form.proofs.Common.{plus_right, plus_across, SetKey, Node, Game, IsSpellable, Play}
-use Rattle.gf_form.proofs.Common.{from_node, is_chosen, follows, probability, payoff_at}
-use Rattle.gf_form.proofs.Common.{play_probability, play_payoff, plus_both}
+use Rattle.gf_form.proofs.Common.{◌≡◌, ℕ, true, false, List, [], ◌∷◌, ◌++◌, map, refl, arith}
+use Rattle.gf_form.proofs.Common.{filter, Ratio, IsEqual, zero_ratio, plus, times, total, plus_zero}
+use Rattle.gf_form.proofs.Common.{plus_assoc, times_comm, times_assoc, times_plus, times_zero}
+use Rattle.gf_form.proofs.Common.{IsAbove, times_above, total_above, ◌then◌, back, plus_right}
+use Rattle.gf_form.proofs.Common.{plus_across, SetKey, Node, Game, IsSpellable, Play, from_node}
+use Rattle.gf_form.proofs.Common.{is_chosen, follows, probability, payoff_at, play_probability}
+use Rattle.gf_form.proofs.Common.{play_payoff, plus_both}
 use Rattle.gf_form.proofs.lemmas.values.Denominators.{probability_above, payoff_above}
 use Rattle.gf_form.proofs.lemmas.values.Denominators.{play_probability_above, play_payoff_above}
 use Rattle.gf_form.proofs.lemmas.values.Denominators.{worth_above}
@@ -20,15 +20,11 @@ sum_joined f above (x ∷ xs) ys =
 
 -- the plays from a parent on that follow choices: those of the child that do, if it is chosen
 module _ (choices : SetKey → ℕ) (n : Node) (k : ℕ) where
-  kept : (a b : Bool) (p : Play) (ps qs : List Play) → a ≡ true → ps ≡ map (from_node n k) qs
-      → cond (a && b) (from_node n k p ∷ ps) ps ≡ map (from_node n k) (cond b (p ∷ qs) qs)
-  kept a b p ps qs e h = grind arith
-
   pub followed_chosen : is_chosen choices (record { node = n; taken = k }) ≡ true → (ps : List Play)
       → filter (follows choices) (map (from_node n k) ps)
       ≡ map (from_node n k) (filter (follows choices) ps)
   followed_chosen e [] = refl
-  followed_chosen e (p ∷ ps) = grind (arith, kept, followed_chosen e ps)
+  followed_chosen e (p ∷ ps) = grind (arith, e, followed_chosen e ps)
 
   pub followed_other : is_chosen choices (record { node = n; taken = k }) ≡ false → (ps : List Play)
       → filter (follows choices) (map (from_node n k) ps) ≡ []

@@ -1,12 +1,11 @@
 -- The operations of a tree leave its value on the stack.
-use Rattle.gf_form.proofs.Common.{◌≡◌, ℕ, zero, suc, ◌+◌, Bool, List, [], ◌∷◌, ◌++◌, Option, Some}
-use Rattle.gf_form.proofs.Common.{None, refl, ◌∙◌, append_assoc, arith, ◌==◌, nat_eq, slice_get}
-use Rattle.gf_form.proofs.Common.{if◌then◌else◌, AllByRecursion, Ratio, zero_ratio, Tree, Trees}
-use Rattle.gf_form.proofs.Common.{branch, none, more, SetKey, Game, Node, payoff_at, chance_value}
-use Rattle.gf_form.proofs.Common.{chances_at, child_value, plus_of, times_of, value, value_over}
-use Rattle.gf_form.proofs.Common.{chance_code, child_code, code, code_over, paid, paid_at_node, run}
-use Rattle.gf_form.proofs.Common.{Op, Push, Begin, Nothing, Weigh, Pay, slice_get-get_or, eqb-true}
-use Rattle.gf_form.proofs.Common.{get_or, ap, sym}
+use Rattle.gf_form.proofs.Common.{◌≡◌, ℕ, zero, suc, ◌+◌, List, [], ◌∷◌, ◌++◌, Option, Some, None}
+use Rattle.gf_form.proofs.Common.{refl, ◌∙◌, append_assoc, arith, nat_eq, slice_get, AllByRecursion}
+use Rattle.gf_form.proofs.Common.{Ratio, zero_ratio, Tree, Trees, branch, none, more, SetKey, Game}
+use Rattle.gf_form.proofs.Common.{Node, payoff_at, chance_value, chances_at, child_value, plus_of}
+use Rattle.gf_form.proofs.Common.{times_of, value, chance_code, child_code, code, paid}
+use Rattle.gf_form.proofs.Common.{paid_at_node, run, Op, Push, Begin, Nothing, Weigh, Pay}
+use Rattle.gf_form.proofs.Common.{slice_get-get_or, eqb-true, get_or, ap, sym}
 use Rattle.std.specs.Prelude.{position}
 use Rattle.std.proofs.lemmas.List.Quantifiers.{position-Some}
 use Rattle.gf_tree.proofs.lemmas.stores.FoundKeys.{not_described}
@@ -27,41 +26,25 @@ paid_is g player n = grind (arith, not_described, place_is)
 -- ---- the operations of a tree
 
 module _ (g : Game) (choices : SetKey → ℕ) (player : ℕ) where
-  abbrev below_value : Node → Trees Node → SetKey → Option Ratio
-  below_value n ts key = if key.player == 0
-      then chance_value g choices player (chances_at g n) 1 (Some zero_ratio) ts
-      else child_value g choices player (choices key) ts
-
-  abbrev below_code : Node → Trees Node → SetKey → List Op
-  below_code n ts key = if key.player == 0
-      then Begin ∷ chance_code g choices (chances_at g n) 1 ts
-      else child_code g choices (choices key) ts
-
   abbrev Leaves : List Op → Option Ratio → Type 0
   Leaves ops v = (rest : List Op) (st : List (Option Ratio))
       → run g player (ops ++ rest) st ≡ run g player rest (v ∷ st)
 
-  over_runs : (own : ℕ) (pays : Ratio) (o : Option SetKey) (c : SetKey → List Op)
-      (v : SetKey → Option Ratio) → paid g player own ≡ pays
-      → ((key : SetKey) → Leaves (c key) (v key)) → Leaves (code_over own o c) (value_over pays o v)
-  over_runs own pays o c v is below rest st = grind (arith, is, below, append_assoc)
-
-  by_mover : (n : Node) (ts : Trees Node) (key : SetKey) (b : Bool) → (key.player == 0) ≡ b
+  node_runs : (n : Node) (ts : Trees Node)
       → ((sum : Option Ratio) (rest : List Op) (st : List (Option Ratio))
       → run g player (chance_code g choices (chances_at g n) 1 ts ++ rest) (sum ∷ st)
       ≡ run g player rest (chance_value g choices player (chances_at g n) 1 sum ts ∷ st))
-      → Leaves (child_code g choices (choices key) ts)
-      (child_value g choices player (choices key) ts)
-      → Leaves (below_code n ts key) (below_value n ts key)
-  by_mover n ts key b is chance child rest st = grind arith
+      → ((position : ℕ)
+      → Leaves (child_code g choices position ts) (child_value g choices player position ts))
+      → Leaves (code g choices (branch n ts)) (value g choices player (branch n ts))
+  node_runs n ts chance child rest st =
+      let own = paid_is g player n in
+      grind (arith, own, append_assoc, chance, child)
 
   mutual
     pub code_runs : (t : Tree Node) → Leaves (code g choices t) (value g choices player t)
     code_runs (branch n ts) =
-        over_runs (paid_at_node g n) (payoff_at g player n) n.set (below_code n ts)
-        (below_value n ts) (paid_is g player n)
-        (λ key. by_mover n ts key (key.player == 0) refl (chance_runs ts (chances_at g n) 1)
-        (child_runs ts (choices key)))
+        node_runs n ts (chance_runs ts (chances_at g n) 1) (child_runs ts)
 
     chance_runs : (ts : Trees Node) (chances : ℕ → Ratio) (k : ℕ) (sum : Option Ratio)
         (rest : List Op) (st : List (Option Ratio))

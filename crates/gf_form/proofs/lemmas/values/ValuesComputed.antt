@@ -139,10 +139,9 @@ module _ (g : Game) (spellable : IsSpellable g) (choices : SetKey → ℕ) (play
     child_agrees : (ts : Trees Node) (position : ℕ) (v : Ratio)
         → Agree (IsChildValue g choices player position ts)
         (child_value g choices player position ts) v
-    child_agrees none position v = (λ h. absurd h, (λ h. absurd h, λ e. absurd cc))
-    child_agrees (more t ts) zero v = (λ h. absurd h, (λ h. absurd h, λ e. absurd cc))
     child_agrees (more t ts) (suc zero) v = value_agrees t v
     child_agrees (more t ts) (suc (suc position)) v = child_agrees ts (suc position) v
+    child_agrees ts position v = (λ h. absurd h, (λ h. absurd h, λ e. absurd cc))
 
   pub value_is : (t : Tree Node) (v : Ratio)
       → IsValue g choices player t v ↔ (value g choices player t ≡ Some v)

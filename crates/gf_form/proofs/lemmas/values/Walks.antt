@@ -8,7 +8,7 @@ use Rattle.gf_form.proofs.Common.{one_ratio, at_position, Tree, Trees, branch, n
 use Rattle.gf_form.proofs.Common.{SetKey, player_keys, Game, IsGame, Node, set_at, flatten}
 use Rattle.gf_form.proofs.Common.{flatten_all, child_trees, list_of, root_node, AreDistinct}
 use Rattle.gf_form.proofs.Common.{first_uses_distinct, sets_by_first_use, same_set_equality}
-use Rattle.gf_form.proofs.Common.{chance_code, child_code, code, code_over, paid_at_node, choice_at}
+use Rattle.gf_form.proofs.Common.{chance_code, child_code, code, paid_at_node, choice_at}
 use Rattle.gf_form.proofs.Common.{choices_by, strategy_at, chances_at, Op, Begin, Nothing, Pay}
 use Rattle.gf_form.proofs.Common.{has_at}
 use Rattle.gf_tree.specs.Actions.{action_of, actions_of}
@@ -29,22 +29,18 @@ module _ (g : Game) (choices : SetKey → ℕ) where
   child_list (more t ts) (suc (suc position)) = child_list ts (suc position)
   child_list ts position = grind arith
 
-  over_some : (own : ℕ) (o : Option SetKey) (below : SetKey → List Op) (key : SetKey)
-      → o ≡ Some key → code_over own o below ≡ below key ++ Pay own ∷ []
-  over_some own o below key is = grind arith
-
   pub code_of_chance : (t : Tree Node) (key : SetKey) → (root_node t).set ≡ Some key
       → key.player ≡ 0
       → code g choices t ≡ Begin ∷ (list_code g choices (chances_at g (root_node t)) 1
       (child_trees t) ++ Pay (paid_at_node g (root_node t)) ∷ [])
-  code_of_chance (branch n ts) key is chance = grind (arith, over_some, eq-eqb, chance_list)
+  code_of_chance (branch n ts) key is chance = grind (arith, is, eq-eqb, chance_list)
 
   pub code_of_player : (t : Tree Node) (key : SetKey) → (root_node t).set ≡ Some key
       → ¬ (key.player ≡ 0)
       → code g choices t ≡ option_code g choices (at_position (child_trees t) (choices key))
       ++ Pay (paid_at_node g (root_node t)) ∷ []
   code_of_player (branch n ts) key is personal =
-      grind (arith, over_some, false_from_ne_true, child_list)
+      grind (arith, is, false_from_ne_true, child_list)
 
 -- ---- what is open
 

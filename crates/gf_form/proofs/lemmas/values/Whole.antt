@@ -1,8 +1,8 @@
 -- The plays that follow choices of actions have probability one in all, so there are some.
-use Rattle.gf_form.proofs.Common.{◌≡◌, ℕ, zero, suc, ◌+◌, ◌<◌, ◌≤◌, Bool, true, false, List, []}
-use Rattle.gf_form.proofs.Common.{◌∷◌, Option, Some, None, MatchOption, length, map, refl, sym}
-use Rattle.gf_form.proofs.Common.{subst, arith, inl, ◌==◌, option_map, AllByRecursion, Contains}
-use Rattle.gf_form.proofs.Common.{Ratio, IsEqual, zero_ratio, one_ratio, times, total, all_parts}
+use Rattle.gf_form.proofs.Common.{◌≡◌, ℕ, zero, suc, ◌+◌, ◌<◌, ◌≤◌, true, false, List, [], ◌∷◌}
+use Rattle.gf_form.proofs.Common.{Option, Some, None, MatchOption, length, map, refl, sym, subst}
+use Rattle.gf_form.proofs.Common.{arith, inl, ◌==◌, option_map, AllByRecursion, Contains, Ratio}
+use Rattle.gf_form.proofs.Common.{IsEqual, zero_ratio, one_ratio, times, total, all_parts}
 use Rattle.gf_form.proofs.Common.{equal_refl, times_comm, times_one, IsAbove, ◌then◌, back}
 use Rattle.gf_form.proofs.Common.{times_left, times_right, numbers_from, Tree, Trees, count, branch}
 use Rattle.gf_form.proofs.Common.{none, more, flatten, flatten_all, SetKey, InformationSet, Node}
@@ -119,13 +119,7 @@ module _ (g : Game) (game : IsGame g) (spellable : IsSpellable g) (choices : Set
       → IsWhole (followed_in choices (branch n ts))
   node_whole n ts actions children chances child =
       node_by IsWhole n ts children (λ _. leaf_whole n)
-      (λ key at. by_kind key (key.player == 0) at refl)
-    where
-      by_kind : (key : SetKey) (b : Bool) → n.set ≡ Some key → (key.player == 0) ≡ b
-          → option_map (λ set. length set.actions) (set_at g key) ≡ Some (count ts)
-          → IsWhole (followed choices n 1 ts)
-      by_kind key true at is c = grind (arith, chance_whole)
-      by_kind key false at is c = grind arith
+      (λ key at c. grind (arith, at, c, chance_whole n ts key))
 
   mutual
     tree_whole : HasActions g choices → (t : Tree Node) → AllByRecursion (HasChildren g) (flatten t)

@@ -1,8 +1,8 @@
 -- Zero added to a fraction, and its multiples.
 use Rattle.gf_form.proofs.Common.{◌≡◌, ℕ, pos, ◌*◌, ◌/◌, sym, ap, subst, ◌∙◌, arith, Some, ℤ, ◌*ℤ◌}
-use Rattle.gf_form.proofs.Common.{*ℤ_comm, *ℤ-zero, Ratio, IsFraction, zero_ratio, IsLcm, IsSum}
-use Rattle.gf_form.proofs.Common.{SumFits, scaled_num, product_of, product_of-some, sum_of-some}
-use Rattle.gf_form.proofs.Common.{*ℤ-one, IsLcm-from_gcd}
+use Rattle.gf_form.proofs.Common.{*ℤ_comm, *ℤ-zero, Ratio, IsFraction, zero_ratio, IsLcm}
+use Rattle.gf_form.proofs.Common.{scaled_num, product_of, product_of-some, sum_of-some, *ℤ-one}
+use Rattle.gf_form.proofs.Common.{IsLcm-from_gcd}
 use Rattle.std.proofs.Math.Nat.{div_self}
 use Rattle.gf_fraction.specs.Computed.{sum_of}
 use Rattle.gf_fraction.proofs.Divisors.{IsGcd-one_right}
@@ -31,23 +31,15 @@ module _ (x : Ratio) (f : IsFraction x) where
     least = λ k a b. lcm_right.least k b a;
   }
 
-  fits_right : SumFits x zero_ratio
-  fits_right = grind (arith, lcm_right, own_scale, zero_scale)
-
-  fits_left : SumFits zero_ratio x
-  fits_left = grind (arith, lcm_left, zero_scale, own_scale)
-
-  sum_right : IsSum x x zero_ratio
-  sum_right = grind arith
-
-  sum_left : IsSum x zero_ratio x
-  sum_left = grind arith
-
   pub plus_zero : sum_of x zero_ratio ≡ Some x
-  plus_zero = sum_of-some x zero_ratio f zero_fraction x fits_right f sum_right
+  plus_zero =
+      sum_of-some x zero_ratio f zero_fraction x (grind (arith, lcm_right, own_scale, zero_scale)) f
+      (grind arith)
 
   pub zero_plus : sum_of zero_ratio x ≡ Some x
-  zero_plus = sum_of-some zero_ratio x zero_fraction f x fits_left f sum_left
+  zero_plus =
+      sum_of-some zero_ratio x zero_fraction f x (grind (arith, lcm_left, zero_scale, own_scale)) f
+      (grind arith)
 
   -- no numerator, no product
   pub none_times : x.num ≡ pos 0 → (y : Ratio) → IsFraction y → product_of x y ≡ Some zero_ratio
