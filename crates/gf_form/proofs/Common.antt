@@ -46,7 +46,7 @@ pub use Rattle.gf_form.specs.inner.reduced.OwnDigits.{digits_from, own_steps}
 pub use Rattle.gf_form.specs.inner.reduced.Relevance.{FindRelevance}
 pub use Rattle.gf_form.specs.inner.reduced.Search.{AreFirstBelow, AreFoundTo, AreInTurn}
 pub use Rattle.gf_form.specs.inner.reduced.Search.{AreLabelledTo, AreOwn, HaveChoices, HaveNumbers}
-pub use Rattle.gf_form.specs.inner.reduced.Search.{IsElsewhere, IsKept, IsLast, IsNextBelow}
+pub use Rattle.gf_form.specs.inner.reduced.Search.{IsElsewhere, IsHere, IsKept, IsLast, IsNextBelow}
 pub use Rattle.gf_form.specs.inner.reduced.Search.{IsSearched, IsToldBy, IsWritten, actions_of}
 pub use Rattle.gf_form.specs.inner.reduced.Search.{digit_at, is_relevant_at, is_settled, numbered}
 pub use Rattle.gf_form.specs.inner.reduced.Shown.{chooses_first, is_first, relevant_sets, shown}

@@ -9,7 +9,7 @@ ghost use Rattle.gf_form.specs.inner.reduced.Firsts.{AreFirsts, AreFirstsOf};
 ghost use Rattle.gf_form.specs.inner.reduced.OwnDigits.{digits_from};
 ghost use Rattle.gf_form.specs.inner.reduced.Relevance.{FindRelevance};
 ghost use Rattle.gf_form.specs.inner.reduced.Search.{AreFirstBelow, AreFoundTo, AreOwn};
-ghost use Rattle.gf_form.specs.inner.reduced.Search.{HaveChoices, IsSearched, digit_at};
+ghost use Rattle.gf_form.specs.inner.reduced.Search.{HaveChoices, IsHere, IsSearched, digit_at};
 ghost use Rattle.gf_form.specs.inner.reduced.Visits.{AreWithin};
 ghost use Rattle.gf_form.specs.Reduced.{reduced_labels};
 ghost use Rattle.gf_form.specs.Strategies.{action_counts, players_of, strategies};
@@ -31,6 +31,21 @@ pub(crate) struct Player<'q, 'a> {
     pub game: &'q Game<'a>,
     pub number: u32,
     pub digits: Vec<OwnDigit>,
+}
+
+impl<'q, 'a> Player<'q, 'a> {
+    /// The digit at this depth; `None` if all are above it.
+    #[tactic(auto, using(crate::proofs::lemmas::reduced::SearchSteps::digit_here))]
+    pub(crate) fn digit(&self, depth: usize) -> Option<OwnDigit>
+        requires { depth ≤ length self.now.digits.items }
+        ensures { MatchOption result (depth ≡ length self.now.digits.items)
+            (IsHere self.now.digits.items depth) }
+    {
+        if depth == self.digits.len() {
+            return None;
+        }
+        Some(self.digits[depth])
+    }
 }
 
 /// A search for the first strategies of a player that reduce to each of his reduced ones. It
@@ -123,10 +138,9 @@ impl Search {
         if !are_set(&self.met[..depth]) {
             return Ok(());
         }
-        if depth == player.digits.len() {
+        let Some(digit) = player.digit(depth) else {
             return self.push_all(player, number, count);
-        }
-        let digit = player.digits[depth];
+        };
         let each = count / digit.actions;
         let tried = self.actions_tried(depth, digit);
         let mut left = match self.spare.pop() {

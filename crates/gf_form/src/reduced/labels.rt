@@ -156,10 +156,9 @@ impl Labelling {
             numbers.now self.new.labels (number + count)) }
     {
         let _players = player.game.players();
-        if depth == player.digits.len() {
+        let Some(digit) = player.digit(depth) else {
             return self.push_label(player, numbers, level, number);
-        }
-        let digit = player.digits[depth];
+        };
         let each = count / digit.actions;
         let mut left = match self.spare.pop() {
             Some(level) => level,

@@ -6,17 +6,7 @@ use Rattle.gf_form.proofs.Common.{eqb-true, eqb-false, ne_eqb, AreOwn, digit_at}
 use Rattle.gf_form.proofs.Common.{digits_from, is_met_on, OwnDigit, Visit}
 use Rattle.std.proofs.lemmas.List.Folds.{list_any_more}
 use Rattle.gf_form.proofs.lemmas.reduced.LevelsChosen.{no_visit}
-
--- ---- places of digits
-
-pub place_from : (p : ℕ) (counts : List ℕ) (j : ℕ) → j < length (digits_from p counts)
-    → p + j ≤ (digit_at (digits_from p counts) j).place
-place_from p (suc (suc n) ∷ counts) zero less = omega arith
-place_from p (suc (suc n) ∷ counts) (suc j) less =
-    omega (arith, place_from (p + 1) counts j (omega (arith, less)))
-place_from p (suc zero ∷ counts) j less = omega (arith, place_from (p + 1) counts j less)
-place_from p (zero ∷ counts) j less = omega (arith, place_from (p + 1) counts j less)
-place_from p [] j less = absurd (omega (arith, less))
+use Rattle.gf_form.proofs.lemmas.reduced.SearchEnds.{digit_inside}
 
 -- digits with one place are one
 one_digit : (p : ℕ) (counts : List ℕ) (i j : ℕ) → i < length (digits_from p counts)
@@ -25,9 +15,9 @@ one_digit : (p : ℕ) (counts : List ℕ) (i j : ℕ) → i < length (digits_fro
     → i ≡ j
 one_digit p (suc (suc n) ∷ counts) zero zero hi hj e = omega arith
 one_digit p (suc (suc n) ∷ counts) zero (suc j) hi hj e =
-    absurd (omega (arith, e, place_from (p + 1) counts j (omega (arith, hj))))
+    absurd (omega (arith, e, (digit_inside (p + 1) counts j (omega (arith, hj))).0))
 one_digit p (suc (suc n) ∷ counts) (suc i) zero hi hj e =
-    absurd (omega (arith, e, place_from (p + 1) counts i (omega (arith, hi))))
+    absurd (omega (arith, e, (digit_inside (p + 1) counts i (omega (arith, hi))).0))
 one_digit p (suc (suc n) ∷ counts) (suc i) (suc j) hi hj e =
     ap suc (one_digit (p + 1) counts i j (omega (arith, hi)) (omega (arith, hj)) e)
 one_digit p (suc zero ∷ counts) i j hi hj e = one_digit (p + 1) counts i j hi hj e

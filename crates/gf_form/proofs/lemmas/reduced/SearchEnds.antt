@@ -6,7 +6,7 @@ use Rattle.gf_form.proofs.Common.{if◌then◌else◌, list_any, drop_of_length-
 use Rattle.gf_form.proofs.Common.{false_from_ne_true, length-map, player_keys}
 use Rattle.gf_form.proofs.Common.{Game, IsGame, action_counts, choice_at, strategies, is_relevant}
 use Rattle.gf_form.proofs.Common.{can_be_met, is_left, digits_from, AreFoundTo, AreFirstBelow}
-use Rattle.gf_form.proofs.Common.{HaveChoices, IsSearched, IsToldBy, actions_of, digit_at, numbered}
+use Rattle.gf_form.proofs.Common.{HaveChoices, IsHere, IsSearched, IsToldBy, actions_of, digit_at, numbered}
 use Rattle.gf_form.proofs.Common.{is_relevant_at, is_settled, is_first, relevant_sets, is_met}
 use Rattle.gf_form.proofs.Common.{OwnDigit, Level, Visit, mul-le-mul_right}
 use Rattle.std.proofs.lemmas.Bool.Decides.{nat_tests}
@@ -16,7 +16,7 @@ use Rattle.gf_form.proofs.lemmas.strategies.Choices.{length-all_choices}
 use Rattle.gf_form.proofs.lemmas.strategies.CountedActions.{sets_counted}
 use Rattle.gf_form.proofs.lemmas.reduced.FirstNumbers.{chooses_all, first_where, passed_by}
 use Rattle.gf_form.proofs.lemmas.reduced.FirstStrategies.{flags_fit}
-use Rattle.gf_form.proofs.lemmas.reduced.SearchSteps.{IsHere, all_rows, choices_here, moved}
+use Rattle.gf_form.proofs.lemmas.reduced.SearchSteps.{all_rows, choices_here, moved}
 use Rattle.gf_form.proofs.lemmas.reduced.SearchSteps.{some_actions}
 
 -- ---- sets that can be met
@@ -50,26 +50,29 @@ left_all position level =
 digit_there : (p : ℕ) (counts : List ℕ) (k : ℕ) → k < length counts → 1 < get_or counts k 0
     → (j : ℕ) × (j < length (digits_from p counts))
     × ((digit_at (digits_from p counts) j).place ≡ p + k)
+digit_there p (n ∷ counts) (suc k) less several =
+    let d = digit_there (p + 1) counts k (omega (arith, less)) several in
+    by n d.0 d.1 (omega (arith, d.2))
+  where
+    by : (n j : ℕ) → j < length (digits_from (p + 1) counts)
+        → (digit_at (digits_from (p + 1) counts) j).place ≡ p + suc k
+        → (j : ℕ) × (j < length (digits_from p (n ∷ counts)))
+        × ((digit_at (digits_from p (n ∷ counts)) j).place ≡ p + suc k)
+    by zero j inside is = (j, inside, is)
+    by (suc zero) j inside is = (j, inside, is)
+    by (suc (suc n)) j inside is = (suc j, omega (arith, inside), omega (arith, is))
 digit_there p (suc (suc n) ∷ counts) zero less several = (0, omega arith, omega arith)
-digit_there p (zero ∷ counts) (suc k) less several =
-    let d = digit_there (p + 1) counts k (omega (arith, less)) several in
-    (d.0, d.1, omega (arith, d.2))
-digit_there p (suc zero ∷ counts) (suc k) less several =
-    let d = digit_there (p + 1) counts k (omega (arith, less)) several in
-    (d.0, d.1, omega (arith, d.2))
-digit_there p (suc (suc n) ∷ counts) (suc k) less several =
-    let d = digit_there (p + 1) counts k (omega (arith, less)) several in
-    (suc d.0, omega (arith, d.1), omega (arith, d.2))
-digit_there p counts k less several = absurd (omega (arith, less, several))
+digit_there p counts zero less several = absurd (grind arith)
+digit_there p [] (suc k) less several = absurd (omega (arith, less))
 
 -- its set is one of the player's
 pub digit_inside : (p : ℕ) (counts : List ℕ) (j : ℕ) → j < length (digits_from p counts)
-    → (digit_at (digits_from p counts) j).place < p + length counts
-digit_inside p (suc (suc n) ∷ counts) zero less = omega arith
-digit_inside p (suc (suc n) ∷ counts) (suc j) less =
-    omega (arith, digit_inside (p + 1) counts j (omega (arith, less)))
-digit_inside p (suc zero ∷ counts) j less = omega (arith, digit_inside (p + 1) counts j less)
-digit_inside p (zero ∷ counts) j less = omega (arith, digit_inside (p + 1) counts j less)
+    → (p + j ≤ (digit_at (digits_from p counts) j).place)
+    × ((digit_at (digits_from p counts) j).place < p + length counts)
+digit_inside p (n ∷ counts) zero less =
+    grind (arith, digit_inside (p + 1) counts 0)
+digit_inside p (n ∷ counts) (suc j) less =
+    grind (arith, digit_inside (p + 1) counts j, digit_inside (p + 1) counts (suc j))
 digit_inside p [] j less = absurd (omega (arith, less))
 
 -- ---- first strategies
@@ -108,7 +111,7 @@ module _ (g : Game) (game : IsGame g) (player : ℕ) where
   module _ (digits : List OwnDigit) (are : digits ≡ digits_from 0 counts) where
     pub place_inside : (j : ℕ) → j < length digits → (digit_at digits j).place < length counts
     place_inside j less =
-        let inside = digit_inside 0 counts j (rw are at less) in rw are (omega (arith, inside))
+        let inside = (digit_inside 0 counts j (rw are at less)).1 in rw are (omega (arith, inside))
 
     settled_first : (depth n : ℕ) → n < length all
         → ((j : ℕ) → j < length digits → is_settled g player digits depth n (suc j) ≡ true)

@@ -6,14 +6,14 @@ use Rattle.gf_form.proofs.Common.{eqb-false, drop_of_length-le, get_or-set_at, g
 use Rattle.gf_form.proofs.Common.{length-set, length-append, take_more, map-append, Game, IsGame}
 use Rattle.gf_form.proofs.Common.{player_keys, reduced, reduced_label, strategies}
 use Rattle.gf_form.proofs.Common.{IsLevel, IsChosen, can_be_met, relevant_sets, shown, AreInTurn}
-use Rattle.gf_form.proofs.Common.{AreLabelledTo, HaveChoices, IsElsewhere, IsKept, IsLast}
+use Rattle.gf_form.proofs.Common.{AreLabelledTo, HaveChoices, IsElsewhere, IsHere, IsKept, IsLast}
 use Rattle.gf_form.proofs.Common.{IsNextBelow, IsToldBy, IsWritten, actions_of, is_relevant_at}
 use Rattle.gf_form.proofs.Common.{numbered, product, OwnDigit, Level}
 use Rattle.std.proofs.lemmas.List.{ext_get_or}
 use Rattle.gf_form.proofs.lemmas.strategies.CountedActions.{sets_counted}
 use Rattle.gf_form.proofs.lemmas.reduced.FirstStrategies.{flags_fit, reduced_shown_at}
 use Rattle.gf_form.proofs.lemmas.reduced.SearchEnds.{left_all, long}
-use Rattle.gf_form.proofs.lemmas.reduced.SearchSteps.{IsHere, chosen_there, each_is, next_choices}
+use Rattle.gf_form.proofs.lemmas.reduced.SearchSteps.{chosen_there, each_is, next_choices}
 use Rattle.gf_form.proofs.lemmas.reduced.SearchSteps.{next_told, row_end, there}
 
 -- ---- at a digit

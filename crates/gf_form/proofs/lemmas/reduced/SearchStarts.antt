@@ -28,18 +28,12 @@ use Rattle.gf_form.proofs.lemmas.reduced.SearchEnds.{alone, place_inside}
 
 actions_from : (p : ℕ) (counts : List ℕ) → actions_of (digits_from p counts) ≡ picked counts counts
 actions_from p [] = refl
-actions_from p (zero ∷ counts) = actions_from (p + 1) counts
-actions_from p (suc zero ∷ counts) = actions_from (p + 1) counts
-actions_from p (suc (suc n) ∷ counts) =
-    ap (λ (l : List ℕ). suc (suc n) ∷ l) (actions_from (p + 1) counts)
+actions_from p (n ∷ counts) = grind (arith, actions_from (p + 1) counts)
 
 steps_from : (p : ℕ) (counts : List ℕ)
     → map (λ d. d.step) (digits_from p counts) ≡ steps_of (picked counts counts)
 steps_from p [] = refl
-steps_from p (zero ∷ counts) = steps_from (p + 1) counts
-steps_from p (suc zero ∷ counts) = steps_from (p + 1) counts
-steps_from p (suc (suc n) ∷ counts) =
-    ap (λ (l : List ℕ). product (spans (picked counts counts)) ∷ l) (steps_from (p + 1) counts)
+steps_from p (n ∷ counts) = grind (arith, steps_from (p + 1) counts)
 
 places_from : (all rest : List ℕ) (p : ℕ) (counts : List ℕ) → drop p all ≡ rest
     → length rest ≡ length counts
@@ -47,25 +41,16 @@ places_from : (all rest : List ℕ) (p : ℕ) (counts : List ℕ) → drop p all
 places_from all rest p [] is long = grind arith
 places_from all [] p (n ∷ counts) is long = absurd (omega (arith, long))
 places_from all (x ∷ rest) p (n ∷ counts) is long =
-    by n (places_from all rest (p + 1) counts (sym (drop-drop 1 p all) ∙ ap (drop 1) is)
-    (omega (arith, long)))
-  where
-    first : get_or all p 0 ≡ x
-    first = grind (arith, get_or-drop p all 0 0)
-
-    by : (n : ℕ)
-        → map (λ d. get_or all d.place 0) (digits_from (p + 1) counts) ≡ picked counts rest
-        → map (λ d. get_or all d.place 0) (digits_from p (n ∷ counts))
-        ≡ picked (n ∷ counts) (x ∷ rest)
-    by zero others = others
-    by (suc zero) others = others
-    by (suc (suc n)) others = λ i. first i ∷ others i
+    grind (
+      arith,
+      get_or-drop p all 0 0,
+      places_from all rest (p + 1) counts (sym (drop-drop 1 p all) ∙ ap (drop 1) is)
+          (omega (arith, long)),
+    )
 
 positive_picked : (counts : List ℕ) → ArePositive counts → ArePositive (picked counts counts)
 positive_picked [] h = tt
-positive_picked (zero ∷ counts) h = positive_picked counts h.1
-positive_picked (suc zero ∷ counts) h = positive_picked counts h.1
-positive_picked (suc (suc n) ∷ counts) h = (h.0, positive_picked counts h.1)
+positive_picked (n ∷ counts) h = grind (arith, positive_picked counts h.1)
 
 -- there are fewer than strategies
 pub few_digits : (p : ℕ) (counts : List ℕ)
@@ -84,15 +69,12 @@ few_digits p (suc (suc n) ∷ counts) =
 -- a set that has no digit has one action
 elsewhere_alone : (p : ℕ) (counts : List ℕ) (k place : ℕ) → place ≡ p + k → k < length counts
     → IsElsewhere place (digits_from p counts) → get_or counts k 0 ≤ 1
-elsewhere_alone p (zero ∷ counts) zero place is less h = omega arith
-elsewhere_alone p (suc zero ∷ counts) zero place is less h = omega arith
-elsewhere_alone p (suc (suc n) ∷ counts) zero place is less h = absurd (h.0 (omega (arith, is)))
-elsewhere_alone p (zero ∷ counts) (suc k) place is less h =
-    elsewhere_alone (p + 1) counts k place (omega (arith, is)) (omega (arith, less)) h
-elsewhere_alone p (suc zero ∷ counts) (suc k) place is less h =
-    elsewhere_alone (p + 1) counts k place (omega (arith, is)) (omega (arith, less)) h
-elsewhere_alone p (suc (suc n) ∷ counts) (suc k) place is less h =
-    elsewhere_alone (p + 1) counts k place (omega (arith, is)) (omega (arith, less)) h.1
+elsewhere_alone p (n ∷ counts) zero place is less h = grind arith
+elsewhere_alone p (n ∷ counts) (suc k) place is less h =
+    grind (
+      arith,
+      elsewhere_alone (p + 1) counts k place (omega (arith, is)) (omega (arith, less)),
+    )
 elsewhere_alone p [] k place is less h = absurd (omega (arith, less))
 
 -- ---- before the first choice

@@ -5,8 +5,8 @@ use Rattle.gf_form.proofs.Common.{arith, add-one, drop-cons, ◌==◌, ◌||◌,
 use Rattle.gf_form.proofs.Common.{div-add-mod, div-lt_iff_lt-mul, mod-lt, mul-div_cancel_left}
 use Rattle.gf_form.proofs.Common.{mul_comm, mul-le-mul_right, product, Game, all_choices, spans}
 use Rattle.gf_form.proofs.Common.{steps_of, IsChosen, ArePositive, IsLevel, is_left, OwnDigit}
-use Rattle.gf_form.proofs.Common.{Level, HaveChoices, IsChosenAt, IsSearched, IsToldBy, actions_of}
-use Rattle.gf_form.proofs.Common.{digit_at, is_relevant_at, is_settled, numbered}
+use Rattle.gf_form.proofs.Common.{Level, HaveChoices, IsChosenAt, IsHere, IsSearched, IsToldBy}
+use Rattle.gf_form.proofs.Common.{actions_of, digit_at, is_relevant_at, is_settled, numbered}
 use Rattle.std.specs.Prelude.{nat_le}
 use Rattle.std.proofs.lemmas.Bool.Decides.{nat_tests}
 use Rattle.gf_form.proofs.lemmas.rows.DemandDigits.{spans_above}
@@ -159,15 +159,10 @@ module _ {g : Game} {player number count : ℕ} {d : OwnDigit} {faster : List Ow
 
 -- ---- the digit at a depth
 
-pub record IsHere (digits : List OwnDigit) (depth : ℕ) (d : OwnDigit) : Type 0 where
-  pub deep : depth < length digits
-  pub left : drop depth digits ≡ d ∷ drop (suc depth) digits
-  pub is : digit_at digits depth ≡ d
-
-pub digit_here : (digits : List OwnDigit) (depth all : ℕ) (d : OwnDigit) → depth ≤ length digits
-    → ¬ (depth ≡ all) → all ≡ length digits → d ≡ get_or digits depth d → IsHere digits depth d
-digit_here digits depth all d upto other all_is is =
-    let deep : depth < length digits = omega (arith, upto, other, all_is) in
+pub digit_here : (digits : List OwnDigit) (depth : ℕ) (d : OwnDigit) → depth ≤ length digits
+    → ¬ (depth ≡ length digits) → d ≡ get_or digits depth d → IsHere digits depth d
+digit_here digits depth d upto other is =
+    let deep : depth < length digits = omega (arith, upto, other) in
     record {
       deep = deep;
       left = drop-cons digits depth d deep

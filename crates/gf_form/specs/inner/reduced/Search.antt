@@ -1,6 +1,6 @@
 -- A search for the first strategies of a player, digit by digit, and another one for their labels.
 use Rattle.std.specs.Prelude.{◌≡◌, ◌≤◌, ◌<◌, ◌+◌, ◌-◌, ◌^◌, ◌==◌, ◌&&◌, ◌||◌, ℕ, suc, Bool, false}
-use Rattle.std.specs.Prelude.{true, List, [], drop, filter, get_or, length, map, nat_le, take}
+use Rattle.std.specs.Prelude.{true, List, [], ◌∷◌, drop, filter, get_or, length, map, nat_le, take}
 use Rattle.std.specs.List.{AllByRecursion}
 use Rattle.gf_nfg.specs.Profiles.{product}
 use Rattle.gf_tree.specs.FirstUse.{player_keys}
@@ -20,6 +20,12 @@ use Rattle.gf_form.specs.declared.reduced.visits.Visit.{Visit}
 
 abbrev pub digit_at : List OwnDigit → ℕ → OwnDigit
 digit_at digits k = get_or digits k (record { place = 0; step = 0; actions = 0 })
+
+-- the digit at this depth
+pub record IsHere (digits : List OwnDigit) (depth : ℕ) (d : OwnDigit) : Type 0 where
+  pub deep : depth < length digits
+  pub left : drop depth digits ≡ d ∷ drop (suc depth) digits
+  pub is : digit_at digits depth ≡ d
 
 -- how many actions there are at each digit
 abbrev pub actions_of : List OwnDigit → List ℕ

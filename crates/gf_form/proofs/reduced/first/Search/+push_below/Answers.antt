@@ -3,7 +3,7 @@ use Rattle.gf_form.proofs.Common.{subst, sym, get_or-take, length-take-le, IsCho
 use Rattle.gf_form.proofs.Common.{AreFoundTo}
 use Rattle.gf_form.proofs.lemmas.reduced.SearchEnds.{all_found, known_firsts, last_firsts}
 use Rattle.gf_form.proofs.lemmas.reduced.SearchEnds.{none_found}
-use Rattle.gf_form.proofs.lemmas.reduced.SearchSteps.{choices_here, digit_here}
+use Rattle.gf_form.proofs.lemmas.reduced.SearchSteps.{choices_here}
 use Rattle.gf_form.proofs.lemmas.reduced.SearchSteps.{next_searched, some_actions, step_fits}
 use Rattle.gf_form.proofs.reduced.first.Search.+push_below.Goals as goal
 
@@ -13,14 +13,14 @@ push_all-requires-clause-firsts t c =
     c.requires.below
     ((rw c.deref.ensures.value at c.are_set.ensures.set) c.if-are_set.true)
 
-pub push_all-requires-then-depth-len-clause-firsts
-    : goal.push_all-requires-then-depth-len-clause-firsts
-push_all-requires-then-depth-len-clause-firsts t c =
+pub push_all-requires-in_default-clause-firsts
+    : goal.push_all-requires-in_default-clause-firsts
+push_all-requires-in_default-clause-firsts t c =
     let met = c.mark.new.met.items in
     let wide = c.in_ok-mark.ensures.counted ∙ c.requires.below.told.levelled.has.counted in
     last_firsts _ c.players-players.ensures.is_game _ _ c.requires.below.digits_are _ _ _ _
     c.requires.below met c.in_ok-mark.ensures.marks
-    (c.if-depth-len.true ∙ c.len.ensures ∙ c.args.player.now.digits.ok.0)
+    c.in_default.ensures
     (λ k early. sym (get_or-take c.args.depth met k false early)
     ∙ (rw c.deref-2.ensures.value at c.are_set-2.ensures.set) c.if-not-are_set.false k
     (omega (
@@ -48,30 +48,26 @@ returns-then-not-are_set t c =
 
 pub nonzero_div-each : goal.nonzero_div-each
 nonzero_div-each t c =
-    some_actions (choices_here c.requires.below (digit_here _ _ _ _ c.requires.below.deep
-    c.if-depth-len.false (c.len.ensures ∙ c.args.player.now.digits.ok.0) c.index-digit.ensures))
+    some_actions (choices_here c.requires.below c.in-Some.ensures)
 
 pub choose_at-requires-clause-fits : goal.choose_at-requires-clause-fits
 choose_at-requires-clause-fits t c =
-    subst (λ (a : ℕ). a * c.index-digit.result.now.step + c.index-digit.result.now.step < 2 ^ 64)
+    subst (λ (a : ℕ). a * c.in-Some.digit.step + c.in-Some.digit.step < 2 ^ 64)
     (sym c.from.ensures)
-    (step_fits (choices_here c.requires.below (digit_here _ _ _ _ c.requires.below.deep
-    c.if-depth-len.false (c.len.ensures ∙ c.args.player.now.digits.ok.0) c.index-digit.ensures))
+    (step_fits (choices_here c.requires.below c.in-Some.ensures)
     (c.loop-before.before + 1)
     (omega (arith, c.loop-before-test.true, c.actions_tried-tried.ensures.upto)))
 
 pub push_below-requires : goal.push_below-requires
 push_below-requires t c =
-    let len = c.len.ensures ∙ c.args.player.now.digits.ok.0 in
     let left = c.choose_at.new.self in (
-      omega (arith, c.decreases, c.requires.below.deep, c.if-depth-len.false, len),
+      omega (arith, c.decreases, c.in-Some.ensures.deep),
       (
-        next_searched c.requires.below (digit_here _ _ _ _ c.requires.below.deep
-            c.if-depth-len.false len c.index-digit.ensures) c.loop-before.before
+        next_searched c.requires.below c.in-Some.ensures c.loop-before.before
             (omega (arith, c.loop-before-test.true, c.actions_tried-tried.ensures.upto)) left
             (subst (λ (sets : ℕ). IsLevel sets left) c.requires.below.told.levelled.has.counted
             c.in_ok-choose_at.ensures.level)
-            (subst (λ (a : ℕ). IsChosenAt c.args.depth c.index-digit.result.now.step a
+            (subst (λ (a : ℕ). IsChosenAt c.args.depth c.in-Some.digit.step a
             c.args.level.now left) c.from.ensures c.in_ok-choose_at.ensures.chosen),
         c.loop-before.invariant,
       ),
@@ -79,7 +75,7 @@ push_below-requires t c =
 
 pub loop-before-init : goal.loop-before-init
 loop-before-init t c =
-    let none : c.args.number ≡ c.args.number + 0 * (c.args.count / c.index-digit.result.now.actions)
+    let none : c.args.number ≡ c.args.number + 0 * (c.args.count / c.in-Some.digit.actions)
     = omega arith in
     subst (AreFoundTo c.args.player.now.game.now c.args.player.now.number
     c.args.self.now.numbers.items) none c.requires.found
@@ -87,7 +83,7 @@ loop-before-init t c =
 pub loop-before-preserved : goal.loop-before-preserved
 loop-before-preserved t c =
     let before = c.loop-before.before in
-    let each = c.args.count / c.index-digit.result.now.actions in
+    let each = c.args.count / c.in-Some.digit.actions in
     let row : c.args.number + before * each + each ≡ c.args.number + (before + 1) * each =
     omega arith in
     subst (AreFoundTo c.args.player.now.game.now c.args.player.now.number
@@ -99,7 +95,6 @@ returns t c =
     omega (arith, c.loop-before-test.false, c.loop-before.auto.before-end) in record {
       found = all_found _ c.players-players.ensures.is_game _ _ c.requires.below.digits_are _ _ _ _
           c.requires.below _ c.in_ok-mark.ensures.marks
-          (digit_here _ _ _ _ c.requires.below.deep c.if-depth-len.false
-          (c.len.ensures ∙ c.args.player.now.digits.ok.0) c.index-digit.ensures)
+          c.in-Some.ensures
           (end ∙ c.actions_tried-tried.ensures.all) _ c.loop-before.invariant;
     }

@@ -3,31 +3,31 @@ use Rattle.gf_form.proofs.Common.{ap, refl, get_or, on_ok_weaker, OnOk, Vec, Glo
 use Rattle.gf_form.proofs.Common.{AreLabelledTo}
 use Rattle.gf_form.proofs.lemmas.reduced.SearchLabels.{choices_at, kept_more, last_written}
 use Rattle.gf_form.proofs.lemmas.reduced.SearchLabels.{next_written, place_there}
-use Rattle.gf_form.proofs.lemmas.reduced.SearchSteps.{all_rows, digit_here, some_actions}
+use Rattle.gf_form.proofs.lemmas.reduced.SearchSteps.{all_rows, some_actions}
 use Rattle.gf_form.proofs.lemmas.reduced.SearchSteps.{step_fits}
 use Rattle.gf_form.proofs.reduced.labels.Labelling.+push_below.Goals as goal
 
 pub push_label-requires-clause-last : goal.push_label-requires-clause-last
 push_label-requires-clause-last t c =
     (last_written _ c.players-players.ensures.is_game _ _ _ _ _ _ _ c.requires.below
-    (c.if-depth-len.true ∙ c.len.ensures ∙ c.args.player.now.digits.ok.0)).0
+    c.in_default.ensures).0
 
 pub push_label-requires-clause-next : goal.push_label-requires-clause-next
 push_label-requires-clause-next t c =
     let one = (last_written _ c.players-players.ensures.is_game _ _ _ _ _ _ _ c.requires.below
-    (c.if-depth-len.true ∙ c.len.ensures ∙ c.args.player.now.digits.ok.0)).1 in
+    c.in_default.ensures).1 in
     (c.requires.next.0, omega (arith, c.requires.next.1, one))
 
-pub returns-then-depth-len-clause-labelled : goal.returns-then-depth-len-clause-labelled
-returns-then-depth-len-clause-labelled t c =
+pub returns-in_default-clause-labelled : goal.returns-in_default-clause-labelled
+returns-in_default-clause-labelled t c =
     let one = (last_written _ c.players-players.ensures.is_game _ _ _ _ _ _ _ c.requires.below
-    (c.if-depth-len.true ∙ c.len.ensures ∙ c.args.player.now.digits.ok.0)).1 in
+    c.in_default.ensures).1 in
     subst (λ (k : ℕ). OnOk c.push_label.result (AreLabelledTo c.args.player.now.game.now
     c.args.player.now.number c.args.numbers.now c.push_label.new.self.labels (c.args.number + k)))
     (sym one) c.push_label.ensures.labelled
 
-pub returns-then-depth-len-clause-kept : goal.returns-then-depth-len-clause-kept
-returns-then-depth-len-clause-kept t c =
+pub returns-in_default-clause-kept : goal.returns-in_default-clause-kept
+returns-in_default-clause-kept t c =
     on_ok_weaker c.push_label.result
     (λ labelled. record {
       wide = ap (λ (s : Vec ℕ Global). length s.items) c.push_label.ensures.strategy;
@@ -38,12 +38,11 @@ returns-then-depth-len-clause-kept t c =
 
 pub nonzero_div-each : goal.nonzero_div-each
 nonzero_div-each t c =
-    some_actions (choices_at c.requires.below (digit_here _ _ _ _ c.requires.below.deep
-    c.if-depth-len.false (c.len.ensures ∙ c.args.player.now.digits.ok.0) c.index-digit.ensures))
+    some_actions (choices_at c.requires.below c.in-Some.ensures)
 
 pub loop-before-init : goal.loop-before-init
 loop-before-init t c =
-    let none : c.args.number ≡ c.args.number + 0 * (c.args.count / c.index-digit.result.now.actions)
+    let none : c.args.number ≡ c.args.number + 0 * (c.args.count / c.in-Some.digit.actions)
     = omega arith in (
       subst (AreLabelledTo c.args.player.now.game.now c.args.player.now.number c.args.numbers.now
           c.args.self.now.labels) none c.requires.labelled,
@@ -53,7 +52,7 @@ loop-before-init t c =
 pub loop-before-preserved-then-not-is_next_below : goal.loop-before-preserved-then-not-is_next_below
 loop-before-preserved-then-not-is_next_below t c =
     let before = c.loop-before.before in
-    let each = c.args.count / c.index-digit.result.now.actions in
+    let each = c.args.count / c.in-Some.digit.actions in
     let row : c.args.number + before * each + each ≡ c.args.number + (before + 1) * each =
     omega arith in
     let i = c.loop-before.invariant in (
@@ -72,33 +71,29 @@ pub index_mut-requires : goal.index_mut-requires
 index_mut-requires t c =
     omega (
       arith,
-      place_there c.requires.below (digit_here _ _ _ _ c.requires.below.deep c.if-depth-len.false
-          (c.len.ensures ∙ c.args.player.now.digits.ok.0) c.index-digit.ensures),
+      place_there c.requires.below c.in-Some.ensures,
       c.loop-before.invariant.1.wide,
       c.loop-before.self.strategy.ok.0,
     )
 
 pub choose-requires-clause-fits : goal.choose-requires-clause-fits
 choose-requires-clause-fits t c =
-    subst (λ (a : ℕ). a * c.index-digit.result.now.step + c.index-digit.result.now.step < 2 ^ 64)
+    subst (λ (a : ℕ). a * c.in-Some.digit.step + c.in-Some.digit.step < 2 ^ 64)
     (sym c.from.ensures)
-    (step_fits (choices_at c.requires.below (digit_here _ _ _ _ c.requires.below.deep
-    c.if-depth-len.false (c.len.ensures ∙ c.args.player.now.digits.ok.0) c.index-digit.ensures))
+    (step_fits (choices_at c.requires.below c.in-Some.ensures)
     (c.loop-before.before + 1) (omega (arith, c.loop-before-test.true)))
 
 pub push_below-requires : goal.push_below-requires
 push_below-requires t c =
-    let len = c.len.ensures ∙ c.args.player.now.digits.ok.0 in
     let i = c.loop-before.invariant in
     let left = c.choose.new.self in (
-      omega (arith, c.decreases, c.requires.below.deep, c.if-depth-len.false, len),
+      omega (arith, c.decreases, c.in-Some.ensures.deep),
       (
-        next_written c.requires.below (digit_here _ _ _ _ c.requires.below.deep
-            c.if-depth-len.false len c.index-digit.ensures) i.1 c.loop-before.before
+        next_written c.requires.below c.in-Some.ensures i.1 c.loop-before.before
             c.loop-before-test.true left
             (subst (λ (sets : ℕ). IsLevel sets left) c.requires.below.told.levelled.has.counted
             c.in_ok-choose.ensures.level)
-            (subst (λ (a : ℕ). IsChosen c.index-digit.result.now.step a c.args.level.now left)
+            (subst (λ (a : ℕ). IsChosen c.in-Some.digit.step a c.args.level.now left)
             c.from.ensures c.in_ok-choose.ensures.chosen),
         (
           c.requires.ordered,
@@ -110,13 +105,12 @@ push_below-requires t c =
 pub loop-before-preserved : goal.loop-before-preserved
 loop-before-preserved t c =
     let before = c.loop-before.before in
-    let each = c.args.count / c.index-digit.result.now.actions in
+    let each = c.args.count / c.in-Some.digit.actions in
     let row : c.args.number + before * each + each ≡ c.args.number + (before + 1) * each =
     omega arith in (
       subst (AreLabelledTo c.args.player.now.game.now c.args.player.now.number c.args.numbers.now
           c.push_below.new.self.labels) row c.in_ok-push_below.ensures.labelled,
-      kept_more c.requires.below (digit_here _ _ _ _ c.requires.below.deep c.if-depth-len.false
-          (c.len.ensures ∙ c.args.player.now.digits.ok.0) c.index-digit.ensures)
+      kept_more c.requires.below c.in-Some.ensures
           c.loop-before.invariant.1 before c.loop-before-test.true _
           c.in_ok-push_below.ensures.kept,
     )
@@ -126,11 +120,10 @@ returns-clause-kept t c = c.loop-before.invariant.1
 
 pub returns-clause-labelled : goal.returns-clause-labelled
 returns-clause-labelled t c =
-    let end : c.loop-before.before ≡ c.index-digit.result.now.actions =
+    let end : c.loop-before.before ≡ c.in-Some.digit.actions =
     omega (arith, c.loop-before-test.false, c.loop-before.auto.before-end) in
-    let each = c.args.count / c.index-digit.result.now.actions in
-    let rows = all_rows (choices_at c.requires.below (digit_here _ _ _ _ c.requires.below.deep
-    c.if-depth-len.false (c.len.ensures ∙ c.args.player.now.digits.ok.0) c.index-digit.ensures)) in
+    let each = c.args.count / c.in-Some.digit.actions in
+    let rows = all_rows (choices_at c.requires.below c.in-Some.ensures) in
     subst (AreLabelledTo c.args.player.now.game.now c.args.player.now.number c.args.numbers.now
     c.loop-before.self.labels)
     (ap (λ (b : ℕ). c.args.number + b * each) end ∙ rows) c.loop-before.invariant.0
