@@ -86,6 +86,7 @@ impl Level {
 
     /// Adds what is left of these visits if this action is chosen at the slowest digit, with this
     /// step.
+    #[tactic(auto, using(crate::proofs::lemmas::reduced::LevelsChosen::left_steps))]
     fn add_left(&mut self, visits: &[Visit], step: u64, action: u64) -> Result<(), AllocError>
         requires fits { action * step + step < 2 ^ 64 }
         requires within { AreWithin (length self.old.known.items) visits.now }
@@ -98,14 +99,17 @@ impl Level {
             if self.known[place] {
                 continue;
             }
-            match left_of(visit.demands, step, action) {
-                None => {}
-                Some(0) => self.known[place] = true,
-                Some(demands) => self.visits.push(Visit {
-                    demands,
-                    set: visit.set,
-                })?,
+            let Some(demands) = left_of(visit.demands, step, action) else {
+                continue;
+            };
+            if demands == 0 {
+                self.known[place] = true;
+                continue;
             }
+            self.visits.push(Visit {
+                demands,
+                set: visit.set,
+            })?;
         }
         Ok(())
     }

@@ -3,7 +3,7 @@ use Rattle.gf_form.proofs.Common.{◌≡◌, ℕ, ◌+◌, ◌-◌, ◌*◌, ◌
 use Rattle.gf_form.proofs.Common.{List, [], ◌∷◌, ◌++◌, Some, None, length, get_or, set, take, drop}
 use Rattle.gf_form.proofs.Common.{ap, sym, ◌∙◌, arith, ◌||◌, list_any, IsPermutation, option_map_or}
 use Rattle.gf_form.proofs.Common.{or-false, take-length, cases_Bool, cases_lt, or_left, or_right}
-use Rattle.gf_form.proofs.Common.{get_or-set_at, get_or-set_other, get_or-take, length-drop}
+use Rattle.gf_form.proofs.Common.{get_or-set_at, get_or-set_other, get_or-take, get_or_default, length-drop}
 use Rattle.gf_form.proofs.Common.{length-set, length-take, take-append-drop, All-from_recursion}
 use Rattle.gf_form.proofs.Common.{recursion_from_All, list_any-append, All-permutation}
 use Rattle.gf_form.proofs.Common.{list_any-IsPermutation, all_both, meets, ArePositive, IsChosen}
@@ -40,9 +40,12 @@ pub record AddedTo (step action : ℕ) (visits : List Visit) (before : Level) (i
     pub adds : AddsLeft step action (take i visits) before after
 
 module _ (step action : ℕ) (visits : List Visit) (start : Level) (i : ℕ)
-    (less : i < length visits) where
+    (less : i < length visits) (within : AreWithin (length start.known.items) visits) where
   abbrev here : Visit
   here = get_or visits i no_visit
+
+  at : (1 ≤ here.set) × (here.set ≤ length start.known.items)
+  at = at_visit visits (length start.known.items) i within less
 
   met_more : (position : ℕ) (steps choices : List ℕ)
       → is_met position steps choices (take (i + 1) visits)
@@ -70,10 +73,13 @@ module _ (step action : ℕ) (visits : List Visit) (start : Level) (i : ℕ)
     }
 
     -- it is to a set that is known to be met
-    pub known_passed : 1 ≤ here.set → get_or left.known.items (here.set - 1) false ≡ true
-        → AddedTo step action visits start (i + 1) left
-    known_passed above known = more left before.sets (λ position steps choices some positive.
-        grind arith)
+    pub known_passed : (flag : Bool) → flag ≡ get_or left.known.items (here.set - 1) flag
+        → flag ≡ true → AddedTo step action visits start (i + 1) left
+    known_passed flag is known =
+        let there = get_or_default left.known.items (here.set - 1) false flag
+        (omega (arith, at.0, at.1, before.sets.counted)) in
+        let above = at.0 in
+        more left before.sets (λ position steps choices some positive. grind arith)
 
     -- it demands another action
     pub none_left : left_of step action here.demands ≡ None
@@ -82,11 +88,12 @@ module _ (step action : ℕ) (visits : List Visit) (start : Level) (i : ℕ)
         grind (arith, meets_left step action here.demands steps choices, or-false))
 
     -- nothing more is demanded
-    pub made_known : (next : Level) → 1 ≤ here.set → here.set ≤ length start.known.items
-        → left_of step action here.demands ≡ Some 0
+    pub made_known : (next : Level) → left_of step action here.demands ≡ Some 0
         → next.known.items ≡ set left.known.items (here.set - 1) true
         → next.visits.items ≡ left.visits.items → AddedTo step action visits start (i + 1) next
-    made_known next above within left_is known visits_are =
+    made_known next left_is known visits_are =
+        let above = at.0 in
+        let below = at.1 in
         more next (record {
           counted = grind (arith, length-set, before.sets.counted);
           within = rw visits_are before.sets.within;
@@ -101,13 +108,15 @@ module _ (step action : ℕ) (visits : List Visit) (start : Level) (i : ℕ)
         ))
 
     -- something more is demanded
-    pub one_left : (next : Level) (demands : ℕ) → 1 ≤ here.set
-        → here.set ≤ length start.known.items → left_of step action here.demands ≡ Some demands
+    pub one_left : (next : Level) (demands : ℕ)
+        → left_of step action here.demands ≡ Some demands
         → next.known.items ≡ left.known.items
         → next.visits.items ≡ left.visits.items
         ++ record { demands = demands; set = here.set } ∷ []
         → AddedTo step action visits start (i + 1) next
-    one_left next demands above within left_is known visits_are =
+    one_left next demands left_is known visits_are =
+        let above = at.0 in
+        let below = at.1 in
         more next (record {
           counted = ap length known ∙ before.sets.counted;
           within = grind (arith, all_both, before.sets.within);
@@ -122,6 +131,9 @@ pub all_added : (step action : ℕ) (visits : List Visit) (before : Level) (i : 
     → AddsLeft step action visits before after
 all_added step action visits before i after added end =
     rw (end, take-length) at added.adds
+
+-- what the steps of the code need
+pub ruleset left_steps = (known_passed, none_left, all_added)
 
 -- visits in another order are to the same sets
 pub within_permuted : (sets : ℕ) (visits ordered : List Visit) → IsPermutation visits ordered

@@ -93,36 +93,36 @@ module _ (g : Game) (game : IsGame g) (player : ℕ) (digits : List OwnDigit)
   actions_are : actions_of digits ≡ picked counts counts
   actions_are = rw are (actions_from 0 counts)
 
-  pub whole_from : HaveChoices g player digits 0 whole → whole ≡ product counts
-  whole_from choices =
-      choices.counted ∙ ap product actions_are
-      ∙ product_picked counts (actions_positive g game player)
+  choices_are : whole ≡ product counts → (k : ℕ) → k < whole
+      → picked counts (numbered g player k) ≡ get_or (all_choices (actions_of digits)) k []
+  choices_are whole_is k less =
+      sym (picked_at counts k (actions_positive g game player) (omega (arith, less, whole_is)))
+      ∙ ap (λ (actions : List ℕ). get_or (all_choices actions) k []) (sym actions_are)
 
-  module _ (whole_is : whole ≡ product counts) where
-    choices_are : (k : ℕ) → k < whole
-        → picked counts (numbered g player k) ≡ get_or (all_choices (actions_of digits)) k []
-    choices_are k less =
-        sym (picked_at counts k (actions_positive g game player) (omega (arith, less, whole_is)))
-        ∙ ap (λ (actions : List ℕ). get_or (all_choices actions) k []) (sym actions_are)
+  pub all_choices_had : whole ≡ product counts → whole < 2 ^ 32 → HaveChoices g player digits 0 whole
+  all_choices_had whole_is few =
+      let positive = actions_positive g game player in
+      let long = length-all_choices counts in record {
+        steps = rw are (steps_from 0 counts) ∙ ap steps_of (sym actions_are);
+        some = rw actions_are (positive_picked counts positive);
+        fits = rw actions_are (width_fits counts positive (omega (arith, few, whole_is)));
+        counted = whole_is ∙ sym (product_picked counts positive) ∙ ap product (sym actions_are);
+        end = omega (arith, whole_is, long);
+        few = omega (arith, few, whole_is, long);
+        chosen = λ k less.
+            let same : 0 + k ≡ k = omega arith in
+            rw same (ap (map (λ (d : OwnDigit). get_or (numbered g player k) d.place 0)) are
+            ∙ places_from (numbered g player k) (numbered g player k) 0 counts refl
+            (choice_length counts (numbered g player k)
+            (choice_at_number counts k (omega (arith, less, whole_is))))
+            ∙ choices_are whole_is k less);
+      }
 
-    pub all_choices_had : whole < 2 ^ 32 → HaveChoices g player digits 0 whole
-    all_choices_had few =
-        let positive = actions_positive g game player in
-        let long = length-all_choices counts in record {
-          steps = rw are (steps_from 0 counts) ∙ ap steps_of (sym actions_are);
-          some = rw actions_are (positive_picked counts positive);
-          fits = rw actions_are (width_fits counts positive (omega (arith, few, whole_is)));
-          counted = whole_is ∙ sym (product_picked counts positive) ∙ ap product (sym actions_are);
-          end = omega (arith, whole_is, long);
-          few = omega (arith, few, whole_is, long);
-          chosen = λ k less.
-              let same : 0 + k ≡ k = omega arith in
-              rw same (ap (map (λ (d : OwnDigit). get_or (numbered g player k) d.place 0)) are
-              ∙ places_from (numbered g player k) (numbered g player k) 0 counts refl
-              (choice_length counts (numbered g player k)
-              (choice_at_number counts k (omega (arith, less, whole_is))))
-              ∙ choices_are k less);
-        }
+  module _ (choices : HaveChoices g player digits 0 whole) where
+    pub whole_counted : whole ≡ product counts
+    whole_counted =
+        choices.counted ∙ ap product actions_are
+        ∙ product_picked counts (actions_positive g game player)
 
     -- a set is relevant if some visit to it comes about
     relevant_met : (visits : List Visit) → FindRelevance g player visits → (k q : ℕ) → k < whole
@@ -132,12 +132,11 @@ module _ (g : Game) (game : IsGame g) (player : ℕ) (digits : List OwnDigit)
     relevant_met visits find k q less among =
         get_or-map (is_relevant g (choice_at keys (numbered g player k))) keys q no_key false among
         ∙ find.relevant (numbered g player k) (suc q) (get_or keys q no_key)
-        (choice_at_number counts k (omega (arith, less, whole_is)))
+        (choice_at_number counts k (omega (arith, less, whole_counted)))
         (slice_get-get_or keys q no_key among)
-        ∙ (λ i. is_met (suc q) (steps_of (sym actions_are i)) (choices_are k less i) visits)
+        ∙ (λ i. is_met (suc q) (steps_of (sym actions_are i)) (choices_are whole_counted k less i) visits)
 
-    module _ (choices : HaveChoices g player digits 0 whole) (visits : List Visit)
-        (find : FindRelevance g player visits) (level : Level)
+    module _ (visits : List Visit) (find : FindRelevance g player visits) (level : Level)
         (unknown : (place : ℕ) → get_or level.known.items place false ≡ false) where
       -- what is met on these visits is met on those of the level
       ordered : (position : ℕ) (steps chosen : List ℕ) (own : List Visit)

@@ -1,7 +1,6 @@
 use Rattle.gf_form.proofs.Common.{◌≡◌, ◌+◌, ◌<◌, ◌^◌, ◌∙◌, ℕ, ap, arith, length, subst, sym, product}
 use Rattle.gf_form.proofs.Common.{action_counts, IsLevel, AreFoundTo, actions_of}
 use Rattle.gf_form.proofs.lemmas.reduced.SearchStarts.{few_digits, none_found_yet, searched_all}
-use Rattle.gf_form.proofs.lemmas.reduced.SearchStarts.{whole_from}
 use Rattle.gf_form.proofs.reduced.first.first_numbers.Goals as goal
 
 pub own_visits-requires-clause-digits : goal.own_visits-requires-clause-digits
@@ -37,7 +36,6 @@ push_below-requires-clause-below c =
     let player = c.args.player.now.number in
     let digits = c.args.player.now.digits.items in
     searched_all g game player digits c.requires.digits c.args.whole
-    (whole_from g game player digits c.requires.digits c.args.whole c.requires.choices)
     c.requires.choices c.args.visits.now c.requires.visits c.in_ok-level.level
     c.in_ok-level.ensures.unknown c.in_ok-own.own.items
     (rw c.deref.ensures.value at c.in_ok-own.ensures)

@@ -1,5 +1,5 @@
 use Rattle.gf_form.proofs.Common.{◌≡◌, ◌+◌, ◌∙◌, ℕ, arith, subst, IsLevel, AreLabelledTo}
-use Rattle.gf_form.proofs.lemmas.reduced.SearchStarts.{labels_are, none_labelled_yet, whole_from}
+use Rattle.gf_form.proofs.lemmas.reduced.SearchStarts.{labels_are, none_labelled_yet, whole_counted}
 use Rattle.gf_form.proofs.lemmas.reduced.SearchStarts.{written_all}
 use Rattle.gf_form.proofs.reduced.labels.labels_of.Goals as goal
 
@@ -11,7 +11,6 @@ push_below-requires-clause-below c =
     let digits = c.args.player.now.digits.items in
     let made = c.in_ok-labelling.ensures in
     written_all g game player digits c.requires.digits c.args.whole
-    (whole_from g game player digits c.requires.digits c.args.whole c.requires.choices)
     c.requires.choices c.args.visits.now c.requires.visits c.in_ok-level.level
     c.in_ok-level.ensures.unknown _ (made.wide ∙ c.requires.sets)
     (λ place less. made.strategy place (omega (arith, less, c.requires.sets)))
@@ -29,7 +28,7 @@ returns-then-not-is_next_below c =
     let game = c.players-players.ensures.is_game in
     let player = c.args.player.now.number in
     labels_are g game player c.args.numbers.now c.args.whole
-    (whole_from g game player c.args.player.now.digits.items c.requires.digits c.args.whole
+    (whole_counted g game player c.args.player.now.digits.items c.requires.digits c.args.whole
     c.requires.choices)
     c.requires.found _
     (none_labelled_yet g player _ _ _ c.in_ok-labelling.ensures.labels
@@ -42,7 +41,7 @@ returns c =
     let player = c.args.player.now.number in
     let all : 0 + c.args.whole ≡ c.args.whole = omega arith in
     labels_are g game player c.args.numbers.now c.args.whole
-    (whole_from g game player c.args.player.now.digits.items c.requires.digits c.args.whole
+    (whole_counted g game player c.args.player.now.digits.items c.requires.digits c.args.whole
     c.requires.choices)
     c.requires.found _
     (subst (AreLabelledTo g player c.args.numbers.now c.push_below.new.self.labels) all
