@@ -34,7 +34,7 @@ pub(crate) struct Player<'q, 'a> {
 }
 
 impl<'q, 'a> Player<'q, 'a> {
-    /// The digit at this depth; `None` if all are above it.
+    /// The digit at this depth, from 0; `None` if there are no more.
     #[tactic(auto, using(crate::proofs::lemmas::reduced::SearchSteps::digit_here))]
     pub(crate) fn digit(&self, depth: usize) -> Option<OwnDigit>
         requires { depth ≤ length self.now.digits.items }
@@ -51,7 +51,8 @@ impl<'q, 'a> Player<'q, 'a> {
 /// A search for the first strategies of a player that reduce to each of his reduced ones. It
 /// chooses at one digit after another, the slowest first, and goes no further if a set at which it
 /// chose an action other than the first cannot be met any more. Sets without a digit have one
-/// action, so they never decide this. Its levels leave them out, since most levels may be in vain.
+/// action, so they never decide this. Its levels leave them out, since there may be many levels
+/// below which nothing is found.
 #[derive(Drop)]
 struct Search {
     alloc: Global,
@@ -78,7 +79,7 @@ fn are_set(flags: &[bool]) -> bool
 }
 
 impl Search {
-    /// Appends these numbers, from this one on, all of first strategies.
+    /// Appends so many numbers, from this one on, which are all those of first strategies.
     fn push_all(
         &mut self,
         player: &Player<'_, '_>,
@@ -291,6 +292,7 @@ fn own_strategies(
 }
 
 /// The numbers of the first strategies of each player, and the labels of his reduced ones.
+#[tactic(auto, using(crate::proofs::lemmas::strategies::CountsGiven::all_counted))]
 pub(crate) fn all_reduced(
     alloc: Global,
     game: &Game<'_>,

@@ -62,7 +62,7 @@ fn write_reduced_label(
 }
 
 /// The labels of a player's reduced strategies, one after another. It goes down to the first
-/// strategy that reduces to each, digit by digit, so each level that it comes to is paid by a label.
+/// strategy that reduces to each, digit by digit, so there is a label below each of its levels.
 #[derive(Drop)]
 struct Labelling {
     alloc: Global,

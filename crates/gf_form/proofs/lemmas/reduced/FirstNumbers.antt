@@ -1,10 +1,11 @@
 -- The numbers of the first strategies, one after another, and flags that say which are first.
 use Rattle.gf_form.proofs.Common.{◌≡◌, ℕ, zero, suc, ◌+◌, ◌<◌, ◌≤◌, Bool, true, false, List, []}
 use Rattle.gf_form.proofs.Common.{◌∷◌, ◌++◌, ◌⊎◌, inl, inr, length, map, get_or, take, refl, ap}
-use Rattle.gf_form.proofs.Common.{subst, ◌∙◌, add-one, arith, ◌==◌, ◌||◌, filter, AllByRecursion}
+use Rattle.gf_form.proofs.Common.{sym, subst, ◌∙◌, add-one, arith, ◌==◌, ◌||◌, filter, AllByRecursion}
 use Rattle.gf_form.proofs.Common.{take-suc, and_from, and_parts, eq-eqb, append-nil, map-append}
 use Rattle.gf_form.proofs.Common.{filter-append, all_both, chooses_first, cases_lt, length-append}
-use Rattle.gf_form.proofs.Common.{get_or_append_left, get_or-append_seam, HaveNumbers}
+use Rattle.gf_form.proofs.Common.{get_or_append_left, HaveNumbers}
+use Rattle.std.proofs.lemmas.List.{get_or_push}
 use Rattle.gf_form.proofs.lemmas.strategies.StrategiesByNumber.{all_at}
 
 -- ---- by flags
@@ -58,17 +59,14 @@ module _ {A : Type 0} (test : A → Bool) (all : List A) (d : A) (i : ℕ) (less
       in_turn k (inl early) before =
           grind (arith, get_or_append_left, h.ordered k early)
       in_turn k (inr late) before =
-          let long : length next ≡ length numbers + 1 = grind (arith, length-append) in
-          let at : length numbers ≡ suc k = omega (arith, long, late, before) in
-          let last : get_or next (length numbers) 0 ≡ i =
-          rw is (get_or-append_seam numbers i [] 0) in
-          let there : get_or next k 0 ≡ get_or numbers k 0 =
-          rw is (get_or_append_left numbers (i ∷ []) 0 k (omega (arith, at))) in
+          let at : suc k ≡ length numbers =
+          omega (arith, late, before, ap length is, length-append numbers (i ∷ [])) in
           omega (
             arith,
-            ap (λ (n : ℕ). get_or next n 0) at,
-            last,
-            there,
+            ap (λ ns. get_or ns (suc k) 0) is,
+            get_or_push numbers i 0 (suc k) (sym at),
+            ap (λ ns. get_or ns k 0) is,
+            get_or_append_left numbers (i ∷ []) 0 k (omega (arith, at)),
             all_at (λ number. number < i) numbers k 0 h.within (omega (arith, at)),
           )
 

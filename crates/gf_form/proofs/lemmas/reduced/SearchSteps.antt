@@ -1,37 +1,25 @@
 -- A search for first strategies, choice by choice: what is below the choices so far.
-use Rattle.gf_form.proofs.Common.{◌≡◌, ℕ, zero, suc, ◌+◌, ◌-◌, ◌*◌, ◌/◌, ◌%◌, ◌^◌, ◌<◌, ◌≤◌, Bool}
+use Rattle.gf_form.proofs.Common.{◌≡◌, ℕ, zero, suc, ◌+◌, ◌-◌, ◌*◌, ◌/◌, ◌^◌, ◌<◌, ◌≤◌, Bool}
 use Rattle.gf_form.proofs.Common.{List, [], ◌∷◌, length, drop, get_or, map, sym, ap, subst, ◌∙◌}
 use Rattle.gf_form.proofs.Common.{arith, add-one, drop-cons, ◌==◌, ◌||◌, ◌&&◌, get_or_default}
-use Rattle.gf_form.proofs.Common.{div-add-mod, div-lt_iff_lt-mul, mod-lt, mul-div_cancel_left}
-use Rattle.gf_form.proofs.Common.{mul_comm, mul-le-mul_right, product, Game, all_choices, spans}
+use Rattle.gf_form.proofs.Common.{div-lt_iff_lt-mul, mul-div_cancel_left}
+use Rattle.gf_form.proofs.Common.{mul-le-mul_right, product, Game, all_choices, spans}
 use Rattle.gf_form.proofs.Common.{steps_of, IsChosen, ArePositive, IsLevel, is_left, OwnDigit}
 use Rattle.gf_form.proofs.Common.{Level, HaveChoices, IsChosenAt, IsHere, IsSearched, IsToldBy}
 use Rattle.gf_form.proofs.Common.{actions_of, digit_at, is_relevant_at, is_settled, numbered}
 use Rattle.std.specs.Prelude.{nat_le}
 use Rattle.std.proofs.lemmas.Bool.Decides.{nat_tests}
 use Rattle.gf_form.proofs.lemmas.rows.DemandDigits.{spans_above}
-use Rattle.gf_form.proofs.lemmas.strategies.StrategiesByNumber.{choices_row}
+use Rattle.gf_form.proofs.lemmas.strategies.StrategiesByNumber.{choices_next, choices_row, positive_parts}
 
 -- after those with the first action at the first digit, another one is chosen there
 other_action : (n : ℕ) (counts : List ℕ) (k : ℕ) → product counts ≤ k → k < n * product counts
     → ¬ (get_or (get_or (all_choices (n ∷ counts)) k []) 0 0 ≡ 1)
-other_action n counts k from before =
-    let p = product counts in
-    let some = above p before in
-    let number : k / p * p + k % p ≡ k = omega (arith, mul_comm (k / p) p, div-add-mod k p) in
-    let row = choices_row n counts (k / p) (k % p) ((div-lt_iff_lt-mul some).1 before)
-    (mod-lt k some) in
-    let head : get_or (get_or (all_choices (n ∷ counts)) k []) 0 0 ≡ k / p + 1 =
-    grind (arith, row, number) in
-    λ first. omega (arith, head, first, not_none (k / p) (k % p) number (mod-lt k some))
-  where
-    above : (p : ℕ) → k < n * p → 0 < p
-    above zero less = absurd (omega (arith, less))
-    above (suc p) less = omega arith
-
-    not_none : (b r : ℕ) → b * product counts + r ≡ k → r < product counts → 0 < b
-    not_none zero r is less = absurd (omega (arith, is, less, from))
-    not_none (suc b) r is less = omega arith
+other_action n counts k from before first =
+    let some = (positive_parts n (product counts) k before).1 in
+    let head = ap (λ (l : List ℕ). get_or l 0 0) (choices_next n counts k some before) in
+    let low : k / product counts < 1 = omega (arith, sym head ∙ first) in
+    omega (arith, from, (div-lt_iff_lt-mul some).0 low)
 
 steps_positive : (actions : List ℕ) → ArePositive (steps_of actions)
 steps_positive [] = tt

@@ -8,24 +8,6 @@ use Rattle.gf_form.proofs.lemmas.strategies.CountsGiven.{read_whole}
 use Rattle.gf_form.proofs.lemmas.reduced.FirstsPicked.{one_player_more}
 use Rattle.gf_form.proofs.reduced.first.all_reduced.Goals as goal
 
-pub overflow_cast-player : goal.overflow_cast-player
-overflow_cast-player c =
-    omega (
-      arith,
-      c.loop-place-test.true,
-      c.requires.players,
-      all_counted c.args.game.now c.args.counts.now c.requires.counts,
-    )
-
-pub overflow_add-player : goal.overflow_add-player
-overflow_add-player c =
-    omega (
-      arith,
-      c.loop-place-test.true,
-      c.requires.players,
-      all_counted c.args.game.now c.args.counts.now c.requires.counts,
-    )
-
 pub own_strategies-requires-clause-counts : goal.own_strategies-requires-clause-counts
 own_strategies-requires-clause-counts c =
     let g = c.args.game.now in
