@@ -1,5 +1,4 @@
 pub mod DueRows
-pub mod DueTable
 pub mod Heard
 pub mod Judged
 pub mod Led

@@ -1,8 +1,6 @@
-pub mod Body
 pub mod Common
 pub mod Ends
 pub mod Heading
-pub mod Outcomes
 pub mod Payoffs
 pub mod ReaderSteps
 pub mod Rows

@@ -1,6 +1,5 @@
 pub mod Agreement
 pub mod Classes
-pub mod Compared
 pub mod LabelsCounted
 pub mod LabelsJoined
 pub mod Listed

@@ -95,6 +95,7 @@ impl Labels {
     /// # Errors
     ///
     /// `AllocError` if memory is refused; nothing is then added.
+    #[tactic(auto, using(crate::proofs::lemmas::tables::Pieces::one_piece_more))]
     pub fn push(&mut self, label: Label<'_>) -> Result<(), AllocError>
         ensures ok { OnOk result (self.new ≡ self.old ++ label_of label.entry ∷ []) }
         ensures err { OnErr result (self.new ≡ self.old) }
@@ -110,6 +111,7 @@ impl Labels {
     /// # Errors
     ///
     /// `AllocError` if memory is refused; nothing is then added.
+    #[tactic(auto, using(crate::proofs::lemmas::tables::Pieces::one_piece_more))]
     pub fn push_joined(&mut self, parts: &[Label<'_>]) -> Result<(), AllocError>
         ensures ok { OnOk result
             (self.new ≡ self.old ++ join_with_byte 45 (map label_of parts.now) ∷ []) }
@@ -156,6 +158,7 @@ impl Labels {
     }
 
     /// Adds the others' labels at the end. If memory is refused, some of them may have been added.
+    #[tactic(auto, using(crate::proofs::lemmas::tables::LabelsJoined::one_label_more))]
     fn extend_by(&mut self, others: &Labels) -> Result<(), AllocError>
         ensures { OnOk result (self.new ≡ self.old ++ others.now) }
     {
@@ -168,6 +171,7 @@ impl Labels {
 
     /// Adds the labels "1" to `count` at the end. If memory is refused, some of them may have been
     /// added.
+    #[tactic(auto, using(crate::proofs::lemmas::tables::LabelsCounted::one_count_more))]
     pub(crate) fn extend_counted(&mut self, count: u32) -> Result<(), AllocError>
         ensures { OnOk result (self.new ≡ self.old ++ counted_labels count) }
     {

@@ -45,6 +45,7 @@ impl Strategies {
     }
 
     /// These, and those of one more player.
+    #[tactic(auto, using(crate::proofs::lemmas::tables::Pieces::one_piece_more))]
     fn with(self, own: &[Label<'_>]) -> Result<Strategies, AllocError>
         ensures { IfOk result (λ all. all ≡ self ++ map label_of own.now ∷ []) }
     {
@@ -58,6 +59,7 @@ impl Strategies {
     }
 
     /// These, and those of one more player: the labels "1" to this count.
+    #[tactic(auto, using(crate::proofs::lemmas::tables::Pieces::one_piece_more))]
     fn with_counted(self, count: u32) -> Result<Strategies, AllocError>
         ensures { IfOk result (λ all. all ≡ self ++ counted_labels count ∷ []) }
     {
@@ -71,6 +73,7 @@ impl Strategies {
     }
 
     /// These, and those of one more player. If there are no labels so far, his are not copied.
+    #[tactic(auto, using(crate::proofs::lemmas::tables::Pieces::one_piece_more))]
     fn with_labels(self, own: Labels) -> Result<Strategies, AllocError>
         ensures all { IfOk result (λ all. all ≡ self ++ own ∷ []) }
         ensures spelled { OnOk result (AreSpellings own) }

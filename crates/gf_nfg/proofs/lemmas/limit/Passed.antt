@@ -13,13 +13,11 @@ overrun : (before after longer vs : List Lexeme) (l : Lexeme)
     → BeginsPastLimit (tokens_of before ++ l.token ∷ []) → IsBareOrClosing l.token
     → PartsBefore before (l ∷ after) longer vs → StaysWithinLimit (tokens_of longer) → ⊥
 overrun before after longer vs l past grows h stays =
-    let is : l ≡ h.0 = (first_and_rest l h.0 after (h.1 ++ vs) h.3).0 in
     let whole : tokens_of longer ≡ tokens_of before ++ l.token ∷ tokens_of h.1 =
     cc (tokens_on before h.1 h.0) in
     let b = stays (tokens_of before) (tokens_of h.1) l.token whole grows in
     let over = past.past b.0 b.1 b.2 in
-    let within = b.3 in
-    omega (arith, over, within)
+    omega (arith, over)
 
 -- there is no limit place if the profiles stay within the limit up to an offending place
 pub nowhere : (bytes : List ℕ) (span : Span) (off : IsOffendingPlace IsStrategicFile bytes span)
@@ -56,16 +54,15 @@ later bytes seen rest l spelled stays limit is_limit =
     (subst (λ (ls : List Lexeme). Spells 0 bytes ls)
     (ap (λ (ls : List Lexeme). ls ++ h.lexeme ∷ h.after) e
     ∙ append_assoc seen (l ∷ between) (h.lexeme ∷ h.after)) h.spelled) in
-    let start = h.place.0 in
     elim (parts h.before (h.lexeme ∷ h.after) through rest same) [
       | inl p ↦
           absurd (overrun h.before h.after through rest h.lexeme h.past h.grows p
           (subst StaysWithinLimit (sym (tokens_on seen [] l)) stays))
-      | inr (inl p) ↦ let first = starts [] p.0 in omega (arith, first, start)
+      | inr (inl p) ↦ let first = starts [] p.0 in omega (arith, first)
       | inr (inr p) ↦
           let first = starts (p.0 ∷ p.1)
           (p.2 ∙ append_assoc seen (l ∷ []) (p.0 ∷ p.1)) in
-          omega (arith, first, start)
+          omega (arith, first)
     ]
 
 -- there is one limit place

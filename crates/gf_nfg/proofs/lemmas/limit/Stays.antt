@@ -83,7 +83,6 @@ begins_within ts s h settled within =
     let e = settled_ends s settled in
     let all : run start (ts ++ e.0) ≡ Ok e.1 = leads_run ts e.0 s h ∙ e.2 in
     let size = size_read (ts ++ e.0) e.1 all in
-    let same_profiles = e.3 in
     grind (arith, sentence_found)
 
 -- up to there the limit was not passed

@@ -72,5 +72,4 @@ nowhere span passes =
     let ts = tokens_of h.before in
     let w = all ts (tokens_of h.after) h.lexeme.token (ap tokens_of same ∙ parts) h.grows in
     let over = h.past.past w.0 w.1 w.2 in
-    let most = w.3 in
-    omega (arith, over, most)
+    omega (arith, over)

@@ -11,12 +11,11 @@ use Rattle.gf_nfg.proofs.Common.{IsRefusal, IsRefused, profile_limit, Content, S
 use Rattle.gf_nfg.proofs.Common.{finish, nothing, start, step, answer, content_in, p, Reader}
 use Rattle.gf_token.proofs.TokensAhead.{in_order}
 use Rattle.gf_nfg.specs.inner.Heard.Fails.{of_file, of_memory}
-use Rattle.gf_nfg.proofs.lemmas.places.Judged.{accepted, end_of, err, limit, only_expected, refusal}
-use Rattle.gf_nfg.proofs.lemmas.places.Judged.{refusal_end, span_of}
+use Rattle.gf_nfg.proofs.lemmas.places.Judged.{accepted, end_of, err, limit, only_expected}
+use Rattle.gf_nfg.proofs.lemmas.places.Judged.{only_memory, refusal, refusal_end, span_of}
 use Rattle.gf_nfg.proofs.lemmas.places.Led.{IsRead, Led, led_more, led_none, read_whole}
 use Rattle.gf_nfg.proofs.lemmas.limit.Stays.{bounded, past}
-use Rattle.gf_nfg.proofs.lemmas.places.DueTable.{broken_refused}
-use Rattle.gf_nfg.proofs.lemmas.places.Reasons.{IsWhole, broken_reason, reason}
+use Rattle.gf_nfg.proofs.lemmas.places.Reasons.{broken_refused, IsWhole, broken_reason, reason}
 
 -- ---- reasons
 
@@ -155,8 +154,7 @@ module _ (bytes : List ℕ) where
       last_token l after (taken s l.token) (took bytes s l.start l.end l.token after h) passed
   passed_token from s (z ∷ zs) after l order h passed =
       let far = begins_later (length bytes) z.end zs after l order.2 in
-      let some = order.1 in
-      first_token z l (zs ++ l ∷ after) (taken s z.token) (omega (arith, far, some))
+      first_token z l (zs ++ l ∷ after) (taken s z.token) (omega (arith, far))
       (took bytes s z.start z.end z.token (zs ++ l ∷ after) h) passed
       (λ next led p. passed_token z.end next zs after l order.2 led p)
 
@@ -206,3 +204,5 @@ heard_begun r bytes input none = grind arith
 pub refused_why : {A : Type 0} (f : Fault) (P : Fault → Type 0) (result : Result A Fault)
     → result ≡ Err f → P f → IfErr result P
 refused_why f P result e h = subst (λ r. IfErr r P) (sym e) h
+
+pub ruleset judged = (refused_why, only_memory, answer_judged, carried, heard_begun)

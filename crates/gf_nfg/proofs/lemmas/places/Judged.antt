@@ -8,11 +8,10 @@ use Rattle.gf_nfg.proofs.Common.{IsOffendingPlace, IsLimitPlace, IsReason, IsWit
 use Rattle.gf_nfg.proofs.Common.{Content, step, finish, ended, IsRefusal, IsAcceptedWithinLimit}
 use Rattle.gf_nfg.proofs.Common.{IsJudged}
 use Rattle.gf_token.proofs.Places.{no_file as refused_no_file}
-use Rattle.gf_nfg.proofs.lemmas.limit.Counts.{limit_by_files}
+use Rattle.gf_nfg.proofs.lemmas.limit.Counts.{limit_by_files, limit_token}
 use Rattle.gf_nfg.proofs.lemmas.limit.Passed.{later, nowhere}
 use Rattle.gf_nfg.proofs.lemmas.places.Led.{Led, spelled_as, begins, no_file, refused}
 use Rattle.gf_nfg.proofs.lemmas.limit.Stays.{stays_within}
-use Rattle.gf_nfg.proofs.lemmas.limit.Tokens.{limit_token}
 use Rattle.gf_nfg.proofs.lemmas.places.Reasons.{end_reason}
 use Rattle.gf_nfg.proofs.lemmas.runs.Walks.{leads_more}
 
@@ -54,16 +53,7 @@ limit bytes rest l s after h e over =
       within = h.few;
       over = over;
     }) in
-    (limit_by_files bytes (span_of l)).1 (record {
-      before = h.seen;
-      lexeme = l;
-      after = rest;
-      spelled = h.spelled;
-      place = (refl, refl);
-      grows = k.grows;
-      past = k.past;
-      first = k.first;
-    })
+    grind (arith, limit_by_files)
 
 -- a token that is not refused
 pub accepted : (bytes : List ℕ) (rest : List Lexeme) (l : Lexeme) (s after : State)
@@ -73,13 +63,7 @@ accepted bytes rest l s after h e few =
     let through = tokens_of h.seen ++ l.token ∷ [] in
     let leads = leads_more (tokens_of h.seen) l.token s after h.leads e in
     record {
-      place = record {
-        before = h.seen;
-        after = l ∷ rest;
-        spelled = h.spelled;
-        place = (refl, refl);
-        accepted = begins through after leads;
-      };
+      place = grind (arith, begins);
       within = later bytes h.seen rest l h.spelled (stays_within through after leads few);
     }
 
@@ -121,13 +105,7 @@ all_past bytes span t place k within =
 accepted_whole : (bytes : List ℕ) (t : Table) → SpellsTable bytes t → IsWithinLimit t
     → IsAcceptedWithinLimit bytes (end_of (length bytes))
 accepted_whole bytes t h within = record {
-  place = record {
-    before = h.0;
-    after = [];
-    spelled = subst (λ (ls : List Lexeme). Spells 0 bytes ls) (sym (append-nil h.0)) h.1;
-    place = (refl, refl);
-    accepted = (t, h.2);
-  };
+  place = grind (arith, append-nil, accepted);
   within = λ limit place. absurd (all_past bytes limit t place h within);
 }
 
@@ -144,8 +122,7 @@ none_spelled : (bytes : List ℕ) (span : Span) (t : Table)
 none_spelled bytes span t h k =
     let sentence = spelled_as bytes (h.before ++ h.after) t h.spelled k in
     let parts = map-append (λ (x : Lexeme). x.token) h.before h.after in
-    refused_no_file IsStrategicFile (tokens_of h.before) (tokens_of h.after) h.refused
-    (t, subst (λ (x : List Token). Sentence x t) parts sentence)
+    grind (arith, refused_no_file, tokens_of, refused)
 
 pub only_memory : (why : Why) (bytes : List ℕ) (span : Span) (t : Table)
     → IsJudged why bytes span → SpellsTable bytes t → IsWithinLimit t → why ≡ Memory

@@ -19,16 +19,8 @@ refusal_or_limit why bytes s some h = grind arith
 one_refusal : (why other : Why) (bytes : List ℕ) (s t : Span)
     → IsRefusal why bytes s → IsRefusal other bytes t → (s ≡ t) × (code_of why ≡ code_of other)
 one_refusal why other bytes s t h k =
-    let same = one_offending_place IsStrategicFile bytes s t h.place k.place in (
-      one_span h.place.after (length bytes) s t h.place.place
-          (subst (λ (ls : List Lexeme). IsSpanOf ls (length bytes) t) (sym same.1) k.place.place),
-      one_code (λ code. Holds code (tokens_of h.place.before) (tokens_of h.place.after))
-          (λ what. IsDue (tokens_of h.place.before) what) why other h.reason
-          (subst (λ (ls : List Lexeme). IsReason other (tokens_of ls) (tokens_of h.place.after))
-          (sym same.0)
-          (subst (λ (ls : List Lexeme). IsReason other (tokens_of k.place.before) (tokens_of ls))
-          (sym same.1) k.reason)),
-    )
+    let same = one_offending_place IsStrategicFile bytes s t h.place k.place in
+    grind (arith, one_span, length, one_code, tokens_of)
 
 pub refused_once : (bytes : List ℕ) (why other : Why) (s t : Span)
     → IsRefused why bytes s → IsRefused other bytes t → (s ≡ t) × (code_of why ≡ code_of other)

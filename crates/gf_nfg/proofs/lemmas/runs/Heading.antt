@@ -22,13 +22,8 @@ players_found : (ts : List Token) (c r : Content) → run (at p.InPlayers 0 0 0 
     × (run (at p.BeforeStrategies (length (c.players ++ players)) 0 0 (with_players c players)) rest
     ≡ Ok r)
 players_found (Text label ∷ ts) c r e =
-    let h = players_found ts (with_players c (label ∷ [])) r e in (
-      label ∷ h.0,
-      h.1,
-      ap (λ (x : List Token). Text label ∷ x) h.2,
-      subst (λ (d : Content). run (at p.BeforeStrategies (length d.players) 0 0 d) h.1 ≡ Ok r)
-          (with_more_players c label h.0) h.3,
-    )
+    let h = players_found ts (with_players c (label ∷ [])) r e in
+    grind (arith, run, p, length, with_more_players)
 players_found (Closing ∷ ts) c r e = (
   [],
   ts,
@@ -56,15 +51,7 @@ pub heading_found : (ts : List Token) (r : Content) → run start ts ≡ Ok r �
 heading_found (Bare format ∷ Bare version ∷ Bare letter ∷ Text title ∷ Opening ∷ ts) r e =
     let h = begun_found format version letter (Text title ∷ Opening ∷ ts) r e in
     let g = players_found ts (with_title nothing title) r h.3 in
-    record {
-      letter = letter;
-      title = title;
-      players = g.0;
-      rest = g.1;
-      parts = cc (h.0, h.1, g.2, append_assoc (map Text g.0) (Closing ∷ []) g.1);
-      is_letter = h.2;
-      goes_on = g.3;
-    }
+    grind (arith, append_assoc, map)
 heading_found _ r e = absurd (grind arith)
 
 -- ---- where each heading leads

@@ -7,7 +7,7 @@ use Rattle.gf_nfg.proofs.Common.{row_of, take-append-drop}
 use Rattle.gf_nfg.proofs.lemmas.tables.Lists.{joined, get-joined}
 use Rattle.gf_nfg.proofs.lemmas.tables.Rows.{rows_of}
 use Rattle.gf_nfg.proofs.lemmas.runs.Groups.{each_parts}
-use Rattle.gf_nfg.proofs.lemmas.runs.Outcomes.{IsChoice, greatest}
+use Rattle.gf_nfg.proofs.lemmas.runs.Payoffs.{IsChoice, greatest}
 
 -- ---- the payoff version
 

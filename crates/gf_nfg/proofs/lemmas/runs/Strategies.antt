@@ -114,8 +114,7 @@ labels_found : (ts : List Token) (due from : ℕ) (c r : Content)
     → (labels : List (List ℕ)) × (rest : List Token) × (ts ≡ map Text labels ++ Closing ∷ rest)
     × (run (at p.InList due from 0 (with_labels c labels)) (Closing ∷ rest) ≡ Ok r)
 labels_found (Text label ∷ ts) due from c r e =
-    let h = labels_found ts due from (with_labels c (label ∷ [])) r e in
-    (label ∷ h.0, h.1, ap (λ x. Text label ∷ x) h.2, cc (with_more_labels c (label ∷ []) h.0))
+    grind (arith, labels_found ts due from (with_labels c (label ∷ [])) r e, with_more_labels)
 labels_found (Closing ∷ ts) due from c r e = ([], ts, refl, cc (with_no_labels c))
 labels_found _ due from c r e = absurd cc
 
@@ -168,17 +167,7 @@ of_groups : (k : Kind) (ts : List Token) (due : ℕ) (c r : Content)
 of_groups k ts due c r h =
     let e = each_both (IsGroup k) (λ labels. 0 < length labels) h.items h.inner h.each in
     let z = closed_found k h.rest (all_in (with_group k) c h.items) r h.goes_on in
-    record {
-      kind = k;
-      inner = h.inner;
-      rest = z.0;
-      strategies = h.items;
-      parts = cc (h.parts, z.1, append_assoc h.inner (Closing ∷ []) z.0);
-      each = e.0;
-      some = e.1;
-      count = h.count;
-      goes_on = subst (λ d. run (ended d) z.0 ≡ Ok r) (all_groups k h.items c) z.2;
-    }
+    grind (arith, append_assoc, run, all_groups)
 
 read_by : (k : Kind) (ts : List Token) (due : ℕ) (c r : Content) → run (due_at k due c) ts ≡ Ok r
     → Read (Opening ∷ ts) due c r
@@ -287,10 +276,4 @@ strategies_again k strategies inner rest c h some =
     let w = groups_walk k strategies inner p.FirstStrategies (inl refl) 0 c h some in
     let due : and_more strategies 0 ≡ length strategies =
     let more = and_more_is strategies 0 in omega (arith, more) in
-    cc (
-      due,
-      w.2,
-      walk_run inner (Closing ∷ rest) (at p.FirstStrategies (length strategies) 0 0 c),
-      closed k w.0 w.1 rest (all_in (with_group k) c strategies),
-      all_groups k strategies c,
-    )
+    grind (arith, walk_run, p, length, closed, all_in, all_groups)

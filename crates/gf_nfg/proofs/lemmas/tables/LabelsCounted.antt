@@ -25,8 +25,4 @@ pub counted_more : (before count : ℕ) → before < count
     → counted_rest before count ≡ decimal (before + 1) ∷ counted_rest (before + 1) count
 counted_more before count h = grind arith
 
-pub counted_appended : (old labels labels' : List (List ℕ)) (label : List ℕ) (before count : ℕ)
-    → before < count → label ≡ decimal (before + 1) → labels' ≡ labels ++ label ∷ []
-    → labels ++ counted_rest before count ≡ old → labels' ++ counted_rest (before + 1) count ≡ old
-counted_appended old labels labels' label before count h is e f =
-    grind (arith, append_assoc, counted_more)
+pub ruleset one_count_more = (append_assoc, counted_more, decimal_label)

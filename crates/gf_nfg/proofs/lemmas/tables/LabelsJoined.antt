@@ -1,11 +1,12 @@
 -- Labels that are put together: one after another, or joined to one.
 use Rattle.gf_nfg.proofs.Common.{◌≡◌, ℕ, ◌+◌, ◌-◌, ◌<◌, true, List, [], ◌∷◌, ◌++◌, map, length}
-use Rattle.gf_nfg.proofs.Common.{subst, Some, slice_get, take, drop, get_or, refl, sym, arith}
-use Rattle.gf_nfg.proofs.Common.{append_assoc, Result, Ok, Err, OnOk, is_ok, sum, AllByRecursion}
-use Rattle.gf_nfg.proofs.Common.{join_with_byte, and_from, and_parts, append-nil, take-append-drop}
-use Rattle.gf_nfg.proofs.Common.{length-drop, length-map, length-take, map_push, take_more}
-use Rattle.gf_nfg.proofs.Common.{get_or_from_slice_get, all_parts, label_of, IsLabel}
-use Rattle.gf_nfg.proofs.Common.{is_spelling_after, Label, AreSpellings, RisesTo, pieces}
+use Rattle.gf_nfg.proofs.Common.{subst, ap, ◌∙◌, Some, slice_get, take, drop, get_or, refl, sym}
+use Rattle.gf_nfg.proofs.Common.{arith, append_assoc, Result, Ok, Err, OnOk, is_ok, sum}
+use Rattle.gf_nfg.proofs.Common.{AllByRecursion, join_with_byte, and_from, and_parts, append-nil}
+use Rattle.gf_nfg.proofs.Common.{take-append-drop, length-drop, length-map, length-take, map_push}
+use Rattle.gf_nfg.proofs.Common.{take_more, get_or_from_slice_get, slice_get_within, all_parts}
+use Rattle.gf_nfg.proofs.Common.{label_of, IsLabel, is_spelling_after, Label, AreSpellings, RisesTo}
+use Rattle.gf_nfg.proofs.Common.{pieces}
 use Rattle.gf_nfg.proofs.lemmas.tables.Lists.{sum-cons}
 use Rattle.gf_nfg.proofs.lemmas.tables.Pieces.{rises_within}
 
@@ -74,20 +75,11 @@ one_joined_more labels x some = grind arith
 
 -- ---- one more label
 
-pub one_added : (old labels next others : List (List ℕ)) (at : ℕ) (x : List ℕ)
-    → at < length others → slice_get others at ≡ Some x → labels ≡ old ++ take at others
-    → next ≡ labels ++ x ∷ [] → next ≡ old ++ take (at + 1) others
-one_added old labels next others at x within found h e = grind (
-  arith,
-  append_assoc old (take at others) (x ∷ []),
-  take,
-  get_or_from_slice_get others,
-  take_more others,
-)
-
-pub where_ok : {T E P : Type 0} (r : Result T E) → is_ok r ≡ true → OnOk r P → P
-where_ok (Ok x) e h = h
-where_ok (Err x) e h = absurd cc
+pub one_taken_at : {A : Type 0} (others : List A) (at : ℕ) (x : A) → slice_get others at ≡ Some x
+    → take (at + 1) others ≡ take at others ++ x ∷ []
+one_taken_at others at x found =
+    take_more others at x (slice_get_within others at x found)
+    ∙ ap (λ y. take at others ++ y ∷ []) (get_or_from_slice_get others at x x found)
 
 one_taken : (labels : List Label) (at : ℕ) (x d : Label) → x ≡ get_or labels at d
     → at < length labels
@@ -118,3 +110,5 @@ more_joined old bytes dashed next more labels at x d some is within h dash m e =
           (label_of x) (omega (arith, some, counted)),
       one_taken labels,
     )
+
+pub ruleset one_label_more = (append_assoc, one_taken_at)

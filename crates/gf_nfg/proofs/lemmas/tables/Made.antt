@@ -50,10 +50,19 @@ pub parts_of_lists : {Z : Type 0} (title comment : Label) (players : List Label)
     payoffs
 parts_of_lists title comment players lists payoffs one some few fractions full =
     let counts = counts_of_lists label_of lists in
-    parts_of_labels title comment players (map (λ own. map label_of own.items) lists) payoffs
-    (length-map lists (λ own. map label_of own.items) ∙ one) (some_in_lists label_of lists some)
-    (subst (λ (ns : List ℕ). product ns ≤ profile_limit) (sym counts) few) fractions
-    (full ∙ ap (λ (ns : List ℕ). product ns * length players) (sym counts)) (lists_spelled lists)
+    grind (
+      arith,
+      parts_of_labels,
+      map,
+      label_of,
+      length-map,
+      some_in_lists,
+      ℕ,
+      product,
+      profile_limit,
+      length,
+      lists_spelled,
+    )
 
 -- ---- the table
 

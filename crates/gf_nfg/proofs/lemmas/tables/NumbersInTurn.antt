@@ -26,7 +26,6 @@ IsIn {X} xs x = (before after : List X) × (xs ≡ before ++ x ∷ after)
 pub number_in : (first n s : ℕ) → first ≤ s → s < first + n → IsIn (numbers_from first n) s
 number_in first n s h k =
     let a = s - first in
-    let e : n ≡ a + suc (n - a - 1) = omega arith in
     let f : first + a ≡ s = omega arith in
     grind (arith, numbers_joined first a (suc (n - a - 1)))
 

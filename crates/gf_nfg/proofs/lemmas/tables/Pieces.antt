@@ -3,7 +3,7 @@ use Rattle.gf_nfg.proofs.Common.{◌≡◌, ℕ, zero, suc, ◌+◌, ◌-◌, �
 use Rattle.gf_nfg.proofs.Common.{take, drop, get_or, Some, slice_get, refl, ap, arith, true}
 use Rattle.gf_nfg.proofs.Common.{take-append-le, drop-append-le, length-drop, length-append}
 use Rattle.gf_nfg.proofs.Common.{take_all, drop_at, all_at, all_both, is_spelling, IsLabel, pieces}
-use Rattle.gf_nfg.proofs.Common.{start_of, RisesTo, IsCut}
+use Rattle.gf_nfg.proofs.Common.{start_of, RisesTo, IsCut, AllByRecursion}
 
 pub start_of_suc : (from : ℕ) (ends : List ℕ) (k d : ℕ) → k < length ends
     → start_of from ends (suc k) ≡ get_or ends k d
@@ -56,27 +56,24 @@ pub rises-push : (from : ℕ) (ends : List ℕ) (whole more : ℕ) → RisesTo w
 rises-push from [] whole more h = (omega (arith, h), refl)
 rises-push from (end ∷ ends) whole more h = (h.0, rises-push end ends whole more h.1)
 
--- a list that was cut, and a piece more
-pub record IsMore (ends bytes more ends' bytes' : List ℕ) : Type 0 where
-  pub is_cut : IsCut ends bytes
-  pub more_spelled : is_spelling more ≡ true
-  pub bytes_are : bytes' ≡ bytes ++ more
-  pub ends_are : ends' ≡ ends ++ length bytes' ∷ []
+-- a piece more
+pub rises-more : {A : Type 0} (ends : List ℕ) (items more : List A) → RisesTo (length items) 0 ends
+    → RisesTo (length (items ++ more)) 0 (ends ++ length (items ++ more) ∷ [])
+rises-more ends items more h =
+    rw (length-append items more) (rises-push 0 ends (length items) (length more) h)
 
-pub pieces-more : (ends bytes more ends' bytes' : List ℕ) → IsMore ends bytes more ends' bytes'
-    → pieces 0 ends' bytes' ≡ pieces 0 ends bytes ++ more ∷ []
-pieces-more ends bytes more ends' bytes' m = grind (arith, length-append, pieces-push)
+pub pieces-more : {A : Type 0} (ends : List ℕ) (items more : List A)
+    → RisesTo (length items) 0 ends
+    → pieces 0 (ends ++ length (items ++ more) ∷ []) (items ++ more)
+    ≡ pieces 0 ends items ++ more ∷ []
+pieces-more ends items more h = rw (length-append items more) (pieces-push 0 ends items more h)
 
-pub cut_more : (ends bytes more ends' bytes' : List ℕ) → IsMore ends bytes more ends' bytes'
-    → IsCut ends' bytes'
-cut_more ends bytes more ends' bytes' m =
-    let e : ends' ≡ ends ++ (length bytes + length more) ∷ [] = cc (length-append bytes more) in
-    let whole : length bytes' ≡ length bytes + length more = cc (length-append bytes more) in
-    record {
-      rises = rw (whole, e) (rises-push 0 ends (length bytes) (length more) m.is_cut.rises);
-      spelled = rw (pieces-more ends bytes more ends' bytes' m) (all_both IsLabel
-          (pieces 0 ends bytes) (more ∷ []) m.is_cut.spelled (m.more_spelled, tt));
-    }
+pub spelled-more : (ends bytes more : List ℕ) → IsCut ends bytes → is_spelling more ≡ true
+    → AllByRecursion IsLabel (pieces 0 (ends ++ length (bytes ++ more) ∷ []) (bytes ++ more))
+spelled-more ends bytes more h spelled = rw (pieces-more ends bytes more h.rises)
+    (all_both IsLabel (pieces 0 ends bytes) (more ∷ []) h.spelled (spelled, tt))
+
+pub ruleset one_piece_more = (rises-more, pieces-more, spelled-more)
 
 pub within_ends : (ends bytes : List ℕ) (labels : List (List ℕ)) (at : ℕ)
     → pieces 0 ends bytes ≡ labels → at < length labels → at < length ends

@@ -32,7 +32,6 @@ places_all count counts (others ∷ tails) k e =
     let first = places_first count counts others k count 1 here (omega arith) in
     let start : 1 - 1 + count * k ≡ count * k = omega arith in
     let on : count * (k + 1) ≡ count * k + count = omega (arith, mul-suc count k) in
-    let all : count + count * length tails ≡ count * suc (length tails) = omega arith in
     let rest = places_all count counts tails (k + 1) (ap (drop 1) e) in
     grind (arith, map-append, numbers_joined)
 

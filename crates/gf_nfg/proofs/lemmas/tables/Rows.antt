@@ -84,9 +84,8 @@ positions_kept : (players whole first n : ℕ) → (first + n) * players ≤ who
 positions_kept players whole first zero h = tt
 positions_kept players whole first (suc n) h =
     let here : (first + 1) * players ≤ (first + suc n) * players = omega arith in
-    let split : (first + 1) * players ≡ first * players + players = omega arith in
     let moved : first + 1 + n ≡ first + suc n = omega arith in
-    (omega (arith, here, split, h), positions_kept players whole (first + 1) n (rw moved h))
+    (omega (arith, here, h), positions_kept players whole (first + 1) n (rw moved h))
 
 positions_above : (A : Type 0) (first n : ℕ) → 0 < first
     → AllByRecursion (λ number. number ≡ 0 → A) (numbers_from first n)

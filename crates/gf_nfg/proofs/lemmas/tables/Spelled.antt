@@ -21,9 +21,7 @@ counted_labels first (suc n) h =
 
 texts_spelled : (names : List (List ℕ)) (rest : List Token)
     → AllSpelled (braced (map Text names) ++ rest) → AllByRecursion IsLabel names × AllSpelled rest
-texts_spelled names rest h =
-    let k = braced_spelled (map Text names) rest h in
-    (all_mapped IsSpelled Text names k.0, k.1)
+texts_spelled names rest h = grind (arith, braced_spelled (map Text names) rest h, all_mapped)
 
 label_lists_spelled : (strategies : List (List (List ℕ))) (inner : List Token)
     → Each IsLabelList inner strategies → AllSpelled inner
@@ -65,8 +63,7 @@ payoffs_spelled players tokens rs (inr h) =
     let outcomes = each_value (IsOutcomeInBraces players) AreFractions
     (λ ts row is. each_value IsPayoffInBraces IsFraction (λ us r one. one.3.fraction) row is.1 is.3)
     h.outcomes h.list h.listed in
-    each_value (IsOutcomeNumber players h.outcomes) AreFractions
-    (λ ts row is. paid players is.1 h.outcomes row outcomes is.4) rs h.numbers h.chosen
+    grind (arith, each_value, paid)
 
 -- ---- the table
 

@@ -17,12 +17,6 @@ pub record AreKept (labels : List (List ℕ)) (ends : List ℕ) (lists : List (L
   pub rises : RisesTo (length labels) 0 ends
   pub are : pieces 0 ends labels ≡ lists
 
-pub one_more : (labels labels' own : List (List ℕ)) (ends ends' : List ℕ)
-    (lists : List (List (List ℕ))) → AreKept labels ends lists → labels' ≡ labels ++ own
-    → ends' ≡ ends ++ length labels' ∷ [] → AreKept labels' ends' (lists ++ own ∷ [])
-one_more labels labels' own ends ends' lists a e f =
-    grind (arith, length-append, rises-push, pieces-push)
-
 pub kept_by : {labels : List (List ℕ)} {ends items : List ℕ} {lists : List (List (List ℕ))}
     → RisesTo (length labels) 0 ends → pieces 0 ends labels ≡ lists → items ≡ ends
     → AreKept labels items lists
@@ -65,15 +59,11 @@ next_group f all all' sizes items own i size start end h is stop cut m g =
     let part : end - start ≡ min size (length left) = omega (arith, length-drop start items) in
     let first : map f own ≡ take size (map f left) =
     cc (take_min size left, take-map f size left) in
-    let back : start + (end - start) ≡ end = omega (arith, stop, m.within) in
     let rest : map f (drop end items) ≡ drop size (map f left) =
     grind (arith, drop-drop, drop_min, drop-map) in
     let now : groups (drop i sizes) (map f left) ≡ map f own ∷ behind =
     grind (arith, drop_more, drop) in
-    record {
-      within = omega (arith, stop);
-      are = cc (append_assoc all (map f own ∷ []) behind);
-    }
+    grind (arith, append_assoc, map)
 
 -- ---- one of the lists
 

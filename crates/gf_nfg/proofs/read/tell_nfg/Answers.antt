@@ -4,14 +4,6 @@ use Rattle.gf_nfg.proofs.lemmas.places.Heard.{refused_why}
 use Rattle.gf_nfg.proofs.lemmas.places.Judged.{only_memory}
 use Rattle.gf_nfg.proofs.read.tell_nfg.Goals as goal
 
-pub returns-in_err-tell-clause-only : goal.returns-in_err-tell-clause-only
-returns-in_err-tell-clause-only g c =
-    grind (arith, refused_why, only_memory, answer_judged, carried, heard_begun)
-
-pub returns-in_err-tell-clause-judged : goal.returns-in_err-tell-clause-judged
-returns-in_err-tell-clause-judged g c =
-    grind (arith, refused_why, answer_judged, carried, heard_begun)
-
 pub returns-clause-told : goal.returns-clause-told
 returns-clause-told g c =
     let n = c.new-reader.ensures in

@@ -14,9 +14,7 @@ loop-due-preserved g c = record {
       c.loop-due-test.true h.holding in
       record {
         told = n.told;
-        goes = h.goes ∙ n.goes
-            ∙ c.comma.ensures.machine (content_told (paying told n.told)) (c.loop-due.due - 1)
-            outcomes;
+        goes = grind arith;
         holding = n.holding;
       };
   shorter = omega (

@@ -1,5 +1,5 @@
 use Rattle.gf_nfg.proofs.Common.{◌≡◌, ◌∙◌, rules, label_of, Fails, next_outcome, BracedPayoff}
-use Rattle.gf_nfg.proofs.Common.{InOutcomes, told_answer, paying}
+use Rattle.gf_nfg.proofs.Common.{InOutcomes, told_answer, paying, arith}
 use Rattle.gf_nfg.proofs.lemmas.places.Heard.{carried}
 use Rattle.gf_nfg.proofs.lemmas.runs.ReaderSteps.{ends_back, outcome_named}
 use Rattle.gf_nfg.proofs.reader.body.outcome.Goals as goal
@@ -31,9 +31,6 @@ returns-clause-told g c = λ untold told outcomes size holding.
     search rules in
     record {
       told = h.told;
-      goes = (outcome_named told outcomes c.args.players c.args.tokens.now c.text.new.self
-          c.in-Some.field-0.span.start c.in-Some.field-0.span.end (label_of c.in-Some.field-0.label)
-          c.in-Some.ensures.next c.in-Some.ensures.input size)
-          ∙ h.goes ∙ closed;
+      goes = grind arith;
       holding = h.holding;
     }

@@ -31,7 +31,6 @@ loop-tokens-preserved g c = λ untold told size holding.
     search rules in
     record {
       told = n.told;
-      goes = h.goes ∙ opened ∙ n.goes
-          ∙ ap (λ m. told_answer InOutcomes 0 m c.outcome.new.tokens (paying told n.told)) next;
+      goes = grind arith;
       holding = n.holding;
     }

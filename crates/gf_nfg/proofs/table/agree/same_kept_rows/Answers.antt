@@ -19,15 +19,8 @@ pub returns-then-not-same_row : goal.returns-then-not-same_row
 returns-then-not-same_row c =
     let left = row_at _ _ _ _ _ _ c.loop-place.place c.in-Some-Some.ensures.shared (omega arith) in
     let right =
-    row_at _ _ _ _ _ _ c.loop-place.place c.in-Some-Some.ensures'.shared (omega arith) in (
-      λ h. search rules,
-      λ e.
-          let same = rows_differ c.args.a.now c.args.b.now c.loop-place.place _ _ left.row right.row
-          e
-          in
-          let yes : IsTrue c.same_row.result = c.same_row.ensures.1
-          (c.row.ensures ∙ same ∙ sym c.row-then-unite.ensures) in search rules,
-    )
+    row_at _ _ _ _ _ _ c.loop-place.place c.in-Some-Some.ensures'.shared (omega arith) in
+    grind arith
 
 pub loop-place-preserved : goal.loop-place-preserved
 loop-place-preserved c =

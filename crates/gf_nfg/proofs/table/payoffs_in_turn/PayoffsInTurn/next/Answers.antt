@@ -1,5 +1,5 @@
 use Rattle.gf_nfg.proofs.Common.{refl, option_map, rows_in}
-use Rattle.gf_nfg.proofs.lemmas.tables.Compared.{next_row}
+use Rattle.gf_nfg.proofs.lemmas.tables.Listed.{next_row}
 use Rattle.gf_nfg.proofs.lemmas.tables.Meaning.{lacking}
 use Rattle.gf_nfg.proofs.table.payoffs_in_turn.PayoffsInTurn.next.Goals as goal
 
