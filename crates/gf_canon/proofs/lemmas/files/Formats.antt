@@ -10,7 +10,7 @@ use Rattle.gf_token.specs.Next.{is_bare_token, is_broken, starts}
 use Rattle.gf_token.proofs.Places.{no_file}
 use Rattle.gf_nfg.specs.inner.Machine.{start}
 use Rattle.gf_nfg.specs.Sentence.{IsStrategicFile}
-use Rattle.gf_nfg.proofs.lemmas.places.Walk.{begins as strategic_begins}
+use Rattle.gf_nfg.proofs.lemmas.places.Led.{begins as strategic_begins}
 use Rattle.gf_tree.specs.Front.{IsExtensiveFile}
 
 -- ---- the word that a file begins with

@@ -10,10 +10,10 @@ use Rattle.gf_token.specs.Code.{code_of}
 use Rattle.gf_token.specs.Next.{is_bare_token}
 use Rattle.gf_token.proofs.Places.{one_offending_place, one_span}
 use Rattle.gf_nfg.specs.inner.Machine.{start}
-use Rattle.gf_nfg.proofs.lemmas.places.AllBytes.{answered as table_answered}
+use Rattle.gf_nfg.proofs.lemmas.places.Once.{answered as table_answered}
 use Rattle.gf_nfg.proofs.lemmas.places.Once.{not_both as not_table_and_refused}
 use Rattle.gf_nfg.proofs.lemmas.places.Once.{refused_once as table_refused_once}
-use Rattle.gf_nfg.proofs.lemmas.places.Walk.{follows as strategic_follows}
+use Rattle.gf_nfg.proofs.lemmas.places.Led.{follows as strategic_follows}
 use Rattle.gf_tree.specs.inner.Machine.{at, nothing}
 use Rattle.gf_tree.specs.inner.Machine.Position.{Format as AtFormat}
 use Rattle.gf_tree.proofs.lemmas.reasons.RefusedOnce.{answered as game_answered}

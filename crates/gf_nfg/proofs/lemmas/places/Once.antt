@@ -20,7 +20,7 @@ one_refusal : (why other : Why) (bytes : List ℕ) (s t : Span)
     → IsRefusal why bytes s → IsRefusal other bytes t → (s ≡ t) × (code_of why ≡ code_of other)
 one_refusal why other bytes s t h k =
     let same = one_offending_place IsStrategicFile bytes s t h.place k.place in
-    grind (arith, one_span, length, one_code, tokens_of)
+    grind (arith, one_span, one_code, tokens_of)
 
 pub refused_once : (bytes : List ℕ) (why other : Why) (s t : Span)
     → IsRefused why bytes s → IsRefused other bytes t → (s ≡ t) × (code_of why ≡ code_of other)

@@ -19,6 +19,10 @@ EndsWith s profiles =
 abbrev Ends : State → Type 0
 Ends s = EndsWith s s.content.profiles
 
+-- from a position, whatever is due and was read
+abbrev EndsAt : Position → Type 0
+EndsAt q = (due from outcomes : ℕ) (c : Content) → Ends (at q due from outcomes c)
+
 -- by a token that leads to a state that can be completed
 then : {profiles : ℕ} (s after : State) (t : Token) → step s t ≡ Ok after → EndsWith after profiles
     → EndsWith s profiles
@@ -48,14 +52,13 @@ one_is_count = refl
 abbrev paid : Content → Content
 paid c = with_payoffs c (zero_number ∷ [])
 
-flat_ends : (due from outcomes : ℕ) (c : Content) → Ends (at p.FlatPayoffs due from outcomes c)
+flat_ends : EndsAt p.FlatPayoffs
 flat_ends zero from outcomes c = ([], c, refl, refl)
 flat_ends (suc due) from outcomes c =
     then _ (at p.FlatPayoffs due from outcomes (paid c)) (Bare zero_text)
     (rw (not_zero, zero_is_number, pred_suc) refl) (flat_ends due from outcomes (paid c))
 
-numbers_ends : (due from outcomes : ℕ) (c : Content)
-    → Ends (at p.OutcomeNumbers due from outcomes c)
+numbers_ends : EndsAt p.OutcomeNumbers
 numbers_ends zero from outcomes c = ([], c, refl, refl)
 numbers_ends (suc due) from outcomes c =
     let known : nat_le 0 outcomes ≡ true = le-leb 0 outcomes (omega arith) in
@@ -63,19 +66,15 @@ numbers_ends (suc due) from outcomes c =
     (rw (not_zero, zero_is_index, known, pred_suc) refl)
     (numbers_ends due from outcomes (with_choices c (0 ∷ [])))
 
-outcomes_ends : (due from outcomes : ℕ) (c : Content) → Ends (at p.InOutcomes due from outcomes c)
+outcomes_ends : EndsAt p.InOutcomes
 outcomes_ends due from outcomes c = then _ (at p.OutcomeNumbers c.profiles from outcomes c) Closing
     refl (numbers_ends c.profiles from outcomes c)
 
-comment_ends : (due from outcomes : ℕ) (c : Content) → Ends (at p.AfterComment due from outcomes c)
-comment_ends due from outcomes c = then _ (at p.InOutcomes 0 from outcomes c) Opening refl
-    (outcomes_ends 0 from outcomes c)
-
-body_ends : (due from outcomes : ℕ) (c : Content) → Ends (at p.AfterStrategies due from outcomes c)
+body_ends : EndsAt p.AfterStrategies
 body_ends due from outcomes c = then _ (at p.InOutcomes 0 from outcomes c) Opening refl
     (outcomes_ends 0 from outcomes c)
 
-braced_ends : (due from outcomes : ℕ) (c : Content) → Ends (at p.BracedPayoff due from outcomes c)
+braced_ends : EndsAt p.BracedPayoff
 braced_ends zero from outcomes c = then _ (at p.InOutcomes 0 from (next_outcome outcomes) c) Closing
     refl (outcomes_ends 0 from (next_outcome outcomes) c)
 braced_ends (suc due) from outcomes c =
@@ -84,23 +83,13 @@ braced_ends (suc due) from outcomes c =
     (then _ (at p.BracedPayoff due from outcomes (paid c)) Comma refl
     (braced_ends due from outcomes (paid c)))
 
-after_braced_ends : (due from outcomes : ℕ) (c : Content)
-    → Ends (at p.AfterBracedPayoff due from outcomes c)
-after_braced_ends due from outcomes c =
-    then _ (at p.BracedPayoff due from outcomes c) Comma refl (braced_ends due from outcomes c)
-
-name_ends : (due from outcomes : ℕ) (c : Content) → Ends (at p.OutcomeName due from outcomes c)
-name_ends due from outcomes c = then _ (at p.BracedPayoff (length c.players) from outcomes c)
-    (Text []) refl (braced_ends (length c.players) from outcomes c)
-
 -- ---- strategies
 
 -- one strategy makes no more profiles
 by_one : (s : State) (profiles n : ℕ) → n ≡ 1 → EndsWith s (profiles * n) → EndsWith s profiles
 by_one s profiles n e h = subst (EndsWith s) (ap (λ (k : ℕ). profiles * k) e ∙ mul-one profiles) h
 
-counted_ends : (q : Position) → Takes ByCounts q → (due from outcomes : ℕ) (c : Content)
-    → Ends (at q due from outcomes c)
+counted_ends : (q : Position) → Takes ByCounts q → EndsAt q
 counted_ends q takes zero from outcomes c =
     then _ (at p.AfterStrategies (length c.players * c.profiles) from outcomes c) Closing
     (grind arith) (body_ends (length c.players * c.profiles) from outcomes c)
@@ -118,7 +107,7 @@ longer : (c : Content) → length (with_labels c ([] ∷ [])).labels ≡ length 
 longer c = length-append c.labels ([] ∷ [])
 
 -- a list is filled up with this many empty labels, and closed; then come lists of one label
-lists_ends : (due from outcomes : ℕ) (c : Content) → Ends (at p.BeforeList due from outcomes c)
+lists_ends : EndsAt p.BeforeList
 lists_ends zero from outcomes c =
     then _ (at p.AfterStrategies (length c.players * c.profiles) from outcomes c) Closing refl
     (body_ends (length c.players * c.profiles) from outcomes c)
@@ -148,12 +137,12 @@ list_ends (suc n) due from outcomes c h =
 
 -- ---- headings
 
-players_end : (due from outcomes : ℕ) (c : Content) → Ends (at p.InPlayers due from outcomes c)
+players_end : EndsAt p.InPlayers
 players_end due from outcomes c =
     let k = counted_ends p.FirstStrategies (inl refl) (length c.players) from outcomes c in
     (Closing ∷ Opening ∷ k.0, k.1, k.2, k.3)
 
-title_ends : (due from outcomes : ℕ) (c : Content) → Ends (at p.Title due from outcomes c)
+title_ends : EndsAt p.Title
 title_ends due from outcomes c =
     let k = players_end due from outcomes (with_title c []) in
     (Text [] ∷ Opening ∷ k.0, k.1, k.2, k.3)
@@ -163,8 +152,7 @@ abbrev pub IsSettled : Position → Type 0
 IsSettled p.InList = ⊥
 IsSettled _ = Unit {0}
 
-ends_at : (q : Position) → IsSettled q → (due from outcomes : ℕ) (c : Content)
-    → Ends (at q due from outcomes c)
+ends_at : (q : Position) → IsSettled q → EndsAt q
 ends_at p.Format h due from outcomes c =
     let k = title_ends due from outcomes c in
     (Bare (codes "NFG") ∷ Bare (codes "1") ∷ Bare (codes "R") ∷ k.0, k.1, k.2, k.3)
@@ -187,12 +175,16 @@ ends_at p.Counts h due from outcomes c =
 ends_at p.BeforeList h due from outcomes c = lists_ends due from outcomes c
 ends_at p.InList h due from outcomes c = absurd h
 ends_at p.AfterStrategies h due from outcomes c = body_ends due from outcomes c
-ends_at p.AfterComment h due from outcomes c = comment_ends due from outcomes c
+ends_at p.AfterComment h due from outcomes c =
+    then _ (at p.InOutcomes 0 from outcomes c) Opening refl (outcomes_ends 0 from outcomes c)
 ends_at p.FlatPayoffs h due from outcomes c = flat_ends due from outcomes c
 ends_at p.InOutcomes h due from outcomes c = outcomes_ends due from outcomes c
-ends_at p.OutcomeName h due from outcomes c = name_ends due from outcomes c
+ends_at p.OutcomeName h due from outcomes c =
+    then _ (at p.BracedPayoff (length c.players) from outcomes c) (Text []) refl
+    (braced_ends (length c.players) from outcomes c)
 ends_at p.BracedPayoff h due from outcomes c = braced_ends due from outcomes c
-ends_at p.AfterBracedPayoff h due from outcomes c = after_braced_ends due from outcomes c
+ends_at p.AfterBracedPayoff h due from outcomes c =
+    then _ (at p.BracedPayoff due from outcomes c) Comma refl (braced_ends due from outcomes c)
 ends_at p.OutcomeNumbers h due from outcomes c = numbers_ends due from outcomes c
 
 pub settled_ends : (s : State) → IsSettled s.position → EndsWith s s.content.profiles

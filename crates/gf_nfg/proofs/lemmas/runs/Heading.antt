@@ -23,7 +23,7 @@ players_found : (ts : List Token) (c r : Content) → run (at p.InPlayers 0 0 0 
     ≡ Ok r)
 players_found (Text label ∷ ts) c r e =
     let h = players_found ts (with_players c (label ∷ [])) r e in
-    grind (arith, run, p, length, with_more_players)
+    grind (arith, run, with_more_players)
 players_found (Closing ∷ ts) c r e = (
   [],
   ts,

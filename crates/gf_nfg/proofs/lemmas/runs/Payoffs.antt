@@ -110,7 +110,7 @@ braces_found ts due outcomes c r e =
     let h = groups_found IsPayoffInBraces (braced_due outcomes) with_one (one_braced outcomes) ts
     due c r e in
     let k = brace_found h.rest outcomes (all_in with_one c h.items) r h.goes_on in
-    grind (arith, run, p, next_outcome, all_payoffs)
+    grind (arith, run, next_outcome, all_payoffs)
 
 braced_step : (may : Bool) (b : List ℕ) (due outcomes : ℕ) (n : Ratio) (c : Content)
     (ts : List Token) → number_of b ≡ Ok n

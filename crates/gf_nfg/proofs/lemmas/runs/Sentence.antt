@@ -88,7 +88,7 @@ outcome_body ts c r above e =
       has_rows = has_chosen d (length h.outcomes) k.choices some
           (length-joined_rows (length c.players) h.outcomes full) k.count
           (known_all (length h.outcomes) k.choices k.known);
-      is_body = grind (arith, append_assoc, rows_chosen, choices_pay, length);
+      is_body = grind (arith, append_assoc, rows_chosen, choices_pay);
     }
 
 body_found : (ts : List Token) (c r : Content) → 0 < c.profiles

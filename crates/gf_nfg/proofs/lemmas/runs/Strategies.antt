@@ -276,4 +276,4 @@ strategies_again k strategies inner rest c h some =
     let w = groups_walk k strategies inner p.FirstStrategies (inl refl) 0 c h some in
     let due : and_more strategies 0 ≡ length strategies =
     let more = and_more_is strategies 0 in omega (arith, more) in
-    grind (arith, walk_run, p, length, closed, all_in, all_groups)
+    grind (arith, walk_run, closed, all_in, all_groups)

@@ -135,7 +135,3 @@ pub compared_more : (first second : ℕ) (f g : ℕ → List Ratio) (xs ys : Lis
     → ShareRows row parents) → IsCompared f g first second xs ys parents (at + 1)
 compared_more first second f g xs ys old parents at m n done h left right same size rows =
     search (arith, row_of_first, row_of_second, same_more)
-
-pub rows_differ : (xs ys : List (List Ratio)) (at : ℕ) (x y : List Ratio)
-    → slice_get xs at ≡ Some x → slice_get ys at ≡ Some y → xs ≡ ys → x ≡ y
-rows_differ xs ys at x y left right e = cc

@@ -3,5 +3,4 @@ use Rattle.gf_nfg.proofs.lemmas.tables.Pieces.{one_piece_more}
 use Rattle.gf_nfg.proofs.table.labels.Labels.push_joined.Goals as goal
 
 pub invariant_of-self-2 : goal.invariant_of-self-2
-invariant_of-self-2 c =
-    record { rises = grind (arith, one_piece_more); spelled = grind (arith, one_piece_more) }
+invariant_of-self-2 c = grind (arith, one_piece_more)
