@@ -20,7 +20,7 @@ pub use Rattle.gf_nfg.specs.Reason.{Applies, Holds, IsReason}
 pub use Rattle.gf_nfg.specs.SameTable.{SamePlay, SameTable}
 pub use Rattle.gf_nfg.specs.Sentence.{IsCount, IsLabelList, IsOutcomeBody, IsOutcomeInBraces}
 pub use Rattle.gf_nfg.specs.Sentence.{IsOutcomeNumber, IsPayoff, IsPayoffBody, IsStrategicFile}
-pub use Rattle.gf_nfg.specs.Sentence.{IsStrategies, Pays, Sentence, counted_labels}
+pub use Rattle.gf_nfg.specs.Sentence.{Pays, Sentence, counted_labels}
 pub use Rattle.gf_nfg.specs.Table.{Entry, IsSpellable, IsTable, Table, rows}
 pub use Rattle.gf_nfg.specs.TableAccess.{IsTableOf, payoffs_at}
 pub use Rattle.gf_nfg.specs.TableParts.{AreParts, AreShared, AreSpellings, HasRows, IsCut, IsHeld}
@@ -38,14 +38,11 @@ pub use Rattle.gf_nfg.specs.inner.Classes.{LeadBack, ShareRows}
 pub use Rattle.gf_nfg.specs.inner.ComparedTable.{ComparesBody, IsCompared}
 pub use Rattle.gf_nfg.specs.inner.Heard.{Answer, Fails, Goes, HasPassed, HasPassedPlace, at_end}
 pub use Rattle.gf_nfg.specs.inner.Heard.{heard, is_past, read_on, taken, then_on, within}
-pub use Rattle.gf_nfg.specs.inner.Machine.{Content, State, at, at_after_comment, at_braced_payoff}
-pub use Rattle.gf_nfg.specs.inner.Machine.{at_count, at_first, at_flat_payoffs, at_list_opening}
-pub use Rattle.gf_nfg.specs.inner.Machine.{at_outcome_number, at_payoff, at_strategies_end, chosen}
-pub use Rattle.gf_nfg.specs.inner.Machine.{counted, due_at, ended, finish, listed, next_outcome}
-pub use Rattle.gf_nfg.specs.inner.Machine.{nothing, opened, paid, run, settled, start, step}
-pub use Rattle.gf_nfg.specs.inner.Machine.{step_at, to, with_choices, with_comment, with_count}
-pub use Rattle.gf_nfg.specs.inner.Machine.{with_labels, with_payoffs, with_players, with_title}
-pub use Rattle.gf_nfg.specs.inner.Machine.{◌>>=◌}
+pub use Rattle.gf_nfg.specs.inner.Machine.{Content, State, at, chosen, counted, due_at, ended}
+pub use Rattle.gf_nfg.specs.inner.Machine.{finish, listed, next_outcome, nothing, opened, paid, run}
+pub use Rattle.gf_nfg.specs.inner.Machine.{settled, start, step, step_at, to, with_choices}
+pub use Rattle.gf_nfg.specs.inner.Machine.{with_comment, with_count, with_labels, with_payoffs}
+pub use Rattle.gf_nfg.specs.inner.Machine.{with_players, with_title, ◌>>=◌}
 pub use Rattle.gf_nfg.specs.inner.Meaning.{HasLabels, HasPayoffs, IsComplete, choices_of, names_in}
 pub use Rattle.gf_nfg.specs.inner.Meaning.{rows_by, strategies_of, table_of}
 pub use Rattle.gf_nfg.specs.inner.PayoffLists.{payoffs_in, rows_in}
@@ -53,8 +50,7 @@ pub use Rattle.gf_nfg.specs.inner.Position.Position.{AfterBracedPayoff, BeforeLi
 pub use Rattle.gf_nfg.specs.inner.Position.Position.{BracedPayoff, Counts, FirstStrategies}
 pub use Rattle.gf_nfg.specs.inner.Position.Position.{FlatPayoffs, InList, InOutcomes, InPlayers}
 pub use Rattle.gf_nfg.specs.inner.Position.Position.{OutcomeName, OutcomeNumbers}
-pub use Rattle.gf_nfg.specs.inner.Position.{Position as p}
-pub use Rattle.gf_nfg.specs.inner.Position.{Position}
+pub use Rattle.gf_nfg.specs.inner.Position.{Position as p, Position}
 pub use Rattle.gf_nfg.specs.inner.ReaderState.{HasMore, HasTold, HasToldAll, answer, body_answer}
 pub use Rattle.gf_nfg.specs.inner.ReaderState.{content_in, content_of, content_told, content_with}
 pub use Rattle.gf_nfg.specs.inner.ReaderState.{labels_of, list_answer, told_answer}
@@ -114,9 +110,8 @@ pub use Rattle.std.proofs.lemmas.List.{drop_at, drop_min, drop_more, get_or-drop
 pub use Rattle.std.proofs.lemmas.List.{get_or-set_other, get_or-take, get_or_at, get_or_default}
 pub use Rattle.std.proofs.lemmas.List.{get_or_past, length-map, length-replicate, length-set}
 pub use Rattle.std.proofs.lemmas.List.{map-append, map_push, same_lists, take-append-drop}
-pub use Rattle.std.proofs.lemmas.List.{same_from_push, take_at, take_more_same}
-pub use Rattle.std.proofs.lemmas.List.{take-append-le, take-map, take-take, take_all, take_min}
-pub use Rattle.std.proofs.lemmas.List.{take_more}
+pub use Rattle.std.proofs.lemmas.List.{same_from_push, take_at, take_more_same, take-append-le}
+pub use Rattle.std.proofs.lemmas.List.{take-map, take-take, take_all, take_min, take_more}
 pub use Rattle.std.proofs.lemmas.Option.{get_or_from_slice_get, slice_get-get_or, slice_get-map}
 pub use Rattle.std.proofs.lemmas.Option.{slice_get_within, unwrap_or-slice_get}
 pub use Rattle.std.proofs.lemmas.Result.{IfOk-weaker}

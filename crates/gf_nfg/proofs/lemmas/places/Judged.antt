@@ -1,7 +1,7 @@
 -- Where the reader refuses, no file goes on, or each file that does is above the limit.
-use Rattle.gf_nfg.proofs.Common.{◌≡◌, ℕ, ◌<◌, ◌≤◌, List, [], ◌∷◌, ◌++◌, length, Option, None, Some}
+use Rattle.gf_nfg.proofs.Common.{◌≡◌, ℕ, ◌<◌, ◌≤◌, List, [], ◌∷◌, ◌++◌, length, Option}
 use Rattle.gf_nfg.proofs.Common.{Result, Ok, Err, refl, sym, subst, ◌∙◌, append_assoc, arith}
-use Rattle.gf_nfg.proofs.Common.{append-nil, map-append, Token, Lexeme, Spells, Fault, Span, What}
+use Rattle.gf_nfg.proofs.Common.{append-nil, map-append, Token, Lexeme, Fault, Span, What}
 use Rattle.gf_nfg.proofs.Common.{Why, TooLong, Expected, Memory, TooManyProfiles, profile_limit}
 use Rattle.gf_nfg.proofs.Common.{Table, Sentence, IsStrategicFile, SpellsTable, tokens_of}
 use Rattle.gf_nfg.proofs.Common.{IsOffendingPlace, IsLimitPlace, IsReason, IsWithinLimit, State}

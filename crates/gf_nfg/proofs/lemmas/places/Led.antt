@@ -1,6 +1,6 @@
 -- What may follow tokens that lead the machine somewhere, and what the tokens of an input have led
 -- it to.
-use Rattle.gf_nfg.proofs.Common.{◌≡◌, ℕ, List, [], ◌∷◌, ◌++◌, Result, Ok, arith, refl, sym, ap, ◌∙◌}
+use Rattle.gf_nfg.proofs.Common.{◌≡◌, ℕ, List, [], ◌∷◌, ◌++◌, Ok, arith, refl, sym, ap, ◌∙◌}
 use Rattle.gf_nfg.proofs.Common.{append_assoc, map-append, Lexeme, Spells, Why, same_tokens, Table}
 use Rattle.gf_nfg.proofs.Common.{Sentence, SpellsTable, tokens_of, State, Content, run, step}
 use Rattle.gf_nfg.proofs.Common.{finish, start, Err, append-nil, Token, IsStrategicFile, Begins}

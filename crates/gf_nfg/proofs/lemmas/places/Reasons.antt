@@ -1,6 +1,6 @@
 -- What a row names is due there, and no other token may follow than those that it accepts; so the
 -- code of each refusal is the reason for it.
-use Rattle.gf_nfg.proofs.Common.{◌≡◌, ℕ, zero, suc, true, false, List, [], ◌∷◌, length, map, arith}
+use Rattle.gf_nfg.proofs.Common.{◌≡◌, ℕ, true, false, List, [], ◌∷◌, length, map, arith}
 use Rattle.gf_nfg.proofs.Common.{Option, Some, None, Ok, Err, refl, subst, ap, inl, inr, ◌⊎◌, ◌↔◌}
 use Rattle.gf_nfg.proofs.Common.{not, Token, Opening, Closing, Text, Bare, Broken, What, Why}
 use Rattle.gf_nfg.proofs.Common.{Expected, Position, MayFollow, IsStrategicFile, Role, RoleIsDue}

@@ -1,9 +1,8 @@
 -- Runs over the heading of a strategic file: its format, title and players.
-use Rattle.gf_nfg.proofs.Common.{◌≡◌, ℕ, Bool, true, List, [], ◌∷◌, ◌++◌, length, map, Ok, refl}
-use Rattle.gf_nfg.proofs.Common.{sym, ap, subst, append_assoc, arith, inl, inr, nat_eq, codes, ◌||◌}
-use Rattle.gf_nfg.proofs.Common.{◌⊎◌, pointwise, Token, Opening, Closing, Text, Bare, Expected}
+use Rattle.gf_nfg.proofs.Common.{◌≡◌, ℕ, List, [], ◌∷◌, ◌++◌, length, map, Ok, refl}
+use Rattle.gf_nfg.proofs.Common.{sym, subst, append_assoc, arith, codes}
+use Rattle.gf_nfg.proofs.Common.{◌⊎◌, Token, Opening, Closing, Text, Bare}
 use Rattle.gf_nfg.proofs.Common.{braced, Content, at, run, start, nothing, with_title, with_players}
-use Rattle.gf_token.specs.declared.fault.What.TheVariants as what
 use Rattle.gf_nfg.specs.inner.Position.{Position as p}
 use Rattle.gf_nfg.proofs.lemmas.runs.Common.{same_bytes, with_no_players, with_more_players}
 use Rattle.gf_nfg.proofs.lemmas.runs.Walks.{Leads, leads_more, leads_on, walk}

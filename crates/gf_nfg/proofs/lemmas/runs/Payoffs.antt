@@ -1,7 +1,7 @@
 -- Runs over payoffs: the flat list, the outcomes in braces, and the outcome numbers after them.
 use Rattle.gf_nfg.proofs.Common.{arith, ◌≡◌, ℕ, zero, suc, ◌-◌, Bool, true, false, List, [], ◌∷◌}
-use Rattle.gf_nfg.proofs.Common.{◌++◌, length, Result, Ok, refl, sym, ap, subst, ◌∙◌, append_assoc}
-use Rattle.gf_nfg.proofs.Common.{inl, inr, ◌⊎◌, Token, Closing, Comma, Bare, Each, IsPayoffInBraces}
+use Rattle.gf_nfg.proofs.Common.{◌++◌, length, Result, Ok, refl, sym, ap, ◌∙◌, append_assoc}
+use Rattle.gf_nfg.proofs.Common.{inr, ◌⊎◌, Token, Closing, Comma, Bare, Each, IsPayoffInBraces}
 use Rattle.gf_nfg.proofs.Common.{Ratio, NumberFault, Position, number_is, number_again, IsPayoff}
 use Rattle.gf_nfg.proofs.Common.{State, Content, at, run, paid, with_payoffs, next_outcome, ◌>>=◌}
 use Rattle.gf_nfg.proofs.Common.{p, number_of, ◌+◌, ◌<◌, ◌≤◌, ◌^◌, min, Option, Some}

@@ -1,6 +1,6 @@
 -- The rows of both bodies: as the grammar has them, and as they were read.
 use Rattle.gf_nfg.proofs.Common.{◌≡◌, ℕ, zero, suc, ◌*◌, ◌<◌, ◌≤◌, ◌^◌, List, [], ◌∷◌, ◌++◌, length}
-use Rattle.gf_nfg.proofs.Common.{map, take, drop, refl, sym, ap, subst, ◌∙◌, append_assoc, arith}
+use Rattle.gf_nfg.proofs.Common.{map, take, drop, refl, sym, ap, subst, append_assoc, arith}
 use Rattle.gf_nfg.proofs.Common.{length-drop, AllByRecursion, mul-suc, slice_get_within, Token}
 use Rattle.gf_nfg.proofs.Common.{Each, Ratio, IsPayoff, IsOutcomeInBraces, IsOutcomeNumber, Pays}
 use Rattle.gf_nfg.proofs.Common.{row_of, take-append-drop}

@@ -1,5 +1,5 @@
 -- Where tokens lead the machine.
-use Rattle.gf_nfg.proofs.Common.{◌≡◌, List, [], ◌∷◌, ◌++◌, Result, Ok, Err, refl, sym, ◌∙◌, Token}
+use Rattle.gf_nfg.proofs.Common.{◌≡◌, List, [], ◌∷◌, ◌++◌, Result, Ok, refl, sym, ◌∙◌, Token}
 use Rattle.gf_nfg.proofs.Common.{Why, State, run, step, start, ◌>>=◌, arith}
 
 -- where tokens lead from a state

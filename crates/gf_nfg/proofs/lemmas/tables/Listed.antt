@@ -3,10 +3,10 @@
 use Rattle.gf_nfg.proofs.Common.{◌≡◌, ℕ, ℤ, ◌*◌, ◌<◌, List, [], ◌∷◌, length, map, refl, sym, ap}
 use Rattle.gf_nfg.proofs.Common.{arith, subst, ◌∙◌, Vec, mul_comm, Ratio, positions, product}
 use Rattle.gf_nfg.proofs.Common.{IsTable, Table, rows, IsHeld, Names, row_of, table_with, Content}
-use Rattle.gf_nfg.proofs.Common.{HasPayoffs, IsComplete, names_in, rows_by, table_of, payoffs_in}
+use Rattle.gf_nfg.proofs.Common.{IsComplete, names_in, rows_by, table_of, payoffs_in}
 use Rattle.gf_nfg.proofs.Common.{content_in, content_of, content_told, HasToldTable, Outcomes}
-use Rattle.gf_nfg.proofs.Common.{Payoffs, Heading, Bool, false, ◌++◌, append-nil, ◌+◌, Result, Ok}
-use Rattle.gf_nfg.proofs.Common.{Err, IfOk, Some, drop, slice_get, ◌↔◌, IsTrue, length-map}
+use Rattle.gf_nfg.proofs.Common.{Payoffs, Heading, Bool, false, ◌++◌, append-nil, ◌+◌}
+use Rattle.gf_nfg.proofs.Common.{Some, drop, slice_get, ◌↔◌, IsTrue, length-map}
 use Rattle.gf_nfg.proofs.Common.{ComparesBody, IsCompared, profiles, content_with, SameTable}
 use Rattle.gf_nfg.proofs.Common.{named_by, names_by}
 use Rattle.std.specs.Global.{Global}

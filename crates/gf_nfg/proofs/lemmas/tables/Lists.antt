@@ -1,6 +1,6 @@
 -- Lists that stand one after another, and their lengths.
-use Rattle.gf_nfg.proofs.Common.{◌≡◌, ℕ, zero, suc, ◌+◌, ◌*◌, ◌<◌, List, [], ◌∷◌, ◌++◌, length, map}
-use Rattle.gf_nfg.proofs.Common.{take, drop, Some, refl, ap, subst, ◌∙◌, arith, decimal, sum}
+use Rattle.gf_nfg.proofs.Common.{◌≡◌, ℕ, suc, ◌+◌, ◌*◌, ◌<◌, List, [], ◌∷◌, ◌++◌, length, map}
+use Rattle.gf_nfg.proofs.Common.{take, drop, Some, refl, ap, ◌∙◌, arith, decimal, sum}
 use Rattle.gf_nfg.proofs.Common.{slice_get, AllByRecursion, flat_map, mul-suc, one-le-mul}
 use Rattle.gf_nfg.proofs.Common.{length-append, length-map, positions, product, counted_labels}
 use Rattle.gf_nfg.proofs.Common.{groups, drop_at, take_at}

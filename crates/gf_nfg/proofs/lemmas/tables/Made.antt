@@ -1,7 +1,7 @@
 -- A table that is made from labels and fractions.
 use Rattle.gf_nfg.proofs.Common.{◌≡◌, ℕ, ◌*◌, ◌/◌, ◌<◌, ◌≤◌, List, [], ◌∷◌, length, map, refl, sym}
 use Rattle.gf_nfg.proofs.Common.{ap, subst, ◌∙◌, arith, Option, SomeIff, Vec, unwrap_or, vec_len}
-use Rattle.gf_nfg.proofs.Common.{AllByRecursion, AllZip, flat_map, length-map, label_of, IsLabel}
+use Rattle.gf_nfg.proofs.Common.{AllByRecursion, AllZip, flat_map, length-map, label_of}
 use Rattle.gf_nfg.proofs.Common.{Label, Ratio, IsFraction, all_both, all_joined, all_lists}
 use Rattle.gf_nfg.proofs.Common.{profile_limit, positions, product, IsSpellable, Table, IsTableOf}
 use Rattle.gf_nfg.proofs.Common.{AreParts, AreSpellings, IsHeld, IsNamed, Names, row_of, table_with}

@@ -1,9 +1,9 @@
 -- What was read in full means a table, and a table can be recovered from its parts.
-use Rattle.gf_nfg.proofs.Common.{◌≡◌, ℕ, zero, suc, ◌*◌, ◌<◌, ◌≤◌, List, [], Bool, true, false, ◌∷◌}
-use Rattle.gf_nfg.proofs.Common.{length, map, take, drop, refl, ◌∙◌, arith, length-take}
+use Rattle.gf_nfg.proofs.Common.{◌≡◌, ℕ, ◌*◌, ◌<◌, ◌≤◌, List, [], Bool, true, false, ◌∷◌}
+use Rattle.gf_nfg.proofs.Common.{length, map, drop, refl, ◌∙◌, arith, length-take}
 use Rattle.gf_nfg.proofs.Common.{length-drop, ◌==◌, sum, replicate, pos, AllByRecursion, mul_comm}
-use Rattle.gf_nfg.proofs.Common.{mul-le-mul_right, drop-drop, length-map, Ratio, whole, all_mapped}
-use Rattle.gf_nfg.proofs.Common.{numbers_from, positions, profile_limit, IsWithinLimit, IsSpellable}
+use Rattle.gf_nfg.proofs.Common.{mul-le-mul_right, length-map, Ratio, whole, all_mapped}
+use Rattle.gf_nfg.proofs.Common.{positions, profile_limit, IsWithinLimit, IsSpellable}
 use Rattle.gf_nfg.proofs.Common.{IsTable, rows, Names, groups, numbers_of, row_of, IsHeld, IsNamed}
 use Rattle.gf_nfg.proofs.Common.{HasRows, Content, names_in, choices_of, strategies_of, rows_by}
 use Rattle.gf_nfg.proofs.Common.{table_of, HasPayoffs, HasLabels, IsComplete, drop_at, take_at}

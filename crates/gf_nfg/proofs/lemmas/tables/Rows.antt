@@ -1,11 +1,11 @@
 -- The rows of a table.
-use Rattle.gf_nfg.proofs.Common.{◌≡◌, ℕ, zero, suc, ◌+◌, ◌*◌, ◌<◌, ◌≤◌, List, [], ◌∷◌, ◌++◌, length}
+use Rattle.gf_nfg.proofs.Common.{◌≡◌, ℕ, zero, suc, ◌+◌, ◌*◌, ◌<◌, ◌≤◌, List, [], ◌∷◌, length}
 use Rattle.gf_nfg.proofs.Common.{map, take, drop, Option, Some, None, slice_get, option_map, refl}
 use Rattle.gf_nfg.proofs.Common.{sym, ap, ◌∙◌, arith, pos, replicate, IsSome, SomeIff, unwrap_or}
 use Rattle.gf_nfg.proofs.Common.{vec_len, Vec, ◌/◌, AllByRecursion, flat_map, length-take}
 use Rattle.gf_nfg.proofs.Common.{length-drop, take-append-drop, length-map, length-replicate}
-use Rattle.gf_nfg.proofs.Common.{take_all, drop-drop, mul-div_cancel, mul-le-mul_left}
-use Rattle.gf_nfg.proofs.Common.{mul-le-mul_right, one-le-mul, slice_get-map, Ratio, whole, all_at}
+use Rattle.gf_nfg.proofs.Common.{drop-drop, mul-div_cancel, mul-le-mul_left}
+use Rattle.gf_nfg.proofs.Common.{mul-le-mul_right, slice_get-map, Ratio, whole, all_at}
 use Rattle.gf_nfg.proofs.Common.{all_images, profile_limit, numbers_from, positions, product}
 use Rattle.gf_nfg.proofs.Common.{profiles, Entry, Table, IsTable, rows, IsTableOf, Names}
 use Rattle.gf_nfg.proofs.Common.{entries_of, kept_row, table_with, row_of, number_in, numbers_of}

@@ -1,11 +1,11 @@
 -- What a file means is a table that a file can hold.
 use Rattle.gf_nfg.proofs.Common.{ℕ, zero, suc, pos, ◌+◌, ◌^◌, ◌<◌, List, [], ◌∷◌, ◌++◌, length, map}
-use Rattle.gf_nfg.proofs.Common.{replicate, sym, ap, subst, ◌∙◌, arith, inl, inr, ◌⊎◌, decimal}
+use Rattle.gf_nfg.proofs.Common.{replicate, ap, subst, ◌∙◌, arith, inl, inr, ◌⊎◌, decimal}
 use Rattle.gf_nfg.proofs.Common.{AllByRecursion, flat_map, IsLabel, Token, Closing, Text, IsSpelled}
 use Rattle.gf_nfg.proofs.Common.{Each, braced, IsPayoffInBraces, Ratio, IsFraction, whole, all_at}
 use Rattle.gf_nfg.proofs.Common.{all_parts, all_both, all_joined, all_mapped, numbers_from, Table}
 use Rattle.gf_nfg.proofs.Common.{IsTable, IsSpellable, rows, IsCount, IsLabelList}
-use Rattle.gf_nfg.proofs.Common.{IsOutcomeInBraces, Pays, IsOutcomeNumber, IsPayoffBody}
+use Rattle.gf_nfg.proofs.Common.{IsOutcomeInBraces, Pays, IsPayoffBody}
 use Rattle.gf_nfg.proofs.Common.{IsOutcomeBody, Sentence, SpellsTable}
 use Rattle.gf_token.proofs.SpelledTokens.{AllSpelled, all_spelled, braced_spelled, comment_spelled}
 use Rattle.gf_fraction.proofs.WholeNumbers.{whole_fraction}

@@ -1,4 +1,4 @@
-use Rattle.gf_nfg.proofs.Common.{◌∙◌, table_of, content_told}
+use Rattle.gf_nfg.proofs.Common.{◌∙◌}
 use Rattle.gf_nfg.proofs.lemmas.places.Judged.{memory_at_end}
 use Rattle.gf_nfg.proofs.lemmas.places.Led.{spells_one_table}
 use Rattle.gf_nfg.proofs.lemmas.tables.Told.{told_means}

@@ -1,7 +1,5 @@
-use Rattle.gf_nfg.proofs.Common.{arith, ◌∙◌, ap, sym, Answer, content_told}
-use Rattle.gf_nfg.proofs.lemmas.places.Heard.{answer_judged, answer_read, carried, heard_begun}
-use Rattle.gf_nfg.proofs.lemmas.places.Heard.{refused_why}
-use Rattle.gf_nfg.proofs.lemmas.places.Judged.{only_memory}
+use Rattle.gf_nfg.proofs.Common.{◌∙◌, ap, sym, Answer, content_told}
+use Rattle.gf_nfg.proofs.lemmas.places.Heard.{answer_read, heard_begun}
 use Rattle.gf_nfg.proofs.read.tell_nfg.Goals as goal
 
 pub returns-clause-told : goal.returns-clause-told

@@ -1,5 +1,5 @@
 use Rattle.gf_nfg.proofs.Common.{◌≡◌, ◌∙◌, ap, rules, sym, ◌↔◌, IsTrue, content_told, table_of}
-use Rattle.gf_nfg.proofs.Common.{SameTable, named_by, IfOk-weaker, Payoffs}
+use Rattle.gf_nfg.proofs.Common.{SameTable, named_by, IfOk-weaker}
 use Rattle.gf_nfg.proofs.lemmas.tables.Listed.{in_turn_compared, payoffs_compared, rows_compared}
 use Rattle.gf_nfg.proofs.lemmas.tables.Listed.{rows_kept}
 use Rattle.gf_nfg.proofs.lemmas.tables.Lists.{joined}

@@ -1,8 +1,7 @@
-use Rattle.gf_nfg.proofs.Common.{arith, rules, ◌≡◌, ◌<◌, ◌-◌, ◌∙◌, ap, sym, length, FirstStrategies}
+use Rattle.gf_nfg.proofs.Common.{rules, ◌≡◌, ◌<◌, ◌-◌, ◌∙◌, ap, sym, length, FirstStrategies}
 use Rattle.gf_nfg.proofs.Common.{answer, content_in}
 use Rattle.gf_nfg.proofs.lemmas.places.Heard.{carried}
-use Rattle.gf_nfg.proofs.lemmas.runs.ReaderSteps.{counts_end, first_opens, goes_back, goes_from}
-use Rattle.gf_nfg.proofs.lemmas.runs.ReaderSteps.{goes_to, lists_end}
+use Rattle.gf_nfg.proofs.lemmas.runs.ReaderSteps.{first_opens, goes_back}
 use Rattle.gf_nfg.proofs.reader.Reader.counts_or_lists.Goals as goal
 
 pub returns-in_err-list-clause-machine : goal.returns-in_err-list-clause-machine

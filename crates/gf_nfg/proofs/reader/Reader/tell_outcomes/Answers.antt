@@ -1,7 +1,6 @@
 use Rattle.gf_nfg.proofs.Common.{◌∙◌, refl, arith, length-map, label_of, content_told, choosing}
 use Rattle.gf_nfg.proofs.Common.{paying, told_heading, Outcomes}
-use Rattle.gf_nfg.proofs.lemmas.places.Heard.{carried}
-use Rattle.gf_nfg.proofs.lemmas.runs.ReaderSteps.{all_told, ends_back, no_payoffs}
+use Rattle.gf_nfg.proofs.lemmas.runs.ReaderSteps.{all_told, no_payoffs}
 use Rattle.gf_nfg.proofs.reader.Reader.tell_outcomes.Goals as goal
 
 pub returns : goal.returns

@@ -1,7 +1,6 @@
-use Rattle.gf_nfg.proofs.Common.{arith, ◌∙◌, ap, refl, sym, FlatPayoffs, content_told, told_answer}
+use Rattle.gf_nfg.proofs.Common.{◌∙◌, ap, refl, sym, FlatPayoffs, content_told, told_answer}
 use Rattle.gf_nfg.proofs.Common.{paying, told_heading, Payoffs}
-use Rattle.gf_nfg.proofs.lemmas.places.Heard.{carried}
-use Rattle.gf_nfg.proofs.lemmas.runs.ReaderSteps.{all_told, ends_back}
+use Rattle.gf_nfg.proofs.lemmas.runs.ReaderSteps.{all_told}
 use Rattle.gf_nfg.proofs.reader.Reader.tell_payoffs.Goals as goal
 
 pub returns : goal.returns

@@ -1,5 +1,5 @@
-use Rattle.gf_nfg.proofs.Common.{◌∙◌, sym, ap, subst, arith, length, IsSpellable}
-use Rattle.gf_nfg.proofs.lemmas.tables.Rows.{is_table, length-entries}
+use Rattle.gf_nfg.proofs.Common.{◌∙◌, sym, ap, arith, length}
+use Rattle.gf_nfg.proofs.lemmas.tables.Rows.{length-entries}
 use Rattle.gf_nfg.proofs.table.Table.profiles.Goals as goal
 
 pub returns-clause-number : goal.returns-clause-number

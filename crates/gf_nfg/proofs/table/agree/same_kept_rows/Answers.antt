@@ -1,4 +1,4 @@
-use Rattle.gf_nfg.proofs.Common.{◌≡◌, ◌∙◌, arith, get_or, refl, rules, sym, IsTrue, kept_row}
+use Rattle.gf_nfg.proofs.Common.{◌≡◌, ◌∙◌, arith, get_or, refl, sym, kept_row}
 use Rattle.gf_nfg.proofs.lemmas.tables.Classes.{compared_more, row_at, row_of_both, same_class}
 use Rattle.gf_nfg.proofs.table.agree.same_kept_rows.Goals.{else-unite-via-else-unite}
 use Rattle.gf_nfg.proofs.table.agree.same_kept_rows.Goals.{else-unite-via-then-unite+else-not-same_row}

@@ -1,4 +1,4 @@
-use Rattle.std.proofs.Common.{◌+◌, ◌∙◌, arith}
+use Rattle.std.proofs.Common.{◌+◌, arith}
 use Rattle.gf_nfg.proofs.lemmas.tables.Strategies.{IsLabelAt, has_list, is_within, kept_by}
 use Rattle.gf_nfg.proofs.lemmas.tables.Strategies.{label_at, stands_at}
 use Rattle.gf_nfg.proofs.table.strategies.Strategies.label.Goals as goal
