@@ -3,7 +3,7 @@
 use Rattle.gf_nfg.proofs.Common.{◌≡◌, ℕ, ◌<◌, ◌≤◌, List, [], ◌∷◌, ◌++◌, Ok, refl, ap, ◌∙◌, arith}
 use Rattle.gf_nfg.proofs.Common.{codes, map-append, Token, Lexeme, lexeme, Opening, Closing, Text}
 use Rattle.gf_nfg.proofs.Common.{Bare, Gap, Span, found, same_tokens, profile_limit, tokens_of}
-use Rattle.gf_nfg.proofs.Common.{IsLimitPlace, State, step, Spells, subst, index_of}
+use Rattle.gf_nfg.proofs.Common.{IsLimitPlace, take, State, step, Spells, subst, index_of}
 use Rattle.gf_token.specs.inner.Lexing.{lex}
 use Rattle.gf_nfg.proofs.lemmas.limit.Stays.{stays_within}
 use Rattle.gf_nfg.proofs.lemmas.limit.Counts.{limit_by_files}
@@ -16,11 +16,7 @@ abbrev passing : List ℕ
 passing = codes "NFG 1 R \"b\" { \"A\" \"B\" } { 1024 1025 }"
 
 abbrev before_second : List Lexeme
-before_second =
-    lexeme 0 3 (Bare (codes "NFG")) ∷ lexeme 4 5 (Bare (codes "1")) ∷ lexeme 6 7 (Bare (codes "R"))
-    ∷ lexeme 8 11 (Text (codes "b")) ∷ lexeme 12 13 Opening ∷ lexeme 14 17 (Text (codes "A"))
-    ∷ lexeme 18 21 (Text (codes "B")) ∷ lexeme 22 23 Closing
-    ∷ lexeme 24 25 Opening ∷ lexeme 26 30 (Bare (codes "1024")) ∷ []
+before_second = take 10 (lex Gap 0 passing)
 
 abbrev second : Lexeme
 second = lexeme 31 35 (Bare (codes "1025"))
@@ -35,7 +31,7 @@ Crosses = (s after : State) × Leads (tokens_of before_second) s × (step s seco
     × (s.content.profiles ≤ profile_limit) × (profile_limit < after.content.profiles)
 
 crosses : Crosses
-unfolding index_of
+unfolding lex index_of
 crosses = (_, _, refl, refl, omega arith, omega arith)
 
 pub at_second : IsLimitPlace passing (record { start = 31; end = 35 })

@@ -1,12 +1,11 @@
 -- Where the reader refuses, no file goes on, or each file that does is above the limit.
-use Rattle.gf_nfg.proofs.Common.{◌≡◌, ℕ, ◌<◌, ◌≤◌, List, [], ◌∷◌, ◌++◌, length, Option}
-use Rattle.gf_nfg.proofs.Common.{Result, Ok, Err, refl, sym, subst, ◌∙◌, append_assoc, arith}
-use Rattle.gf_nfg.proofs.Common.{append-nil, map-append, Token, Lexeme, Fault, Span, What}
-use Rattle.gf_nfg.proofs.Common.{Why, TooLong, Expected, Memory, TooManyProfiles, profile_limit}
-use Rattle.gf_nfg.proofs.Common.{Table, Sentence, IsStrategicFile, SpellsTable, tokens_of}
-use Rattle.gf_nfg.proofs.Common.{IsOffendingPlace, IsLimitPlace, IsReason, IsWithinLimit, State}
-use Rattle.gf_nfg.proofs.Common.{Content, step, finish, ended, IsRefusal, IsAcceptedWithinLimit}
-use Rattle.gf_nfg.proofs.Common.{IsJudged}
+use Rattle.gf_nfg.proofs.Common.{◌≡◌, ℕ, ◌<◌, ◌≤◌, List, [], ◌∷◌, ◌++◌, length, Option, Result, Ok}
+use Rattle.gf_nfg.proofs.Common.{Err, refl, sym, subst, ◌∙◌, append_assoc, arith, append-nil}
+use Rattle.gf_nfg.proofs.Common.{map-append, Token, Lexeme, Fault, Span, What, Why, TooLong}
+use Rattle.gf_nfg.proofs.Common.{Expected, Memory, TooManyProfiles, profile_limit, Table, Sentence}
+use Rattle.gf_nfg.proofs.Common.{IsStrategicFile, SpellsTable, tokens_of, IsOffendingPlace}
+use Rattle.gf_nfg.proofs.Common.{IsLimitPlace, IsReason, IsWithinLimit, State, Content, step}
+use Rattle.gf_nfg.proofs.Common.{finish, ended, IsRefusal, IsAcceptedWithinLimit, IsJudged}
 use Rattle.gf_token.proofs.Places.{no_file as refused_no_file}
 use Rattle.gf_nfg.proofs.lemmas.limit.Counts.{limit_by_files, limit_token}
 use Rattle.gf_nfg.proofs.lemmas.limit.Passed.{later, nowhere}

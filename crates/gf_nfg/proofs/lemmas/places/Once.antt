@@ -1,10 +1,9 @@
 -- Each list of bytes is a file within the limit, or it is refused, at one place and with one code.
-use Rattle.gf_nfg.proofs.Common.{◌≡◌, ℕ, List, sym, ap, ◌∙◌, inl, inr, ◌⊎◌}
-use Rattle.gf_nfg.proofs.Common.{code_of, tokens_of, Span, Why, Memory}
-use Rattle.gf_nfg.proofs.Common.{TooManyProfiles, one_span, one_offending_place, one_code}
-use Rattle.gf_nfg.proofs.Common.{Table, IsStrategicFile, SpellsTable, IsLimitPlace, IsWithinLimit}
-use Rattle.gf_nfg.proofs.Common.{IsRefusal, IsJudged, IsRefused, arith}
-use Rattle.gf_nfg.proofs.Common.{Result, Ok, Err, Fault, spelled_once, Content, table_of}
+use Rattle.gf_nfg.proofs.Common.{◌≡◌, ℕ, List, sym, ap, ◌∙◌, inl, inr, ◌⊎◌, code_of, tokens_of}
+use Rattle.gf_nfg.proofs.Common.{Span, Why, Memory, TooManyProfiles, one_span, one_offending_place}
+use Rattle.gf_nfg.proofs.Common.{one_code, Table, IsStrategicFile, SpellsTable, IsLimitPlace}
+use Rattle.gf_nfg.proofs.Common.{IsWithinLimit, IsRefusal, IsJudged, IsRefused, arith, Result, Ok}
+use Rattle.gf_nfg.proofs.Common.{Err, Fault, spelled_once, Content, table_of}
 use Rattle.gf_nfg.proofs.lemmas.limit.Passed.{one_limit_place}
 use Rattle.gf_nfg.proofs.lemmas.places.Judged.{only_memory}
 use Rattle.gf_nfg.proofs.lemmas.places.Heard.{IsAnswered, all_answered}

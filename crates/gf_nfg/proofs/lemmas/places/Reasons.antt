@@ -1,12 +1,12 @@
 -- What a row names is due there, and no other token may follow than those that it accepts; so the
 -- code of each refusal is the reason for it.
-use Rattle.gf_nfg.proofs.Common.{◌≡◌, ℕ, true, false, List, [], ◌∷◌, length, map, arith}
-use Rattle.gf_nfg.proofs.Common.{Option, Some, None, Ok, Err, refl, subst, ap, inl, inr, ◌⊎◌, ◌↔◌}
-use Rattle.gf_nfg.proofs.Common.{not, Token, Opening, Closing, Text, Bare, Broken, What, Why}
-use Rattle.gf_nfg.proofs.Common.{Expected, Position, MayFollow, IsStrategicFile, Role, RoleIsDue}
-use Rattle.gf_nfg.proofs.Common.{IsDue, Format, Version, Letter, Count, Payoff, OutcomeNumber}
-use Rattle.gf_nfg.proofs.Common.{State, Content, at, to, due_at, ended, step, with_labels, p, ◌≤◌}
-use Rattle.gf_nfg.proofs.Common.{Bool, ◌++◌, sym, codes, nat_eq, pointwise, Comma, IsIndex, code_of}
+use Rattle.gf_nfg.proofs.Common.{◌≡◌, ℕ, true, false, List, [], ◌∷◌, length, map, arith, Option}
+use Rattle.gf_nfg.proofs.Common.{Some, None, Ok, Err, refl, subst, ap, inl, inr, ◌⊎◌, ◌↔◌, not}
+use Rattle.gf_nfg.proofs.Common.{Token, Opening, Closing, Text, Bare, Broken, What, Why, Expected}
+use Rattle.gf_nfg.proofs.Common.{Position, MayFollow, IsStrategicFile, Role, RoleIsDue, IsDue}
+use Rattle.gf_nfg.proofs.Common.{Format, Version, Letter, Count, Payoff, OutcomeNumber, State}
+use Rattle.gf_nfg.proofs.Common.{Content, at, to, due_at, ended, step, with_labels, p, ◌≤◌, Bool}
+use Rattle.gf_nfg.proofs.Common.{◌++◌, sym, codes, nat_eq, pointwise, Comma, IsIndex, code_of}
 use Rattle.gf_nfg.proofs.Common.{why_of, Unterminated, NotANumber, ZeroDenominator, NumberTooLarge}
 use Rattle.gf_nfg.proofs.Common.{BadIndex, NoEntry, UnknownOutcome, HasNumberFault, NumberFault}
 use Rattle.gf_nfg.proofs.Common.{number_is, same_fault, Begins, Suits, Applies, IsReason, count_of}
@@ -141,30 +141,20 @@ signed_text = codes "-0"
 zero_suits_payoff : Suits Payoff zero_text
 zero_suits_payoff = (zero_number, number_is zero_text zero_number zero_is_number)
 
-signed_is_number : number_of signed_text ≡ Ok zero_number
-unfolding number_of lowest_of gcd_within
-signed_is_number = refl
-
-signed_is_no_index : index_of signed_text ≡ None
-unfolding index_of
-signed_is_no_index = refl
-
-zero_is_no_count : count_of zero_text ≡ None
-unfolding index_of
-zero_is_no_count = refl
-
-two_is_count : count_of two_text ≡ Some 2
-unfolding index_of
-two_is_count = refl
+-- what these texts are, and what they are not
+computed : (number_of signed_text ≡ Ok zero_number) × (index_of signed_text ≡ None)
+    × (count_of zero_text ≡ None) × (count_of two_text ≡ Some 2)
+unfolding number_of lowest_of gcd_within index_of
+computed = (refl, refl, refl, refl)
 
 zero_suits_outcome : (outcomes : ℕ) → Suits (OutcomeNumber outcomes) zero_text
 zero_suits_outcome outcomes = (0, index_is zero_text 0 zero_is_index, omega arith)
 
 two_suits_count : Suits Count two_text
-two_suits_count = let h = count_is two_text 2 two_is_count in (2, h.1, h.0)
+two_suits_count = let h = count_is two_text 2 computed.3 in (2, h.1, h.0)
 
 no_zero_count : ¬ (Suits Count zero_text)
-no_zero_count h = let f = count_again zero_text h.0 h.2 h.1 in let e = zero_is_no_count in absurd cc
+no_zero_count h = let f = count_again zero_text h.0 h.2 h.1 in let e = computed.2 in absurd cc
 
 not_payoff_and_count : (ts : List Token) → RoleIsDue ts Payoff → ¬ (RoleIsDue ts Count)
 not_payoff_and_count ts h k = no_zero_count ((k zero_text).0 ((h zero_text).1 zero_suits_payoff))
@@ -178,9 +168,9 @@ not_payoff_and_outcome : (ts : List Token) (outcomes : ℕ) → RoleIsDue ts Pay
     → ¬ (RoleIsDue ts (OutcomeNumber outcomes))
 not_payoff_and_outcome ts outcomes h k =
     let g = (k signed_text).0
-    ((h signed_text).1 (zero_number, number_is signed_text zero_number signed_is_number)) in
+    ((h signed_text).1 (zero_number, number_is signed_text zero_number computed.0)) in
     let f = index_again signed_text g.0 g.1 in
-    let e = signed_is_no_index in
+    let e = computed.1 in
     absurd cc
 
 -- ---- the lowest code

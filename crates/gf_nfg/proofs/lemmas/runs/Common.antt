@@ -1,9 +1,8 @@
 -- What the lemmas on runs of the machine share.
-use Rattle.gf_nfg.proofs.Common.{◌≡◌, ℕ, suc, ◌-◌, true, false, List, [], ◌∷◌, ◌++◌}
-use Rattle.gf_nfg.proofs.Common.{Result, Ok, refl, ap, append_assoc, arith, nat_eq, tests}
-use Rattle.gf_nfg.proofs.Common.{rules, pointwise, append-nil, slice_eq-Decides, Decides-eqb}
-use Rattle.gf_nfg.proofs.Common.{Why, Ratio, Content, with_players, with_labels}
-use Rattle.gf_nfg.proofs.Common.{with_payoffs, with_choices}
+use Rattle.gf_nfg.proofs.Common.{◌≡◌, ℕ, suc, ◌-◌, true, false, List, [], ◌∷◌, ◌++◌, Result, Ok}
+use Rattle.gf_nfg.proofs.Common.{refl, ap, append_assoc, arith, nat_eq, tests, rules, pointwise}
+use Rattle.gf_nfg.proofs.Common.{append-nil, slice_eq-Decides, Decides-eqb, Why, Ratio, Content}
+use Rattle.gf_nfg.proofs.Common.{with_players, with_labels, with_payoffs, with_choices}
 
 pub not_zero : (d : ℕ) → nat_eq (suc d) 0 ≡ false
 not_zero d = search (tests, rules)

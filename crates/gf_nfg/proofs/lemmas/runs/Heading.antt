@@ -1,8 +1,8 @@
 -- Runs over the heading of a strategic file: its format, title and players.
-use Rattle.gf_nfg.proofs.Common.{◌≡◌, ℕ, List, [], ◌∷◌, ◌++◌, length, map, Ok, refl}
-use Rattle.gf_nfg.proofs.Common.{sym, subst, append_assoc, arith, codes}
-use Rattle.gf_nfg.proofs.Common.{◌⊎◌, Token, Opening, Closing, Text, Bare}
-use Rattle.gf_nfg.proofs.Common.{braced, Content, at, run, start, nothing, with_title, with_players}
+use Rattle.gf_nfg.proofs.Common.{◌≡◌, ℕ, List, [], ◌∷◌, ◌++◌, length, map, Ok, refl, sym, subst}
+use Rattle.gf_nfg.proofs.Common.{append_assoc, arith, codes, ◌⊎◌, Token, Opening, Closing, Text}
+use Rattle.gf_nfg.proofs.Common.{Bare, braced, Content, at, run, start, nothing, with_title}
+use Rattle.gf_nfg.proofs.Common.{with_players}
 use Rattle.gf_nfg.specs.inner.Position.{Position as p}
 use Rattle.gf_nfg.proofs.lemmas.runs.Common.{same_bytes, with_no_players, with_more_players}
 use Rattle.gf_nfg.proofs.lemmas.runs.Walks.{Leads, leads_more, leads_on, walk}

@@ -1,13 +1,12 @@
 -- Runs over payoffs: the flat list, the outcomes in braces, and the outcome numbers after them.
 use Rattle.gf_nfg.proofs.Common.{arith, ◌≡◌, ℕ, zero, suc, ◌-◌, Bool, true, false, List, [], ◌∷◌}
-use Rattle.gf_nfg.proofs.Common.{◌++◌, length, Result, Ok, refl, sym, ap, ◌∙◌, append_assoc}
-use Rattle.gf_nfg.proofs.Common.{inr, ◌⊎◌, Token, Closing, Comma, Bare, Each, IsPayoffInBraces}
-use Rattle.gf_nfg.proofs.Common.{Ratio, NumberFault, Position, number_is, number_again, IsPayoff}
-use Rattle.gf_nfg.proofs.Common.{State, Content, at, run, paid, with_payoffs, next_outcome, ◌>>=◌}
-use Rattle.gf_nfg.proofs.Common.{p, number_of, ◌+◌, ◌<◌, ◌≤◌, ◌^◌, min, Option, Some}
-use Rattle.gf_nfg.proofs.Common.{AllByRecursion, length-append, Opening, Text, IsIndex, braced}
-use Rattle.gf_nfg.proofs.Common.{IsOutcomeInBraces, chosen, with_choices, index_is, index_again}
-use Rattle.gf_nfg.proofs.Common.{index_of}
+use Rattle.gf_nfg.proofs.Common.{◌++◌, length, Result, Ok, refl, sym, ap, ◌∙◌, append_assoc, inr}
+use Rattle.gf_nfg.proofs.Common.{◌⊎◌, Token, Closing, Comma, Bare, Each, IsPayoffInBraces, Ratio}
+use Rattle.gf_nfg.proofs.Common.{NumberFault, Position, number_is, number_again, IsPayoff, State}
+use Rattle.gf_nfg.proofs.Common.{Content, at, run, paid, with_payoffs, next_outcome, ◌>>=◌, p}
+use Rattle.gf_nfg.proofs.Common.{number_of, ◌+◌, ◌<◌, ◌≤◌, ◌^◌, min, Option, Some, AllByRecursion}
+use Rattle.gf_nfg.proofs.Common.{length-append, Opening, Text, IsIndex, braced, IsOutcomeInBraces}
+use Rattle.gf_nfg.proofs.Common.{chosen, with_choices, index_is, index_again, index_of}
 use Rattle.gf_nfg.proofs.lemmas.runs.Common.{not_zero, pred_suc, ok_why, ok_is, with_no_payoffs}
 use Rattle.gf_nfg.proofs.lemmas.runs.Common.{with_more_payoffs, with_no_choices, with_more_choices}
 use Rattle.gf_nfg.proofs.lemmas.runs.Groups.{First, all_in, groups_found}

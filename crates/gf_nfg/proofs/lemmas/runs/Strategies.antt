@@ -1,7 +1,7 @@
 -- Runs over the strategies: a count for each player, or a list of labels for each.
 use Rattle.gf_nfg.proofs.Common.{◌≡◌, ℕ, zero, suc, ◌-◌, ◌*◌, ◌<◌, List, [], ◌∷◌, ◌++◌, length, map}
-use Rattle.gf_nfg.proofs.Common.{Option, Some, Ok, refl, sym, ap, ◌∙◌, append_assoc, arith}
-use Rattle.gf_nfg.proofs.Common.{inl, inr, ◌⊎◌, AllByRecursion, append-nil, length-append, mul-one}
+use Rattle.gf_nfg.proofs.Common.{Option, Some, Ok, refl, sym, ap, ◌∙◌, append_assoc, arith, inl}
+use Rattle.gf_nfg.proofs.Common.{inr, ◌⊎◌, AllByRecursion, append-nil, length-append, mul-one}
 use Rattle.gf_nfg.proofs.Common.{mul_assoc, Token, Opening, Closing, Text, Bare, Each, braced}
 use Rattle.gf_nfg.proofs.Common.{product, count_of, IsCount, IsLabelList, counted_labels, State}
 use Rattle.gf_nfg.proofs.Common.{Content, Position, at, run, step, counted, listed, opened}

@@ -1,6 +1,6 @@
 -- Where tokens lead the machine.
-use Rattle.gf_nfg.proofs.Common.{◌≡◌, List, [], ◌∷◌, ◌++◌, Result, Ok, refl, sym, ◌∙◌, Token}
-use Rattle.gf_nfg.proofs.Common.{Why, State, run, step, start, ◌>>=◌, arith}
+use Rattle.gf_nfg.proofs.Common.{◌≡◌, List, [], ◌∷◌, ◌++◌, Result, Ok, refl, sym, ◌∙◌, Token, Why}
+use Rattle.gf_nfg.proofs.Common.{State, run, step, start, ◌>>=◌, arith}
 
 -- where tokens lead from a state
 abbrev pub walk : State → List Token → Result State Why

@@ -3,12 +3,11 @@
 use Rattle.gf_nfg.proofs.Common.{◌≡◌, ℕ, ℤ, ◌*◌, ◌<◌, List, [], ◌∷◌, length, map, refl, sym, ap}
 use Rattle.gf_nfg.proofs.Common.{arith, subst, ◌∙◌, Vec, mul_comm, Ratio, positions, product}
 use Rattle.gf_nfg.proofs.Common.{IsTable, Table, rows, IsHeld, Names, row_of, table_with, Content}
-use Rattle.gf_nfg.proofs.Common.{IsComplete, names_in, rows_by, table_of, payoffs_in}
-use Rattle.gf_nfg.proofs.Common.{content_in, content_of, content_told, HasToldTable, Outcomes}
-use Rattle.gf_nfg.proofs.Common.{Payoffs, Heading, Bool, false, ◌++◌, append-nil, ◌+◌}
-use Rattle.gf_nfg.proofs.Common.{Some, drop, slice_get, ◌↔◌, IsTrue, length-map}
-use Rattle.gf_nfg.proofs.Common.{ComparesBody, IsCompared, profiles, content_with, SameTable}
-use Rattle.gf_nfg.proofs.Common.{named_by, names_by}
+use Rattle.gf_nfg.proofs.Common.{IsComplete, names_in, rows_by, table_of, payoffs_in, content_in}
+use Rattle.gf_nfg.proofs.Common.{content_of, content_told, HasToldTable, Outcomes, Payoffs, Heading}
+use Rattle.gf_nfg.proofs.Common.{Bool, false, ◌++◌, append-nil, ◌+◌, Some, drop, slice_get, ◌↔◌}
+use Rattle.gf_nfg.proofs.Common.{IsTrue, length-map, ComparesBody, IsCompared, profiles}
+use Rattle.gf_nfg.proofs.Common.{content_with, SameTable, named_by, names_by}
 use Rattle.std.specs.Global.{Global}
 use Rattle.gf_nfg.specs.inner.ListedTable.{IsListed, IsListing, listed_rows}
 use Rattle.gf_nfg.specs.declared.table.listed.Body.{Body}

@@ -1,9 +1,9 @@
 -- Lists that stand one after another, and their lengths.
-use Rattle.gf_nfg.proofs.Common.{◌≡◌, ℕ, suc, ◌+◌, ◌*◌, ◌<◌, List, [], ◌∷◌, ◌++◌, length, map}
-use Rattle.gf_nfg.proofs.Common.{take, drop, Some, refl, ap, ◌∙◌, arith, decimal, sum}
-use Rattle.gf_nfg.proofs.Common.{slice_get, AllByRecursion, flat_map, mul-suc, one-le-mul}
-use Rattle.gf_nfg.proofs.Common.{length-append, length-map, positions, product, counted_labels}
-use Rattle.gf_nfg.proofs.Common.{groups, drop_at, take_at}
+use Rattle.gf_nfg.proofs.Common.{◌≡◌, ℕ, suc, ◌+◌, ◌*◌, ◌<◌, List, [], ◌∷◌, ◌++◌, length, map, take}
+use Rattle.gf_nfg.proofs.Common.{drop, Some, refl, ap, ◌∙◌, arith, decimal, sum, slice_get}
+use Rattle.gf_nfg.proofs.Common.{AllByRecursion, flat_map, mul-suc, one-le-mul, length-append}
+use Rattle.gf_nfg.proofs.Common.{length-map, positions, product, counted_labels, groups, drop_at}
+use Rattle.gf_nfg.proofs.Common.{take_at}
 use Rattle.std.proofs.lemmas.List.Sums.{sum_by-cons}
 use Rattle.gf_nfg.proofs.lemmas.tables.NumbersInTurn.{length-numbers_from}
 

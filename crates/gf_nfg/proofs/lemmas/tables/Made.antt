@@ -1,10 +1,10 @@
 -- A table that is made from labels and fractions.
 use Rattle.gf_nfg.proofs.Common.{◌≡◌, ℕ, ◌*◌, ◌/◌, ◌<◌, ◌≤◌, List, [], ◌∷◌, length, map, refl, sym}
 use Rattle.gf_nfg.proofs.Common.{ap, subst, ◌∙◌, arith, Option, SomeIff, Vec, unwrap_or, vec_len}
-use Rattle.gf_nfg.proofs.Common.{AllByRecursion, AllZip, flat_map, length-map, label_of}
-use Rattle.gf_nfg.proofs.Common.{Label, Ratio, IsFraction, all_both, all_joined, all_lists}
-use Rattle.gf_nfg.proofs.Common.{profile_limit, positions, product, IsSpellable, Table, IsTableOf}
-use Rattle.gf_nfg.proofs.Common.{AreParts, AreSpellings, IsHeld, IsNamed, Names, row_of, table_with}
+use Rattle.gf_nfg.proofs.Common.{AllByRecursion, AllZip, flat_map, length-map, label_of, Label}
+use Rattle.gf_nfg.proofs.Common.{Ratio, IsFraction, all_both, all_joined, all_lists, profile_limit}
+use Rattle.gf_nfg.proofs.Common.{positions, product, IsSpellable, Table, IsTableOf, AreParts}
+use Rattle.gf_nfg.proofs.Common.{AreSpellings, IsHeld, IsNamed, Names, row_of, table_with}
 use Rattle.gf_nfg.proofs.lemmas.tables.LabelsJoined.{labels_spelled}
 use Rattle.gf_nfg.proofs.lemmas.tables.Rows.{counts_of_lists, full_rows, length-kept, made_of_parts}
 use Rattle.gf_nfg.proofs.lemmas.tables.Rows.{positions_have_rows, some_in_lists, profiles_counted}

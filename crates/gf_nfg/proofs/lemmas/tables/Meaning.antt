@@ -1,12 +1,12 @@
 -- What was read in full means a table, and a table can be recovered from its parts.
-use Rattle.gf_nfg.proofs.Common.{◌≡◌, ℕ, ◌*◌, ◌<◌, ◌≤◌, List, [], Bool, true, false, ◌∷◌}
-use Rattle.gf_nfg.proofs.Common.{length, map, drop, refl, ◌∙◌, arith, length-take}
-use Rattle.gf_nfg.proofs.Common.{length-drop, ◌==◌, sum, replicate, pos, AllByRecursion, mul_comm}
-use Rattle.gf_nfg.proofs.Common.{mul-le-mul_right, length-map, Ratio, whole, all_mapped}
-use Rattle.gf_nfg.proofs.Common.{positions, profile_limit, IsWithinLimit, IsSpellable}
-use Rattle.gf_nfg.proofs.Common.{IsTable, rows, Names, groups, numbers_of, row_of, IsHeld, IsNamed}
-use Rattle.gf_nfg.proofs.Common.{HasRows, Content, names_in, choices_of, strategies_of, rows_by}
-use Rattle.gf_nfg.proofs.Common.{table_of, HasPayoffs, HasLabels, IsComplete, drop_at, take_at}
+use Rattle.gf_nfg.proofs.Common.{◌≡◌, ℕ, ◌*◌, ◌<◌, ◌≤◌, List, [], Bool, true, false, ◌∷◌, length}
+use Rattle.gf_nfg.proofs.Common.{map, drop, refl, ◌∙◌, arith, length-take, length-drop, ◌==◌, sum}
+use Rattle.gf_nfg.proofs.Common.{replicate, pos, AllByRecursion, mul_comm, mul-le-mul_right}
+use Rattle.gf_nfg.proofs.Common.{length-map, Ratio, whole, all_mapped, positions, profile_limit}
+use Rattle.gf_nfg.proofs.Common.{IsWithinLimit, IsSpellable, IsTable, rows, Names, groups}
+use Rattle.gf_nfg.proofs.Common.{numbers_of, row_of, IsHeld, IsNamed, HasRows, Content, names_in}
+use Rattle.gf_nfg.proofs.Common.{choices_of, strategies_of, rows_by, table_of, HasPayoffs}
+use Rattle.gf_nfg.proofs.Common.{HasLabels, IsComplete, drop_at, take_at}
 use Rattle.gf_nfg.proofs.lemmas.tables.Lists.{joined, sum-cons, counts_back, groups-joined}
 use Rattle.gf_nfg.proofs.lemmas.tables.Rows as kept
 

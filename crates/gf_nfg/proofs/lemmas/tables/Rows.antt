@@ -1,15 +1,14 @@
 -- The rows of a table.
-use Rattle.gf_nfg.proofs.Common.{◌≡◌, ℕ, zero, suc, ◌+◌, ◌*◌, ◌<◌, ◌≤◌, List, [], ◌∷◌, length}
-use Rattle.gf_nfg.proofs.Common.{map, take, drop, Option, Some, None, slice_get, option_map, refl}
-use Rattle.gf_nfg.proofs.Common.{sym, ap, ◌∙◌, arith, pos, replicate, IsSome, SomeIff, unwrap_or}
+use Rattle.gf_nfg.proofs.Common.{◌≡◌, ℕ, zero, suc, ◌+◌, ◌*◌, ◌<◌, ◌≤◌, List, [], ◌∷◌, length, map}
+use Rattle.gf_nfg.proofs.Common.{take, drop, Option, Some, None, slice_get, option_map, refl, sym}
+use Rattle.gf_nfg.proofs.Common.{ap, ◌∙◌, arith, pos, replicate, IsSome, SomeIff, unwrap_or}
 use Rattle.gf_nfg.proofs.Common.{vec_len, Vec, ◌/◌, AllByRecursion, flat_map, length-take}
 use Rattle.gf_nfg.proofs.Common.{length-drop, take-append-drop, length-map, length-replicate}
-use Rattle.gf_nfg.proofs.Common.{drop-drop, mul-div_cancel, mul-le-mul_left}
-use Rattle.gf_nfg.proofs.Common.{mul-le-mul_right, slice_get-map, Ratio, whole, all_at}
-use Rattle.gf_nfg.proofs.Common.{all_images, profile_limit, numbers_from, positions, product}
-use Rattle.gf_nfg.proofs.Common.{profiles, Entry, Table, IsTable, rows, IsTableOf, Names}
-use Rattle.gf_nfg.proofs.Common.{entries_of, kept_row, table_with, row_of, number_in, numbers_of}
-use Rattle.gf_nfg.proofs.Common.{IsNamed, HasRows}
+use Rattle.gf_nfg.proofs.Common.{drop-drop, mul-div_cancel, mul-le-mul_left, mul-le-mul_right}
+use Rattle.gf_nfg.proofs.Common.{slice_get-map, Ratio, whole, all_at, all_images, profile_limit}
+use Rattle.gf_nfg.proofs.Common.{numbers_from, positions, product, profiles, Entry, Table, IsTable}
+use Rattle.gf_nfg.proofs.Common.{rows, IsTableOf, Names, entries_of, kept_row, table_with, row_of}
+use Rattle.gf_nfg.proofs.Common.{number_in, numbers_of, IsNamed, HasRows}
 use Rattle.gf_nfg.proofs.lemmas.tables.Profiles.{length-profiles}
 use Rattle.gf_nfg.proofs.lemmas.tables.Lists.{product_above_zero}
 use Rattle.gf_nfg.proofs.lemmas.tables.NumbersInTurn.{length-numbers_from}

@@ -5,8 +5,8 @@ use Rattle.gf_nfg.proofs.Common.{AllByRecursion, flat_map, IsLabel, Token, Closi
 use Rattle.gf_nfg.proofs.Common.{Each, braced, IsPayoffInBraces, Ratio, IsFraction, whole, all_at}
 use Rattle.gf_nfg.proofs.Common.{all_parts, all_both, all_joined, all_mapped, numbers_from, Table}
 use Rattle.gf_nfg.proofs.Common.{IsTable, IsSpellable, rows, IsCount, IsLabelList}
-use Rattle.gf_nfg.proofs.Common.{IsOutcomeInBraces, Pays, IsPayoffBody}
-use Rattle.gf_nfg.proofs.Common.{IsOutcomeBody, Sentence, SpellsTable}
+use Rattle.gf_nfg.proofs.Common.{IsOutcomeInBraces, Pays, IsPayoffBody, IsOutcomeBody, Sentence}
+use Rattle.gf_nfg.proofs.Common.{SpellsTable}
 use Rattle.gf_token.proofs.SpelledTokens.{AllSpelled, all_spelled, braced_spelled, comment_spelled}
 use Rattle.gf_fraction.proofs.WholeNumbers.{whole_fraction}
 use Rattle.gf_nfg.proofs.lemmas.tables.LabelsCounted.{decimal_label}

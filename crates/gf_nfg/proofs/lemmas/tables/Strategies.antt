@@ -2,12 +2,12 @@
 use Rattle.gf_nfg.proofs.Common.{◌≡◌, ℕ, suc, ◌+◌, ◌-◌, ◌<◌, ◌≤◌, List, [], ◌∷◌, ◌++◌, length, map}
 use Rattle.gf_nfg.proofs.Common.{take, drop, get_or, Some, slice_get, option_map, min, refl, sym}
 use Rattle.gf_nfg.proofs.Common.{ap, ◌∙◌, arith, append_assoc, IsSomeAnd, option_and_then}
-use Rattle.gf_nfg.proofs.Common.{length-take, length-drop, drop_more, drop_min}
-use Rattle.gf_nfg.proofs.Common.{drop-drop, length-map, take-map, take_min, drop-map, get_or-take}
-use Rattle.gf_nfg.proofs.Common.{get_or-drop, slice_get-get_or, slice_get_within}
-use Rattle.gf_nfg.proofs.Common.{strategies_of, groups, pieces, start_of, RisesTo}
-use Rattle.gf_nfg.proofs.lemmas.tables.Pieces.{length-pieces, piece_at}
-use Rattle.gf_nfg.proofs.lemmas.tables.Pieces.{start_before_end, end_within}
+use Rattle.gf_nfg.proofs.Common.{length-take, length-drop, drop_more, drop_min, drop-drop}
+use Rattle.gf_nfg.proofs.Common.{length-map, take-map, take_min, drop-map, get_or-take, get_or-drop}
+use Rattle.gf_nfg.proofs.Common.{slice_get-get_or, slice_get_within, strategies_of, groups, pieces}
+use Rattle.gf_nfg.proofs.Common.{start_of, RisesTo}
+use Rattle.gf_nfg.proofs.lemmas.tables.Pieces.{length-pieces, piece_at, start_before_end}
+use Rattle.gf_nfg.proofs.lemmas.tables.Pieces.{end_within}
 
 -- ---- one more list
 

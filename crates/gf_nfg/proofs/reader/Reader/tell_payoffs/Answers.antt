@@ -1,5 +1,5 @@
-use Rattle.gf_nfg.proofs.Common.{◌∙◌, ap, refl, sym, FlatPayoffs, content_told, told_answer}
-use Rattle.gf_nfg.proofs.Common.{paying, told_heading, Payoffs}
+use Rattle.gf_nfg.proofs.Common.{◌∙◌, ap, refl, sym, FlatPayoffs, content_told, told_answer, paying}
+use Rattle.gf_nfg.proofs.Common.{told_heading, Payoffs}
 use Rattle.gf_nfg.proofs.lemmas.runs.ReaderSteps.{all_told}
 use Rattle.gf_nfg.proofs.reader.Reader.tell_payoffs.Goals as goal
 

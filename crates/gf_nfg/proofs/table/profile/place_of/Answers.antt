@@ -1,6 +1,5 @@
 use Rattle.gf_nfg.proofs.Common.{◌∙◌, arith}
-use Rattle.gf_nfg.proofs.lemmas.tables.Places.{player_before}
-use Rattle.gf_nfg.proofs.lemmas.tables.Places.{strategy_out, strategy_fits}
+use Rattle.gf_nfg.proofs.lemmas.tables.Places.{player_before, strategy_out, strategy_fits}
 use Rattle.gf_nfg.proofs.table.profile.place_of.Goals as goal
 
 pub returns-then-strategy-eq0 : goal.returns-then-strategy-eq0
