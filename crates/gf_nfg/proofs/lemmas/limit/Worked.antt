@@ -1,9 +1,9 @@
 -- Two worked files: the counts of one pass the limit at the second count, those of the other
 -- nowhere.
 use Rattle.gf_nfg.proofs.Common.{◌≡◌, ℕ, ◌<◌, ◌≤◌, List, [], ◌∷◌, ◌++◌, Ok, refl, ap, ◌∙◌, arith}
-use Rattle.gf_nfg.proofs.Common.{codes, map-append, Token, Lexeme, lexeme, Opening, Closing, Text}
-use Rattle.gf_nfg.proofs.Common.{Bare, Gap, Span, found, same_tokens, profile_limit, tokens_of}
-use Rattle.gf_nfg.proofs.Common.{IsLimitPlace, take, State, step, Spells, subst, index_of}
+use Rattle.gf_nfg.proofs.Common.{codes, map-append, Token, Lexeme, lexeme, Closing, Bare, Gap, Span}
+use Rattle.gf_nfg.proofs.Common.{found, same_tokens, profile_limit, tokens_of, IsLimitPlace, take}
+use Rattle.gf_nfg.proofs.Common.{State, step, Spells, subst, index_of}
 use Rattle.gf_token.specs.inner.Lexing.{lex}
 use Rattle.gf_nfg.proofs.lemmas.limit.Stays.{stays_within}
 use Rattle.gf_nfg.proofs.lemmas.limit.Counts.{limit_by_files}

@@ -10,7 +10,6 @@ use Rattle.gf_nfg.proofs.Common.{read_on, taken, then_on, within, IsAcceptedWith
 use Rattle.gf_nfg.proofs.Common.{IsRefusal, IsRefused, profile_limit, Content, State, due_at, ended}
 use Rattle.gf_nfg.proofs.Common.{finish, nothing, start, step, answer, content_in, p, Reader}
 use Rattle.gf_token.proofs.TokensAhead.{in_order}
-use Rattle.gf_nfg.specs.inner.Heard.Fails.{of_file, of_memory}
 use Rattle.gf_nfg.proofs.lemmas.places.Judged.{accepted, end_of, err, limit, only_expected}
 use Rattle.gf_nfg.proofs.lemmas.places.Judged.{only_memory, refusal, refusal_end, span_of}
 use Rattle.gf_nfg.proofs.lemmas.places.Led.{IsRead, Led, led_more, led_none, read_whole}
@@ -190,8 +189,7 @@ to_all bytes all = heard start (record { input = bytes; ahead = all })
 
 pub answer_judged : (bytes : List ℕ) (all : List Lexeme) (fault : Fault) → Spells 0 bytes all
     → Fails fault (to_all bytes all) → IsJudged fault.why bytes fault.span
-answer_judged bytes all fault spelled (of_file e) = grind (arith, all_answered)
-answer_judged bytes all fault spelled (of_memory is h) = grind (arith, memory_judged)
+answer_judged bytes all fault spelled h = grind (arith, all_answered, memory_judged)
 
 pub answer_read : (bytes : List ℕ) (all : List Lexeme) (c : Content) → Spells 0 bytes all
     → (to_all bytes all).machine ≡ Ok c → IsRead bytes c

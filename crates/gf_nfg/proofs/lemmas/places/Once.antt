@@ -2,8 +2,8 @@
 use Rattle.gf_nfg.proofs.Common.{◌≡◌, ℕ, List, sym, ap, ◌∙◌, inl, inr, ◌⊎◌, code_of, tokens_of}
 use Rattle.gf_nfg.proofs.Common.{Span, Why, Memory, TooManyProfiles, one_span, one_offending_place}
 use Rattle.gf_nfg.proofs.Common.{one_code, Table, IsStrategicFile, SpellsTable, IsLimitPlace}
-use Rattle.gf_nfg.proofs.Common.{IsWithinLimit, IsRefusal, IsJudged, IsRefused, arith, Result, Ok}
-use Rattle.gf_nfg.proofs.Common.{Err, Fault, spelled_once, Content, table_of}
+use Rattle.gf_nfg.proofs.Common.{IsWithinLimit, IsRefusal, IsJudged, IsRefused, arith, Result}
+use Rattle.gf_nfg.proofs.Common.{Fault, spelled_once, Content, table_of}
 use Rattle.gf_nfg.proofs.lemmas.limit.Passed.{one_limit_place}
 use Rattle.gf_nfg.proofs.lemmas.places.Judged.{only_memory}
 use Rattle.gf_nfg.proofs.lemmas.places.Heard.{IsAnswered, all_answered}
@@ -47,9 +47,7 @@ Answered bytes = ((t : Table) × SpellsTable bytes t × IsWithinLimit t)
     ⊎ ((why : Why) × (span : Span) × IsRefused why bytes span)
 
 by_answer : (bytes : List ℕ) (o : Result Content Fault) → IsAnswered bytes o → Answered bytes
-by_answer bytes (Ok c) a =
-    inl (table_of c, (a.0.0, a.0.1, a.0.2.sentence), within_limit c a.0.2.complete a.1)
-by_answer bytes (Err f) a = inr (f.why, f.span, a)
+by_answer bytes o a = grind (arith, table_of, within_limit)
 
 pub answered : (bytes : List ℕ) → Answered bytes
 answered bytes =

@@ -254,8 +254,7 @@ word_reason : (ts after : List Token) (b : List ℕ) (s : State) (h : Leads ts s
     (o : Option Role) → (row_of s).bare ≡ o → ¬ (AcceptsBare o zero_text)
     → ¬ (AcceptsBare o two_text) → why ≡ Expected (row_of s).expected → Reason ts after (Bare b) why
 word_reason ts after b s h why o e z t is =
-    expected_reason ts after (Bare b) s h why is (none_of_bare ts b
-    (λ f. z (follows_as ts s h o zero_text e f)) (λ f. t (follows_as ts s h o two_text e f)))
+    search (arith, expected_reason, none_of_bare, follows_as, zero_text)
 
 bare_reason : (ts after : List Token) (b : List ℕ) (s : State) (h : Leads ts s) (why : Why)
     (o : Option Role) → (row_of s).bare ≡ o → ¬ (AcceptsBare o b)

@@ -34,46 +34,31 @@ each_parts P (x ∷ xs) ys ts h =
 -- which tokens are a group, in which state so many are due, and what an item adds
 module _ {A : Type 0} (P : List Token → A → Type 0) (state : ℕ → Content → State)
     (add : Content → A → Content) where
-  pub record First (ts : List Token) (due : ℕ) (c r : Content) : Type 0 where
-    pub first : List Token
-    pub rest : List Token
-    pub item : A
-    pub parts : ts ≡ first ++ rest
-    pub is : P first item
-    pub goes_on : run (state due (add c item)) rest ≡ Ok r
+  -- tokens are a group and the rest, from which it goes on
+  abbrev pub First : List Token → ℕ → Content → Content → Type 0
+  First ts due c r = (first : List Token) × (rest : List Token) × (item : A) × (ts ≡ first ++ rest)
+      × P first item × (run (state due (add c item)) rest ≡ Ok r)
 
-  pub record Groups (ts : List Token) (due : ℕ) (c r : Content) : Type 0 where
-    pub inner : List Token
-    pub rest : List Token
-    pub items : List A
-    pub parts : ts ≡ inner ++ rest
-    pub each : Each P inner items
-    pub count : length items ≡ due
-    pub goes_on : run (state 0 (all_in add c items)) rest ≡ Ok r
+  -- they are as many groups as are due and the rest
+  abbrev pub Groups : List Token → ℕ → Content → Content → Type 0
+  Groups ts due c r = (inner : List Token) × (rest : List Token) × (items : List A)
+      × (ts ≡ inner ++ rest) × Each P inner items × (length items ≡ due)
+      × (run (state 0 (all_in add c items)) rest ≡ Ok r)
 
   -- if each run that ends well takes a group first
   pub groups_found : ((ts : List Token) (due : ℕ) (c r : Content)
       → run (state (suc due) c) ts ≡ Ok r → First ts due c r)
       → (ts : List Token) (due : ℕ) (c r : Content) → run (state due c) ts ≡ Ok r
       → Groups ts due c r
-  groups_found one ts zero c r e = record {
-    inner = [];
-    rest = ts;
-    items = [];
-    parts = refl;
-    each = refl;
-    count = refl;
-    goes_on = e;
-  }
+  groups_found one ts zero c r e = ([], ts, [], refl, refl, refl, e)
   groups_found one ts (suc due) c r e =
       let f = one ts due c r e in
-      let h = groups_found one f.rest due (add c f.item) r f.goes_on in
-      record {
-        inner = f.first ++ h.inner;
-        rest = h.rest;
-        items = f.item ∷ h.items;
-        parts = cc (f.parts, h.parts, append_assoc f.first h.inner h.rest);
-        each = (f.first, h.inner, refl, f.is, h.each);
-        count = ap suc h.count;
-        goes_on = h.goes_on;
-      }
+      let h = groups_found one f.1 due (add c f.2) r f.5 in (
+        f.0 ++ h.0,
+        h.1,
+        f.2 ∷ h.2,
+        cc (f.3, h.3, append_assoc f.0 h.0 h.1),
+        (f.0, h.0, refl, f.4, h.4),
+        ap suc h.5,
+        h.6,
+      )

@@ -83,14 +83,8 @@ one_braced outcomes (Bare b ∷ ts) due c r e =
     let s : State = braced_due outcomes (suc due) c in
     let h = paid_found p.AfterBracedPayoff s (number_of b) ts r (rw not_zero at e) in
     let k = comma_found ts due outcomes (with_one c h.0) r (rw pred_suc at h.2) in
-    record {
-      first = Bare b ∷ k.0;
-      rest = k.1;
-      item = h.0;
-      parts = ap (λ x. Bare b ∷ x) k.2;
-      is = (b, k.0, refl, number_is b h.0 h.1, k.3);
-      goes_on = k.4;
-    }
+    let n = number_is b h.0 h.1 in
+    (Bare b ∷ k.0, k.1, h.0, ap (λ x. Bare b ∷ x) k.2, (b, k.0, refl, n, k.3), k.4)
 one_braced outcomes _ due c r e = absurd (grind arith)
 
 brace_found : (ts : List Token) (outcomes : ℕ) (c r : Content)
@@ -108,7 +102,7 @@ pub braces_found : (ts : List Token) (due outcomes : ℕ) (c r : Content)
 braces_found ts due outcomes c r e =
     let h = groups_found IsPayoffInBraces (braced_due outcomes) with_one (one_braced outcomes) ts
     due c r e in
-    let k = brace_found h.rest outcomes (all_in with_one c h.items) r h.goes_on in
+    let k = brace_found h.1 outcomes (all_in with_one c h.2) r h.6 in
     grind (arith, run, next_outcome, all_payoffs)
 
 braced_step : (may : Bool) (b : List ℕ) (due outcomes : ℕ) (n : Ratio) (c : Content)
@@ -152,15 +146,12 @@ greatest_next : (n : ℕ) → next_outcome (greatest n) ≡ greatest (n + 1)
 greatest_next n = omega arith
 
 -- the outcomes still to come, and their closing brace
-pub record Outcomes (ts : List Token) (before : ℕ) (c r : Content) : Type 0 where
-  pub list : List Token
-  pub numbers : List Token
-  pub outcomes : List (List Ratio)
-  pub parts : ts ≡ list ++ Closing ∷ numbers
-  pub each : Each (IsOutcomeInBraces (length c.players)) list outcomes
-  pub goes_on : run (at p.OutcomeNumbers c.profiles 0
-      (greatest (before + length outcomes)) (with_payoffs c (joined outcomes))) numbers
-      ≡ Ok r
+abbrev pub Outcomes : List Token → ℕ → Content → Content → Type 0
+Outcomes ts before c r = (list : List Token) × (numbers : List Token)
+    × (outcomes : List (List Ratio)) × (ts ≡ list ++ Closing ∷ numbers)
+    × Each (IsOutcomeInBraces (length c.players)) list outcomes
+    × (run (at p.OutcomeNumbers c.profiles 0 (greatest (before + length outcomes))
+    (with_payoffs c (joined outcomes))) numbers ≡ Ok r)
 
 -- in more steps than there are tokens
 outcomes_in : (steps : ℕ) (ts : List Token) (before : ℕ) (c r : Content) → length ts < steps
@@ -168,14 +159,7 @@ outcomes_in : (steps : ℕ) (ts : List Token) (before : ℕ) (c r : Content) →
 outcomes_in zero ts before c r less e = absurd (omega arith)
 outcomes_in (suc steps) (Closing ∷ ts) before c r less e =
     let none : greatest before ≡ greatest (before + 0) = omega arith in
-    record {
-      list = [];
-      numbers = ts;
-      outcomes = [];
-      parts = refl;
-      each = refl;
-      goes_on = cc (with_no_payoffs c);
-    }
+    ([], ts, [], refl, refl, cc (with_no_payoffs c))
 outcomes_in (suc steps) (Opening ∷ Text name ∷ ts) before c r less e =
     let b = braces_found ts (length c.players) (greatest before) c r e in
     let d : Content = with_payoffs c b.0 in
@@ -183,16 +167,15 @@ outcomes_in (suc steps) (Opening ∷ Text name ∷ ts) before c r less e =
     cc (greatest_next before) in
     let size = ap length b.3 ∙ length-append b.1 (Closing ∷ b.2) in
     let h = outcomes_in steps b.2 (before + 1) d r (omega (arith, less, size)) f in
-    let more : greatest ((before + 1) + length h.outcomes)
-    ≡ greatest (before + length (b.0 ∷ h.outcomes)) = omega arith in
-    record {
-      list = braced (Text name ∷ b.1) ++ h.list;
-      numbers = h.numbers;
-      outcomes = b.0 ∷ h.outcomes;
-      parts = grind (arith, append_assoc);
-      each = (braced (Text name ∷ b.1), h.list, refl, (name, b.1, refl, b.4, b.5), h.each);
-      goes_on = cc (with_more_payoffs c b.0 (joined h.outcomes));
-    }
+    let more : greatest ((before + 1) + length h.2) ≡ greatest (before + length (b.0 ∷ h.2)) =
+    omega arith in (
+      braced (Text name ∷ b.1) ++ h.0,
+      h.1,
+      b.0 ∷ h.2,
+      grind (arith, append_assoc),
+      (braced (Text name ∷ b.1), h.0, refl, (name, b.1, refl, b.4, b.5), h.4),
+      cc (with_more_payoffs c b.0 (joined h.2)),
+    )
 outcomes_in (suc steps) _ before c r less e = absurd cc
 
 pub outcomes_found : (ts : List Token) (c r : Content)

@@ -75,19 +75,19 @@ outcome_body : (ts : List Token) (c r : Content) → 0 < c.profiles
     → run (at p.InOutcomes 0 0 0 (filled c [] [])) ts ≡ Ok r → Body (Opening ∷ ts) c r
 outcome_body ts c r above e =
     let h = outcomes_found ts (filled c [] []) r e in
-    let none : 0 + length h.outcomes ≡ length h.outcomes = omega arith in
-    let k = choices_found h.numbers c.profiles (greatest (length h.outcomes))
-    (filled c (joined h.outcomes) []) r (cc h.goes_on) in
+    let none : 0 + length h.2 ≡ length h.2 = omega arith in
+    let k = choices_found h.1 c.profiles (greatest (length h.2))
+    (filled c (joined h.2) []) r (cc h.5) in
     let some : 0 < length k.choices = omega (arith, k.count, above) in
-    let full = outcomes_full (length c.players) h.outcomes h.list h.each in
-    let d : Content = filled c (joined h.outcomes) k.choices in
+    let full = outcomes_full (length c.players) h.2 h.0 h.4 in
+    let d : Content = filled c (joined h.2) k.choices in
     record {
-      payoffs = joined h.outcomes;
+      payoffs = joined h.2;
       choices = k.choices;
       got = k.got;
-      has_rows = has_chosen d (length h.outcomes) k.choices some
-          (length-joined_rows (length c.players) h.outcomes full) k.count
-          (known_all (length h.outcomes) k.choices k.known);
+      has_rows = has_chosen d (length h.2) k.choices some
+          (length-joined_rows (length c.players) h.2 full) k.count
+          (known_all (length h.2) k.choices k.known);
       is_body = grind (arith, append_assoc, rows_chosen, choices_pay);
     }
 
@@ -98,32 +98,16 @@ body_found (Opening ∷ ts) c r above e = outcome_body ts c r above e
 body_found ts c r above e = flat_body ts c r e
 
 -- the comment and the body, behind what is neither
-pub record Commented (ts : List Token) (c r : Content) : Type 0 where
-  pub comment : List Token
-  pub body : List Token
-  pub said : List ℕ
-  pub parts : ts ≡ comment ++ body
-  pub is_comment : IsComment comment said
-  pub is_body : Body body (with_comment c said) r
+abbrev Commented : List Token → Content → Content → Type 0
+Commented ts c r = (comment : List Token) × (body : List Token) × (said : List ℕ)
+    × (ts ≡ comment ++ body) × IsComment comment said × Body body (with_comment c said) r
 
-pub comment_found : (ts : List Token) (c r : Content) → 0 < c.profiles
+comment_found : (ts : List Token) (c r : Content) → 0 < c.profiles
     → run (ended (filled (with_comment c []) [] [])) ts ≡ Ok r → Commented ts c r
-comment_found (Text said ∷ ts) c r above e = record {
-  comment = Text said ∷ [];
-  body = ts;
-  said = said;
-  parts = refl;
-  is_comment = inr refl;
-  is_body = body_found ts (with_comment c said) r above e;
-}
-comment_found ts c r above e = record {
-  comment = [];
-  body = ts;
-  said = [];
-  parts = refl;
-  is_comment = inl (refl, refl);
-  is_body = body_found ts (with_comment c []) r above e;
-}
+comment_found (Text said ∷ ts) c r above e =
+    (Text said ∷ [], ts, said, refl, inr refl, body_found ts (with_comment c said) r above e)
+comment_found ts c r above e =
+    ([], ts, [], refl, inl (refl, refl), body_found ts (with_comment c []) r above e)
 
 -- ---- each body is read
 
@@ -251,8 +235,8 @@ sentence_found ts r e =
     let b = strategies_found a.rest (length a.players) (heading a.title a.players) r a.goes_on in
     let c = begun a.title a.players b.kind b.strategies in
     let d = comment_found b.rest c r (some_profiles b.strategies b.some) b.goes_on in
-    let k = d.is_body in
-    let x : Content = filled (with_comment c d.said) k.payoffs k.choices in
+    let k = d.5 in
+    let x : Content = filled (with_comment c d.2) k.payoffs k.choices in
     let complete : IsComplete x = record {
       one_count_each = length-map b.strategies length ∙ b.count;
       some_strategy = all_images (λ n. 0 < n) length b.strategies b.some;
@@ -264,13 +248,13 @@ sentence_found ts r e =
       sentence = record {
         letter = a.letter;
         strategies = braced b.inner;
-        comment = d.comment;
-        body = d.body;
-        parts = cc (a.parts, b.parts, d.parts);
+        comment = d.0;
+        body = d.1;
+        parts = cc (a.parts, b.parts, d.3);
         is_letter = a.is_letter;
         is_strategies = grind (arith, either_kind, strategies_mean);
-        is_comment = d.is_comment;
-        is_body = subst (IsBody (length a.players) d.body) (sym (rows-table_of x complete))
+        is_comment = d.4;
+        is_body = subst (IsBody (length a.players) d.1) (sym (rows-table_of x complete))
             k.is_body;
         is_table = is_table x complete;
       };

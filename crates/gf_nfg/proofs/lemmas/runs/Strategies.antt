@@ -97,15 +97,14 @@ one_count (Bare b ∷ ts) due c r e =
     let s : State = at p.Counts (suc due) 0 0 c in
     let h = counted_found s (count_of b) ts r (rw not_zero at e) in
     let k = count_is b h.0 h.1 in
-    let n = length-counted_labels h.0 in
-    record {
-      first = Bare b ∷ [];
-      rest = ts;
-      item = counted_labels h.0;
-      parts = refl;
-      is = ((b, h.0, refl, k.1, refl), omega (arith, n, k.0));
-      goes_on = cc (n, pred_suc due);
-    }
+    let n = length-counted_labels h.0 in (
+      Bare b ∷ [],
+      ts,
+      counted_labels h.0,
+      refl,
+      ((b, h.0, refl, k.1, refl), omega (arith, n, k.0)),
+      cc (n, pred_suc due),
+    )
 one_count _ due c r e = absurd (grind arith)
 
 -- Text* Closing
@@ -133,14 +132,8 @@ one_list (Opening ∷ ts) due c r e =
     let h = labels_found ts due (length c.labels) c r (rw pred_suc at f) in
     let s : State = at p.InList due (length c.labels) 0 (with_labels c h.0) in
     let k = listed_found s (length h.0) h.1 r (rw behind_front at h.3) in
-    record {
-      first = braced (map Text h.0);
-      rest = h.1;
-      item = h.0;
-      parts = cc (h.2, append_assoc (map Text h.0) (Closing ∷ []) h.1);
-      is = (refl, k.0);
-      goes_on = k.1;
-    }
+    let parts = append_assoc (map Text h.0) (Closing ∷ []) h.1 in
+    (braced (map Text h.0), h.1, h.0, cc (h.2, parts), (refl, k.0), k.1)
 one_list _ due c r e = absurd (grind arith)
 
 -- what the strategies still due and the closing brace read
@@ -165,16 +158,16 @@ closed_found k _ c r e = grind arith
 of_groups : (k : Kind) (ts : List Token) (due : ℕ) (c r : Content)
     → Groups (IsSome k) (due_at k) (with_group k) ts due c r → Read (Opening ∷ ts) due c r
 of_groups k ts due c r h =
-    let e = each_both (IsGroup k) (λ labels. 0 < length labels) h.items h.inner h.each in
-    let z = closed_found k h.rest (all_in (with_group k) c h.items) r h.goes_on in
+    let e = each_both (IsGroup k) (λ labels. 0 < length labels) h.2 h.0 h.4 in
+    let z = closed_found k h.1 (all_in (with_group k) c h.2) r h.6 in
     grind (arith, append_assoc, run, all_groups)
 
 read_by : (k : Kind) (ts : List Token) (due : ℕ) (c r : Content) → run (due_at k due c) ts ≡ Ok r
     → Read (Opening ∷ ts) due c r
-read_by ByCounts ts due c r e =
-    of_groups ByCounts ts due c r (groups_found _ _ _ one_count ts due c r e)
-read_by ByLists ts due c r e =
-    of_groups ByLists ts due c r (groups_found _ _ _ one_list ts due c r e)
+read_by ByCounts ts due c r e = of_groups ByCounts ts due c r (groups_found (IsSome ByCounts)
+    (due_at ByCounts) (with_group ByCounts) one_count ts due c r e)
+read_by ByLists ts due c r e = of_groups ByLists ts due c r (groups_found (IsSome ByLists)
+    (due_at ByLists) (with_group ByLists) one_list ts due c r e)
 
 pub strategies_found : (ts : List Token) (due : ℕ) (c r : Content)
     → run (at p.BeforeStrategies due 0 0 c) ts ≡ Ok r → Read ts due c r

@@ -90,8 +90,7 @@ module _ (bytes : List ℕ) (heading : Heading) (l : Listing)
     pub in_turn_full : l.kept.numbers.items ≡ []
         → length (payoffs_in l.whole.items l.kept.payoffs.items)
         ≡ product (map length names.strategies) * length names.players
-    in_turn_full none =
-        grind (arith, payoffs_are, none_chosen, mul_comm, count_is, names_are)
+    in_turn_full none = grind (arith, payoffs_are, none_chosen, mul_comm, count_is, names_are)
 
     pub rows_held : (rs : List (List Ratio)) → rs ≡ rows_by told told.choices → IsHeld names rs
     rows_held rs are =

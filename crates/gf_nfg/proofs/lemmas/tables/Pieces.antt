@@ -1,6 +1,6 @@
 -- Lists that are cut into pieces.
-use Rattle.gf_nfg.proofs.Common.{◌≡◌, ℕ, zero, suc, ◌+◌, ◌-◌, ◌<◌, ◌≤◌, List, [], ◌∷◌, ◌++◌, length}
-use Rattle.gf_nfg.proofs.Common.{take, drop, get_or, Some, slice_get, refl, ap, arith, true}
+use Rattle.gf_nfg.proofs.Common.{◌≡◌, ℕ, suc, ◌+◌, ◌-◌, ◌<◌, ◌≤◌, List, [], ◌∷◌, ◌++◌, length, take}
+use Rattle.gf_nfg.proofs.Common.{drop, get_or, Some, slice_get, refl, ap, arith, true}
 use Rattle.gf_nfg.proofs.Common.{take-append-le, drop-append-le, length-drop, length-append}
 use Rattle.gf_nfg.proofs.Common.{take_all, drop_at, all_at, all_both, is_spelling, IsLabel, pieces}
 use Rattle.gf_nfg.proofs.Common.{start_of, RisesTo, IsCut, AllByRecursion}
@@ -59,8 +59,7 @@ rises-push from (end ∷ ends) whole more h = (h.0, rises-push end ends whole mo
 -- a piece more
 pub rises-more : {A : Type 0} (ends : List ℕ) (items more : List A) → RisesTo (length items) 0 ends
     → RisesTo (length (items ++ more)) 0 (ends ++ length (items ++ more) ∷ [])
-rises-more ends items more h =
-    rw (length-append items more) (rises-push 0 ends (length items) (length more) h)
+rises-more ends items more h = grind (arith, length-append, rises-push)
 
 pub pieces-more : {A : Type 0} (ends : List ℕ) (items more : List A)
     → RisesTo (length items) 0 ends
@@ -70,8 +69,7 @@ pieces-more ends items more h = rw (length-append items more) (pieces-push 0 end
 
 pub spelled-more : (ends bytes more : List ℕ) → IsCut ends bytes → is_spelling more ≡ true
     → AllByRecursion IsLabel (pieces 0 (ends ++ length (bytes ++ more) ∷ []) (bytes ++ more))
-spelled-more ends bytes more h spelled = rw (pieces-more ends bytes more h.rises)
-    (all_both IsLabel (pieces 0 ends bytes) (more ∷ []) h.spelled (spelled, tt))
+spelled-more ends bytes more h spelled = grind (arith, pieces-more, all_both)
 
 pub ruleset one_piece_more = (rises-more, pieces-more, spelled-more)
 

@@ -1,14 +1,13 @@
 -- The places of profiles.
-use Rattle.gf_nfg.proofs.Common.{◌≡◌, ℕ, zero, suc, ◌+◌, ◌-◌, ◌*◌, ◌<◌, ◌≤◌, Bool, true, false}
-use Rattle.gf_nfg.proofs.Common.{nat_eq, nat_lt, List, [], ◌∷◌, length, map, drop, get_or, Option}
-use Rattle.gf_nfg.proofs.Common.{Some, None, slice_get, option_map, refl, sym, ap, subst, ◌∙◌}
-use Rattle.gf_nfg.proofs.Common.{arith, inl, inr, ◌⊎◌, cond, option_and_then, AllByRecursion}
-use Rattle.gf_nfg.proofs.Common.{pointwise, drop_more, get_or_default, slice_get-map}
-use Rattle.gf_nfg.proofs.Common.{slice_get_within, get_or_from_slice_get, Decides-eqb, nat_tests}
-use Rattle.gf_nfg.proofs.Common.{slice_eq-Decides, mul_comm, mul-le-mul_right, Ratio, all_images}
-use Rattle.gf_nfg.proofs.Common.{profile_limit, IsProfile, place, product, profiles, Table, rows}
-use Rattle.gf_nfg.proofs.Common.{payoffs_at, Names, entries_of, place_of, table_with, cases_Bool}
-use Rattle.gf_nfg.proofs.Common.{length-map}
+use Rattle.gf_nfg.proofs.Common.{◌≡◌, ℕ, zero, suc, ◌+◌, ◌-◌, ◌*◌, ◌<◌, ◌≤◌, nat_eq, nat_lt, List}
+use Rattle.gf_nfg.proofs.Common.{[], ◌∷◌, length, map, drop, get_or, Option, Some, None, slice_get}
+use Rattle.gf_nfg.proofs.Common.{option_map, refl, sym, ap, ◌∙◌, arith, inl, inr, ◌⊎◌}
+use Rattle.gf_nfg.proofs.Common.{option_and_then, AllByRecursion, pointwise, drop_more}
+use Rattle.gf_nfg.proofs.Common.{slice_get-map, slice_get_within, get_or_from_slice_get}
+use Rattle.gf_nfg.proofs.Common.{Decides-eqb, nat_tests, slice_eq-Decides, mul_comm}
+use Rattle.gf_nfg.proofs.Common.{mul-le-mul_right, Ratio, all_images, profile_limit, IsProfile}
+use Rattle.gf_nfg.proofs.Common.{place, product, profiles, Table, payoffs_at, Names, entries_of}
+use Rattle.gf_nfg.proofs.Common.{place_of, table_with, cases_Bool, length-map}
 use Rattle.gf_nfg.proofs.lemmas.tables.Profiles.{every_profile, place_at as stands_at}
 use Rattle.gf_nfg.proofs.lemmas.tables.Rows.{matched}
 

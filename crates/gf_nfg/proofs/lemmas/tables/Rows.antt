@@ -37,25 +37,21 @@ entries_again (e ∷ entries) = ap (λ es. e ∷ es) (entries_again entries)
 
 -- ---- a table of names and rows
 
--- as many rows as there are profiles
-pub matched : (names : Names) (rs : List (List Ratio))
-    → length rs ≡ product (map length names.strategies)
-    → length (profiles (map length names.strategies)) ≡ length rs
-matched names rs one = length-profiles (map length names.strategies) ∙ sym one
+module _ (names : Names) (rs : List (List Ratio))
+    (one : length rs ≡ product (map length names.strategies)) where
+  -- as many rows as there are profiles
+  pub matched : length (profiles (map length names.strategies)) ≡ length rs
+  matched = length-profiles (map length names.strategies) ∙ sym one
 
-pub length-entries : (names : Names) (rs : List (List Ratio))
-    → length rs ≡ product (map length names.strategies)
-    → length (table_with names rs).entries ≡ length rs
-length-entries names rs one = search (arith, length-entries_of, matched)
+  pub length-entries : length (table_with names rs).entries ≡ length rs
+  length-entries = search (arith, length-entries_of, matched)
 
-pub rows-table_with : (names : Names) (rs : List (List Ratio))
-    → length rs ≡ product (map length names.strategies) → rows (table_with names rs) ≡ rs
-rows-table_with names rs one = search (arith, payoffs-entries_of, matched)
+  pub rows-table_with : rows (table_with names rs) ≡ rs
+  rows-table_with = search (arith, payoffs-entries_of, matched)
 
 pub is_table : (names : Names) (rs : List (List Ratio)) → IsNamed names (length rs)
     → AllByRecursion (λ row. length row ≡ length names.players) rs → IsTable (table_with names rs)
-is_table names rs named full =
-    search (arith, profiles-entries_of, matched, rows-table_with)
+is_table names rs named full = search (arith, profiles-entries_of, matched, rows-table_with)
 
 -- ---- rows by their numbers
 
@@ -140,25 +136,22 @@ pub record IsNumber (players count : ℕ) (payoffs zeros : List Ratio) (numbers 
   pub kept : HasRows players count payoffs zeros numbers
   pub number_is : slice_get numbers place ≡ Some number
 
-pub number_within : (players count : ℕ) (payoffs zeros : List Ratio) (numbers : List ℕ)
-    (place number : ℕ) → IsNumber players count payoffs zeros numbers place number
-    → number * players ≤ length payoffs
-number_within players count payoffs zeros numbers place number h = grind (arith, all_at)
+module _ (players count : ℕ) (payoffs zeros : List Ratio) (numbers : List ℕ) (place number : ℕ)
+    (h : IsNumber players count payoffs zeros numbers place number) where
+  pub number_within : number * players ≤ length payoffs
+  number_within = grind (arith, all_at)
 
-pub number_zero : (players count : ℕ) (payoffs zeros : List Ratio) (numbers : List ℕ)
-    (place number : ℕ) → IsNumber players count payoffs zeros numbers place number
-    → number ≡ 0 → zeros ≡ replicate players (whole (pos 0))
-number_zero players count payoffs zeros numbers place number h = grind (arith, all_at)
+  pub number_zero : number ≡ 0 → zeros ≡ replicate players (whole (pos 0))
+  number_zero = grind (arith, all_at)
+
+  pub row_is : slice_get (map (row_of players payoffs) numbers) place
+      ≡ Some (row_of players payoffs number)
+  row_is = grind (arith, slice_get-map)
 
 pub kept_row_is : (players : ℕ) (payoffs zeros : List Ratio) (number : ℕ)
     → (number ≡ 0 → zeros ≡ row_of players payoffs 0)
     → kept_row players payoffs zeros number ≡ row_of players payoffs number
 kept_row_is players payoffs zeros number h = grind arith
-
-pub row_is : (players count : ℕ) (payoffs zeros : List Ratio) (numbers : List ℕ)
-    (place number : ℕ) → IsNumber players count payoffs zeros numbers place number
-    → slice_get (map (row_of players payoffs) numbers) place ≡ Some (row_of players payoffs number)
-row_is players count payoffs zeros numbers place number h = grind (arith, slice_get-map)
 
 slice_get-numbers_from : (first n k : ℕ) → k < n
     → slice_get (numbers_from first n) k ≡ Some (first + k)

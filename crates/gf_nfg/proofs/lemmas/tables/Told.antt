@@ -1,6 +1,7 @@
 -- What was told of a file, and was kept or written, means its table.
 use Rattle.gf_nfg.proofs.Common.{◌≡◌, ℕ, List, subst, IsWithinLimit, Content, IsComplete, table_of}
 use Rattle.gf_nfg.proofs.Common.{content_of, content_told, SpellsTable, Told, HasToldTable, Heading}
+use Rattle.std.proofs.Common.{arith}
 use Rattle.gf_nfg.specs.declared.reader.receive.Kept.{Kept}
 use Rattle.gf_nfg.proofs.lemmas.tables.Meaning.{within_limit}
 
@@ -12,11 +13,7 @@ pub record MeansTable (bytes : List ℕ) (c : Content) : Type 0 where
 
 pub told_means : {T : Type 0} (holds : T → Told → Type 0) (bytes : List ℕ) (heading : Heading)
     (to : T) (h : HasToldTable holds bytes heading to) → MeansTable bytes (content_told h.told)
-told_means holds bytes heading to h = record {
-  spelled = h.spelled;
-  complete = h.complete;
-  within = within_limit (content_told h.told) h.complete h.told.heading.profiles.within;
-}
+told_means holds bytes heading to h = search (arith, within_limit)
 
 pub kept_means : (bytes : List ℕ) (heading : Heading) (kept : Kept)
     → HasToldTable (λ (k : Kept) (told : Told). (k.payoffs.items ≡ told.payoffs)

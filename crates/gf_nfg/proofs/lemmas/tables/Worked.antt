@@ -33,8 +33,7 @@ tokens_in bytes = map (λ l. l.token) (lex Gap 0 bytes)
 
 meant_by : (bytes : List ℕ) (t : Table) (o : Result Content Why) → run start (tokens_in bytes) ≡ o
     → table_read o ≡ ok_table t → SpellsTable bytes t
-meant_by bytes t (Ok c) read means = grind (arith, found, sentence_found)
-meant_by bytes t (Err why) read means = absurd cc
+meant_by bytes t o read means = grind (arith, found, sentence_found)
 
 meant : (bytes : List ℕ) (t : Table) → table_read (run start (tokens_in bytes)) ≡ ok_table t
     → SpellsTable bytes t
