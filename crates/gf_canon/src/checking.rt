@@ -8,7 +8,7 @@ ghost use Rattle.gf_canon.specs.inner.ToldFile.{IsToldFile};
 use crate::format::{Format, format_of};
 use gf_nfg::check_nfg;
 use gf_token::Fault;
-use gf_tree::{NodeByFirstUse, Receive, ToldHeading, tell_efg};
+use gf_tree::{NumberedNode, Receive, ToldHeading, tell_efg};
 use std::alloc::{AllocError, Global};
 
 /// A receiver that keeps nothing.
@@ -27,7 +27,7 @@ impl<'a> Receive<'a> for Unkept {
     }
 
     #[inline(always)]
-    fn node(&mut self, _node: NodeByFirstUse<'_, 'a>) -> Result<(), AllocError> {
+    fn node(&mut self, _node: NumberedNode<'_, 'a>) -> Result<(), AllocError> {
         Ok(())
     }
 }

@@ -25,11 +25,6 @@ kept_of n = record { name = label_of n.name; set = n.set; outcome = n.outcome }
 abbrev pub sizes_of : List Stored → List ℕ
 sizes_of nodes = map (λ n. n.size) nodes
 
--- the position of a place
-abbrev pub position_of : Option ℕ → ℕ
-position_of None = 0
-position_of (Some place) = suc place
-
 -- how many children a node has if its set has this position
 abbrev pub actions_counted : Option (Described SetKey InformationSet) → ℕ
 actions_counted None = 0

@@ -1,5 +1,5 @@
--- What a reader tells of a file: its heading, and then its nodes one after another in prefix order.
-use Rattle.std.specs.Prelude.{ℕ, suc, ◌==◌, max, List, [], ◌∷◌, length, take, Some, None, Option}
+-- What is told of a game: its heading, and then its nodes one after another in prefix order.
+use Rattle.std.specs.Prelude.{ℕ, suc, ◌==◌, max, Bool, List, [], ◌∷◌, length, take, Some, None, Option}
 use Rattle.std.specs.Prelude.{option_map, if◌then◌else◌, map}
 use Rattle.gf_token.specs.Label.{label_of}
 use Rattle.gf_token.specs.Positions.{at_position}
@@ -10,7 +10,9 @@ use Rattle.gf_tree.specs.Game.{Game}
 use Rattle.gf_tree.specs.KeptNodes.{Kept}
 use Rattle.gf_tree.specs.KnownSets.{known_of}
 use Rattle.gf_tree.specs.declared.reader.receive.ToldHeading.{ToldHeading}
-use Rattle.gf_tree.specs.declared.game.node_by_first_use.NodeByFirstUse.{NodeByFirstUse}
+use Rattle.gf_tree.specs.declared.game.numbered_node.NumberedNode.{NumberedNode}
+use Rattle.gf_tree.specs.declared.game.numbered_node.Numbering.{Numbering}
+use Rattle.gf_tree.specs.declared.game.numbered_node.Numbering.TheVariants.{OfFile, ByFirstUse}
 
 -- Everything before the nodes. Labels are lists of bytes.
 pub record Heading : Type 0 where
@@ -28,8 +30,8 @@ heading_of h = record {
 abbrev pub heading_in : Game → Heading
 heading_in g = record { title = g.title; comment = g.comment; players = g.players }
 
--- A node by first-use numbers, which describes a set or an outcome if it is its first use; and the
--- positions of its set and of its outcome in order of first use, or 0 if it has none.
+-- A node, which describes a set or an outcome if it is its first use; and the positions of its set
+-- and of its outcome in order of first use, or 0 if it has none.
 pub record Told : Type 0 where
   pub node : FileNode
   pub set : ℕ
@@ -38,51 +40,59 @@ pub record Told : Type 0 where
 abbrev pub kept_as : Told → Kept
 kept_as t = record { name = t.node.name; set = t.set; outcome = t.outcome }
 
--- what is described if the position is the next one after this many
-abbrev pub if_next : {D : Type 0} → ℕ → ℕ → D → Option D
-if_next known position d = if position == suc known then Some d else None
+-- the key of the set with this position: that of the file, or its position among the sets of its
+-- player
+abbrev pub set_key : Numbering → List (Described SetKey InformationSet) → ℕ → SetKey → SetKey
+set_key OfFile sets position key = key
+set_key ByFirstUse sets position key =
+    set_of key.player (length (known_of key.player (take position sets)))
 
--- the use of the set with this position, by its number among the sets of its player
-abbrev pub told_set : List (Described SetKey InformationSet) → ℕ → ℕ
+-- the number of the outcome with this position: that of the file, or the position
+abbrev pub outcome_key : Numbering → ℕ → ℕ → ℕ
+outcome_key OfFile position number = number
+outcome_key ByFirstUse position number = position
+
+-- a use of this key, with this description or without it
+abbrev pub use_with : {K D : Type 0} → K → Bool → D → Use K D
+use_with key described d = record { key = key; description = if described then Some d else None }
+
+-- the use of the set with this position
+abbrev pub told_set : Numbering → List (Described SetKey InformationSet) → ℕ → Bool
     → Option (Use SetKey InformationSet)
-told_set sets known position = option_map (λ s. record {
-  key = set_of s.key.player (length (known_of s.key.player (take position sets)));
-  description = if_next known position s.description;
-}) (at_position sets position)
+told_set numbering sets position described =
+    option_map (λ s. use_with (set_key numbering sets position s.key) described s.description)
+    (at_position sets position)
 
--- the use of the outcome with this position, which is its number
-abbrev pub told_outcome : List (Described ℕ Outcome) → ℕ → ℕ → Option (Use ℕ Outcome)
-told_outcome outcomes known position = option_map (λ o. record {
-  key = position;
-  description = if_next known position o.description;
-}) (at_position outcomes position)
+-- the use of the outcome with this position
+abbrev pub told_outcome : Numbering → List (Described ℕ Outcome) → ℕ → Bool
+    → Option (Use ℕ Outcome)
+told_outcome numbering outcomes position described =
+    option_map (λ o. use_with (outcome_key numbering position o.key) described o.description)
+    (at_position outcomes position)
 
--- if this many sets and outcomes were used before it
-abbrev pub told_node : List (Described SetKey InformationSet) → List (Described ℕ Outcome)
-    → ℕ → ℕ → Kept → Told
-told_node sets outcomes known_sets known_outcomes n = record {
+-- If this many sets and outcomes were used before it: what is the next one is described.
+abbrev pub told_node : Numbering → List (Described SetKey InformationSet)
+    → List (Described ℕ Outcome) → ℕ → ℕ → Kept → Told
+told_node numbering sets outcomes known_sets known_outcomes n = record {
   node = record {
     name = n.name;
-    set = told_set sets known_sets n.set;
-    outcome = told_outcome outcomes known_outcomes n.outcome;
+    set = told_set numbering sets n.set (n.set == suc known_sets);
+    outcome = told_outcome numbering outcomes n.outcome (n.outcome == suc known_outcomes);
   };
   set = n.set;
   outcome = n.outcome;
 }
 
-abbrev pub told_of : NodeByFirstUse → Told
-told_of n = told_node n.sets.now.known n.outcomes.now.known n.used_sets n.used_outcomes (record {
-  name = label_of n.name;
-  set = n.set;
-  outcome = n.outcome;
-})
+abbrev pub told_of : NumberedNode → Told
+told_of n = told_node n.numbering n.sets.now.known n.outcomes.now.known n.used_sets n.used_outcomes
+    (record { name = label_of n.name; set = n.set; outcome = n.outcome })
 
-abbrev pub told_from : List (Described SetKey InformationSet) → List (Described ℕ Outcome)
-    → ℕ → ℕ → List Kept → List Told
-told_from sets outcomes known_sets known_outcomes [] = []
-told_from sets outcomes known_sets known_outcomes (n ∷ ns) =
-    told_node sets outcomes known_sets known_outcomes n
-    ∷ told_from sets outcomes (max known_sets n.set) (max known_outcomes n.outcome) ns
+abbrev pub told_from : Numbering → List (Described SetKey InformationSet)
+    → List (Described ℕ Outcome) → ℕ → ℕ → List Kept → List Told
+told_from numbering sets outcomes known_sets known_outcomes [] = []
+told_from numbering sets outcomes known_sets known_outcomes (n ∷ ns) =
+    told_node numbering sets outcomes known_sets known_outcomes n
+    ∷ told_from numbering sets outcomes (max known_sets n.set) (max known_outcomes n.outcome) ns
 
 -- this many positions are used at these nodes, and each is first used in its turn
 abbrev pub used_sets_from : ℕ → List Kept → ℕ

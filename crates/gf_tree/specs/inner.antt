@@ -3,7 +3,6 @@ pub mod AddsUp
 pub mod FoundSet
 pub mod GameParts
 pub mod KnownOutcomes
-pub mod KnownUses
 pub mod Machine
 pub mod Numbers
 pub mod Passed

@@ -39,20 +39,18 @@ pub(crate) mod action;
 pub(crate) mod branch;
 pub(crate) mod branches;
 pub(crate) mod file_node;
-mod file_nodes;
+pub(crate) mod file_nodes;
 pub(crate) mod kept;
 pub(crate) mod listed_game;
 pub(crate) mod node;
-pub(crate) mod node_by_first_use;
 pub(crate) mod nodes;
-mod nodes_by_first_use;
+pub(crate) mod numbered_node;
 pub(crate) mod outcomes;
 pub(crate) mod parts;
 mod renumbering;
 pub(crate) mod sets;
 
 pub use file_nodes::FileNodes;
-pub use nodes_by_first_use::NodesByFirstUse;
 
 /// A game: a title, a comment, players, and a tree with information sets and outcomes. Every label
 /// is a slice of the file. Players are counted from 1, chance is player 0, and numbers of sets and

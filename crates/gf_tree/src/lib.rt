@@ -17,8 +17,8 @@ pub use crate::game::file_node::{
 };
 pub use crate::game::listed_game::ListedGame;
 pub use crate::game::node::{Node, Step};
-pub use crate::game::node_by_first_use::NodeByFirstUse;
 pub use crate::game::nodes::Nodes;
-pub use crate::game::{FileNodes, Game, NodesByFirstUse};
+pub use crate::game::numbered_node::NumberedNode;
+pub use crate::game::{FileNodes, Game};
 pub use crate::read::{list_efg, read_efg, tell_efg};
 pub use crate::reader::receive::{Receive, ToldHeading};

@@ -27,10 +27,8 @@ pub fn list_efg<'a>(alloc: Global, input: &'a [u8]) -> Result<ListedGame<'a>, Fa
     ensures only { (g : game) → SpellsGame input.entry.now g → IsReadAs result g }
     ensures judged { IfErr result (λ fault. IsJudged fault.why input.entry.now fault.span) }
 {
-    let mut reader = Reader::new(alloc, input);
-    reader.begin()?;
     let mut nodes = NodeList::new(alloc);
-    reader.nodes(&mut nodes)?;
+    let reader = Reader::read(alloc, input, &mut nodes)?;
     Ok(reader.into_listed_game(nodes))
 }
 
@@ -67,8 +65,6 @@ pub fn tell_efg<'a, R: Receive<'a>>(alloc: Global, input: &'a [u8], to: &mut R) 
         → fault.why ≡ Memory) }
     ensures judged { IfErr result (λ fault. IsJudged fault.why input.entry.now fault.span) }
 {
-    let mut reader = Reader::new(alloc, input);
-    let last = reader.begin()?;
-    reader.tell_heading(last, to)?;
-    reader.nodes(to)
+    Reader::read(alloc, input, to)?;
+    Ok(())
 }

@@ -5,16 +5,14 @@
 //! values would otherwise pass through memory. Descriptions are read by separate functions that are
 //! `inline(never)`.
 
-ghost use Rattle.std.specs.Prelude.{◌≡◌, ◌<◌, ◌≤◌, ◌∷◌, [], ℕ, List, Ok, length, IfOk, OnOk};
-ghost use Rattle.std.specs.Prelude.{MatchResult};
+ghost use Rattle.std.specs.Prelude.{◌≡◌, ℕ, List, Ok, IfOk, OnOk};
 ghost use Rattle.gf_token.specs.Remaining.{StandsBefore};
 ghost use Rattle.gf_token.specs.TokenSpelling.{Spells};
-ghost use Rattle.gf_token.specs.Token.{Lexeme};
-ghost use Rattle.gf_tree.specs.inner.Machine.{nothing, run};
+ghost use Rattle.gf_tree.specs.inner.Machine.{nothing};
 ghost use Rattle.gf_tree.specs.inner.Machine.Position.{Format, NodeDue};
-ghost use Rattle.gf_tree.specs.inner.ReadGame.{game_of};
-ghost use Rattle.gf_tree.specs.KeptNodes.{AreAmong};
-ghost use Rattle.gf_tree.specs.inner.ReaderState.{answer, content_of, content_with, Goes, HasRoom};
+ghost use Rattle.gf_tree.specs.GameOf.{SpellsGame};
+ghost use Rattle.gf_tree.specs.inner.ReaderState.{answer, content_of, Goes, HasRoom, IsRead};
+ghost use Rattle.gf_tree.specs.inner.ReaderState.{KeepsNodes};
 
 pub(crate) mod again;
 mod heading;
@@ -24,7 +22,6 @@ pub(crate) mod readings;
 pub(crate) mod receive;
 mod set;
 mod telling;
-pub(crate) mod told;
 
 use crate::game::kept::NodeList;
 use crate::game::listed_game::ListedGame;
@@ -32,6 +29,7 @@ use crate::game::outcomes::Outcomes;
 use crate::game::parts::Parts;
 use crate::game::sets::Sets;
 use crate::numbers::indexing::Indexing;
+use crate::reader::receive::Receive;
 use gf_token::{Fault, Label, Span, Tokens};
 use std::alloc::Global;
 
@@ -55,7 +53,7 @@ pub(crate) struct Reader<'a> {
 
 impl<'a> Reader<'a> {
     /// A reader before the first token of the input.
-    pub(crate) fn new(alloc: Global, input: &'a [u8]) -> Reader<'a>
+    fn new(alloc: Global, input: &'a [u8]) -> Reader<'a>
         ensures content { content_of result ≡ nothing }
         ensures input { result.tokens.input ≡ input.entry.now }
         ensures spelled { Spells 0 input.entry.now result.tokens.ahead }
@@ -79,7 +77,7 @@ impl<'a> Reader<'a> {
     }
 
     /// Reads the heading: everything before the first node. Returns the place of its last token.
-    pub(crate) fn begin(&mut self) -> Result<Span, Fault>
+    fn begin(&mut self) -> Result<Span, Fault>
         requires due { self.old.due ≡ 1 }
         requires room { HasRoom 0 self.old }
         ensures machine { Goes (answer Format self.old) result (answer NodeDue self.new) }
@@ -95,12 +93,27 @@ impl<'a> Reader<'a> {
         Ok(self.comment(brace))
     }
 
+    /// Reads a file to its end, and tells it to a receiver.
+    pub(crate) fn read<R: Receive<'a>>(
+        alloc: Global,
+        input: &'a [u8],
+        to: &mut R,
+    ) -> Result<Reader<'a>, Fault>
+        requires { R.untold to.old }
+        ensures { IsRead (R.holds to.old) input.entry.now result to.new }
+    {
+        let mut reader = Reader::new(alloc, input);
+        let last = reader.begin()?;
+        reader.tell_heading(last, to)?;
+        reader.nodes(to)?;
+        Ok(reader)
+    }
+
     /// The game of the file, which was read to its end and has these nodes.
     pub(crate) fn into_listed_game(self, nodes: NodeList<'a>) -> ListedGame<'a>
-        requires placed { AreAmong (length self.sets.known) (length self.outcomes.known) nodes }
-        requires read { (bytes : List ℕ) × (tokens : List Lexeme) × Spells 0 bytes tokens
-            × (run (length bytes) Format nothing tokens ≡ Ok (content_with self nodes)) }
-        ensures { result ≡ game_of (content_with self.entry nodes.entry) }
+        requires { (bytes : List ℕ) × IsRead KeepsNodes bytes (Ok self) nodes }
+        ensures { (bytes : List ℕ) → IsRead KeepsNodes bytes (Ok self.entry) nodes.entry
+            → SpellsGame bytes result }
     {
         let parts = Parts {
             title: self.title,

@@ -12,7 +12,7 @@ use crate::sameness::Names;
 use gf_fraction::Fraction;
 use gf_token::Label;
 use gf_tree::{
-    FileNode, NodeByFirstUse, OutcomeDescription, OutcomeUse, SetDescription, SetUse, ToldHeading,
+    FileNode, NumberedNode, OutcomeDescription, OutcomeUse, SetDescription, SetUse, ToldHeading,
     same_actions,
 };
 
@@ -155,7 +155,7 @@ fn same_file_node(a: &FileNode<'_, '_>, b: &FileNode<'_, '_>, names: Names) -> b
 /// Whether two nodes are the same, even if they describe a set or an outcome. Most do not.
 #[cold]
 #[inline(never)]
-fn same_described(a: NodeByFirstUse<'_, '_>, b: NodeByFirstUse<'_, '_>, names: Names) -> bool
+fn same_described(a: NumberedNode<'_, '_>, b: NumberedNode<'_, '_>, names: Names) -> bool
     ensures { IsTrue result
         ↔ (node_by names (told_of a.entry).node ≡ node_by names (told_of b.entry).node) }
 {
@@ -164,7 +164,7 @@ fn same_described(a: NodeByFirstUse<'_, '_>, b: NodeByFirstUse<'_, '_>, names: N
 
 /// Whether two nodes are the same.
 #[inline(always)]
-pub(crate) fn same_node(a: NodeByFirstUse<'_, '_>, b: NodeByFirstUse<'_, '_>, names: Names) -> bool
+pub(crate) fn same_node(a: NumberedNode<'_, '_>, b: NumberedNode<'_, '_>, names: Names) -> bool
     ensures { IsTrue result
         ↔ (node_by names (told_of a.entry).node ≡ node_by names (told_of b.entry).node) }
 {

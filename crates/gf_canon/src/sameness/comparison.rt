@@ -6,7 +6,7 @@ ghost use Rattle.gf_tree.specs.CanonicalGame.{canonical_game};
 
 use crate::sameness::Names;
 use crate::sameness::compare::{same_heading, same_node};
-use gf_tree::{ListedGame, NodeByFirstUse, NodesByFirstUse, Receive, ToldHeading};
+use gf_tree::{ListedGame, NumberedNode, FileNodes, Receive, ToldHeading};
 use std::alloc::AllocError;
 
 /// A comparison of a game with a tree that is told. Sets and outcomes that a renumbering carries to
@@ -16,7 +16,7 @@ use std::alloc::AllocError;
 pub(crate) struct Comparison<'g, 'a> {
     game: &'g ListedGame<'a>,
     /// The nodes of the game after as many as were told. After a difference it stays as it is.
-    left: NodesByFirstUse<'g, 'a>,
+    left: FileNodes<'g, 'a>,
     names: Names,
     /// No difference was found.
     same: bool,
@@ -63,7 +63,7 @@ impl<'g, 'a, 'b> Receive<'b> for Comparison<'g, 'a> {
     }
 
     #[inline(always)]
-    fn node(&mut self, node: NodeByFirstUse<'_, 'b>) -> Result<(), AllocError> {
+    fn node(&mut self, node: NumberedNode<'_, 'b>) -> Result<(), AllocError> {
         if self.same {
             self.same = match self.left.next() {
                 Some(other) => same_node(other, node, self.names),

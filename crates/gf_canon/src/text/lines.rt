@@ -11,7 +11,7 @@ use crate::sameness::Names;
 use crate::sameness::named::{name_by, unnamed};
 use crate::text::node_line::write_node;
 use crate::text::write::write_heading;
-use gf_tree::{FileNode, NodeByFirstUse, Receive, ToldHeading};
+use gf_tree::{FileNode, NumberedNode, Receive, ToldHeading};
 use std::alloc::{AllocError, Global};
 
 /// The text of a file that is being told.
@@ -68,7 +68,7 @@ impl<'a> Receive<'a> for Lines {
 
     #[tactic(auto, using(crate::proofs::lemmas::texts::ToldTexts::told_lines))]
     #[inline(always)]
-    fn node(&mut self, node: NodeByFirstUse<'_, 'a>) -> Result<(), AllocError> {
+    fn node(&mut self, node: NumberedNode<'_, 'a>) -> Result<(), AllocError> {
         match self.names {
             Names::Kept => write_node(&node.file_node(), &mut self.text),
             Names::Aside => write_unnamed(node.file_node(), &mut self.text),

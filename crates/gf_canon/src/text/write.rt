@@ -61,7 +61,7 @@ fn write_text(g: &Game<'_>, out: &mut Vec<u8>) -> Result<(), AllocError>
 {
     write_heading(g.title(), g.comment(), g.players(), out)?;
     for node in g.file_nodes() {
-        write_node(&node, out)?;
+        write_node(&node.file_node(), out)?;
     }
     Ok(())
 }

@@ -9,6 +9,10 @@ use Rattle.gf_tree.specs.declared.game.parts.Parts.{Parts as StoredParts}
 use Rattle.gf_tree.specs.Game.{Game, IsGame}
 use Rattle.gf_tree.specs.Subtrees.{child_trees, root_node, subtree_at, subtree_sizes}
 use Rattle.gf_tree.specs.Description.{SetKey, InformationSet, Outcome}
+use Rattle.gf_tree.specs.FirstUse.{first_use_numbers}
+use Rattle.gf_tree.specs.Renumbering.{renumbered}
+use Rattle.gf_tree.specs.declared.game.numbered_node.Numbering.{Numbering}
+use Rattle.gf_tree.specs.declared.game.numbered_node.Numbering.TheVariants.{OfFile, ByFirstUse}
 use Rattle.gf_tree.specs.KeptNodes.{Kept, AreAmong, IsAmong, child_count, entries_with, kept_of}
 use Rattle.gf_tree.specs.KeptNodes.{node_with, sizes_of, tree_with}
 
@@ -39,6 +43,11 @@ game_with p nodes = record {
   sets = p.sets;
   outcomes = p.outcomes;
 }
+
+-- by its own numbers, or by first-use numbers
+abbrev pub game_by : Numbering → Game → Game
+game_by OfFile g = g
+game_by ByFirstUse g = renumbered (first_use_numbers g) g
 
 -- The nodes fill one tree, each has its set and its outcome, and its entry also has the size of its
 -- subtree.

@@ -6,8 +6,9 @@ use Rattle.gf_token.specs.Label.{label_of}
 use Rattle.gf_token.specs.Positions.{at_position}
 use Rattle.gf_token.specs.Remaining.{IsPlaceIn, Remaining}
 use Rattle.gf_token.specs.declared.token.TextToken.{TextToken}
-use Rattle.gf_token.specs.Token.{lexeme}
+use Rattle.gf_token.specs.Token.{Lexeme, lexeme}
 use Rattle.gf_token.specs.Token.Token.{Text}
+use Rattle.gf_token.specs.TokenSpelling.{Spells}
 use Rattle.gf_token.specs.declared.fault.Fault.{Fault}
 use Rattle.gf_token.specs.declared.fault.Span.{Span}
 use Rattle.gf_token.specs.declared.fault.Why.TheVariants.{Memory}
@@ -15,11 +16,13 @@ use Rattle.gf_tree.specs.Description.{InformationSet, SetKey}
 use Rattle.gf_tree.specs.FiniteMap.{Described}
 use Rattle.gf_tree.specs.Game.{Node}
 use Rattle.gf_tree.specs.PrefixOrder.{Entry}
-use Rattle.gf_tree.specs.Told.{used_sets_from, Heading, Told, heading_in, told_from, told_node}
-use Rattle.gf_tree.specs.Told.{used_outcomes_from}
+use Rattle.gf_tree.specs.Told.{used_sets_from, Heading, Told, heading_in, kept_as, told_from}
+use Rattle.gf_tree.specs.Told.{told_node, used_outcomes_from}
 use Rattle.gf_tree.specs.KeptNodes.{AreAmong, IsAmong, Kept, child_count, entries_with, entry_with}
-use Rattle.gf_tree.specs.inner.Machine.{Begun, Content, Position, State, run, with_node}
-use Rattle.gf_tree.specs.inner.Machine.Position.{NodeDue}
+use Rattle.gf_tree.specs.inner.Machine.{Begun, Content, Position, State, nothing, run}
+use Rattle.gf_tree.specs.inner.Machine.{with_node}
+use Rattle.gf_tree.specs.inner.Machine.Position.{Format, NodeDue}
+use Rattle.gf_tree.specs.declared.game.numbered_node.Numbering.TheVariants.{ByFirstUse}
 use Rattle.gf_tree.specs.inner.Passed.{HasPassed}
 use Rattle.gf_tree.specs.inner.ReadGame.{game_of}
 use Rattle.gf_tree.specs.declared.reader.Reader.{Reader}
@@ -138,7 +141,7 @@ pub record TellsNode {T : Type 0} (holds : T → T → Heading → List Told →
     told_outcomes = new.told_outcomes;
   }
   pub told : (untold : T) (heading : Heading) (told : List Told) → holds untold from heading told
-      → holds untold to heading (told ++ told_node old.sets.known
+      → holds untold to heading (told ++ told_node ByFirstUse old.sets.known
       old.outcomes.known old.told_sets old.told_outcomes node ∷ [])
   pub told_sets : new.told_sets ≡ max old.told_sets node.set
   pub told_outcomes : new.told_outcomes ≡ max old.told_outcomes node.outcome
@@ -151,7 +154,7 @@ pub record Tells {T : Type 0} (holds : T → T → Heading → List Told → Typ
       ≡ behind (entry_with new.sets.known new.outcomes.known node ∷ []) (answer NodeDue new)
   pub placed : IsAmong (length new.sets.known) (length new.outcomes.known) node
   pub told : (untold : T) (heading : Heading) (told : List Told) → holds untold from heading told
-      → holds untold to heading (told ++ told_node new.sets.known
+      → holds untold to heading (told ++ told_node ByFirstUse new.sets.known
       new.outcomes.known old.told_sets old.told_outcomes node ∷ [])
   pub told_sets : new.told_sets ≡ max old.told_sets node.set
   pub told_outcomes : new.told_outcomes ≡ max old.told_outcomes node.outcome
@@ -162,7 +165,7 @@ pub record Tells {T : Type 0} (holds : T → T → Heading → List Told → Typ
 pub record HasTold {T : Type 0} (holds : T → List Told → Type 0) (r : Reader) (to : T)
     (nodes : List Kept) : Type 0 where
   pub placed : AreAmong (length r.sets.known) (length r.outcomes.known) nodes
-  pub told : holds to (told_from r.sets.known r.outcomes.known 0 0 nodes)
+  pub told : holds to (told_from ByFirstUse r.sets.known r.outcomes.known 0 0 nodes)
   pub told_sets : r.told_sets ≡ used_sets_from 0 nodes
   pub told_outcomes : r.told_outcomes ≡ used_outcomes_from 0 nodes
 
@@ -202,6 +205,25 @@ abbrev pub GoesTelling : {A T : Type 0} → (T → T → Heading → List Told �
     → Answer → Reader → Reader → T → T → Type 0
 GoesTelling holds result before old new from to =
     MatchResult result (λ _. Tells holds before old new from to) (λ f. Fails f before)
+
+-- ---- whole files
+
+-- what the machine answers to all tokens of an input
+abbrev pub to_all : List ℕ → List Lexeme → Answer
+to_all bytes tokens = heard Format nothing (record { input = bytes; ahead = tokens })
+
+-- A file was read to its end and told, or it was refused.
+pub record IsRead {T : Type 0} (holds : T → Heading → List Told → Type 0) (bytes : List ℕ)
+    (result : Result Reader Fault) (to : T) : Type 0 where
+  pub tokens : List Lexeme
+  pub spelled : Spells 0 bytes tokens
+  pub answered : MatchResult result
+      (λ r. HasReadAll (λ t. holds t (heading_read r)) (to_all bytes tokens) r to)
+      (λ f. Fails f (to_all bytes tokens))
+
+-- the nodes of a list are those that it was told
+abbrev pub KeepsNodes : List Kept → Heading → List Told → Type 0
+KeepsNodes nodes heading told = nodes ≡ map kept_as told
 
 -- the tokens with a text before them
 abbrev pub with_text : Remaining → TextToken → Remaining

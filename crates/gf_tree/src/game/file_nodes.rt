@@ -1,94 +1,44 @@
-//! The nodes of a game as a file gives them.
+//! The nodes of a game as a file gives them, by its numbers or by first-use numbers.
 
-ghost use Rattle.std.specs.Prelude.{◌≡◌, ◌≤◌, length, option_map};
-ghost use Rattle.gf_token.specs.Positions.{at_position};
-ghost use Rattle.gf_tree.specs.FileNodeOf.{file_node_of, outcome_use_of, set_use_of};
+ghost use Rattle.std.specs.Prelude.{◌≡◌, map};
+ghost use Rattle.std.specs.Slice.Iter.{iter_rest};
 ghost use Rattle.gf_tree.specs.FileNodes.{file_nodes};
-ghost use Rattle.gf_tree.specs.inner.KnownUses.{use_at};
+ghost use Rattle.gf_tree.specs.FirstUse.{first_use_numbers};
+ghost use Rattle.gf_tree.specs.KeptNodes.{kept_of};
+ghost use Rattle.gf_tree.specs.Renumbering.{renumbered};
+ghost use Rattle.gf_tree.specs.inner.GameParts.{IsListed, game_by, game_with, parts_of};
 
 use crate::game::Game;
-use crate::game::file_node::{FileNode, OutcomeDescription, OutcomeUse, SetDescription, SetUse};
 use crate::game::kept::Stored;
+use crate::game::numbered_node::{NumberedNode, Numbering};
 use crate::game::outcomes::Outcomes;
+use crate::game::parts::Parts;
 use crate::game::sets::Sets;
 use std::marker::Model;
 use std::slice;
 
-/// The use of the set with this position, if this many are known: it is described if it is the next
-/// one.
-fn set_use<'n, 'a>(sets: &'n Sets<'a>, known: u32, position: u32) -> Option<SetUse<'n, 'a>>
-    requires { position ≤ length sets.now.known }
-    ensures { option_map set_use_of result
-        ≡ option_map (use_at known position) (at_position sets.now.known position) }
-{
-    if position == 0 {
-        return None;
-    }
-    let place = position - 1;
-    let (player, number) = sets.key(place);
-    let description = if place == known {
-        Some(SetDescription {
-            name: sets.name(place),
-            actions: sets.actions(place),
-        })
-    } else {
-        None
-    };
-    Some(SetUse {
-        player,
-        number,
-        description,
-    })
-}
-
-/// The use of the outcome with this position, if this many are known: it is described if it is the
-/// next one.
-fn outcome_use<'n, 'a>(
-    outcomes: &'n Outcomes<'a>,
-    known: u32,
-    position: u32,
-) -> Option<OutcomeUse<'n, 'a>>
-    requires { position ≤ length outcomes.now.known }
-    ensures { option_map outcome_use_of result
-        ≡ option_map (use_at known position) (at_position outcomes.now.known position) }
-{
-    if position == 0 {
-        return None;
-    }
-    let place = position - 1;
-    let description = if place == known {
-        Some(OutcomeDescription {
-            name: outcomes.name(place),
-            payoffs: outcomes.payoffs(place),
-        })
-    } else {
-        None
-    };
-    Some(OutcomeUse {
-        number: outcomes.number(place),
-        description,
-    })
-}
-
 impl<'a> Game<'a> {
     /// The nodes in prefix order, as a file gives them: each set and each outcome is described at
-    /// its first use, and nowhere else.
+    /// its first use, and nowhere else. This takes no memory.
     pub fn file_nodes(&self) -> FileNodes<'_, 'a>
         ensures { result ≡ file_nodes self.now }
     {
-        FileNodes {
-            sets: &self.parts.sets,
-            outcomes: &self.parts.outcomes,
-            nodes: self.nodes.iter(),
-            used_sets: 0,
-            used_outcomes: 0,
-        }
+        FileNodes::new(Numbering::OfFile, &self.parts, self.nodes.iter())
+    }
+
+    /// The same, but by first-use numbers: the number of a set is its position among the sets of
+    /// its player, and the number of an outcome its position among the outcomes.
+    pub fn nodes_by_first_use(&self) -> FileNodes<'_, 'a>
+        ensures { result ≡ file_nodes (renumbered (first_use_numbers self.now) self.now) }
+    {
+        FileNodes::new(Numbering::ByFirstUse, &self.parts, self.nodes.iter())
     }
 }
 
 /// An iterator over the nodes of a game in prefix order, as a file gives them.
 #[derive(Drop)]
 pub struct FileNodes<'g, 'a> {
+    numbering: Numbering,
     sets: &'g Sets<'a>,
     outcomes: &'g Outcomes<'a>,
     /// The nodes that come next.
@@ -103,32 +53,61 @@ impl<'g, 'a> Model for FileNodes<'g, 'a> {
     ghost use Rattle.std.specs.Slice.Iter.{iter_rest};
     ghost use Rattle.gf_tree.specs.FileTree.{FileNode};
     ghost use Rattle.gf_tree.specs.KeptNodes.{AreAmong, kept_of};
-    ghost use Rattle.gf_tree.specs.inner.KnownUses.{nodes_given};
+    ghost use Rattle.gf_tree.specs.Told.{told_from};
 
     ghost Value = { List FileNode };
 
-    ghost view = { λ n. nodes_given n.sets.now.known n.outcomes.now.known n.used_sets
-        n.used_outcomes (map kept_of (iter_rest n.nodes)) };
+    ghost view = { λ n. map (λ t. t.node) (told_from n.numbering n.sets.now.known
+        n.outcomes.now.known n.used_sets n.used_outcomes (map kept_of (iter_rest n.nodes))) };
 
     ghost invariant = { λ n. AreAmong (length n.sets.now.known) (length n.outcomes.now.known)
         (map kept_of (iter_rest n.nodes)) };
 }
 
+impl<'g, 'a> FileNodes<'g, 'a> {
+    /// All nodes of the game of these parts, which are these.
+    pub(crate) fn new(
+        numbering: Numbering,
+        parts: &'g Parts<'a>,
+        nodes: slice::Iter<'g, Stored<'a>>,
+    ) -> FileNodes<'g, 'a>
+        requires { IsListed (parts_of parts.now) (map kept_of (iter_rest nodes)) }
+        ensures { result ≡ file_nodes (game_by numbering
+            (game_with (parts_of parts.entry.now) (map kept_of (iter_rest nodes.entry)))) }
+    {
+        FileNodes {
+            numbering,
+            sets: &parts.sets,
+            outcomes: &parts.outcomes,
+            nodes,
+            used_sets: 0,
+            used_outcomes: 0,
+        }
+    }
+}
+
 impl<'g, 'a> Iterator for FileNodes<'g, 'a> {
     ghost use Rattle.std.specs.Iterator.{YieldsFirstBy, item_count};
+    ghost use Rattle.gf_tree.specs.Told.{told_of};
 
-    type Item = FileNode<'g, 'a>;
+    type Item = NumberedNode<'g, 'a>;
 
-    ghost next_gives = { YieldsFirstBy file_node_of (λ left. left) };
+    ghost next_gives = { YieldsFirstBy (λ n. (told_of n).node) (λ left. left) };
 
     ghost remaining = { item_count (λ left. left) };
 
-    fn next(&mut self) -> Option<FileNode<'g, 'a>> {
+    #[inline(always)]
+    fn next(&mut self) -> Option<NumberedNode<'g, 'a>> {
         let stored = self.nodes.next()?;
-        let node = FileNode {
+        let node = NumberedNode {
+            numbering: self.numbering,
+            sets: self.sets,
+            outcomes: self.outcomes,
+            used_sets: self.used_sets,
+            used_outcomes: self.used_outcomes,
             name: stored.name,
-            set: set_use(self.sets, self.used_sets, stored.set),
-            outcome: outcome_use(self.outcomes, self.used_outcomes, stored.outcome),
+            set: stored.set,
+            outcome: stored.outcome,
         };
         self.used_sets = self.used_sets.max(stored.set);
         self.used_outcomes = self.used_outcomes.max(stored.outcome);

@@ -1,7 +1,7 @@
 //! The nodes of a game as they are kept: one list in prefix order, each with the size of its
 //! subtree.
 
-ghost use Rattle.std.specs.Prelude.{◌≡◌, ◌^◌, ◌+◌, ◌<◌, ◌≤◌, ◌++◌, ◌∷◌, [], ℕ, ⊤, MatchOption};
+ghost use Rattle.std.specs.Prelude.{◌≡◌, ◌^◌, ◌+◌, ◌<◌, ◌≤◌, ◌++◌, ◌∷◌, [], ℕ};
 ghost use Rattle.std.specs.Prelude.{IsTrue, OnErr, OnOk, drop, length, map, option_map};
 ghost use Rattle.std.specs.List.{AllByRecursion};
 ghost use Rattle.std.specs.Slice.Iter.{iter_rest};
@@ -11,14 +11,14 @@ ghost use Rattle.gf_tree.specs.Tree.{Tree};
 ghost use Rattle.gf_tree.specs.PrefixOrder.{flatten};
 ghost use Rattle.gf_tree.specs.Game.{Node};
 ghost use Rattle.gf_tree.specs.KeptNodes.{AreAmong, child_count, child_counts};
-ghost use Rattle.gf_tree.specs.KeptNodes.{kept_of, position_of, sizes_of};
+ghost use Rattle.gf_tree.specs.KeptNodes.{kept_of, sizes_of};
 ghost use Rattle.gf_tree.specs.NodeOf.{outcome_of, set_of_step};
 ghost use Rattle.gf_tree.specs.inner.Skipped.{Begin, skipped};
 ghost use Rattle.gf_tree.specs.inner.Steps.{is_step};
 ghost use Rattle.gf_tree.specs.Subtrees.{subtree_sizes};
 
 use crate::game::node::Step;
-use crate::game::node_by_first_use::NodeByFirstUse;
+use crate::game::numbered_node::NumberedNode;
 use crate::game::outcomes::Outcomes;
 use crate::game::sets::Sets;
 use crate::reader::receive::{Receive, ToldHeading};
@@ -40,6 +40,7 @@ pub(crate) struct Stored<'a> {
 }
 
 /// How many children a node has if its set has this position.
+#[inline(always)]
 pub(crate) fn child_count(sets: &Sets<'_>, set: u32) -> usize
     requires { set ≤ length sets.now.known }
     ensures { result ≡ child_count sets.now.known set }
@@ -120,26 +121,6 @@ fn fill_sizes(nodes: &mut [Stored<'_>], sets: &Sets<'_>)
     }
 }
 
-/// The position of a place, or 0 if there is none.
-#[inline(always)]
-pub(crate) fn position(place: Option<u32>) -> u32
-    requires { MatchOption place ⊤ (λ p. p < 4294967295) }
-    ensures { result ≡ position_of place }
-{
-    match place {
-        Some(place) => place + 1,
-        None => 0,
-    }
-}
-
-/// The place of a position; `None` if there is none.
-pub(crate) fn place(position: u32) -> Option<u32>
-    ensures is { position_of result ≡ position }
-    ensures few { MatchOption result ⊤ (λ p. p < 4294967295) }
-{
-    position.checked_sub(1)
-}
-
 /// Nodes in prefix order; the sizes of their subtrees are not known yet.
 #[derive(Drop)]
 pub(crate) struct NodeList<'a> {
@@ -203,7 +184,7 @@ impl<'a> Receive<'a> for NodeList<'a> {
 
     #[tactic(auto, using(std::proofs::lemmas::List::map_push))]
     #[inline(always)]
-    fn node(&mut self, node: NodeByFirstUse<'_, 'a>) -> Result<(), AllocError> {
+    fn node(&mut self, node: NumberedNode<'_, 'a>) -> Result<(), AllocError> {
         self.nodes.push(Stored {
             name: node.name,
             size: 0,

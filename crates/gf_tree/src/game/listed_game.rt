@@ -13,8 +13,9 @@ ghost use Rattle.gf_tree.specs.Spellable.{IsSpellable};
 ghost use Rattle.gf_tree.specs.Told.{heading_in, heading_of};
 
 use crate::game::kept::NodeList;
+use crate::game::numbered_node::Numbering;
 use crate::game::parts::Parts;
-use crate::game::{Game, NodesByFirstUse};
+use crate::game::{Game, FileNodes};
 use crate::reader::receive::ToldHeading;
 use std::marker::Model;
 
@@ -65,10 +66,10 @@ impl<'a> ListedGame<'a> {
     }
 
     /// The nodes in prefix order by first-use numbers, as `Game::nodes_by_first_use` gives them.
-    pub fn nodes_by_first_use(&self) -> NodesByFirstUse<'_, 'a>
+    pub fn nodes_by_first_use(&self) -> FileNodes<'_, 'a>
         ensures { result ≡ file_nodes (renumbered (first_use_numbers self.now) self.now) }
     {
-        NodesByFirstUse::new(&self.parts.sets, &self.parts.outcomes, self.nodes.iter())
+        FileNodes::new(Numbering::ByFirstUse, &self.parts, self.nodes.iter())
     }
 
     /// The game, with the subtrees of its nodes.

@@ -25,7 +25,8 @@ impl<'a> Reader<'a> {
             return Err(self.tokens.refusal(Why::Expected(What::Text)));
         };
         let place = self.set(0)?;
-        self.outcome(name.label, Some(place), to)
+        prove!((place as usize) < self.sets.len());
+        self.outcome(name.label, place + 1, to)
     }
 
     /// Reads the number of a player.
@@ -64,7 +65,8 @@ impl<'a> Reader<'a> {
         };
         let player = self.player()?;
         let place = self.set(player)?;
-        self.outcome(name.label, Some(place), to)
+        prove!((place as usize) < self.sets.len());
+        self.outcome(name.label, place + 1, to)
     }
 
     /// Reads a terminal node, after its letter.
@@ -79,7 +81,7 @@ impl<'a> Reader<'a> {
         let Some(name) = self.tokens.text() else {
             return Err(self.tokens.refusal(Why::Expected(What::Text)));
         };
-        self.outcome(name.label, None, to)
+        self.outcome(name.label, 0, to)
     }
 
     /// Reads a node, which is due.
@@ -127,7 +129,7 @@ impl<'a> Reader<'a> {
     }
 
     /// Reads the nodes, to the end, and tells each.
-    pub(crate) fn nodes<R: Receive<'a>>(&mut self, to: &mut R) -> Result<(), Fault>
+    pub(super) fn nodes<R: Receive<'a>>(&mut self, to: &mut R) -> Result<(), Fault>
         requires room { HasRoom 0 self.old }
         requires untold { (self.old.told_sets ≡ 0) × (self.old.told_outcomes ≡ 0) }
         ensures machine { (untold : R) → R.holds untold to.old (heading_read self.old) []

@@ -1,8 +1,8 @@
 //! The outcome of a node, which completes the node.
 
-ghost use Rattle.std.specs.Prelude.{◌≡◌, ◌<◌, suc, ℕ, List, Some, None, length};
+ghost use Rattle.std.specs.Prelude.{◌≡◌, ◌+◌, ◌<◌, ◌≤◌, suc, ℕ, List, Some, None, length};
 ghost use Rattle.std.specs.Prelude.{map, nat_eq, option_map, position, slice_get};
-ghost use Rattle.std.specs.Prelude.{IfNone, IfOk, IfSome, OnOk, MatchOption, ⊤};
+ghost use Rattle.std.specs.Prelude.{IfNone, IfOk, IfSome, OnOk};
 ghost use Rattle.gf_token.specs.Label.{label_of};
 ghost use Rattle.gf_token.specs.Positions.{at_position};
 ghost use Rattle.gf_token.specs.Remaining.{StandsBefore};
@@ -10,7 +10,6 @@ ghost use Rattle.gf_tree.specs.Description.{Outcome};
 ghost use Rattle.gf_tree.specs.FiniteMap.{description_at};
 ghost use Rattle.gf_tree.specs.inner.FoundSet.{FoundOutcome};
 ghost use Rattle.gf_tree.specs.Description.{outcome_with};
-ghost use Rattle.gf_tree.specs.KeptNodes.{position_of};
 ghost use Rattle.gf_tree.specs.inner.Machine.{Begun, behind_outcome, with_outcome};
 ghost use Rattle.gf_tree.specs.inner.Machine.Position.{KnownOutcomeName, NewOutcomeName};
 ghost use Rattle.gf_tree.specs.inner.Machine.Position.{NewPayoff, NodeDue, OutcomeNumber};
@@ -50,7 +49,7 @@ impl<'a> Reader<'a> {
             ≡ record self.old { indexing = self.new.indexing; outcomes = self.new.outcomes } }
         ensures grows { OnOk result (Grows self.old.outcomes.known self.new.outcomes.known) }
         ensures key { IfOk result (λ place. option_map (λ o. o.key)
-            (at_position self.new.outcomes.known (suc place)) ≡ Some number) }
+            (at_position self.new.outcomes.known (place + 1)) ≡ Some number) }
         ensures place { IfOk result (λ place. place < length self.new.outcomes.known) }
     {
         self.outcomes.end(&mut self.indexing, number, name)
@@ -84,7 +83,7 @@ impl<'a> Reader<'a> {
     fn end_outcome<R: Receive<'a>>(
         &mut self,
         node: Label<'a>,
-        set: Option<u32>,
+        set: u32,
         number: u32,
         name: Label<'a>,
         to: &mut R,
@@ -92,9 +91,9 @@ impl<'a> Reader<'a> {
         requires absent { position (nat_eq number) (map (λ o. o.key) self.old.outcomes.known)
             ≡ None }
         requires begun { HasBegunNode self.old }
-        requires set { MatchOption set ⊤ (λ place. place < length self.old.sets.known) }
+        requires set { set ≤ length self.old.sets.known }
         ensures machine { GoesTelling R.holds result (answer
-            (NewPayoff (begun_with self.old.sets.known (label_of node.entry) (position_of set))
+            (NewPayoff (begun_with self.old.sets.known (label_of node.entry) set)
             number (outcome_with (label_of name.entry) self.old.outcomes.pending) 0) self.old)
             self.old self.new to.old to.new }
         ensures read { OnOk result (ReadsNode self.old self.new) }
@@ -105,7 +104,8 @@ impl<'a> Reader<'a> {
         let Ok(place) = self.keep_outcome(number, name) else {
             return Err(Fault::at(brace, Why::Memory));
         };
-        let Ok(()) = self.tell(node, set, Some(place), to) else {
+        prove!((place as usize) < self.outcomes.len());
+        let Ok(()) = self.tell(node, set, place + 1, to) else {
             return Err(Fault::at(brace, Why::Memory));
         };
         Ok(())
@@ -116,16 +116,16 @@ impl<'a> Reader<'a> {
     fn new_outcome<R: Receive<'a>>(
         &mut self,
         node: Label<'a>,
-        set: Option<u32>,
+        set: u32,
         number: u32,
         to: &mut R,
     ) -> Result<(), Fault>
         requires absent { position (nat_eq number) (map (λ o. o.key) self.old.outcomes.known)
             ≡ None }
         requires begun { HasBegunNode self.old }
-        requires set { MatchOption set ⊤ (λ place. place < length self.old.sets.known) }
+        requires set { set ≤ length self.old.sets.known }
         ensures machine { GoesTelling R.holds result (answer (NewOutcomeName
-            (begun_with self.old.sets.known (label_of node.entry) (position_of set)) number)
+            (begun_with self.old.sets.known (label_of node.entry) set) number)
             self.old) self.old self.new to.old to.new }
         ensures read { OnOk result (ReadsNode self.old self.new) }
     {
@@ -164,18 +164,18 @@ impl<'a> Reader<'a> {
     fn described_outcome<R: Receive<'a>>(
         &mut self,
         node: Label<'a>,
-        set: Option<u32>,
+        set: u32,
         number: u32,
         stands: Span,
         to: &mut R,
     ) -> Result<(), Fault>
         requires positive { 0 < number }
         requires begun { HasBegunNode self.old }
-        requires set { MatchOption set ⊤ (λ place. place < length self.old.sets.known) }
+        requires set { set ≤ length self.old.sets.known }
         requires stands { StandsBefore self.old.tokens stands }
         ensures machine { GoesTelling R.holds result
             (heard_from (behind_outcome (content_of self.old)
-            (begun_with self.old.sets.known (label_of node.entry) (position_of set)) number
+            (begun_with self.old.sets.known (label_of node.entry) set) number
             (description_at nat_eq self.old.outcomes.known number)) self.old.tokens)
             self.old self.new to.old to.new }
         ensures read { OnOk result (ReadsNode self.old self.new) }
@@ -184,7 +184,8 @@ impl<'a> Reader<'a> {
             self.new_outcome(node, set, number, to)?;
             return Ok(());
         };
-        let Ok(()) = self.tell(node, set, Some(place), to) else {
+        prove!((place as usize) < self.outcomes.len());
+        let Ok(()) = self.tell(node, set, place + 1, to) else {
             return Err(Fault::at(stands, Why::Memory));
         };
         self.outcome_again(place)
@@ -196,13 +197,13 @@ impl<'a> Reader<'a> {
     pub(super) fn outcome<R: Receive<'a>>(
         &mut self,
         node: Label<'a>,
-        set: Option<u32>,
+        set: u32,
         to: &mut R,
     ) -> Result<(), Fault>
         requires begun { HasBegunNode self.old }
-        requires set { MatchOption set ⊤ (λ place. place < length self.old.sets.known) }
+        requires set { set ≤ length self.old.sets.known }
         ensures machine { GoesTelling R.holds result (answer (OutcomeNumber
-            (begun_with self.old.sets.known (label_of node.entry) (position_of set))) self.old)
+            (begun_with self.old.sets.known (label_of node.entry) set)) self.old)
             self.old self.new to.old to.new }
         ensures read { OnOk result (ReadsNode self.old self.new) }
     {
@@ -213,7 +214,7 @@ impl<'a> Reader<'a> {
             return Err(Fault::at(word.span, Why::BadIndex));
         };
         if number == 0 {
-            let Ok(()) = self.tell(node, set, None, to) else {
+            let Ok(()) = self.tell(node, set, 0, to) else {
                 return Err(Fault::at(word.span, Why::Memory));
             };
             return Ok(());
@@ -225,7 +226,8 @@ impl<'a> Reader<'a> {
         let Some(place) = known_outcome(&self.outcomes, number) else {
             return Err(self.tokens.refusal(Why::NotDescribed));
         };
-        let Ok(()) = self.tell(node, set, Some(place), to) else {
+        prove!((place as usize) < self.outcomes.len());
+        let Ok(()) = self.tell(node, set, place + 1, to) else {
             return Err(Fault::at(word.span, Why::Memory));
         };
         Ok(())

@@ -1,6 +1,6 @@
 //! What becomes of the contents of a file: a reader tells them to a receiver, node by node.
 
-use crate::game::node_by_first_use::NodeByFirstUse;
+use crate::game::numbered_node::NumberedNode;
 use gf_token::Label;
 use std::alloc::AllocError;
 
@@ -31,7 +31,7 @@ pub trait Receive<'a> {
         ensures { OnOk result (holds self.old self.new (heading_of heading.entry) []) };
 
     /// Takes the next node.
-    fn node(&mut self, node: NodeByFirstUse<'_, 'a>) -> Result<(), AllocError>
+    fn node(&mut self, node: NumberedNode<'_, 'a>) -> Result<(), AllocError>
         ensures { OnOk result ((untold : Self) (heading : Heading) (told : List Told)
             → holds untold self.old heading told
             → holds untold self.new heading (told ++ told_of node.entry ∷ [])) };

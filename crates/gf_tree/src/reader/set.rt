@@ -1,6 +1,6 @@
 //! The information set of a node.
 
-ghost use Rattle.std.specs.Prelude.{◌≡◌, ◌<◌, ◌∷◌, suc, false, ℕ, List, None, map};
+ghost use Rattle.std.specs.Prelude.{◌≡◌, ◌+◌, ◌<◌, ◌∷◌, false, ℕ, List, None, map};
 ghost use Rattle.std.specs.Prelude.{length, position, IfOk, IfNone, IfSome, OnOk, MatchResult};
 ghost use Rattle.gf_fraction.specs.Ratio.{IsFraction};
 ghost use Rattle.gf_token.specs.Label.{label_of};
@@ -128,7 +128,7 @@ impl<'a> Reader<'a> {
             ≡ record self.old { indexing = self.new.indexing; sets = self.new.sets } }
         ensures grows { OnOk result (Grows self.old.sets.known self.new.sets.known) }
         ensures begins { (node : List ℕ) → IfOk result (λ place.
-            begun_with self.new.sets.known node (suc place) ≡ begun node (set_of player number)
+            begun_with self.new.sets.known node (place + 1) ≡ begun node (set_of player number)
             (set_with (label_of name.entry) self.old.sets.pending)) }
         ensures place { IfOk result (λ place. place < length self.new.sets.known) }
     {
@@ -151,7 +151,7 @@ impl<'a> Reader<'a> {
         ensures machine { (node : List ℕ) → MatchResult result
             (λ place. answer (NewAction node (set_of player number)
             (set_with (label_of name.entry) self.old.sets.pending) sum) self.old
-            ≡ answer (OutcomeNumber (begun_with self.new.sets.known node (suc place))) self.new)
+            ≡ answer (OutcomeNumber (begun_with self.new.sets.known node (place + 1))) self.new)
             (λ f. Fails f (answer (NewAction node (set_of player number)
             (set_with (label_of name.entry) self.old.sets.pending) sum) self.old)) }
         ensures read { OnOk result (ReadsSet self.old self.new) }
@@ -179,7 +179,7 @@ impl<'a> Reader<'a> {
             (map (λ s. s.key) self.old.sets.known) ≡ None }
         ensures machine { (node : List ℕ) → MatchResult result
             (λ place. answer (NewSetName node (set_of player number)) self.old
-            ≡ answer (OutcomeNumber (begun_with self.new.sets.known node (suc place))) self.new)
+            ≡ answer (OutcomeNumber (begun_with self.new.sets.known node (place + 1))) self.new)
             (λ f. Fails f (answer (NewSetName node (set_of player number)) self.old)) }
         ensures read { OnOk result (ReadsSet self.old self.new) }
         ensures place { IfOk result (λ place. place < length self.new.sets.known) }
@@ -205,7 +205,7 @@ impl<'a> Reader<'a> {
         ensures machine { (node : List ℕ) → MatchResult result
             (λ place. answer (behind_set node (set_of player number)
             (description_at same_set self.old.sets.known (set_of player number))) self.old
-            ≡ answer (OutcomeNumber (begun_with self.new.sets.known node (suc place))) self.new)
+            ≡ answer (OutcomeNumber (begun_with self.new.sets.known node (place + 1))) self.new)
             (λ f. Fails f (answer (behind_set node (set_of player number)
             (description_at same_set self.old.sets.known (set_of player number))) self.old)) }
         ensures read { OnOk result (ReadsSet self.old self.new) }
@@ -230,7 +230,7 @@ impl<'a> Reader<'a> {
     pub(super) fn set(&mut self, player: u32) -> Result<u32, Fault>
         ensures machine { (node : List ℕ) → MatchResult result
             (λ place. answer (SetNumber node player) self.old
-            ≡ answer (OutcomeNumber (begun_with self.new.sets.known node (suc place))) self.new)
+            ≡ answer (OutcomeNumber (begun_with self.new.sets.known node (place + 1))) self.new)
             (λ f. Fails f (answer (SetNumber node player) self.old)) }
         ensures read { OnOk result (ReadsSet self.old self.new) }
         ensures place { IfOk result (λ place. place < length self.new.sets.known) }

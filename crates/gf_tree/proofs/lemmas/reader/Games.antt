@@ -12,7 +12,7 @@ use Rattle.gf_token.proofs.Spelled.{same_tokens}
 use Rattle.gf_tree.specs.Judgement.{IsJudged}
 use Rattle.gf_tree.specs.inner.Passed.{HasPassed}
 use Rattle.gf_tree.specs.Reason.{IsReason}
-use Rattle.gf_tree.specs.inner.ReaderState.{Answer, Fails, HasPassedPlace}
+use Rattle.gf_tree.specs.inner.ReaderState.{Fails, HasPassedPlace, to_all}
 use Rattle.gf_tree.specs.inner.ReaderState.Fails.{of_file, of_memory}
 use Rattle.gf_tree.proofs.lemmas.fronts.Judged.{refuses}
 use Rattle.gf_tree.proofs.lemmas.games.Spelled.{spelled_is_spellable}
@@ -53,12 +53,6 @@ spelled_read bytes ls g spelled h =
     let k = (machine_spells bytes g).0 h in
     let same : ls ≡ k.lexemes = same_tokens bytes ls k.lexemes spelled k.spelled in
     (k.content, ap (run (length bytes) Format nothing) same ∙ k.read, k.means)
-
-pub read_only : (bytes : List ℕ) (ls : List Lexeme) (c : Content) (g : Game) → Spells 0 bytes ls
-    → run (length bytes) Format nothing ls ≡ Ok c → SpellsGame bytes g → game_of c ≡ g
-read_only bytes ls c g spelled e h =
-    let k = spelled_read bytes ls g spelled h in
-    ap game_of (one_ok (run (length bytes) Format nothing ls) c k.0 e k.1) ∙ k.2
 
 pub refused_none : (bytes : List ℕ) (ls : List Lexeme) (fault : Fault) (g : Game)
     → Spells 0 bytes ls → run (length bytes) Format nothing ls ≡ Err fault → ¬ (SpellsGame bytes g)
@@ -143,7 +137,6 @@ pub record IsWhole (bytes : List ℕ) (p : Parts) (nodes : List Kept) : Type 0 w
   pub is_game : IsGame (game_with p nodes)
   pub spellable : IsSpellable (game_with p nodes)
   pub spelled : SpellsGame bytes (game_with p nodes)
-  pub only : (g : Game) → SpellsGame bytes g → game_with p nodes ≡ g
 
 pub whole : (bytes : List ℕ) (ls : List Lexeme) (c : Content) (nodes : List Kept)
     → Spells 0 bytes ls → run (length bytes) Format nothing ls ≡ Ok c
@@ -156,14 +149,9 @@ whole bytes ls c nodes spelled e kept =
       is_game = subst IsGame is (read_is_game bytes ls c spelled e);
       spellable = subst IsSpellable is (read_is_spellable bytes ls c spelled e);
       spelled = subst (SpellsGame bytes) is (read_spells bytes ls c spelled e);
-      only = λ g h. sym is ∙ read_only bytes ls c g spelled e h;
     }
 
 -- ---- a fault, of memory or of the machine
-
--- what the machine answers to all tokens of an input
-abbrev to_all : List ℕ → List Lexeme → Answer
-to_all bytes ls = heard Format nothing (record { input = bytes; ahead = ls })
 
 passed_judged : (bytes : List ℕ) (ls : List Lexeme) (span : Span) → Spells 0 bytes ls
     → HasPassedPlace (to_all bytes ls) span → IsJudged Memory bytes span

@@ -1,5 +1,5 @@
 -- What the reader keeps still stands for the same when more is known.
-use Rattle.gf_tree.proofs.Common.{◌≡◌, ◌<◌, ◌≤◌, ℕ, zero, suc, Bool, true, false, List, [], ◌∷◌}
+use Rattle.gf_tree.proofs.Common.{◌≡◌, ◌+◌, ◌<◌, ◌≤◌, ℕ, zero, suc, Bool, true, false, List, [], ◌∷◌}
 use Rattle.gf_tree.proofs.Common.{◌++◌, length, map, Option, Some, None, option_map, slice_get}
 use Rattle.gf_tree.proofs.Common.{refl, sym, ap, ◌∙◌, arith, subst, Decides-eqb, position, ◌==◌}
 use Rattle.gf_tree.proofs.Common.{length-map, KnownSets, set_with, Action, InformationSet, Outcome}
@@ -51,6 +51,9 @@ pub at_before : {A : Type 0} (xs ys : List A) (p : ℕ) → p ≤ length xs
     → at_position (xs ++ ys) p ≡ at_position xs p
 at_before xs ys p h = grind (arith, get_before)
 
+at_next : {A : Type 0} (xs : List A) (k : ℕ) → at_position xs (k + 1) ≡ slice_get xs k
+at_next xs k = grind arith
+
 -- ---- nodes when more is known
 
 pub sets_grow : (sets more : List (Described SetKey InformationSet))
@@ -99,8 +102,8 @@ placed_one_more s o (m ∷ ms) n h set outcome = (h.0, placed_one_more s o ms n 
 
 pub new_begun : (known : List (Described SetKey InformationSet))
     (s : Described SetKey InformationSet) (node : List ℕ)
-    → begun_with (known ++ s ∷ []) node (suc (length known)) ≡ begun node s.key s.description
-new_begun known s node = grind (arith, get_next)
+    → begun_with (known ++ s ∷ []) node (length known + 1) ≡ begun node s.key s.description
+new_begun known s node = grind (arith, at_next, get_next)
 
 module _ {K D : Type 0} (same : K → K → Bool) (tells : IsEquality same) (key : K) where
   found_more : (e : Described K D) (es : List (Described K D)) (s : Described K D)
@@ -135,7 +138,7 @@ found_set known key place name actions at named acts = by (slice_get known place
         let key_is = key_at same_set same_set_equality key known place s at is in
         record {
           described = described_at same_set same_set_equality key known place at ∙ parts;
-          begins = λ node. cc;
+          begins = λ node. cc (at_next known place);
           within = slice_get_within known place s is;
         }
 
@@ -156,7 +159,7 @@ module _ {E : Type 0} (r : Reader) (sets : KnownSets) (key : SetKey) (name : Lis
   pub kept_begun : (node : List ℕ) (result : Result ℕ E)
       → OnOk result (sets ≡ with_pending_set r.sets key name)
       → IfOk result (λ place. place ≡ length r.sets.known) → IfOk result (λ place.
-      begun_with sets.known node (suc place) ≡ begun node key (set_with name r.sets.pending))
+      begun_with sets.known node (place + 1) ≡ begun node key (set_with name r.sets.pending))
   kept_begun node (Err e) h is = tt
   kept_begun node (Ok place) h is =
       cc (new_begun r.sets.known (record { key = key; description = set_with name r.sets.pending })
@@ -181,9 +184,9 @@ module _ {E : Type 0} (r : Reader) (outcomes : KnownOutcomes) (number : ℕ) (na
   pub kept_outcome_key : (result : Result ℕ E)
       → OnOk result (outcomes ≡ with_pending_outcome r.outcomes number name)
       → IfOk result (λ place. place ≡ length r.outcomes.known) → IfOk result
-      (λ place. option_map (λ o. o.key) (slice_get outcomes.known place) ≡ Some number)
+      (λ place. option_map (λ o. o.key) (at_position outcomes.known (place + 1)) ≡ Some number)
   kept_outcome_key (Err e) h is = tt
-  kept_outcome_key (Ok place) h is = grind (arith, get_next)
+  kept_outcome_key (Ok place) h is = grind (arith, at_next, get_next)
 
 pub if_none : {A : Type 0} {P : Type 0} (o : Option A) → P → IfNone o P
 if_none None p = p
@@ -209,7 +212,7 @@ pub set_known_again : (c : Content) (node : List ℕ) (key : SetKey) (place : �
     (rest behind : Remaining) (set : InformationSet) → FoundSet c.sets key place set
     → heard (KnownSetName node key set) c rest ≡ heard (OutcomeNumber (begun node key set)) c behind
     → heard (behind_set node key (description_at same_set c.sets key)) c rest
-    ≡ heard (OutcomeNumber (begun_with c.sets node (suc place))) c behind
+    ≡ heard (OutcomeNumber (begun_with c.sets node (place + 1))) c behind
 set_known_again c node key place rest behind set found goes =
     cc (found.described, goes, found.begins node)
 
@@ -293,8 +296,8 @@ found_outcome known number place at = by (slice_get known place) refl
       outcome = o.description;
       described = cc (described_at nat_eq Decides-eqb number known place at, is);
       stands = ap (option_map (λ x. x.description)) is;
-      key = cc (is, key_at nat_eq Decides-eqb number known place o at is);
-      within = within;
+      key = cc (at_next known place, is, key_at nat_eq Decides-eqb number known place o at is);
+      within = omega (arith, within);
     }
 
 -- ---- the whole file

@@ -6,9 +6,10 @@ use Rattle.gf_tree.proofs.Common.{Fault, InformationSet, Outcome, SetKey, Descri
 use Rattle.gf_tree.proofs.Common.{IsAmong, Kept, entries_with, Entry, Position, with_node, NodeDue}
 use Rattle.gf_tree.proofs.Common.{heard}
 use Rattle.std.proofs.lemmas.List.{take-append-le}
-use Rattle.gf_tree.specs.KeptNodes.{position_of, child_count, entry_with}
+use Rattle.gf_tree.specs.KeptNodes.{child_count, entry_with}
+use Rattle.gf_tree.specs.declared.game.numbered_node.Numbering.TheVariants.{ByFirstUse}
 use Rattle.gf_tree.specs.declared.reader.Reader.{Reader}
-use Rattle.std.specs.Prelude.{MatchOption, ⊤}
+use Rattle.std.specs.Prelude.{Bool}
 use Rattle.gf_tree.specs.inner.ReaderState.{Answer, Goes, GoesTelling, Grows, HasRead, HasReadAll}
 use Rattle.gf_tree.specs.inner.ReaderState.{HasTold, Tells, TellsNode, answer, begun_with, behind}
 use Rattle.gf_tree.specs.inner.ReaderState.{content_of, content_with}
@@ -22,23 +23,24 @@ use Rattle.gf_tree.proofs.lemmas.runs.Earlier.{heard_more}
 
 module _ (sets more_sets : List (Described SetKey InformationSet))
     (outcomes more_outcomes : List (Described ℕ Outcome)) where
-  set_stays : (used p : ℕ) → p ≤ length sets
-      → told_set (sets ++ more_sets) used p ≡ told_set sets used p
-  set_stays used p h = grind (arith, at_before, take-append-le)
+  set_stays : (p : ℕ) (described : Bool) → p ≤ length sets
+      → told_set ByFirstUse (sets ++ more_sets) p described ≡ told_set ByFirstUse sets p described
+  set_stays p described h = grind (arith, at_before, take-append-le)
 
-  outcome_stays : (used p : ℕ) → p ≤ length outcomes
-      → told_outcome (outcomes ++ more_outcomes) used p ≡ told_outcome outcomes used p
-  outcome_stays used p h = grind (arith, at_before)
+  outcome_stays : (p : ℕ) (described : Bool) → p ≤ length outcomes
+      → told_outcome ByFirstUse (outcomes ++ more_outcomes) p described
+      ≡ told_outcome ByFirstUse outcomes p described
+  outcome_stays p described h = grind (arith, at_before)
 
   node_stays : (used_sets used_outcomes : ℕ) (n : Kept) → IsAmong (length sets) (length outcomes) n
-      → told_node (sets ++ more_sets) (outcomes ++ more_outcomes) used_sets used_outcomes n
-      ≡ told_node sets outcomes used_sets used_outcomes n
+      → told_node ByFirstUse (sets ++ more_sets) (outcomes ++ more_outcomes) used_sets used_outcomes n
+      ≡ told_node ByFirstUse sets outcomes used_sets used_outcomes n
   node_stays used_sets used_outcomes n h = grind (arith, set_stays, outcome_stays)
 
   told_stays : (used_sets used_outcomes : ℕ) (ns : List Kept)
       → AreAmong (length sets) (length outcomes) ns
-      → told_from (sets ++ more_sets) (outcomes ++ more_outcomes) used_sets used_outcomes ns
-      ≡ told_from sets outcomes used_sets used_outcomes ns
+      → told_from ByFirstUse (sets ++ more_sets) (outcomes ++ more_outcomes) used_sets used_outcomes ns
+      ≡ told_from ByFirstUse sets outcomes used_sets used_outcomes ns
   told_stays used_sets used_outcomes [] h = refl
   told_stays used_sets used_outcomes (n ∷ ns) h = λ i.
       node_stays used_sets used_outcomes n h.0 i
@@ -49,9 +51,9 @@ module _ (sets more_sets : List (Described SetKey InformationSet))
 module _ (sets : List (Described SetKey InformationSet)) (outcomes : List (Described ℕ Outcome))
     (n : Kept) where
   told_more : (used_sets used_outcomes : ℕ) (ns : List Kept)
-      → told_from sets outcomes used_sets used_outcomes (ns ++ n ∷ [])
-      ≡ told_from sets outcomes used_sets used_outcomes ns
-      ++ told_node sets outcomes (used_sets_from used_sets ns)
+      → told_from ByFirstUse sets outcomes used_sets used_outcomes (ns ++ n ∷ [])
+      ≡ told_from ByFirstUse sets outcomes used_sets used_outcomes ns
+      ++ told_node ByFirstUse sets outcomes (used_sets_from used_sets ns)
       (used_outcomes_from used_outcomes ns) n ∷ []
   told_more used_sets used_outcomes [] = refl
   told_more used_sets used_outcomes (m ∷ ms) =
@@ -138,15 +140,6 @@ module _ {T : Type 0} {holds : T → T → Heading → List Told → Type 0} {be
   tells_again q old r m new node (Err f) told_sets told_outcomes sets outcomes placed h e kept
       goes = grind arith
 
-pub placed_at : (sets outcomes : ℕ) (name : List ℕ) (set outcome : Option ℕ)
-    → MatchOption set ⊤ (λ place. place < sets) → MatchOption outcome ⊤ (λ place. place < outcomes)
-    → IsAmong sets outcomes (record {
-      name = name;
-      set = position_of set;
-      outcome = position_of outcome;
-    })
-placed_at sets outcomes name set outcome s o = grind arith
-
 -- ---- the nodes of a file
 
 module _ {T : Type 0} (holds : T → T → Heading → List Told → Type 0) (untold : T)
@@ -161,19 +154,19 @@ module _ {T : Type 0} (holds : T → T → Heading → List Told → Type 0) (un
         (length new.sets.known) (length new.outcomes.known) nodes (grows_length h.sets)
         (grows_length h.outcomes) k.placed) h.placed.set h.placed.outcome;
     told = subst (holds untold to heading) (sym whole)
-        (h.told untold heading (told_from new.sets.known new.outcomes.known 0 0 nodes)
+        (h.told untold heading (told_from ByFirstUse new.sets.known new.outcomes.known 0 0 nodes)
         (subst (holds untold from heading) (sym same) k.told));
     told_sets = cc (h.told_sets, k.told_sets, sets_more h.node 0 nodes);
     told_outcomes = cc (h.told_outcomes, k.told_outcomes, outcomes_more h.node 0 nodes);
   }
     where
-      same : told_from new.sets.known new.outcomes.known 0 0 nodes
-          ≡ told_from old.sets.known old.outcomes.known 0 0 nodes
+      same : told_from ByFirstUse new.sets.known new.outcomes.known 0 0 nodes
+          ≡ told_from ByFirstUse old.sets.known old.outcomes.known 0 0 nodes
       same = grind (arith, told_stays)
 
-      whole : told_from new.sets.known new.outcomes.known 0 0 (nodes ++ h.node ∷ [])
-          ≡ told_from new.sets.known new.outcomes.known 0 0 nodes
-          ++ told_node new.sets.known new.outcomes.known old.told_sets old.told_outcomes h.node ∷ []
+      whole : told_from ByFirstUse new.sets.known new.outcomes.known 0 0 (nodes ++ h.node ∷ [])
+          ≡ told_from ByFirstUse new.sets.known new.outcomes.known 0 0 nodes
+          ++ told_node ByFirstUse new.sets.known new.outcomes.known old.told_sets old.told_outcomes h.node ∷ []
       whole = grind (arith, told_more)
 
   pub read_one_more : {start : Answer} {old new : Reader} {from to : T}
@@ -199,24 +192,9 @@ module _ {T : Type 0} (holds : T → T → Heading → List Told → Type 0) (un
 
 -- ---- nodes that are kept
 
-kept_told : (sets : List (Described SetKey InformationSet)) (outcomes : List (Described ℕ Outcome))
+pub kept_told : (sets : List (Described SetKey InformationSet)) (outcomes : List (Described ℕ Outcome))
     (used_sets used_outcomes : ℕ) (ns : List Kept)
-    → map kept_as (told_from sets outcomes used_sets used_outcomes ns) ≡ ns
+    → map kept_as (told_from ByFirstUse sets outcomes used_sets used_outcomes ns) ≡ ns
 kept_told sets outcomes used_sets used_outcomes [] = refl
 kept_told sets outcomes used_sets used_outcomes (n ∷ ns) = ap (λ (ks : List Kept). n ∷ ks)
     (kept_told sets outcomes (max used_sets n.set) (max used_outcomes n.outcome) ns)
-
-abbrev KeepsThem : List Kept → List Told → Type 0
-KeepsThem nodes told = nodes ≡ map kept_as told
-
-module _ (before : Answer) (r : Reader) (nodes : List Kept)
-    (h : HasReadAll KeepsThem before r nodes) where
-  all_kept : h.nodes ≡ nodes
-  all_kept = sym (h.has_told.told ∙ kept_told r.sets.known r.outcomes.known 0 0 h.nodes)
-
-  pub all_read : before.machine ≡ Ok (content_with r nodes)
-  all_read = h.whole ∙ ap (λ (ns : List Kept). Ok (content_with r ns)) all_kept
-
-  pub all_placed : AreAmong (length r.sets.known) (length r.outcomes.known) nodes
-  all_placed = subst (AreAmong (length r.sets.known) (length r.outcomes.known)) all_kept
-      h.has_told.placed

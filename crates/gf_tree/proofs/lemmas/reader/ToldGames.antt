@@ -1,66 +1,108 @@
 -- What a receiver holds after the end of a file is the game that the file means.
-use Rattle.gf_tree.proofs.Common.{◌≡◌, ℕ, List, [], length, Result, Ok, Err, refl, sym, subst}
-use Rattle.gf_tree.proofs.Common.{tokens_of, Lexeme, Spells, Fault, InformationSet, Outcome, SetKey}
-use Rattle.gf_tree.proofs.Common.{Described, Game, SpellsGame, game_of, Content, nothing, run}
-use Rattle.gf_tree.proofs.Common.{Format, NodeDue, heard}
-use Rattle.std.specs.Prelude.{IfErr, MatchResult, OnOk}
+use Rattle.gf_tree.proofs.Common.{◌≡◌, ℕ, List, [], length, Ok, Err, refl, sym}
+use Rattle.gf_tree.proofs.Common.{subst, ◌∙◌, tokens_of, Lexeme, Spells, Fault, InformationSet}
+use Rattle.gf_tree.proofs.Common.{Outcome, SetKey, Described, Game, SpellsGame, game_of, Content}
+use Rattle.gf_tree.proofs.Common.{AreAmong, Kept, game_with, NodeDue}
+use Rattle.gf_tree.specs.Judgement.{IsJudged}
 use Rattle.gf_tree.specs.ToldGame.{HasToldGame}
+use Rattle.gf_tree.specs.declared.game.numbered_node.Numbering.TheVariants.{ByFirstUse}
 use Rattle.gf_tree.specs.declared.reader.Reader.{Reader}
-use Rattle.gf_tree.specs.inner.ReaderState.{HasReadAll, answer, content_of, content_with}
-use Rattle.gf_tree.specs.inner.ReaderState.{heading_read}
+use Rattle.gf_token.specs.declared.fault.Why.TheVariants.{Memory}
+use Rattle.gf_tree.specs.inner.GameParts.{IsListed}
+use Rattle.gf_tree.specs.inner.ReaderState.{HasReadAll, IsRead, KeepsNodes, answer, content_of}
+use Rattle.gf_tree.specs.inner.ReaderState.{content_with, heading_read, to_all}
 use Rattle.gf_tree.specs.Told.{Heading, Told, heading_in, told_from}
-use Rattle.gf_tree.proofs.lemmas.reader.Games.{read_spells}
+use Rattle.gf_tree.proofs.lemmas.reader.Games.{answer_judged, answer_only, read_parts, read_spells}
+use Rattle.gf_tree.proofs.lemmas.reader.Games.{IsWhole, whole}
+use Rattle.gf_tree.proofs.lemmas.reader.Telling.{kept_told}
 use Rattle.gf_tree.proofs.lemmas.reader.ToldNodes.{told_of_file}
 use Rattle.gf_tree.proofs.lemmas.runs.Files.{nodes_found}
 use Rattle.gf_tree.proofs.lemmas.runs.Results.{AreOutcomes}
 use Rattle.gf_tree.proofs.lemmas.runs.Sets.{AreSets}
 use Rattle.gf_tree.proofs.lemmas.runs.Stops.{run_reads}
 
+-- ---- the heading
+
 -- the reader has passed the heading, and knows no set and no outcome
 pub record IsBehindHeading (bytes : List ℕ) (ls : List Lexeme) (r : Reader) : Type 0 where
-  pub spelled : Spells 0 bytes ls
-  pub goes : heard Format nothing (record { input = bytes; ahead = ls }) ≡ answer NodeDue r
+  pub goes : to_all bytes ls ≡ answer NodeDue r
   pub sets : r.sets.known ≡ []
   pub outcomes : r.outcomes.known ≡ []
 
-module _ (bytes : List ℕ) (ls : List Lexeme) (r : Reader) (behind : IsBehindHeading bytes ls r)
-  where
-    -- the heading stays as it was
-    heading_stays : (c : Content) → (answer NodeDue r).machine ≡ Ok c
-        → heading_read r ≡ heading_in (game_of c)
-    heading_stays c e =
-        let sets = subst (λ (known : List (Described SetKey InformationSet)).
-        AreSets (length (content_of r).players) known) (sym behind.sets) tt in
-        let outcomes = subst (λ (known : List (Described ℕ Outcome)).
-        AreOutcomes (length (content_of r).players) known) (sym behind.outcomes) tt in
-        let n = nodes_found (tokens_of r.tokens.ahead) (content_of r) c sets outcomes
-        ((run_reads (length r.tokens.input) NodeDue (content_of r) r.tokens.ahead c).0 e) in
-        cc
+-- the heading stays as it was
+module _ {T : Type 0} (holds : T → Heading → List Told → Type 0) (bytes : List ℕ) (ls : List Lexeme)
+    (r new : Reader) (to : T) (behind : IsBehindHeading bytes ls r) where
+  pub read_whole : HasReadAll (λ t. holds t (heading_read r)) (answer NodeDue r) new to
+      → HasReadAll (λ t. holds t (heading_read new)) (to_all bytes ls) new to
+  read_whole h =
+      let c = content_with new h.nodes in
+      let sets = subst (λ (known : List (Described SetKey InformationSet)).
+      AreSets (length (content_of r).players) known) (sym behind.sets) tt in
+      let outcomes = subst (λ (known : List (Described ℕ Outcome)).
+      AreOutcomes (length (content_of r).players) known) (sym behind.outcomes) tt in
+      let n = nodes_found (tokens_of r.tokens.ahead) (content_of r) c sets outcomes
+      ((run_reads (length r.tokens.input) NodeDue (content_of r) r.tokens.ahead c).0 h.whole) in
+      let same : heading_read r ≡ heading_in (game_of c) = cc in
+      record {
+        nodes = h.nodes;
+        whole = cc (behind.goes, h.whole);
+        has_told = record {
+          placed = h.has_told.placed;
+          told = rw (← same) h.has_told.told;
+          told_sets = h.has_told.told_sets;
+          told_outcomes = h.has_told.told_outcomes;
+        };
+      }
 
-    module _ {T : Type 0} (holds : T → Heading → List Told → Type 0) (new : Reader) (to : T) where
-      pub told_game : HasReadAll (λ t told. holds t (heading_read r) told) (answer NodeDue r) new to
-          → (g : Game) × SpellsGame bytes g × HasToldGame holds to g
-      told_game h =
-          let c = content_with new h.nodes in
-          let told = told_from new.sets.known new.outcomes.known 0 0 h.nodes in
-          let e : run (length bytes) Format nothing ls ≡ Ok c = cc in (
-            game_of c,
-            read_spells bytes ls c behind.spelled e,
-            record {
-              told = told;
-              holding = rw (← heading_stays c h.whole) h.has_told.told;
-              nodes = told_of_file bytes ls c h.nodes behind.spelled e refl h.has_told.placed;
-            },
-          )
+-- ---- a file that was read
 
--- ---- by the answer of a call
+module _ {T : Type 0} {holds : T → Heading → List Told → Type 0} {bytes : List ℕ} {to : T} where
+  pub told_game : {r : Reader} → IsRead holds bytes (Ok r) to
+      → (g : Game) × SpellsGame bytes g × HasToldGame holds to g
+  told_game {r} h =
+      let a = h.answered in
+      let c = content_with r a.nodes in (
+        game_of c,
+        read_spells bytes h.tokens c h.spelled a.whole,
+        record {
+          told = told_from ByFirstUse r.sets.known r.outcomes.known 0 0 a.nodes;
+          holding = a.has_told.told;
+          nodes = told_of_file bytes h.tokens c a.nodes h.spelled a.whole refl a.has_told.placed;
+        },
+      )
 
-pub on_ok : {A Q : Type 0} (P : Type 0) (R : Fault → Type 0) (result : Result A Fault)
-    → MatchResult result (λ _. P) R → (P → Q) → OnOk result Q
-on_ok P R (Ok a) h f = f h
-on_ok P R (Err fault) h f = tt
+  -- ---- one that was refused
 
-pub if_err : {A : Type 0} (P : Type 0) (R Q : Fault → Type 0) (result : Result A Fault)
-    → MatchResult result (λ _. P) R → ((fault : Fault) → R fault → Q fault) → IfErr result Q
-if_err P R Q (Ok a) h f = tt
-if_err P R Q (Err fault) h f = f fault h
+  pub refused_for_memory : {f : Fault} → IsRead holds bytes (Err f) to → (g : Game)
+      → SpellsGame bytes g → f.why ≡ Memory
+  refused_for_memory {f} h g spells =
+      answer_only bytes h.tokens f g h.spelled h.answered spells
+
+  pub refused_as_judged : {f : Fault} → IsRead holds bytes (Err f) to
+      → IsJudged f.why bytes f.span
+  refused_as_judged {f} h = answer_judged bytes h.tokens f h.spelled h.answered
+
+-- ---- nodes that are kept
+
+module _ (bytes : List ℕ) (r : Reader) (nodes : List Kept)
+    (h : IsRead KeepsNodes bytes (Ok r) nodes) where
+  all_kept : h.answered.nodes ≡ nodes
+  all_kept = sym (h.answered.has_told.told
+      ∙ kept_told r.sets.known r.outcomes.known 0 0 h.answered.nodes)
+
+  is_whole : IsWhole bytes (read_parts (content_with r nodes)) nodes
+  is_whole = subst (λ (ns : List Kept). IsWhole bytes (read_parts (content_with r ns)) ns) all_kept
+      (whole bytes h.tokens (content_with r h.answered.nodes) h.answered.nodes h.spelled
+      h.answered.whole refl)
+
+  pub listed : IsListed (read_parts (content_with r nodes)) nodes
+  listed = record {
+    placed = subst (AreAmong (length r.sets.known) (length r.outcomes.known)) all_kept
+        h.answered.has_told.placed;
+    fills = is_whole.fills;
+    is_game = is_whole.is_game;
+    spellable = is_whole.spellable;
+  }
+
+  pub listed_spelled : SpellsGame bytes (game_with (read_parts (content_with r nodes)) nodes)
+  listed_spelled = is_whole.spelled

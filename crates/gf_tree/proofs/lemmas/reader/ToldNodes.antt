@@ -13,7 +13,9 @@ use Rattle.std.specs.Prelude.{Bool, true, Ok}
 use Rattle.gf_tree.specs.FileNodes.{file_nodes}
 use Rattle.gf_tree.specs.GameCode.{no_node}
 use Rattle.gf_tree.specs.FirstUse.{first_use_numbers}
-use Rattle.gf_tree.specs.inner.KnownUses.{nodes_given, use_at}
+use Rattle.gf_tree.specs.inner.GameParts.{game_by}
+use Rattle.gf_tree.specs.declared.game.numbered_node.Numbering.{Numbering}
+use Rattle.gf_tree.specs.declared.game.numbered_node.Numbering.TheVariants.{OfFile, ByFirstUse}
 use Rattle.gf_tree.specs.Told.{told_from, told_outcome, told_set}
 use Rattle.gf_tree.proofs.lemmas.games.FirstUseNumbers.{number_at}
 use Rattle.gf_tree.proofs.lemmas.games.PlayerSets.{sets_by_first_use}
@@ -70,32 +72,41 @@ module _ (g : Game) (game : IsGame g) where
 
   -- ---- what is told of a set and of an outcome
 
-  set_told : (p met : ℕ) → p ≤ length g.sets
-      → told_set g.sets met p ≡ option_map (use_at met p) (at_position canonical.sets p)
-  set_told p met h =
+  set_told : (p : ℕ) (described : Bool) → p ≤ length g.sets
+      → told_set ByFirstUse g.sets p described ≡ told_set OfFile canonical.sets p described
+  set_told p described h =
       grind (arith, something_there, slice_get, set_image, slice_get-map, option_map, set_number)
 
-  outcome_told : (p met : ℕ) → p ≤ length g.outcomes
-      → told_outcome g.outcomes met p ≡ option_map (use_at met p) (at_position canonical.outcomes p)
-  outcome_told p met h =
+  outcome_told : (p : ℕ) (described : Bool) → p ≤ length g.outcomes
+      → told_outcome ByFirstUse g.outcomes p described
+      ≡ told_outcome OfFile canonical.outcomes p described
+  outcome_told p described h =
       grind (arith, something_there, slice_get, outcome_image, slice_get-map, outcome_number)
 
-  told_given : (nodes : List Kept) (met_sets met_outcomes : ℕ)
+  told_by_first_use : (nodes : List Kept) (met_sets met_outcomes : ℕ)
       → AreAmong (length g.sets) (length g.outcomes) nodes
-      → map (λ t. t.node) (told_from g.sets g.outcomes met_sets met_outcomes nodes)
-      ≡ nodes_given canonical.sets canonical.outcomes met_sets met_outcomes nodes
-  told_given [] met_sets met_outcomes placed = refl
-  told_given (n ∷ ns) met_sets met_outcomes placed =
-      let set = set_told n.set met_sets placed.0.set in
-      let outcome = outcome_told n.outcome met_outcomes placed.0.outcome in
-      let others = told_given ns (max met_sets n.set) (max met_outcomes n.outcome) placed.1 in
-      λ i. record { name = n.name; set = set i; outcome = outcome i } ∷ others i
+      → told_from ByFirstUse g.sets g.outcomes met_sets met_outcomes nodes
+      ≡ told_from OfFile canonical.sets canonical.outcomes met_sets met_outcomes nodes
+  told_by_first_use [] met_sets met_outcomes placed = refl
+  told_by_first_use (n ∷ ns) met_sets met_outcomes placed =
+      let set = set_told n.set (n.set == suc met_sets) placed.0.set in
+      let outcome = outcome_told n.outcome (n.outcome == suc met_outcomes) placed.0.outcome in
+      let others =
+      told_by_first_use ns (max met_sets n.set) (max met_outcomes n.outcome) placed.1 in
+      λ i. record {
+        node = record { name = n.name; set = set i; outcome = outcome i };
+        set = n.set;
+        outcome = n.outcome;
+      } ∷ others i
 
-  pub told_are_given : (nodes : List Kept) → flatten g.tree ≡ entries_with g.sets g.outcomes nodes
+  pub nodes_told : (numbering : Numbering) (nodes : List Kept)
+      → flatten g.tree ≡ entries_with g.sets g.outcomes nodes
       → AreAmong (length g.sets) (length g.outcomes) nodes
-      → map (λ t. t.node) (told_from g.sets g.outcomes 0 0 nodes) ≡ file_nodes canonical
-  told_are_given nodes flat placed =
-      told_given nodes 0 0 placed
+      → map (λ t. t.node) (told_from numbering g.sets g.outcomes 0 0 nodes)
+      ≡ file_nodes (game_by numbering g)
+  nodes_told OfFile nodes flat placed = nodes_are_given g game nodes flat placed
+  nodes_told ByFirstUse nodes flat placed =
+      ap (map (λ t. t.node)) (told_by_first_use nodes 0 0 placed)
       ∙ nodes_are_given canonical (renumbered_is_game g numbers game (first_use_is_renumbering g))
       nodes (flatten_map (renumbered_node numbers) g.tree
       ∙ ap (map (map_entry (renumbered_node numbers))) flat
@@ -111,8 +122,8 @@ pub told_of_file : (bytes : List ℕ) (ls : List Lexeme) (c : Content) (nodes : 
     → Spells 0 bytes ls → run (length bytes) Format nothing ls ≡ Ok c
     → c.nodes ≡ entries_with c.sets c.outcomes nodes
     → AreAmong (length c.sets) (length c.outcomes) nodes
-    → map (λ t. t.node) (told_from c.sets c.outcomes 0 0 nodes)
+    → map (λ t. t.node) (told_from ByFirstUse c.sets c.outcomes 0 0 nodes)
     ≡ file_nodes (renumbered (first_use_numbers (game_of c)) (game_of c))
 told_of_file bytes ls c nodes spelled e kept placed =
-    told_are_given (game_of c) (read_is_game bytes ls c spelled e) nodes
+    nodes_told (game_of c) (read_is_game bytes ls c spelled e) ByFirstUse nodes
     (flatten_grown no_node c.nodes (read_fills bytes ls c e) ∙ kept) placed

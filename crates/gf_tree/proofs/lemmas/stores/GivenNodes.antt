@@ -1,5 +1,5 @@
 -- The nodes of a game as they are kept, given one after another, are those that a file gives.
-use Rattle.gf_tree.proofs.Common.{◌≡◌, ℕ, zero, suc, ◌≤◌, List, [], ◌∷◌, ◌++◌, length, map, max}
+use Rattle.gf_tree.proofs.Common.{◌≡◌, ◌==◌, ℕ, zero, suc, ◌≤◌, List, [], ◌∷◌, ◌++◌, length, map, max}
 use Rattle.gf_tree.proofs.Common.{Option, Some, option_map, nat_eq, refl, sym, ap, ◌∙◌, arith}
 use Rattle.gf_tree.proofs.Common.{append_assoc, append-nil, filter_map, cons_option, Decides-eqb}
 use Rattle.gf_tree.proofs.Common.{map-append, at_position, SetKey, same_set, Described}
@@ -10,7 +10,8 @@ use Rattle.std.proofs.Math.Nat.{max-zero}
 use Rattle.std.proofs.lemmas.List.Elements.{filter_map-append}
 use Rattle.gf_tree.specs.FileNodes.{file_nodes, node_behind, use_behind, with_those_before}
 use Rattle.gf_tree.specs.KeptNodes.{entry_with}
-use Rattle.gf_tree.specs.inner.KnownUses.{node_given, nodes_given, use_at}
+use Rattle.gf_tree.specs.Told.{told_from, told_node, use_with}
+use Rattle.gf_tree.specs.declared.game.numbered_node.Numbering.TheVariants.{OfFile}
 use Rattle.gf_tree.proofs.lemmas.stores.KnownKeys.{known_there, use_there}
 use Rattle.gf_tree.proofs.lemmas.games.Members.{map_same, map_twice, something_there}
 use Rattle.gf_tree.proofs.lemmas.games.TreesOnce.{same_set_equality}
@@ -38,7 +39,8 @@ module _ {K D : Type 0} (same : K → K → Bool) (tells : IsEquality same)
     (known : List (Described K D)) (before after : List K) (used : Option K) where
   use_given : (position met : ℕ) → IsUse same known before after used position met
       → option_map (use_behind same (description_at same known) before) used
-      ≡ option_map (use_at met position) (at_position known position)
+      ≡ option_map (λ d. use_with d.key (position == suc met) d.description)
+      (at_position known position)
   use_given position met h = grind (arith, something_there, option_map, use_there)
 
   met_given : (position met : ℕ) → IsUse same known before after used position met
@@ -99,7 +101,7 @@ module _ (g : Game) (game : IsGame g) (nodes : List Kept)
       met_are = here.outcomes;
     }
 
-    node_here : node_given g.sets g.outcomes met_sets met_outcomes n
+    node_here : (told_node OfFile g.sets g.outcomes met_sets met_outcomes n).node
         ≡ node_behind g (entries front) (entry_with g.sets g.outcomes n).node
     node_here =
         let set = sym (use_given same_set same_set_equality g.sets (sets_in front) (sets_in ns)
@@ -131,7 +133,7 @@ module _ (g : Game) (game : IsGame g) (nodes : List Kept)
 
   given_behind : (front ns : List Kept) (met_sets met_outcomes : ℕ)
       → IsFront front ns met_sets met_outcomes → AreAmong (length g.sets) (length g.outcomes) ns
-      → nodes_given g.sets g.outcomes met_sets met_outcomes ns
+      → map (λ t. t.node) (told_from OfFile g.sets g.outcomes met_sets met_outcomes ns)
       ≡ map (λ p. node_behind g (entries front ++ p.0) p.1.node)
       (with_those_before (entries ns))
   given_behind front [] met_sets met_outcomes here placed = refl
@@ -147,6 +149,6 @@ module _ (g : Game) (game : IsGame g) (nodes : List Kept)
       (entries front) (entry_with g.sets g.outcomes n) (entries ns))
 
   pub nodes_are_given : AreAmong (length g.sets) (length g.outcomes) nodes
-      → nodes_given g.sets g.outcomes 0 0 nodes ≡ file_nodes g
+      → map (λ t. t.node) (told_from OfFile g.sets g.outcomes 0 0 nodes) ≡ file_nodes g
   nodes_are_given placed =
       cc (given_behind [] nodes 0 0 (record { parts = refl; sets = refl; outcomes = refl }) placed)

@@ -1,7 +1,7 @@
 -- Which keys are known after some uses, and what the next use says.
 use Rattle.gf_tree.proofs.Common.{◌≡◌, ℕ, zero, suc, ◌+◌, ◌<◌, Bool, true, false, List, [], ◌∷◌}
 use Rattle.gf_tree.proofs.Common.{◌++◌, length, map, Some, slice_get, max, refl, sym, ap, ◌∙◌}
-use Rattle.gf_tree.proofs.Common.{arith, eq-eqb, slice_get-map, Described, description_at}
+use Rattle.gf_tree.proofs.Common.{arith, ◌==◌, eq-eqb, slice_get-map, Described, description_at}
 use Rattle.gf_tree.proofs.Common.{first_uses}
 use Rattle.std.proofs.Common.{length-append}
 use Rattle.std.specs.List.{list_any}
@@ -11,7 +11,7 @@ use Rattle.std.proofs.lemmas.List.{append-nil}
 use Rattle.std.proofs.lemmas.List.Elements.{filter-append}
 use Rattle.gf_tree.specs.FirstUse.{through_first_use, first_use_number}
 use Rattle.gf_tree.specs.FileNodes.{use_behind}
-use Rattle.gf_tree.specs.inner.KnownUses.{use_at}
+use Rattle.gf_tree.specs.Told.{use_with}
 use Rattle.gf_tree.proofs.lemmas.games.FirstUseNumbers.{number_at, number_at_most}
 use Rattle.gf_tree.proofs.lemmas.games.FirstUses.{first_uses_distinct}
 use Rattle.gf_tree.proofs.lemmas.games.Lookups.{entry_at}
@@ -88,12 +88,12 @@ module _ {K : Type 0} (same : K → K → Bool) (tells : IsEquality same) where
     description_there = grind (arith, entry_at, first_uses_distinct, has_at)
 
     pub use_there : use_behind same (description_at same known) before d.key
-        ≡ use_at (length (first_uses same before)) (suc k) d
+        ≡ use_with d.key (suc k == suc (length (first_uses same before))) d.description
     use_there = by (list_any (same d.key) before) refl
       where
         by : (b : Bool) → list_any (same d.key) before ≡ b
             → use_behind same (description_at same known) before d.key
-            ≡ use_at (length (first_uses same before)) (suc k) d
+            ≡ use_with d.key (suc k == suc (length (first_uses same before))) d.description
         by b h = grind (arith, number_again, ne_eqb, eq-eqb, number_new, description_there)
 
     pub known_there : length (first_uses same (before ++ d.key ∷ []))

@@ -1,18 +1,17 @@
-use Rattle.std.proofs.Common.{Some, length, refl, rules}
+use Rattle.std.proofs.Common.{Some, refl, rules}
 use Rattle.gf_token.specs.Label.{label_of}
-use Rattle.gf_tree.specs.KeptNodes.{position_of}
 use Rattle.gf_tree.specs.inner.Machine.{with_node}
 use Rattle.gf_tree.specs.inner.Machine.Position.{KnownOutcomeName}
 use Rattle.gf_tree.specs.inner.ReaderState.{begun_with, content_of}
 use Rattle.gf_tree.proofs.lemmas.reader.Steps.{wants_memory}
-use Rattle.gf_tree.proofs.lemmas.reader.Telling.{grows_none, placed_at, tells_again}
+use Rattle.gf_tree.proofs.lemmas.reader.Telling.{grows_none, tells_again}
 use Rattle.gf_tree.proofs.reader.Reader.described_outcome.Goals as goal
 
 pub returns-in_default-tell-clause-machine : goal.returns-in_default-tell-clause-machine
 returns-in_default-tell-clause-machine g c =
     wants_memory c.requires.stands c.at.ensures (KnownOutcomeName c.in-Some.ensures.known.outcome)
     (with_node (content_of c.args.self.now)
-    (begun_with c.args.self.now.sets.known (label_of c.args.node) (position_of c.args.set))
+    (begun_with c.args.self.now.sets.known (label_of c.args.node) c.args.set)
     (Some c.args.number))
     (search rules)
 
@@ -22,7 +21,6 @@ returns-clause-machine g c =
     tells_again (KnownOutcomeName known.outcome) c.args.self.now c.args.self.now c.tell.new.self
     c.outcome_again.new.self _ c.outcome_again.result
     refl refl (grows_none c.args.self.now.sets.known) (grows_none c.args.self.now.outcomes.known)
-    (placed_at (length c.args.self.now.sets.known) (length c.args.self.now.outcomes.known)
-    (label_of c.args.node) c.args.set (Some c.in-Some.place) c.requires.set known.within)
+    (record { set = c.requires.set; outcome = known.within })
     c.in-Ok.ensures.told (search rules) c.outcome_again.ensures.kept
     (c.outcome_again.ensures.machine known.outcome (search rules))

@@ -1,13 +1,12 @@
-use Rattle.std.proofs.Common.{Some, ap, length, refl, rules, sym}
+use Rattle.std.proofs.Common.{Some, ap, arith, refl, rules, sym}
 use Rattle.gf_token.specs.Label.{label_of}
 use Rattle.gf_tree.specs.Description.{outcome_with}
-use Rattle.gf_tree.specs.KeptNodes.{position_of}
 use Rattle.gf_tree.specs.inner.Machine.{with_node, with_outcome}
 use Rattle.gf_tree.specs.inner.Machine.Position.{NodeDue}
 use Rattle.gf_tree.specs.inner.ReaderState.{begun_with, content_of}
 use Rattle.gf_tree.specs.declared.reader.Reader.{Reader}
 use Rattle.gf_tree.proofs.lemmas.reader.Steps.{wants_memory}
-use Rattle.gf_tree.proofs.lemmas.reader.Telling.{grows_same, placed_at, tells}
+use Rattle.gf_tree.proofs.lemmas.reader.Telling.{grows_same, tells}
 use Rattle.gf_tree.proofs.reader.Reader.end_outcome.Goals as goal
 
 pub returns-in_default-keep_outcome-clause-machine :
@@ -16,7 +15,7 @@ returns-in_default-keep_outcome-clause-machine g c =
     wants_memory c.in-Some.ensures.place c.at.ensures NodeDue
     (with_node (with_outcome (content_of c.args.self.now) c.args.number
     (outcome_with (label_of c.args.name) c.args.self.now.outcomes.pending))
-    (begun_with c.args.self.now.sets.known (label_of c.args.node) (position_of c.args.set))
+    (begun_with c.args.self.now.sets.known (label_of c.args.node) c.args.set)
     (Some c.args.number))
     (search rules)
 
@@ -25,7 +24,7 @@ returns-in_default-tell-clause-machine g c =
     wants_memory c.in-Some.ensures.place c.at-in_default-tell.ensures NodeDue
     (with_node (with_outcome (content_of c.args.self.now) c.args.number
     (outcome_with (label_of c.args.name) c.args.self.now.outcomes.pending))
-    (begun_with c.args.self.now.sets.known (label_of c.args.node) (position_of c.args.set))
+    (begun_with c.args.self.now.sets.known (label_of c.args.node) c.args.set)
     (Some c.args.number))
     (search rules)
 
@@ -35,7 +34,5 @@ returns-clause-machine g c =
     tells NodeDue (ap (λ (r : Reader). r.told_sets) kept)
     (ap (λ (r : Reader). r.told_outcomes) kept)
     (grows_same (sym (ap (λ (r : Reader). r.sets.known) kept))) c.in-Ok.ensures.grows
-    (placed_at (length c.keep_outcome.new.self.sets.known)
-    (length c.keep_outcome.new.self.outcomes.known) (label_of c.args.node) c.args.set
-    (Some c.in-Ok.place) (search rules) c.in-Ok.ensures.place)
+    (record { set = search rules; outcome = omega (arith, c.in-Ok.ensures.place) })
     c.in-Ok-tell.ensures.told (search rules) refl refl

@@ -1,7 +1,6 @@
 use Rattle.std.proofs.Common.{◌≡◌, ◌-◌, ◌∙◌, ℕ, suc, ap, arith, rules}
 use Rattle.gf_token.specs.Label.{label_of}
 use Rattle.gf_tree.specs.Description.{outcome_with}
-use Rattle.gf_tree.specs.KeptNodes.{position_of}
 use Rattle.gf_tree.specs.inner.Machine.Position.{NewPayoff}
 use Rattle.gf_tree.specs.inner.ReaderState.{answer, begun_with}
 use Rattle.gf_tree.proofs.lemmas.reader.Steps.{carried, fails_back}
@@ -15,6 +14,6 @@ returns-in_err-payoff-clause-machine g c =
     (carried (c.in_err-payoff.ensures.machine _ _ _ (c.loop-left.left - 1))
     (c.loop-left.invariant.goes
     ∙ ap (λ (n : ℕ). answer (NewPayoff (begun_with c.args.self.now.sets.known
-    (label_of c.args.node) (position_of c.args.set)) c.args.number
+    (label_of c.args.node) c.args.set) c.args.number
     (outcome_with (label_of c.in-Some.name.label) c.loop-left.self.outcomes.pending) n)
     c.loop-left.self) more))

@@ -1,7 +1,6 @@
 use Rattle.std.proofs.Common.{◌≡◌}
 use Rattle.gf_token.specs.Label.{label_of}
 use Rattle.gf_tree.specs.Description.{outcome_with}
-use Rattle.gf_tree.specs.KeptNodes.{position_of}
 use Rattle.gf_tree.specs.inner.Machine.Position.{NewOutcomeName, NewPayoff}
 use Rattle.gf_tree.specs.inner.ReaderState.{ReadsPayoff, answer, begun_with}
 use Rattle.gf_tree.proofs.reader.Reader.new_outcome.Given as goal
@@ -9,9 +8,9 @@ use Rattle.gf_tree.proofs.reader.Reader.new_outcome.Given as goal
 abbrev pub invariant-loop-left : goal.invariant-loop-left
 invariant-loop-left g l = record {
   goes : answer (NewOutcomeName
-      (begun_with l.fn.self.sets.known (label_of l.node) (position_of l.set)) l.number)
+      (begun_with l.fn.self.sets.known (label_of l.node) l.set) l.number)
       l.fn.self
-      ≡ answer (NewPayoff (begun_with l.fn.self.sets.known (label_of l.node) (position_of l.set))
+      ≡ answer (NewPayoff (begun_with l.fn.self.sets.known (label_of l.node) l.set)
       l.number (outcome_with (label_of l.name.label) l.self.outcomes.pending) l.left)
       l.self;
   read : ReadsPayoff l.fn.self l.self;

@@ -1,5 +1,4 @@
-use Rattle.std.proofs.Common.{◌∙◌, ap, sym, rules}
-use Rattle.std.specs.Prelude.{suc}
+use Rattle.std.proofs.Common.{◌+◌, ◌∙◌, ap, sym, rules}
 use Rattle.gf_token.specs.Label.{label_of}
 use Rattle.gf_token.specs.Remaining.{Remaining}
 use Rattle.gf_tree.specs.Description.{set_of, set_with}
@@ -11,7 +10,7 @@ use Rattle.gf_tree.proofs.reader.Reader.new_set.Goals as goal
 pub returns-clause-machine : goal.returns-clause-machine
 returns-clause-machine c = λ node.
     goes_on c.end_set.result _ _
-    (λ place. answer (OutcomeNumber (begun_with c.end_set.new.self.sets.known node (suc place)))
+    (λ place. answer (OutcomeNumber (begun_with c.end_set.new.self.sets.known node (place + 1)))
     c.end_set.new.self)
     (c.loop-label.invariant.goes node
     ∙ ap (λ (t : Remaining). answer (NewAction node (set_of c.args.player c.args.number)

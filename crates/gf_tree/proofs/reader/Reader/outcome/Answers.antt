@@ -1,29 +1,27 @@
-use Rattle.std.proofs.Common.{◌≡◌, ap, false, Some, None, length, refl, rules}
+use Rattle.std.proofs.Common.{◌≡◌, ap, arith, false, Some, None, refl, rules}
 use Rattle.gf_token.specs.Label.{label_of}
 use Rattle.gf_token.specs.Next.{is_quoted, starts}
-use Rattle.gf_tree.specs.KeptNodes.{position_of}
 use Rattle.gf_tree.specs.declared.reader.Reader.{Reader}
 use Rattle.gf_tree.specs.inner.Machine.{with_node}
 use Rattle.gf_tree.specs.inner.Machine.Position.{KnownOutcomeName, NodeDue}
 use Rattle.gf_tree.specs.inner.ReaderState.{begun_with, content_of}
 use Rattle.gf_tree.proofs.lemmas.reader.Steps.{wants_memory}
 use Rattle.gf_tree.proofs.lemmas.stores.PassedBy.{outcome_passed_by}
-use Rattle.gf_tree.proofs.lemmas.reader.Telling.{grows_none, placed_at, tells}
+use Rattle.gf_tree.proofs.lemmas.reader.Telling.{grows_none, tells}
 use Rattle.gf_tree.proofs.reader.Reader.outcome.Goals as goal
 
 pub returns-in_default-tell-clause-machine : goal.returns-in_default-tell-clause-machine
 returns-in_default-tell-clause-machine g c =
     wants_memory c.in-Some.ensures.place c.at-in_default-tell.ensures NodeDue
     (with_node (content_of c.args.self.now)
-    (begun_with c.args.self.now.sets.known (label_of c.args.node) (position_of c.args.set)) None)
+    (begun_with c.args.self.now.sets.known (label_of c.args.node) c.args.set) None)
     (search rules)
 
 pub returns-then-number-eq0-clause-machine : goal.returns-then-number-eq0-clause-machine
 returns-then-number-eq0-clause-machine g c =
     tells NodeDue {old = c.args.self.now} {r = record c.args.self.now { tokens = c.index.new.self }}
     refl refl (grows_none c.args.self.now.sets.known) (grows_none c.args.self.now.outcomes.known)
-    (placed_at (length c.args.self.now.sets.known) (length c.args.self.now.outcomes.known)
-    (label_of c.args.node) c.args.set None c.requires.set tt)
+    (record { set = c.requires.set; outcome = omega arith })
     c.in-Ok.ensures.told (search rules) refl refl
 
 pub returns-in_default-tell-2-clause-machine : goal.returns-in_default-tell-2-clause-machine
@@ -31,7 +29,7 @@ returns-in_default-tell-2-clause-machine g c =
     wants_memory c.in-Some.ensures.place c.at-in_default-tell-2.ensures
     (KnownOutcomeName c.in-Some-known_outcome.ensures.known.outcome)
     (with_node (content_of c.args.self.now)
-    (begun_with c.args.self.now.sets.known (label_of c.args.node) (position_of c.args.set))
+    (begun_with c.args.self.now.sets.known (label_of c.args.node) c.args.set)
     (Some c.in-Some-index.number))
     (search rules)
 
@@ -46,8 +44,6 @@ returns-clause-machine g c =
     tells (KnownOutcomeName known.outcome) {old = c.args.self.now}
     {r = record c.args.self.now { tokens = c.index.new.self }}
     refl refl (grows_none c.args.self.now.sets.known) (grows_none c.args.self.now.outcomes.known)
-    (placed_at (length c.args.self.now.sets.known) (length c.args.self.now.outcomes.known)
-    (label_of c.args.node) c.args.set (Some c.in-Some-known_outcome.place) c.requires.set
-    known.within)
+    (record { set = c.requires.set; outcome = known.within })
     told (search rules) refl
     (outcome_passed_by (content_of now) known.outcome now.tokens.input now.tokens.ahead none)

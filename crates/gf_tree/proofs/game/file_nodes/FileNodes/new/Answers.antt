@@ -1,0 +1,14 @@
+use Rattle.std.proofs.Common.{map}
+use Rattle.std.specs.Slice.Iter.{iter_rest}
+use Rattle.gf_tree.specs.GameCode.{no_node}
+use Rattle.gf_tree.specs.KeptNodes.{entries_with, kept_of}
+use Rattle.gf_tree.proofs.lemmas.stores.GameNodes.{flatten_grown}
+use Rattle.gf_tree.proofs.lemmas.reader.ToldNodes.{nodes_told}
+use Rattle.gf_tree.proofs.game.file_nodes.FileNodes.new.Goals as goal
+
+pub returns : goal.returns
+returns c =
+    let nodes = map kept_of (iter_rest c.args.nodes) in
+    nodes_told _ c.requires.is_game c.args.numbering nodes
+    (flatten_grown no_node (entries_with c.args.parts.now.sets.known
+    c.args.parts.now.outcomes.known nodes) c.requires.fills) c.requires.placed
