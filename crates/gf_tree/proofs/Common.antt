@@ -1,95 +1,159 @@
 -- The names that many lemmas of this crate cite, passed on from one place. Declares nothing.
-pub use Rattle.gf_fraction.proofs.ComputedAnswers.{number_again, number_is}
+pub use Rattle.gf_fraction.proofs.ComputedAnswers.{answer_is, number_again, number_is}
+pub use Rattle.gf_fraction.proofs.ComputedArithmetic.{sum_is_computed, sum_of-some}
+pub use Rattle.gf_fraction.proofs.Products.{mul_above}
+pub use Rattle.gf_fraction.proofs.ReadingBack.{written_is_read}
 pub use Rattle.gf_fraction.proofs.WholeNumbers.{whole_fraction}
-pub use Rattle.gf_fraction.specs.Fits.{IsSum, AddsTo}
-pub use Rattle.gf_fraction.specs.NumberSpelling.{IsNumber}
-pub use Rattle.gf_fraction.specs.Ratio.{Ratio, IsFraction, whole}
+pub use Rattle.gf_fraction.specs.Fits.{AddsTo, IsSum, SumFits}
+pub use Rattle.gf_fraction.specs.NumberSpelling.{HasNumberFault, IsNumber}
+pub use Rattle.gf_fraction.specs.NumberText.{number_text}
+pub use Rattle.gf_fraction.specs.Ratio.{IsFraction, Ratio, whole}
 pub use Rattle.gf_fraction.specs.declared.fraction.NumberFault.{NumberFault}
-pub use Rattle.gf_token.proofs.ReadingIndices.{count_again, index_again}
-pub use Rattle.gf_token.specs.Grammar.{Each, IsPayoffInBraces, braced, IsComment}
+pub use Rattle.gf_token.proofs.ReadingIndices.{count_again, count_is, index_again, index_is}
+pub use Rattle.gf_token.proofs.Spelled.{same_tokens}
+pub use Rattle.gf_token.specs.Code.{code_of}
+pub use Rattle.gf_token.specs.Grammar.{Each, IsComment, IsPayoffInBraces, braced}
 pub use Rattle.gf_token.specs.Index.{IsIndex}
 pub use Rattle.gf_token.specs.Indices.{count_of}
 pub use Rattle.gf_token.specs.Label.{label_of}
-pub use Rattle.gf_token.specs.Place.{Begins, IsAccepted, tokens_of}
+pub use Rattle.gf_token.specs.LabelSpelling.{IsLabel}
+pub use Rattle.gf_token.specs.Next.{is_comma, is_quoted, starts}
+pub use Rattle.gf_token.specs.NumberWhy.{why_of}
+pub use Rattle.gf_token.specs.Place.{Begins, IsAccepted, IsSpanOf, MayFollow, tokens_of}
 pub use Rattle.gf_token.specs.Positions.{at_position}
-pub use Rattle.gf_token.specs.Remaining.{Remaining}
-pub use Rattle.gf_token.specs.Token.{Token, Lexeme}
-pub use Rattle.gf_token.specs.Token.Token.{Closing, Text, Bare, Opening, Broken, Comma}
-pub use Rattle.gf_token.specs.TokenSpelling.{Spells}
+pub use Rattle.gf_token.specs.Remaining.{Remaining, StandsBefore}
+pub use Rattle.gf_token.specs.Token.{Lexeme, Token, lexeme}
+pub use Rattle.gf_token.specs.Token.Token.{Bare, Broken, Closing, Comma, Opening, Text}
+pub use Rattle.gf_token.specs.TokenSpelling.{IsSpelled, Spells}
 pub use Rattle.gf_token.specs.declared.fault.Fault.{Fault}
 pub use Rattle.gf_token.specs.declared.fault.Span.{Span}
+pub use Rattle.gf_token.specs.declared.fault.What.{What}
 pub use Rattle.gf_token.specs.declared.fault.Why.{Why}
-pub use Rattle.gf_token.specs.declared.fault.Why.TheVariants.{Mismatch, NegativeProbability}
-pub use Rattle.gf_token.specs.declared.fault.Why.TheVariants.{Expected, UnknownPlayer}
-pub use Rattle.gf_tree.specs.Actions.{actions_of}
-pub use Rattle.gf_tree.specs.Consistent.{AreConsistent, Describes, IsConsistent}
-pub use Rattle.gf_tree.specs.Consistent.{HasChildrenAsDescribed}
-pub use Rattle.gf_tree.specs.Description.{Action, InformationSet, SetKey, same_set, set_of, Outcome}
-pub use Rattle.gf_tree.specs.Description.{IsOutcome, IsSet, AreActions, set_with}
-pub use Rattle.gf_tree.specs.Due.{IsDue}
-pub use Rattle.gf_tree.specs.DueRoles.{Role}
-pub use Rattle.gf_tree.specs.FileTree.{Use, FileNode, FileTree, outcome_uses, set_uses}
-pub use Rattle.gf_tree.specs.FiniteMap.{description_at, Described, first_uses}
-pub use Rattle.gf_tree.specs.FirstUse.{outcome_numbers, sets_of, player_keys}
-pub use Rattle.gf_tree.specs.Front.{InActions, IsNewSet, KnowsSet, ToOutcomeNumber, BehindSetNumber}
-pub use Rattle.gf_tree.specs.Front.{EndsInNode, IsExtensiveFile, IsNewOutcome, BehindOutcomeNumber}
-pub use Rattle.gf_tree.specs.Front.{KnowsOutcome, InPayoffs}
-pub use Rattle.gf_tree.specs.Game.{Game, IsGame, used_sets, used_outcomes, HasChildren, set_at}
-pub use Rattle.gf_tree.specs.Game.{Node}
-pub use Rattle.gf_tree.specs.GameOf.{keys_alone, IsGameOf, SpellsGame}
-pub use Rattle.gf_tree.specs.Grown.{grow}
-pub use Rattle.gf_tree.specs.Judgement.{IsRefusal}
-pub use Rattle.gf_tree.specs.KeptNodes.{entries_with, kept_of, tree_with, Kept, AreAmong, IsAmong}
-pub use Rattle.gf_tree.specs.KnownSets.{KnownSets, known_of}
-pub use Rattle.gf_tree.specs.Learned.{Learns}
-pub use Rattle.gf_tree.specs.PrefixOrder.{Entry, flatten, flatten_all, Fills}
-pub use Rattle.gf_tree.specs.Renumbering.{Renumbering, IsRenumbering, HasSet, renumbered_set}
-pub use Rattle.gf_tree.specs.Renumbering.{renumbered, renumbered_node}
-pub use Rattle.gf_tree.specs.RowPlaces.{FileFront}
-pub use Rattle.gf_tree.specs.Rows.{IsNoNumber, Row, this_number, a_letter, a_node, a_text, a_word}
-pub use Rattle.gf_tree.specs.Rows.{an_end, an_opening, an_outcome, or_comma, or_name, a_first_name}
-pub use Rattle.gf_tree.specs.Sentence.{IsPositive, IsDescription, IsInformationSet, IsMover, IsNode}
-pub use Rattle.gf_tree.specs.Sentence.{IsResult, IsStep, IsAction, IsOutcomeDescription, Sentence}
-pub use Rattle.gf_tree.specs.Spellable.{IsSpellable, IsSpellableOutcome, IsSpellableSet}
-pub use Rattle.gf_tree.specs.Subtrees.{subtree_sizes}
+pub use Rattle.gf_token.specs.declared.fault.Why.TheVariants.{BadIndex, Expected, Memory, Mismatch}
+pub use Rattle.gf_token.specs.declared.fault.Why.TheVariants.{NegativeProbability, NoEntry}
+pub use Rattle.gf_token.specs.declared.fault.Why.TheVariants.{SumAboveOne, SumBelowOne, SumOverflow}
+pub use Rattle.gf_token.specs.declared.fault.Why.TheVariants.{TooLong, TooManyProfiles}
+pub use Rattle.gf_token.specs.declared.fault.Why.TheVariants.{UnknownOutcome, UnknownPlayer}
+pub use Rattle.gf_token.specs.declared.fault.Why.TheVariants.{Unterminated}
+pub use Rattle.gf_tree.specs.Actions.{action_of, actions_of}
+pub use Rattle.gf_tree.specs.Consistent.{AreConsistent, Describes, HasChildrenAsDescribed}
+pub use Rattle.gf_tree.specs.Consistent.{IsConsistent}
+pub use Rattle.gf_tree.specs.Description.{Action, AddToOne, AreActions, InformationSet, IsOutcome}
+pub use Rattle.gf_tree.specs.Description.{IsSet, Outcome, SetKey, outcome_with, same_set, set_of}
+pub use Rattle.gf_tree.specs.Description.{set_with}
+pub use Rattle.gf_tree.specs.Due.{IsDue, NodeIsDue, OutcomeIsDue, PayoffIsDue, PlayerIsDue}
+pub use Rattle.gf_tree.specs.Due.{ProbabilityIsDue, SetIsDue}
+pub use Rattle.gf_tree.specs.DueRoles.{OnlySuitedFollow, Role, Suits, what_of}
+pub use Rattle.gf_tree.specs.FileNodes.{file_nodes, use_behind}
+pub use Rattle.gf_tree.specs.FileTree.{FileNode, FileTree, Use, outcome_uses, set_uses}
+pub use Rattle.gf_tree.specs.FiniteMap.{Described, description_at, first_uses}
+pub use Rattle.gf_tree.specs.FirstUse.{first_use_number, first_use_numbers, outcome_numbers}
+pub use Rattle.gf_tree.specs.FirstUse.{player_keys, sets_of, through_first_use}
+pub use Rattle.gf_tree.specs.Front.{BehindOutcomeNumber, BehindSetNumber, EndsInNode, InActions}
+pub use Rattle.gf_tree.specs.Front.{InPayoffs, IsExtensiveFile, IsNewOutcome, IsNewSet, IsSetKnown}
+pub use Rattle.gf_tree.specs.Front.{KnowsOutcome, KnowsSet, ToOutcomeNumber, ToPlayerNumber}
+pub use Rattle.gf_tree.specs.Front.{ToProbability, ToSetNumber}
+pub use Rattle.gf_tree.specs.Game.{Game, HasChildren, IsGame, Node, outcome_at, set_at}
+pub use Rattle.gf_tree.specs.Game.{used_outcomes, used_sets}
+pub use Rattle.gf_tree.specs.GameCode.{no_node}
+pub use Rattle.gf_tree.specs.GameOf.{IsGameOf, MeansGame, SpellsGame, keys_alone}
+pub use Rattle.gf_tree.specs.Grown.{first, grow, others, root}
+pub use Rattle.gf_tree.specs.Judgement.{IsJudged, IsRefusal}
+pub use Rattle.gf_tree.specs.KeptNodes.{AreAmong, IsAmong, Kept, actions_counted, child_count}
+pub use Rattle.gf_tree.specs.KeptNodes.{child_counts, entries_with, entry_with, kept_of, sizes_of}
+pub use Rattle.gf_tree.specs.KeptNodes.{tree_with}
+pub use Rattle.gf_tree.specs.KnownSets.{KnownSets, known_of, number_among, with_pending_set}
+pub use Rattle.gf_tree.specs.Learned.{Learns, LearnsGame}
+pub use Rattle.gf_tree.specs.Listed.{AreListed, listed_numbers, number_listed}
+pub use Rattle.gf_tree.specs.PrefixOrder.{Entry, Fills, flatten, flatten_all}
+pub use Rattle.gf_tree.specs.Reason.{AddUpTo, DiffersFromOutcome, DiffersFromSet, EndsInFirstUse}
+pub use Rattle.gf_tree.specs.Reason.{GoesOnWith, HasSum, Holds, IsNoText, IsReason, IsWrongBehind}
+pub use Rattle.gf_tree.specs.Reason.{ListsActions, NewProbabilityIsDue, NobodyMoves}
+pub use Rattle.gf_tree.specs.Renumbering.{HasOutcome, HasSet, IsRenumbering, Renumbering}
+pub use Rattle.gf_tree.specs.Renumbering.{renumbered, renumbered_node, renumbered_set}
+pub use Rattle.gf_tree.specs.RowPlaces.{BehindComment, BehindNode, BehindPayoff, BehindPlayers}
+pub use Rattle.gf_tree.specs.RowPlaces.{BehindSet, FileFront, ToPayoff}
+pub use Rattle.gf_tree.specs.Rows.{Accepts, IsNoNumber, Refuses, Row, a_closing, a_first_name}
+pub use Rattle.gf_tree.specs.Rows.{a_letter, a_new_action, a_new_branch, a_node, a_payoff, a_player}
+pub use Rattle.gf_tree.specs.Rows.{a_player_name, a_probability, a_set, a_text, a_word, an_end}
+pub use Rattle.gf_tree.specs.Rows.{an_opening, an_outcome, no_label, or_comma, or_name, or_text}
+pub use Rattle.gf_tree.specs.Rows.{this_label, this_number}
+pub use Rattle.gf_tree.specs.SameGame.{Carries, SameGame}
+pub use Rattle.gf_tree.specs.Sentence.{IsAction, IsDescription, IsInformationSet, IsMover, IsNode}
+pub use Rattle.gf_tree.specs.Sentence.{IsOutcomeDescription, IsPositive, IsResult, IsStep, Sentence}
+pub use Rattle.gf_tree.specs.SomeRow.{IsBeforeRow, IsInHeading, IsInNode}
+pub use Rattle.gf_tree.specs.Spellable.{IsSpellable, IsSpellableAction, IsSpellableOutcome}
+pub use Rattle.gf_tree.specs.Spellable.{IsSpellableSet}
+pub use Rattle.gf_tree.specs.Subtrees.{child_trees, list_of, root_node, subtree_at, subtree_sizes}
+pub use Rattle.gf_tree.specs.Subtrees.{subtrees, subtrees_all}
+pub use Rattle.gf_tree.specs.Told.{Heading, Told, told_from, told_node, told_outcome, told_set}
+pub use Rattle.gf_tree.specs.Told.{use_with}
 pub use Rattle.gf_tree.specs.Tree.{Tree, Trees, count, map_tree, map_trees}
 pub use Rattle.gf_tree.specs.Tree.Tree.{branch}
-pub use Rattle.gf_tree.specs.Tree.Trees.{none, more}
+pub use Rattle.gf_tree.specs.Tree.Trees.{more, none}
 pub use Rattle.gf_tree.specs.declared.game.kept.Stored.{Stored}
-pub use Rattle.gf_tree.specs.inner.GameParts.{Parts, game_with}
-pub use Rattle.gf_tree.specs.inner.Machine.{Begun, Content, State, at, new_set_ends, shared, step}
-pub use Rattle.gf_tree.specs.inner.Machine.{after_node, node_letter, personal_node, Position}
-pub use Rattle.gf_tree.specs.inner.Machine.{nothing, begun, behind_set, outcome_number}
-pub use Rattle.gf_tree.specs.inner.Machine.{player_number, set_number, behind_outcome, with_node}
-pub use Rattle.gf_tree.specs.inner.Machine.{paid, run, behind_label, with_action, set_ends}
-pub use Rattle.gf_tree.specs.inner.Machine.Position.{KnownProbability, NewAction, NewProbability}
-pub use Rattle.gf_tree.specs.inner.Machine.Position.{KnownAction, Format, Version, Letter, Title}
-pub use Rattle.gf_tree.specs.inner.Machine.Position.{BeforePlayers, InPlayers, AfterPlayers}
-pub use Rattle.gf_tree.specs.inner.Machine.Position.{NodeDue, ChanceName, PersonalName}
-pub use Rattle.gf_tree.specs.inner.Machine.Position.{TerminalName, PlayerNumber, SetNumber}
-pub use Rattle.gf_tree.specs.inner.Machine.Position.{NewSetName, NewSetOpening, KnownSetName}
-pub use Rattle.gf_tree.specs.inner.Machine.Position.{KnownSetOpening, KnownOutcomeOpening}
-pub use Rattle.gf_tree.specs.inner.Machine.Position.{OutcomeNumber, NewOutcomeName}
-pub use Rattle.gf_tree.specs.inner.Machine.Position.{NewOutcomeOpening, KnownOutcomeName}
-pub use Rattle.gf_tree.specs.inner.Machine.Position.{AfterKnownPayoff, NewPayoff, AfterNewPayoff}
-pub use Rattle.gf_tree.specs.inner.Machine.Position.{KnownPayoff}
-pub use Rattle.gf_tree.specs.inner.Probability.{Share, share_of}
-pub use Rattle.gf_tree.specs.inner.ReadGame.{run_tokens, then_run, game_of}
-pub use Rattle.gf_tree.specs.inner.ReaderState.{heard}
-pub use Rattle.gf_tree.specs.inner.Skipped.{Begin, skipped}
-pub use Rattle.gf_tree.specs.inner.StoredSets.{described, stored_sets}
-pub use Rattle.std.proofs.Common.{◌≡◌, Bool, true, false, Option, Some, None, Result, Ok, Err, ℕ}
-pub use Rattle.std.proofs.Common.{zero, suc, ◌<◌, cond, List, [], ◌∷◌, MatchOption, refl, sym, ap}
-pub use Rattle.std.proofs.Common.{subst, ◌∙◌, append-nil, arith, inl, inr, length, nat_eq, ◌++◌}
-pub use Rattle.std.proofs.Common.{map, append_assoc, not, ◌↔◌, ◌≤◌, drop, ◌+◌, option_map, get_or}
-pub use Rattle.std.proofs.Common.{slice_get, ◌^◌, ◌-◌, max, take}
-pub use Rattle.std.proofs.lemmas.Bool.{eqb-true, both_ways, false_from_ne_true, eq-eqb}
+pub use Rattle.gf_tree.specs.declared.game.numbered_node.Numbering.TheVariants.{ByFirstUse, OfFile}
+pub use Rattle.gf_tree.specs.declared.numbers.seeded.Seeded.{Seeded}
+pub use Rattle.gf_tree.specs.declared.reader.Reader.{Reader}
+pub use Rattle.gf_tree.specs.inner.GameParts.{AreNodes, IsHeld, IsListed, Parts, game_with}
+pub use Rattle.gf_tree.specs.inner.KnownOutcomes.{KnownOutcomes}
+pub use Rattle.gf_tree.specs.inner.Machine.{Begun, Content, Position, State, after_node, at, begun}
+pub use Rattle.gf_tree.specs.inner.Machine.{behind_label, behind_outcome, behind_set, due, may_end}
+pub use Rattle.gf_tree.specs.inner.Machine.{new_label, new_set_ends, node_letter, node_or_end}
+pub use Rattle.gf_tree.specs.inner.Machine.{nothing, outcome_ends, outcome_number, paid}
+pub use Rattle.gf_tree.specs.inner.Machine.{personal_node, player_number, run, same_number}
+pub use Rattle.gf_tree.specs.inner.Machine.{same_text, set_ends, set_known, set_number, shared}
+pub use Rattle.gf_tree.specs.inner.Machine.{step, then_on, with_action, with_node, with_outcome}
+pub use Rattle.gf_tree.specs.inner.Machine.{with_payoff, with_player, with_set}
+pub use Rattle.gf_tree.specs.inner.Machine.Position.{AfterKnownPayoff, AfterNewPayoff, AfterPlayers}
+pub use Rattle.gf_tree.specs.inner.Machine.Position.{BeforePlayers, ChanceName, Format, InPlayers}
+pub use Rattle.gf_tree.specs.inner.Machine.Position.{KnownAction, KnownOutcomeName}
+pub use Rattle.gf_tree.specs.inner.Machine.Position.{KnownOutcomeOpening, KnownPayoff}
+pub use Rattle.gf_tree.specs.inner.Machine.Position.{KnownProbability, KnownSetName}
+pub use Rattle.gf_tree.specs.inner.Machine.Position.{KnownSetOpening, Letter, NewAction}
+pub use Rattle.gf_tree.specs.inner.Machine.Position.{NewOutcomeName, NewOutcomeOpening, NewPayoff}
+pub use Rattle.gf_tree.specs.inner.Machine.Position.{NewProbability, NewSetName, NewSetOpening}
+pub use Rattle.gf_tree.specs.inner.Machine.Position.{NodeDue, OutcomeNumber, PersonalName}
+pub use Rattle.gf_tree.specs.inner.Machine.Position.{PlayerNumber, SetNumber, TerminalName, Title}
+pub use Rattle.gf_tree.specs.inner.Machine.Position.{Version}
+pub use Rattle.gf_tree.specs.inner.Numbers.{entries_of}
+pub use Rattle.gf_tree.specs.inner.Passed.{HasPassed}
+pub use Rattle.gf_tree.specs.inner.Probability.{Share, same_ratio, share_by, share_of, up_to_one}
+pub use Rattle.gf_tree.specs.inner.ReadGame.{game_of, run_tokens, then_run}
+pub use Rattle.gf_tree.specs.inner.ReaderState.{Answer, Fails, Goes, Grows, HasRead, HasReadAll}
+pub use Rattle.gf_tree.specs.inner.ReaderState.{answer, begun_with, behind, content_of}
+pub use Rattle.gf_tree.specs.inner.ReaderState.{content_with, heading_read, heard, to_all}
+pub use Rattle.gf_tree.specs.inner.ReaderState.Fails.{of_file}
+pub use Rattle.gf_tree.specs.inner.Skipped.{Begin, sizes_grown, skipped}
+pub use Rattle.gf_tree.specs.inner.StoredOutcomes.{AreOutcomes, stored_outcomes}
+pub use Rattle.gf_tree.specs.inner.StoredSets.{AreSets, HoldActions, described, end_of, places_from}
+pub use Rattle.gf_tree.specs.inner.StoredSets.{stored_sets}
+pub use Rattle.gf_tree.specs.inner.Stretches.{AreStretches}
+pub use Rattle.indexmap.specs.IndexMap.{IndexMap}
+pub use Rattle.std.proofs.Common.{Bool, Err, Global, List, MatchOption, None, Ok, Option, Result}
+pub use Rattle.std.proofs.Common.{Some, Vec, [], ap, append-nil, append_assoc, arith, cond, drop}
+pub use Rattle.std.proofs.Common.{false, get_or, inl, inr, length, map, max, nat_eq, not}
+pub use Rattle.std.proofs.Common.{option_map, refl, rules, slice_get, subst, suc, sym, take, true}
+pub use Rattle.std.proofs.Common.{zero, zero-add, ℕ, ◌++◌, ◌+◌, ◌-◌, ◌<◌, ◌^◌, ◌↔◌, ◌∙◌, ◌∷◌, ◌≡◌}
+pub use Rattle.std.proofs.Common.{◌≢◌, ◌≤◌}
+pub use Rattle.std.proofs.Math.IntN.{*ℤ_comm}
+pub use Rattle.std.proofs.Math.ListN.{drop_of_length-le}
+pub use Rattle.std.proofs.lemmas.Bool.{both_ways, cases_Bool, eq-eqb, eqb-false, eqb-true}
+pub use Rattle.std.proofs.lemmas.Bool.{false_from_ne_true, le-leb, not_from_false}
 pub use Rattle.std.proofs.lemmas.Bool.Decides.{Decides-eqb}
 pub use Rattle.std.proofs.lemmas.Int.{ints}
 pub use Rattle.std.proofs.lemmas.Iterator.Adapters.{position_from-zero}
-pub use Rattle.std.proofs.lemmas.List.{length-append, map-append, length-map, drop-map}
-pub use Rattle.std.proofs.lemmas.Option.{same_Some, slice_get_within, slice_get-map}
+pub use Rattle.std.proofs.lemmas.List.{append_cancel_left, at_drop_more, drop-append-le, drop-map}
+pub use Rattle.std.proofs.lemmas.List.{get_or-map, length-append, length-drop, length-map}
+pub use Rattle.std.proofs.lemmas.List.{length-take-le, map-append, take-append-le, take-map}
+pub use Rattle.std.proofs.lemmas.List.{take_all}
+pub use Rattle.std.proofs.lemmas.List.Elements.{filter-append, filter_map-append}
+pub use Rattle.std.proofs.lemmas.Option.{get_or_from_slice_get, same_Some, slice_get-get_or}
+pub use Rattle.std.proofs.lemmas.Option.{slice_get-map, slice_get_within}
 pub use Rattle.std.specs.Cmp.Lexicographic.{pointwise}
-pub use Rattle.std.specs.List.{filter_map, cons_option, AllByRecursion, filter, position_from}
+pub use Rattle.std.specs.List.{AllByRecursion, cons_option, filter, filter_map, find, flat_map}
+pub use Rattle.std.specs.List.{position_from}
 pub use Rattle.std.specs.Map.{lookup}
-pub use Rattle.std.specs.Prelude.{pos, ◌≤ℤ◌, ◌⊎◌, codes, ◌==◌, position}
+pub use Rattle.std.specs.Option.{option_to_list}
+pub use Rattle.std.specs.Prelude.{codes, decimal, if◌then◌else◌, int_lt, nat_le, negsuc, pos}
+pub use Rattle.std.specs.Prelude.{position, slice_range, ℤ, ◌*ℤ◌, ◌+ℤ◌, ◌==◌, ◌||◌, ◌≤ℤ◌, ◌⊎◌}

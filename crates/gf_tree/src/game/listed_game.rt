@@ -15,7 +15,7 @@ ghost use Rattle.gf_tree.specs.Told.{heading_in, heading_of};
 use crate::game::kept::NodeList;
 use crate::game::numbered_node::Numbering;
 use crate::game::parts::Parts;
-use crate::game::{Game, FileNodes};
+use crate::game::{FileNodes, Game};
 use crate::reader::receive::ToldHeading;
 use std::marker::Model;
 

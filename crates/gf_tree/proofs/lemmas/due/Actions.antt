@@ -8,19 +8,15 @@ use Rattle.gf_tree.proofs.Common.{Bare, Why, Mismatch, NegativeProbability, Acti
 use Rattle.gf_tree.proofs.Common.{SetKey, same_set, set_of, description_at, FileFront, InActions}
 use Rattle.gf_tree.proofs.Common.{IsNewSet, KnowsSet, Begun, Content, State, at, new_set_ends}
 use Rattle.gf_tree.proofs.Common.{shared, step, KnownProbability, NewAction, NewProbability}
-use Rattle.gf_tree.proofs.Common.{KnownAction, Share, share_of, IsNoNumber, Row, this_number}
-use Rattle.std.specs.Prelude.{ℤ, int_lt, ◌<ℤ◌, ◌*ℤ◌, ◌≢◌}
-use Rattle.std.proofs.Math.IntN.{*ℤ_comm}
+use Rattle.gf_tree.proofs.Common.{KnownAction, Share, share_of, IsNoNumber, Row, this_number, ℤ}
+use Rattle.gf_tree.proofs.Common.{int_lt, ◌*ℤ◌, ◌≢◌, *ℤ_comm, SumFits, sum_is_computed}
+use Rattle.gf_tree.proofs.Common.{ToProbability, same_number, same_ratio, share_by, up_to_one}
+use Rattle.gf_tree.proofs.Common.{GoesOnWith, HasSum, IsWrongBehind, a_new_action, a_new_branch}
+use Rattle.gf_tree.proofs.Common.{a_probability, no_label, this_label, append_cancel_left}
+use Rattle.std.specs.Prelude.{◌<ℤ◌}
 use Rattle.gf_fraction.specs.Computed.{number_of}
-use Rattle.gf_fraction.specs.Fits.{SumFits}
-use Rattle.gf_fraction.proofs.ComputedArithmetic.{sum_is_computed}
 use Rattle.gf_fraction.proofs.LowestTerms.{one_fraction}
-use Rattle.gf_tree.specs.Front.{ToProbability}
-use Rattle.gf_tree.specs.inner.Machine.{same_number}
-use Rattle.gf_tree.specs.inner.Probability.{same_ratio, share_by, up_to_one}
-use Rattle.gf_tree.specs.Reason.{GoesOnWith, HasSum, IsWrongBehind}
-use Rattle.gf_tree.specs.Rows.{a_new_action, a_new_branch, a_probability, a_known_action, no_label}
-use Rattle.gf_tree.specs.Rows.{this_label}
+use Rattle.gf_tree.specs.Rows.{a_known_action}
 use Rattle.gf_tree.proofs.lemmas.fronts.Cuts.{first_is}
 use Rattle.gf_tree.proofs.lemmas.fronts.Lists.{to_probability}
 use Rattle.gf_tree.proofs.lemmas.fronts.Runs.{in_actions}
@@ -32,7 +28,6 @@ use Rattle.gf_tree.proofs.lemmas.fronts.Codes.{begins_actions, begins_probabilit
 use Rattle.gf_tree.proofs.lemmas.runs.Shares.{share_again, share_found}
 use Rattle.gf_tree.proofs.lemmas.runs.Tokens.{ratio_is}
 use Rattle.gf_tree.proofs.lemmas.Once.{one_ok, ok_or_err, none_or_some, one_some}
-use Rattle.std.proofs.lemmas.List.{append_cancel_left}
 
 -- ---- a new set of a player
 

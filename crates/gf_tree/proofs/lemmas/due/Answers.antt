@@ -7,14 +7,12 @@ use Rattle.gf_tree.proofs.Common.{Expected, IsIndex, count_of, count_again, inde
 use Rattle.gf_tree.proofs.Common.{State, after_node, at, node_letter, personal_node, Format}
 use Rattle.gf_tree.proofs.Common.{Version, Letter, Title, BeforePlayers, InPlayers, AfterPlayers}
 use Rattle.gf_tree.proofs.Common.{NodeDue, ChanceName, PersonalName, TerminalName, a_letter, a_node}
-use Rattle.gf_tree.proofs.Common.{a_text, a_word, an_end, an_opening, IsPositive}
-use Rattle.std.specs.Prelude.{◌||◌, ◌≢◌}
+use Rattle.gf_tree.proofs.Common.{a_text, a_word, an_end, an_opening, IsPositive, ◌||◌, ◌≢◌}
+use Rattle.gf_tree.proofs.Common.{HasNumberFault, What, a_player_name, or_text}
 use Rattle.gf_fraction.specs.Computed.{number_of}
-use Rattle.gf_fraction.specs.NumberSpelling.{HasNumberFault, Reads as Spelled}
+use Rattle.gf_fraction.specs.NumberSpelling.{Reads as Spelled}
 use Rattle.gf_fraction.proofs.ComputedAnswers.{number_is_computed}
-use Rattle.gf_token.specs.declared.fault.What.{What}
 use Rattle.gf_token.specs.Indices.{index_of}
-use Rattle.gf_tree.specs.Rows.{a_player_name, or_text}
 use Rattle.gf_tree.proofs.lemmas.due.Rows.{Answers, Law}
 use Rattle.gf_tree.proofs.lemmas.runs.Tokens.{bytes_same, same_bytes}
 use Rattle.gf_tree.proofs.lemmas.Once.{true_or_false}

@@ -7,14 +7,12 @@ use Rattle.gf_tree.proofs.Common.{Begins, Why, InformationSet, Outcome, SetKey, 
 use Rattle.gf_tree.proofs.Common.{IsDue, Use, description_at, ToOutcomeNumber, BehindSetNumber}
 use Rattle.gf_tree.proofs.Common.{EndsInNode, IsExtensiveFile, IsNewOutcome, IsDescription}
 use Rattle.gf_tree.proofs.Common.{IsInformationSet, Role, FileFront, IsNoNumber, Row, a_letter}
-use Rattle.gf_tree.proofs.Common.{a_word, an_outcome, or_comma, or_name, this_number}
-use Rattle.gf_token.specs.declared.fault.What.{What}
-use Rattle.gf_token.specs.declared.fault.Why.TheVariants.{BadIndex}
-use Rattle.gf_tree.specs.Due.{OutcomeIsDue, PayoffIsDue, PlayerIsDue, ProbabilityIsDue, SetIsDue}
-use Rattle.gf_tree.specs.Front.{IsSetKnown}
-use Rattle.gf_tree.specs.DueRoles.{IsToldByRole, OnlySuitedFollow, Suits, what_of}
-use Rattle.gf_tree.specs.RowPlaces.{BehindPayoff, BehindSet, ToPayoff}
-use Rattle.gf_tree.specs.Rows.{a_payoff, a_player, a_probability, a_set}
+use Rattle.gf_tree.proofs.Common.{a_word, an_outcome, or_comma, or_name, this_number, What}
+use Rattle.gf_tree.proofs.Common.{BadIndex, OutcomeIsDue, PayoffIsDue, PlayerIsDue}
+use Rattle.gf_tree.proofs.Common.{ProbabilityIsDue, SetIsDue, IsSetKnown, OnlySuitedFollow, Suits}
+use Rattle.gf_tree.proofs.Common.{what_of, BehindPayoff, BehindSet, ToPayoff, a_payoff, a_player}
+use Rattle.gf_tree.proofs.Common.{a_probability, a_set}
+use Rattle.gf_tree.specs.DueRoles.{IsToldByRole}
 use Rattle.gf_tree.proofs.lemmas.fronts.CutPlaces.{payoff_place}
 use Rattle.gf_tree.proofs.lemmas.fronts.Lists.{to_probability}
 use Rattle.gf_tree.proofs.lemmas.due.Actions.{known_probability, new_probability}

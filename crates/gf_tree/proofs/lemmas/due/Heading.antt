@@ -4,11 +4,10 @@ use Rattle.gf_tree.proofs.Common.{ap, subst, ◌∙◌, append_assoc, append-nil
 use Rattle.gf_tree.proofs.Common.{Token, Why, Opening, Closing, Text, Bare, Content, Position}
 use Rattle.gf_tree.proofs.Common.{State, at, nothing, step, Format, Version, Letter, Title}
 use Rattle.gf_tree.proofs.Common.{BeforePlayers, AfterPlayers, NodeDue, Row, a_letter, a_node}
-use Rattle.gf_tree.proofs.Common.{a_text, a_word, an_opening}
-use Rattle.gf_tree.specs.inner.Machine.{with_player}
+use Rattle.gf_tree.proofs.Common.{a_text, a_word, an_opening, with_player, BehindComment}
+use Rattle.gf_tree.proofs.Common.{BehindPlayers, a_player_name, or_text}
 use Rattle.gf_tree.specs.inner.Machine.Position.{InPlayers as Players}
-use Rattle.gf_tree.specs.RowPlaces.{BehindComment, BehindPlayers, InPlayers, ToPlayers, ToTitle}
-use Rattle.gf_tree.specs.Rows.{a_player_name, or_text}
+use Rattle.gf_tree.specs.RowPlaces.{InPlayers, ToPlayers, ToTitle}
 use Rattle.gf_tree.proofs.lemmas.due.Rows.{Stands, EndLaw, Law, stands_by}
 use Rattle.gf_tree.proofs.lemmas.runs.Heading.{heading}
 use Rattle.gf_tree.proofs.lemmas.runs.Places.{walk_run, walked, Leads, begins, state_is, walk}

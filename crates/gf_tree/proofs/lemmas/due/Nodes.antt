@@ -10,13 +10,10 @@ use Rattle.gf_tree.proofs.Common.{behind_set, node_letter, outcome_number, perso
 use Rattle.gf_tree.proofs.Common.{player_number, set_number, NodeDue, ChanceName, PersonalName}
 use Rattle.gf_tree.proofs.Common.{TerminalName, PlayerNumber, SetNumber, NewSetName, NewSetOpening}
 use Rattle.gf_tree.proofs.Common.{KnownSetName, KnownSetOpening, run_tokens, then_run, FileFront}
-use Rattle.std.specs.Prelude.{nat_le}
+use Rattle.gf_tree.proofs.Common.{nat_le, count_is, index_is, a_player, a_set, ToPlayerNumber}
+use Rattle.gf_tree.proofs.Common.{ToSetNumber, same_text}
 use Rattle.std.proofs.lemmas.Bool.Decides.{nat_tests}
 use Rattle.gf_token.specs.Indices.{index_of}
-use Rattle.gf_token.proofs.ReadingIndices.{count_is, index_is}
-use Rattle.gf_tree.specs.Rows.{a_player, a_set}
-use Rattle.gf_tree.specs.Front.{ToPlayerNumber, ToSetNumber}
-use Rattle.gf_tree.specs.inner.Machine.{same_text}
 use Rattle.gf_tree.specs.RowPlaces.{BehindLetter, BehindSetName}
 use Rattle.gf_tree.proofs.lemmas.due.Answers.{chance_name, no_index, no_positive, other_word}
 use Rattle.gf_tree.proofs.lemmas.due.Answers.{personal_name, terminal_name}

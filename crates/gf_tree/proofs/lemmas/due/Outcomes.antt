@@ -7,11 +7,10 @@ use Rattle.gf_tree.proofs.Common.{ToOutcomeNumber, Begun, Content, after_node, a
 use Rattle.gf_tree.proofs.Common.{with_node, KnownOutcomeOpening, NodeDue, OutcomeNumber}
 use Rattle.gf_tree.proofs.Common.{NewOutcomeName, NewOutcomeOpening, KnownOutcomeName, run_tokens}
 use Rattle.gf_tree.proofs.Common.{then_run, FileFront, a_first_name, a_node, an_end, an_opening}
-use Rattle.gf_tree.proofs.Common.{an_outcome, or_name}
-use Rattle.std.proofs.Common.{tests, rules}
+use Rattle.gf_tree.proofs.Common.{an_outcome, or_name, rules, same_text, BehindSet}
+use Rattle.std.proofs.Common.{tests}
 use Rattle.gf_token.specs.Indices.{index_of}
-use Rattle.gf_tree.specs.inner.Machine.{same_text}
-use Rattle.gf_tree.specs.RowPlaces.{BehindOutcomeName, BehindSet, BehindZero}
+use Rattle.gf_tree.specs.RowPlaces.{BehindOutcomeName, BehindZero}
 use Rattle.gf_tree.proofs.lemmas.due.Answers.{after_last_node, node_by, node_due}
 use Rattle.gf_tree.proofs.lemmas.due.Nodes.{Parts, name_by, named_bare, stands_in, outcome_by}
 use Rattle.gf_tree.proofs.lemmas.due.Nodes.{parts}

@@ -6,14 +6,11 @@ use Rattle.gf_tree.proofs.Common.{number_again, number_is, Token, Why, Opening, 
 use Rattle.gf_tree.proofs.Common.{Text, Bare, Each, IsPayoffInBraces, Outcome, description_at}
 use Rattle.gf_tree.proofs.Common.{run_tokens, FileFront, InPayoffs, IsExtensiveFile, IsNewOutcome}
 use Rattle.gf_tree.proofs.Common.{KnowsOutcome, Begun, Content, State, at, paid, NodeDue}
-use Rattle.gf_tree.proofs.Common.{AfterKnownPayoff, Row, a_node, an_end, or_comma, this_number}
-use Rattle.std.specs.Prelude.{not}
-use Rattle.std.proofs.lemmas.List.{append_cancel_left}
+use Rattle.gf_tree.proofs.Common.{AfterKnownPayoff, Row, a_node, an_end, or_comma, this_number, not}
+use Rattle.gf_tree.proofs.Common.{append_cancel_left, is_comma, ToPayoff, BehindNode, BehindPayoff}
+use Rattle.gf_tree.proofs.Common.{outcome_ends, a_closing, a_payoff}
 use Rattle.gf_fraction.specs.Computed.{number_of}
-use Rattle.gf_token.specs.Next.{is_comma}
-use Rattle.gf_tree.specs.RowPlaces.{ToPayoff, BehindComma, BehindNode, BehindPayoff, BehindPayoffs}
-use Rattle.gf_tree.specs.inner.Machine.{outcome_ends}
-use Rattle.gf_tree.specs.Rows.{a_closing, a_payoff}
+use Rattle.gf_tree.specs.RowPlaces.{BehindComma, BehindPayoffs}
 use Rattle.gf_tree.proofs.lemmas.fronts.Cuts.{each_more}
 use Rattle.gf_tree.proofs.lemmas.Once.{none_or_some, one_some}
 use Rattle.gf_tree.proofs.lemmas.due.Actions.{same_answers}

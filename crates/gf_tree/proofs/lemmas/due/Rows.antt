@@ -3,10 +3,9 @@
 use Rattle.gf_tree.proofs.Common.{◌≡◌, ◌↔◌, ℕ, Bool, true, false, cond, List, [], ◌∷◌, ◌++◌, Result}
 use Rattle.gf_tree.proofs.Common.{Ok, Err, refl, sym, subst, ◌∙◌, arith, Token, Broken, Begins}
 use Rattle.gf_tree.proofs.Common.{IsAccepted, Why, IsExtensiveFile, run_tokens, then_run, Content}
-use Rattle.gf_tree.proofs.Common.{Position, State, at, nothing, step, Format, Row}
-use Rattle.gf_token.specs.declared.fault.Why.TheVariants.{Unterminated}
-use Rattle.gf_tree.specs.inner.Machine.{due, may_end, node_or_end}
-use Rattle.gf_tree.specs.Rows.{Accepts, Refuses, RefusesFor, Takes}
+use Rattle.gf_tree.proofs.Common.{Position, State, at, nothing, step, Format, Row, Unterminated}
+use Rattle.gf_tree.proofs.Common.{due, may_end, node_or_end, Accepts, Refuses}
+use Rattle.gf_tree.specs.Rows.{RefusesFor, Takes}
 use Rattle.gf_tree.proofs.lemmas.runs.Places.{Leads, follows, is_file, is_read, no_file}
 use Rattle.gf_tree.proofs.lemmas.runs.Places.{not_follows, walk, walk_run}
 use Rattle.gf_tree.proofs.lemmas.runs.Stops.{StopsAt, not_accepted}

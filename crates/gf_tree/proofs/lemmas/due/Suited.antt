@@ -1,12 +1,10 @@
 -- The tokens that suit a role determine what a refusal names there.
 use Rattle.gf_tree.proofs.Common.{◌≡◌, ℕ, List, Some, None, Err, refl, ◌∙◌, arith, inl, inr, codes}
 use Rattle.gf_tree.proofs.Common.{Ratio, IsNumber, number_again, number_is, IsIndex, index_again}
-use Rattle.gf_tree.proofs.Common.{Role}
+use Rattle.gf_tree.proofs.Common.{Role, index_is, Suits, what_of}
 use Rattle.gf_fraction.specs.Computed.{number_of, lowest_of, gcd_within}
 use Rattle.gf_fraction.specs.declared.fraction.NumberFault.TheVariants.{NotANumber}
 use Rattle.gf_token.specs.Indices.{index_of}
-use Rattle.gf_token.proofs.ReadingIndices.{index_is}
-use Rattle.gf_tree.specs.DueRoles.{Suits, what_of}
 use Rattle.gf_tree.specs.DueRoles.Role.{Format, Version, Letter, NodeLetter, PlayerNumber}
 use Rattle.gf_tree.specs.DueRoles.Role.{SetNumber, OutcomeNumber, Probability, Payoff, KnownNumber}
 use Rattle.gf_tree.proofs.lemmas.due.Answers.{other_word, no_index}

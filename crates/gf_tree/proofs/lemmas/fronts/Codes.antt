@@ -9,11 +9,7 @@ use Rattle.gf_tree.proofs.Common.{SetKey, same_set, set_of, Action, description_
 use Rattle.gf_tree.proofs.Common.{then_run, BehindOutcomeNumber, BehindSetNumber, EndsInNode}
 use Rattle.gf_tree.proofs.Common.{InActions, InPayoffs, KnowsOutcome, KnowsSet, Content, nothing}
 use Rattle.gf_tree.proofs.Common.{Begun, after_node, begun, personal_node, Format, NodeDue}
-use Rattle.gf_tree.proofs.Common.{KnownAction}
-use Rattle.gf_token.specs.Code.{code_of}
-use Rattle.gf_tree.specs.Due.{NodeIsDue}
-use Rattle.gf_tree.specs.Reason.{NobodyMoves}
-use Rattle.gf_tree.specs.Front.{ToProbability}
+use Rattle.gf_tree.proofs.Common.{KnownAction, code_of, NodeIsDue, NobodyMoves, ToProbability}
 use Rattle.gf_tree.proofs.lemmas.fronts.Nodes.{learned_at, parted}
 use Rattle.gf_tree.proofs.lemmas.runs.Tokens.{Reads, run_on}
 use Rattle.gf_tree.proofs.lemmas.Once.{none_or_some, one_some}

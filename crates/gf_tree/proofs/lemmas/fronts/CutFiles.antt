@@ -8,11 +8,10 @@ use Rattle.gf_tree.proofs.Common.{AreConsistent, Describes, InformationSet, IsOu
 use Rattle.gf_tree.proofs.Common.{Outcome, SetKey, set_of, Use, FileNode, FileTree, outcome_uses}
 use Rattle.gf_tree.proofs.Common.{set_uses, BehindSetNumber, IsExtensiveFile, Entry, flatten}
 use Rattle.gf_tree.proofs.Common.{FileFront, IsDescription, IsInformationSet, IsMover, IsNode}
-use Rattle.gf_tree.proofs.Common.{IsPositive, IsResult, IsStep}
-use Rattle.std.proofs.lemmas.List.Elements.{filter_map-append}
-use Rattle.gf_tree.specs.RowPlaces.{InPlayers, BehindPlayers}
+use Rattle.gf_tree.proofs.Common.{IsPositive, IsResult, IsStep, filter_map-append, BehindPlayers}
+use Rattle.gf_tree.proofs.Common.{IsBeforeRow, IsInHeading, IsInNode}
+use Rattle.gf_tree.specs.RowPlaces.{InPlayers}
 use Rattle.gf_tree.specs.Sentence.{Says}
-use Rattle.gf_tree.specs.SomeRow.{IsBeforeRow, IsInHeading, IsInNode}
 use Rattle.gf_tree.proofs.lemmas.fronts.CutPlaces.{AllHere, IsOutcomeHere, IsSetHere, actions_place}
 use Rattle.gf_tree.proofs.lemmas.fronts.CutPlaces.{result_place, set_place}
 use Rattle.gf_tree.proofs.lemmas.fronts.Cuts.{Within, cut, first_is, within}

@@ -9,11 +9,8 @@ use Rattle.gf_tree.proofs.Common.{InformationSet, IsOutcome, IsSet, Outcome, Set
 use Rattle.gf_tree.proofs.Common.{set_of, set_with, Use, description_at, BehindOutcomeNumber}
 use Rattle.gf_tree.proofs.Common.{BehindSetNumber, InActions, IsNewSet, KnowsOutcome, KnowsSet}
 use Rattle.gf_tree.proofs.Common.{ToOutcomeNumber, FileFront, IsAction, IsDescription}
-use Rattle.gf_tree.proofs.Common.{IsOutcomeDescription, IsResult}
-use Rattle.gf_tree.specs.Description.{AddToOne}
-use Rattle.gf_tree.specs.SomeRow.{IsInNode}
-use Rattle.gf_tree.specs.Reason.{HasSum, AddUpTo}
-use Rattle.gf_tree.specs.RowPlaces.{BehindPayoff, ToPayoff}
+use Rattle.gf_tree.proofs.Common.{IsOutcomeDescription, IsResult, AddToOne, IsInNode, HasSum}
+use Rattle.gf_tree.proofs.Common.{AddUpTo, BehindPayoff, ToPayoff}
 use Rattle.gf_tree.proofs.lemmas.fronts.Cuts.{Last, Within, cut, each_last, each_more, first_is}
 use Rattle.gf_tree.proofs.lemmas.fronts.Cuts.{none_left, within}
 use Rattle.gf_tree.proofs.lemmas.fronts.Codes.{BeginsBare}

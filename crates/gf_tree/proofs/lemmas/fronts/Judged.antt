@@ -8,17 +8,17 @@ use Rattle.gf_tree.proofs.Common.{IsNoNumber, a_first_name, a_node, an_end, an_o
 use Rattle.gf_tree.proofs.Common.{run_tokens, then_run, FileFront, State, nothing, run, Format}
 use Rattle.gf_tree.proofs.Common.{Ratio, whole, IsNumber, NumberFault, number_again, Action}
 use Rattle.gf_tree.proofs.Common.{InformationSet, SetKey, set_of, set_with, InActions}
-use Rattle.gf_tree.proofs.Common.{IsExtensiveFile, KnowsSet, EndsInNode}
-use Rattle.gf_token.specs.Code.{code_of}
-use Rattle.gf_token.specs.NumberWhy.{why_of}
-use Rattle.gf_token.specs.declared.fault.Why.TheVariants.{Unterminated, NotANumber, ZeroDenominator}
-use Rattle.gf_token.specs.declared.fault.Why.TheVariants.{NumberTooLarge, BadIndex, NotDescribed}
-use Rattle.gf_token.specs.declared.fault.Why.TheVariants.{SumAboveOne, SumBelowOne, SumOverflow}
-use Rattle.gf_token.specs.declared.fault.Why.TheVariants.{NoEntry}
-use Rattle.gf_tree.specs.Rows.{this_label, a_new_action, a_new_branch, Obeys, Refuses, no_label}
-use Rattle.gf_tree.specs.Reason.{StaysBelowOne, Holds, IsReason, DiffersFromOutcome, DiffersFromSet}
-use Rattle.gf_tree.specs.Reason.{IsBadIndex, EndsInFirstUse, IsMismatch, IsNoText, IsWrongBehind}
-use Rattle.gf_tree.specs.Reason.{IsWrongProbability, ListsActions, IsFaultyNumber, IsUnknownPlayer}
+use Rattle.gf_tree.proofs.Common.{IsExtensiveFile, KnowsSet, EndsInNode, code_of, why_of}
+use Rattle.gf_tree.proofs.Common.{Unterminated, BadIndex, SumAboveOne, SumBelowOne, SumOverflow}
+use Rattle.gf_tree.proofs.Common.{NoEntry, this_label, a_new_action, a_new_branch, Refuses}
+use Rattle.gf_tree.proofs.Common.{no_label, Holds, IsReason, DiffersFromOutcome, DiffersFromSet}
+use Rattle.gf_tree.proofs.Common.{EndsInFirstUse, IsNoText, IsWrongBehind, ListsActions, SumFits}
+use Rattle.gf_tree.proofs.Common.{HasNumberFault, answer_is}
+use Rattle.gf_token.specs.declared.fault.Why.TheVariants.{NotANumber, ZeroDenominator}
+use Rattle.gf_token.specs.declared.fault.Why.TheVariants.{NumberTooLarge, NotDescribed}
+use Rattle.gf_tree.specs.Rows.{Obeys}
+use Rattle.gf_tree.specs.Reason.{StaysBelowOne, IsBadIndex, IsMismatch, IsWrongProbability}
+use Rattle.gf_tree.specs.Reason.{IsFaultyNumber, IsUnknownPlayer}
 use Rattle.gf_tree.proofs.lemmas.due.Rows.{Stands, accepted, answers_at, leads, refused_by}
 use Rattle.gf_tree.proofs.lemmas.fronts.Codes.{IsUpTo, no_player, known_left}
 use Rattle.gf_tree.proofs.lemmas.reasons.Nodes.{reasoned}
@@ -30,9 +30,6 @@ use Rattle.gf_tree.proofs.lemmas.due.ByShapes.{asks_set}
 use Rattle.gf_tree.proofs.lemmas.runs.Places.{Leads, begins, walk_run}
 use Rattle.gf_tree.proofs.lemmas.runs.Stops.{StopsAt, not_accepted, stopped}
 use Rattle.gf_fraction.specs.Computed.{number_of}
-use Rattle.gf_fraction.specs.Fits.{SumFits}
-use Rattle.gf_fraction.specs.NumberSpelling.{HasNumberFault}
-use Rattle.gf_fraction.proofs.ComputedAnswers.{answer_is}
 use Rattle.gf_tree.proofs.lemmas.due.Actions.{a_share, known_action, known_share, new_action}
 use Rattle.gf_tree.proofs.lemmas.due.Actions.{new_branch, new_share, no_action_left}
 use Rattle.gf_tree.proofs.lemmas.due.Nodes.{known_set, new_set, reads_on}

@@ -9,9 +9,7 @@ use Rattle.gf_tree.proofs.Common.{InActions, ToOutcomeNumber, Begun, Content, at
 use Rattle.gf_tree.proofs.Common.{behind_label, behind_outcome, behind_set, new_set_ends, NodeDue}
 use Rattle.gf_tree.proofs.Common.{NewAction, NewProbability, KnownAction, KnownProbability}
 use Rattle.gf_tree.proofs.Common.{OutcomeNumber, run_tokens, then_run, IsDescription}
-use Rattle.gf_tree.proofs.Common.{IsInformationSet, IsMover, IsPositive}
-use Rattle.gf_tree.specs.Front.{ToProbability}
-use Rattle.gf_tree.specs.inner.Machine.{with_set}
+use Rattle.gf_tree.proofs.Common.{IsInformationSet, IsMover, IsPositive, ToProbability, with_set}
 use Rattle.gf_tree.proofs.lemmas.fronts.Runs.{GoesOn, HaveSumFrom, behind_number, due_is}
 use Rattle.gf_tree.proofs.lemmas.fronts.Runs.{goes_before, in_actions}
 use Rattle.gf_tree.proofs.lemmas.fronts.Groups.{regroup}

@@ -6,10 +6,8 @@ use Rattle.gf_tree.proofs.Common.{inr, nat_eq, ◌⊎◌, Ratio, IsNumber, numbe
 use Rattle.gf_tree.proofs.Common.{IsPayoffInBraces, Opening, Comma, Text, Bare, Outcome}
 use Rattle.gf_tree.proofs.Common.{description_at, InPayoffs, Begun, Content, at, behind_outcome}
 use Rattle.gf_tree.proofs.Common.{with_node, NodeDue, AfterKnownPayoff, KnownOutcomeName}
-use Rattle.gf_tree.proofs.Common.{KnownOutcomeOpening, run_tokens, then_run}
-use Rattle.std.specs.Prelude.{not}
-use Rattle.gf_token.specs.Next.{is_comma}
-use Rattle.gf_tree.specs.inner.Machine.{with_payoff}
+use Rattle.gf_tree.proofs.Common.{KnownOutcomeOpening, run_tokens, then_run, not, is_comma}
+use Rattle.gf_tree.proofs.Common.{with_payoff}
 use Rattle.gf_tree.proofs.lemmas.fronts.Runs.{GoesOn, goes_before}
 use Rattle.gf_tree.proofs.lemmas.fronts.Groups.{numbers_once, regroup}
 use Rattle.gf_tree.proofs.lemmas.runs.Payoffs.{known_at, known_comma, more_payoffs, new_at}

@@ -9,8 +9,8 @@ use Rattle.gf_tree.proofs.Common.{IsSet, description_at, IsAction, IsMover, Behi
 use Rattle.gf_tree.proofs.Common.{InActions, Begun, Content, at, begun, behind_label, behind_set}
 use Rattle.gf_tree.proofs.Common.{personal_node, set_number, shared, with_action, NodeDue}
 use Rattle.gf_tree.proofs.Common.{PlayerNumber, SetNumber, NewAction, KnownAction, KnownProbability}
-use Rattle.gf_tree.proofs.Common.{KnownSetOpening, share_of, run_tokens, then_run}
-use Rattle.gf_tree.specs.Front.{ToPlayerNumber, ToSetNumber}
+use Rattle.gf_tree.proofs.Common.{KnownSetOpening, share_of, run_tokens, then_run, ToPlayerNumber}
+use Rattle.gf_tree.proofs.Common.{ToSetNumber}
 use Rattle.gf_tree.proofs.lemmas.fronts.Groups.{numbers_once, regroup}
 use Rattle.gf_tree.proofs.lemmas.Once.{one_some}
 use Rattle.gf_tree.proofs.lemmas.runs.Actions.{more_actions, no_actions, shared_found, with_actions}

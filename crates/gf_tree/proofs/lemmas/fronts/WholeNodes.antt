@@ -3,9 +3,8 @@ use Rattle.gf_tree.proofs.Common.{◌≡◌, ℕ, ◌≤◌, List, [], ◌∷◌
 use Rattle.gf_tree.proofs.Common.{sym, ap, ◌∙◌, append_assoc, append-nil, arith, inl, inr, codes}
 use Rattle.gf_tree.proofs.Common.{◌⊎◌, length-append, Token, braced, IsComment, Opening, Closing}
 use Rattle.gf_tree.proofs.Common.{Text, Bare, Outcome, FileNode, BehindOutcomeNumber, InPayoffs}
-use Rattle.gf_tree.proofs.Common.{IsNode, FileFront}
-use Rattle.gf_tree.specs.Reason.{NobodyMoves}
-use Rattle.gf_tree.specs.RowPlaces.{BehindComment, BehindNode, BehindPlayers}
+use Rattle.gf_tree.proofs.Common.{IsNode, FileFront, NobodyMoves, BehindComment, BehindNode}
+use Rattle.gf_tree.proofs.Common.{BehindPlayers}
 use Rattle.gf_tree.proofs.lemmas.fronts.CutFiles.{headed}
 use Rattle.gf_tree.proofs.lemmas.fronts.Cuts.{each_more}
 use Rattle.gf_tree.proofs.lemmas.fronts.Payoffs.{in_payoffs}

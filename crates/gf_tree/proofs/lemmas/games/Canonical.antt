@@ -4,13 +4,11 @@ use Rattle.gf_tree.proofs.Common.{◌≡◌, ℕ, Bool, List, map, refl, sym, ap
 use Rattle.gf_tree.proofs.Common.{Decides-eqb, InformationSet, Outcome, SetKey, same_set, set_of}
 use Rattle.gf_tree.proofs.Common.{Described, first_uses, outcome_numbers, sets_of, player_keys}
 use Rattle.gf_tree.proofs.Common.{Game, IsGame, used_sets, used_outcomes, Renumbering}
-use Rattle.gf_tree.proofs.Common.{IsRenumbering, HasSet, renumbered_set, renumbered}
+use Rattle.gf_tree.proofs.Common.{IsRenumbering, HasSet, renumbered_set, renumbered, nat_eq, ◌↔◌}
+use Rattle.gf_tree.proofs.Common.{first_use_number, first_use_numbers, Carries, SameGame}
+use Rattle.gf_tree.proofs.Common.{HasOutcome}
 use Rattle.std.proofs.Common.{filter}
-use Rattle.std.specs.Prelude.{nat_eq, ◌↔◌}
-use Rattle.gf_tree.specs.FirstUse.{first_use_number, first_use_numbers}
-use Rattle.gf_tree.specs.SameGame.{Carries, SameGame}
 use Rattle.gf_tree.specs.CanonicalGame.{canonical_game}
-use Rattle.gf_tree.specs.Renumbering.{HasOutcome}
 use Rattle.gf_tree.proofs.lemmas.games.Members.{filter_of_map, map_same, map_twice}
 use Rattle.gf_tree.proofs.lemmas.games.FirstUseNumbers.{number_kept}
 use Rattle.gf_tree.proofs.lemmas.games.Carried.{carried_map}

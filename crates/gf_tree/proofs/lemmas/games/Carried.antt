@@ -1,10 +1,8 @@
 -- Finite maps whose keys are carried to others.
 use Rattle.gf_tree.proofs.Common.{◌≡◌, Bool, true, false, List, [], ◌∷◌, map, refl, sym, ap, subst}
 use Rattle.gf_tree.proofs.Common.{◌∙◌, inl, inr, arith, both_ways, ◌⊎◌, Described, description_at}
-use Rattle.gf_tree.proofs.Common.{first_uses}
-use Rattle.std.proofs.lemmas.Bool.{cases_Bool}
+use Rattle.gf_tree.proofs.Common.{first_uses, cases_Bool, find}
 use Rattle.std.specs.Prelude.{unwrap_or}
-use Rattle.std.specs.List.{find}
 use Rattle.gf_tree.proofs.lemmas.games.Members.{map_same, map_twice}
 use Rattle.gf_tree.proofs.lemmas.games.FirstUses.{AreDistinct, was_used, is_used}
 use Rattle.gf_tree.proofs.lemmas.games.FirstUses.{first_uses_distinct}

@@ -7,8 +7,7 @@ use Rattle.gf_tree.proofs.Common.{none, more, Entry, flatten, flatten_all, SetKe
 use Rattle.gf_tree.proofs.Common.{same_set, IsSet, IsOutcome, first_uses, keys_alone, IsGameOf, Use}
 use Rattle.gf_tree.proofs.Common.{FileNode, FileTree, set_uses, outcome_uses, Describes}
 use Rattle.gf_tree.proofs.Common.{AreConsistent, IsConsistent, HasChildrenAsDescribed, Game}
-use Rattle.gf_tree.proofs.Common.{HasChildren, IsGame, used_sets, used_outcomes, set_at}
-use Rattle.std.specs.Prelude.{nat_eq}
+use Rattle.gf_tree.proofs.Common.{HasChildren, IsGame, used_sets, used_outcomes, set_at, nat_eq}
 use Rattle.gf_tree.proofs.lemmas.games.Uses.{Has, IsEquality, has_map, mapped_from, each}
 use Rattle.gf_tree.proofs.lemmas.games.Uses.{all_of_each, has_first, has_later, described}
 use Rattle.gf_tree.proofs.lemmas.games.FirstUses.{is_used, was_used, describe_all, found}

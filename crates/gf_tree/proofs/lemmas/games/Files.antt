@@ -8,9 +8,7 @@ use Rattle.gf_tree.proofs.Common.{used_outcomes, set_at, keys_alone, IsGameOf, S
 use Rattle.gf_tree.proofs.Common.{InformationSet, Outcome, same_set, IsSet, IsOutcome, Described}
 use Rattle.gf_tree.proofs.Common.{description_at, first_uses, Use, FileNode, FileTree, set_uses}
 use Rattle.gf_tree.proofs.Common.{outcome_uses, Describes, AreConsistent, IsConsistent}
-use Rattle.gf_tree.proofs.Common.{HasChildrenAsDescribed}
-use Rattle.std.specs.Prelude.{nat_eq}
-use Rattle.gf_tree.specs.Game.{outcome_at}
+use Rattle.gf_tree.proofs.Common.{HasChildrenAsDescribed, nat_eq, outcome_at}
 use Rattle.gf_tree.proofs.lemmas.games.Uses.{Has, IsEquality, has_map, mapped_from, each}
 use Rattle.gf_tree.proofs.lemmas.games.Uses.{all_of_each, contains, has, has_place}
 use Rattle.gf_tree.proofs.lemmas.games.FirstUses.{AreDistinct, Found, found, is_used, was_used}

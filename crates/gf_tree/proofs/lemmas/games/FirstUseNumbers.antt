@@ -2,11 +2,10 @@
 use Rattle.gf_tree.proofs.Common.{◌≡◌, suc, ◌+◌, ◌<◌, ◌≤◌, Bool, true, false, not, cond, List, []}
 use Rattle.gf_tree.proofs.Common.{◌∷◌, ◌++◌, length, map, get_or, refl, sym, ap, subst, ◌∙◌, arith}
 use Rattle.gf_tree.proofs.Common.{inl, inr, length-map, ◌⊎◌, filter, both_ways, first_uses}
+use Rattle.gf_tree.proofs.Common.{cases_Bool, not_from_false, through_first_use, first_use_number}
 use Rattle.std.proofs.Common.{length-append}
 use Rattle.std.proofs.lemmas.List.{get_or_at}
 use Rattle.std.proofs.lemmas.Bool.Decides.{same_from_decides}
-use Rattle.std.proofs.lemmas.Bool.{cases_Bool, not_from_false}
-use Rattle.gf_tree.specs.FirstUse.{through_first_use, first_use_number}
 use Rattle.gf_tree.proofs.lemmas.games.Members.{filter_of_map, filter_last}
 use Rattle.gf_tree.proofs.lemmas.games.FirstUses.{was_used, first_uses_distinct, AreDistinct}
 use Rattle.gf_tree.proofs.lemmas.games.Uses.{Has, IsEquality, has_place}

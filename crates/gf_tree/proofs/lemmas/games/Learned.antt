@@ -5,9 +5,7 @@ use Rattle.gf_tree.proofs.Common.{Decides-eqb, flatten, Game, HasChildren, used_
 use Rattle.gf_tree.proofs.Common.{keys_alone, IsGameOf, SetKey, InformationSet, same_set, IsSet}
 use Rattle.gf_tree.proofs.Common.{IsOutcome, Described, description_at, first_uses, Use, FileTree}
 use Rattle.gf_tree.proofs.Common.{set_uses, outcome_uses, Describes, AreConsistent, IsConsistent}
-use Rattle.gf_tree.proofs.Common.{HasChildrenAsDescribed}
-use Rattle.std.specs.Prelude.{nat_eq}
-use Rattle.gf_tree.specs.Learned.{LearnsGame}
+use Rattle.gf_tree.proofs.Common.{HasChildrenAsDescribed, nat_eq, LearnsGame}
 use Rattle.gf_tree.proofs.lemmas.games.Uses.{Has, IsEquality, has_map, each, all_of_each, has}
 use Rattle.gf_tree.proofs.lemmas.games.FirstUses.{found, is_used}
 use Rattle.gf_tree.proofs.lemmas.games.TreesOnce.{same_set_equality}

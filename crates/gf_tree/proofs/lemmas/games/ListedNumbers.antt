@@ -4,9 +4,9 @@ use Rattle.gf_tree.proofs.Common.{◌∷◌, length, get_or, slice_get, Some, in
 use Rattle.gf_tree.proofs.Common.{subst, arith, AllByRecursion, both_ways, false_from_ne_true}
 use Rattle.gf_tree.proofs.Common.{Decides-eqb, SetKey, InformationSet, same_set, set_of, IsSet}
 use Rattle.gf_tree.proofs.Common.{Described, IsRenumbering, HasSet, outcome_numbers, player_keys}
-use Rattle.gf_tree.proofs.Common.{Game, IsGame, used_sets, used_outcomes}
-use Rattle.std.specs.Prelude.{nat_eq}
-use Rattle.gf_tree.specs.Listed.{AreListed, AreNumbers, listed_numbers, number_listed}
+use Rattle.gf_tree.proofs.Common.{Game, IsGame, used_sets, used_outcomes, nat_eq, AreListed}
+use Rattle.gf_tree.proofs.Common.{listed_numbers, number_listed}
+use Rattle.gf_tree.specs.Listed.{AreNumbers}
 use Rattle.gf_tree.proofs.lemmas.games.Carried.{in_keys}
 use Rattle.gf_tree.proofs.lemmas.games.PlayerSets.{sets_by_first_use}
 use Rattle.gf_tree.proofs.lemmas.games.Renumbered.{own_set}

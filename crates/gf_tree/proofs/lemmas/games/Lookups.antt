@@ -1,8 +1,7 @@
 -- Finite maps by their look-ups.
 use Rattle.gf_tree.proofs.Common.{subst, ◌≡◌, Bool, false, cond, List, [], ◌∷◌, map, Option, Some}
 use Rattle.gf_tree.proofs.Common.{refl, sym, ◌∙◌, inl, inr, arith, false_from_ne_true, Described}
-use Rattle.gf_tree.proofs.Common.{description_at}
-use Rattle.std.specs.Prelude.{option_map}
+use Rattle.gf_tree.proofs.Common.{description_at, option_map}
 use Rattle.gf_tree.proofs.lemmas.games.FirstUses.{AreDistinct}
 use Rattle.gf_tree.proofs.lemmas.games.Uses.{Has, IsEquality, has_map}
 

@@ -5,9 +5,7 @@ use Rattle.gf_tree.proofs.Common.{InformationSet, Outcome, Described, Node, Game
 use Rattle.gf_tree.proofs.Common.{subtree_sizes, Stored, Parts, game_with, entries_with, kept_of}
 use Rattle.gf_tree.proofs.Common.{tree_with, Renumbering, IsRenumbering, renumbered}
 use Rattle.gf_tree.proofs.Common.{renumbered_node, IsSpellable, IsSpellableOutcome, IsSpellableSet}
-use Rattle.gf_token.specs.LabelSpelling.{IsLabel}
-use Rattle.gf_tree.specs.Listed.{AreListed}
-use Rattle.gf_tree.specs.inner.GameParts.{AreNodes, IsHeld}
+use Rattle.gf_tree.proofs.Common.{IsLabel, AreListed, AreNodes, IsHeld}
 use Rattle.gf_tree.proofs.lemmas.games.Consistent.{map_entry, flatten_map}
 use Rattle.gf_tree.proofs.lemmas.games.Renumbered.{renumbered_is_game}
 use Rattle.gf_tree.proofs.lemmas.stores.RenumberedKept.{entries_mapped, fills_mapped, game_mapped}

@@ -1,8 +1,7 @@
 -- Trees with other nodes in place of theirs.
 use Rattle.gf_tree.proofs.Common.{◌≡◌, List, [], ◌∷◌, map, Option, Some, refl, ap, inl, inr, arith}
 use Rattle.gf_tree.proofs.Common.{filter_map, Tree, Trees, count, map_tree, map_trees, branch, none}
-use Rattle.gf_tree.proofs.Common.{more, Entry, flatten, flatten_all}
-use Rattle.std.specs.Prelude.{option_map}
+use Rattle.gf_tree.proofs.Common.{more, Entry, flatten, flatten_all, option_map}
 use Rattle.gf_tree.proofs.lemmas.games.Consistent.{map_entry}
 use Rattle.gf_tree.proofs.lemmas.games.Uses.{Has, has_later}
 use Rattle.gf_tree.proofs.lemmas.games.Members.{in_left, in_right}

@@ -1,8 +1,7 @@
 -- Lists, element by element.
 use Rattle.gf_tree.proofs.Common.{◌≡◌, Bool, true, List, [], ◌∷◌, ◌++◌, map, refl, ap, inl, inr, ℕ}
 use Rattle.gf_tree.proofs.Common.{zero, suc, ◌<◌, length, Some, slice_get, arith, filter}
-use Rattle.gf_tree.proofs.Common.{AllByRecursion}
-use Rattle.std.proofs.lemmas.List.Elements.{filter-append}
+use Rattle.gf_tree.proofs.Common.{AllByRecursion, filter-append}
 use Rattle.gf_tree.proofs.lemmas.games.Uses.{Has}
 
 pub map_same : {X Y : Type 0} (f g : X → Y) (xs : List X) → ((x : X) → Has xs x → f x ≡ g x)

@@ -1,8 +1,7 @@
 -- A game has each player's sets in the order of their first use.
 use Rattle.gf_tree.proofs.Common.{◌≡◌, ℕ, Bool, true, false, not, cond, List, [], ◌∷◌, refl, ap}
 use Rattle.gf_tree.proofs.Common.{◌∙◌, arith, filter, both_ways, same_set, first_uses, player_keys}
-use Rattle.gf_tree.proofs.Common.{sets_of, Game, IsGame, used_sets}
-use Rattle.std.proofs.lemmas.Bool.{cases_Bool, not_from_false}
+use Rattle.gf_tree.proofs.Common.{sets_of, Game, IsGame, used_sets, cases_Bool, not_from_false}
 use Rattle.gf_tree.proofs.lemmas.games.FirstUses.{was_used, of_filter}
 use Rattle.gf_tree.proofs.lemmas.games.Members.{filter_of_map, filter_swap, filter_all}
 use Rattle.gf_tree.proofs.lemmas.games.TreesOnce.{same_set_equality}

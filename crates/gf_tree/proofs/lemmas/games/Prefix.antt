@@ -1,10 +1,8 @@
 -- Trees and their flat lists in prefix order determine each other.
 use Rattle.gf_tree.proofs.Common.{◌≡◌, ℕ, zero, suc, ◌+◌, List, [], ◌∷◌, ◌++◌, refl, sym, ap, subst}
 use Rattle.gf_tree.proofs.Common.{◌∙◌, append_assoc, arith, Tree, Trees, count, branch, none, more}
-use Rattle.gf_tree.proofs.Common.{Entry, flatten, flatten_all, Fills, grow}
-use Rattle.std.proofs.Common.{zero-add}
+use Rattle.gf_tree.proofs.Common.{Entry, flatten, flatten_all, Fills, grow, zero-add, first, others}
 use Rattle.std.proofs.lemmas.List.{append-nil}
-use Rattle.gf_tree.specs.Grown.{first, others}
 pub use Rattle.gf_tree.specs.GrowsAgain.{grows_again}
 
 -- ---- what was flattened grows again

@@ -4,10 +4,8 @@ use Rattle.gf_tree.proofs.Common.{◌∙◌, AllByRecursion, eq-eqb, Decides-eqb
 use Rattle.gf_tree.proofs.Common.{InformationSet, Outcome, same_set, IsSet, IsOutcome, set_of, Node}
 use Rattle.gf_tree.proofs.Common.{Game, IsGame, HasChildren, used_sets, used_outcomes, set_at}
 use Rattle.gf_tree.proofs.Common.{renumbered_node, renumbered, Renumbering, IsRenumbering, HasSet}
-use Rattle.gf_tree.proofs.Common.{renumbered_set, sets_of, Described, first_uses}
-use Rattle.std.specs.Prelude.{nat_eq, option_map, MatchOption}
-use Rattle.gf_tree.specs.Game.{outcome_at}
-use Rattle.gf_tree.specs.FirstUse.{first_use_numbers}
+use Rattle.gf_tree.proofs.Common.{renumbered_set, sets_of, Described, first_uses, nat_eq}
+use Rattle.gf_tree.proofs.Common.{option_map, MatchOption, outcome_at, first_use_numbers}
 use Rattle.gf_tree.proofs.lemmas.games.FirstUseNumbers.{numbers_apart, number_positive}
 use Rattle.gf_tree.proofs.lemmas.games.Lookups.{at_images}
 use Rattle.gf_tree.proofs.lemmas.games.MappedTrees.{held}

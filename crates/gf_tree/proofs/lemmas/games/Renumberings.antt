@@ -3,8 +3,7 @@ use Rattle.gf_tree.proofs.Common.{◌≡◌, ℕ, ◌<◌, map, Option, None, So
 use Rattle.gf_tree.proofs.Common.{filter_map, Decides-eqb, Tree, map_tree, Entry, flatten, SetKey}
 use Rattle.gf_tree.proofs.Common.{same_set, set_of, Node, Game, IsGame, used_sets, used_outcomes}
 use Rattle.gf_tree.proofs.Common.{Renumbering, IsRenumbering, renumbered_set, renumbered_node}
-use Rattle.gf_tree.proofs.Common.{renumbered}
-use Rattle.std.specs.Prelude.{nat_eq, option_map}
+use Rattle.gf_tree.proofs.Common.{renumbered, nat_eq, option_map}
 use Rattle.std.proofs.lemmas.Iterator.Adapters.{option_map_id}
 use Rattle.gf_tree.proofs.lemmas.games.FirstUseNumbers.{AreApart}
 use Rattle.gf_tree.proofs.lemmas.games.Consistent.{flatten_map}

@@ -2,10 +2,7 @@
 use Rattle.gf_tree.proofs.Common.{◌≡◌, ℕ, ◌<◌, List, [], ◌∷◌, map, refl, sym, ap, subst, ◌∙◌, arith}
 use Rattle.gf_tree.proofs.Common.{Decides-eqb, map_tree, renumbered_node, Renumbering, HasSet}
 use Rattle.gf_tree.proofs.Common.{renumbered_set, Game, IsGame, used_sets, used_outcomes, SetKey}
-use Rattle.gf_tree.proofs.Common.{same_set, set_of}
-use Rattle.std.specs.Prelude.{nat_eq}
-use Rattle.gf_tree.specs.Renumbering.{HasOutcome}
-use Rattle.gf_tree.specs.SameGame.{Carries, SameGame}
+use Rattle.gf_tree.proofs.Common.{same_set, set_of, nat_eq, HasOutcome, Carries, SameGame}
 use Rattle.gf_tree.proofs.lemmas.games.FirstUseNumbers.{AreApart}
 use Rattle.gf_tree.proofs.lemmas.games.TreesOnce.{same_set_equality}
 use Rattle.gf_tree.proofs.lemmas.games.Carried.{undo, undone, undone_apart, apart_twice}

@@ -4,8 +4,7 @@ use Rattle.gf_tree.proofs.Common.{sym, ap, subst, ◌∙◌, append_assoc, arith
 use Rattle.gf_tree.proofs.Common.{Text, Bare, IsIndex, Each, braced, IsComment, flatten, Use}
 use Rattle.gf_tree.proofs.Common.{FileNode, FileTree, SetKey, InformationSet, Outcome, IsAction}
 use Rattle.gf_tree.proofs.Common.{IsInformationSet, IsMover, IsStep, IsResult, IsNode}
-use Rattle.gf_tree.proofs.Common.{IsDescription, Sentence, IsOutcomeDescription}
-use Rattle.std.specs.Prelude.{Option, Some, None}
+use Rattle.gf_tree.proofs.Common.{IsDescription, Sentence, IsOutcomeDescription, Option, Some, None}
 use Rattle.std.specs.Str.Parse.{digits_value}
 use Rattle.gf_tree.proofs.lemmas.fronts.Groups.{Agree, Begun, BeginsText, NoText, in_front}
 use Rattle.gf_tree.proofs.lemmas.fronts.Groups.{closed_once, opened, texts_once, numbers_once}

@@ -7,12 +7,10 @@ use Rattle.gf_tree.proofs.Common.{InformationSet, Outcome, Use, FileNode, FileTr
 use Rattle.gf_tree.proofs.Common.{outcome_uses, Describes, Game, IsGame, IsSpellable}
 use Rattle.gf_tree.proofs.Common.{IsSpellableSet, IsSpellableOutcome, IsDescription, IsAction}
 use Rattle.gf_tree.proofs.Common.{IsInformationSet, IsMover, IsStep, IsResult, IsNode, Sentence}
-use Rattle.gf_tree.proofs.Common.{IsOutcomeDescription, keys_alone, IsGameOf, SpellsGame}
+use Rattle.gf_tree.proofs.Common.{IsOutcomeDescription, keys_alone, IsGameOf, SpellsGame, IsLabel}
+use Rattle.gf_tree.proofs.Common.{IsSpelled, IsSpellableAction}
 use Rattle.gf_fraction.proofs.AllElements.{all_parts, all_mapped}
-use Rattle.gf_token.specs.LabelSpelling.{IsLabel}
-use Rattle.gf_token.specs.TokenSpelling.{IsSpelled}
 use Rattle.gf_token.proofs.SpelledTokens.{AllSpelled, all_spelled, braced_spelled, comment_spelled}
-use Rattle.gf_tree.specs.Spellable.{IsSpellableAction}
 use Rattle.gf_tree.proofs.lemmas.games.Uses.{each, all_of_each, has}
 use Rattle.gf_tree.proofs.lemmas.games.Consistent.{map_entry, flatten_map, is_game}
 

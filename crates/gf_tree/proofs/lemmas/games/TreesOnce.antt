@@ -5,11 +5,8 @@ use Rattle.gf_tree.proofs.Common.{cons_option, Decides-eqb, Token, Entry, flatte
 use Rattle.gf_tree.proofs.Common.{first_uses, Game, used_sets, used_outcomes, SetKey}
 use Rattle.gf_tree.proofs.Common.{InformationSet, same_set, Use, FileNode, FileTree, set_uses}
 use Rattle.gf_tree.proofs.Common.{outcome_uses, AreConsistent, IsConsistent, HasChildrenAsDescribed}
-use Rattle.gf_tree.proofs.Common.{IsGameOf, SpellsGame}
-use Rattle.std.proofs.Common.{◌==◌}
+use Rattle.gf_tree.proofs.Common.{IsGameOf, SpellsGame, ◌==◌, same_tokens, MeansGame}
 use Rattle.std.proofs.lemmas.Bool.Decides.{Decides-and}
-use Rattle.gf_token.proofs.Spelled.{same_tokens}
-use Rattle.gf_tree.specs.GameOf.{MeansGame}
 use Rattle.gf_tree.proofs.lemmas.games.Prefix.{flatten_once}
 use Rattle.gf_tree.proofs.lemmas.games.Uses.{described_once, Has, has_first, has_later, IsEquality}
 use Rattle.gf_tree.proofs.lemmas.games.Uses.{described}

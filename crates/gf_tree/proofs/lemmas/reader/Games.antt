@@ -2,18 +2,13 @@
 -- bytes spell, or a refusal where one is due.
 use Rattle.gf_tree.proofs.Common.{◌≡◌, ℕ, List, [], ◌∷◌, ◌++◌, length, Ok, Err, refl, sym, ap}
 use Rattle.gf_tree.proofs.Common.{subst, ◌∙◌, Token, Lexeme, Spells, tokens_of, Fault, Span, Why}
-use Rattle.gf_tree.proofs.Common.{Game, IsGame, Node, Parts}
-use Rattle.gf_tree.proofs.Common.{SpellsGame, game_with, IsRefusal, Kept, entries_with, game_of}
-use Rattle.gf_tree.proofs.Common.{IsSpellable, Content, nothing, run, Format, Entry, Fills, heard}
-use Rattle.gf_token.specs.Place.{IsSpanOf}
-use Rattle.gf_token.specs.declared.fault.Why.TheVariants.{Memory, TooLong, UnknownOutcome}
-use Rattle.gf_token.specs.declared.fault.Why.TheVariants.{TooManyProfiles}
-use Rattle.gf_token.proofs.Spelled.{same_tokens}
-use Rattle.gf_tree.specs.Judgement.{IsJudged}
-use Rattle.gf_tree.specs.inner.Passed.{HasPassed}
-use Rattle.gf_tree.specs.Reason.{IsReason}
-use Rattle.gf_tree.specs.inner.ReaderState.{Fails, HasPassedPlace, to_all}
-use Rattle.gf_tree.specs.inner.ReaderState.Fails.{of_file, of_memory}
+use Rattle.gf_tree.proofs.Common.{Game, IsGame, Node, Parts, SpellsGame, game_with, IsRefusal, Kept}
+use Rattle.gf_tree.proofs.Common.{entries_with, game_of, IsSpellable, Content, nothing, run, Format}
+use Rattle.gf_tree.proofs.Common.{Entry, Fills, heard, IsSpanOf, Memory, TooLong, UnknownOutcome}
+use Rattle.gf_tree.proofs.Common.{TooManyProfiles, same_tokens, IsJudged, HasPassed, IsReason}
+use Rattle.gf_tree.proofs.Common.{Fails, to_all, of_file}
+use Rattle.gf_tree.specs.inner.ReaderState.{HasPassedPlace}
+use Rattle.gf_tree.specs.inner.ReaderState.Fails.{of_memory}
 use Rattle.gf_tree.proofs.lemmas.fronts.Judged.{refuses}
 use Rattle.gf_tree.proofs.lemmas.games.Spelled.{spelled_is_spellable}
 use Rattle.gf_tree.proofs.lemmas.runs.Games.{file_found}

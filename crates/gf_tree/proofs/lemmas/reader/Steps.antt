@@ -1,6 +1,6 @@
 -- What the reader keeps still stands for the same when more is known.
-use Rattle.gf_tree.proofs.Common.{◌≡◌, ◌+◌, ◌<◌, ◌≤◌, ℕ, zero, suc, Bool, true, false, List, [], ◌∷◌}
-use Rattle.gf_tree.proofs.Common.{◌++◌, length, map, Option, Some, None, option_map, slice_get}
+use Rattle.gf_tree.proofs.Common.{◌≡◌, ◌+◌, ◌<◌, ◌≤◌, ℕ, zero, suc, Bool, true, false, List, []}
+use Rattle.gf_tree.proofs.Common.{◌∷◌, ◌++◌, length, map, Option, Some, None, option_map, slice_get}
 use Rattle.gf_tree.proofs.Common.{refl, sym, ap, ◌∙◌, arith, subst, Decides-eqb, position, ◌==◌}
 use Rattle.gf_tree.proofs.Common.{length-map, KnownSets, set_with, Action, InformationSet, Outcome}
 use Rattle.gf_tree.proofs.Common.{SetKey, same_set, set_of, Game, actions_of, slice_get_within}
@@ -9,27 +9,20 @@ use Rattle.gf_tree.proofs.Common.{Described, description_at, Remaining, Span, Fa
 use Rattle.gf_tree.proofs.Common.{entries_with, Begun, Content, begun, behind_set, nothing, run}
 use Rattle.gf_tree.proofs.Common.{set_ends, Position, State, new_set_ends, with_action, Format}
 use Rattle.gf_tree.proofs.Common.{KnownSetName, NewAction, OutcomeNumber, SetNumber, Why, Lexeme}
-use Rattle.gf_tree.proofs.Common.{Bare, Closing, heard}
-use Rattle.std.specs.Prelude.{nat_eq, Result, Ok, Err, OnOk, IfErr, IfOk, IfNone, if◌then◌else◌}
-use Rattle.std.specs.Prelude.{MatchResult}
-use Rattle.std.specs.List.{find}
+use Rattle.gf_tree.proofs.Common.{Bare, Closing, heard, nat_eq, Result, Ok, Err, if◌then◌else◌}
+use Rattle.gf_tree.proofs.Common.{find, with_pending_set, KnownOutcomes, Reader, outcome_with}
+use Rattle.gf_tree.proofs.Common.{StandsBefore, actions_counted, set_known, then_on, with_outcome}
+use Rattle.gf_tree.proofs.Common.{with_set, Memory, SumBelowOne, lexeme, Answer, Fails, Goes, Grows}
+use Rattle.gf_tree.proofs.Common.{answer, begun_with, content_of}
+use Rattle.std.specs.Prelude.{OnOk, IfErr, IfOk, IfNone, MatchResult}
 use Rattle.std.proofs.lemmas.List.Quantifiers.{position-Some}
-use Rattle.gf_tree.specs.KnownSets.{with_pending_set}
-use Rattle.gf_tree.specs.inner.KnownOutcomes.{KnownOutcomes, with_pending_outcome}
-use Rattle.gf_tree.specs.declared.reader.Reader.{Reader}
-use Rattle.gf_tree.specs.Description.{outcome_with}
+use Rattle.gf_tree.specs.inner.KnownOutcomes.{with_pending_outcome}
 use Rattle.gf_tree.specs.Judgement.{IsReadAs}
 use Rattle.gf_tree.proofs.lemmas.runs.Passed.{passed_before}
-use Rattle.gf_token.specs.Remaining.{StandsBefore}
 use Rattle.gf_token.specs.declared.token.TextToken.{TextToken}
-use Rattle.gf_tree.specs.KeptNodes.{actions_counted}
-use Rattle.gf_tree.specs.inner.Machine.{set_known, then_on, with_outcome, with_set}
 use Rattle.gf_tree.specs.inner.AddsUp.{adds_up}
-use Rattle.gf_token.specs.declared.fault.Why.TheVariants.{Memory, SumBelowOne}
-use Rattle.gf_token.specs.Token.{lexeme}
 use Rattle.gf_tree.specs.inner.FoundSet.{FoundOutcome, FoundSet}
-use Rattle.gf_tree.specs.inner.ReaderState.{Answer, Fails, Goes, Grows, answer, begun_with}
-use Rattle.gf_tree.specs.inner.ReaderState.{with_text, content_of}
+use Rattle.gf_tree.specs.inner.ReaderState.{with_text}
 use Rattle.gf_tree.proofs.lemmas.stores.FoundKeys.{described_at, found_from, set_in_parts}
 use Rattle.gf_tree.proofs.lemmas.games.TreesOnce.{same_set_equality}
 use Rattle.gf_tree.proofs.lemmas.games.Uses.{IsEquality}

@@ -4,17 +4,12 @@ use Rattle.gf_tree.proofs.Common.{Option, option_map, Result, Ok, Err, refl, sym
 use Rattle.gf_tree.proofs.Common.{append_assoc, append-nil, arith, length-append, at_position}
 use Rattle.gf_tree.proofs.Common.{Fault, InformationSet, Outcome, SetKey, Described, Node, AreAmong}
 use Rattle.gf_tree.proofs.Common.{IsAmong, Kept, entries_with, Entry, Position, with_node, NodeDue}
-use Rattle.gf_tree.proofs.Common.{heard}
-use Rattle.std.proofs.lemmas.List.{take-append-le}
-use Rattle.gf_tree.specs.KeptNodes.{child_count, entry_with}
-use Rattle.gf_tree.specs.declared.game.numbered_node.Numbering.TheVariants.{ByFirstUse}
-use Rattle.gf_tree.specs.declared.reader.Reader.{Reader}
-use Rattle.std.specs.Prelude.{Bool}
-use Rattle.gf_tree.specs.inner.ReaderState.{Answer, Goes, GoesTelling, Grows, HasRead, HasReadAll}
-use Rattle.gf_tree.specs.inner.ReaderState.{HasTold, Tells, TellsNode, answer, begun_with, behind}
-use Rattle.gf_tree.specs.inner.ReaderState.{content_of, content_with}
-use Rattle.gf_tree.specs.Told.{Heading, Told, kept_as, told_from, told_node, told_outcome, told_set}
-use Rattle.gf_tree.specs.Told.{used_outcomes_from, used_sets_from}
+use Rattle.gf_tree.proofs.Common.{heard, take-append-le, child_count, entry_with, ByFirstUse}
+use Rattle.gf_tree.proofs.Common.{Reader, Bool, Answer, Goes, Grows, HasRead, HasReadAll, answer}
+use Rattle.gf_tree.proofs.Common.{begun_with, behind, content_of, content_with, Heading, Told}
+use Rattle.gf_tree.proofs.Common.{told_from, told_node, told_outcome, told_set}
+use Rattle.gf_tree.specs.inner.ReaderState.{GoesTelling, HasTold, Tells, TellsNode}
+use Rattle.gf_tree.specs.Told.{kept_as, used_outcomes_from, used_sets_from}
 use Rattle.gf_tree.proofs.lemmas.reader.Steps.{at_before, outcomes_grow, placed_among_more}
 use Rattle.gf_tree.proofs.lemmas.reader.Steps.{placed_one_more, sets_grow}
 use Rattle.gf_tree.proofs.lemmas.runs.Earlier.{heard_more}

@@ -1,17 +1,13 @@
 -- What a receiver holds after the end of a file is the game that the file means.
-use Rattle.gf_tree.proofs.Common.{◌≡◌, ℕ, List, [], length, Ok, Err, refl, sym}
-use Rattle.gf_tree.proofs.Common.{subst, ◌∙◌, tokens_of, Lexeme, Spells, Fault, InformationSet}
-use Rattle.gf_tree.proofs.Common.{Outcome, SetKey, Described, Game, SpellsGame, game_of, Content}
-use Rattle.gf_tree.proofs.Common.{AreAmong, Kept, game_with, NodeDue}
-use Rattle.gf_tree.specs.Judgement.{IsJudged}
+use Rattle.gf_tree.proofs.Common.{◌≡◌, ℕ, List, [], length, Ok, Err, refl, sym, subst, ◌∙◌}
+use Rattle.gf_tree.proofs.Common.{tokens_of, Lexeme, Spells, Fault, InformationSet, Outcome, SetKey}
+use Rattle.gf_tree.proofs.Common.{Described, Game, SpellsGame, game_of, Content, AreAmong, Kept}
+use Rattle.gf_tree.proofs.Common.{game_with, NodeDue, IsJudged, ByFirstUse, Reader, Memory}
+use Rattle.gf_tree.proofs.Common.{IsListed, HasReadAll, answer, content_of, content_with}
+use Rattle.gf_tree.proofs.Common.{heading_read, to_all, Heading, Told, told_from}
 use Rattle.gf_tree.specs.ToldGame.{HasToldGame}
-use Rattle.gf_tree.specs.declared.game.numbered_node.Numbering.TheVariants.{ByFirstUse}
-use Rattle.gf_tree.specs.declared.reader.Reader.{Reader}
-use Rattle.gf_token.specs.declared.fault.Why.TheVariants.{Memory}
-use Rattle.gf_tree.specs.inner.GameParts.{IsListed}
-use Rattle.gf_tree.specs.inner.ReaderState.{HasReadAll, IsRead, KeepsNodes, answer, content_of}
-use Rattle.gf_tree.specs.inner.ReaderState.{content_with, heading_read, to_all}
-use Rattle.gf_tree.specs.Told.{Heading, Told, heading_in, told_from}
+use Rattle.gf_tree.specs.inner.ReaderState.{IsRead, KeepsNodes}
+use Rattle.gf_tree.specs.Told.{heading_in}
 use Rattle.gf_tree.proofs.lemmas.reader.Games.{answer_judged, answer_only, read_parts, read_spells}
 use Rattle.gf_tree.proofs.lemmas.reader.Games.{IsWhole, whole}
 use Rattle.gf_tree.proofs.lemmas.reader.Telling.{kept_told}

@@ -7,16 +7,12 @@ use Rattle.gf_tree.proofs.Common.{slice_get-map, at_position, Lexeme, Spells, Se
 use Rattle.gf_tree.proofs.Common.{InformationSet, Outcome, same_set, Game, IsGame, used_sets}
 use Rattle.gf_tree.proofs.Common.{known_of, flatten, Described, first_uses, sets_of, AreAmong, Kept}
 use Rattle.gf_tree.proofs.Common.{entries_with, game_of, Content, nothing, run, Format, Renumbering}
-use Rattle.gf_tree.proofs.Common.{renumbered, renumbered_node}
+use Rattle.gf_tree.proofs.Common.{renumbered, renumbered_node, Bool, true, Ok, file_nodes, no_node}
+use Rattle.gf_tree.proofs.Common.{first_use_numbers, OfFile, ByFirstUse, told_from, told_outcome}
+use Rattle.gf_tree.proofs.Common.{told_set}
 use Rattle.std.proofs.Common.{length-append}
-use Rattle.std.specs.Prelude.{Bool, true, Ok}
-use Rattle.gf_tree.specs.FileNodes.{file_nodes}
-use Rattle.gf_tree.specs.GameCode.{no_node}
-use Rattle.gf_tree.specs.FirstUse.{first_use_numbers}
 use Rattle.gf_tree.specs.inner.GameParts.{game_by}
 use Rattle.gf_tree.specs.declared.game.numbered_node.Numbering.{Numbering}
-use Rattle.gf_tree.specs.declared.game.numbered_node.Numbering.TheVariants.{OfFile, ByFirstUse}
-use Rattle.gf_tree.specs.Told.{told_from, told_outcome, told_set}
 use Rattle.gf_tree.proofs.lemmas.games.FirstUseNumbers.{number_at}
 use Rattle.gf_tree.proofs.lemmas.games.PlayerSets.{sets_by_first_use}
 use Rattle.gf_tree.proofs.lemmas.stores.GameNodes.{flatten_grown}

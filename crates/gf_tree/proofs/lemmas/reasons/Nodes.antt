@@ -8,19 +8,13 @@ use Rattle.gf_tree.proofs.Common.{set_of, set_with, IsDue, Role, Use, FileFront}
 use Rattle.gf_tree.proofs.Common.{BehindOutcomeNumber, BehindSetNumber, InActions, IsExtensiveFile}
 use Rattle.gf_tree.proofs.Common.{IsNewOutcome, IsNewSet, KnowsOutcome, ToOutcomeNumber, IsNoNumber}
 use Rattle.gf_tree.proofs.Common.{Row, a_first_name, an_outcome, or_comma, or_name, this_number}
-use Rattle.std.proofs.Common.{◌≢◌}
-use Rattle.std.proofs.lemmas.List.{append_cancel_left}
-use Rattle.gf_token.specs.NumberWhy.{why_of}
-use Rattle.gf_token.specs.Place.{MayFollow}
-use Rattle.gf_token.specs.declared.fault.Why.TheVariants.{NoEntry, BadIndex, SumBelowOne}
-use Rattle.gf_tree.specs.Due.{OutcomeIsDue, PayoffIsDue, PlayerIsDue, ProbabilityIsDue, SetIsDue}
-use Rattle.gf_tree.specs.Reason.{NewProbabilityIsDue, GoesOnWith, DiffersFromOutcome}
-use Rattle.gf_tree.specs.Reason.{DiffersFromSet, EndsInFirstUse, ListsActions}
-use Rattle.gf_tree.specs.RowPlaces.{BehindNode}
-use Rattle.gf_tree.specs.Front.{IsSetKnown}
-use Rattle.gf_tree.specs.Rows.{a_closing, a_new_action, a_new_branch, a_payoff, a_player}
-use Rattle.gf_tree.specs.Rows.{a_probability, a_set, no_label, this_label}
-use Rattle.gf_tree.specs.SomeRow.{IsBeforeRow, IsInNode}
+use Rattle.gf_tree.proofs.Common.{◌≢◌, append_cancel_left, why_of, MayFollow, NoEntry, BadIndex}
+use Rattle.gf_tree.proofs.Common.{SumBelowOne, OutcomeIsDue, PayoffIsDue, PlayerIsDue}
+use Rattle.gf_tree.proofs.Common.{ProbabilityIsDue, SetIsDue, NewProbabilityIsDue, GoesOnWith}
+use Rattle.gf_tree.proofs.Common.{DiffersFromOutcome, DiffersFromSet, EndsInFirstUse, ListsActions}
+use Rattle.gf_tree.proofs.Common.{BehindNode, IsSetKnown, a_closing, a_new_action, a_new_branch}
+use Rattle.gf_tree.proofs.Common.{a_payoff, a_player, a_probability, a_set, no_label, this_label}
+use Rattle.gf_tree.proofs.Common.{IsBeforeRow, IsInNode}
 use Rattle.gf_tree.proofs.lemmas.fronts.CutFiles.{some_row}
 use Rattle.gf_tree.proofs.lemmas.fronts.Cuts.{first_is}
 use Rattle.gf_tree.proofs.lemmas.due.Nodes.{parts}

@@ -2,14 +2,11 @@
 use Rattle.gf_tree.proofs.Common.{◌≡◌, ℕ, List, length, Result, Ok, Err, refl, sym, subst, arith}
 use Rattle.gf_tree.proofs.Common.{inl, inr, map-append, ◌⊎◌, Lexeme, Spells, tokens_of, Fault, Span}
 use Rattle.gf_tree.proofs.Common.{Why, IsDue, IsExtensiveFile, Game, SpellsGame, IsRefusal, game_of}
-use Rattle.gf_tree.proofs.Common.{Content, nothing, run, Format}
-use Rattle.gf_token.specs.Code.{code_of}
-use Rattle.gf_token.specs.declared.fault.Why.TheVariants.{Memory, TooLong, UnknownOutcome}
-use Rattle.gf_token.specs.declared.fault.Why.TheVariants.{TooManyProfiles}
+use Rattle.gf_tree.proofs.Common.{Content, nothing, run, Format, code_of, Memory, TooLong}
+use Rattle.gf_tree.proofs.Common.{UnknownOutcome, TooManyProfiles, same_tokens, Holds, IsReason}
 use Rattle.gf_token.proofs.Places.{no_file, one_code, one_offending_place, one_span}
-use Rattle.gf_token.proofs.Spelled.{same_tokens, spelled_once}
+use Rattle.gf_token.proofs.Spelled.{spelled_once}
 use Rattle.gf_tree.specs.Judgement.{IsRefused}
-use Rattle.gf_tree.specs.Reason.{Holds, IsReason}
 use Rattle.gf_tree.proofs.lemmas.reader.Games.{not_memory, read_spells, refused_judged}
 
 abbrev Answered : List ℕ → Type 0

@@ -5,17 +5,11 @@ use Rattle.gf_tree.proofs.Common.{inr, codes, ◌⊎◌, Ratio, NumberFault, IsN
 use Rattle.gf_tree.proofs.Common.{Opening, Closing, Comma, Text, Bare, Broken, Why, Expected}
 use Rattle.gf_tree.proofs.Common.{UnknownPlayer, Mismatch, NegativeProbability, Action}
 use Rattle.gf_tree.proofs.Common.{IsExtensiveFile, IsDue, Role, Row, a_letter, a_node, a_text}
-use Rattle.gf_tree.proofs.Common.{a_word, an_end, an_opening, or_name}
-use Rattle.std.proofs.Common.{◌≢◌}
-use Rattle.gf_fraction.specs.NumberSpelling.{HasNumberFault}
-use Rattle.gf_token.specs.NumberWhy.{why_of}
-use Rattle.gf_token.specs.declared.fault.What.{What}
-use Rattle.gf_token.specs.declared.fault.Why.TheVariants.{SumAboveOne, SumOverflow, Unterminated}
-use Rattle.gf_tree.specs.SomeRow.{IsInHeading}
-use Rattle.gf_tree.specs.Due.{NodeIsDue, PayoffIsDue, ProbabilityIsDue}
-use Rattle.gf_tree.specs.DueRoles.{OnlySuitedFollow, Suits, what_of}
-use Rattle.gf_tree.specs.Reason.{Holds, IsNoText, IsWrongBehind, NewProbabilityIsDue, NobodyMoves}
-use Rattle.gf_tree.specs.Rows.{Accepts, Refuses, a_player_name, or_text}
+use Rattle.gf_tree.proofs.Common.{a_word, an_end, an_opening, or_name, ◌≢◌, HasNumberFault, why_of}
+use Rattle.gf_tree.proofs.Common.{What, SumAboveOne, SumOverflow, Unterminated, IsInHeading}
+use Rattle.gf_tree.proofs.Common.{NodeIsDue, PayoffIsDue, ProbabilityIsDue, OnlySuitedFollow, Suits}
+use Rattle.gf_tree.proofs.Common.{what_of, Holds, IsNoText, IsWrongBehind, NewProbabilityIsDue}
+use Rattle.gf_tree.proofs.Common.{NobodyMoves, Accepts, Refuses, a_player_name, or_text}
 use Rattle.gf_tree.proofs.lemmas.due.Rows.{Stands, accepted}
 use Rattle.gf_tree.proofs.lemmas.fronts.WholeNodes.{behind_comment, behind_players}
 use Rattle.gf_fraction.specs.declared.fraction.NumberFault.TheVariants as number

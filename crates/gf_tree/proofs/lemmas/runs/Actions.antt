@@ -6,8 +6,7 @@ use Rattle.gf_tree.proofs.Common.{Token, Each, Why, Closing, Text, Bare, Ratio, 
 use Rattle.gf_tree.proofs.Common.{AddsTo, Action, InformationSet, SetKey, set_of, AreActions, Share}
 use Rattle.gf_tree.proofs.Common.{share_of, IsAction, with_action, Content, begun, new_set_ends}
 use Rattle.gf_tree.proofs.Common.{set_ends, shared, NewAction, OutcomeNumber, run_tokens, then_run}
-use Rattle.gf_tree.specs.Description.{AddToOne}
-use Rattle.gf_tree.specs.inner.Machine.{with_set}
+use Rattle.gf_tree.proofs.Common.{AddToOne, with_set}
 use Rattle.gf_tree.proofs.lemmas.runs.Tokens.{Reads, run_on, guard_ok, ratio_is}
 use Rattle.gf_tree.proofs.lemmas.runs.Shares.{share_found, share_again, sum_high}
 

@@ -14,10 +14,10 @@ use Rattle.gf_tree.proofs.Common.{NewProbability, KnownSetName, KnownSetOpening,
 use Rattle.gf_tree.proofs.Common.{KnownProbability, OutcomeNumber, NewOutcomeName}
 use Rattle.gf_tree.proofs.Common.{NewOutcomeOpening, NewPayoff, AfterNewPayoff, KnownOutcomeName}
 use Rattle.gf_tree.proofs.Common.{KnownOutcomeOpening, KnownPayoff, AfterKnownPayoff, heard}
+use Rattle.gf_tree.proofs.Common.{outcome_ends, same_number, then_on, new_label, behind}
 use Rattle.gf_fraction.specs.Computed.{number_of}
 use Rattle.gf_token.specs.Indices.{index_of}
-use Rattle.gf_tree.specs.inner.Machine.{outcome_ends, same_number, then_on, new_label}
-use Rattle.gf_tree.specs.inner.ReaderState.{behind, with_front, with_nodes}
+use Rattle.gf_tree.specs.inner.ReaderState.{with_front, with_nodes}
 use Rattle.gf_token.specs.declared.fault.What.TheVariants as what
 
 module _ (ns : List (Entry Node)) where

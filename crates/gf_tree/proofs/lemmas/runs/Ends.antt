@@ -13,14 +13,10 @@ use Rattle.gf_tree.proofs.Common.{NewSetName, NewSetOpening, NewAction, NewProba
 use Rattle.gf_tree.proofs.Common.{KnownSetName, KnownSetOpening, KnownAction, KnownProbability}
 use Rattle.gf_tree.proofs.Common.{OutcomeNumber, NewOutcomeName, NewOutcomeOpening, NewPayoff}
 use Rattle.gf_tree.proofs.Common.{AfterNewPayoff, KnownOutcomeName, KnownOutcomeOpening}
-use Rattle.gf_tree.proofs.Common.{KnownPayoff, AfterKnownPayoff}
-use Rattle.std.specs.Prelude.{nat_le}
-use Rattle.std.proofs.lemmas.Bool.{le-leb}
-use Rattle.gf_fraction.specs.NumberText.{number_text}
+use Rattle.gf_tree.proofs.Common.{KnownPayoff, AfterKnownPayoff, nat_le, le-leb, number_text}
+use Rattle.gf_tree.proofs.Common.{written_is_read, set_known}
 use Rattle.gf_fraction.specs.Computed.{number_of, lowest_of, gcd_within}
-use Rattle.gf_fraction.proofs.ReadingBack.{written_is_read}
 use Rattle.gf_token.specs.Indices.{index_of}
-use Rattle.gf_tree.specs.inner.Machine.{set_known}
 use Rattle.gf_tree.proofs.lemmas.runs.Tokens.{Reads, run_on, text_again}
 use Rattle.gf_tree.proofs.lemmas.runs.Payoffs.{number_same}
 use Rattle.gf_tree.proofs.lemmas.runs.Shares.{share_again}

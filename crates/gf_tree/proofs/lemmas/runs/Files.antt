@@ -6,9 +6,8 @@ use Rattle.gf_tree.proofs.Common.{nat_eq, length-append, AllByRecursion, cons_op
 use Rattle.gf_tree.proofs.Common.{Each, Entry, Fills, keys_alone, Game, HasChildren, Node, Learns}
 use Rattle.gf_tree.proofs.Common.{IsNode, InformationSet, SetKey, Outcome, same_set, Described}
 use Rattle.gf_tree.proofs.Common.{description_at, Use, FileNode, set_uses, outcome_uses, Content}
-use Rattle.gf_tree.proofs.Common.{after_node, NodeDue, run_tokens, then_run, game_of}
-use Rattle.std.proofs.Common.{◌==◌}
-use Rattle.gf_tree.specs.inner.Machine.{node_or_end}
+use Rattle.gf_tree.proofs.Common.{after_node, NodeDue, run_tokens, then_run, game_of, ◌==◌}
+use Rattle.gf_tree.proofs.Common.{node_or_end}
 use Rattle.gf_tree.proofs.lemmas.games.Consistent.{map_entry}
 use Rattle.gf_tree.proofs.lemmas.games.TreesOnce.{same_set_equality}
 use Rattle.gf_tree.proofs.lemmas.runs.Tokens.{Reads, run_on, ok_read, ok_is}

@@ -5,11 +5,7 @@ use Rattle.gf_tree.proofs.Common.{◌∙◌, inl, inr, arith, AllByRecursion, To
 use Rattle.gf_tree.proofs.Common.{IsComment, Tree, map_tree, grow, keys_alone, IsSet, FileNode}
 use Rattle.gf_tree.proofs.Common.{FileTree, Sentence, Game, Node, HasChildren, Entry, Fills}
 use Rattle.gf_tree.proofs.Common.{flatten, Content, nothing, Format, AfterPlayers, NodeDue}
-use Rattle.gf_tree.proofs.Common.{run_tokens, game_of}
-use Rattle.gf_tree.specs.Grown.{root}
-use Rattle.gf_tree.specs.GameCode.{no_node}
-use Rattle.gf_tree.specs.GameOf.{MeansGame}
-use Rattle.gf_tree.specs.Learned.{LearnsGame}
+use Rattle.gf_tree.proofs.Common.{run_tokens, game_of, root, no_node, MeansGame, LearnsGame}
 use Rattle.gf_tree.proofs.lemmas.games.Prefix.{one_tree, fills_one, grows_again}
 use Rattle.gf_tree.proofs.lemmas.games.Consistent.{flatten_map}
 use Rattle.gf_tree.proofs.lemmas.games.Learned.{game_learned_once}

@@ -3,9 +3,8 @@ use Rattle.gf_tree.proofs.Common.{◌≡◌, ℕ, Bool, true, false, List, [], �
 use Rattle.gf_tree.proofs.Common.{ap, subst, ◌∙◌, append_assoc, append-nil, inl, inr, nat_eq, arith}
 use Rattle.gf_tree.proofs.Common.{codes, ◌⊎◌, pointwise, Token, braced, Opening, Closing, Text}
 use Rattle.gf_tree.proofs.Common.{Bare, Content, at, nothing, Format, Version, Letter, Title}
-use Rattle.gf_tree.proofs.Common.{BeforePlayers, InPlayers, AfterPlayers, run_tokens}
-use Rattle.std.specs.Prelude.{◌||◌}
-use Rattle.gf_tree.specs.inner.Machine.{with_player}
+use Rattle.gf_tree.proofs.Common.{BeforePlayers, InPlayers, AfterPlayers, run_tokens, ◌||◌}
+use Rattle.gf_tree.proofs.Common.{with_player}
 use Rattle.gf_tree.proofs.lemmas.runs.Tokens.{Reads, guard_ok, same_bytes}
 
 -- ---- what was read

@@ -16,11 +16,10 @@ use Rattle.gf_tree.proofs.Common.{NewSetOpening, NewAction, NewProbability, Know
 use Rattle.gf_tree.proofs.Common.{KnownSetOpening, KnownAction, KnownProbability, OutcomeNumber}
 use Rattle.gf_tree.proofs.Common.{NewOutcomeName, NewOutcomeOpening, NewPayoff, AfterNewPayoff}
 use Rattle.gf_tree.proofs.Common.{KnownOutcomeName, KnownOutcomeOpening, KnownPayoff}
-use Rattle.gf_tree.proofs.Common.{AfterKnownPayoff}
+use Rattle.gf_tree.proofs.Common.{AfterKnownPayoff, new_label}
 use Rattle.gf_fraction.specs.Computed.{number_of}
 use Rattle.gf_token.specs.Indices.{index_of}
 use Rattle.gf_tree.specs.inner.Probability.{is_one}
-use Rattle.gf_tree.specs.inner.Machine.{new_label}
 use Rattle.gf_tree.proofs.lemmas.games.TreesOnce.{same_set_equality}
 use Rattle.gf_tree.proofs.lemmas.games.Members.{all_more}
 use Rattle.gf_tree.proofs.lemmas.runs.Learned.{one, found_has}

@@ -9,10 +9,7 @@ use Rattle.gf_tree.proofs.Common.{description_at, Use, FileNode, keys_alone, Lea
 use Rattle.gf_tree.proofs.Common.{IsStep, IsResult, IsNode, Content, at, begun, node_letter}
 use Rattle.gf_tree.proofs.Common.{personal_node, player_number, after_node, NodeDue, ChanceName}
 use Rattle.gf_tree.proofs.Common.{PersonalName, TerminalName, SetNumber, OutcomeNumber, run_tokens}
-use Rattle.gf_tree.proofs.Common.{then_run}
-use Rattle.std.specs.Prelude.{nat_le}
-use Rattle.std.proofs.lemmas.Bool.{le-leb}
-use Rattle.gf_token.proofs.ReadingIndices.{count_is}
+use Rattle.gf_tree.proofs.Common.{then_run, nat_le, le-leb, count_is}
 use Rattle.gf_tree.proofs.lemmas.fronts.Groups.{NoText}
 use Rattle.gf_tree.proofs.lemmas.games.TreesOnce.{same_set_equality}
 use Rattle.gf_tree.proofs.lemmas.runs.Tokens.{Reads, run_on, same_bytes}

@@ -3,12 +3,11 @@ use Rattle.gf_tree.proofs.Common.{◌≡◌, ℕ, ◌<◌, ◌≤◌, List, [], 
 use Rattle.gf_tree.proofs.Common.{sym, subst, ◌∙◌, append_assoc, append-nil, arith, inl, inr}
 use Rattle.gf_tree.proofs.Common.{Lexeme, Spells, tokens_of, Begins, IsAccepted, Fault, Span}
 use Rattle.gf_tree.proofs.Common.{Remaining, IsExtensiveFile, Content, Position, nothing, run}
-use Rattle.gf_tree.proofs.Common.{Format}
-use Rattle.gf_token.specs.Place.{IsSpanOf, IsAcceptedThrough}
-use Rattle.gf_token.specs.Remaining.{AreInOrder, StandsBefore}
+use Rattle.gf_tree.proofs.Common.{Format, IsSpanOf, StandsBefore, HasPassed}
+use Rattle.gf_token.specs.Place.{IsAcceptedThrough}
+use Rattle.gf_token.specs.Remaining.{AreInOrder}
 use Rattle.gf_token.proofs.Places.{parts, Parts, tokens_on, begins_front}
 use Rattle.gf_token.proofs.TokensAhead.{in_order}
-use Rattle.gf_tree.specs.inner.Passed.{HasPassed}
 use Rattle.gf_tree.proofs.lemmas.runs.Stops.{Stopped, run_reads, stopped}
 use Rattle.gf_tree.proofs.lemmas.runs.Places.{begins, read_is}
 

@@ -5,9 +5,9 @@ use Rattle.gf_tree.proofs.Common.{append-nil, inl, inr, arith, ◌⊎◌, Token,
 use Rattle.gf_tree.proofs.Common.{Each, IsPayoffInBraces, Why, Ratio, IsNumber, NumberFault}
 use Rattle.gf_tree.proofs.Common.{number_is, number_again, Outcome, run_tokens, then_run}
 use Rattle.gf_tree.proofs.Common.{AfterKnownPayoff, NodeDue, NewPayoff, AfterNewPayoff, KnownPayoff}
-use Rattle.gf_tree.proofs.Common.{Begun, Content, Position, State, at, paid, with_node}
+use Rattle.gf_tree.proofs.Common.{Begun, Content, Position, State, at, paid, with_node, same_number}
+use Rattle.gf_tree.proofs.Common.{with_outcome, with_payoff}
 use Rattle.gf_fraction.specs.Computed.{number_of}
-use Rattle.gf_tree.specs.inner.Machine.{same_number, with_outcome, with_payoff}
 use Rattle.gf_tree.proofs.lemmas.runs.Tokens.{Reads, run_on, ratio_same}
 
 -- ---- numbers in braces

@@ -3,9 +3,8 @@
 use Rattle.gf_tree.proofs.Common.{◌≡◌, Bool, true, false, cond, List, [], ◌∷◌, ◌++◌, Result, Ok}
 use Rattle.gf_tree.proofs.Common.{Err, refl, sym, ap, subst, ◌∙◌, append_assoc, append-nil, Token}
 use Rattle.gf_tree.proofs.Common.{Begins, Why, IsExtensiveFile, Format, Content, Position, State}
-use Rattle.gf_tree.proofs.Common.{at, nothing, step, game_of, run_tokens, then_run}
-use Rattle.gf_token.specs.Place.{MayFollow}
-use Rattle.gf_tree.specs.inner.Machine.{due, may_end}
+use Rattle.gf_tree.proofs.Common.{at, nothing, step, game_of, run_tokens, then_run, MayFollow, due}
+use Rattle.gf_tree.proofs.Common.{may_end}
 use Rattle.gf_tree.proofs.lemmas.games.Consistent.{some_game}
 use Rattle.gf_tree.proofs.lemmas.games.Learned.{game_learned_once}
 use Rattle.gf_tree.proofs.lemmas.runs.Tokens.{Reads, run_on, ok_read}

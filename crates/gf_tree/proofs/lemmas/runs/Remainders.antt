@@ -1,11 +1,9 @@
 -- Each sum of probabilities that the machine goes on with can be completed to one.
 use Rattle.gf_tree.proofs.Common.{◌≡◌, ◌<◌, ◌≤◌, ◌-◌, ℕ, refl, sym, ap, subst, arith, pos, ◌≤ℤ◌}
-use Rattle.gf_tree.proofs.Common.{ints, Ratio, IsFraction, whole, IsSum, AddsTo, whole_fraction}
-use Rattle.std.specs.Prelude.{ℤ, negsuc, ◌+ℤ◌}
+use Rattle.gf_tree.proofs.Common.{ints, Ratio, IsFraction, whole, IsSum, AddsTo, whole_fraction, ℤ}
+use Rattle.gf_tree.proofs.Common.{negsuc, ◌+ℤ◌, *ℤ_comm, mul_above}
 use Rattle.std.specs.Int.{IsGcd}
 use Rattle.std.proofs.Math.Nat.{one-dvd, dvd-sub_iff_right}
-use Rattle.std.proofs.Math.IntN.{*ℤ_comm}
-use Rattle.gf_fraction.proofs.Products.{mul_above}
 use Rattle.gf_fraction.proofs.Sums.{Adding-equal, equal_parts, equal_value, sum_fits}
 use Rattle.gf_tree.proofs.lemmas.runs.Shares.{no_sign}
 

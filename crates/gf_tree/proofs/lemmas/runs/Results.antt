@@ -8,8 +8,8 @@ use Rattle.gf_tree.proofs.Common.{IsDescription, IsOutcomeDescription, IsResult,
 use Rattle.gf_tree.proofs.Common.{behind_outcome, outcome_number, with_node, run_tokens, then_run}
 use Rattle.gf_tree.proofs.Common.{NodeDue, OutcomeNumber, NewOutcomeName, NewOutcomeOpening}
 use Rattle.gf_tree.proofs.Common.{NewPayoff, KnownOutcomeName, KnownOutcomeOpening, KnownPayoff}
+use Rattle.gf_tree.proofs.Common.{index_is}
 use Rattle.gf_token.specs.Indices.{index_of}
-use Rattle.gf_token.proofs.ReadingIndices.{index_is}
 use Rattle.gf_tree.proofs.lemmas.fronts.Groups.{NoText}
 use Rattle.gf_tree.proofs.lemmas.games.Members.{all_more}
 use Rattle.gf_tree.proofs.lemmas.runs.Tokens.{Reads, run_on, text_found, text_again}

@@ -8,8 +8,7 @@ use Rattle.gf_tree.proofs.Common.{Described, description_at, Use, Learns, Outcom
 use Rattle.gf_tree.proofs.Common.{NewSetName, NewSetOpening, NewAction, KnownSetName}
 use Rattle.gf_tree.proofs.Common.{KnownSetOpening, KnownAction, IsPositive, IsDescription}
 use Rattle.gf_tree.proofs.Common.{IsInformationSet, Content, at, begun, behind_set, set_number}
-use Rattle.gf_tree.proofs.Common.{run_tokens, then_run}
-use Rattle.gf_token.proofs.ReadingIndices.{count_is}
+use Rattle.gf_tree.proofs.Common.{run_tokens, then_run, count_is}
 use Rattle.gf_tree.proofs.lemmas.games.TreesOnce.{same_set_equality}
 use Rattle.gf_tree.proofs.lemmas.games.Members.{all_more}
 use Rattle.gf_tree.proofs.lemmas.runs.Tokens.{Reads, run_on, text_found, text_again}

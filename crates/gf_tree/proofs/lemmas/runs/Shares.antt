@@ -4,16 +4,12 @@ use Rattle.gf_tree.proofs.Common.{◌≡◌, ◌<◌, ◌≤◌, ◌+◌, ℕ, B
 use Rattle.gf_tree.proofs.Common.{◌∙◌, arith, Result, Ok, Err, Option, Some, None, pos, ◌≤ℤ◌, ints}
 use Rattle.gf_tree.proofs.Common.{Ratio, IsFraction, IsNumber, IsSum, AddsTo, NumberFault}
 use Rattle.gf_tree.proofs.Common.{number_is, number_again, Why, NegativeProbability, Share}
-use Rattle.gf_tree.proofs.Common.{share_of}
+use Rattle.gf_tree.proofs.Common.{share_of, ℤ, negsuc, ◌*ℤ◌, ◌+ℤ◌, int_lt, MatchOption, SumFits}
+use Rattle.gf_tree.proofs.Common.{sum_is_computed, sum_of-some, mul_above, SumAboveOne, share_by}
+use Rattle.gf_tree.proofs.Common.{up_to_one}
 use Rattle.std.proofs.Common.{◌*◌}
-use Rattle.std.specs.Prelude.{ℤ, negsuc, ◌*ℤ◌, ◌+ℤ◌, int_lt, MatchOption}
 use Rattle.std.proofs.Math.Nat.{mul-le-mul_right, le_of_mul-le-mul_right}
-use Rattle.gf_fraction.specs.Fits.{SumFits}
 use Rattle.gf_fraction.specs.Computed.{number_of, sum_of}
-use Rattle.gf_fraction.proofs.ComputedArithmetic.{sum_is_computed, sum_of-some}
-use Rattle.gf_fraction.proofs.Products.{mul_above}
-use Rattle.gf_token.specs.declared.fault.Why.TheVariants.{SumAboveOne}
-use Rattle.gf_tree.specs.inner.Probability.{share_by, up_to_one}
 
 abbrev pub ok_share : Share → Result Share Why
 ok_share s = Ok s

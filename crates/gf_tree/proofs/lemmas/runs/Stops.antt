@@ -3,9 +3,8 @@ use Rattle.gf_tree.proofs.Common.{◌≡◌, ◌↔◌, ℕ, Bool, true, false, 
 use Rattle.gf_tree.proofs.Common.{Result, Ok, Err, refl, ap, subst, arith, Token, Lexeme, Spells}
 use Rattle.gf_tree.proofs.Common.{tokens_of, IsAccepted, Fault, Why, Game, SpellsGame}
 use Rattle.gf_tree.proofs.Common.{IsExtensiveFile, Content, Position, State, at, nothing, run, step}
-use Rattle.gf_tree.proofs.Common.{Format, game_of, then_run}
-use Rattle.gf_token.specs.Place.{IsSpanOf}
-use Rattle.gf_tree.specs.inner.Machine.{due, may_end, refused, then_on}
+use Rattle.gf_tree.proofs.Common.{Format, game_of, then_run, IsSpanOf, due, may_end, then_on}
+use Rattle.gf_tree.specs.inner.Machine.{refused}
 use Rattle.gf_tree.proofs.lemmas.runs.Tokens.{Reads, run_on, ok_read}
 use Rattle.gf_tree.proofs.lemmas.runs.Games.{machine_means}
 use Rattle.gf_tree.proofs.lemmas.runs.Places.{Leads, walk, not_follows, no_file}

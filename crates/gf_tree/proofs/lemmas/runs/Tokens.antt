@@ -1,13 +1,12 @@
 -- What the lemmas on runs of the machine share.
 use Rattle.gf_tree.proofs.Common.{◌≡◌, ℕ, Bool, true, false, cond, List, Result, Ok, Err, refl}
 use Rattle.gf_tree.proofs.Common.{nat_eq, ◌==◌, pointwise, Decides-eqb, Ratio, Token, Why}
-use Rattle.gf_tree.proofs.Common.{run_tokens, then_run, Content, Position, State}
+use Rattle.gf_tree.proofs.Common.{run_tokens, then_run, Content, Position, State, same_ratio}
+use Rattle.gf_tree.proofs.Common.{same_text}
 use Rattle.std.specs.Ordering.{int_eq}
 use Rattle.std.proofs.lemmas.Bool.{and_parts}
 use Rattle.std.proofs.lemmas.Slice.Eq.{slice_eq-Decides}
 use Rattle.std.proofs.lemmas.Bool.Decides.{Decides-int_eq}
-use Rattle.gf_tree.specs.inner.Probability.{same_ratio}
-use Rattle.gf_tree.specs.inner.Machine.{same_text}
 
 -- from a position and what was read before, the tokens to come are read, and this is what was read
 abbrev pub Reads : Position → Content → List Token → Content → Type 0

@@ -2,9 +2,7 @@
 use Rattle.gf_tree.proofs.Common.{◌≡◌, ℕ, suc, ◌+◌, Bool, true, false, List, [], ◌∷◌, map, Some}
 use Rattle.gf_tree.proofs.Common.{None, Option, option_map, slice_get, refl, arith, position}
 use Rattle.gf_tree.proofs.Common.{position_from, position_from-zero, Ratio, Action, InformationSet}
-use Rattle.gf_tree.proofs.Common.{Outcome, set_with, Described, description_at}
-use Rattle.std.specs.List.{find}
-use Rattle.gf_tree.specs.Description.{outcome_with}
+use Rattle.gf_tree.proofs.Common.{Outcome, set_with, Described, description_at, find, outcome_with}
 use Rattle.gf_tree.proofs.lemmas.games.Uses.{IsEquality, either_way}
 
 module _ {K D : Type 0} (same : K → K → Bool) (tells : IsEquality same) (key : K) where

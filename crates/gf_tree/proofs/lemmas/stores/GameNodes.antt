@@ -3,17 +3,14 @@ use Rattle.gf_tree.proofs.Common.{◌≡◌, ℕ, zero, suc, ◌+◌, ◌<◌, L
 use Rattle.gf_tree.proofs.Common.{drop, get_or, slice_get, refl, sym, ap, subst, ◌∙◌, arith}
 use Rattle.gf_tree.proofs.Common.{length-map, drop-map, map-append, Tree, Trees, count, branch}
 use Rattle.gf_tree.proofs.Common.{none, more, Entry, Fills, flatten, flatten_all, grow, Described}
-use Rattle.gf_tree.proofs.Common.{Node, subtree_sizes, Begin, skipped, Stored}
-use Rattle.gf_tree.proofs.Common.{SetKey, InformationSet, Outcome, Parts, Kept, IsAmong}
-use Rattle.gf_tree.proofs.Common.{AreAmong, entries_with, kept_of, tree_with}
-use Rattle.std.proofs.lemmas.List.{get_or-map}
+use Rattle.gf_tree.proofs.Common.{Node, subtree_sizes, Begin, skipped, Stored, SetKey}
+use Rattle.gf_tree.proofs.Common.{InformationSet, Outcome, Parts, Kept, IsAmong, AreAmong}
+use Rattle.gf_tree.proofs.Common.{entries_with, kept_of, tree_with, get_or-map, root, subtrees}
+use Rattle.gf_tree.proofs.Common.{subtrees_all, child_trees, list_of, root_node, subtree_at}
+use Rattle.gf_tree.proofs.Common.{AreNodes, IsHeld, IsListed, child_count, child_counts, sizes_of}
 use Rattle.std.proofs.Math.Seq.{drop-cons}
-use Rattle.gf_tree.specs.Grown.{root}
 use Rattle.gf_tree.specs.GrowsAgain.{root_grows_again}
-use Rattle.gf_tree.specs.Subtrees.{subtrees, subtrees_all, child_trees, list_of, root_node}
-use Rattle.gf_tree.specs.Subtrees.{subtree_at}
-use Rattle.gf_tree.specs.inner.GameParts.{AreNodes, IsHeld, IsListed}
-use Rattle.gf_tree.specs.KeptNodes.{child_count, child_counts, node_with, sizes_of}
+use Rattle.gf_tree.specs.KeptNodes.{node_with}
 use Rattle.gf_tree.proofs.lemmas.games.Prefix.{one_tree}
 use Rattle.gf_tree.proofs.lemmas.stores.SubtreeSizes.{begin_first, counts_of, drop_suc, skips_to}
 use Rattle.gf_tree.proofs.lemmas.stores.SubtreeSizes.{slice_get_behind, stands, subtrees_counted}

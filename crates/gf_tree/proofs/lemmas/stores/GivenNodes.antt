@@ -1,17 +1,14 @@
 -- The nodes of a game as they are kept, given one after another, are those that a file gives.
-use Rattle.gf_tree.proofs.Common.{◌≡◌, ◌==◌, ℕ, zero, suc, ◌≤◌, List, [], ◌∷◌, ◌++◌, length, map, max}
-use Rattle.gf_tree.proofs.Common.{Option, Some, option_map, nat_eq, refl, sym, ap, ◌∙◌, arith}
+use Rattle.gf_tree.proofs.Common.{◌≡◌, ◌==◌, ℕ, zero, suc, ◌≤◌, List, [], ◌∷◌, ◌++◌, length, map}
+use Rattle.gf_tree.proofs.Common.{max, Option, Some, option_map, nat_eq, refl, sym, ap, ◌∙◌, arith}
 use Rattle.gf_tree.proofs.Common.{append_assoc, append-nil, filter_map, cons_option, Decides-eqb}
 use Rattle.gf_tree.proofs.Common.{map-append, at_position, SetKey, same_set, Described}
 use Rattle.gf_tree.proofs.Common.{description_at, first_uses, Game, Node, IsGame, Entry, flatten}
-use Rattle.gf_tree.proofs.Common.{AreAmong, IsAmong, Kept, entries_with}
-use Rattle.std.specs.Prelude.{Bool}
+use Rattle.gf_tree.proofs.Common.{AreAmong, IsAmong, Kept, entries_with, Bool, filter_map-append}
+use Rattle.gf_tree.proofs.Common.{file_nodes, use_behind, entry_with, told_from, told_node}
+use Rattle.gf_tree.proofs.Common.{use_with, OfFile}
 use Rattle.std.proofs.Math.Nat.{max-zero}
-use Rattle.std.proofs.lemmas.List.Elements.{filter_map-append}
-use Rattle.gf_tree.specs.FileNodes.{file_nodes, node_behind, use_behind, with_those_before}
-use Rattle.gf_tree.specs.KeptNodes.{entry_with}
-use Rattle.gf_tree.specs.Told.{told_from, told_node, use_with}
-use Rattle.gf_tree.specs.declared.game.numbered_node.Numbering.TheVariants.{OfFile}
+use Rattle.gf_tree.specs.FileNodes.{node_behind, with_those_before}
 use Rattle.gf_tree.proofs.lemmas.stores.KnownKeys.{known_there, use_there}
 use Rattle.gf_tree.proofs.lemmas.games.Members.{map_same, map_twice, something_there}
 use Rattle.gf_tree.proofs.lemmas.games.TreesOnce.{same_set_equality}

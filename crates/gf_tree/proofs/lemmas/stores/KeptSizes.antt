@@ -3,11 +3,10 @@ use Rattle.gf_tree.proofs.Common.{◌≡◌, ℕ, zero, suc, ◌+◌, ◌-◌, �
 use Rattle.gf_tree.proofs.Common.{length, map, drop, get_or, refl, sym, ap, subst, ◌∙◌, arith}
 use Rattle.gf_tree.proofs.Common.{length-map, drop-map, Tree, count, Described, subtree_sizes}
 use Rattle.gf_tree.proofs.Common.{Entry, flatten, flatten_all, SetKey, InformationSet, Begin}
-use Rattle.gf_tree.proofs.Common.{skipped, AreAmong, kept_of, Stored}
-use Rattle.std.proofs.lemmas.List.{map-set, get_or-map, drop-set}
+use Rattle.gf_tree.proofs.Common.{skipped, AreAmong, kept_of, Stored, get_or-map, sizes_grown}
+use Rattle.gf_tree.proofs.Common.{child_count, child_counts, sizes_of}
+use Rattle.std.proofs.lemmas.List.{map-set, drop-set}
 use Rattle.std.proofs.Math.ListN.{set}
-use Rattle.gf_tree.specs.inner.Skipped.{sizes_grown}
-use Rattle.gf_tree.specs.KeptNodes.{child_count, child_counts, sizes_of}
 use Rattle.gf_tree.proofs.lemmas.stores.SubtreeSizes.{begin_children, counts_of, sizes_are}
 use Rattle.gf_tree.proofs.lemmas.stores.SubtreeSizes.{skips_once, stands}
 

@@ -2,16 +2,13 @@
 use Rattle.gf_tree.proofs.Common.{◌≡◌, ℕ, zero, suc, ◌+◌, ◌<◌, Bool, true, false, List, [], ◌∷◌}
 use Rattle.gf_tree.proofs.Common.{◌++◌, length, map, Some, slice_get, max, refl, sym, ap, ◌∙◌}
 use Rattle.gf_tree.proofs.Common.{arith, ◌==◌, eq-eqb, slice_get-map, Described, description_at}
-use Rattle.gf_tree.proofs.Common.{first_uses}
+use Rattle.gf_tree.proofs.Common.{first_uses, not_from_false, filter-append, through_first_use}
+use Rattle.gf_tree.proofs.Common.{first_use_number, use_behind, use_with}
 use Rattle.std.proofs.Common.{length-append}
 use Rattle.std.specs.List.{list_any}
 use Rattle.std.proofs.Math.Nat.{max-eq_left}
-use Rattle.std.proofs.lemmas.Bool.{ne_eqb, not_from_false}
+use Rattle.std.proofs.lemmas.Bool.{ne_eqb}
 use Rattle.std.proofs.lemmas.List.{append-nil}
-use Rattle.std.proofs.lemmas.List.Elements.{filter-append}
-use Rattle.gf_tree.specs.FirstUse.{through_first_use, first_use_number}
-use Rattle.gf_tree.specs.FileNodes.{use_behind}
-use Rattle.gf_tree.specs.Told.{use_with}
 use Rattle.gf_tree.proofs.lemmas.games.FirstUseNumbers.{number_at, number_at_most}
 use Rattle.gf_tree.proofs.lemmas.games.FirstUses.{first_uses_distinct}
 use Rattle.gf_tree.proofs.lemmas.games.Lookups.{entry_at}

@@ -1,9 +1,7 @@
 -- The sum of the probabilities of a list of actions: as the reader adds them up, and as reasons do.
 use Rattle.gf_tree.proofs.Common.{◌≡◌, ◌<◌, List, [], ◌∷◌, sym, subst, ◌∙◌, arith, pos, Ratio}
-use Rattle.gf_tree.proofs.Common.{whole, IsSum, InformationSet, Action}
-use Rattle.gf_fraction.proofs.Products.{mul_above}
+use Rattle.gf_tree.proofs.Common.{whole, IsSum, InformationSet, Action, mul_above, HasSum, AddUpTo}
 use Rattle.gf_fraction.proofs.SumsOnce.{one_sum}
-use Rattle.gf_tree.specs.Reason.{HasSum, AddUpTo}
 use Rattle.gf_tree.proofs.lemmas.fronts.Runs.{HaveSumFrom, AddShares}
 use Rattle.gf_tree.proofs.lemmas.Once.{one_some}
 

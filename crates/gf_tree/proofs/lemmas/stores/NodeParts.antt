@@ -8,14 +8,12 @@ use Rattle.gf_tree.proofs.Common.{slice_get_within, drop-map, at_position, Tree,
 use Rattle.gf_tree.proofs.Common.{flatten, Described, outcome_numbers, Parts, game_with, known_of}
 use Rattle.gf_tree.proofs.Common.{subtree_sizes, Stored, Action, SetKey, InformationSet, Outcome}
 use Rattle.gf_tree.proofs.Common.{set_of, Game, IsGame, Node, set_at, used_outcomes, IsAmong}
-use Rattle.gf_tree.proofs.Common.{kept_of, tree_with, Begin, skipped}
-use Rattle.std.specs.Prelude.{nat_eq}
-use Rattle.std.proofs.lemmas.Option.{get_or_from_slice_get}
+use Rattle.gf_tree.proofs.Common.{kept_of, tree_with, Begin, skipped, nat_eq, get_or_from_slice_get}
+use Rattle.gf_tree.proofs.Common.{AreNodes, number_among, subtrees_all, child_trees, root_node}
+use Rattle.gf_tree.proofs.Common.{subtree_at, subtrees}
 use Rattle.std.proofs.lemmas.List.{append-nil, drop-drop}
-use Rattle.gf_tree.specs.inner.GameParts.{AreNodes, IsKeptAt}
-use Rattle.gf_tree.specs.KnownSets.{number_among}
+use Rattle.gf_tree.specs.inner.GameParts.{IsKeptAt}
 use Rattle.gf_tree.specs.Movers.{IsMover}
-use Rattle.gf_tree.specs.Subtrees.{subtrees_all, child_trees, root_node, subtree_at, subtrees}
 use Rattle.gf_tree.specs.OutcomePositions.{position_among}
 use Rattle.gf_tree.proofs.lemmas.games.FirstUses.{AreDistinct, first_uses_distinct}
 use Rattle.gf_tree.proofs.lemmas.stores.GameNodes.{IsTreeOf, as_many, child_is_there}

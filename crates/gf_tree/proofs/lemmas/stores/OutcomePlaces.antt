@@ -1,9 +1,9 @@
 -- The places of outcomes, and what they say about the outcomes that are known.
 use Rattle.gf_tree.proofs.Common.{◌≡◌, ℕ, ◌+◌, List, [], ◌∷◌, ◌++◌, length, map, nat_eq, refl, ap}
 use Rattle.gf_tree.proofs.Common.{arith, position_from-zero, position, position_from, lookup, Ratio}
+use Rattle.gf_tree.proofs.Common.{KnownOutcomes, stored_outcomes, AreOutcomes}
 use Rattle.gf_tree.specs.declared.game.outcomes.Entry.{Entry}
-use Rattle.gf_tree.specs.inner.KnownOutcomes.{KnownOutcomes}
-use Rattle.gf_tree.specs.inner.StoredOutcomes.{described, stored_outcomes, places_from, AreOutcomes}
+use Rattle.gf_tree.specs.inner.StoredOutcomes.{described, places_from}
 
 found_from : (payoffs : List Ratio) (number : ℕ) (entries : List Entry) (place : ℕ)
     → lookup (nat_eq number) (places_from place entries)

@@ -2,9 +2,8 @@
 use Rattle.gf_tree.proofs.Common.{◌≡◌, ℕ, false, List, [], ◌∷◌, refl, Remaining, Lexeme, Token}
 use Rattle.gf_tree.proofs.Common.{Bare, Broken, Closing, Comma, Opening, Text, InformationSet}
 use Rattle.gf_tree.proofs.Common.{Outcome, SetKey, Content, Position, begun, OutcomeNumber}
-use Rattle.gf_tree.proofs.Common.{KnownOutcomeName, KnownSetName, NodeDue, heard}
-use Rattle.gf_token.specs.Next.{is_quoted, starts}
-use Rattle.gf_token.specs.Token.{lexeme}
+use Rattle.gf_tree.proofs.Common.{KnownOutcomeName, KnownSetName, NodeDue, heard, is_quoted, starts}
+use Rattle.gf_tree.proofs.Common.{lexeme}
 
 abbrev remaining : List ℕ → List Lexeme → Remaining
 remaining input ahead = record { input = input; ahead = ahead }

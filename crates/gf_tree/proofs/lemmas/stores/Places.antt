@@ -1,8 +1,7 @@
 -- The places of numbers, after each call.
 use Rattle.gf_tree.proofs.Common.{◌≡◌, ℕ, ◌-◌, ◌<◌, List, [], ◌∷◌, ◌++◌, map, None, nat_eq, arith}
-use Rattle.gf_tree.proofs.Common.{slice_get-map, at_position}
-use Rattle.std.specs.Prelude.{slice_get, option_map}
-use Rattle.indexmap.specs.IndexMap.{IndexMap, get, insert_entry}
+use Rattle.gf_tree.proofs.Common.{slice_get-map, at_position, slice_get, option_map, IndexMap}
+use Rattle.indexmap.specs.IndexMap.{get, insert_entry}
 use Rattle.indexmap.proofs.CallerLemmas.{insert_entry-new}
 
 pub goes_last : {S : Type 0} (m : IndexMap ℕ ℕ S) (number place : ℕ) → get nat_eq m number ≡ None

@@ -2,13 +2,10 @@
 use Rattle.gf_tree.proofs.Common.{◌≡◌, ℕ, zero, suc, ◌+◌, List, [], ◌∷◌, map, Option, option_map}
 use Rattle.gf_tree.proofs.Common.{refl, ap, ◌∙◌, arith, slice_get-map, at_position, Tree, Trees}
 use Rattle.gf_tree.proofs.Common.{map_tree, map_trees, none, more, Entry, Fills, flatten, grow}
-use Rattle.gf_tree.proofs.Common.{Described, Node, subtree_sizes, game_with, SetKey}
-use Rattle.gf_tree.proofs.Common.{InformationSet, Parts}
-use Rattle.gf_tree.proofs.Common.{Outcome, Kept, entries_with, tree_with, Renumbering, renumbered}
-use Rattle.gf_tree.proofs.Common.{renumbered_node, renumbered_set}
-use Rattle.gf_tree.specs.Grown.{first, others, root}
-use Rattle.gf_tree.specs.GameCode.{no_node}
-use Rattle.gf_tree.specs.KeptNodes.{actions_counted}
+use Rattle.gf_tree.proofs.Common.{Described, Node, subtree_sizes, game_with, SetKey, InformationSet}
+use Rattle.gf_tree.proofs.Common.{Parts, Outcome, Kept, entries_with, tree_with, Renumbering}
+use Rattle.gf_tree.proofs.Common.{renumbered, renumbered_node, renumbered_set, first, others, root}
+use Rattle.gf_tree.proofs.Common.{no_node, actions_counted}
 use Rattle.gf_tree.proofs.lemmas.games.Consistent.{map_entry, flatten_map}
 use Rattle.gf_tree.proofs.lemmas.stores.SubtreeSizes.{counts_of, sizes_are}
 

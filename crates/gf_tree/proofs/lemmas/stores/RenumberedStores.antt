@@ -7,13 +7,10 @@ use Rattle.gf_tree.proofs.Common.{position_from-zero, position, ◌==◌, AllByR
 use Rattle.gf_tree.proofs.Common.{false_from_ne_true, Decides-eqb, SetKey, InformationSet, Outcome}
 use Rattle.gf_tree.proofs.Common.{same_set, set_of, Described, known_of, outcome_numbers}
 use Rattle.gf_tree.proofs.Common.{player_keys, sets_of, Game, IsGame, used_sets, used_outcomes}
-use Rattle.gf_tree.proofs.Common.{Renumbering, renumbered}
-use Rattle.std.proofs.Common.{Vec, Global}
-use Rattle.std.proofs.lemmas.Option.{get_or_from_slice_get}
-use Rattle.std.proofs.lemmas.List.{get_or-map, take-map}
-use Rattle.std.specs.Prelude.{nat_eq, ⊤}
-use Rattle.gf_tree.specs.KnownSets.{number_among}
-use Rattle.gf_tree.specs.Listed.{AreListed, listed_numbers, number_listed}
+use Rattle.gf_tree.proofs.Common.{Renumbering, renumbered, Vec, Global, get_or_from_slice_get}
+use Rattle.gf_tree.proofs.Common.{get_or-map, take-map, nat_eq, number_among, AreListed}
+use Rattle.gf_tree.proofs.Common.{listed_numbers, number_listed}
+use Rattle.std.specs.Prelude.{⊤}
 use Rattle.gf_tree.proofs.lemmas.games.Carried.{entry_used}
 use Rattle.gf_tree.proofs.lemmas.games.ListedNumbers.{some_player, as_long, listed_is_renumbering}
 use Rattle.gf_tree.proofs.lemmas.games.ListedNumbers.{number_there}

@@ -1,7 +1,6 @@
 -- Lists whose items are tested one by one for what they stand for.
 use Rattle.gf_tree.proofs.Common.{◌≡◌, ℕ, zero, suc, ◌+◌, ◌<◌, ◌≤◌, List, [], ◌∷◌, length, map}
-use Rattle.gf_tree.proofs.Common.{take, get_or, sym, ap, ◌∙◌, arith, length-map}
-use Rattle.std.proofs.lemmas.List.{take_all}
+use Rattle.gf_tree.proofs.Common.{take, get_or, sym, ap, ◌∙◌, arith, length-map, take_all}
 
 module _ {A B : Type 0} (f : A → B) where
   -- the items at one place stand for the same

@@ -1,13 +1,11 @@
 -- How many actions each set has, as it is kept separately.
 use Rattle.gf_tree.proofs.Common.{◌≡◌, ℕ, zero, suc, ◌<◌, ◌≤◌, List, [], ◌∷◌, ◌++◌, length, map}
 use Rattle.gf_tree.proofs.Common.{Some, sym, ap, ◌∙◌, arith, AllByRecursion, length-map, map-append}
-use Rattle.gf_tree.proofs.Common.{actions_of, KnownSets, described, stored_sets}
-use Rattle.std.specs.Prelude.{get_or, option_map, slice_get, slice_range}
-use Rattle.std.proofs.lemmas.List.{length-drop, length-take-le}
+use Rattle.gf_tree.proofs.Common.{actions_of, KnownSets, described, stored_sets, get_or, option_map}
+use Rattle.gf_tree.proofs.Common.{slice_get, slice_range, length-drop, length-take-le, AreStretches}
+use Rattle.gf_tree.proofs.Common.{end_of}
 use Rattle.gf_tree.specs.declared.game.action.Action.{Action as Held}
 use Rattle.gf_tree.specs.declared.game.sets.Entry.{Entry}
-use Rattle.gf_tree.specs.inner.Stretches.{AreStretches}
-use Rattle.gf_tree.specs.inner.StoredSets.{end_of}
 
 abbrev pub counts_of : List Entry → List ℕ
 counts_of entries = map (λ e. e.count) entries

@@ -2,17 +2,15 @@
 use Rattle.gf_tree.proofs.Common.{◌≡◌, ℕ, ◌+◌, ◌<◌, ◌≤◌, Bool, true, false, List, [], ◌∷◌, ◌++◌}
 use Rattle.gf_tree.proofs.Common.{length, map, take, Some, refl, sym, ap, subst, ◌∙◌, arith, ◌==◌}
 use Rattle.gf_tree.proofs.Common.{filter, eq-eqb, length-map, slice_get-map, slice_get_within}
-use Rattle.gf_tree.proofs.Common.{KnownSets, known_of, described, stored_sets}
+use Rattle.gf_tree.proofs.Common.{KnownSets, known_of, described, stored_sets, get_or, slice_get}
+use Rattle.gf_tree.proofs.Common.{option_map, take-append-le, take_all, take-map, filter-append}
+use Rattle.gf_tree.proofs.Common.{slice_get-get_or, number_among}
 use Rattle.std.proofs.Common.{nat_lt, length-append}
 use Rattle.std.proofs.Math.Seq.{get_or-append_seam}
-use Rattle.std.specs.Prelude.{get_or, slice_get, option_map}
 use Rattle.std.proofs.lemmas.Bool.{ltb-true, ltb-false}
-use Rattle.std.proofs.lemmas.List.{take-append-le, take_all, take-map, get_or_append_left}
-use Rattle.std.proofs.lemmas.List.Elements.{filter-append}
-use Rattle.std.proofs.lemmas.Option.{slice_get-get_or}
+use Rattle.std.proofs.lemmas.List.{get_or_append_left}
 use Rattle.gf_tree.specs.declared.game.action.Action.{Action as Held}
 use Rattle.gf_tree.specs.declared.game.sets.Entry.{Entry}
-use Rattle.gf_tree.specs.KnownSets.{number_among}
 use Rattle.gf_tree.specs.inner.StoredSets.{AreNumbered}
 
 abbrev pub of_player : ℕ → List Entry → List Entry

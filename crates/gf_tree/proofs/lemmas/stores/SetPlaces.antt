@@ -2,11 +2,9 @@
 use Rattle.gf_tree.proofs.Common.{◌≡◌, ℕ, ◌+◌, List, [], ◌∷◌, length, map, nat_eq, refl, ap, ◌∙◌}
 use Rattle.gf_tree.proofs.Common.{arith, position, position_from, lookup, length-map}
 use Rattle.gf_tree.proofs.Common.{position_from-zero, same_set, set_of, KnownSets, known_of}
-use Rattle.gf_tree.proofs.Common.{described, stored_sets}
-use Rattle.std.specs.Prelude.{get_or}
+use Rattle.gf_tree.proofs.Common.{described, stored_sets, get_or, places_from, AreSets}
 use Rattle.gf_tree.specs.declared.game.action.Action.{Action as Held}
 use Rattle.gf_tree.specs.declared.game.sets.Entry.{Entry}
-use Rattle.gf_tree.specs.inner.StoredSets.{places_from, AreSets}
 
 -- a number's place is the first place at which its key stands
 found_from : (actions : List Held) (player number : ℕ) (entries : List Entry) (place : ℕ)

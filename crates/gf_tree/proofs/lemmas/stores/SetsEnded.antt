@@ -2,16 +2,13 @@
 use Rattle.gf_tree.proofs.Common.{◌≡◌, ℕ, ◌+◌, ◌<◌, ◌≤◌, ◌^◌, List, [], ◌∷◌, ◌++◌, length, map}
 use Rattle.gf_tree.proofs.Common.{take, drop, None, nat_eq, refl, ap, arith, append-nil, ◌==◌}
 use Rattle.gf_tree.proofs.Common.{position, lookup, eqb-true, map-append, label_of, same_set}
-use Rattle.gf_tree.proofs.Common.{set_of, actions_of, described, stored_sets, KnownSets}
-use Rattle.std.proofs.Common.{◌≢◌, length-append}
-use Rattle.std.specs.Prelude.{get_or, max, slice_range, if◌then◌else◌}
-use Rattle.std.proofs.Math.ListN.{drop_of_length-le}
-use Rattle.std.proofs.lemmas.Bool.{eqb-false}
-use Rattle.std.proofs.lemmas.List.{length-take-le}
+use Rattle.gf_tree.proofs.Common.{set_of, actions_of, described, stored_sets, KnownSets, ◌≢◌}
+use Rattle.gf_tree.proofs.Common.{get_or, max, slice_range, if◌then◌else◌, drop_of_length-le}
+use Rattle.gf_tree.proofs.Common.{eqb-false, length-take-le, HoldActions, end_of, places_from}
+use Rattle.gf_tree.proofs.Common.{AreSets, with_pending_set}
+use Rattle.std.proofs.Common.{length-append}
 use Rattle.gf_tree.specs.declared.game.action.Action.{Action as Held}
 use Rattle.gf_tree.specs.declared.game.sets.Entry.{Entry}
-use Rattle.gf_tree.specs.inner.StoredSets.{HoldActions, end_of, places_from, AreSets}
-use Rattle.gf_tree.specs.KnownSets.{with_pending_set}
 use Rattle.gf_tree.proofs.lemmas.stores.SetPlaces.{found}
 use Rattle.gf_tree.proofs.lemmas.stores.StoredActions.{set_made}
 use Rattle.gf_tree.proofs.lemmas.stores.SetNumbers.{of_player, numbered_behind}

@@ -1,9 +1,8 @@
 -- The places of small numbers, and of those after them.
 use Rattle.gf_tree.proofs.Common.{◌≡◌, ℕ, ◌+◌, ◌<◌, Bool, false, List, [], ◌∷◌, ◌++◌, length, Some}
 use Rattle.gf_tree.proofs.Common.{None, nat_eq, refl, sym, ◌∙◌, arith, lookup, eqb-true, eq-eqb}
-use Rattle.gf_tree.proofs.Common.{map-append}
-use Rattle.std.specs.Prelude.{get_or, slice_set, Option}
-use Rattle.std.proofs.lemmas.Bool.{eqb-false}
+use Rattle.gf_tree.proofs.Common.{map-append, get_or, Option, eqb-false}
+use Rattle.std.specs.Prelude.{slice_set}
 use Rattle.std.proofs.lemmas.List.{get_or-set_same, get_or-set_other}
 use Rattle.gf_tree.specs.declared.numbers.small_numbers.Placed.{Placed}
 use Rattle.gf_tree.specs.inner.SmallNumbers.{AreFound, placed_pairs}

@@ -1,12 +1,10 @@
 -- What is stored of sets, once one more action is pending.
 use Rattle.gf_tree.proofs.Common.{◌≡◌, ℕ, List, [], ◌∷◌, ◌++◌, map, drop, ap, ◌∙◌, map-append}
 use Rattle.gf_tree.proofs.Common.{label_of, actions_of, InformationSet, SetKey, set_of, Described}
-use Rattle.gf_tree.proofs.Common.{KnownSets, described, stored_sets}
-use Rattle.std.proofs.lemmas.List.{drop-append-le}
+use Rattle.gf_tree.proofs.Common.{KnownSets, described, stored_sets, drop-append-le, action_of}
+use Rattle.gf_tree.proofs.Common.{end_of, AreSets}
 use Rattle.gf_tree.specs.declared.game.action.Action.{Action as Held}
 use Rattle.gf_tree.specs.declared.game.sets.Entry.{Entry}
-use Rattle.gf_tree.specs.Actions.{action_of}
-use Rattle.gf_tree.specs.inner.StoredSets.{end_of, AreSets}
 use Rattle.gf_tree.proofs.lemmas.stores.Stretching.{items_behind}
 
 abbrev pub set_made : Entry → List Held → Described SetKey InformationSet

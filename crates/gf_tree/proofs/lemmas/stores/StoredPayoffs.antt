@@ -1,11 +1,10 @@
 -- What is stored of outcomes, once one more payoff is pending or one more outcome is complete.
 use Rattle.gf_tree.proofs.Common.{◌≡◌, ℕ, ◌+◌, ◌<◌, ◌^◌, List, [], ◌∷◌, ◌++◌, length, map, drop}
-use Rattle.gf_tree.proofs.Common.{arith, Ratio, label_of, Outcome, Described}
+use Rattle.gf_tree.proofs.Common.{arith, Ratio, label_of, Outcome, Described, drop-append-le}
+use Rattle.gf_tree.proofs.Common.{KnownOutcomes, stored_outcomes, AreOutcomes}
 use Rattle.std.proofs.Common.{length-append}
-use Rattle.std.proofs.lemmas.List.{drop-append-le}
 use Rattle.gf_tree.specs.declared.game.outcomes.Entry.{Entry}
-use Rattle.gf_tree.specs.inner.KnownOutcomes.{KnownOutcomes}
-use Rattle.gf_tree.specs.inner.StoredOutcomes.{described, end_of, stored_outcomes, AreOutcomes}
+use Rattle.gf_tree.specs.inner.StoredOutcomes.{described, end_of}
 use Rattle.gf_tree.proofs.lemmas.stores.OutcomePlaces.{places_then}
 use Rattle.gf_tree.proofs.lemmas.stores.Stretching.{entry_behind, items_behind}
 

@@ -1,10 +1,9 @@
 -- Stretches of a list of items, if items or entries are appended.
 use Rattle.gf_tree.proofs.Common.{◌≡◌, ℕ, ◌≤◌, List, [], ◌∷◌, ◌++◌, length, map, take, drop, refl}
-use Rattle.gf_tree.proofs.Common.{sym, ap, ◌∙◌, arith, AllByRecursion}
-use Rattle.std.proofs.lemmas.List.{length-take-le, take-append-le, take-append-drop, drop-append-le}
-use Rattle.std.proofs.lemmas.List.{length-drop}
-use Rattle.std.specs.Prelude.{slice_range}
-use Rattle.gf_tree.specs.inner.Stretches.{AreStretches}
+use Rattle.gf_tree.proofs.Common.{sym, ap, ◌∙◌, arith, AllByRecursion, length-take-le}
+use Rattle.gf_tree.proofs.Common.{take-append-le, drop-append-le, length-drop, slice_range}
+use Rattle.gf_tree.proofs.Common.{AreStretches}
+use Rattle.std.proofs.lemmas.List.{take-append-drop}
 use Rattle.gf_tree.proofs.lemmas.games.Members.{all_more}
 
 same_part : {T : Type 0} (items more : List T) (i j : ℕ) → i ≤ j → j ≤ length items

@@ -3,13 +3,12 @@ use Rattle.gf_tree.proofs.Common.{◌≡◌, ℕ, zero, suc, ◌+◌, ◌<◌, �
 use Rattle.gf_tree.proofs.Common.{map, drop, get_or, slice_get, refl, sym, ap, ◌∙◌, append_assoc}
 use Rattle.gf_tree.proofs.Common.{arith, length-map, map-append, drop-map, Tree, Trees, count}
 use Rattle.gf_tree.proofs.Common.{branch, none, more, Entry, flatten, flatten_all, subtree_sizes}
-use Rattle.gf_tree.proofs.Common.{Begin, skipped}
-use Rattle.std.proofs.Common.{length-append, zero-add}
+use Rattle.gf_tree.proofs.Common.{Begin, skipped, zero-add, list_of, subtrees, subtrees_all}
+use Rattle.gf_tree.proofs.Common.{sizes_grown}
+use Rattle.std.proofs.Common.{length-append}
 use Rattle.std.proofs.Math.Seq.{drop-append_seam}
 use Rattle.std.proofs.lemmas.List.{append-nil}
 use Rattle.gf_tree.specs.GrowsAgain.{join}
-use Rattle.gf_tree.specs.Subtrees.{list_of, subtrees, subtrees_all}
-use Rattle.gf_tree.specs.inner.Skipped.{sizes_grown}
 
 abbrev size_of : {N : Type 0} → Tree N → ℕ
 size_of t = length (flatten t)

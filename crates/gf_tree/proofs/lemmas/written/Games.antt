@@ -7,16 +7,11 @@ use Rattle.gf_tree.proofs.Common.{Closing, Text, Bare, Entry, flatten, Action, S
 use Rattle.gf_tree.proofs.Common.{InformationSet, Outcome, same_set, IsSet, Use, FileNode, FileTree}
 use Rattle.gf_tree.proofs.Common.{Described, description_at, first_uses, Sentence, SpellsGame}
 use Rattle.gf_tree.proofs.Common.{IsSpellable, IsSpellableSet, IsSpellableOutcome, Game, IsGame}
-use Rattle.gf_tree.proofs.Common.{used_sets, used_outcomes, set_at}
-use Rattle.std.specs.Prelude.{decimal, nat_eq}
-use Rattle.std.specs.List.{flat_map}
-use Rattle.std.specs.Option.{option_to_list}
-use Rattle.gf_fraction.specs.NumberText.{number_text}
+use Rattle.gf_tree.proofs.Common.{used_sets, used_outcomes, set_at, decimal, nat_eq, flat_map}
+use Rattle.gf_tree.proofs.Common.{option_to_list, number_text, IsLabel, IsSpellableAction}
+use Rattle.gf_tree.proofs.Common.{outcome_at}
 use Rattle.gf_fraction.proofs.AllElements.{all_weaker, all_both, all_images}
-use Rattle.gf_token.specs.LabelSpelling.{IsLabel}
 use Rattle.gf_token.proofs.SpelledNumbers.{number_spelled, index_spelled}
-use Rattle.gf_tree.specs.Spellable.{IsSpellableAction}
-use Rattle.gf_tree.specs.Game.{outcome_at}
 use Rattle.gf_tree.proofs.lemmas.games.Uses.{Has, IsEquality, each, all_of_each, has_first}
 use Rattle.gf_tree.proofs.lemmas.games.Uses.{has_later, mapped_from}
 use Rattle.gf_tree.proofs.lemmas.games.FirstUses.{found, is_used}

@@ -5,16 +5,12 @@ use Rattle.gf_tree.proofs.Common.{codes, AllByRecursion, Ratio, IsFraction, Toke
 use Rattle.gf_tree.proofs.Common.{braced, IsPayoffInBraces, Action, SetKey, InformationSet, Outcome}
 use Rattle.gf_tree.proofs.Common.{IsSet, AreActions, Use, FileNode, IsDescription, IsAction}
 use Rattle.gf_tree.proofs.Common.{IsInformationSet, IsMover, IsStep, IsResult, IsNode}
-use Rattle.gf_tree.proofs.Common.{IsOutcomeDescription, IsSpellableSet, IsSpellableOutcome}
-use Rattle.std.specs.Prelude.{decimal}
-use Rattle.std.specs.List.{flat_map}
-use Rattle.std.specs.Option.{option_to_list}
+use Rattle.gf_tree.proofs.Common.{IsOutcomeDescription, IsSpellableSet, IsSpellableOutcome, decimal}
+use Rattle.gf_tree.proofs.Common.{flat_map, option_to_list, number_text, written_is_read}
+use Rattle.gf_tree.proofs.Common.{IsSpellableAction}
 use Rattle.std.proofs.lemmas.List.{append-nil}
-use Rattle.gf_fraction.specs.NumberText.{number_text}
-use Rattle.gf_fraction.proofs.ReadingBack.{written_is_read}
 use Rattle.gf_token.proofs.Grammar.{each_group}
 use Rattle.gf_token.proofs.SpelledNumbers.{decimal_is_index}
-use Rattle.gf_tree.specs.Spellable.{IsSpellableAction}
 use Rattle.gf_tree.specs.Description as description
 
 -- ---- tokens

@@ -1,10 +1,10 @@
 -- Bytes that spell given tokens: one space follows each.
 use Rattle.gf_tree.proofs.Common.{◌≡◌, ℕ, ◌+◌, List, [], ◌∷◌, ◌++◌, length, map, refl, ap}
 use Rattle.gf_tree.proofs.Common.{append_assoc, arith, AllByRecursion, Token, Lexeme, Opening}
-use Rattle.gf_tree.proofs.Common.{Closing, Comma, Text, Bare, Broken, Spells}
-use Rattle.std.specs.List.{flat_map}
-use Rattle.gf_token.specs.Token.{lexeme, spelling}
-use Rattle.gf_token.specs.TokenSpelling.{IsSpelled, MayPrecede, GoesOn}
+use Rattle.gf_tree.proofs.Common.{Closing, Comma, Text, Bare, Broken, Spells, flat_map, lexeme}
+use Rattle.gf_tree.proofs.Common.{IsSpelled}
+use Rattle.gf_token.specs.Token.{spelling}
+use Rattle.gf_token.specs.TokenSpelling.{MayPrecede, GoesOn}
 use Rattle.gf_token.proofs.Spelled.{wider}
 
 -- a token that is spelled and not broken

@@ -1,4 +1,4 @@
-use Rattle.std.proofs.Common.{rules}
+use Rattle.gf_tree.proofs.Common.{rules}
 use Rattle.gf_tree.proofs.lemmas.games.TreesOnce.{spells_one_game}
 use Rattle.gf_tree.proofs.lemmas.reader.Steps.{refused_only, refused_why}
 use Rattle.gf_tree.proofs.lemmas.reader.ToldGames.{refused_as_judged, refused_for_memory}

@@ -1,4 +1,4 @@
-use Rattle.std.proofs.Common.{◌∙◌}
+use Rattle.gf_tree.proofs.Common.{◌∙◌}
 use Rattle.gf_tree.proofs.read.read_efg.Goals as goal
 
 pub returns-in-Ok-clause-only : goal.returns-in-Ok-clause-only

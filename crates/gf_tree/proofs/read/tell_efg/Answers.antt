@@ -1,4 +1,4 @@
-use Rattle.std.proofs.Common.{rules}
+use Rattle.gf_tree.proofs.Common.{rules}
 use Rattle.gf_tree.proofs.lemmas.reader.Steps.{refused_why}
 use Rattle.gf_tree.proofs.lemmas.reader.ToldGames.{refused_as_judged, refused_for_memory, told_game}
 use Rattle.gf_tree.proofs.read.tell_efg.Goals as goal

@@ -1,5 +1,4 @@
-use Rattle.std.proofs.Common.{ap, arith, length}
-use Rattle.gf_tree.specs.Game.{Game}
+use Rattle.gf_tree.proofs.Common.{ap, arith, length, Game}
 use Rattle.gf_tree.proofs.lemmas.stores.NodeParts.{are_actions, no_actions, set_below}
 use Rattle.gf_tree.proofs.game.Game.actions.Goals as goal
 

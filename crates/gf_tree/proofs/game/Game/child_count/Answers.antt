@@ -1,6 +1,4 @@
-use Rattle.std.proofs.Common.{◌∙◌, ap, arith, length, sym}
-use Rattle.gf_tree.specs.Game.{Game}
-use Rattle.gf_tree.specs.KeptNodes.{child_count}
+use Rattle.gf_tree.proofs.Common.{◌∙◌, ap, arith, length, sym, Game, child_count}
 use Rattle.gf_tree.proofs.game.Game.child_count.Goals as goal
 
 pub child_count-requires : goal.child_count-requires

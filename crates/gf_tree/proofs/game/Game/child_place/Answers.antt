@@ -1,9 +1,5 @@
-use Rattle.std.proofs.Common.{◌+◌, ◌∙◌, List, ap, drop, slice_get}
-use Rattle.gf_tree.specs.KeptNodes.{sizes_of}
-use Rattle.gf_tree.specs.inner.Skipped.{skipped}
-use Rattle.gf_tree.specs.Subtrees.{subtrees}
-use Rattle.gf_tree.specs.Game.{Game}
-use Rattle.gf_tree.specs.declared.game.kept.Stored.{Stored}
+use Rattle.gf_tree.proofs.Common.{◌+◌, ◌∙◌, List, ap, drop, slice_get, sizes_of, skipped, subtrees}
+use Rattle.gf_tree.proofs.Common.{Game, Stored}
 use Rattle.gf_tree.proofs.lemmas.stores.GameNodes.{child_there}
 use Rattle.gf_tree.proofs.game.Game.child_place.Goals as goal
 

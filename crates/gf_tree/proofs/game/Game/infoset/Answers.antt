@@ -1,6 +1,4 @@
-use Rattle.std.proofs.Common.{◌∙◌, ap, sym, slice_get}
-use Rattle.gf_tree.specs.Description.{same_set, set_of}
-use Rattle.gf_tree.specs.Game.{Game, set_at}
+use Rattle.gf_tree.proofs.Common.{◌∙◌, ap, sym, slice_get, same_set, set_of, Game, set_at}
 use Rattle.gf_tree.proofs.lemmas.stores.FoundKeys.{described_at, not_described, set_in_parts}
 use Rattle.gf_tree.proofs.lemmas.games.TreesOnce.{same_set_equality}
 use Rattle.gf_tree.proofs.game.Game.infoset.Goals as goal

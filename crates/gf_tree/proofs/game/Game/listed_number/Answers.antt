@@ -1,6 +1,4 @@
-use Rattle.std.proofs.Common.{ℕ, ap, arith, map, Vec, Global}
-use Rattle.std.proofs.lemmas.List.{length-map}
-use Rattle.gf_tree.specs.Game.{Game, IsGame}
+use Rattle.gf_tree.proofs.Common.{ℕ, ap, arith, map, Vec, Global, length-map, Game, IsGame}
 use Rattle.gf_tree.proofs.lemmas.games.Made.{its_game}
 use Rattle.gf_tree.proofs.lemmas.stores.RenumberedStores.{IsFound, found_in, own_items}
 use Rattle.gf_tree.proofs.game.Game.listed_number.Goals as goal

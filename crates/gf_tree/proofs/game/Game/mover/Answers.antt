@@ -1,5 +1,4 @@
-use Rattle.std.proofs.Common.{ap, arith, length}
-use Rattle.gf_tree.specs.Game.{Game}
+use Rattle.gf_tree.proofs.Common.{ap, arith, length, Game}
 use Rattle.gf_tree.proofs.lemmas.stores.NodeParts.{is_mover, no_set, set_below}
 use Rattle.gf_tree.proofs.game.Game.mover.Goals as goal
 

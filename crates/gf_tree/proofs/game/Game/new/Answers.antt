@@ -1,4 +1,4 @@
-use Rattle.gf_tree.specs.KeptNodes.{tree_with}
+use Rattle.gf_tree.proofs.Common.{tree_with}
 use Rattle.gf_tree.proofs.lemmas.stores.GameNodes.{made_held, shaped}
 use Rattle.gf_tree.proofs.game.Game.new.Goals as goal
 

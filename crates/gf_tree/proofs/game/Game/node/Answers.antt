@@ -1,9 +1,5 @@
-use Rattle.std.proofs.Common.{ℕ, ◌<◌, ◌∙◌, ap, arith, length, map, option_map, sym}
-use Rattle.gf_token.specs.Label.{label_of}
-use Rattle.gf_token.specs.Positions.{at_position}
-use Rattle.gf_tree.specs.Description.{Outcome, IsOutcome}
-use Rattle.gf_tree.specs.FiniteMap.{Described}
-use Rattle.gf_tree.specs.Game.{Game}
+use Rattle.gf_tree.proofs.Common.{ℕ, ◌<◌, ◌∙◌, ap, arith, length, map, option_map, sym, label_of}
+use Rattle.gf_tree.proofs.Common.{at_position, Outcome, IsOutcome, Described, Game}
 use Rattle.gf_tree.proofs.lemmas.games.Uses.{all_of_each, each}
 use Rattle.gf_tree.proofs.game.Game.node.Goals as goal
 

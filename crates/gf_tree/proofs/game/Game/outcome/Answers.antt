@@ -1,7 +1,4 @@
-use Rattle.std.proofs.Common.{◌∙◌, ap, sym, slice_get}
-use Rattle.std.specs.Prelude.{nat_eq}
-use Rattle.std.proofs.lemmas.Bool.Decides.{Decides-eqb}
-use Rattle.gf_tree.specs.Game.{Game, outcome_at}
+use Rattle.gf_tree.proofs.Common.{◌∙◌, ap, sym, slice_get, nat_eq, Decides-eqb, Game, outcome_at}
 use Rattle.gf_tree.proofs.lemmas.stores.FoundKeys.{described_at, not_described, outcome_in_parts}
 use Rattle.gf_tree.proofs.game.Game.outcome.Goals as goal
 

@@ -1,5 +1,4 @@
-use Rattle.std.proofs.Common.{ap}
-use Rattle.gf_tree.specs.Game.{Game}
+use Rattle.gf_tree.proofs.Common.{ap, Game}
 use Rattle.gf_tree.proofs.lemmas.stores.GameNodes.{IsTreeOf, sizes_beside}
 use Rattle.gf_tree.proofs.lemmas.stores.NodeParts.{begin_here}
 use Rattle.gf_tree.proofs.game.Game.place_behind.Goals as goal

@@ -1,6 +1,4 @@
-use Rattle.std.proofs.Common.{ap, arith, get_or, length}
-use Rattle.std.proofs.lemmas.Option.{slice_get-get_or}
-use Rattle.gf_tree.specs.Game.{Game}
+use Rattle.gf_tree.proofs.Common.{ap, arith, get_or, length, slice_get-get_or, Game}
 use Rattle.gf_tree.proofs.lemmas.games.Made.{its_game, listed_outcomes_counted}
 use Rattle.gf_tree.proofs.lemmas.stores.RenumberedStores.{outcome_absent, outcome_added}
 use Rattle.gf_tree.proofs.game.Game.renumbered_outcomes.Goals as goal

@@ -1,7 +1,5 @@
-use Rattle.std.proofs.Common.{◌≡◌, ◌<◌, ◌^◌, [], take}
-use Rattle.std.specs.List.{AllByRecursion}
-use Rattle.gf_tree.specs.Listed.{listed_numbers}
-use Rattle.gf_tree.specs.Renumbering.{renumbered}
+use Rattle.gf_tree.proofs.Common.{◌≡◌, ◌<◌, ◌^◌, [], take, AllByRecursion, listed_numbers}
+use Rattle.gf_tree.proofs.Common.{renumbered}
 use Rattle.gf_tree.proofs.game.Game.renumbered_outcomes.Given as goal
 
 abbrev pub invariant-loop-place : goal.invariant-loop-place

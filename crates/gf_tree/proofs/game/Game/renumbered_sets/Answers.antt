@@ -1,5 +1,4 @@
-use Rattle.std.proofs.Common.{ap, arith, length, map}
-use Rattle.gf_tree.specs.Game.{Game}
+use Rattle.gf_tree.proofs.Common.{ap, arith, length, map, Game}
 use Rattle.gf_tree.proofs.lemmas.games.Made.{its_game}
 use Rattle.gf_tree.proofs.lemmas.stores.RenumberedStores.{set_absent, set_added}
 use Rattle.gf_tree.proofs.game.Game.renumbered_sets.Goals as goal

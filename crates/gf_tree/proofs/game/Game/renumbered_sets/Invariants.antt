@@ -1,7 +1,5 @@
-use Rattle.std.proofs.Common.{◌≡◌, ◌<◌, ◌^◌, [], map, take}
-use Rattle.std.specs.List.{AllByRecursion}
-use Rattle.gf_tree.specs.Listed.{listed_numbers}
-use Rattle.gf_tree.specs.Renumbering.{renumbered}
+use Rattle.gf_tree.proofs.Common.{◌≡◌, ◌<◌, ◌^◌, [], map, take, AllByRecursion, listed_numbers}
+use Rattle.gf_tree.proofs.Common.{renumbered}
 use Rattle.gf_tree.proofs.game.Game.renumbered_sets.Given as goal
 
 abbrev pub invariant-loop-place : goal.invariant-loop-place

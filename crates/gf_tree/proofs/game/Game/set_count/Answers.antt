@@ -1,8 +1,5 @@
-use Rattle.std.proofs.Common.{arith}
-use Rattle.std.specs.Prelude.{◌==◌}
+use Rattle.gf_tree.proofs.Common.{arith, ◌==◌, InformationSet, SetKey, Described}
 use Rattle.std.proofs.lemmas.List.Sums.{count_by-le-length, length-filter}
-use Rattle.gf_tree.specs.Description.{InformationSet, SetKey}
-use Rattle.gf_tree.specs.FiniteMap.{Described}
 use Rattle.gf_tree.proofs.game.Game.set_count.Goals as goal
 
 pub prove-unreachable-requires : goal.prove-unreachable-requires

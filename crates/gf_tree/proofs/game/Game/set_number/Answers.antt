@@ -1,10 +1,5 @@
-use Rattle.std.proofs.Common.{ℕ, List, ◌∙◌, ap, map, sym}
-use Rattle.gf_token.specs.Positions.{at_position}
-use Rattle.gf_tree.specs.Description.{SetKey, InformationSet}
-use Rattle.gf_tree.specs.FiniteMap.{Described}
-use Rattle.gf_tree.specs.FirstUse.{player_keys}
-use Rattle.gf_tree.specs.Game.{Game}
-use Rattle.gf_tree.specs.KnownSets.{known_of}
+use Rattle.gf_tree.proofs.Common.{ℕ, List, ◌∙◌, ap, map, sym, at_position, SetKey, InformationSet}
+use Rattle.gf_tree.proofs.Common.{Described, player_keys, Game, known_of}
 use Rattle.gf_tree.proofs.lemmas.games.Members.{map_twice}
 use Rattle.gf_tree.proofs.game.Game.set_number.Goals as goal
 

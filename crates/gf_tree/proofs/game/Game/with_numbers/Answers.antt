@@ -1,13 +1,7 @@
-use Rattle.std.proofs.Common.{◌≡◌, ℕ, ◌<◌, ◌^◌, ◌∙◌, ap, map, subst, sym}
-use Rattle.std.specs.List.{AllByRecursion}
-use Rattle.gf_token.specs.Label.{label_of}
-use Rattle.gf_tree.specs.Description.{SetKey, InformationSet, Outcome}
-use Rattle.gf_tree.specs.FiniteMap.{Described}
-use Rattle.gf_tree.specs.Game.{Game}
-use Rattle.gf_tree.specs.inner.GameParts.{game_with, parts_of}
-use Rattle.gf_tree.specs.KeptNodes.{kept_of}
-use Rattle.gf_tree.specs.Listed.{listed_numbers}
-use Rattle.gf_tree.specs.Renumbering.{IsRenumbering, renumbered}
+use Rattle.gf_tree.proofs.Common.{◌≡◌, ℕ, ◌<◌, ◌^◌, ◌∙◌, ap, map, subst, sym, AllByRecursion}
+use Rattle.gf_tree.proofs.Common.{label_of, SetKey, InformationSet, Outcome, Described, Game}
+use Rattle.gf_tree.proofs.Common.{game_with, kept_of, listed_numbers, IsRenumbering, renumbered}
+use Rattle.gf_tree.specs.inner.GameParts.{parts_of}
 use Rattle.gf_tree.proofs.lemmas.games.Made.{its_game, renumbered_held}
 use Rattle.gf_tree.proofs.lemmas.games.ListedNumbers.{listed_is_renumbering}
 use Rattle.gf_tree.proofs.lemmas.stores.RenumberedKept.{game_mapped, outcome_image, set_image}

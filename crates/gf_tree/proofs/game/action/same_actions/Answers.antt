@@ -1,5 +1,4 @@
-use Rattle.std.proofs.Common.{refl}
-use Rattle.gf_tree.specs.Actions.{action_of}
+use Rattle.gf_tree.proofs.Common.{refl, action_of}
 use Rattle.gf_tree.proofs.lemmas.stores.SameLists.{same_all, same_more, same_there}
 use Rattle.gf_tree.proofs.game.action.same_actions.Goals as goal
 

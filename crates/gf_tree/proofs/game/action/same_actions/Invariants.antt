@@ -1,5 +1,4 @@
-use Rattle.std.proofs.Common.{◌≡◌, take}
-use Rattle.gf_tree.specs.Actions.{actions_of}
+use Rattle.gf_tree.proofs.Common.{◌≡◌, take, actions_of}
 use Rattle.gf_tree.proofs.game.action.same_actions.Given as goal
 
 abbrev pub invariant-loop-at : goal.invariant-loop-at

@@ -1,10 +1,8 @@
-use Rattle.std.proofs.Common.{◌≡◌, ◌+◌, ◌-◌, ◌∙◌, ℕ, refl, arith, drop, get_or, map, ap, subst}
+use Rattle.gf_tree.proofs.Common.{◌≡◌, ◌+◌, ◌-◌, ◌∙◌, ℕ, refl, arith, drop, get_or, map, ap, subst}
+use Rattle.gf_tree.proofs.Common.{child_count, child_counts, kept_of, sizes_of, skipped}
+use Rattle.gf_tree.proofs.Common.{sizes_grown, Node, Stored}
 use Rattle.std.proofs.Math.ListN.{length-set}
 use Rattle.std.proofs.Math.Seq.{map-set_same}
-use Rattle.gf_tree.specs.KeptNodes.{child_count, child_counts, kept_of, sizes_of}
-use Rattle.gf_tree.specs.inner.Skipped.{skipped, sizes_grown}
-use Rattle.gf_tree.specs.Game.{Node}
-use Rattle.gf_tree.specs.declared.game.kept.Stored.{Stored}
 use Rattle.gf_tree.proofs.lemmas.stores.KeptSizes.{Filled, filled_all, filled_begin, filled_more}
 use Rattle.gf_tree.proofs.lemmas.stores.KeptSizes.{set_placed}
 use Rattle.gf_tree.proofs.game.kept.fill_sizes.Goals as goal

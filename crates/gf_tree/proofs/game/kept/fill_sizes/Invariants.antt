@@ -1,6 +1,5 @@
-use Rattle.std.proofs.Common.{◌≡◌, ◌≤◌, drop, length, map}
-use Rattle.gf_tree.specs.KeptNodes.{child_counts, kept_of, sizes_of}
-use Rattle.gf_tree.specs.inner.Skipped.{sizes_grown}
+use Rattle.gf_tree.proofs.Common.{◌≡◌, ◌≤◌, drop, length, map, child_counts, kept_of, sizes_of}
+use Rattle.gf_tree.proofs.Common.{sizes_grown}
 use Rattle.gf_tree.proofs.game.kept.fill_sizes.Given as goal
 
 abbrev pub invariant-loop-at : goal.invariant-loop-at

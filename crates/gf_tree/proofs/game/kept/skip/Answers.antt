@@ -1,4 +1,4 @@
-use Rattle.std.proofs.Common.{◌∙◌, arith}
+use Rattle.gf_tree.proofs.Common.{◌∙◌, arith}
 use Rattle.gf_tree.proofs.lemmas.stores.KeptSizes.{skips_node, at_node}
 use Rattle.gf_tree.proofs.game.kept.skip.Goals as goal
 

@@ -1,6 +1,4 @@
-use Rattle.std.proofs.Common.{◌≡◌, ◌+◌, ◌≤◌, drop, length}
-use Rattle.gf_tree.specs.KeptNodes.{sizes_of}
-use Rattle.gf_tree.specs.inner.Skipped.{Begin, skipped}
+use Rattle.gf_tree.proofs.Common.{◌≡◌, ◌+◌, ◌≤◌, drop, length, sizes_of, Begin, skipped}
 use Rattle.gf_tree.proofs.game.kept.skip.Given as goal
 
 abbrev pub invariant-loop-left : goal.invariant-loop-left

@@ -1,4 +1,4 @@
-use Rattle.std.proofs.Common.{◌≡◌, take}
+use Rattle.gf_tree.proofs.Common.{◌≡◌, take}
 use Rattle.gf_tree.proofs.game.renumbering.add_outcome.Given as goal
 
 abbrev pub invariant-loop-payoff : goal.invariant-loop-payoff

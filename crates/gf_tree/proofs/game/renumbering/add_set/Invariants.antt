@@ -1,5 +1,4 @@
-use Rattle.std.proofs.Common.{◌≡◌, map, take}
-use Rattle.gf_tree.specs.Actions.{action_of}
+use Rattle.gf_tree.proofs.Common.{◌≡◌, map, take, action_of}
 use Rattle.gf_tree.proofs.game.renumbering.add_set.Given as goal
 
 abbrev pub invariant-loop-action : goal.invariant-loop-action

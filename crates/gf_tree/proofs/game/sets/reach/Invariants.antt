@@ -1,5 +1,5 @@
-use Rattle.std.proofs.Common.{◌≡◌, ℕ, ◌+◌, ◌-◌, [], vec_len}
-use Rattle.std.specs.Prelude.{get_or}
+use Rattle.gf_tree.proofs.Common.{◌≡◌, ℕ, ◌+◌, ◌-◌, [], get_or}
+use Rattle.std.proofs.Common.{vec_len}
 use Rattle.gf_tree.proofs.game.sets.reach.Given as goal
 
 abbrev pub invariant-loop-players : goal.invariant-loop-players

@@ -1,7 +1,7 @@
+use Rattle.gf_tree.proofs.Common.{inl, inr}
 use Rattle.gf_tree.proofs.lemmas.due.Outcomes.{outcome_number_due, after_zero, new_outcome}
 use Rattle.gf_tree.proofs.lemmas.due.Outcomes.{known_outcome, outcome_opening}
 use Rattle.gf_tree.proofs.lemmas.fronts.Judged.{obeys}
-use Rattle.std.proofs.Common.{inl, inr}
 use Rattle.gf_tree.proofs.laws.rows.outcomes.Goals as goal
 
 pub returns-clause-outcome_number : goal.returns-clause-outcome_number

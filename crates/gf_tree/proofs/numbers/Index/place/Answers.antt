@@ -1,8 +1,4 @@
-use Rattle.std.proofs.Common.{ℕ, nat_eq, sym, ap, ◌∙◌}
-use Rattle.indexmap.specs.IndexMap.{IndexMap}
-use Rattle.gf_tree.specs.declared.numbers.seeded.Seeded.{Seeded}
-use Rattle.gf_tree.specs.inner.Numbers.{entries_of}
-use Rattle.std.specs.Map.{lookup}
+use Rattle.gf_tree.proofs.Common.{ℕ, nat_eq, sym, ap, ◌∙◌, IndexMap, Seeded, entries_of, lookup}
 use Rattle.gf_tree.proofs.lemmas.stores.SmallPlaces.{found_before, found_behind}
 use Rattle.gf_tree.proofs.numbers.Index.place.Goals as goal
 

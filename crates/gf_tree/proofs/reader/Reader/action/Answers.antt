@@ -1,5 +1,4 @@
-use Rattle.gf_tree.specs.Description.{set_with}
-use Rattle.gf_tree.specs.inner.ReaderState.{content_of}
+use Rattle.gf_tree.proofs.Common.{set_with, content_of}
 use Rattle.gf_tree.proofs.lemmas.reader.Steps.{labelled, wants_memory}
 use Rattle.gf_tree.proofs.reader.Reader.action.Goals as goal
 

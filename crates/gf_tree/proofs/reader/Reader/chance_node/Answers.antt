@@ -1,5 +1,4 @@
-use Rattle.std.proofs.Common.{rules}
-use Rattle.gf_token.specs.Label.{label_of}
+use Rattle.gf_tree.proofs.Common.{rules, label_of}
 use Rattle.gf_tree.proofs.lemmas.reader.Steps.{carried, fails_back}
 use Rattle.gf_tree.proofs.reader.Reader.chance_node.Goals as goal
 

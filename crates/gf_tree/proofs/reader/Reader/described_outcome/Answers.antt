@@ -1,8 +1,5 @@
-use Rattle.std.proofs.Common.{Some, refl, rules}
-use Rattle.gf_token.specs.Label.{label_of}
-use Rattle.gf_tree.specs.inner.Machine.{with_node}
-use Rattle.gf_tree.specs.inner.Machine.Position.{KnownOutcomeName}
-use Rattle.gf_tree.specs.inner.ReaderState.{begun_with, content_of}
+use Rattle.gf_tree.proofs.Common.{Some, refl, rules, label_of, with_node, KnownOutcomeName}
+use Rattle.gf_tree.proofs.Common.{begun_with, content_of}
 use Rattle.gf_tree.proofs.lemmas.reader.Steps.{wants_memory}
 use Rattle.gf_tree.proofs.lemmas.reader.Telling.{grows_none, tells_again}
 use Rattle.gf_tree.proofs.reader.Reader.described_outcome.Goals as goal

@@ -1,5 +1,4 @@
-use Rattle.gf_tree.specs.Description.{set_of}
-use Rattle.gf_tree.specs.inner.ReaderState.{content_of}
+use Rattle.gf_tree.proofs.Common.{set_of, content_of}
 use Rattle.gf_tree.proofs.lemmas.reader.Steps.{set_known_again}
 use Rattle.gf_tree.proofs.reader.Reader.described_set.Goals as goal
 

@@ -1,10 +1,5 @@
-use Rattle.std.proofs.Common.{Some, ap, arith, refl, rules, sym}
-use Rattle.gf_token.specs.Label.{label_of}
-use Rattle.gf_tree.specs.Description.{outcome_with}
-use Rattle.gf_tree.specs.inner.Machine.{with_node, with_outcome}
-use Rattle.gf_tree.specs.inner.Machine.Position.{NodeDue}
-use Rattle.gf_tree.specs.inner.ReaderState.{begun_with, content_of}
-use Rattle.gf_tree.specs.declared.reader.Reader.{Reader}
+use Rattle.gf_tree.proofs.Common.{Some, ap, arith, refl, rules, sym, label_of, outcome_with}
+use Rattle.gf_tree.proofs.Common.{with_node, with_outcome, NodeDue, begun_with, content_of, Reader}
 use Rattle.gf_tree.proofs.lemmas.reader.Steps.{wants_memory}
 use Rattle.gf_tree.proofs.lemmas.reader.Telling.{grows_same, tells}
 use Rattle.gf_tree.proofs.reader.Reader.end_outcome.Goals as goal

@@ -1,8 +1,5 @@
-use Rattle.gf_token.specs.Label.{label_of}
-use Rattle.gf_tree.specs.inner.ReaderState.{content_of}
-use Rattle.gf_tree.specs.declared.reader.Reader.{Reader}
+use Rattle.gf_tree.proofs.Common.{label_of, content_of, Reader, ap, refl}
 use Rattle.gf_tree.proofs.lemmas.reader.Steps.{set_end, taken, wants_memory}
-use Rattle.std.proofs.Common.{ap, refl}
 use Rattle.gf_tree.proofs.reader.Reader.end_set.Goals as goal
 
 pub returns-in-Ok-clause-machine : goal.returns-in-Ok-clause-machine

@@ -1,4 +1,4 @@
-use Rattle.gf_token.specs.Label.{label_of}
+use Rattle.gf_tree.proofs.Common.{label_of}
 use Rattle.gf_tree.proofs.lemmas.reader.Steps.{kept_outcome_content, kept_outcome_grows}
 use Rattle.gf_tree.proofs.lemmas.reader.Steps.{kept_outcome_key}
 use Rattle.gf_tree.proofs.reader.Reader.keep_outcome.Goals as goal

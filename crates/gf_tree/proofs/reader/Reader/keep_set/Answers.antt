@@ -1,5 +1,4 @@
-use Rattle.gf_token.specs.Label.{label_of}
-use Rattle.gf_tree.specs.Description.{set_of}
+use Rattle.gf_tree.proofs.Common.{label_of, set_of}
 use Rattle.gf_tree.proofs.lemmas.reader.Steps.{kept_begun, kept_content, kept_grows}
 use Rattle.gf_tree.proofs.reader.Reader.keep_set.Goals as goal
 

@@ -1,8 +1,5 @@
-use Rattle.std.proofs.Common.{◌≡◌, ◌-◌, ◌∙◌, ℕ, suc, ap, arith, rules}
-use Rattle.gf_token.specs.Label.{label_of}
-use Rattle.gf_tree.specs.Description.{outcome_with}
-use Rattle.gf_tree.specs.inner.Machine.Position.{NewPayoff}
-use Rattle.gf_tree.specs.inner.ReaderState.{answer, begun_with}
+use Rattle.gf_tree.proofs.Common.{◌≡◌, ◌-◌, ◌∙◌, ℕ, suc, ap, arith, rules, label_of, outcome_with}
+use Rattle.gf_tree.proofs.Common.{NewPayoff, answer, begun_with}
 use Rattle.gf_tree.proofs.lemmas.reader.Steps.{carried, fails_back}
 use Rattle.gf_tree.proofs.reader.Reader.new_outcome.Goals as goal
 

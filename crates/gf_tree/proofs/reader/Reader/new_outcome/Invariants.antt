@@ -1,8 +1,6 @@
-use Rattle.std.proofs.Common.{◌≡◌}
-use Rattle.gf_token.specs.Label.{label_of}
-use Rattle.gf_tree.specs.Description.{outcome_with}
-use Rattle.gf_tree.specs.inner.Machine.Position.{NewOutcomeName, NewPayoff}
-use Rattle.gf_tree.specs.inner.ReaderState.{ReadsPayoff, answer, begun_with}
+use Rattle.gf_tree.proofs.Common.{◌≡◌, label_of, outcome_with, NewOutcomeName, NewPayoff, answer}
+use Rattle.gf_tree.proofs.Common.{begun_with}
+use Rattle.gf_tree.specs.inner.ReaderState.{ReadsPayoff}
 use Rattle.gf_tree.proofs.reader.Reader.new_outcome.Given as goal
 
 abbrev pub invariant-loop-left : goal.invariant-loop-left

@@ -1,9 +1,5 @@
-use Rattle.std.proofs.Common.{◌+◌, ◌∙◌, ap, sym, rules}
-use Rattle.gf_token.specs.Label.{label_of}
-use Rattle.gf_token.specs.Remaining.{Remaining}
-use Rattle.gf_tree.specs.Description.{set_of, set_with}
-use Rattle.gf_tree.specs.inner.Machine.Position.{NewAction, OutcomeNumber}
-use Rattle.gf_tree.specs.inner.ReaderState.{answer, begun_with}
+use Rattle.gf_tree.proofs.Common.{◌+◌, ◌∙◌, ap, sym, rules, label_of, Remaining, set_of, set_with}
+use Rattle.gf_tree.proofs.Common.{NewAction, OutcomeNumber, answer, begun_with}
 use Rattle.gf_tree.proofs.lemmas.reader.Steps.{goes_on, carried, fails_back}
 use Rattle.gf_tree.proofs.reader.Reader.new_set.Goals as goal
 

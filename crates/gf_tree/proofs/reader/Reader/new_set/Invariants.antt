@@ -1,9 +1,6 @@
-use Rattle.std.proofs.Common.{◌≡◌, length, ℕ, List}
-use Rattle.gf_fraction.specs.Ratio.{IsFraction}
-use Rattle.gf_token.specs.Label.{label_of}
-use Rattle.gf_tree.specs.Description.{set_of, set_with}
-use Rattle.gf_tree.specs.inner.ReaderState.{ReadsAction, answer}
-use Rattle.gf_tree.specs.inner.Machine.Position.{NewSetName, NewAction}
+use Rattle.gf_tree.proofs.Common.{◌≡◌, length, ℕ, List, IsFraction, label_of, set_of, set_with}
+use Rattle.gf_tree.proofs.Common.{answer, NewSetName, NewAction}
+use Rattle.gf_tree.specs.inner.ReaderState.{ReadsAction}
 use Rattle.gf_tree.proofs.reader.Reader.new_set.Given as goal
 
 abbrev pub invariant-loop-label : goal.invariant-loop-label

@@ -1,4 +1,4 @@
-use Rattle.gf_tree.specs.inner.ReaderState.{heading_read}
+use Rattle.gf_tree.proofs.Common.{heading_read}
 use Rattle.gf_tree.proofs.lemmas.reader.Telling.{read_one_more}
 use Rattle.gf_tree.proofs.reader.Reader.nodes.Goals as goal
 

@@ -1,6 +1,5 @@
-use Rattle.std.proofs.Common.{[], length}
-use Rattle.gf_tree.specs.inner.Machine.Position.{NodeDue}
-use Rattle.gf_tree.specs.inner.ReaderState.{answer, HasRead, HasRoom, heading_read}
+use Rattle.gf_tree.proofs.Common.{[], length, NodeDue, answer, HasRead, heading_read}
+use Rattle.gf_tree.specs.inner.ReaderState.{HasRoom}
 use Rattle.gf_tree.proofs.reader.Reader.nodes.Given as goal
 
 abbrev pub invariant-loop-self : goal.invariant-loop-self

@@ -1,10 +1,6 @@
-use Rattle.std.proofs.Common.{◌≡◌, ap, arith, false, Some, None, refl, rules}
-use Rattle.gf_token.specs.Label.{label_of}
-use Rattle.gf_token.specs.Next.{is_quoted, starts}
-use Rattle.gf_tree.specs.declared.reader.Reader.{Reader}
-use Rattle.gf_tree.specs.inner.Machine.{with_node}
-use Rattle.gf_tree.specs.inner.Machine.Position.{KnownOutcomeName, NodeDue}
-use Rattle.gf_tree.specs.inner.ReaderState.{begun_with, content_of}
+use Rattle.gf_tree.proofs.Common.{◌≡◌, ap, arith, false, Some, None, refl, rules, label_of}
+use Rattle.gf_tree.proofs.Common.{is_quoted, starts, Reader, with_node, KnownOutcomeName, NodeDue}
+use Rattle.gf_tree.proofs.Common.{begun_with, content_of}
 use Rattle.gf_tree.proofs.lemmas.reader.Steps.{wants_memory}
 use Rattle.gf_tree.proofs.lemmas.stores.PassedBy.{outcome_passed_by}
 use Rattle.gf_tree.proofs.lemmas.reader.Telling.{grows_none, tells}

@@ -1,7 +1,4 @@
-use Rattle.std.proofs.Common.{◌++◌, [], ◌∷◌, rules}
-use Rattle.gf_tree.specs.Description.{outcome_with}
-use Rattle.gf_tree.specs.inner.Machine.Position.{AfterNewPayoff}
-use Rattle.gf_tree.specs.inner.ReaderState.{content_of}
+use Rattle.gf_tree.proofs.Common.{◌++◌, [], ◌∷◌, rules, outcome_with, AfterNewPayoff, content_of}
 use Rattle.gf_tree.proofs.lemmas.reader.Steps.{wants_memory}
 use Rattle.gf_tree.proofs.reader.Reader.payoff.Goals as goal
 

@@ -1,8 +1,4 @@
-use Rattle.std.proofs.Common.{rules}
-use Rattle.gf_token.specs.Label.{label_of}
-use Rattle.gf_tree.specs.inner.Machine.{with_player}
-use Rattle.gf_tree.specs.inner.Machine.Position.{InPlayers}
-use Rattle.gf_tree.specs.inner.ReaderState.{content_of}
+use Rattle.gf_tree.proofs.Common.{rules, label_of, with_player, InPlayers, content_of}
 use Rattle.gf_tree.proofs.lemmas.reader.Steps.{wants_memory}
 use Rattle.gf_tree.proofs.reader.Reader.players.Goals as goal
 

@@ -1,6 +1,4 @@
-use Rattle.std.proofs.Common.{◌≡◌, ◌≤◌, length}
-use Rattle.gf_tree.specs.inner.Machine.Position.{BeforePlayers, InPlayers}
-use Rattle.gf_tree.specs.inner.ReaderState.{answer}
+use Rattle.gf_tree.proofs.Common.{◌≡◌, ◌≤◌, length, BeforePlayers, InPlayers, answer}
 use Rattle.gf_tree.proofs.reader.Reader.players.Given as goal
 
 abbrev pub invariant-loop-player : goal.invariant-loop-player

@@ -1,9 +1,5 @@
-use Rattle.std.proofs.Common.{Some, rules}
-use Rattle.gf_token.specs.Label.{label_of}
-use Rattle.gf_tree.specs.Description.{set_of, set_with}
-use Rattle.gf_tree.specs.inner.ReaderState.{content_of}
-use Rattle.gf_tree.specs.inner.Machine.{with_action}
-use Rattle.gf_tree.specs.inner.Machine.Position.{NewAction}
+use Rattle.gf_tree.proofs.Common.{Some, rules, label_of, set_of, set_with, content_of, with_action}
+use Rattle.gf_tree.proofs.Common.{NewAction}
 use Rattle.gf_tree.proofs.lemmas.reader.Steps.{wants_memory}
 use Rattle.gf_tree.proofs.reader.Reader.probability.Goals as goal
 

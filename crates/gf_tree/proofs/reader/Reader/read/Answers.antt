@@ -1,7 +1,4 @@
-use Rattle.std.proofs.Common.{◌∙◌, ap, rules}
-use Rattle.gf_tree.specs.inner.KnownOutcomes.{KnownOutcomes}
-use Rattle.gf_tree.specs.inner.Machine.{Content}
-use Rattle.gf_tree.specs.KnownSets.{KnownSets}
+use Rattle.gf_tree.proofs.Common.{◌∙◌, ap, rules, KnownOutcomes, Content, KnownSets}
 use Rattle.gf_tree.proofs.lemmas.reader.Steps.{carried, fails_back, heard_begun}
 use Rattle.gf_tree.proofs.lemmas.reader.ToldGames.{read_whole}
 use Rattle.gf_tree.proofs.reader.Reader.read.Goals as goal

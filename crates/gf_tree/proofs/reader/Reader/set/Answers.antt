@@ -1,7 +1,5 @@
-use Rattle.std.proofs.Common.{◌∙◌, ap, rules}
+use Rattle.gf_tree.proofs.Common.{◌∙◌, ap, rules, set_of, content_of}
 use Rattle.gf_token.specs.Indices.{positive}
-use Rattle.gf_tree.specs.Description.{set_of}
-use Rattle.gf_tree.specs.inner.ReaderState.{content_of}
 use Rattle.gf_tree.proofs.lemmas.stores.PassedBy.{set_passed_by}
 use Rattle.gf_tree.proofs.lemmas.reader.Steps.{set_again, set_known_again, taken}
 use Rattle.gf_tree.proofs.reader.Reader.set.Goals as goal

@@ -1,7 +1,5 @@
-use Rattle.std.proofs.Common.{◌≡◌, ◌+◌, ◌-◌, ℕ, ap, arith, refl, rules}
-use Rattle.gf_token.specs.Label.{label_of}
-use Rattle.gf_tree.specs.KeptNodes.{child_count}
-use Rattle.gf_tree.specs.inner.ReaderState.{content_of}
+use Rattle.gf_tree.proofs.Common.{◌≡◌, ◌+◌, ◌-◌, ℕ, ap, arith, refl, rules, label_of, child_count}
+use Rattle.gf_tree.proofs.Common.{content_of}
 use Rattle.gf_tree.proofs.lemmas.reader.Telling.{told_goes}
 use Rattle.gf_tree.proofs.reader.Reader.tell.Goals as goal
 

@@ -1,6 +1,4 @@
-use Rattle.std.proofs.Common.{refl}
-use Rattle.gf_tree.specs.inner.Machine.Position.{NodeDue}
-use Rattle.gf_tree.specs.inner.ReaderState.{content_of}
+use Rattle.gf_tree.proofs.Common.{refl, NodeDue, content_of}
 use Rattle.gf_tree.proofs.lemmas.reader.Steps.{wants_memory}
 use Rattle.gf_tree.proofs.reader.Reader.tell_heading.Goals as goal
 

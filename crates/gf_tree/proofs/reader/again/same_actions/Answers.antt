@@ -1,9 +1,6 @@
-use Rattle.std.proofs.Common.{◌∙◌, ◌+◌, ◌∷◌, ap, sym, drop, rules}
-use Rattle.std.proofs.lemmas.List.{at_drop_more}
-use Rattle.gf_tree.specs.Actions.{action_of, actions_of}
+use Rattle.gf_tree.proofs.Common.{◌∙◌, ◌+◌, ◌∷◌, ap, sym, drop, rules, at_drop_more, action_of}
+use Rattle.gf_tree.proofs.Common.{actions_of, KnownAction, heard}
 use Rattle.gf_tree.specs.declared.game.action.Action.{Action}
-use Rattle.gf_tree.specs.inner.Machine.Position.{KnownAction}
-use Rattle.gf_tree.specs.inner.ReaderState.{heard}
 use Rattle.gf_tree.proofs.lemmas.reader.Steps.{carried, goes_back}
 use Rattle.gf_tree.proofs.reader.again.same_actions.Goals as goal
 

@@ -1,8 +1,5 @@
-use Rattle.std.proofs.Common.{◌≡◌, ◌≤◌, length, drop}
-use Rattle.gf_tree.specs.Actions.{actions_of}
-use Rattle.gf_tree.specs.inner.ReaderState.{heard}
-use Rattle.gf_tree.specs.inner.Machine.{Begun, Content}
-use Rattle.gf_tree.specs.inner.Machine.Position.{KnownSetOpening, KnownAction}
+use Rattle.gf_tree.proofs.Common.{◌≡◌, ◌≤◌, length, drop, actions_of, heard, Begun, Content}
+use Rattle.gf_tree.proofs.Common.{KnownSetOpening, KnownAction}
 use Rattle.gf_tree.proofs.reader.again.same_actions.Given as goal
 
 abbrev pub invariant-loop-action : goal.invariant-loop-action

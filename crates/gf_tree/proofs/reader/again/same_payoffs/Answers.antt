@@ -1,9 +1,6 @@
-use Rattle.std.proofs.Common.{◌∙◌, ◌+◌, ◌∷◌, ap, sym, drop, rules}
-use Rattle.std.proofs.lemmas.List.{at_drop_all, at_drop_more}
-use Rattle.gf_fraction.specs.Ratio.{Ratio}
-use Rattle.gf_tree.specs.inner.Machine.Position.{KnownPayoff}
-use Rattle.gf_tree.specs.inner.ReaderState.{heard}
-use Rattle.gf_tree.specs.inner.ReaderState.Fails.{of_file}
+use Rattle.gf_tree.proofs.Common.{◌∙◌, ◌+◌, ◌∷◌, ap, sym, drop, rules, at_drop_more, Ratio}
+use Rattle.gf_tree.proofs.Common.{KnownPayoff, heard, of_file}
+use Rattle.std.proofs.lemmas.List.{at_drop_all}
 use Rattle.gf_tree.proofs.lemmas.reader.Steps.{carried, goes_back}
 use Rattle.gf_tree.proofs.reader.again.same_payoffs.Goals as goal
 

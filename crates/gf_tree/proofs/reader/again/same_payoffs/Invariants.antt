@@ -1,7 +1,5 @@
-use Rattle.std.proofs.Common.{◌≡◌, ◌≤◌, length, drop}
-use Rattle.gf_tree.specs.inner.Machine.{Content}
-use Rattle.gf_tree.specs.inner.ReaderState.{heard}
-use Rattle.gf_tree.specs.inner.Machine.Position.{KnownOutcomeOpening, KnownPayoff}
+use Rattle.gf_tree.proofs.Common.{◌≡◌, ◌≤◌, length, drop, Content, heard, KnownOutcomeOpening}
+use Rattle.gf_tree.proofs.Common.{KnownPayoff}
 use Rattle.gf_tree.proofs.reader.again.same_payoffs.Given as goal
 
 abbrev pub invariant-loop-payoff : goal.invariant-loop-payoff

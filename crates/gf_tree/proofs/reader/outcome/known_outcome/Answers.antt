@@ -1,6 +1,4 @@
-use Rattle.std.proofs.Common.{◌∙◌, sym}
-use Rattle.std.proofs.lemmas.Bool.Decides.{Decides-eqb}
-use Rattle.std.specs.Prelude.{nat_eq}
+use Rattle.gf_tree.proofs.Common.{◌∙◌, sym, Decides-eqb, nat_eq}
 use Rattle.gf_tree.proofs.lemmas.stores.FoundKeys.{not_described}
 use Rattle.gf_tree.proofs.lemmas.reader.Steps.{found_outcome}
 use Rattle.gf_tree.proofs.reader.outcome.known_outcome.Goals as goal

@@ -1,4 +1,4 @@
-use Rattle.gf_fraction.proofs.ComputedAnswers.{answer_is}
+use Rattle.gf_tree.proofs.Common.{answer_is}
 use Rattle.gf_tree.proofs.reader.readings.number.Goals as goal
 
 pub returns-clause-number : goal.returns-clause-number

@@ -1,7 +1,4 @@
-use Rattle.std.proofs.Common.{◌∙◌, sym}
-use Rattle.gf_token.specs.Label.{label_of}
-use Rattle.gf_tree.specs.Actions.{actions_of}
-use Rattle.gf_tree.specs.Description.{same_set, set_of}
+use Rattle.gf_tree.proofs.Common.{◌∙◌, sym, label_of, actions_of, same_set, set_of}
 use Rattle.gf_tree.proofs.lemmas.stores.FoundKeys.{not_described}
 use Rattle.gf_tree.proofs.lemmas.games.TreesOnce.{same_set_equality}
 use Rattle.gf_tree.proofs.lemmas.reader.Steps.{found_set, if_none}

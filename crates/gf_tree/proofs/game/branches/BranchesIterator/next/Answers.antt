@@ -1,4 +1,4 @@
-use Rattle.std.proofs.Common.{◌∙◌, arith, refl}
+use Rattle.gf_tree.proofs.Common.{◌∙◌, arith, refl}
 use Rattle.gf_tree.proofs.lemmas.stores.NodeParts.{next_child}
 use Rattle.gf_tree.proofs.game.branches.BranchesIterator.next.Goals as goal
 

@@ -1,7 +1,5 @@
-use Rattle.std.proofs.Common.{map}
+use Rattle.gf_tree.proofs.Common.{map, no_node, entries_with, kept_of}
 use Rattle.std.specs.Slice.Iter.{iter_rest}
-use Rattle.gf_tree.specs.GameCode.{no_node}
-use Rattle.gf_tree.specs.KeptNodes.{entries_with, kept_of}
 use Rattle.gf_tree.proofs.lemmas.stores.GameNodes.{flatten_grown}
 use Rattle.gf_tree.proofs.lemmas.reader.ToldNodes.{nodes_told}
 use Rattle.gf_tree.proofs.game.file_nodes.FileNodes.new.Goals as goal

@@ -1,6 +1,5 @@
-use Rattle.std.proofs.Common.{arith, map, length-drop}
-use Rattle.gf_tree.specs.PrefixOrder.{Entry, flatten}
-use Rattle.gf_tree.specs.Game.{Node}
+use Rattle.gf_tree.proofs.Common.{arith, map, Entry, flatten, Node}
+use Rattle.std.proofs.Common.{length-drop}
 use Rattle.gf_tree.proofs.lemmas.stores.GameNodes.{nodes_counted}
 use Rattle.gf_tree.proofs.game.nodes.NodesExactSizeIterator.len.Goals as goal
 

@@ -1,7 +1,4 @@
-use Rattle.std.proofs.Common.{arith, map, rules}
-use Rattle.std.proofs.Math.ListN.{drop_of_length-le}
-use Rattle.gf_tree.specs.PrefixOrder.{Entry, flatten}
-use Rattle.gf_tree.specs.Game.{Node}
+use Rattle.gf_tree.proofs.Common.{arith, map, rules, drop_of_length-le, Entry, flatten, Node}
 use Rattle.gf_tree.proofs.lemmas.stores.GameNodes.{next_node, nodes_counted}
 use Rattle.gf_tree.proofs.game.nodes.NodesIterator.next.Goals as goal
 

@@ -1,5 +1,4 @@
-use Rattle.std.proofs.Common.{List, ℕ, ap, ◌∙◌}
-use Rattle.gf_token.specs.Positions.{at_position}
+use Rattle.gf_tree.proofs.Common.{List, ℕ, ap, ◌∙◌, at_position}
 use Rattle.gf_tree.proofs.lemmas.stores.OutcomePlaces.{numbers}
 use Rattle.gf_tree.proofs.game.outcomes.Outcomes.at.Goals as goal
 

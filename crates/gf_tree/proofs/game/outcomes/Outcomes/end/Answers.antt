@@ -1,4 +1,4 @@
-use Rattle.std.proofs.Common.{refl, ◌∙◌, arith, rules}
+use Rattle.gf_tree.proofs.Common.{refl, ◌∙◌, arith, rules}
 use Rattle.gf_tree.specs.declared.game.outcomes.Entry.{Entry}
 use Rattle.gf_tree.proofs.lemmas.stores.OutcomePlaces.{found}
 use Rattle.gf_tree.proofs.lemmas.stores.StoredPayoffs.{outcomes_stored}

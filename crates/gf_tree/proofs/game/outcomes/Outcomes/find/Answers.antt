@@ -1,4 +1,4 @@
-use Rattle.std.proofs.Common.{◌∙◌}
+use Rattle.gf_tree.proofs.Common.{◌∙◌}
 use Rattle.gf_tree.proofs.lemmas.stores.OutcomePlaces.{found}
 use Rattle.gf_tree.proofs.game.outcomes.Outcomes.find.Goals as goal
 

@@ -1,4 +1,4 @@
-use Rattle.std.proofs.Common.{rules}
+use Rattle.gf_tree.proofs.Common.{rules}
 use Rattle.gf_tree.proofs.lemmas.stores.StoredPayoffs.{payoff_pushed}
 use Rattle.gf_tree.proofs.game.outcomes.Outcomes.push.Goals as goal
 

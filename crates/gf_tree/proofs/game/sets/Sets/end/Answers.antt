@@ -1,9 +1,8 @@
-use Rattle.std.proofs.Common.{List, arith, rules, subst}
+use Rattle.gf_tree.proofs.Common.{List, arith, rules, subst, HoldActions, end_of}
 use Rattle.gf_tree.proofs.lemmas.stores.SetCounts.{counts_then}
 use Rattle.gf_tree.proofs.lemmas.stores.SetsEnded.{absent, has_fewer, are_stored, view_then}
 use Rattle.gf_tree.specs.declared.game.action.Action.{Action as Held}
 use Rattle.gf_tree.specs.declared.game.sets.Entry.{Entry}
-use Rattle.gf_tree.specs.inner.StoredSets.{HoldActions, end_of}
 use Rattle.gf_tree.proofs.game.sets.Sets.end.Goals as goal
 
 pub add_number-requires-clause-absent : goal.add_number-requires-clause-absent

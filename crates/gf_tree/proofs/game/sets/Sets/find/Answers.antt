@@ -1,4 +1,4 @@
-use Rattle.std.proofs.Common.{[], sym, ◌∙◌}
+use Rattle.gf_tree.proofs.Common.{[], sym, ◌∙◌}
 use Rattle.gf_tree.proofs.lemmas.stores.SetPlaces.{found}
 use Rattle.gf_tree.proofs.game.sets.Sets.find.Goals as goal
 

@@ -1,5 +1,4 @@
-use Rattle.std.proofs.Common.{List, [], ℕ, sym, ap, ◌∙◌}
-use Rattle.gf_token.specs.Positions.{at_position}
+use Rattle.gf_tree.proofs.Common.{List, [], ℕ, sym, ap, ◌∙◌, at_position}
 use Rattle.gf_tree.proofs.lemmas.stores.Places.{none_at}
 use Rattle.gf_tree.proofs.lemmas.stores.SetPlaces.{numbers}
 use Rattle.gf_tree.proofs.game.sets.Sets.number.Goals as goal

@@ -1,4 +1,4 @@
-use Rattle.std.proofs.Common.{rules}
+use Rattle.gf_tree.proofs.Common.{rules}
 use Rattle.gf_tree.proofs.lemmas.stores.StoredActions.{action_pushed}
 use Rattle.gf_tree.proofs.game.sets.Sets.push.Goals as goal
 

@@ -1,5 +1,4 @@
-use Rattle.std.proofs.Common.{rules, ap, ◌∙◌, nat_eq}
-use Rattle.std.specs.Map.{lookup}
+use Rattle.gf_tree.proofs.Common.{rules, ap, ◌∙◌, nat_eq, lookup}
 use Rattle.gf_tree.proofs.lemmas.stores.SmallPlaces.{found_then}
 use Rattle.gf_tree.proofs.numbers.small_numbers.SmallNumbers.push.Goals as goal
 
