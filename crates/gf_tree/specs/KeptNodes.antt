@@ -1,5 +1,5 @@
 -- The nodes of a game as they are kept: one list in prefix order.
-use Rattle.std.specs.Prelude.{ℕ, suc, ◌≤◌, Option, Some, None, List, length, map, option_map}
+use Rattle.std.specs.Prelude.{ℕ, ◌≤◌, Option, Some, None, List, length, map, option_map}
 use Rattle.std.specs.List.{AllByRecursion}
 use Rattle.gf_token.specs.Label.{label_of}
 use Rattle.gf_token.specs.Positions.{at_position}

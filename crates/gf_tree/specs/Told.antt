@@ -1,6 +1,6 @@
 -- What is told of a game: its heading, and then its nodes one after another in prefix order.
-use Rattle.std.specs.Prelude.{ℕ, suc, ◌==◌, max, Bool, List, [], ◌∷◌, length, take, Some, None, Option}
-use Rattle.std.specs.Prelude.{option_map, if◌then◌else◌, map}
+use Rattle.std.specs.Prelude.{ℕ, suc, ◌==◌, max, Bool, List, [], ◌∷◌, length, take, Some, None}
+use Rattle.std.specs.Prelude.{Option, option_map, if◌then◌else◌, map}
 use Rattle.gf_token.specs.Label.{label_of}
 use Rattle.gf_token.specs.Positions.{at_position}
 use Rattle.gf_tree.specs.Description.{InformationSet, Outcome, SetKey, set_of}

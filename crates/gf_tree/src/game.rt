@@ -144,6 +144,7 @@ impl<'a> Game<'a> {
 
     /// The name of an outcome and its payoffs, one for each player. `None` if there is no such
     /// outcome, and for 0.
+    #[tactic(auto, using(crate::proofs::lemmas::stores::FoundKeys::outcomes_found))]
     pub fn outcome(&self, number: u32) -> Option<(Label<'a>, &[Fraction])>
         ensures { option_map (λ p. outcome_with (label_of p.0) p.1.now) result
             ≡ outcome_at self.now number }

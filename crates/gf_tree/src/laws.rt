@@ -48,6 +48,7 @@ ghost use Rattle.gf_tree.specs.GameOf.{IsGameOf, MeansGame, SpellsGame};
 
 /// A tree and its flat list in prefix order determine each other: the lists that fill one place are
 /// those of trees, no two trees have the same list, and a tree grows again from its list.
+#[tactic(auto, using(crate::proofs::lemmas::games::Prefix::one_tree_each))]
 pub fn one_tree_each<N>()
     ensures of_lists { (es : List (Entry N)) → Fills 1 es → (t : Tree N) × (flatten t ≡ es) }
     ensures of_trees { (t : Tree N) → Fills 1 (flatten t) }
@@ -78,6 +79,7 @@ pub fn read_or_refused()
 
 /// A consistent file tree has exactly one game, and the games are those that some consistent file
 /// tree has.
+#[tactic(auto, using(crate::proofs::lemmas::games::Files::one_game_each))]
 pub fn one_game_each()
     ensures of_trees { (f : FileTree) → IsConsistent f
         → (g : Game) × IsGameOf f g × ((h : Game) → IsGameOf f h → h ≡ g) }
@@ -86,11 +88,13 @@ pub fn one_game_each()
 
 /// Files mean exactly the games whose labels can be spelled, whose probabilities and payoffs are
 /// fractions, and whose numbers are indices.
+#[tactic(auto, using(crate::proofs::lemmas::written::Games::games_of_files))]
 pub fn games_of_files()
     ensures { (g : Game) → ((bytes : List ℕ) × SpellsGame bytes g) ↔ (IsGame g × IsSpellable g) }
 {}
 
 /// The keys in a game's tree are those that the file tree uses, in the same order.
+#[tactic(auto, using(crate::proofs::lemmas::games::Consistent::keys_in_order))]
 pub fn keys_in_order()
     ensures of_sets { (f : FileTree) (g : Game) → IsGameOf f g
         → used_sets g.tree ≡ map (λ u. u.key) (set_uses (flatten f.tree)) }
@@ -99,6 +103,7 @@ pub fn keys_in_order()
 {}
 
 /// A game has each player's sets, and its outcomes, in the order of their first use.
+#[tactic(auto, using(crate::proofs::lemmas::games::PlayerSets::sets_by_first_use))]
 pub fn keys_by_first_use()
     ensures sets { (g : Game) (player : ℕ) → IsGame g
         → player_keys g player ≡ first_uses same_set (sets_of player (used_sets g.tree)) }
@@ -120,6 +125,7 @@ pub fn new_numbers()
 /// Uses are consistent exactly if their descriptions can be learned one use after another, each
 /// judged once against what is known by then; what is known in the end is the finite map from the
 /// keys, in order of first use, to their descriptions.
+#[tactic(auto, using(crate::proofs::lemmas::games::Learning::learned_once))]
 pub fn learned_once<K, D>()
     ensures { (same : K → K → Bool) → ((a b : K) → Decides (same a b) (a ≡ b))
         → (uses : List (Use K D)) (end : List (Described K D)) → Learns same [] uses end

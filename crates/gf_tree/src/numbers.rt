@@ -71,6 +71,7 @@ impl Index {
 
     /// The place that a number has.
     #[inline(always)]
+    #[tactic(auto, using(crate::proofs::lemmas::stores::SmallPlaces::places_found))]
     fn place(&self, number: u32) -> Option<u32>
         ensures { result ≡ lookup (nat_eq number) (pairs_in self.now) }
     {

@@ -1,5 +1,6 @@
 -- A set or an outcome that is found among those that are known.
-use Rattle.std.specs.Prelude.{◌≡◌, ◌+◌, ◌<◌, ◌≤◌, ℕ, List, length, nat_eq, option_map, slice_get, Some}
+use Rattle.std.specs.Prelude.{◌≡◌, ◌+◌, ◌<◌, ◌≤◌, ℕ, List, length, nat_eq, option_map, Some}
+use Rattle.std.specs.Prelude.{slice_get}
 use Rattle.gf_token.specs.Positions.{at_position}
 use Rattle.gf_tree.specs.Description.{InformationSet, Outcome, SetKey, same_set}
 use Rattle.gf_tree.specs.FiniteMap.{Described, description_at}

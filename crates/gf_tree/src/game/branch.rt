@@ -30,6 +30,7 @@ impl<'g, 'a> Branch<'g, 'a> {
     ghost use Rattle.gf_tree.specs.OutcomePositions.{position_among};
 
     /// The whole tree of a game.
+    #[tactic(auto, using(crate::proofs::lemmas::stores::GameNodes::whole_game))]
     pub(crate) fn whole(game: &'g Game<'a>) -> Branch<'g, 'a>
         ensures game { game_of result ≡ game.entry.now }
         ensures tree { tree_of result ≡ game.entry.now.tree }

@@ -76,6 +76,7 @@ impl<'a> Outcomes<'a> {
 
     /// The place of an outcome.
     #[inline(always)]
+    #[tactic(auto, using(crate::proofs::lemmas::stores::OutcomePlaces::found))]
     pub(crate) fn find(&self, number: u32) -> Option<u32>
         ensures { result ≡ position (nat_eq number) (map (λ o. o.key) self.now.known) }
     {
@@ -120,6 +121,7 @@ impl<'a> Outcomes<'a> {
     }
 
     /// The number of the outcome at a position, from 1.
+    #[tactic(auto, using(crate::proofs::lemmas::stores::OutcomePlaces::numbers))]
     pub(crate) fn at(&self, i: usize) -> Option<u32>
         ensures { result ≡ at_position (map (λ o. o.key) self.now.known) i }
     {
@@ -134,6 +136,7 @@ impl<'a> Outcomes<'a> {
     }
 
     /// Adds a payoff to the description. After an `Err` nothing has changed.
+    #[tactic(auto, using(crate::proofs::lemmas::stores::StoredPayoffs::payoff_pushed))]
     pub(crate) fn push(&mut self, payoff: Fraction) -> Result<(), AllocError>
         ensures ok { OnOk result (self.new ≡ with_pending_payoff self.old payoff) }
         ensures err { OnErr result (self.new ≡ self.old) }

@@ -225,6 +225,7 @@ impl<'a> Sets<'a> {
 
     /// How many actions the set at a place has.
     #[inline(always)]
+    #[tactic(auto, using(crate::proofs::lemmas::stores::SetCounts::is_counted))]
     pub(crate) fn action_count(&self, place: u32) -> u32
         requires { place < length self.now.known }
         ensures { option_map (λ s. length s.description.actions) (slice_get self.now.known place)
@@ -235,6 +236,7 @@ impl<'a> Sets<'a> {
 
     /// The number of the set at a place, from 1, among the sets of its player.
     #[inline(always)]
+    #[tactic(auto, using(crate::proofs::lemmas::stores::SetNumbers::is_among))]
     pub(crate) fn first_use_number(&self, place: u32) -> u32
         requires { place < length self.now.known }
         ensures { number_among self.now.known place ≡ Some result }

@@ -26,6 +26,7 @@ use std::alloc::AllocError;
 
 /// The place of an outcome, if it is known.
 #[inline(always)]
+#[tactic(auto, using(crate::proofs::lemmas::reader::Steps::outcomes_known))]
 fn known_outcome(outcomes: &Outcomes<'_>, number: u32) -> Option<u32>
     ensures absent { IfNone result (position (nat_eq number) (map (λ o. o.key) outcomes.now.known)
         ≡ None) }

@@ -173,3 +173,5 @@ sets_in_order f g of = ap used_sets (sym of.kept.tree) ∙ used_sets_are f.tree
 pub outcomes_in_order : (f : FileTree) (g : Game) → IsGameOf f g
     → used_outcomes g.tree ≡ map (λ u. u.key) (outcome_uses (flatten f.tree))
 outcomes_in_order f g of = ap used_outcomes (sym of.kept.tree) ∙ used_outcomes_are f.tree
+
+pub ruleset keys_in_order = (sets_in_order, outcomes_in_order)

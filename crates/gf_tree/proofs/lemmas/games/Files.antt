@@ -208,3 +208,5 @@ are_games g =
 pub one_game_of : (f : FileTree) → IsConsistent f
     → (g : Game) × IsGameOf f g × ((h : Game) → IsGameOf f h → h ≡ g)
 one_game_of f ok = let g = some_game f ok in (g.0, g.1, λ h of. one_game f h g.0 ok of g.1)
+
+pub ruleset one_game_each = (one_game_of, are_games)

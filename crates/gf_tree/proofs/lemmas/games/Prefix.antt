@@ -77,3 +77,5 @@ mutual
 
 pub fills_one : {N : Type 0} (t : Tree N) → Fills 1 (flatten t)
 fills_one t = subst (Fills 1) (append-nil (flatten t)) (fills_tree t 0 [] tt)
+
+pub ruleset one_tree_each = (one_tree, fills_one, flatten_once, grows_again)

@@ -1,10 +1,10 @@
 -- The answer of the machine to the tokens of a file is what the file means: the one game that its
 -- bytes spell, or a refusal where one is due.
-use Rattle.gf_tree.proofs.Common.{◌≡◌, ℕ, List, [], ◌∷◌, ◌++◌, length, Ok, Err, refl, sym, ap}
+use Rattle.gf_tree.proofs.Common.{◌≡◌, ℕ, List, [], ◌∷◌, ◌++◌, length, Ok, Err, refl, ap}
 use Rattle.gf_tree.proofs.Common.{subst, ◌∙◌, Token, Lexeme, Spells, tokens_of, Fault, Span, Why}
 use Rattle.gf_tree.proofs.Common.{Game, IsGame, Node, Parts, SpellsGame, game_with, IsRefusal, Kept}
 use Rattle.gf_tree.proofs.Common.{entries_with, game_of, IsSpellable, Content, nothing, run, Format}
-use Rattle.gf_tree.proofs.Common.{Entry, Fills, heard, IsSpanOf, Memory, TooLong, UnknownOutcome}
+use Rattle.gf_tree.proofs.Common.{Entry, Fills, IsSpanOf, Memory, TooLong, UnknownOutcome}
 use Rattle.gf_tree.proofs.Common.{TooManyProfiles, same_tokens, IsJudged, HasPassed, IsReason}
 use Rattle.gf_tree.proofs.Common.{Fails, to_all, of_file}
 use Rattle.gf_tree.specs.inner.ReaderState.{HasPassedPlace}
@@ -14,7 +14,7 @@ use Rattle.gf_tree.proofs.lemmas.games.Spelled.{spelled_is_spellable}
 use Rattle.gf_tree.proofs.lemmas.runs.Games.{file_found}
 use Rattle.gf_tree.proofs.lemmas.runs.Passed.{accepted}
 use Rattle.gf_tree.proofs.lemmas.runs.Stops.{machine_spells, run_reads}
-use Rattle.gf_tree.proofs.lemmas.Once.{one_ok, ok_or_err}
+use Rattle.gf_tree.proofs.lemmas.Once.{ok_or_err}
 
 -- ---- what is read
 

@@ -23,7 +23,8 @@ use Rattle.gf_token.specs.declared.token.TextToken.{TextToken}
 use Rattle.gf_tree.specs.inner.AddsUp.{adds_up}
 use Rattle.gf_tree.specs.inner.FoundSet.{FoundOutcome, FoundSet}
 use Rattle.gf_tree.specs.inner.ReaderState.{with_text}
-use Rattle.gf_tree.proofs.lemmas.stores.FoundKeys.{described_at, found_from, set_in_parts}
+use Rattle.gf_tree.proofs.lemmas.stores.FoundKeys.{described_at, found_from, not_described}
+use Rattle.gf_tree.proofs.lemmas.stores.FoundKeys.{set_in_parts}
 use Rattle.gf_tree.proofs.lemmas.games.TreesOnce.{same_set_equality}
 use Rattle.gf_tree.proofs.lemmas.games.Uses.{IsEquality}
 use Rattle.gf_tree.specs.declared.game.action.Action as held
@@ -292,6 +293,8 @@ found_outcome known number place at = by (slice_get known place) refl
       key = cc (at_next known place, is, key_at nat_eq Decides-eqb number known place o at is);
       within = omega (arith, within);
     }
+
+pub ruleset outcomes_known = (not_described, found_outcome)
 
 -- ---- the whole file
 

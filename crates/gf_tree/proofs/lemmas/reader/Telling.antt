@@ -1,12 +1,12 @@
 -- What a reader has told of the nodes of a file, and that the machine goes on after it.
-use Rattle.gf_tree.proofs.Common.{◌≡◌, ◌<◌, ◌≤◌, ◌+◌, ◌-◌, ℕ, List, [], ◌∷◌, ◌++◌, length, max, map}
-use Rattle.gf_tree.proofs.Common.{Option, option_map, Result, Ok, Err, refl, sym, ap, subst, ◌∙◌}
+use Rattle.gf_tree.proofs.Common.{◌≡◌, ◌≤◌, ◌+◌, ◌-◌, ℕ, List, [], ◌∷◌, ◌++◌, length, max, map}
+use Rattle.gf_tree.proofs.Common.{option_map, Result, Ok, Err, refl, sym, ap, subst, ◌∙◌}
 use Rattle.gf_tree.proofs.Common.{append_assoc, append-nil, arith, length-append, at_position}
 use Rattle.gf_tree.proofs.Common.{Fault, InformationSet, Outcome, SetKey, Described, Node, AreAmong}
 use Rattle.gf_tree.proofs.Common.{IsAmong, Kept, entries_with, Entry, Position, with_node, NodeDue}
 use Rattle.gf_tree.proofs.Common.{heard, take-append-le, child_count, entry_with, ByFirstUse}
-use Rattle.gf_tree.proofs.Common.{Reader, Bool, Answer, Goes, Grows, HasRead, HasReadAll, answer}
-use Rattle.gf_tree.proofs.Common.{begun_with, behind, content_of, content_with, Heading, Told}
+use Rattle.gf_tree.proofs.Common.{Reader, Bool, Answer, Goes, Grows, HasRead, answer}
+use Rattle.gf_tree.proofs.Common.{begun_with, behind, content_of, Heading, Told}
 use Rattle.gf_tree.proofs.Common.{told_from, told_node, told_outcome, told_set}
 use Rattle.gf_tree.specs.inner.ReaderState.{GoesTelling, HasTold, Tells, TellsNode}
 use Rattle.gf_tree.specs.Told.{kept_as, used_outcomes_from, used_sets_from}
@@ -28,13 +28,15 @@ module _ (sets more_sets : List (Described SetKey InformationSet))
   outcome_stays p described h = grind (arith, at_before)
 
   node_stays : (used_sets used_outcomes : ℕ) (n : Kept) → IsAmong (length sets) (length outcomes) n
-      → told_node ByFirstUse (sets ++ more_sets) (outcomes ++ more_outcomes) used_sets used_outcomes n
+      → told_node ByFirstUse (sets ++ more_sets) (outcomes ++ more_outcomes) used_sets
+      used_outcomes n
       ≡ told_node ByFirstUse sets outcomes used_sets used_outcomes n
   node_stays used_sets used_outcomes n h = grind (arith, set_stays, outcome_stays)
 
   told_stays : (used_sets used_outcomes : ℕ) (ns : List Kept)
       → AreAmong (length sets) (length outcomes) ns
-      → told_from ByFirstUse (sets ++ more_sets) (outcomes ++ more_outcomes) used_sets used_outcomes ns
+      → told_from ByFirstUse (sets ++ more_sets) (outcomes ++ more_outcomes) used_sets
+      used_outcomes ns
       ≡ told_from ByFirstUse sets outcomes used_sets used_outcomes ns
   told_stays used_sets used_outcomes [] h = refl
   told_stays used_sets used_outcomes (n ∷ ns) h = λ i.
@@ -161,7 +163,8 @@ module _ {T : Type 0} (holds : T → T → Heading → List Told → Type 0) (un
 
       whole : told_from ByFirstUse new.sets.known new.outcomes.known 0 0 (nodes ++ h.node ∷ [])
           ≡ told_from ByFirstUse new.sets.known new.outcomes.known 0 0 nodes
-          ++ told_node ByFirstUse new.sets.known new.outcomes.known old.told_sets old.told_outcomes h.node ∷ []
+          ++ told_node ByFirstUse new.sets.known new.outcomes.known old.told_sets old.told_outcomes
+          h.node ∷ []
       whole = grind (arith, told_more)
 
   pub read_one_more : {start : Answer} {old new : Reader} {from to : T}
@@ -187,7 +190,8 @@ module _ {T : Type 0} (holds : T → T → Heading → List Told → Type 0) (un
 
 -- ---- nodes that are kept
 
-pub kept_told : (sets : List (Described SetKey InformationSet)) (outcomes : List (Described ℕ Outcome))
+pub kept_told : (sets : List (Described SetKey InformationSet))
+    (outcomes : List (Described ℕ Outcome))
     (used_sets used_outcomes : ℕ) (ns : List Kept)
     → map kept_as (told_from ByFirstUse sets outcomes used_sets used_outcomes ns) ≡ ns
 kept_told sets outcomes used_sets used_outcomes [] = refl

@@ -1,7 +1,7 @@
 -- What a receiver holds after the end of a file is the game that the file means.
 use Rattle.gf_tree.proofs.Common.{◌≡◌, ℕ, List, [], length, Ok, Err, refl, sym, subst, ◌∙◌}
-use Rattle.gf_tree.proofs.Common.{tokens_of, Lexeme, Spells, Fault, InformationSet, Outcome, SetKey}
-use Rattle.gf_tree.proofs.Common.{Described, Game, SpellsGame, game_of, Content, AreAmong, Kept}
+use Rattle.gf_tree.proofs.Common.{tokens_of, Lexeme, Fault, InformationSet, Outcome, SetKey}
+use Rattle.gf_tree.proofs.Common.{Described, Game, SpellsGame, game_of, AreAmong, Kept}
 use Rattle.gf_tree.proofs.Common.{game_with, NodeDue, IsJudged, ByFirstUse, Reader, Memory}
 use Rattle.gf_tree.proofs.Common.{IsListed, HasReadAll, answer, content_of, content_with}
 use Rattle.gf_tree.proofs.Common.{heading_read, to_all, Heading, Told, told_from}

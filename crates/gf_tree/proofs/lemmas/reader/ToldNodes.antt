@@ -3,7 +3,7 @@
 use Rattle.gf_tree.proofs.Common.{◌≡◌, ℕ, suc, ◌+◌, ◌≤◌, List, [], ◌∷◌, ◌++◌, length, map, take}
 use Rattle.gf_tree.proofs.Common.{max, Some, option_map, slice_get, refl, sym, ap, subst, ◌∙◌}
 use Rattle.gf_tree.proofs.Common.{arith, ◌==◌, filter, eq-eqb, length-map, map-append}
-use Rattle.gf_tree.proofs.Common.{slice_get-map, at_position, Lexeme, Spells, SetKey}
+use Rattle.gf_tree.proofs.Common.{slice_get-map, Lexeme, Spells, SetKey}
 use Rattle.gf_tree.proofs.Common.{InformationSet, Outcome, same_set, Game, IsGame, used_sets}
 use Rattle.gf_tree.proofs.Common.{known_of, flatten, Described, first_uses, sets_of, AreAmong, Kept}
 use Rattle.gf_tree.proofs.Common.{entries_with, game_of, Content, nothing, run, Format, Renumbering}

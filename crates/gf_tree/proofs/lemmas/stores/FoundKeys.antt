@@ -61,3 +61,5 @@ pub outcome_in_parts : {K : Type 0} (o : Option (Described K Outcome)) (name : L
     → option_map (λ s. s.description.payoffs) o ≡ Some payoffs
     → option_map (λ s. s.description) o ≡ Some (outcome_with name payoffs)
 outcome_in_parts o name payoffs h h2 = grind arith
+
+pub ruleset outcomes_found = (described_at, not_described, outcome_in_parts)

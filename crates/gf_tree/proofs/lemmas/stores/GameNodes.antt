@@ -232,3 +232,5 @@ some_subtree (branch n ts) = omega arith
 
 pub root_first : {N : Type 0} (t : Tree N) → subtree_at t 0 ≡ t
 root_first (branch n ts) = refl
+
+pub ruleset whole_game = (root_first, some_subtree)

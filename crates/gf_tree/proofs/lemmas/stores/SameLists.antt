@@ -38,3 +38,5 @@ module _ {A B : Type 0} (f : A → B) where
   pub same_all : (xs ys : List A) (k : ℕ) → length xs ≤ k → length xs ≡ length ys
       → take k (map f xs) ≡ take k (map f ys) → map f xs ≡ map f ys
   same_all xs ys k h n s = grind (arith, take_all, length-map)
+
+pub ruleset same_items = (same_all, same_more, same_there)

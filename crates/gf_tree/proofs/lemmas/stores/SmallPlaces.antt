@@ -50,3 +50,5 @@ module _ (pairs : List Placed) (before after : List ℕ) (new : Placed) (stored 
   pub found_then : AreFound stored (slice_set after new.number (new.place + 1))
   found_then =
       grind (arith, eqb-true, pairs_then, own, get_or-set_same, others, get_or-set_other, eqb-false)
+
+pub ruleset places_found = (found_before, found_behind)
