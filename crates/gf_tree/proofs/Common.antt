@@ -93,7 +93,6 @@ pub use Rattle.gf_tree.specs.Tree.Tree.{branch}
 pub use Rattle.gf_tree.specs.Tree.Trees.{more, none}
 pub use Rattle.gf_tree.specs.declared.game.kept.Stored.{Stored}
 pub use Rattle.gf_tree.specs.declared.game.numbered_node.Numbering.TheVariants.{ByFirstUse, OfFile}
-pub use Rattle.gf_tree.specs.declared.numbers.seeded.Seeded.{Seeded}
 pub use Rattle.gf_tree.specs.declared.reader.Reader.{Reader}
 pub use Rattle.gf_tree.specs.inner.GameParts.{AreNodes, IsHeld, IsListed, Parts, game_with}
 pub use Rattle.gf_tree.specs.inner.KnownOutcomes.{KnownOutcomes}
@@ -116,14 +115,12 @@ pub use Rattle.gf_tree.specs.inner.Machine.Position.{NewProbability, NewSetName,
 pub use Rattle.gf_tree.specs.inner.Machine.Position.{NodeDue, OutcomeNumber, PersonalName}
 pub use Rattle.gf_tree.specs.inner.Machine.Position.{PlayerNumber, SetNumber, TerminalName, Title}
 pub use Rattle.gf_tree.specs.inner.Machine.Position.{Version}
-pub use Rattle.gf_tree.specs.inner.Numbers.{entries_of}
 pub use Rattle.gf_tree.specs.inner.Passed.{HasPassed}
 pub use Rattle.gf_tree.specs.inner.Probability.{Share, same_ratio, share_by, share_of, up_to_one}
 pub use Rattle.gf_tree.specs.inner.ReadGame.{game_of, run_tokens, then_run}
-pub use Rattle.gf_tree.specs.inner.ReaderState.{Answer, Fails, Goes, Grows, HasRead, HasReadAll}
-pub use Rattle.gf_tree.specs.inner.ReaderState.{answer, begun_with, behind, content_of}
-pub use Rattle.gf_tree.specs.inner.ReaderState.{content_with, heading_read, heard, to_all}
-pub use Rattle.gf_tree.specs.inner.ReaderState.Fails.{of_file}
+pub use Rattle.gf_tree.specs.inner.ReaderState.{Answer, Fails, Goes, Grows, HasRead, answer}
+pub use Rattle.gf_tree.specs.inner.ReaderState.{begun_with, behind, content_of, heading_read, heard}
+pub use Rattle.gf_tree.specs.inner.ReaderState.{to_all}
 pub use Rattle.gf_tree.specs.inner.Skipped.{Begin, sizes_grown, skipped}
 pub use Rattle.gf_tree.specs.inner.StoredOutcomes.{AreOutcomes, stored_outcomes}
 pub use Rattle.gf_tree.specs.inner.StoredSets.{AreSets, HoldActions, described, end_of, places_from}

@@ -114,6 +114,7 @@ pub fn keys_by_first_use()
 /// A game by its new numbers is a game. First-use numbers are new numbers of its sets and outcomes,
 /// and so are positive numbers that are listed for them in order of first use, with none repeated
 /// in a list.
+#[tactic(auto, using(crate::proofs::lemmas::games::ListedNumbers::new_numbers))]
 pub fn new_numbers()
     ensures is_game { (g : Game) (r : Renumbering) → IsGame g → IsRenumbering g r
         → IsGame (renumbered r g) }
@@ -143,6 +144,7 @@ pub fn game_learned_once()
 /// in two spellings, and an outcome used twice; an outcome at an inner node; a player who forgets
 /// what he chose; and a comment, the letter `D`, a comma after the last payoff, and an outcome
 /// described twice.
+#[tactic(auto, using(crate::proofs::lemmas::games::Worked::five_is_meant))]
 pub fn worked_games()
     ensures five { SpellsGame five_file five }
     ensures five_uses { (used_sets five.tree

@@ -22,6 +22,7 @@ use std::alloc::Global;
 /// # Errors
 ///
 /// Those of `read_efg`.
+#[tactic(auto, using(crate::proofs::lemmas::reader::ToldGames::told))]
 pub fn list_efg<'a>(alloc: Global, input: &'a [u8]) -> Result<ListedGame<'a>, Fault>
     ensures spelled { IfOk result (λ g. SpellsGame input.entry.now g) }
     ensures only { (g : game) → SpellsGame input.entry.now g → IsReadAs result g }
@@ -57,6 +58,7 @@ pub fn read_efg<'a>(alloc: Global, input: &'a [u8]) -> Result<Game<'a>, Fault>
 ///
 /// Those of `read_efg`, also if the receiver is refused memory; the receiver has then been told a
 /// part of the file.
+#[tactic(auto, using(crate::proofs::lemmas::reader::ToldGames::told))]
 pub fn tell_efg<'a, R: Receive<'a>>(alloc: Global, input: &'a [u8], to: &mut R) -> Result<(), Fault>
     requires untold { R.untold to.old }
     ensures told { OnOk result ((g : game) × SpellsGame input.entry.now g

@@ -4,6 +4,7 @@ pub mod CutPlaces
 pub mod Cuts
 pub mod Groups
 pub mod Judged
+pub mod LawsOfRows
 pub mod Lists
 pub mod Nodes
 pub mod Payoffs

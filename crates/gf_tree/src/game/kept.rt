@@ -84,6 +84,7 @@ pub(crate) fn outcome_number(outcomes: &Outcomes<'_>, outcome: u32) -> u32
 }
 
 /// The place after this many subtrees, the first of which begins at `from`.
+#[tactic(auto, using(crate::proofs::lemmas::stores::KeptSizes::at_node))]
 pub(crate) fn skip(nodes: &[Stored<'_>], from: usize, count: usize) -> usize
     requires within { from ≤ length nodes.now }
     requires trees { Begin count (drop from (sizes_of nodes.now)) }
@@ -100,6 +101,7 @@ pub(crate) fn skip(nodes: &[Stored<'_>], from: usize, count: usize) -> usize
 }
 
 /// Fills in the sizes of subtrees, from the last node to the first.
+#[tactic(auto, using(crate::proofs::lemmas::stores::KeptSizes::sizes_filled))]
 fn fill_sizes(nodes: &mut [Stored<'_>], sets: &Sets<'_>)
     requires placed { (outcomes : ℕ)
         × AreAmong (length sets.now.known) outcomes (map kept_of nodes.old) }

@@ -40,6 +40,7 @@ impl<'g, 'a> Iterator for Nodes<'g, 'a> {
 
     ghost remaining = { item_count nodes_left };
 
+    #[tactic(auto, using(crate::proofs::lemmas::stores::GameNodes::nodes_next))]
     fn next(&mut self) -> Option<Node<'a>> {
         let game = self.game;
         if self.next_place >= game.len() {

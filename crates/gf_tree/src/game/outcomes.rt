@@ -149,6 +149,7 @@ impl<'a> Outcomes<'a> {
 
     /// Ends the description: it is that of this outcome, which was not known. Returns the outcome's
     /// place. After an `Err` nothing has changed.
+    #[tactic(auto, using(crate::proofs::lemmas::stores::OutcomePlaces::found))]
     pub(crate) fn end(
         &mut self,
         indexing: &mut Indexing<'_>,

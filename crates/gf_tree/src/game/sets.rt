@@ -172,6 +172,7 @@ impl<'a> Sets<'a> {
     }
 
     /// The place of a set.
+    #[tactic(auto, using(crate::proofs::lemmas::stores::SetPlaces::sets_of_player))]
     #[inline(always)]
     pub(crate) fn find(&self, player: u32, number: u32) -> Option<u32>
         ensures { result
@@ -245,6 +246,7 @@ impl<'a> Sets<'a> {
     }
 
     /// How many sets a player has.
+    #[tactic(auto, using(crate::proofs::lemmas::stores::SetPlaces::sets_of_player))]
     pub(crate) fn count(&self, player: u32) -> usize
         ensures { result ≡ length (known_of player self.now.known) }
     {
@@ -255,6 +257,7 @@ impl<'a> Sets<'a> {
     }
 
     /// The number of a player's set at a position, from 1.
+    #[tactic(auto, using(crate::proofs::lemmas::stores::SetPlaces::sets_of_player))]
     pub(crate) fn number(&self, player: u32, i: usize) -> Option<u32>
         ensures { result
             ≡ at_position (map (λ s. s.key.number) (known_of player self.now.known)) i }
@@ -297,6 +300,7 @@ impl<'a> Sets<'a> {
 
     /// Ends the description: it is that of this set, which was not known. Returns the set's place.
     /// After an `Err` nothing has changed.
+    #[tactic(auto, using(crate::proofs::lemmas::stores::SetsEnded::one_more_set))]
     pub(crate) fn end(
         &mut self,
         indexing: &mut Indexing<'_>,

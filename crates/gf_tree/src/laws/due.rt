@@ -12,6 +12,7 @@ ghost use Rattle.gf_tree.specs.Front.{IsExtensiveFile};
 /// index or a node is due, then some role names it, and exactly those bare tokens may follow that
 /// suit this role (`follow`). Conversely, if exactly those bare tokens may follow that suit a role,
 /// and there is at least one, then what the role names is due (`stand`).
+#[tactic(auto, using(crate::proofs::lemmas::due::ByShapes::follow))]
 pub fn due_by_what_follows()
     ensures follow { (before : List Token) (w : What) → Begins IsExtensiveFile before
         → IsToldByRole w → IsDue before w

@@ -30,6 +30,7 @@ pub fn some_row()
 
 /// In the heading: the format, the version, the letter and the title are due; then the players, in
 /// braces; then the comment or the first node; and after the comment, the first node.
+#[tactic(auto, using(crate::proofs::lemmas::fronts::LawsOfRows::heading_rows))]
 pub fn heading()
     ensures format { Obeys [] (a_word what.Format (codes "EFG")) }
     ensures version { Obeys (Bare (codes "EFG") ∷ []) (a_word what.Version (codes "2")) }
@@ -47,6 +48,7 @@ pub fn heading()
 
 /// At a node: after the last node of all the end is due, and after any other a node; then its name,
 /// and the number of the player who moves.
+#[tactic(auto, using(crate::proofs::lemmas::fronts::LawsOfRows::node_rows))]
 pub fn nodes()
     ensures after_node { (f : FileFront) → BehindNode f.front → ¬ (IsExtensiveFile f.before)
         → Obeys f.before (a_node (length f.players)) }
@@ -97,6 +99,7 @@ pub fn sets()
 
 /// In an outcome: its number is due; after number 0, what may follow the node; after another number
 /// its name, which if the outcome is known may be missing; and its payoffs in braces.
+#[tactic(auto, using(crate::proofs::lemmas::fronts::LawsOfRows::outcome_rows))]
 pub fn outcomes()
     ensures outcome_number { (f : FileFront) → BehindSet f.front → Obeys f.before an_outcome }
     ensures after_outcome_zero { (f : FileFront) → BehindZero f.front

@@ -36,6 +36,7 @@ struct KnownSet<'s, 'a> {
 }
 
 /// The set with this key, if it is known.
+#[tactic(auto, using(crate::proofs::lemmas::reader::Steps::sets_known))]
 #[inline(always)]
 fn described<'s, 'a>(sets: &'s Sets<'a>, player: u32, number: u32) -> Option<KnownSet<'s, 'a>>
     ensures absent { IfNone result (position (same_set (set_of player number))

@@ -3,14 +3,8 @@ use Rattle.std.specs.Fmt.{digits}
 use Rattle.gf_fraction.specs.Computed.{gcd_within, lowest_of, number_of, sum_of}
 use Rattle.gf_token.specs.Indices.{index_of}
 use Rattle.gf_token.specs.inner.Lexing.{lex}
-use Rattle.gf_tree.proofs.lemmas.games.Worked.{five_is_meant, meant}
+use Rattle.gf_tree.proofs.lemmas.games.Worked.{meant}
 use Rattle.gf_tree.proofs.laws.worked_games.Goals as goal
-
-pub returns-clause-five : goal.returns-clause-five
-returns-clause-five c = five_is_meant
-
-pub returns-clause-five_uses : goal.returns-clause-five_uses
-returns-clause-five_uses c = (refl, refl)
 
 pub returns-clause-bonus : goal.returns-clause-bonus
 unfolding lex digits index_of number_of sum_of lowest_of gcd_within

@@ -9,7 +9,7 @@ use Rattle.gf_tree.proofs.Common.{listed_numbers, number_listed}
 use Rattle.gf_tree.specs.Listed.{AreNumbers}
 use Rattle.gf_tree.proofs.lemmas.games.Carried.{in_keys}
 use Rattle.gf_tree.proofs.lemmas.games.PlayerSets.{sets_by_first_use}
-use Rattle.gf_tree.proofs.lemmas.games.Renumbered.{own_set}
+use Rattle.gf_tree.proofs.lemmas.games.Renumbered.{own_set, first_use_is_renumbering}
 use Rattle.gf_tree.proofs.lemmas.games.TreesOnce.{same_set_equality}
 use Rattle.gf_tree.proofs.lemmas.games.FirstUses.{AreDistinct, is_used}
 use Rattle.gf_tree.proofs.lemmas.games.Members.{has_at}
@@ -138,3 +138,5 @@ module _ (g : Game) (game : IsGame g) (sets : List (List ℕ)) (outcomes : List 
         (distinct outcomes listed.outcome_numbers) (own_outcome a (has (used_outcomes g.tree) a h))
         (own_outcome b (has (used_outcomes g.tree) b k)) e;
   }
+
+pub ruleset new_numbers = (first_use_is_renumbering, listed_is_renumbering)

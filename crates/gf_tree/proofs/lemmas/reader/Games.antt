@@ -1,14 +1,14 @@
 -- The answer of the machine to the tokens of a file is what the file means: the one game that its
 -- bytes spell, or a refusal where one is due.
-use Rattle.gf_tree.proofs.Common.{◌≡◌, ℕ, List, [], ◌∷◌, ◌++◌, length, Ok, Err, refl, ap}
-use Rattle.gf_tree.proofs.Common.{subst, ◌∙◌, Token, Lexeme, Spells, tokens_of, Fault, Span, Why}
-use Rattle.gf_tree.proofs.Common.{Game, IsGame, Node, Parts, SpellsGame, game_with, IsRefusal, Kept}
+use Rattle.gf_tree.proofs.Common.{◌≡◌, ℕ, List, [], ◌∷◌, ◌++◌, length, Ok, Err, refl, ap, subst}
+use Rattle.gf_tree.proofs.Common.{◌∙◌, Token, Lexeme, Spells, tokens_of, Fault, Span, Why, Game}
+use Rattle.gf_tree.proofs.Common.{IsGame, Node, Parts, SpellsGame, game_with, IsRefusal, Kept}
 use Rattle.gf_tree.proofs.Common.{entries_with, game_of, IsSpellable, Content, nothing, run, Format}
 use Rattle.gf_tree.proofs.Common.{Entry, Fills, IsSpanOf, Memory, TooLong, UnknownOutcome}
 use Rattle.gf_tree.proofs.Common.{TooManyProfiles, same_tokens, IsJudged, HasPassed, IsReason}
-use Rattle.gf_tree.proofs.Common.{Fails, to_all, of_file}
+use Rattle.gf_tree.proofs.Common.{Fails, to_all}
+use Rattle.gf_tree.specs.inner.ReaderState.Fails.{of_file, of_memory}
 use Rattle.gf_tree.specs.inner.ReaderState.{HasPassedPlace}
-use Rattle.gf_tree.specs.inner.ReaderState.Fails.{of_memory}
 use Rattle.gf_tree.proofs.lemmas.fronts.Judged.{refuses}
 use Rattle.gf_tree.proofs.lemmas.games.Spelled.{spelled_is_spellable}
 use Rattle.gf_tree.proofs.lemmas.runs.Games.{file_found}

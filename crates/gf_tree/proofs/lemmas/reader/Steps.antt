@@ -326,3 +326,5 @@ pub labelled : (t : Remaining) (label : TextToken) (c : Content) (node : List �
     → heard (NewAction node (set_of player n) set sum) c (with_text t label)
     ≡ heard (NewAction node (set_of player n) (with_action set (label_of label.label) None) sum) c t
 labelled t label c node player n set sum h = grind arith
+
+pub ruleset sets_known = (not_described, same_set_equality, if_none, found_set)

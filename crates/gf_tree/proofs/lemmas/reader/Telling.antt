@@ -5,9 +5,9 @@ use Rattle.gf_tree.proofs.Common.{append_assoc, append-nil, arith, length-append
 use Rattle.gf_tree.proofs.Common.{Fault, InformationSet, Outcome, SetKey, Described, Node, AreAmong}
 use Rattle.gf_tree.proofs.Common.{IsAmong, Kept, entries_with, Entry, Position, with_node, NodeDue}
 use Rattle.gf_tree.proofs.Common.{heard, take-append-le, child_count, entry_with, ByFirstUse}
-use Rattle.gf_tree.proofs.Common.{Reader, Bool, Answer, Goes, Grows, HasRead, answer}
-use Rattle.gf_tree.proofs.Common.{begun_with, behind, content_of, Heading, Told}
-use Rattle.gf_tree.proofs.Common.{told_from, told_node, told_outcome, told_set}
+use Rattle.gf_tree.proofs.Common.{Reader, Bool, Answer, Goes, Grows, HasRead, answer, begun_with}
+use Rattle.gf_tree.proofs.Common.{behind, content_of, Heading, Told, told_from, told_node}
+use Rattle.gf_tree.proofs.Common.{told_outcome, told_set}
 use Rattle.gf_tree.specs.inner.ReaderState.{GoesTelling, HasTold, Tells, TellsNode}
 use Rattle.gf_tree.specs.Told.{kept_as, used_outcomes_from, used_sets_from}
 use Rattle.gf_tree.proofs.lemmas.reader.Steps.{at_before, outcomes_grow, placed_among_more}

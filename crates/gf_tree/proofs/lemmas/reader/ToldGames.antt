@@ -1,12 +1,11 @@
 -- What a receiver holds after the end of a file is the game that the file means.
 use Rattle.gf_tree.proofs.Common.{◌≡◌, ℕ, List, [], length, Ok, Err, refl, sym, subst, ◌∙◌}
 use Rattle.gf_tree.proofs.Common.{tokens_of, Lexeme, Fault, InformationSet, Outcome, SetKey}
-use Rattle.gf_tree.proofs.Common.{Described, Game, SpellsGame, game_of, AreAmong, Kept}
-use Rattle.gf_tree.proofs.Common.{game_with, NodeDue, IsJudged, ByFirstUse, Reader, Memory}
-use Rattle.gf_tree.proofs.Common.{IsListed, HasReadAll, answer, content_of, content_with}
-use Rattle.gf_tree.proofs.Common.{heading_read, to_all, Heading, Told, told_from}
+use Rattle.gf_tree.proofs.Common.{Described, Game, SpellsGame, game_of, AreAmong, Kept, game_with}
+use Rattle.gf_tree.proofs.Common.{NodeDue, IsJudged, ByFirstUse, Reader, Memory, IsListed, answer}
+use Rattle.gf_tree.proofs.Common.{content_of, heading_read, to_all, Heading, Told, told_from}
+use Rattle.gf_tree.specs.inner.ReaderState.{HasReadAll, content_with, IsRead, KeepsNodes}
 use Rattle.gf_tree.specs.ToldGame.{HasToldGame}
-use Rattle.gf_tree.specs.inner.ReaderState.{IsRead, KeepsNodes}
 use Rattle.gf_tree.specs.Told.{heading_in}
 use Rattle.gf_tree.proofs.lemmas.reader.Games.{answer_judged, answer_only, read_parts, read_spells}
 use Rattle.gf_tree.proofs.lemmas.reader.Games.{IsWhole, whole}
@@ -16,6 +15,7 @@ use Rattle.gf_tree.proofs.lemmas.runs.Files.{nodes_found}
 use Rattle.gf_tree.proofs.lemmas.runs.Results.{AreOutcomes}
 use Rattle.gf_tree.proofs.lemmas.runs.Sets.{AreSets}
 use Rattle.gf_tree.proofs.lemmas.runs.Stops.{run_reads}
+use Rattle.gf_tree.proofs.lemmas.reader.Steps.{refused_why}
 
 -- ---- the heading
 
@@ -102,3 +102,5 @@ module _ (bytes : List ℕ) (r : Reader) (nodes : List Kept)
 
   pub listed_spelled : SpellsGame bytes (game_with (read_parts (content_with r nodes)) nodes)
   listed_spelled = is_whole.spelled
+
+pub ruleset told = (refused_as_judged, refused_for_memory, told_game, refused_why)

@@ -3,11 +3,11 @@
 use Rattle.gf_tree.proofs.Common.{◌≡◌, ℕ, suc, ◌+◌, ◌≤◌, List, [], ◌∷◌, ◌++◌, length, map, take}
 use Rattle.gf_tree.proofs.Common.{max, Some, option_map, slice_get, refl, sym, ap, subst, ◌∙◌}
 use Rattle.gf_tree.proofs.Common.{arith, ◌==◌, filter, eq-eqb, length-map, map-append}
-use Rattle.gf_tree.proofs.Common.{slice_get-map, Lexeme, Spells, SetKey}
-use Rattle.gf_tree.proofs.Common.{InformationSet, Outcome, same_set, Game, IsGame, used_sets}
-use Rattle.gf_tree.proofs.Common.{known_of, flatten, Described, first_uses, sets_of, AreAmong, Kept}
-use Rattle.gf_tree.proofs.Common.{entries_with, game_of, Content, nothing, run, Format, Renumbering}
-use Rattle.gf_tree.proofs.Common.{renumbered, renumbered_node, Bool, true, Ok, file_nodes, no_node}
+use Rattle.gf_tree.proofs.Common.{slice_get-map, Lexeme, Spells, SetKey, InformationSet, Outcome}
+use Rattle.gf_tree.proofs.Common.{same_set, Game, IsGame, used_sets, known_of, flatten, Described}
+use Rattle.gf_tree.proofs.Common.{first_uses, sets_of, AreAmong, Kept, entries_with, game_of}
+use Rattle.gf_tree.proofs.Common.{Content, nothing, run, Format, Renumbering, renumbered}
+use Rattle.gf_tree.proofs.Common.{renumbered_node, Bool, true, Ok, file_nodes, no_node}
 use Rattle.gf_tree.proofs.Common.{first_use_numbers, OfFile, ByFirstUse, told_from, told_outcome}
 use Rattle.gf_tree.proofs.Common.{told_set}
 use Rattle.std.proofs.Common.{length-append}

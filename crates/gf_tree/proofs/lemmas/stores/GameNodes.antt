@@ -234,3 +234,5 @@ pub root_first : {N : Type 0} (t : Tree N) → subtree_at t 0 ≡ t
 root_first (branch n ts) = refl
 
 pub ruleset whole_game = (root_first, some_subtree)
+
+pub ruleset nodes_next = (next_node, nodes_counted)

@@ -100,3 +100,5 @@ set_placed old nodes sets outcomes at d h kept placed =
     of_kept [] at h p = absurd (omega (arith, h))
     of_kept (n ∷ ns) zero h p = p.0.set
     of_kept (n ∷ ns) (suc at) h p = of_kept ns at (omega (arith, h)) p.1
+
+pub ruleset sizes_filled = (filled_all, filled_begin, filled_more, set_placed)

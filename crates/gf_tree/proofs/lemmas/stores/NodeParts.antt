@@ -217,3 +217,5 @@ module _ (g : Game) (at : ℕ) (n : Stored) (kept : IsKeptAt g at n) where
           let number : slice_get (outcome_numbers g) k ≡ Some at.0.key =
           slice_get-map (λ (o : Described ℕ Outcome). o.key) g.outcomes k ∙ key in
           cc (outcome_is (suc k) is, position_is (outcome_numbers g) k at.0.key distinct number)
+
+pub ruleset actions_found = (no_actions, set_below)

@@ -2,9 +2,10 @@
 use Rattle.gf_tree.proofs.Common.{◌≡◌, ℕ, ◌+◌, List, [], ◌∷◌, length, map, nat_eq, refl, ap, ◌∙◌}
 use Rattle.gf_tree.proofs.Common.{arith, position, position_from, lookup, length-map}
 use Rattle.gf_tree.proofs.Common.{position_from-zero, same_set, set_of, KnownSets, known_of}
-use Rattle.gf_tree.proofs.Common.{described, stored_sets, get_or, places_from, AreSets}
+use Rattle.gf_tree.proofs.Common.{described, stored_sets, get_or, places_from, AreSets, None, sym}
 use Rattle.gf_tree.specs.declared.game.action.Action.{Action as Held}
 use Rattle.gf_tree.specs.declared.game.sets.Entry.{Entry}
+use Rattle.gf_tree.proofs.lemmas.stores.Places.{none_at}
 
 -- a number's place is the first place at which its key stands
 found_from : (actions : List Held) (player number : ℕ) (entries : List Entry) (place : ℕ)
@@ -40,3 +41,23 @@ module _ (players : List (List (ℕ × ℕ))) (entries : List Entry) (actions : 
 
   pub counted : length ns ≡ length (known_of player whole.known)
   counted = grind (arith, length-map, numbers)
+
+-- the same for a player who has had none
+module _ (players : List (List (ℕ × ℕ))) (entries : List Entry) (actions : List Held)
+    (from player : ℕ) (whole : KnownSets)
+    (are : AreSets players entries actions from) (view : stored_sets entries actions from ≡ whole)
+    (held : List (List (ℕ × ℕ))) (same : held ≡ players) (none : get_or held player [] ≡ []) where
+  pub none_found : (number : ℕ)
+      → position (same_set (set_of player number)) (map (λ s. s.key) whole.known) ≡ None
+  none_found number = sym (found players entries actions from player whole are view [] held same
+      (sym none) number)
+
+  pub none_known : known_of player whole.known ≡ []
+  none_known = no_items (known_of player whole.known)
+      (counted players entries actions from player whole are view [] held same (sym none))
+    where
+      no_items : {A : Type 0} (xs : List A) → 0 ≡ length xs → xs ≡ []
+      no_items [] e = refl
+      no_items (x ∷ xs) e = absurd cc
+
+pub ruleset sets_of_player = (found, counted, numbers, none_found, none_known, none_at)

@@ -112,3 +112,5 @@ module _ (players : List (List (ℕ × ℕ))) (entries : List Entry) (actions : 
         → new.among ≡ length (get_or players new.player []) + 1 → place + 1 < 2 ^ 32
         → AreSets after stored kept last
     are_stored after stored kept place is cut at others own among room = grind (arith, are_then)
+
+pub ruleset one_more_set = (absent, has_fewer)

@@ -1,24 +1,13 @@
 use Rattle.gf_tree.proofs.Common.{rules}
 use Rattle.gf_tree.proofs.lemmas.games.TreesOnce.{spells_one_game}
-use Rattle.gf_tree.proofs.lemmas.reader.Steps.{refused_only, refused_why}
-use Rattle.gf_tree.proofs.lemmas.reader.ToldGames.{refused_as_judged, refused_for_memory}
+use Rattle.gf_tree.proofs.lemmas.reader.Steps.{refused_only}
+use Rattle.gf_tree.proofs.lemmas.reader.ToldGames.{refused_for_memory}
 use Rattle.gf_tree.proofs.read.list_efg.Goals as goal
 
 pub returns-in_err-reader-clause-only : goal.returns-in_err-reader-clause-only
 returns-in_err-reader-clause-only c = λ g spells.
     refused_only c.in_err-reader.field-0.0 g c.from_residual.result (search rules)
     (refused_for_memory c.in_err-reader.ensures g spells)
-
-pub returns-in_err-reader-clause-judged : goal.returns-in_err-reader-clause-judged
-returns-in_err-reader-clause-judged c =
-    refused_why c.in_err-reader.field-0.0 _ c.from_residual.result (search rules)
-    (refused_as_judged c.in_err-reader.ensures)
-
-pub into_listed_game-requires : goal.into_listed_game-requires
-into_listed_game-requires c = (c.args.input.now, c.in_ok-reader.ensures)
-
-pub returns-clause-spelled : goal.returns-clause-spelled
-returns-clause-spelled c = c.into_listed_game.ensures c.args.input.now c.in_ok-reader.ensures
 
 pub returns-clause-only : goal.returns-clause-only
 returns-clause-only c = λ g spells. spells_one_game c.args.input.now _ g

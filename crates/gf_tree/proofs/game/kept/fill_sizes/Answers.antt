@@ -1,10 +1,8 @@
-use Rattle.gf_tree.proofs.Common.{◌≡◌, ◌+◌, ◌-◌, ◌∙◌, ℕ, refl, arith, drop, get_or, map, ap, subst}
-use Rattle.gf_tree.proofs.Common.{child_count, child_counts, kept_of, sizes_of, skipped}
-use Rattle.gf_tree.proofs.Common.{sizes_grown, Node, Stored}
+use Rattle.gf_tree.proofs.Common.{◌≡◌, ◌+◌, ◌-◌, ◌∙◌, refl, arith, drop, get_or, ap, child_count}
+use Rattle.gf_tree.proofs.Common.{kept_of, sizes_of, skipped, Node, Stored}
 use Rattle.std.proofs.Math.ListN.{length-set}
 use Rattle.std.proofs.Math.Seq.{map-set_same}
-use Rattle.gf_tree.proofs.lemmas.stores.KeptSizes.{Filled, filled_all, filled_begin, filled_more}
-use Rattle.gf_tree.proofs.lemmas.stores.KeptSizes.{set_placed}
+use Rattle.gf_tree.proofs.lemmas.stores.KeptSizes.{Filled, filled_more, set_placed}
 use Rattle.gf_tree.proofs.game.kept.fill_sizes.Goals as goal
 
 pub child_count-children-requires : goal.child_count-children-requires
@@ -12,21 +10,6 @@ child_count-children-requires c =
     set_placed c.args.nodes.now c.loop-at.nodes _ _ (c.loop-at.at - 1) c.index-nodes-at.result
     (omega (arith, c.loop-at.invariant.0, c.loop-at-test.true)) c.loop-at.invariant.1
     c.requires.placed.1
-
-filled : (c : goal.After-child_count-children)
-    → Filled {N = Node} c.args.sets.now.known c.requires.tree.0 c.args.nodes.now c.loop-at.nodes
-    c.loop-at.at
-filled c = record {
-  some = c.loop-at-test.true;
-  within = c.loop-at.invariant.0;
-  kept = c.loop-at.invariant.1;
-  sizes = c.loop-at.invariant.2;
-  counts = c.requires.tree.1;
-}
-
-pub skip-end-requires-clause-trees : goal.skip-end-requires-clause-trees
-skip-end-requires-clause-trees c =
-    rw c.child_count-children.ensures (filled_begin _ _ _ _ _ c.index-nodes-at.result (filled c))
 
 pub loop-at-preserved : goal.loop-at-preserved
 loop-at-preserved c =
@@ -50,12 +33,3 @@ loop-at-preserved c =
           ∙ c.loop-at.invariant.1,
       filled_more _ _ _ _ _ c.index-nodes-at.result _ before (omega (arith, end)),
     )
-
-pub returns-clause-sizes : goal.returns-clause-sizes
-returns-clause-sizes c =
-    let old = c.args.nodes.now in
-    let sets = c.args.sets.now.known in
-    let all : c.loop-at.at ≡ 0 = omega (arith, c.loop-at-test.false) in
-    let P : ℕ → Type 0 = λ at. drop at (sizes_of c.loop-at.nodes)
-    ≡ sizes_grown (drop at (child_counts sets (map kept_of old))) in
-    filled_all sets old c.loop-at.nodes (subst P all c.loop-at.invariant.2)

@@ -1,13 +1,6 @@
 use Rattle.gf_tree.proofs.Common.{◌∙◌, arith}
-use Rattle.gf_tree.proofs.lemmas.stores.KeptSizes.{skips_node, at_node}
+use Rattle.gf_tree.proofs.lemmas.stores.KeptSizes.{skips_node}
 use Rattle.gf_tree.proofs.game.kept.skip.Goals as goal
-
-pub bounds-nodes-at : goal.bounds-nodes-at
-bounds-nodes-at c = at_node c.args.nodes.now c.loop-left.at c.loop-left.left c.loop-left-test.true
-    c.loop-left.invariant.1
-
-pub bounds-nodes-at-in-loop-left : goal.bounds-nodes-at-in-loop-left
-bounds-nodes-at-in-loop-left c = bounds-nodes-at c
 
 pub overflow_add-at : goal.overflow_add-at
 overflow_add-at c =

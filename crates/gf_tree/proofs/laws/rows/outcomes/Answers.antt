@@ -1,15 +1,7 @@
 use Rattle.gf_tree.proofs.Common.{inl, inr}
-use Rattle.gf_tree.proofs.lemmas.due.Outcomes.{outcome_number_due, after_zero, new_outcome}
-use Rattle.gf_tree.proofs.lemmas.due.Outcomes.{known_outcome, outcome_opening}
+use Rattle.gf_tree.proofs.lemmas.due.Outcomes.{new_outcome, known_outcome, outcome_opening}
 use Rattle.gf_tree.proofs.lemmas.fronts.Judged.{obeys}
 use Rattle.gf_tree.proofs.laws.rows.outcomes.Goals as goal
-
-pub returns-clause-outcome_number : goal.returns-clause-outcome_number
-returns-clause-outcome_number c = λ f h. obeys (outcome_number_due f h)
-
-pub returns-clause-after_outcome_zero : goal.returns-clause-after_outcome_zero
-returns-clause-after_outcome_zero c =
-    λ f h. elim (after_zero f h) [ inl s ↦ inl (obeys s) | inr s ↦ inr (obeys s) ]
 
 pub returns-clause-new_outcome : goal.returns-clause-new_outcome
 returns-clause-new_outcome c = λ f n h new. obeys (new_outcome f n h new)

@@ -1,4 +1,6 @@
-use Rattle.gf_tree.proofs.Common.{ℕ, nat_eq, ap, sym, ◌∙◌, IndexMap, Seeded, entries_of, lookup}
+use Rattle.gf_tree.proofs.Common.{ℕ, nat_eq, ap, sym, ◌∙◌, IndexMap, lookup}
+use Rattle.gf_tree.specs.declared.numbers.seeded.Seeded.{Seeded}
+use Rattle.gf_tree.specs.inner.Numbers.{entries_of}
 use Rattle.gf_tree.proofs.lemmas.stores.SmallPlaces.{absent_behind}
 use Rattle.gf_tree.proofs.numbers.Index.insert.Goals as goal
 

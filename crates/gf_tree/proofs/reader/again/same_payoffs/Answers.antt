@@ -1,6 +1,5 @@
 use Rattle.gf_tree.proofs.Common.{◌∙◌, ◌+◌, ◌∷◌, ap, sym, drop, rules, at_drop_more, Ratio}
-use Rattle.gf_tree.proofs.Common.{KnownPayoff, heard, of_file}
-use Rattle.std.proofs.lemmas.List.{at_drop_all}
+use Rattle.gf_tree.proofs.Common.{KnownPayoff, heard}
 use Rattle.gf_tree.proofs.lemmas.reader.Steps.{carried, goes_back}
 use Rattle.gf_tree.proofs.reader.again.same_payoffs.Goals as goal
 
@@ -14,10 +13,3 @@ returns-in_err-same_payoff-clause-machine c = λ content.
     c.args.payoffs.now i c.payoff-item.result c.loop-payoff-test.true
     ∙ ap (λ (p : Ratio). heard (KnownPayoff (p ∷ others)) content c.loop-payoff.tokens)
     (sym c.payoff-item.is)))
-
-pub returns-in_default-closing-clause-machine : goal.returns-in_default-closing-clause-machine
-returns-in_default-closing-clause-machine c = λ content.
-    carried (carried (of_file (search rules)) (at_drop_all
-    (λ payoffs. heard (KnownPayoff payoffs) content c.loop-payoff.tokens) c.args.payoffs.now
-    c.loop-payoff.payoff-index c.loop-payoff-test.false))
-    (c.loop-payoff.invariant.goes content)

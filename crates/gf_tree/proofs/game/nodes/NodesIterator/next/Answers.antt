@@ -1,5 +1,5 @@
-use Rattle.gf_tree.proofs.Common.{arith, map, rules, drop_of_length-le, Entry, flatten, Node}
-use Rattle.gf_tree.proofs.lemmas.stores.GameNodes.{next_node, nodes_counted}
+use Rattle.gf_tree.proofs.Common.{arith, map, drop_of_length-le, Entry, flatten, Node}
+use Rattle.gf_tree.proofs.lemmas.stores.GameNodes.{nodes_counted}
 use Rattle.gf_tree.proofs.game.nodes.NodesIterator.next.Goals as goal
 
 pub returns-then-self-len-clause-steps : goal.returns-then-self-len-clause-steps
@@ -9,17 +9,3 @@ returns-then-self-len-clause-steps c =
     let none = drop_of_length-le nodes {i = c.args.self.now.next_place}
     (omega (arith, c.if-self-len.true, c.len.ensures, nodes_counted tree)) in
     (none, none)
-
-pub returns-clause-steps : goal.returns-clause-steps
-returns-clause-steps c =
-    let tree = c.args.self.now.game.now.tree in
-    let next =
-    next_node tree c.args.self.now.next_place (omega (arith, c.if-self-len.false, c.len.ensures)) in
-    rw c.node-node.ensures next
-
-pub returns-clause-goes : goal.returns-clause-goes
-returns-clause-goes c =
-    let tree = c.args.self.now.game.now.tree in
-    let next =
-    next_node tree c.args.self.now.next_place (omega (arith, c.if-self-len.false, c.len.ensures)) in
-    search rules

@@ -1,14 +1,7 @@
-use Rattle.gf_tree.proofs.Common.{refl, ◌∙◌, arith, rules}
+use Rattle.gf_tree.proofs.Common.{refl, arith, rules}
 use Rattle.gf_tree.specs.declared.game.outcomes.Entry.{Entry}
-use Rattle.gf_tree.proofs.lemmas.stores.OutcomePlaces.{found}
 use Rattle.gf_tree.proofs.lemmas.stores.StoredPayoffs.{outcomes_stored}
 use Rattle.gf_tree.proofs.game.outcomes.Outcomes.end.Goals as goal
-
-pub insert-requires-clause-absent : goal.insert-requires-clause-absent
-insert-requires-clause-absent c =
-    let o = c.self.inside in
-    found o.numbers o.entries.items o.payoffs.items o.from c.args.self.now c.self.invariant
-    c.self.view_is c.args.number ∙ c.requires
 
 pub invariant_of-self-2 : goal.invariant_of-self-2
 invariant_of-self-2 c =
