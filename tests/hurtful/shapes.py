@@ -372,6 +372,78 @@ def groups_beside(sets, size, payoff):
     return tree.game(relevant=True, without=["reduced"])
 
 
+def golden():
+    """The greatest fraction within the bounds for which Euclid's algorithm takes the most steps."""
+    low, high = 1, 1
+    while low + high <= LARGEST:
+        low, high = high, low + high
+    return Fraction(low, high)
+
+
+def paid_at_the_root(sets, payoff):
+    """A toss over some sets whose leaves pay nobody, and which pays this itself: it is each row."""
+    tree = Tree(1)
+    tree.pays(1, payoff)
+    tree.toss(1, [f"1/{sets}"] * sets, 1)
+    for number in range(1, sets + 1):
+        tree.move(1, number)
+        tree.end()
+        tree.end()
+    return tree.game(relevant=True)
+
+
+def met_or_not(players, sets):
+    """Chance says of each set whether play comes to it, and each leaf pays all players: there are as many
+    demands as ways to choose or not to choose at each set."""
+    tree, due = Tree(players), [1]
+    tree.pays(1, *[1] * players)
+    while due:
+        step = due.pop()
+        if step == sets + 1:
+            tree.end(1)
+        elif step > 0:
+            tree.toss(1, ["1/2", "1/2"])
+            due += [-step, step + 1]
+        else:
+            tree.move(1, -step)
+            due += [1 - step] * 2
+    # Chance may bring play to each set, whatever is chosen before.
+    return tree.game(relevant=True)
+
+
+def folded(a, b):
+    """The step of the kit's fast hasher."""
+    product = a * b
+    return (product ^ product >> 64) & 2**64 - 1
+
+
+def visits_collide(demands, number):
+    """Whether the kit's fast hasher, from its fixed start, puts a visit among the first buckets of a set."""
+    start, multiplier = 0x243F_6A88_85A3_08D3, 0x9E37_79B9_7F4A_7C15
+    found = folded(folded(start ^ demands, multiplier ^ 16) ^ number * 0x1_0000_0001, multiplier ^ 8)
+    return (found ^ found >> 32) & 0xFFFF < 0x2000
+
+
+def visits_again(sets, actions, times, collide):
+    """Many sets of one action, a move, and after each of its actions a chain of some of them again."""
+    rng, tree = random.Random(SEED), Tree(1)
+    for number in range(1, sets + 1):
+        tree.move(1, number, 1)
+    tree.move(1, sets + 1, actions)
+    for action in range(1, actions + 1):
+        numbers = range(1, sets + 1)
+        if collide:
+            picked = itertools.islice((it for it in numbers if visits_collide(action, it)), times)
+        else:
+            picked = rng.sample(numbers, times)
+        for number in picked:
+            tree.move(1, number, 1)
+        tree.end()
+    labels = ["-".join([*["1"] * sets, str(action)]) for action in range(1, actions + 1)]
+    form = Answer(table_text("s", tree.players, [labels], "0\n" * actions).encode())
+    return tree.game(form, without=["table"], relevant=True)
+
+
 MOST_ROWS = partial(side_by_side, 20)
 SOME_ROWS = partial(side_by_side, 12)
 
@@ -413,6 +485,14 @@ SHAPES = {
     "a mixed tree": (partial(mixed_tree, 12, 16), partial(side_by_side, 16)),
     "a wide tree reduced": (partial(wide_tree, 100, 6, 14), partial(side_by_side, 14)),
     "a move that is forgotten": (partial(one_later_set, 2**17, 1), partial(one_later_set, 2**17, 2)),
+    "a golden payoff": (
+        partial(paid_at_the_root, 20, golden()),
+        partial(paid_at_the_root, 20, Fraction(LARGEST - 1, LARGEST)),
+    ),
+    "visits that collide": (
+        partial(visits_again, 230_000, 16, 20_000, True),
+        partial(visits_again, 230_000, 16, 20_000, False),
+    ),
     "a set that is never met": (partial(set_never_met, 2**19, 350_000), partial(set_never_met, 2, 350_000)),
     "a set behind a later one": (
         partial(set_behind_a_later_one, 512, 5_000),
@@ -427,6 +507,7 @@ KNOWN = {
         partial(toss_that_never_comes, 17, 7, -1),
     ),
     "a wide tree": (partial(wide_tree, 500, 8, 20, without=["reduced"]), MOST_ROWS),
+    "many players paid at each demand": (partial(met_or_not, 100, 12), partial(many_players, 100, 300)),
 }
 
 # The same of shapes that have a short way to the strategic form: the twin has to go the long way.
