@@ -1,6 +1,6 @@
 -- A set is relevant exactly if the choices come to it in the tree.
 use Rattle.gf_form.proofs.Common.{◌≡◌, ℕ, ◌+◌, ◌<◌, Bool, true, false, List, [], ◌∷◌, Option, Some}
-use Rattle.gf_form.proofs.Common.{None, MatchOption, length, map, refl, ap, ◌∙◌, arith, subst, ◌||◌}
+use Rattle.gf_form.proofs.Common.{None, MatchOption, length, map, refl, ap, arith, subst, ◌||◌}
 use Rattle.gf_form.proofs.Common.{◌&&◌, option_map, AllByRecursion, list_any, option_map_or}
 use Rattle.gf_form.proofs.Common.{list_any-append, all_parts, Tree, Trees, count, branch, none}
 use Rattle.gf_form.proofs.Common.{more, InformationSet, SetKey, same_set, Node, Game, IsGame}
@@ -32,10 +32,8 @@ module _ (g : Game) (game : IsGame g) (choices : SetKey → ℕ) (key : SetKey) 
       → come (map (from_node n k) (plays t)) ≡ true
   any_here n k t here =
       let p = first_play t in
-      any_has (λ p. comes_to choices key p.steps) (map (from_node n k) (plays t))
-      (from_node n k p.0) (has_map (from_node n k) (plays t) p.0 p.1)
-      (λ i. here i || (is_own_choice choices key.player (record { node = n; taken = k })
-      && comes_to choices key p.0.steps))
+      let there = has_map (from_node n k) (plays t) p.0 p.1 in
+      grind (arith, any_has)
 
   -- and elsewhere those that go on as its owner chooses
   any_below : (n : Node) (k : ℕ) (ps : List Play) → is_here n ≡ false
@@ -65,10 +63,7 @@ module _ (g : Game) (game : IsGame g) (choices : SetKey → ℕ) (key : SetKey) 
             ≡ (b || trees_come choices key n 1 ts)
         some_children none some below b e = absurd (omega arith)
         some_children (more t ts) some below true here =
-            list_any-append (λ p. comes_to choices key p.steps) (map (from_node n 1) (plays t))
-            (plays_from n 2 ts)
-            ∙ (λ i. any_here n 1 t here i
-            || come (plays_from n 2 ts))
+            grind (arith, list_any-append, any_here)
         some_children (more t ts) some below false other = below other
 
         at_set : (o : Option SetKey) → n.set ≡ o → MatchOption o (count ts ≡ 0)
@@ -88,11 +83,9 @@ module _ (g : Game) (game : IsGame g) (choices : SetKey → ℕ) (key : SetKey) 
     come_in none n k children other = refl
     come_in (more t ts) n k children other =
         let both = all_parts (HasChildren g) (flatten t) (flatten_all ts) children in
-        let move = is_own_choice choices key.player (record { node = n; taken = k }) in
-        list_any-append (λ p. comes_to choices key p.steps) (map (from_node n k) (plays t))
-        (plays_from n (k + 1) ts)
-        ∙ (λ i. (any_below n k (plays t) other ∙ ap (λ b. move && b) (comes_in t both.0)) i
-        || come_in ts n (k + 1) both.1 other i)
+        let first = comes_in t both.0 in
+        let later = come_in ts n (k + 1) both.1 other in
+        grind (arith, list_any-append, any_below)
 
   pub relevant_is : is_relevant g choices key ≡ tree_comes choices key g.tree
   relevant_is = comes_in g.tree game.children

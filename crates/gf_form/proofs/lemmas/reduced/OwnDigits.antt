@@ -1,7 +1,8 @@
 -- The digits of one player's sets: they fit into 64 bits, and their steps.
 use Rattle.gf_form.proofs.Common.{◌≡◌, ℕ, zero, suc, ◌+◌, ◌*◌, ◌^◌, ◌<◌, ◌≤◌, List, [], ◌∷◌, ◌++◌}
-use Rattle.gf_form.proofs.Common.{length, drop, get_or, refl, arith, append_assoc, mul-le-mul}
-use Rattle.gf_form.proofs.Common.{product, steps_behind, width, ArePositive, digits_from, OwnDigit}
+use Rattle.gf_form.proofs.Common.{length, drop, get_or, arith, append_assoc, mul-le-mul, product}
+use Rattle.gf_form.proofs.Common.{steps_behind, width, ArePositive, digits_from, OwnDigit}
+use Rattle.gf_form.proofs.lemmas.rows.DigitPlaces.{steps_long}
 use Rattle.gf_form.proofs.lemmas.rows.DigitsMade.{next_is}
 
 -- with more than one action, one more is at most the square
@@ -29,11 +30,6 @@ pub width_fits : (counts : List ℕ) → ArePositive counts → product counts <
 width_fits counts h few =
     let le : product counts ≤ 4294967295 = omega (arith, few) in
     omega (arith, width_square counts h, mul-le-mul le le)
-
-pub steps_long : (faster : ℕ) (counts : List ℕ)
-    → length (steps_behind faster counts) ≡ length counts
-steps_long faster [] = refl
-steps_long faster (n ∷ counts) = grind (arith, steps_long faster counts)
 
 -- the step of the first set
 step_first : (n : ℕ) (later : List ℕ) → 1 < n

@@ -88,11 +88,7 @@ module _ (g : Game) (game : IsGame g) (own : Owner)
       (demanded demands (own_step g own key) (count ts)) 1 ts) o [])
   node_in n ts demands None children below = refl
   node_in n ts demands (Some key) children below =
-      let set = set_there g key (count ts) children in
-      let here = own_in key set.0 demands set.1 (key.player == own.player) refl in
-      let later =
-      below (own_step g own key) (demanded demands (own_step g own key) (count ts)) in
-      grind (arith, list_any-append)
+      grind (arith, list_any-append, set_there, own_in, below)
 
   mutual
     all_in : (t : Tree Node) (demands : ℕ) → AllByRecursion (HasChildren g) (flatten t)

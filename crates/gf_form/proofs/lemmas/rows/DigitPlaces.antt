@@ -46,13 +46,14 @@ as_many_at_digits (own ∷ others) (x ∷ xs) h =
     grind (arith, as_many_picked, length-append, as_many_at_digits others xs h.1)
 as_many_at_digits counts xs h = grind arith
 
+pub steps_long : (faster : ℕ) (counts : List ℕ)
+    → length (steps_behind faster counts) ≡ length counts
+steps_long faster [] = refl
+steps_long faster (n ∷ counts) = grind (arith, steps_long faster counts)
+
 pub steps_have_shape : (counts : List (List ℕ)) (f : ℕ) → HasShape counts (all_steps f counts)
 steps_have_shape [] f = tt
-steps_have_shape (own ∷ others) f = (own_shape own f, steps_have_shape others (width own * f))
-  where
-    own_shape : (own : List ℕ) (f : ℕ) → length (steps_behind f own) ≡ length own
-    own_shape [] f = refl
-    own_shape (n ∷ own) f = grind (arith, own_shape own f)
+steps_have_shape (own ∷ others) f = (steps_long f own, steps_have_shape others (width own * f))
 
 -- ---- slower digits change nothing
 
