@@ -281,7 +281,7 @@ impl Terms {
     }
 
     /// Appends the sum of two terms of a list, at these places, from 0, with the demands of the
-    /// first, if they are brought over one denominator so.
+    /// first, if they are brought over one denominator by this scale.
     #[inline(always)]
     fn push_over(
         &mut self,
