@@ -51,6 +51,20 @@ check_page() {
     fi
 }
 
+# Each file that a document links to is there.
+check_links() {
+    local document target
+    for document in "$root"/*.md "$root"/docs/*.md "$root"/examples/*.md; do
+        while read -r target; do
+            if [[ -n $target && ! -e ${document%/*}/$target ]]; then
+                fail "${document#"$root"/}: there is no $target"
+            else
+                passed=$((passed + 1))
+            fi
+        done < <(grep -o '](\([^)#:]*\)[^):]*)' "$document" | sed 's/^](//; s/[#)].*//' | sort -u)
+    done
+}
+
 # The commands that documents show write what stands there.
 check_documents() {
     local summary
