@@ -76,13 +76,13 @@ pub const AFTER_TABLE: &str = "\
 Writes a tree as a strategic file in canonical text. A strategy is an action at
 each information set of its player, in order of first use, such as 1-2. Each
 profile of strategies has its exact expected payoffs. A strategic file is
-written as canon writes it, and a file that breaks the format is refused as by
-canon.
+written as canon writes it. The files that canon refuses are refused.
 
-A tree with more than 1048576 profiles has no table, and standard error says
-'too many profiles'. Nor has a tree with an expected payoff beyond the bounds of
-numbers; standard error names the first such profile, as in
-'overflow at profile 2'. Nothing is written then, and the status is 2.
+A tree with more than 1,048,576 profiles has no table, and standard error says
+'too many profiles'. Nor has a tree whose expected payoffs at some profile
+cannot be worked out within 127 bits; standard error names the first such
+profile, as in 'overflow at profile 2'. Nothing is written then, and the status
+is 2.
 
 With --reduced, a strategy has * in place of an action at each information set
 that the player's own earlier choices keep out of reach, such as 1-*. Strategies
