@@ -82,8 +82,8 @@ fn write_parts(start: usize, size: u64, den: u64, text: &mut [u8]) -> usize
     write_under(end, den, text)
 }
 
-/// Appends `n`, or `n/d` if the denominator is above 1. Digits are written where they stay: it takes
-/// long to read back, several at once, bytes that were only just written.
+/// Appends `n`, or `n/d` if the denominator is above 1. Digits are written where they stay: it
+/// takes long to read back, several at once, bytes that were only just written.
 fn write_words(num: i64, den: u64, out: &mut Vec<u8>) -> Result<(), AllocError>
     ensures ok { OnOk result
         (out.new.items ≡ out.old.items ++ number_text (record { num = num; den = den })) }

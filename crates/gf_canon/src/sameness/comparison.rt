@@ -6,7 +6,7 @@ ghost use Rattle.gf_tree.specs.CanonicalGame.{canonical_game};
 
 use crate::sameness::Names;
 use crate::sameness::compare::{same_heading, same_node};
-use gf_tree::{ListedGame, NumberedNode, FileNodes, Receive, ToldHeading};
+use gf_tree::{FileNodes, ListedGame, NumberedNode, Receive, ToldHeading};
 use std::alloc::AllocError;
 
 /// A comparison of a game with a tree that is told. Sets and outcomes that a renumbering carries to

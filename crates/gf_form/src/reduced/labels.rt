@@ -77,7 +77,7 @@ struct Labelling {
 }
 
 impl Labelling {
-    /// No labels yet, but room for so many, for a player with this many sets.
+    /// No labels yet, but room for this many, for a player with this many sets.
     fn new(alloc: Global, count: usize, sets: usize) -> Result<Labelling, AllocError>
         ensures wide { IfOk result (λ l. length l.strategy.items ≡ sets) }
         ensures strategy { IfOk result (λ l. (place : ℕ) → place < sets
@@ -179,7 +179,7 @@ impl Labelling {
 }
 
 /// The labels of a player's reduced strategies, if the first ones that reduce to them have these
-/// numbers among his `whole` strategies, and these are his visits to so many sets.
+/// numbers among his `whole` strategies, and these are his visits to this many sets.
 pub(crate) fn labels_of(
     alloc: Global,
     player: &Player<'_, '_>,

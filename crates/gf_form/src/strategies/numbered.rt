@@ -51,8 +51,8 @@ fn write_label(strategy: &[u32], text: &mut Vec<u8>) -> Result<(), AllocError>
     Ok(())
 }
 
-/// No labels, and room for this many with a choice at each of so many sets. A choice takes a byte at
-/// least, and there is a dash between any two.
+/// No labels, and room for this many, each with a choice at this many sets. A choice takes at least
+/// a byte, and there is a dash between any two.
 pub(crate) fn room_for_choices(
     alloc: Global,
     count: usize,

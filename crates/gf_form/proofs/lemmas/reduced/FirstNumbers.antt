@@ -1,7 +1,8 @@
 -- The numbers of the first strategies, one after another, and flags that say which are first.
 use Rattle.gf_form.proofs.Common.{◌≡◌, ℕ, zero, suc, ◌+◌, ◌<◌, ◌≤◌, Bool, true, false, List, []}
 use Rattle.gf_form.proofs.Common.{◌∷◌, ◌++◌, ◌⊎◌, inl, inr, length, map, get_or, take, refl, ap}
-use Rattle.gf_form.proofs.Common.{sym, subst, ◌∙◌, add-one, arith, ◌==◌, ◌||◌, filter, AllByRecursion}
+use Rattle.gf_form.proofs.Common.{sym, subst, ◌∙◌, add-one, arith, ◌==◌, ◌||◌, filter}
+use Rattle.gf_form.proofs.Common.{AllByRecursion}
 use Rattle.gf_form.proofs.Common.{take-suc, and_from, and_parts, eq-eqb, append-nil, map-append}
 use Rattle.gf_form.proofs.Common.{filter-append, all_both, chooses_first, cases_lt, length-append}
 use Rattle.gf_form.proofs.Common.{get_or_append_left, HaveNumbers}
@@ -47,7 +48,8 @@ module _ {A : Type 0} (test : A → Bool) (all : List A) (d : A) (i : ℕ) (less
   wider (n ∷ numbers) h = (omega (arith, h.0), wider numbers h.1)
 
   pub first_kept : (numbers next : List ℕ) → HaveNumbers test all d numbers i
-      → test (get_or all i d) ≡ true → next ≡ numbers ++ i ∷ [] → HaveNumbers test all d next (i + 1)
+      → test (get_or all i d) ≡ true → next ≡ numbers ++ i ∷ []
+      → HaveNumbers test all d next (i + 1)
   first_kept numbers next h passes is = record {
     are = grind (arith, map-append, next_item, h.are);
     within = grind (arith, all_both, wider, h.within);

@@ -3,7 +3,8 @@ use Rattle.gf_form.proofs.Common.{◌≡◌, ℕ, ◌+◌, ◌-◌, ◌*◌, ◌
 use Rattle.gf_form.proofs.Common.{List, [], ◌∷◌, ◌++◌, Some, None, length, get_or, set, take, drop}
 use Rattle.gf_form.proofs.Common.{ap, sym, ◌∙◌, arith, ◌||◌, list_any, IsPermutation, option_map_or}
 use Rattle.gf_form.proofs.Common.{or-false, take-length, cases_Bool, cases_lt, or_left, or_right}
-use Rattle.gf_form.proofs.Common.{get_or-set_at, get_or-set_other, get_or-take, get_or_default, length-drop}
+use Rattle.gf_form.proofs.Common.{get_or-set_at, get_or-set_other, get_or-take, get_or_default}
+use Rattle.gf_form.proofs.Common.{length-drop}
 use Rattle.gf_form.proofs.Common.{length-set, length-take, take-append-drop, All-from_recursion}
 use Rattle.gf_form.proofs.Common.{recursion_from_All, list_any-append, All-permutation}
 use Rattle.gf_form.proofs.Common.{list_any-IsPermutation, all_both, meets, ArePositive, IsChosen}

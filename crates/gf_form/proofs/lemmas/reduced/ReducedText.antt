@@ -5,7 +5,8 @@ use Rattle.gf_form.proofs.Common.{refl, ap, ◌∙◌, append_assoc, add-one, ar
 use Rattle.gf_form.proofs.Common.{AllByRecursion, take-append_seam, append-nil, length-append}
 use Rattle.gf_form.proofs.Common.{all_both, IsPlain, choice_text, reduced_label, shown}
 use Rattle.gf_form.proofs.lemmas.strategies.CountedActions.{take_past}
-use Rattle.gf_form.proofs.lemmas.strategies.StrategiesByNumber.{all_taken, plain_label, plain_number}
+use Rattle.gf_form.proofs.lemmas.strategies.StrategiesByNumber.{all_taken, plain_label}
+use Rattle.gf_form.proofs.lemmas.strategies.StrategiesByNumber.{plain_number}
 
 -- each choice with a dash after it
 abbrev pub marked : List (Option ℕ) → List ℕ

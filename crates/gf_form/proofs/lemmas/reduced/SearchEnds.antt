@@ -6,7 +6,8 @@ use Rattle.gf_form.proofs.Common.{if◌then◌else◌, list_any, drop_of_length-
 use Rattle.gf_form.proofs.Common.{false_from_ne_true, length-map, player_keys}
 use Rattle.gf_form.proofs.Common.{Game, IsGame, action_counts, choice_at, strategies, is_relevant}
 use Rattle.gf_form.proofs.Common.{can_be_met, is_left, digits_from, AreFoundTo, AreFirstBelow}
-use Rattle.gf_form.proofs.Common.{HaveChoices, IsHere, IsSearched, IsToldBy, actions_of, digit_at, numbered}
+use Rattle.gf_form.proofs.Common.{HaveChoices, IsHere, IsSearched, IsToldBy, actions_of, digit_at}
+use Rattle.gf_form.proofs.Common.{numbered}
 use Rattle.gf_form.proofs.Common.{is_relevant_at, is_settled, is_first, relevant_sets, is_met}
 use Rattle.gf_form.proofs.Common.{OwnDigit, Level, Visit, mul-le-mul_right}
 use Rattle.std.proofs.lemmas.Bool.Decides.{nat_tests}

@@ -99,7 +99,8 @@ module _ (g : Game) (game : IsGame g) (player : ℕ) (digits : List OwnDigit)
       sym (picked_at counts k (actions_positive g game player) (omega (arith, less, whole_is)))
       ∙ ap (λ (actions : List ℕ). get_or (all_choices actions) k []) (sym actions_are)
 
-  pub all_choices_had : whole ≡ product counts → whole < 2 ^ 32 → HaveChoices g player digits 0 whole
+  pub all_choices_had : whole ≡ product counts → whole < 2 ^ 32
+      → HaveChoices g player digits 0 whole
   all_choices_had whole_is few =
       let positive = actions_positive g game player in
       let long = length-all_choices counts in record {
@@ -134,7 +135,8 @@ module _ (g : Game) (game : IsGame g) (player : ℕ) (digits : List OwnDigit)
         ∙ find.relevant (numbered g player k) (suc q) (get_or keys q no_key)
         (choice_at_number counts k (omega (arith, less, whole_counted)))
         (slice_get-get_or keys q no_key among)
-        ∙ (λ i. is_met (suc q) (steps_of (sym actions_are i)) (choices_are whole_counted k less i) visits)
+        ∙ (λ i. is_met (suc q) (steps_of (sym actions_are i))
+        (choices_are whole_counted k less i) visits)
 
     module _ (visits : List Visit) (find : FindRelevance g player visits) (level : Level)
         (unknown : (place : ℕ) → get_or level.known.items place false ≡ false) where

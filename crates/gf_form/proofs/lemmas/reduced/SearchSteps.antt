@@ -10,7 +10,8 @@ use Rattle.gf_form.proofs.Common.{actions_of, digit_at, is_relevant_at, is_settl
 use Rattle.std.specs.Prelude.{nat_le}
 use Rattle.std.proofs.lemmas.Bool.Decides.{nat_tests}
 use Rattle.gf_form.proofs.lemmas.rows.DemandDigits.{spans_above}
-use Rattle.gf_form.proofs.lemmas.strategies.StrategiesByNumber.{choices_next, choices_row, positive_parts}
+use Rattle.gf_form.proofs.lemmas.strategies.StrategiesByNumber.{choices_next, choices_row}
+use Rattle.gf_form.proofs.lemmas.strategies.StrategiesByNumber.{positive_parts}
 
 -- after those with the first action at the first digit, another one is chosen there
 other_action : (n : ℕ) (counts : List ℕ) (k : ℕ) → product counts ≤ k → k < n * product counts

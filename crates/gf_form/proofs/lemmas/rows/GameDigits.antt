@@ -1,7 +1,8 @@
 -- What is made from the numbers of actions are the digits of the game.
 use Rattle.gf_form.proofs.Common.{◌≡◌, ℕ, suc, ◌-◌, ◌<◌, ◌≤◌, ◌^◌, Bool, true, false, cond, List}
 use Rattle.gf_form.proofs.Common.{[], ◌∷◌, ◌++◌, Some, length, map, get_or, refl, sym, ap, subst}
-use Rattle.gf_form.proofs.Common.{◌∙◌, arith, option_map, slice_get, find, append-nil, get_or_default}
+use Rattle.gf_form.proofs.Common.{◌∙◌, arith, option_map, slice_get, find, append-nil}
+use Rattle.gf_form.proofs.Common.{get_or_default}
 use Rattle.gf_form.proofs.Common.{length-map, none-some, AllZip-long, product, length-profiles}
 use Rattle.gf_form.proofs.Common.{SetKey, InformationSet, same_set, Described, description_at}
 use Rattle.gf_form.proofs.Common.{player_sets, Game, IsGame, set_at, spans, steps_of, all_steps}

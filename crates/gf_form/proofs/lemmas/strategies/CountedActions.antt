@@ -58,7 +58,8 @@ count_at g player before = grind (arith, add-one, unwrap_or-slice_get)
 pub positive_at : (counts : List ℕ) (i : ℕ) → ArePositive counts → i < length counts
     → 0 < get_or counts i 0
 positive_at counts i h less =
-    All-get_or (λ count. 0 < count) counts i 0 less (All-from_recursion (λ count. 0 < count) counts h)
+    All-get_or (λ count. 0 < count) counts i 0 less
+    (All-from_recursion (λ count. 0 < count) counts h)
 
 -- ---- the players
 

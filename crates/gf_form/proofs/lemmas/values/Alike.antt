@@ -136,7 +136,8 @@ module _ (g h : Game) (c d : SetKey → ℕ) (player : ℕ) (f : Node → Node) 
       → IsValue g c player (branch n ts) value → IsValue h d player (map_tree f (branch n ts)) value
   node_goes n ts value a chance child v = let moves = a.moves in let pays = a.pays in grind arith
 
-  both_alike : (t : Tree Node) (ts : Trees Node) → AreAlike g h c d player f (flatten_all (more t ts))
+  both_alike : (t : Tree Node) (ts : Trees Node)
+      → AreAlike g h c d player f (flatten_all (more t ts))
       → AreAlike g h c d player f (flatten t) × AreAlike g h c d player f (flatten_all ts)
   both_alike t ts all =
       all_parts (λ e. IsAlike g h c d player f e.node) (flatten t) (flatten_all ts) all

@@ -60,7 +60,8 @@ module _ (g : Game) (game : IsGame g) (spellable : IsSpellable g) (choices : Set
       subst (λ l. IsEqual (w l) (total (map (q n) (numbers_from k (count (more t ts))))))
       (sym (first_chosen choices n k t ts chosen))
       (sum_joined (play_probability g) (play_probability_above g spellable) first later
-      then plus_both (w first) (q n k) (w later) (total (map (q n) (numbers_from (k + 1) (count ts))))
+      then plus_both (w first) (q n k) (w later)
+      (total (map (q n) (numbers_from (k + 1) (count ts))))
       (weight_after g spellable n k (followed_in choices t)
       then times_right (q n k) (q_above n k) whole then times_one (q n k) (q_above n k)) others)
 

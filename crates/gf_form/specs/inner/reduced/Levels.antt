@@ -1,5 +1,6 @@
 -- What is left of a player's visits after choices at the slower digits.
-use Rattle.std.specs.Prelude.{◌≡◌, ◌≤◌, ◌<◌, ◌-◌, ◌*◌, ◌+◌, ◌==◌, ◌&&◌, ◌||◌, ℕ, suc, Bool, false, List}
+use Rattle.std.specs.Prelude.{◌≡◌, ◌≤◌, ◌<◌, ◌-◌, ◌*◌, ◌+◌, ◌==◌, ◌&&◌, ◌||◌, ℕ, suc, Bool, false}
+use Rattle.std.specs.Prelude.{List}
 use Rattle.std.specs.Prelude.{◌∷◌, Option, Some, None, get_or, length, nat_le, nat_lt}
 use Rattle.std.specs.Prelude.{if◌then◌else◌}
 use Rattle.std.specs.List.{AllByRecursion, list_any}

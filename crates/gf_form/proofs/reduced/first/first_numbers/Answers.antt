@@ -1,4 +1,5 @@
-use Rattle.gf_form.proofs.Common.{◌≡◌, ◌+◌, ◌<◌, ◌^◌, ◌∙◌, ℕ, ap, arith, length, subst, sym, product}
+use Rattle.gf_form.proofs.Common.{◌≡◌, ◌+◌, ◌<◌, ◌^◌, ◌∙◌, ℕ, ap, arith, length, subst, sym}
+use Rattle.gf_form.proofs.Common.{product}
 use Rattle.gf_form.proofs.Common.{action_counts, IsLevel, AreFoundTo, actions_of}
 use Rattle.gf_form.proofs.lemmas.reduced.SearchStarts.{few_digits, none_found_yet, searched_all}
 use Rattle.gf_form.proofs.reduced.first.first_numbers.Goals as goal

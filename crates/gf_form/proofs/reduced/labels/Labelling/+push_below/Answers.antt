@@ -1,5 +1,6 @@
 use Rattle.gf_form.proofs.Common.{◌≡◌, ◌+◌, ◌*◌, ◌/◌, ◌<◌, ◌∙◌, ◌^◌, ℕ, arith, length, subst, sym}
-use Rattle.gf_form.proofs.Common.{ap, refl, get_or, on_ok_weaker, OnOk, Vec, Global, IsChosen, IsLevel}
+use Rattle.gf_form.proofs.Common.{ap, refl, get_or, on_ok_weaker, OnOk, Vec, Global, IsChosen}
+use Rattle.gf_form.proofs.Common.{IsLevel}
 use Rattle.gf_form.proofs.Common.{AreLabelledTo}
 use Rattle.gf_form.proofs.lemmas.reduced.SearchLabels.{choices_at, kept_more, last_written}
 use Rattle.gf_form.proofs.lemmas.reduced.SearchLabels.{next_written, place_there}
