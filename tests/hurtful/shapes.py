@@ -507,7 +507,7 @@ KNOWN = {
         partial(toss_that_never_comes, 17, 7, -1),
     ),
     "a wide tree": (partial(wide_tree, 500, 8, 20, without=["reduced"]), MOST_ROWS),
-    "many players paid at each demand": (partial(met_or_not, 100, 12), partial(many_players, 100, 300)),
+    "many players paid at each demand": (partial(met_or_not, 20, 12), partial(many_players, 20, 300)),
 }
 
 # The same of shapes that have a short way to the strategic form: the twin has to go the long way.
