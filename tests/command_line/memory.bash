@@ -1,5 +1,5 @@
 # shellcheck shell=bash disable=SC2034,SC2154
-# Too little memory: a page more at a time until there is enough, and a text that no memory holds.
+# Too little memory: a page more at a time until there is enough, and texts that no memory holds.
 
 # The heading of a game file: the first player has so many strategies, and each other one.
 heading() { # PLAYERS STRATEGIES
@@ -59,20 +59,37 @@ check_page_by_page() { # NAME GAME-FILE LEAST-KIBIBYTES WORD..
     fi
 }
 
-# The text has four gigabytes. The shell has the limit too, and would tell here of a signal.
-check_giant_text() {
-    outcome_file 1000 1048576 >"$scratch/giant.nfg"
+# Chance chooses one of twenty sets of two actions each, or a path through many sets of one action. So the
+# player has 2^20 strategies, whose labels name the action at each set, in the reduced form too.
+labels_file() { # SETS-OF-ONE-ACTION
+    local set
+    echo 'EFG 2 R "" { "a player" }'
+    echo 'c "" 1 "" {'
+    yes '"" 1/21' | head -n 21
+    echo '} 0'
+    for set in {1..20}; do
+        echo "p \"\" 1 $set \"\" { \"\" \"\" } 0 t \"\" 0 t \"\" 0"
+    done
+    seq 21 $((20 + $1)) | sed 's/.*/p "" 1 & "" { "" } 0/'
+    echo 't "" 0'
+}
+
+# What is asked for has gigabytes, so memory is refused before any of it is made: there is not time to
+# fill what memory there is. The shell has the limits too, and would tell here of a signal.
+check_giant() { # NAME SECONDS KIBIBYTES GAME-FILE [WORD..]
+    local name=$1 seconds=$2 room=$3 file=$4
+    shift 4
     status=0
     (
-        ulimit -t 60
-        ulimit -v 400000
-        "$program"
+        ulimit -t "$seconds"
+        ulimit -v "$room"
+        "$program" "$@"
         exit "$?"
-    ) <"$scratch/giant.nfg" >"$scratch/out" 2>"$scratch/err" || status=$?
+    ) <"$file" >"$scratch/out" 2>"$scratch/err" || status=$?
     if wants_memory; then
         passed=$((passed + 1))
     else
-        judge_refusal "a giant text" "E19" 5
+        judge_refusal "$name" "E19" 5
     fi
 }
 
@@ -93,5 +110,9 @@ check_memory() {
     check_page_by_page "table --reduced" "$scratch/tree.efg" "$least" table --reduced
     tree_file 600 >"$scratch/path.efg"
     check_page_by_page "same --map" "$nothing" "$least" same --map "$scratch/path.efg" "$scratch/path.efg"
-    check_giant_text
+    outcome_file 1000 1048576 >"$scratch/giant.nfg"
+    check_giant "a giant text" 60 400000 "$scratch/giant.nfg"
+    labels_file 20000 >"$scratch/giant.efg"
+    check_giant "giant labels" 3 4000000 "$scratch/giant.efg" table
+    check_giant "giant labels of the reduced form" 3 4000000 "$scratch/giant.efg" table --reduced
 }
