@@ -12,6 +12,7 @@ pub mod Table
 pub mod TableAccess
 pub mod TableParts
 pub mod TableText
+pub mod TextPieces
 pub mod WorkedTables
 pub mod inner
 pub use Rattle.gf_fraction.specs.Ratio

@@ -18,4 +18,5 @@ pub use crate::table::Table;
 pub use crate::table::labels::Labels;
 pub use crate::table::listed::ListedTable;
 pub use crate::text::canonical::canonical_nfg;
+pub use crate::text::pieces::TextPieces;
 pub use crate::text::write::write_nfg;

@@ -14,6 +14,7 @@ use std::alloc::{AllocError, Global};
 
 pub(crate) mod canonical;
 pub(crate) mod lines;
+pub(crate) mod pieces;
 pub(crate) mod write;
 
 /// The text of a file that is being told.
