@@ -13,14 +13,14 @@ ghost use Rattle.gf_canon.specs.NamesAside.{file_by};
 use crate::format::{Format, format_of};
 use crate::sameness::Names;
 use crate::text::lines::Lines;
-use gf_nfg::canonical_nfg;
-use gf_token::Fault;
+use gf_nfg::{TextPieces, canonical_nfg};
+use gf_token::{Fault, Why};
 use gf_tree::tell_efg;
 use std::alloc::Global;
 
 /// The canonical text of an extensive file, written while it is read.
-fn canonical_efg(alloc: Global, input: &[u8], names: Names) -> Result<Vec<u8>, Fault>
-    ensures text { IfOk result (λ text. IsTextBy names input.now text.items) }
+fn canonical_efg(alloc: Global, input: &[u8], names: Names) -> Result<TextPieces, Fault>
+    ensures text { IfOk result (λ text. IsTextBy names input.now text.rest) }
     ensures judged { IfErr result (λ fault. IsExtensiveJudged fault.why input.now fault.span) }
     ensures memory { IfErr result (λ fault. (g : game) → SpellsGame input.now g
         → fault.why ≡ Memory) }
@@ -28,13 +28,13 @@ fn canonical_efg(alloc: Global, input: &[u8], names: Names) -> Result<Vec<u8>, F
     // A canonical text is seldom longer than the file.
     let mut lines = Lines::new(alloc, input.len(), names);
     tell_efg(alloc, input, &mut lines)?;
-    Ok(lines.text)
+    Ok(TextPieces::of(lines.text))
 }
 
 /// The canonical text of a game file, or why it is refused.
 #[tactic(auto, using(crate::proofs::lemmas::files::Refused::refused))]
-fn text_of(alloc: Global, input: &[u8], names: Names) -> Result<Vec<u8>, Fault>
-    ensures text { IfOk result (λ text. IsTextBy names input.now text.items) }
+fn text_of(alloc: Global, input: &[u8], names: Names) -> Result<TextPieces, Fault>
+    ensures text { IfOk result (λ text. IsTextBy names input.now text.rest) }
     ensures refused { IfErr result (IsRefusedWith input.now) }
 {
     match format_of(input)? {
@@ -49,6 +49,9 @@ fn text_of(alloc: Global, input: &[u8], names: Names) -> Result<Vec<u8>, Fault>
 /// comment, and the names of nodes, information sets and outcomes are written empty: two such texts
 /// are equal exactly if `same_by` returns true for the files.
 ///
+/// The text comes in pieces, so that whoever writes it, or works out its hash, need not hold it
+/// whole: that of a table in outcome version can be a thousand times as long as its file.
+///
 /// # Errors
 ///
 /// A file is refused as `read_efg` or `read_nfg` refuses a file of its format: at the first token
@@ -58,6 +61,21 @@ fn text_of(alloc: Global, input: &[u8], names: Names) -> Result<Vec<u8>, Fault>
 /// - E3: the first token is anything other than these words, or there is none; at that place.
 /// - E19: memory for the text is refused; at the token that needed it, or, for lines that are made
 ///   after a table was read, at the end. There was nothing else to refuse.
+pub fn canonical_text(alloc: Global, input: &[u8], names: Names) -> Result<TextPieces, Fault>
+    ensures text { IfOk result (λ text. IsTextBy names input.now text.rest) }
+    ensures only { (x : GameFile) → SpellsWithin input.now x → MatchResult result
+        (λ text. text.rest ≡ canonical_text (file_by names x)) (λ fault. fault.why ≡ Memory) }
+    ensures judged { IfErr result (λ fault. IsJudged fault.why input.now fault.span) }
+    ensures placed { IfErr result (λ fault. IsPlaced fault.why input.now fault.span) }
+{
+    text_of(alloc, input, names)
+}
+
+/// The canonical text of a game file as one vector.
+///
+/// # Errors
+///
+/// Those of `canonical_text`; E19 at the end if memory for the whole text is refused.
 pub fn canonical_by(alloc: Global, input: &[u8], names: Names) -> Result<Vec<u8>, Fault>
     ensures text { IfOk result (λ text. IsTextBy names input.now text.items) }
     ensures only { (x : GameFile) → SpellsWithin input.now x → MatchResult result
@@ -65,7 +83,11 @@ pub fn canonical_by(alloc: Global, input: &[u8], names: Names) -> Result<Vec<u8>
     ensures judged { IfErr result (λ fault. IsJudged fault.why input.now fault.span) }
     ensures placed { IfErr result (λ fault. IsPlaced fault.why input.now fault.span) }
 {
-    text_of(alloc, input, names)
+    let pieces = canonical_text(alloc, input, names)?;
+    match pieces.into_vec() {
+        Ok(text) => Ok(text),
+        Err(_) => Err(Fault::at_end(input.len(), Why::Memory)),
+    }
 }
 
 /// The canonical text of a game file with all its names.

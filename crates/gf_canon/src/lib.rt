@@ -11,7 +11,7 @@ mod numbering;
 mod sameness;
 mod text;
 
-pub use crate::canonise::{canonical, canonical_by};
+pub use crate::canonise::{canonical, canonical_by, canonical_text};
 pub use crate::checking::check;
 pub use crate::format::Format;
 pub use crate::meaning::{Meaning, read_file};
@@ -21,3 +21,4 @@ pub use crate::numbering::pairs::{NumberPair, ReceivePairs, pairs_between};
 pub use crate::numbering::renumber;
 pub use crate::sameness::{Names, SameFault, same, same_by, same_meaning};
 pub use crate::text::write::write_efg;
+pub use gf_nfg::TextPieces;

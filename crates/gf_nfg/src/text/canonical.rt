@@ -15,6 +15,7 @@ use crate::table::Table;
 use crate::table::parts::Parts;
 use crate::text::Text;
 use crate::text::lines::write_rows;
+use crate::text::pieces::TextPieces;
 use gf_token::{Fault, Why};
 use std::alloc::{AllocError, Global};
 
@@ -38,9 +39,9 @@ fn with_lines(alloc: Global, text: Vec<u8>, parts: Parts<'_>) -> Result<Vec<u8>,
 /// # Errors
 ///
 /// Those of `read_nfg`; E19 if memory for the text is refused.
-pub fn canonical_nfg(alloc: Global, input: &[u8], named: bool) -> Result<Vec<u8>, Fault>
+pub fn canonical_nfg(alloc: Global, input: &[u8], named: bool) -> Result<TextPieces, Fault>
     ensures text { IfOk result (λ text. (t : Table) × SpellsTable input.now t × IsWithinLimit t
-        × (text.items ≡ table_text (named_by named t))) }
+        × (text.rest ≡ table_text (named_by named t))) }
     ensures only { IfErr result (λ fault. (t : Table) → SpellsTable input.now t → IsWithinLimit t
         → fault.why ≡ Memory) }
     ensures judged { IfErr result (λ fault. IsJudged fault.why input.now fault.span) }
@@ -54,10 +55,10 @@ pub fn canonical_nfg(alloc: Global, input: &[u8], named: bool) -> Result<Vec<u8>
         ..
     } = text;
     if version == Version::Payoffs {
-        return Ok(text);
+        return Ok(TextPieces::of(text));
     }
     match with_lines(alloc, text, Parts { heading, kept }) {
-        Ok(text) => Ok(text),
+        Ok(text) => Ok(TextPieces::of(text)),
         Err(_) => Err(Fault::at_end(input.len(), Why::Memory)),
     }
 }

@@ -9,9 +9,10 @@ use Rattle.gf_nfg.proofs.text.canonical.canonical_nfg.Goals as goal
 pub returns-then-eq-clause-text : goal.returns-then-eq-clause-text
 returns-then-eq-clause-text c =
     let is : c.tell_nfg.new.to.version ≡ Payoffs = search rules in
-    payoffs_text c.args.input.now c.in_ok-heading.heading c.args.named c.tell_nfg.new.to is
+    let h = payoffs_text c.args.input.now c.in_ok-heading.heading c.args.named c.tell_nfg.new.to is
     (subst (λ (named : Bool). HasToldTable (HasText named) c.args.input.now c.in_ok-heading.heading
-    c.tell_nfg.new.to) c.new-text.ensures.named c.in_ok-heading.ensures.told)
+    c.tell_nfg.new.to) c.new-text.ensures.named c.in_ok-heading.ensures.told) in
+    (h.0, h.1, h.2, c.of.ensures ∙ h.3)
 
 pub with_lines-requires : goal.with_lines-requires
 with_lines-requires c = grind (arith, outcomes_begin)
@@ -28,8 +29,8 @@ returns-in-Ok-clause-text c =
       table_of content,
       begun.means.spelled,
       begun.means.within,
-      text_with c.args.named content c.in-Ok.text.items begun.means.complete
-          (c.in-Ok.ensures ∙ ap (λ (bs : List ℕ). bs ++ lines_text
+      text_with c.args.named content c.of-in-Ok.result.rest begun.means.complete
+          (c.of-in-Ok.ensures ∙ c.in-Ok.ensures ∙ ap (λ (bs : List ℕ). bs ++ lines_text
           (map row_text (rows_by content content.choices))) begun.text_is),
     )
 
