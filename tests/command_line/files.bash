@@ -87,10 +87,24 @@ tree_file() { # NODES
     echo 't "" 0'
 }
 
+# A table of two players in outcome version, in which profiles share three rows, and its canonical text.
+shared_file() { # ONE_COUNT OTHER_COUNT
+    echo "NFG 1 R \"\" { \"a\" \"b\" } { $1 $2 } \"\" { { \"\" 1/2 -3 } { \"\" 40, 5 } }"
+    seq $(($1 * $2)) | awk '{ print $1 % 3 }'
+}
+
+shared_text() { # ONE_COUNT OTHER_COUNT
+    echo 'NFG 1 R "" { "a" "b" }'
+    echo "{ { $(seq "$1" | sed 's/.*/"&"/' | tr '\n' ' ')} { $(seq "$2" | sed 's/.*/"&"/' | tr '\n' ' ')} }"
+    printf '""\n\n'
+    seq $(($1 * $2)) | awk '{ n = $1 % 3; print n == 0 ? "0 0" : n == 1 ? "1/2 -3" : "40 5" }'
+}
+
 # A large output arrives whole, in a file and in a pipe whose reader is slow. The path is as deep as it
-# is long.
+# is long. The text of a table in outcome version comes in pieces: its heading is shorter than one, or
+# longer.
 check_large() {
-    local tree=$scratch/large.efg text=$scratch/large.out nodes=100000
+    local tree=$scratch/large.efg text=$scratch/large.out nodes=100000 counts
     tree_file "$nodes" >"$tree"
     sed '1a ""\n' "$tree" >"$text"
     run canon "$tree"
@@ -100,4 +114,12 @@ check_large() {
         cat
     ) >"$scratch/out"
     judge "a large output to a pipe" "$text" "$nothing" 0
+    for counts in "300 400" "2 30000"; do
+        # shellcheck disable=SC2086
+        shared_file $counts >"$scratch/shared.nfg"
+        # shellcheck disable=SC2086
+        shared_text $counts >"$text"
+        run canon "$scratch/shared.nfg"
+        judge "a text in pieces, of a table with $counts strategies" "$text" "$nothing" 0
+    done
 }

@@ -1,11 +1,12 @@
 -- The pieces of a canonical text, for the functions that append them.
-use Rattle.std.specs.Prelude.{◌≡◌, ℕ, Bool, List, length, [], ◌∷◌, ◌++◌, map, codes, get_or, take}
+use Rattle.std.specs.Prelude.{◌≡◌, ℕ, ◌+◌, ◌<◌, ◌≤◌, Bool, List, length, [], ◌∷◌, ◌++◌, map, codes, get_or, take}
 use Rattle.std.specs.Prelude.{if◌then◌else◌}
-use Rattle.std.specs.List.{flat_map}
+use Rattle.std.specs.List.{AllByRecursion, flat_map}
 use Rattle.gf_fraction.specs.Ratio.{Ratio}
 use Rattle.gf_fraction.specs.NumberText.{number_text}
 use Rattle.gf_nfg.specs.TableParts.{Names}
 use Rattle.gf_nfg.specs.TableText.{lines_text, list_text, quoted, spaced}
+use Rattle.gf_nfg.specs.declared.text.lines.TheConstants.{PIECE}
 
 -- title and comment are empty if it is not named
 abbrev pub names_by : Bool → Names → Names
@@ -48,3 +49,10 @@ heading_text names = lines_text
 -- the lines with these numbers, from 0, one after another
 abbrev pub lines_with : List (List ℕ) → List ℕ → List ℕ
 lines_with lines numbers = flat_map (λ number. get_or lines number []) numbers
+
+-- each number is that of a line, and so many of them are given; there is room for a piece and any
+-- line
+pub record HasRoom (lines : List (List ℕ)) (numbers : List ℕ) (given capacity : ℕ) : Type 0 where
+  pub below : AllByRecursion (λ number. number < length lines) numbers
+  pub given_within : given ≤ length numbers
+  pub room : AllByRecursion (λ line. PIECE + length line ≤ capacity) lines

@@ -10,31 +10,47 @@ ghost use Rattle.gf_nfg.specs.TableText.{SpellsTable, lines_text, named_by, tabl
 ghost use Rattle.gf_nfg.specs.inner.TextParts.{row_text};
 
 use crate::read::tell_nfg;
-use crate::reader::receive::Version;
+use crate::reader::receive::{Kept, Version};
 use crate::table::Table;
 use crate::table::parts::Parts;
+use crate::table::rows::Shared;
 use crate::text::Text;
-use crate::text::lines::write_rows;
+use crate::text::lines::{Lines, write_rows};
 use crate::text::pieces::TextPieces;
+use gf_fraction::Fraction;
 use gf_token::{Fault, Why};
 use std::alloc::{AllocError, Global};
 
 /// A text that ends with a line for each profile.
-fn with_lines(alloc: Global, text: Vec<u8>, parts: Parts<'_>) -> Result<Vec<u8>, AllocError>
+fn with_lines(alloc: Global, text: Vec<u8>, parts: Parts<'_>) -> Result<TextPieces, AllocError>
     requires { IsComplete (content_of parts) }
-    ensures { IfOk result (λ whole. whole.items ≡ text.items
+    ensures { IfOk result (λ whole. whole.rest ≡ text.items
         ++ lines_text
         (map row_text (rows_by (content_of parts.entry) parts.entry.kept.numbers.items))) }
 {
-    let rows = parts.rows(alloc)?;
-    let mut whole = text;
-    write_rows(&rows, &mut whole)?;
-    Ok(whole)
+    let players = parts.heading.players.len();
+    if players == 0 || parts.kept.numbers.is_empty() {
+        let rows = parts.rows(alloc)?;
+        let mut whole = text;
+        write_rows(&rows, &mut whole)?;
+        return Ok(TextPieces::of(whole));
+    }
+    let Kept { payoffs, numbers } = parts.kept;
+    let zeros = vec![in alloc; Fraction::zero(); players]?;
+    let shared = Shared {
+        numbers: &numbers,
+        rows: payoffs.len() / players + 1,
+        players,
+        payoffs: &payoffs,
+        zeros: &zeros,
+    };
+    let lines = Lines::of_rows(alloc, shared)?;
+    TextPieces::with_lines(text, lines, numbers)
 }
 
 /// The canonical text of a strategic file, written while the file is read; title and comment are
-/// written empty unless it is `named`. In outcome version its lines are made at the end, when the
-/// length of all of them is known.
+/// written empty unless it is `named`. In outcome version the line of each outcome is made at the
+/// end, and the lines of the profiles are copies of these, made piece by piece.
 ///
 /// # Errors
 ///
@@ -58,7 +74,7 @@ pub fn canonical_nfg(alloc: Global, input: &[u8], named: bool) -> Result<TextPie
         return Ok(TextPieces::of(text));
     }
     match with_lines(alloc, text, Parts { heading, kept }) {
-        Ok(text) => Ok(TextPieces::of(text)),
+        Ok(text) => Ok(text),
         Err(_) => Err(Fault::at_end(input.len(), Why::Memory)),
     }
 }

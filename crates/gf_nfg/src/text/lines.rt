@@ -1,7 +1,7 @@
 //! The lines of payoffs of a canonical text, one for each profile.
 
 ghost use Rattle.std.specs.Prelude.{◌≡◌, ℕ, ◌+◌, ◌*◌, ◌<◌, ◌≤◌, ◌^◌, ◌++◌, IfOk};
-ghost use Rattle.std.specs.Prelude.{MatchOption, OnErr, OnOk, Some, length, map};
+ghost use Rattle.std.specs.Prelude.{MatchOption, OnErr, OnOk, Some, [], drop, length, map};
 ghost use Rattle.std.specs.Prelude.{slice_get, vec_capacity, vec_len};
 ghost use Rattle.std.specs.List.{AllByRecursion};
 ghost use Rattle.gf_fraction.specs.NumberText.{number_text};
@@ -15,6 +15,9 @@ use crate::table::rows::{Rows, Shared};
 use gf_fraction::Fraction;
 use std::alloc::{AllocError, Global};
 use std::marker::Model;
+
+/// How many bytes a piece of a text has, or up to a line more; the last one may have fewer.
+pub(crate) const PIECE: usize = 65_536;
 
 /// Appends payoffs, each after a space.
 #[tactic(auto, using(crate::proofs::lemmas::texts::Pieces::others_more))]
@@ -47,7 +50,7 @@ fn write_row(payoffs: &[Fraction], out: &mut Vec<u8>) -> Result<(), AllocError>
 
 /// Lines, one after another, with the place where each ends.
 #[derive(Drop)]
-struct Lines {
+pub(crate) struct Lines {
     text: Vec<u8>,
     ends: Vec<usize>,
 }
@@ -64,8 +67,18 @@ impl Model for Lines {
 }
 
 impl Lines {
+    /// No lines.
+    pub(crate) fn none(alloc: Global) -> Lines
+        ensures { result ≡ [] }
+    {
+        Lines {
+            text: Vec::new(alloc),
+            ends: Vec::new(alloc),
+        }
+    }
+
     /// The line of each row that profiles share, made in the order of the rows in memory.
-    fn of_rows(alloc: Global, shared: Shared<'_>) -> Result<Lines, AllocError>
+    pub(crate) fn of_rows(alloc: Global, shared: Shared<'_>) -> Result<Lines, AllocError>
         requires { (number : ℕ) → number < shared.rows
             → number * shared.players ≤ length shared.payoffs.now }
         ensures { IfOk result (λ lines. lines ≡ map (λ number. line_text
@@ -90,6 +103,18 @@ impl Lines {
         piece(&self.text, &self.ends, number)
     }
 
+    /// The length of the longest line.
+    #[tactic(auto, using(crate::proofs::lemmas::tables::Pieces::as_many_pieces))]
+    pub(crate) fn longest(&self) -> usize
+        ensures { AllByRecursion (λ line. length line ≤ result) self.now }
+    {
+        let mut longest = 0;
+        for number in 0..self.ends.len() {
+            longest = longest.max(self.line(number).len());
+        }
+        longest
+    }
+
     /// How long the lines with these numbers are together, or `None` if that does not fit `usize`.
     fn len_of(&self, numbers: &[u32]) -> Option<usize>
         requires { AllByRecursion (λ number. number < length self.now) numbers.now }
@@ -107,7 +132,7 @@ impl Lines {
     }
 
     /// Appends the lines with these numbers, for which there is room.
-    fn append(&self, numbers: &[u32], out: &mut Vec<u8>)
+    fn append_within(&self, numbers: &[u32], out: &mut Vec<u8>)
         requires below { AllByRecursion (λ number. number < length self.now) numbers.now }
         requires room { vec_len out.old + length (lines_with self.now numbers.now)
             ≤ vec_capacity out.old }
@@ -117,10 +142,44 @@ impl Lines {
             out.extend_from_slice(self.line(*number as usize)).unwrap();
         }
     }
+
+    /// Appends the lines with these numbers. Room for all of them is made once, so lines that are
+    /// too many are refused before the first is written.
+    pub(crate) fn append(&self, numbers: &[u32], out: &mut Vec<u8>) -> Result<(), AllocError>
+        requires { AllByRecursion (λ number. number < length self.now) numbers.now }
+        ensures text { OnOk result
+            (out.new.items ≡ out.old.items ++ lines_with self.now numbers.now) }
+        ensures kept { OnErr result (out.new.items ≡ out.old.items) }
+    {
+        let len = self.len_of(numbers).ok_or(AllocError)?;
+        out.reserve_exact(len)?;
+        self.append_within(numbers, out);
+        Ok(())
+    }
+
+    /// Appends the lines with the first of these numbers until the text has `PIECE` bytes, for
+    /// which there is room and for a line more. Returns how many lines these are.
+    pub(crate) fn fill(&self, numbers: &[u32], out: &mut Vec<u8>) -> usize
+        requires below { AllByRecursion (λ number. number < length self.now) numbers.now }
+        requires room { AllByRecursion (λ line. PIECE + length line ≤ vec_capacity out.old) self.now }
+        ensures within { result ≤ length numbers.now }
+        ensures text { out.new.items ++ lines_with self.now (drop result numbers.now)
+            ≡ out.old.items ++ lines_with self.now numbers.now }
+        ensures whole { length out.new.items < PIECE → result ≡ length numbers.now }
+        ensures room { vec_capacity out.old ≤ vec_capacity out.new }
+    {
+        for (place, number) in numbers.iter().enumerate() {
+            if out.len() >= PIECE {
+                return place;
+            }
+            out.extend_from_slice(self.line(*number as usize)).unwrap();
+        }
+        numbers.len()
+    }
 }
 
 /// Appends a line of payoffs for each profile, if profiles share rows. The line of a row is made
-/// once, and so is room for all lines, so a text that is too large is refused before it is begun.
+/// once.
 fn write_shared(shared: Shared<'_>, out: &mut Vec<u8>) -> Result<(), AllocError>
     requires below { AllByRecursion (λ number. number < shared.rows) shared.numbers.now }
     requires kept { (number : ℕ) → number < shared.rows
@@ -131,10 +190,7 @@ fn write_shared(shared: Shared<'_>, out: &mut Vec<u8>) -> Result<(), AllocError>
     ensures kept { OnErr result (Keeps out.old.items out.new.items) }
 {
     let lines = Lines::of_rows(*out.allocator(), shared)?;
-    let len = lines.len_of(shared.numbers).ok_or(AllocError)?;
-    out.reserve_exact(len)?;
-    lines.append(shared.numbers, out);
-    Ok(())
+    lines.append(shared.numbers, out)
 }
 
 /// Appends a line of payoffs for each profile.

@@ -2,28 +2,41 @@
 //! held in memory.
 
 ghost use Rattle.std.specs.Prelude.{◌≡◌, ◌<◌, ◌++◌, [], false, true, IfOk, length};
+ghost use Rattle.std.specs.List.{AllByRecursion};
+ghost use Rattle.gf_nfg.specs.inner.TextParts.{lines_with};
 
+use crate::text::lines::{Lines, PIECE};
 use std::alloc::AllocError;
 use std::marker::Model;
 
 /// A text that is given piece by piece.
 #[derive(Drop)]
 pub struct TextPieces {
+    /// The piece that was given last; before the first one, what it begins with.
     piece: Vec<u8>,
     /// Whether the first piece was given.
     begun: bool,
+    lines: Lines,
+    /// The numbers of the lines that end the text, one after another.
+    numbers: Vec<u32>,
+    /// How many of them were given.
+    next: usize,
 }
 
 impl Model for TextPieces {
-    ghost use Rattle.std.specs.Prelude.{[], if◌then◌else◌};
+    ghost use Rattle.std.specs.Prelude.{◌++◌, [], drop, if◌then◌else◌, vec_capacity};
     ghost use Rattle.gf_nfg.specs.TextPieces.{TextLeft};
+    ghost use Rattle.gf_nfg.specs.inner.TextParts.{HasRoom, lines_with};
 
     ghost Value = { TextLeft };
 
     ghost view = { λ t. record {
       piece = if t.begun then t.piece.items else [];
-      rest = if t.begun then [] else t.piece.items;
+      rest = (if t.begun then [] else t.piece.items)
+          ++ lines_with t.lines (drop t.next t.numbers.items);
     } };
+
+    ghost invariant = { λ t. HasRoom t.lines t.numbers.items t.next (vec_capacity t.piece) };
 }
 
 impl TextPieces {
@@ -31,10 +44,35 @@ impl TextPieces {
     pub fn of(text: Vec<u8>) -> TextPieces
         ensures { result.rest ≡ text.items }
     {
+        let alloc = *text.allocator();
         TextPieces {
             piece: text,
             begun: false,
+            lines: Lines::none(alloc),
+            numbers: Vec::new(alloc),
+            next: 0,
         }
+    }
+
+    /// A text and, after it, the lines with these numbers. Room for any piece is made here.
+    pub(crate) fn with_lines(
+        text: Vec<u8>,
+        lines: Lines,
+        numbers: Vec<u32>,
+    ) -> Result<TextPieces, AllocError>
+        requires { AllByRecursion (λ number. number < length lines) numbers.items }
+        ensures { IfOk result (λ t. t.rest ≡ text.items ++ lines_with lines numbers.items) }
+    {
+        let room = PIECE.checked_add(lines.longest()).ok_or(AllocError)?;
+        let mut piece = text;
+        piece.reserve_exact(room)?;
+        Ok(TextPieces {
+            piece,
+            begun: false,
+            lines,
+            numbers,
+            next: 0,
+        })
     }
 
     /// Goes on to the next piece, and returns whether there is one.
@@ -47,6 +85,7 @@ impl TextPieces {
             self.piece.clear();
         }
         self.begun = true;
+        self.next += self.lines.fill(&self.numbers[self.next..], &mut self.piece);
         !self.piece.is_empty()
     }
 
@@ -61,10 +100,18 @@ impl TextPieces {
     pub fn into_vec(self) -> Result<Vec<u8>, AllocError>
         ensures { IfOk result (λ text. text.items ≡ self.rest) }
     {
-        let mut text = self.piece;
-        if self.begun {
+        let TextPieces {
+            piece,
+            begun,
+            lines,
+            numbers,
+            next,
+        } = self;
+        let mut text = piece;
+        if begun {
             text.clear();
         }
+        lines.append(&numbers[next..], &mut text)?;
         Ok(text)
     }
 }

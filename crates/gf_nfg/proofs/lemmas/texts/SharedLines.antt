@@ -1,10 +1,12 @@
 -- Lines of rows that profiles share.
-use Rattle.gf_nfg.proofs.Common.{◌≡◌, ℕ, ◌+◌, ◌*◌, ◌/◌, ◌<◌, ◌≤◌, List, [], ◌∷◌, ◌++◌, length, map}
+use Rattle.gf_nfg.proofs.Common.{◌≡◌, ℕ, suc, ◌+◌, ◌*◌, ◌/◌, ◌<◌, ◌≤◌, List, [], ◌∷◌, ◌++◌, length, map}
 use Rattle.gf_nfg.proofs.Common.{drop, get_or, Some, slice_get, append_assoc, refl, sym, ap, ◌∙◌}
 use Rattle.gf_nfg.proofs.Common.{arith, length-append, AllByRecursion, le-div_iff_mul-le, drop_more}
 use Rattle.gf_nfg.proofs.Common.{get_or-map, length-map, map-append, get_or_from_slice_get, Ratio}
 use Rattle.gf_nfg.proofs.Common.{numbers_from, line_text, lines_with, row_text, RisesTo, kept_row}
-use Rattle.gf_nfg.proofs.Common.{pieces, row_of, lines_text}
+use Rattle.gf_nfg.proofs.Common.{pieces, row_of, lines_text, Content, IsComplete, rows_by, subst}
+use Rattle.gf_nfg.proofs.Common.{replicate, whole, pos}
+use Rattle.gf_nfg.proofs.lemmas.tables.Meaning.{rows_chosen, some_chosen}
 use Rattle.gf_nfg.proofs.lemmas.tables.NumbersInTurn.{get_or-numbers_from, length-numbers_from}
 use Rattle.gf_nfg.proofs.lemmas.tables.NumbersInTurn.{numbers_joined}
 use Rattle.gf_nfg.proofs.lemmas.tables.Rows.{kept_row_is}
@@ -68,6 +70,23 @@ pub chosen_next : (lines : List (List ℕ)) (numbers : List ℕ) (at : ℕ) (lin
     → lines_with lines (drop at numbers) ≡ line ++ lines_with lines (drop (at + 1) numbers)
 chosen_next lines numbers at line h found = grind (arith, get_or_from_slice_get, drop_more)
 
+-- that of the next number is appended
+pub line_appended : (lines : List (List ℕ)) (numbers : List ℕ) (at : ℕ)
+    (line out longer start : List ℕ) → at < length numbers
+    → slice_get lines (get_or numbers at 0) ≡ Some line → longer ≡ out ++ line
+    → out ++ lines_with lines (drop at numbers) ≡ start
+    → longer ++ lines_with lines (drop (at + 1) numbers) ≡ start
+line_appended lines numbers at line out longer start h found e is =
+    let next = chosen_next lines numbers at line h found in
+    grind (arith, append_assoc)
+
+pub bound_of_each : (lines : List (List ℕ)) (bound : ℕ)
+    → ((k : ℕ) → k < length lines → length (get_or lines k []) ≤ bound)
+    → AllByRecursion (λ line. length line ≤ bound) lines
+bound_of_each [] bound h = tt
+bound_of_each (line ∷ lines) bound h =
+    (h 0 (omega arith), bound_of_each lines bound (λ k below. h (suc k) (omega (arith, below))))
+
 line_there : (row : ℕ → List Ratio) (bound number : ℕ) → number < bound
     → get_or (map (λ n. line_text (row n)) (numbers_from 0 bound)) number []
     ≡ line_text (row number)
@@ -90,3 +109,39 @@ pub lines_chosen : (row : ℕ → List Ratio) (bound : ℕ) (numbers : List ℕ)
 lines_chosen row bound [] h = refl
 lines_chosen row bound (number ∷ numbers) h =
     (λ i. line_there row bound number h.0 i ++ lines_chosen row bound numbers h.1 i)
+
+-- ---- the lines of outcomes
+
+each_zero : (A : Type 0) (numbers : List ℕ) → A → AllByRecursion (λ number. number ≡ 0 → A) numbers
+each_zero A [] a = tt
+each_zero A (number ∷ numbers) a = (λ e. a, each_zero A numbers a)
+
+-- a number of an outcome for each profile, and the lines of all outcomes
+module _ (c : Content) (players size : ℕ) (payoffs zeros : List Ratio) (lines : List (List ℕ))
+    (h : IsComplete c) (players_are : length c.players ≡ players) (some : 0 < players)
+    (chosen : 0 < length c.choices) (payoffs_are : payoffs ≡ c.payoffs)
+    (size_is : size ≡ length c.payoffs)
+    (are : lines ≡ map (λ number. line_text (kept_row players payoffs zeros number))
+    (numbers_from 0 (size / players + 1))) where
+  outcomes_within : AllByRecursion (λ number. number < size / players + 1) c.choices
+  outcomes_within = rows_below players size c.choices some
+      (subst (λ (p : ℕ × ℕ). AllByRecursion (λ number. number * p.0 ≤ p.1) c.choices)
+      (λ i. (players_are i, sym size_is i)) (rows_chosen c c.choices h.has_rows chosen))
+
+  pub numbers_within : AllByRecursion (λ number. number < length lines) c.choices
+  numbers_within = subst (λ (n : ℕ). AllByRecursion (λ number. number < n) c.choices)
+      (sym (lines_counted (kept_row players payoffs zeros) (size / players + 1) lines are))
+      outcomes_within
+
+  same_rows : map (row_of players payoffs) c.choices ≡ rows_by c c.choices
+  same_rows = (λ i. map (row_of (sym players_are i) (payoffs_are i))
+      (sym (some_chosen c.profiles c.choices chosen) i))
+
+  pub outcome_lines : zeros ≡ replicate players (whole (pos 0))
+      → lines_with lines c.choices ≡ lines_text (map row_text (rows_by c c.choices))
+  outcome_lines none =
+      ap (λ (ls : List (List ℕ)). lines_with ls c.choices) are
+      ∙ lines_chosen (kept_row players payoffs zeros) (size / players + 1) c.choices outcomes_within
+      ∙ ap (λ (rs : List (List Ratio)). lines_text (map row_text rs))
+      (sym (kept_rows_are players payoffs zeros c.choices (each_zero _ c.choices none))
+      ∙ same_rows)

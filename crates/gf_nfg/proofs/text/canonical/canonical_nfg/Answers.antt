@@ -29,8 +29,8 @@ returns-in-Ok-clause-text c =
       table_of content,
       begun.means.spelled,
       begun.means.within,
-      text_with c.args.named content c.of-in-Ok.result.rest begun.means.complete
-          (c.of-in-Ok.ensures ∙ c.in-Ok.ensures ∙ ap (λ (bs : List ℕ). bs ++ lines_text
+      text_with c.args.named content c.in-Ok.text.rest begun.means.complete
+          (c.in-Ok.ensures ∙ ap (λ (bs : List ℕ). bs ++ lines_text
           (map row_text (rows_by content content.choices))) begun.text_is),
     )
 

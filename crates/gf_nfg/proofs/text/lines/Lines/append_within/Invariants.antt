@@ -1,6 +1,6 @@
 use Rattle.gf_nfg.proofs.Common.{◌≡◌, ◌+◌, ◌++◌, ◌≤◌, drop, length, vec_len, lines_with}
 use Rattle.std.specs.Prelude.{vec_capacity}
-use Rattle.gf_nfg.proofs.text.lines.Lines.append.Given as goal
+use Rattle.gf_nfg.proofs.text.lines.Lines.append_within.Given as goal
 
 abbrev pub invariant-loop-number : goal.invariant-loop-number
 invariant-loop-number l = record {

@@ -1,7 +1,6 @@
-use Rattle.gf_nfg.proofs.Common.{◌+◌, ◌∙◌, ◌++◌, sym, ap, arith, length, drop, length-append}
-use Rattle.gf_nfg.proofs.Common.{append_assoc, List, ℕ, lines_with}
-use Rattle.gf_nfg.proofs.lemmas.texts.SharedLines.{chosen_next}
-use Rattle.gf_nfg.proofs.text.lines.Lines.append.Goals as goal
+use Rattle.gf_nfg.proofs.Common.{◌+◌, ◌∙◌, ap, arith, length, drop, length-append, lines_with}
+use Rattle.gf_nfg.proofs.lemmas.texts.SharedLines.{chosen_next, line_appended}
+use Rattle.gf_nfg.proofs.text.lines.Lines.append_within.Goals as goal
 
 pub unwrap-requires : goal.unwrap-requires
 unwrap-requires c =
@@ -23,12 +22,11 @@ loop-number-preserved c =
     let size = ap length next ∙ length-append line rest in
     let ok = c.extend_from_slice.ensures.succeeds
     (omega (arith, size, c.loop-number.invariant.room)) in
-    let added = rw ok at c.extend_from_slice.ensures.items in
     let longer = rw ok at c.extend_from_slice.ensures.len in
     record {
-      text = ap (λ (bs : List ℕ). bs ++ rest) added ∙ append_assoc c.loop-number.out.items line rest
-          ∙ ap (λ (bs : List ℕ). c.loop-number.out.items ++ bs) (sym next)
-          ∙ c.loop-number.invariant.text;
+      text = line_appended c.args.self.now c.args.numbers.now at line c.loop-number.out.items
+          c.extend_from_slice.new.self.items _ c.loop-number-test.true c.line.ensures
+          (rw ok at c.extend_from_slice.ensures.items) c.loop-number.invariant.text;
       room = omega (
         arith,
         size,
