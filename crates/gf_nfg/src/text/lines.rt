@@ -161,7 +161,8 @@ impl Lines {
     /// which there is room and for a line more. Returns how many lines these are.
     pub(crate) fn fill(&self, numbers: &[u32], out: &mut Vec<u8>) -> usize
         requires below { AllByRecursion (λ number. number < length self.now) numbers.now }
-        requires room { AllByRecursion (λ line. PIECE + length line ≤ vec_capacity out.old) self.now }
+        requires room { AllByRecursion
+            (λ line. PIECE + length line ≤ vec_capacity out.old) self.now }
         ensures within { result ≤ length numbers.now }
         ensures text { out.new.items ++ lines_with self.now (drop result numbers.now)
             ≡ out.old.items ++ lines_with self.now numbers.now }

@@ -1,11 +1,11 @@
 -- Lines of rows that profiles share.
-use Rattle.gf_nfg.proofs.Common.{◌≡◌, ℕ, suc, ◌+◌, ◌*◌, ◌/◌, ◌<◌, ◌≤◌, List, [], ◌∷◌, ◌++◌, length, map}
+use Rattle.gf_nfg.proofs.Common.{◌≡◌, ℕ, ◌+◌, ◌*◌, ◌/◌, ◌<◌, ◌≤◌, List, [], ◌∷◌, ◌++◌, length, map}
 use Rattle.gf_nfg.proofs.Common.{drop, get_or, Some, slice_get, append_assoc, refl, sym, ap, ◌∙◌}
 use Rattle.gf_nfg.proofs.Common.{arith, length-append, AllByRecursion, le-div_iff_mul-le, drop_more}
 use Rattle.gf_nfg.proofs.Common.{get_or-map, length-map, map-append, get_or_from_slice_get, Ratio}
 use Rattle.gf_nfg.proofs.Common.{numbers_from, line_text, lines_with, row_text, RisesTo, kept_row}
 use Rattle.gf_nfg.proofs.Common.{pieces, row_of, lines_text, Content, IsComplete, rows_by, subst}
-use Rattle.gf_nfg.proofs.Common.{replicate, whole, pos}
+use Rattle.gf_nfg.proofs.Common.{replicate, whole, pos, suc}
 use Rattle.gf_nfg.proofs.lemmas.tables.Meaning.{rows_chosen, some_chosen}
 use Rattle.gf_nfg.proofs.lemmas.tables.NumbersInTurn.{get_or-numbers_from, length-numbers_from}
 use Rattle.gf_nfg.proofs.lemmas.tables.NumbersInTurn.{numbers_joined}

@@ -1,5 +1,5 @@
-use Rattle.gf_nfg.proofs.Common.{◌≡◌, ◌∙◌, ◌++◌, arith, sym, subst, List, ℕ, IfOk, length, replicate}
-use Rattle.gf_nfg.proofs.Common.{length-map, whole, pos, label_of, content_of}
+use Rattle.gf_nfg.proofs.Common.{◌≡◌, ◌∙◌, ◌++◌, arith, sym, subst, List, ℕ, IfOk, length, whole}
+use Rattle.gf_nfg.proofs.Common.{length-map, replicate, pos, label_of, content_of}
 use Rattle.gf_nfg.proofs.lemmas.tables.Meaning.{present}
 use Rattle.gf_nfg.proofs.lemmas.texts.SharedLines.{numbers_within, outcome_lines}
 use Rattle.gf_nfg.proofs.text.canonical.with_lines.Goals as goal
@@ -27,7 +27,7 @@ returns c =
     let size : c.len.result ≡ length content.payoffs = omega arith in
     let zeros : c.deref-3.result.now ≡ replicate c.len-players.result (whole (pos 0)) =
     grind arith in
-    subst (λ (bs : List ℕ). IfOk c.with_lines.result (λ whole. whole.rest ≡ c.args.text.items ++ bs))
+    subst (λ (bs : List ℕ). IfOk c.with_lines.result (λ t. t.rest ≡ c.args.text.items ++ bs))
     (outcome_lines content c.len-players.result c.len.result c.deref-2.result.now
     c.deref-3.result.now c.in_ok-lines.lines c.requires players (omega arith)
     (present _ _ _ c.is_empty.ensures c.if-is_empty.false c.args.parts.kept.numbers.ok.0)
