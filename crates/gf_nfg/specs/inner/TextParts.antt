@@ -1,12 +1,11 @@
 -- The pieces of a canonical text, for the functions that append them.
 use Rattle.std.specs.Prelude.{◌≡◌, ℕ, ◌+◌, ◌<◌, ◌≤◌, Bool, List, length, [], ◌∷◌, ◌++◌, map, codes}
-use Rattle.std.specs.Prelude.{get_or, if◌then◌else◌, take}
+use Rattle.std.specs.Prelude.{drop, get_or, if◌then◌else◌, take}
 use Rattle.std.specs.List.{AllByRecursion, flat_map}
 use Rattle.gf_fraction.specs.Ratio.{Ratio}
 use Rattle.gf_fraction.specs.NumberText.{number_text}
 use Rattle.gf_nfg.specs.TableParts.{Names}
 use Rattle.gf_nfg.specs.TableText.{lines_text, list_text, quoted, spaced}
-use Rattle.gf_nfg.specs.declared.text.lines.TheConstants.{PIECE}
 
 -- title and comment are empty if it is not named
 abbrev pub names_by : Bool → Names → Names
@@ -50,9 +49,10 @@ heading_text names = lines_text
 abbrev pub lines_with : List (List ℕ) → List ℕ → List ℕ
 lines_with lines numbers = flat_map (λ number. get_or lines number []) numbers
 
--- each number is that of a line, and so many of them are given; there is room for a piece and any
--- line
-pub record HasRoom (lines : List (List ℕ)) (numbers : List ℕ) (given capacity : ℕ) : Type 0 where
-  pub below : AllByRecursion (λ number. number < length lines) numbers
-  pub given_within : given ≤ length numbers
-  pub room : AllByRecursion (λ line. PIECE + length line ≤ capacity) lines
+-- each number is that of a line, and so many of them are given; there is room for this many bytes
+-- and the lines that are left
+pub record HasRoom (lines : List (List ℕ)) (numbers : List ℕ) (given bytes capacity : ℕ) : Type 0
+  where
+    pub below : AllByRecursion (λ number. number < length lines) numbers
+    pub given_within : given ≤ length numbers
+    pub room : bytes + length (lines_with lines (drop given numbers)) ≤ capacity

@@ -16,9 +16,6 @@ use gf_fraction::Fraction;
 use std::alloc::{AllocError, Global};
 use std::marker::Model;
 
-/// How many bytes a piece of a text has, or up to a line more; the last one may have fewer.
-pub(crate) const PIECE: usize = 65_536;
-
 /// Appends payoffs, each after a space.
 #[tactic(auto, using(crate::proofs::lemmas::texts::Pieces::others_more))]
 fn write_others(payoffs: &[Fraction], out: &mut Vec<u8>) -> Result<(), AllocError>
@@ -103,18 +100,6 @@ impl Lines {
         piece(&self.text, &self.ends, number)
     }
 
-    /// The length of the longest line.
-    #[tactic(auto, using(crate::proofs::lemmas::tables::Pieces::as_many_pieces))]
-    pub(crate) fn longest(&self) -> usize
-        ensures { AllByRecursion (λ line. length line ≤ result) self.now }
-    {
-        let mut longest = 0;
-        for number in 0..self.ends.len() {
-            longest = longest.max(self.line(number).len());
-        }
-        longest
-    }
-
     /// How long the lines with these numbers are together, or `None` if that does not fit `usize`.
     fn len_of(&self, numbers: &[u32]) -> Option<usize>
         requires { AllByRecursion (λ number. number < length self.now) numbers.now }
@@ -131,56 +116,52 @@ impl Lines {
         Some(len)
     }
 
-    /// Appends the lines with these numbers, for which there is room.
-    fn append_within(&self, numbers: &[u32], out: &mut Vec<u8>)
+    /// Makes room for the lines with these numbers.
+    pub(crate) fn reserve(&self, numbers: &[u32], out: &mut Vec<u8>) -> Result<(), AllocError>
+        requires { AllByRecursion (λ number. number < length self.now) numbers.now }
+        ensures items { out.new.items ≡ out.old.items }
+        ensures room { OnOk result (vec_len out.new + length (lines_with self.now numbers.now)
+            ≤ vec_capacity out.new) }
+    {
+        let len = self.len_of(numbers).ok_or(AllocError)?;
+        out.reserve_exact(len)
+    }
+
+    /// Appends the lines with these numbers, for which there is room, until there are this many
+    /// bytes. Returns how many lines these are.
+    pub(crate) fn append_until(&self, bytes: usize, numbers: &[u32], out: &mut Vec<u8>) -> usize
         requires below { AllByRecursion (λ number. number < length self.now) numbers.now }
         requires room { vec_len out.old + length (lines_with self.now numbers.now)
             ≤ vec_capacity out.old }
-        ensures { out.new.items ≡ out.old.items ++ lines_with self.now numbers.now }
-    {
-        for number in numbers {
-            out.extend_from_slice(self.line(*number as usize)).unwrap();
-        }
-    }
-
-    /// Appends the lines with these numbers. Room for all of them is made once, so lines that are
-    /// too many are refused before the first is written.
-    pub(crate) fn append(&self, numbers: &[u32], out: &mut Vec<u8>) -> Result<(), AllocError>
-        requires { AllByRecursion (λ number. number < length self.now) numbers.now }
-        ensures text { OnOk result
-            (out.new.items ≡ out.old.items ++ lines_with self.now numbers.now) }
-        ensures kept { OnErr result (out.new.items ≡ out.old.items) }
-    {
-        let len = self.len_of(numbers).ok_or(AllocError)?;
-        out.reserve_exact(len)?;
-        self.append_within(numbers, out);
-        Ok(())
-    }
-
-    /// Appends the lines with the first of these numbers until the text has `PIECE` bytes, for
-    /// which there is room and for a line more. Returns how many lines these are.
-    pub(crate) fn fill(&self, numbers: &[u32], out: &mut Vec<u8>) -> usize
-        requires below { AllByRecursion (λ number. number < length self.now) numbers.now }
-        requires room { AllByRecursion
-            (λ line. PIECE + length line ≤ vec_capacity out.old) self.now }
         ensures within { result ≤ length numbers.now }
         ensures text { out.new.items ++ lines_with self.now (drop result numbers.now)
             ≡ out.old.items ++ lines_with self.now numbers.now }
-        ensures whole { length out.new.items < PIECE → result ≡ length numbers.now }
-        ensures room { vec_capacity out.old ≤ vec_capacity out.new }
+        ensures whole { length out.new.items < bytes → result ≡ length numbers.now }
+        ensures room { vec_len out.new + length (lines_with self.now (drop result numbers.now))
+            ≤ vec_capacity out.new }
     {
         for (place, number) in numbers.iter().enumerate() {
-            if out.len() >= PIECE {
+            if out.len() >= bytes {
                 return place;
             }
             out.extend_from_slice(self.line(*number as usize)).unwrap();
         }
         numbers.len()
     }
+
+    /// Appends the lines with these numbers, for which there is room.
+    pub(crate) fn append(&self, numbers: &[u32], out: &mut Vec<u8>)
+        requires below { AllByRecursion (λ number. number < length self.now) numbers.now }
+        requires room { vec_len out.old + length (lines_with self.now numbers.now)
+            ≤ vec_capacity out.old }
+        ensures { out.new.items ≡ out.old.items ++ lines_with self.now numbers.now }
+    {
+        self.append_until(usize::MAX, numbers, out);
+    }
 }
 
 /// Appends a line of payoffs for each profile, if profiles share rows. The line of a row is made
-/// once.
+/// once, and so is room for all lines, so a text that is too large is refused before it is begun.
 fn write_shared(shared: Shared<'_>, out: &mut Vec<u8>) -> Result<(), AllocError>
     requires below { AllByRecursion (λ number. number < shared.rows) shared.numbers.now }
     requires kept { (number : ℕ) → number < shared.rows
@@ -191,7 +172,9 @@ fn write_shared(shared: Shared<'_>, out: &mut Vec<u8>) -> Result<(), AllocError>
     ensures kept { OnErr result (Keeps out.old.items out.new.items) }
 {
     let lines = Lines::of_rows(*out.allocator(), shared)?;
-    lines.append(shared.numbers, out)
+    lines.reserve(shared.numbers, out)?;
+    lines.append(shared.numbers, out);
+    Ok(())
 }
 
 /// Appends a line of payoffs for each profile.

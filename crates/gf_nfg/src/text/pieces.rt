@@ -5,9 +5,12 @@ ghost use Rattle.std.specs.Prelude.{◌≡◌, ◌<◌, ◌++◌, [], false, tru
 ghost use Rattle.std.specs.List.{AllByRecursion};
 ghost use Rattle.gf_nfg.specs.inner.TextParts.{lines_with};
 
-use crate::text::lines::{Lines, PIECE};
+use crate::text::lines::Lines;
 use std::alloc::AllocError;
 use std::marker::Model;
+
+/// How many bytes a piece has, or up to a line more; the last one may have fewer.
+const PIECE: usize = 65_536;
 
 /// A text that is given piece by piece.
 #[derive(Drop)]
@@ -24,7 +27,7 @@ pub struct TextPieces {
 }
 
 impl Model for TextPieces {
-    ghost use Rattle.std.specs.Prelude.{◌++◌, [], drop, if◌then◌else◌, vec_capacity};
+    ghost use Rattle.std.specs.Prelude.{◌++◌, [], drop, if◌then◌else◌, vec_capacity, vec_len};
     ghost use Rattle.gf_nfg.specs.TextPieces.{TextLeft};
     ghost use Rattle.gf_nfg.specs.inner.TextParts.{HasRoom, lines_with};
 
@@ -36,7 +39,8 @@ impl Model for TextPieces {
           ++ lines_with t.lines (drop t.next t.numbers.items);
     } };
 
-    ghost invariant = { λ t. HasRoom t.lines t.numbers.items t.next (vec_capacity t.piece) };
+    ghost invariant = { λ t. HasRoom t.lines t.numbers.items t.next
+        (if t.begun then 0 else vec_len t.piece) (vec_capacity t.piece) };
 }
 
 impl TextPieces {
@@ -54,7 +58,8 @@ impl TextPieces {
         }
     }
 
-    /// A text and, after it, the lines with these numbers. Room for any piece is made here.
+    /// A text and, after it, the lines with these numbers. Room for all of it is made, so a text
+    /// that memory could not hold is refused; most of the room is never touched.
     pub(crate) fn with_lines(
         text: Vec<u8>,
         lines: Lines,
@@ -63,9 +68,8 @@ impl TextPieces {
         requires { AllByRecursion (λ number. number < length lines) numbers.items }
         ensures { IfOk result (λ t. t.rest ≡ text.items ++ lines_with lines numbers.items) }
     {
-        let room = PIECE.checked_add(lines.longest()).ok_or(AllocError)?;
         let mut piece = text;
-        piece.reserve_exact(room)?;
+        lines.reserve(&numbers, &mut piece)?;
         Ok(TextPieces {
             piece,
             begun: false,
@@ -85,7 +89,8 @@ impl TextPieces {
             self.piece.clear();
         }
         self.begun = true;
-        self.next += self.lines.fill(&self.numbers[self.next..], &mut self.piece);
+        let rest = &self.numbers[self.next..];
+        self.next += self.lines.append_until(PIECE, rest, &mut self.piece);
         !self.piece.is_empty()
     }
 
@@ -97,8 +102,8 @@ impl TextPieces {
     }
 
     /// All that is still to come, as one vector.
-    pub fn into_vec(self) -> Result<Vec<u8>, AllocError>
-        ensures { IfOk result (λ text. text.items ≡ self.rest) }
+    pub fn into_vec(self) -> Vec<u8>
+        ensures { result.items ≡ self.rest }
     {
         let TextPieces {
             piece,
@@ -111,7 +116,7 @@ impl TextPieces {
         if begun {
             text.clear();
         }
-        lines.append(&numbers[next..], &mut text)?;
-        Ok(text)
+        lines.append(&numbers[next..], &mut text);
+        text
     }
 }

@@ -5,7 +5,7 @@ use Rattle.gf_nfg.proofs.Common.{arith, length-append, AllByRecursion, le-div_if
 use Rattle.gf_nfg.proofs.Common.{get_or-map, length-map, map-append, get_or_from_slice_get, Ratio}
 use Rattle.gf_nfg.proofs.Common.{numbers_from, line_text, lines_with, row_text, RisesTo, kept_row}
 use Rattle.gf_nfg.proofs.Common.{pieces, row_of, lines_text, Content, IsComplete, rows_by, subst}
-use Rattle.gf_nfg.proofs.Common.{replicate, whole, pos, suc}
+use Rattle.gf_nfg.proofs.Common.{replicate, whole, pos}
 use Rattle.gf_nfg.proofs.lemmas.tables.Meaning.{rows_chosen, some_chosen}
 use Rattle.gf_nfg.proofs.lemmas.tables.NumbersInTurn.{get_or-numbers_from, length-numbers_from}
 use Rattle.gf_nfg.proofs.lemmas.tables.NumbersInTurn.{numbers_joined}
@@ -79,13 +79,6 @@ pub line_appended : (lines : List (List ℕ)) (numbers : List ℕ) (at : ℕ)
 line_appended lines numbers at line out longer start h found e is =
     let next = chosen_next lines numbers at line h found in
     grind (arith, append_assoc)
-
-pub bound_of_each : (lines : List (List ℕ)) (bound : ℕ)
-    → ((k : ℕ) → k < length lines → length (get_or lines k []) ≤ bound)
-    → AllByRecursion (λ line. length line ≤ bound) lines
-bound_of_each [] bound h = tt
-bound_of_each (line ∷ lines) bound h =
-    (h 0 (omega arith), bound_of_each lines bound (λ k below. h (suc k) (omega (arith, below))))
 
 line_there : (row : ℕ → List Ratio) (bound number : ℕ) → number < bound
     → get_or (map (λ n. line_text (row n)) (numbers_from 0 bound)) number []

@@ -1,10 +1,18 @@
-use Rattle.gf_nfg.proofs.Common.{◌<◌, ◌∙◌, ap, subst, sym, ℕ, List, AllByRecursion, kept_row}
+use Rattle.gf_nfg.proofs.Common.{◌<◌, ◌∙◌, ◌++◌, ap, subst, sym, ℕ, List, AllByRecursion, kept_row}
 use Rattle.gf_nfg.proofs.Common.{lines_with}
 use Rattle.gf_nfg.proofs.lemmas.texts.SharedLines.{lines_chosen, lines_counted}
 use Rattle.gf_nfg.proofs.text.lines.write_shared.Goals as goal
 
-pub append-requires : goal.append-requires
-append-requires c =
+pub reserve-requires : goal.reserve-requires
+reserve-requires c =
+    let s = c.args.shared in
+    let row = kept_row s.players s.payoffs.now s.zeros.now in
+    let size = lines_counted row s.rows c.in_ok-lines.lines c.in_ok-lines.ensures in
+    subst (λ (n : ℕ). AllByRecursion (λ number. number < n) s.numbers.now) (sym size)
+    c.requires.below
+
+pub append-requires-clause-below : goal.append-requires-clause-below
+append-requires-clause-below c =
     let s = c.args.shared in
     let row = kept_row s.players s.payoffs.now s.zeros.now in
     let size = lines_counted row s.rows c.in_ok-lines.lines c.in_ok-lines.ensures in
@@ -18,4 +26,4 @@ returns-clause-text c =
     let chosen =
     ap (λ (ls : List (List ℕ)). lines_with ls s.numbers.now) c.in_ok-lines.ensures
     ∙ lines_chosen row s.rows s.numbers.now c.requires.below in
-    rw chosen at c.append.ensures.text
+    c.append.ensures ∙ (λ i. c.reserve.ensures.items i ++ chosen i)
