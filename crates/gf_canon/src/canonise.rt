@@ -14,7 +14,7 @@ use crate::format::{Format, format_of};
 use crate::sameness::Names;
 use crate::text::lines::Lines;
 use gf_nfg::{TextPieces, canonical_nfg};
-use gf_token::{Fault, Why};
+use gf_token::Fault;
 use gf_tree::tell_efg;
 use std::alloc::Global;
 
@@ -60,7 +60,8 @@ fn text_of(alloc: Global, input: &[u8], names: Names) -> Result<TextPieces, Faul
 /// - E2: the first token is an unterminated text; at its opening quote.
 /// - E3: the first token is anything other than these words, or there is none; at that place.
 /// - E19: memory for the text is refused; at the token that needed it, or, for lines that are made
-///   after a table was read, at the end. There was nothing else to refuse.
+///   after a table was read, at the end. There was nothing else to refuse. Room for the whole text
+///   is made, although most of it is not touched unless the text is made whole.
 pub fn canonical_text(alloc: Global, input: &[u8], names: Names) -> Result<TextPieces, Fault>
     ensures text { IfOk result (λ text. IsTextBy names input.now text.rest) }
     ensures only { (x : GameFile) → SpellsWithin input.now x → MatchResult result
@@ -75,7 +76,7 @@ pub fn canonical_text(alloc: Global, input: &[u8], names: Names) -> Result<TextP
 ///
 /// # Errors
 ///
-/// Those of `canonical_text`; E19 at the end if memory for the whole text is refused.
+/// Those of `canonical_text`.
 pub fn canonical_by(alloc: Global, input: &[u8], names: Names) -> Result<Vec<u8>, Fault>
     ensures text { IfOk result (λ text. IsTextBy names input.now text.items) }
     ensures only { (x : GameFile) → SpellsWithin input.now x → MatchResult result
@@ -83,11 +84,7 @@ pub fn canonical_by(alloc: Global, input: &[u8], names: Names) -> Result<Vec<u8>
     ensures judged { IfErr result (λ fault. IsJudged fault.why input.now fault.span) }
     ensures placed { IfErr result (λ fault. IsPlaced fault.why input.now fault.span) }
 {
-    let pieces = canonical_text(alloc, input, names)?;
-    match pieces.into_vec() {
-        Ok(text) => Ok(text),
-        Err(_) => Err(Fault::at_end(input.len(), Why::Memory)),
-    }
+    Ok(canonical_text(alloc, input, names)?.into_vec())
 }
 
 /// The canonical text of a game file with all its names.

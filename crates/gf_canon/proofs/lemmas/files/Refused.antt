@@ -4,10 +4,7 @@ use Rattle.gf_canon.proofs.Common.{Broken, Fault, Span, Why, Expected, Memory, U
 use Rattle.gf_canon.proofs.Common.{SpellsTable, Game, SpellsGame, BeginsWithWord, IsFormatReason}
 use Rattle.gf_canon.proofs.Common.{IsPlaced, IsRefusedWith, IsWithoutFormat, GameFile, SpellsWithin}
 use Rattle.gf_canon.proofs.Common.{codes, extensive, strategic, Result, Ok, IfErr, ◌⊎◌}
-use Rattle.gf_canon.proofs.Common.{IsWithinLimit, IsAcceptedThrough, Lexeme, Spells, Bare, [], refl}
-use Rattle.gf_canon.proofs.Common.{append-nil, length}
-use Rattle.gf_nfg.proofs.lemmas.places.Judged.{memory_at_end as table_memory}
-use Rattle.gf_tree.specs.Front.{IsExtensiveFile}
+use Rattle.gf_canon.proofs.Common.{IsWithinLimit}
 use Rattle.gf_canon.specs.Judgement.IsJudged.{of_extensive, of_neither, of_strategic}
 use Rattle.gf_canon.specs.declared.format.Format.{Format}
 use Rattle.gf_canon.specs.declared.format.Format.TheVariants.{Extensive, Strategic}
@@ -76,53 +73,5 @@ refused_table bytes (Err fault) Strategic is named judged memory = record {
     unless (strategic t) h = memory t h.spelled h.within
     unless (extensive g) h =
         absurd (two_words (sym (named_by_word (codes "NFG") bytes (extensive g) named h.spelled)))
-
--- ---- at the end of a file, where only memory can be refused
-
-begins_with : (word bytes : List ℕ) (ls : List Lexeme) (more : List Token) → Spells 0 bytes ls
-    → tokens_of ls ≡ Bare word ∷ more → BeginsWithWord word bytes
-begins_with word bytes [] more spelled e = absurd cc
-begins_with word bytes (l ∷ ls) more spelled e = record {
-  first = l;
-  others = ls;
-  spelled = spelled;
-  is_word = cc;
-}
-
-abbrev pub want_at_end : List ℕ → Fault
-want_at_end bytes = record {
-  span = record { start = length bytes; end = length bytes };
-  why = Memory;
-}
-
-accepted_whole : (bytes : List ℕ) (ls : List Lexeme) → Spells 0 bytes ls
-    → IsExtensiveFile (tokens_of ls)
-    → IsAcceptedThrough IsExtensiveFile bytes (want_at_end bytes).span
-accepted_whole bytes ls spelled file = record {
-  before = ls;
-  after = [];
-  spelled = rw append-nil spelled;
-  place = (refl, refl);
-  accepted = file;
-}
-
-file_memory : (bytes : List ℕ) (x : GameFile) → SpellsWithin bytes x
-    → IsRefusedWith bytes (want_at_end bytes)
-file_memory bytes (extensive g) h =
-    let game = h.spelled in
-    let file : IsExtensiveFile (tokens_of game.0) = (game.2.0, game.2.1, game.2.2) in
-    refused_game bytes (want_at_end bytes) Extensive refl
-    (begins_with (codes "EFG") bytes game.0 _ game.1 file.1.parts)
-    (accepted_whole bytes game.0 game.1 file) (λ g s. refl)
-file_memory bytes (strategic t) h =
-    let table = h.spelled in
-    refused_table {A = ℕ} bytes (Err (want_at_end bytes)) Strategic refl
-    (begins_with (codes "NFG") bytes table.0 _ table.1 table.2.parts)
-    (table_memory bytes t (want_at_end bytes) Memory table h.within refl refl) (λ u s w. refl)
-
-pub memory_at_end : (bytes : List ℕ) (x : GameFile) (fault : Fault) → SpellsWithin bytes x
-    → fault ≡ want_at_end bytes → IsRefusedWith bytes fault
-memory_at_end bytes x fault h is =
-    subst (λ (f : Fault). IsRefusedWith bytes f) (sym is) (file_memory bytes x h)
 
 pub ruleset refused = (refused_at_first, refused_game, refused_table)
