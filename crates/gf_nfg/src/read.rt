@@ -22,7 +22,7 @@ use std::alloc::Global;
 ///
 /// Those of `read_nfg`, also if the receiver is refused memory; the receiver has then been told a
 /// part of the file.
-#[tactic(auto, using(crate::proofs::lemmas::places::Heard::judged))]
+#[tactic(auto, using(crate::proofs::lemmas::places::Judged::judged))]
 pub(crate) fn tell_nfg<'a, R: Receive<'a>>(
     alloc: Global,
     input: &'a [u8],

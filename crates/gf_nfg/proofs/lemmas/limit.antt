@@ -1,4 +1,2 @@
 pub mod Counts
-pub mod Passed
-pub mod Stays
 pub mod Worked

@@ -1,5 +1,3 @@
-pub mod DueRows
-pub mod Heard
 pub mod Judged
 pub mod Led
 pub mod Once

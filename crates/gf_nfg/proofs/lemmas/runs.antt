@@ -1,10 +1,7 @@
 pub mod Common
 pub mod Ends
-pub mod Heading
 pub mod Payoffs
 pub mod ReaderSteps
-pub mod Rows
 pub mod Sentence
 pub mod Strategies
-pub mod Groups
 pub mod Walks

@@ -1,49 +1,29 @@
 -- If counts pass the limit, so do the profiles of all files with them; and the limit place is where
 -- all files that begin with the tokens through it are above the limit.
-use Rattle.gf_nfg.proofs.Common.{◌≡◌, ℕ, zero, suc, ◌*◌, ◌<◌, ◌≤◌, List, [], ◌∷◌, ◌++◌, length, map}
-use Rattle.gf_nfg.proofs.Common.{take, ap, subst, arith, inl, inr, mul-one, mul_assoc, cases_lt}
-use Rattle.gf_nfg.proofs.Common.{take-append_seam, length-append, length-map, map-append, take-take}
-use Rattle.gf_nfg.proofs.Common.{length-take, profile_limit, product, Table, IsTable, ◌+◌, ◌-◌, Ok}
-use Rattle.gf_nfg.proofs.Common.{refl, sym, ◌∙◌, append_assoc, ◌⊎◌, append-nil, Token, Opening}
-use Rattle.gf_nfg.proofs.Common.{AllByRecursion, Each, all_mapped, all_parts, IsCount, IsLabelList}
-use Rattle.gf_nfg.proofs.Common.{BeginsPastLimit, IsBareOrClosing, StaysWithinLimit, Content}
-use Rattle.gf_nfg.proofs.Common.{GivesCounts, State, at, step, same_from_push, p, codes, ◌↔◌}
-use Rattle.gf_nfg.proofs.Common.{all_images, drop, take-append-drop, take-map, Closing, Bare}
-use Rattle.gf_nfg.proofs.Common.{braced, Span, Sentence, tokens_of, IsLimitByFiles, IsLimitPlace}
-use Rattle.gf_nfg.proofs.lemmas.tables.Profiles.{length-profiles}
-use Rattle.gf_nfg.proofs.lemmas.runs.Strategies.{Strategies, IsGroup, Kind, all_groups, due_at}
-use Rattle.gf_nfg.proofs.lemmas.runs.Strategies.{groups_walk, grows_by, taken, with_group}
-use Rattle.gf_nfg.proofs.lemmas.limit.Stays.{makes_more, read_past, stays_within}
-use Rattle.gf_nfg.proofs.lemmas.runs.Groups.{all_in, and_more, and_more_is, each_parts}
-use Rattle.gf_nfg.proofs.lemmas.runs.Heading.{heading, heading_leads, heading_line}
+use Rattle.gf_nfg.proofs.Common.{all_images, all_mapped, all_parts, profile_limit, BeginsPastLimit}
+use Rattle.gf_nfg.proofs.Common.{IsBareOrClosing, IsLimitByFiles, StaysWithinLimit, GivesCounts}
+use Rattle.gf_nfg.proofs.Common.{IsLimitPlace, product, IsCount, IsLabelList, Sentence, IsTable}
+use Rattle.gf_nfg.proofs.Common.{Table, Content, State, at, start, step, p, Each, braced, tokens_of}
+use Rattle.gf_nfg.proofs.Common.{Bare, Closing, Opening, Token, Span, List, Ok, [], ap}
+use Rattle.gf_nfg.proofs.Common.{append_assoc, arith, drop, inl, inr, length, length-append}
+use Rattle.gf_nfg.proofs.Common.{length-take, map, refl, subst, suc, sym, take, zero, ℕ, ◌*◌, ◌++◌}
+use Rattle.gf_nfg.proofs.Common.{◌+◌, ◌-◌, ◌<◌, ◌∙◌, ◌∷◌, ◌≡◌, ◌≤◌, mul-one, mul_assoc}
+use Rattle.gf_nfg.proofs.Common.{take-append_seam, cases_lt, length-map, take-append-drop, take-map}
+use Rattle.gf_nfg.proofs.Common.{take-take, AllByRecursion, codes, ◌↔◌, ◌⊎◌}
+use Rattle.gf_nfg.proofs.lemmas.places.Led.{begins, last_count, makes_more, products, read_past}
+use Rattle.gf_nfg.proofs.lemmas.places.Led.{stays_within}
 use Rattle.gf_nfg.proofs.lemmas.runs.Sentence.{kind_of}
-use Rattle.gf_nfg.proofs.lemmas.runs.Walks.{Leads, leads_more, leads_on, walk}
-use Rattle.gf_nfg.proofs.lemmas.places.Led.{begins}
+use Rattle.gf_nfg.proofs.lemmas.runs.Strategies.{Kind, Strategies, all_groups, all_in, and_more}
+use Rattle.gf_nfg.proofs.lemmas.runs.Strategies.{and_more_is, behind, each_parts, groups_walk}
+use Rattle.gf_nfg.proofs.lemmas.runs.Strategies.{heading, heading_leads, heading_line, next}
+use Rattle.gf_nfg.proofs.lemmas.runs.Strategies.{with_group}
+use Rattle.gf_nfg.proofs.lemmas.runs.Walks.{Leads, leads_more, leads_on, walk, walk_split}
+use Rattle.gf_nfg.proofs.lemmas.tables.Profiles.{length-profiles}
 
 -- the product passes the limit with the last of these counts, and with none before
 pub record PassesAtLast (counts : List ℕ) : Type 0 where
   pub passes : profile_limit < product counts
   pub nowhere_before : (k : ℕ) → k < length counts → product (take k counts) ≤ profile_limit
-
-product_snoc : (ns : List ℕ) (n : ℕ) → product (ns ++ n ∷ []) ≡ product ns * n
-product_snoc [] n = omega arith
-product_snoc (m ∷ ns) n = grind (arith, mul_assoc, product_snoc ns n)
-
--- the product without the last count, and with it
-pub at_last : (front : Strategies) (labels : List (List ℕ))
-    → PassesAtLast (map length (front ++ labels ∷ []))
-    → (product (map length front) ≤ profile_limit)
-    × (profile_limit < product (map length front) * length labels)
-at_last front labels h =
-    let ns = map length front in
-    let n = length labels in
-    let k = subst PassesAtLast (map-append length front (labels ∷ [])) h in
-    let size = length-append ns (n ∷ []) in
-    let seam : product (take (length ns) (ns ++ n ∷ [])) ≡ product ns =
-    ap product (take-append_seam ns (n ∷ [])) in
-    let last = product_snoc ns n in
-    let passes = k.passes in
-    (omega (arith, seam), omega (arith, last, passes))
 
 -- it has as many entries as the product of its players' numbers of strategies
 pub entries_counted : (t : Table) → IsTable t → length t.entries ≡ product (map length t.strategies)
@@ -158,87 +138,72 @@ limit_token ts t h =
 
 -- ---- the last token of such counts is one
 
-each_one : (P : List Token → List (List ℕ) → Type 0) (labels : List (List ℕ)) (ts : List Token)
-    → Each P ts (labels ∷ []) → P ts labels
-each_one P labels ts h = grind (arith, append-nil)
-
 -- a count, or a list of labels, for each of some players
 abbrev pub AreGroups : List Token → Strategies → Type 0
 AreGroups inner strategies = Each IsCount inner strategies ⊎ Each IsLabelList inner strategies
 
-some_given : (strategies : Strategies) → profile_limit < product (map length strategies)
-    → Last strategies
-some_given [] over = absurd (omega arith)
-some_given (labels ∷ strategies) over = last_of labels strategies
+some_behind : (k : Kind) (strategies : Strategies)
+    → profile_limit < product (map length strategies)
+    → behind k strategies p.FirstStrategies ≡ next k
+some_behind k [] over = absurd (omega arith)
+some_behind k (labels ∷ strategies) over = refl
 
-passes_given : (ts : List Token) (t : Token) (counts : List ℕ)
-    → (g : GivesCounts (ts ++ t ∷ []) counts) (front : Strategies) (labels : List (List ℕ))
-    → g.strategies ≡ front ++ labels ∷ [] → PassesAtLast (map length (front ++ labels ∷ []))
-    → (k : Kind) → Each (IsGroup k) g.inner (front ++ labels ∷ []) → Passes ts t
-passes_given ts t counts g front labels parts passes k each =
+single : (s after : State) (t : Token) → walk s (t ∷ []) ≡ Ok after → step s t ≡ Ok after
+single s after t e = grind arith
+
+passes_given : (ts : List Token) (t : Token) (counts : List ℕ) → GivesCounts (ts ++ t ∷ []) counts
+    → PassesAtLast counts → Passes ts t
+passes_given ts t counts g h =
+    let k = kind_of g.inner g.strategies g.is_inner in
     let line = heading_line g.letter g.title g.players in
     let c : Content = heading g.title g.players in
+    let due = length g.players - length g.strategies in
+    let d : Content = all_in (with_group k.0) c g.strategies in
+    let after : State = at (behind k.0 g.strategies p.FirstStrategies) due 0 0 d in
+    let first = g.first_players in
+    let passes = h.passes in
+    let many : length counts ≡ length g.strategies =
+    ap length g.are_counts ∙ length-map g.strategies length in
+    let more = and_more_is g.strategies due in
+    let all : and_more g.strategies due ≡ length g.players = omega (arith, more, many, first) in
     let opened = leads_more line Opening _ (at p.FirstStrategies (length g.players) 0 0 c)
     (heading_leads g.letter g.title g.players g.is_letter) refl in
-    let all_some = all_mapped (λ (n : ℕ). 0 < n) length (front ++ labels ∷ [])
-    (subst (λ ns. AllByRecursion (λ (n : ℕ). 0 < n) ns) (g.are_counts ∙ ap (map length) parts)
-    g.some_strategy) in
-    let some = all_parts (λ (ls : List (List ℕ)). 0 < length ls) front (labels ∷ []) all_some in
-    let due = length g.players - (length front + 1) in
-    let many : length counts ≡ length front + 1 = cc (
-      g.are_counts,
-      parts,
-      length-map g.strategies length,
-      length-append front (labels ∷ []),
-    ) in
-    let more = and_more_is front (suc due) in
-    let all : and_more front (suc due) ≡ length g.players = omega (arith, more, many)
-    in
-    let i = each_parts (IsGroup k) front (labels ∷ []) g.inner each in
-    let w = groups_walk k front i.0 p.FirstStrategies (inl refl) (suc due) c i.3 some.0 in
-    let d : Content = all_in (with_group k) c front in
-    let s : State = at w.0 (suc due) 0 0 d in
-    let before = line ++ Opening ∷ [] in
-    let led : Leads (before ++ i.0) s = leads_on before i.0 _ s opened
-    (subst (λ n. walk (at p.FirstStrategies n 0 0 c) i.0 ≡ Ok s) all w.2) in
-    let x = taken k w.0 w.1 due d i.1 labels (each_one (IsGroup k) labels i.1 i.4) some.1.0 in
-    let others = (before ++ i.0) ++ x.front in
-    let whole : ts ++ t ∷ [] ≡ others ++ x.last ∷ [] = cc (
-      g.parts,
-      i.2,
-      x.parts,
-      append_assoc line (Opening ∷ []) g.inner,
-      append_assoc before i.0 i.1,
-      append_assoc (before ++ i.0) x.front (x.last ∷ []),
-    ) in
-    let same = same_from_push ts others t x.last whole in
-    let one : d.profiles ≡ 1 * product (map length front) =
-    ap (λ (e : Content). e.profiles) (all_groups k front c) in
-    let grown : (with_group k d labels).profiles ≡ 1 * product (map length front) * length labels =
-    grows_by k d labels ∙ ap (λ (m : ℕ). m * length labels) one in
-    let limits = at_last front labels passes in
-    let within = limits.0 in
-    let over = limits.1 in
-    let keeps = x.keeps in
+    let walks = groups_walk k.0 g.strategies g.inner p.FirstStrategies (inl refl) due c k.1
+    (all_mapped (λ (n : ℕ). 0 < n) length g.strategies
+    (subst (λ ns. AllByRecursion (λ (n : ℕ). 0 < n) ns) g.are_counts g.some_strategy)) in
+    let led : Leads (ts ++ t ∷ []) after = subst (λ (us : List Token). Leads us after)
+    (append_assoc line (Opening ∷ []) g.inner ∙ sym g.parts)
+    (leads_on (line ++ Opening ∷ []) g.inner _ after opened
+    (subst (λ n. walk (at p.FirstStrategies n 0 0 c) g.inner ≡ Ok after) all walks)) in
+    let m = walk_split ts (t ∷ []) start after led in
+    let steps = single m.0 after t m.2 in
+    let over : profile_limit < product (map length g.strategies) =
+    subst (λ ns. profile_limit < product ns) g.are_counts passes in
+    let counted : d.counts ≡ counts =
+    ap (λ (e : Content). e.counts) (all_groups k.0 g.strategies c) ∙ sym g.are_counts in
+    let l = last_count m.0 after t k.0 (some_behind k.0 g.strategies over) steps in
+    let whole : counts ≡ m.0.content.counts ++ l.0 ∷ [] = sym counted ∙ l.1 in
+    let before = length m.0.content.counts in
+    let size : length counts ≡ before + 1 =
+    ap length whole ∙ length-append m.0.content.counts (l.0 ∷ []) in
+    let seam : product (take before counts) ≡ product m.0.content.counts =
+    ap product (ap (take before) whole ∙ take-append_seam m.0.content.counts (l.0 ∷ [])) in
+    let below = h.nowhere_before before (omega (arith, size)) in
+    let mid = products ts start m.0 m.1 refl in
+    let total : d.profiles ≡ product counts =
+    products (ts ++ t ∷ []) start after led refl ∙ ap product counted in
     record {
-      mid = x.mid;
-      after = due_at k due (with_group k d labels);
-      leads = subst (λ (us : List Token). Leads us x.mid) (sym same.0)
-          (leads_on (before ++ i.0) x.front s x.mid led x.walks);
-      steps = grind arith;
-      within = omega (arith, one, keeps, within);
-      over = omega (arith, grown, over);
+      mid = m.0;
+      after = after;
+      leads = m.1;
+      steps = steps;
+      within = omega (arith, mid, seam, below);
+      over = omega (arith, total, passes);
     }
 
 pub limit_by_last : (ts : List Token) (t : Token) (counts : List ℕ)
     → GivesCounts (ts ++ t ∷ []) counts → PassesAtLast counts → IsLimitToken ts t
-limit_by_last ts t counts g h =
-    let all = subst PassesAtLast g.are_counts h in
-    let l = some_given g.strategies all.passes in
-    let k = kind_of g.inner (l.front ++ l.last ∷ [])
-    (subst (AreGroups g.inner) l.parts g.is_inner) in
-    limit_token ts t (passes_given ts t counts g l.front l.last l.parts
-    (subst (λ x. PassesAtLast (map length x)) l.parts all) k.0 k.1)
+limit_by_last ts t counts g h = limit_token ts t (passes_given ts t counts g h)
 
 -- ---- a file above the limit has counts that pass it
 

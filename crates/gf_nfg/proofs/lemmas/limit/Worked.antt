@@ -1,13 +1,13 @@
 -- Two worked files: the counts of one pass the limit at the second count, those of the other
 -- nowhere.
-use Rattle.gf_nfg.proofs.Common.{◌≡◌, ℕ, ◌<◌, ◌≤◌, List, [], ◌∷◌, ◌++◌, Ok, refl, ap, ◌∙◌, arith}
-use Rattle.gf_nfg.proofs.Common.{codes, map-append, Token, Lexeme, lexeme, Closing, Bare, Gap, Span}
-use Rattle.gf_nfg.proofs.Common.{found, same_tokens, profile_limit, tokens_of, IsLimitPlace, take}
-use Rattle.gf_nfg.proofs.Common.{State, step, Spells, subst, index_of}
+use Rattle.gf_nfg.proofs.Common.{profile_limit, IsLimitPlace, State, step, found, same_tokens}
+use Rattle.gf_nfg.proofs.Common.{index_of, tokens_of, Bare, Closing, Lexeme, lexeme, Spells}
+use Rattle.gf_nfg.proofs.Common.{Span, Gap, List, Ok, [], ap, arith, refl, subst, take, ℕ, ◌++◌}
+use Rattle.gf_nfg.proofs.Common.{◌<◌, ◌∙◌, ◌∷◌, ◌≡◌, ◌≤◌, map-append, codes}
 use Rattle.gf_token.specs.inner.Lexing.{lex}
-use Rattle.gf_nfg.proofs.lemmas.limit.Stays.{stays_within}
 use Rattle.gf_nfg.proofs.lemmas.limit.Counts.{limit_by_files}
 use Rattle.gf_nfg.proofs.lemmas.places.Judged.{limit}
+use Rattle.gf_nfg.proofs.lemmas.places.Led.{stays_within}
 use Rattle.gf_nfg.proofs.lemmas.runs.Walks.{Leads}
 
 -- ---- one that passes it
@@ -26,24 +26,22 @@ unfolding lex
 lexemes = refl
 
 -- where the tokens before the second count lead, and where it leads from there
-abbrev Crosses : Type 0
-Crosses = (s after : State) × Leads (tokens_of before_second) s × (step s second.token ≡ Ok after)
-    × (s.content.profiles ≤ profile_limit) × (profile_limit < after.content.profiles)
-
-crosses : Crosses
+crosses : (s after : State) × Leads (tokens_of before_second) s
+    × (step s second.token ≡ Ok after) × (s.content.profiles ≤ profile_limit)
+    × (profile_limit < after.content.profiles)
 unfolding lex index_of
 crosses = (_, _, refl, refl, omega arith, omega arith)
 
 pub at_second : IsLimitPlace passing (record { start = 31; end = 35 })
 at_second =
-    limit passing (lexeme 36 37 Closing ∷ []) second crosses.0 crosses.1
+    limit passing (lexeme 36 37 Closing ∷ []) second crosses.0
     (record {
       seen = before_second;
       spelled = subst (Spells 0 passing) lexemes (found passing 0);
       leads = crosses.2;
       few = crosses.4;
     })
-    crosses.3 crosses.5
+    crosses.1 crosses.3 crosses.5
 
 -- ---- one that does not
 
@@ -51,10 +49,8 @@ abbrev staying : List ℕ
 staying = codes "NFG 1 R \"b\" { \"A\" \"B\" } { 1024 1024 }"
 
 -- where all of its tokens lead
-abbrev Stays : List Token → Type 0
-Stays ts = (s : State) × Leads ts s × (s.content.profiles ≤ profile_limit)
-
-stays : Stays (tokens_of (lex Gap 0 staying))
+stays : (s : State) × Leads (tokens_of (lex Gap 0 staying)) s
+    × (s.content.profiles ≤ profile_limit)
 unfolding lex index_of
 stays = (_, refl, omega arith)
 

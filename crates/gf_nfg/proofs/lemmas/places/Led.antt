@@ -1,13 +1,20 @@
 -- What may follow tokens that lead the machine somewhere, and what the tokens of an input have led
--- it to.
-use Rattle.gf_nfg.proofs.Common.{◌≡◌, ℕ, List, [], ◌∷◌, ◌++◌, Ok, arith, refl, sym, ap, ◌∙◌}
-use Rattle.gf_nfg.proofs.Common.{append_assoc, map-append, Lexeme, Spells, Why, same_tokens, Table}
-use Rattle.gf_nfg.proofs.Common.{Sentence, SpellsTable, tokens_of, State, Content, run, step}
-use Rattle.gf_nfg.proofs.Common.{finish, start, Err, append-nil, Token, IsStrategicFile, Begins}
-use Rattle.gf_nfg.proofs.Common.{MayFollow, ◌>>=◌, table_of, profile_limit, ◌≤◌, subst}
-use Rattle.gf_nfg.proofs.lemmas.runs.Sentence.{Read, sentence_found, one_table, sentence_again}
-use Rattle.gf_nfg.proofs.lemmas.runs.Walks.{Leads, leads_more, leads_run, walk, walk_run}
-use Rattle.gf_nfg.proofs.lemmas.runs.Ends.{ends}
+-- it to. No token makes the number of profiles smaller, so above their limit they stay there.
+use Rattle.gf_nfg.proofs.Common.{profile_limit, BeginsWithinLimit, IsBareOrClosing}
+use Rattle.gf_nfg.proofs.Common.{StaysWithinLimit, product, IsStrategicFile, Sentence, Table}
+use Rattle.gf_nfg.proofs.Common.{SpellsTable, is_past, Content, State, finish, run, settled, start}
+use Rattle.gf_nfg.proofs.Common.{step, ◌>>=◌, table_of, p, Position, same_tokens, Begins, MayFollow}
+use Rattle.gf_nfg.proofs.Common.{tokens_of, Lexeme, Token, Spells, Why, Err, List, Ok, Result, []}
+use Rattle.gf_nfg.proofs.Common.{ap, append-nil, append_assoc, arith, false, length, refl, subst}
+use Rattle.gf_nfg.proofs.Common.{sym, true, ℕ, ◌*◌, ◌++◌, ◌<◌, ◌∙◌, ◌∷◌, ◌≡◌, ◌≤◌, mul_assoc}
+use Rattle.gf_nfg.proofs.Common.{map-append}
+use Rattle.gf_nfg.proofs.lemmas.runs.Ends.{IsSettled, ends, settled_ends}
+use Rattle.gf_nfg.proofs.lemmas.runs.Sentence.{Read, one_table, sentence_again, sentence_found}
+use Rattle.gf_nfg.proofs.lemmas.runs.Strategies.{Kind, next}
+use Rattle.gf_nfg.proofs.lemmas.runs.Strategies.Kind.{ByCounts, ByLists}
+use Rattle.gf_nfg.proofs.lemmas.runs.Walks.{Leads, leads_more, leads_run, then_ok, walk, walk_run}
+use Rattle.gf_nfg.proofs.lemmas.runs.Walks.{walk_split}
+use Rattle.gf_nfg.proofs.lemmas.tables.Meaning.{length-entries}
 
 -- ---- what may follow
 
@@ -92,3 +99,127 @@ spelled_as bytes all t h k = grind (arith, same_tokens)
 pub spells_one_table : (bytes : List ℕ) (t u : Table) → SpellsTable bytes t → SpellsTable bytes u
     → t ≡ u
 spells_one_table bytes t u h k = one_table (tokens_of h.0) t u h.2 (spelled_as bytes h.0 u h.1 k)
+
+-- ---- profiles
+
+-- a token makes them no fewer
+step_grows : (s after : State) (t : Token) → step s t ≡ Ok after
+    → s.content.profiles ≤ after.content.profiles
+step_grows s after t e = grind arith
+
+-- if it increases their number, it is one of these
+pub makes_more : (s after : State) (t : Token)
+    → step s t ≡ Ok after → s.content.profiles < after.content.profiles → IsBareOrClosing t
+makes_more s after t e more = grind arith
+
+-- one more count was read
+abbrev HasCount : Content → Content → Type 0
+HasCount c d = (n : ℕ) × (d.counts ≡ c.counts ++ n ∷ []) × (d.profiles ≡ c.profiles * n)
+
+-- a count or a list was read, or there are as many as before
+abbrev IsGrownAt : Position → Content → Content → Type 0
+IsGrownAt p.Counts c d = HasCount c d
+IsGrownAt p.BeforeList c d = HasCount c d
+IsGrownAt _ c d = (d.counts ≡ c.counts) × (d.profiles ≡ c.profiles)
+
+abbrev IsGrown : State → Result State Why → Type 0
+IsGrown s (Ok after) = IsGrownAt after.position s.content after.content
+IsGrown s (Err why) = Unit {0}
+
+grown : (s : State) (t : Token) → IsGrown s (step s t)
+grown s t = grind arith
+
+count_at : (k : Kind) (c d : Content) → IsGrownAt (next k) c d
+    → (n : ℕ) × (d.counts ≡ c.counts ++ n ∷ [])
+count_at ByCounts c d h = (h.0, h.1)
+count_at ByLists c d h = (h.0, h.1)
+
+-- the last count of those that were read
+pub last_count : (s after : State) (t : Token) (k : Kind) → after.position ≡ next k
+    → step s t ≡ Ok after → (n : ℕ) × (after.content.counts ≡ s.content.counts ++ n ∷ [])
+last_count s after t k q e = count_at k s.content after.content (subst
+    (λ (x : Position). IsGrownAt x s.content after.content) q (subst (IsGrown s) e (grown s t)))
+
+product_snoc : (ns : List ℕ) (n : ℕ) → product (ns ++ n ∷ []) ≡ product ns * n
+product_snoc [] n = omega arith
+product_snoc (m ∷ ns) n = grind (arith, mul_assoc, product_snoc ns n)
+
+product_at : (q : Position) (c d : Content) → IsGrownAt q c d → c.profiles ≡ product c.counts
+    → d.profiles ≡ product d.counts
+product_at p.Counts c d h e = grind (arith, product_snoc)
+product_at p.BeforeList c d h e = grind (arith, product_snoc)
+product_at q c d h e = grind arith
+
+-- their number is the product of the counts
+pub products : (ts : List Token) (s after : State) → walk s ts ≡ Ok after
+    → s.content.profiles ≡ product s.content.counts
+    → after.content.profiles ≡ product after.content.counts
+products [] s after e h = grind arith
+products (t ∷ ts) s after e h =
+    let k = then_ok (step s t) (λ x. walk x ts) after e in
+    products ts k.0 after k.2 (product_at k.0.position s.content k.0.content
+    (subst (IsGrown s) k.1 (grown s t)) h)
+
+pub bounded : (s after : State) (t : Token) → step s t ≡ Ok after
+    → s.content.profiles ≤ profile_limit
+    → is_past after.position after.content.profiles ≡ false → after.content.profiles ≤ profile_limit
+bounded s after t e within not = let h = subst (IsGrown s) e (grown s t) in grind arith
+
+pub past : (q : Position) (n : ℕ) → is_past q n ≡ true → profile_limit < n
+past q n h = grind arith
+
+-- after one of these no list is open
+settles : (s after : State) (t : Token) → step s t ≡ Ok after → IsBareOrClosing t
+    → IsSettled after.position
+settles s after t e h = grind arith
+
+-- a run that ends well has read no fewer profiles than there were
+
+pub run_grows : (ts : List Token) (s : State) (r : Content) → run s ts ≡ Ok r
+    → s.content.profiles ≤ r.profiles
+run_grows [] s r e = grind arith
+run_grows (t ∷ ts) s r e =
+    let h = then_ok (step s t) (λ x. run x ts) r e in
+    omega (arith, step_grows s h.0 t h.1, run_grows ts h.0 r h.2)
+
+-- ---- above the limit
+
+-- a walk makes them no fewer
+walk_grows : (ts : List Token) (s after : State) → walk s ts ≡ Ok after
+    → s.content.profiles ≤ after.content.profiles
+walk_grows [] s after e = grind arith
+walk_grows (t ∷ ts) s after e =
+    let h = then_ok (step s t) (λ x. walk x ts) after e in
+    omega (arith, step_grows s h.0 t h.1, walk_grows ts h.0 after h.2)
+
+-- a file has the profiles that were read
+size_read : (ts : List Token) (r : Content) → run start ts ≡ Ok r
+    → length (table_of r).entries ≡ r.profiles
+size_read ts r e = length-entries r (sentence_found ts r e).complete
+
+pub read_past : (ts : List Token) (s : State) → Leads ts s → (more : List Token) (t : Table)
+    → Sentence (ts ++ more) t → s.content.profiles ≤ length t.entries
+read_past ts s h more t sentence =
+    let p = sentence_again (ts ++ more) t sentence in
+    let grown = run_grows more s p.content (sym (leads_run ts more s h) ∙ p.read) in
+    let size : length t.entries ≡ p.content.profiles = grind (arith, size_read) in
+    omega (arith, grown, size)
+
+begins_within : (ts : List Token) (s : State)
+    → Leads ts s → IsSettled s.position → s.content.profiles ≤ profile_limit → BeginsWithinLimit ts
+begins_within ts s h settled within =
+    let e = settled_ends s settled in
+    let all : run start (ts ++ e.0) ≡ Ok e.1 = leads_run ts e.0 s h ∙ e.2 in
+    let size = size_read (ts ++ e.0) e.1 all in
+    grind (arith, sentence_found)
+
+-- up to there the limit was not passed
+pub stays_within : (ts : List Token) (s : State) → Leads ts s → s.content.profiles ≤ profile_limit
+    → StaysWithinLimit ts
+stays_within ts s h within front back token parts is =
+    let a =
+    walk_split front (token ∷ back) start s (subst (λ (x : List Token). Leads x s) parts h) in
+    let b = then_ok (step a.0 token) (λ x. walk x back) s a.2 in
+    let grown = walk_grows back b.0 s b.2 in
+    begins_within (front ++ token ∷ []) b.0 (leads_more front token a.0 b.0 a.1 b.1)
+    (settles a.0 b.0 token b.1 is) (omega (arith, grown, within))

@@ -4,9 +4,8 @@ use Rattle.gf_nfg.proofs.Common.{Span, Why, Memory, TooManyProfiles, one_span, o
 use Rattle.gf_nfg.proofs.Common.{one_code, Table, IsStrategicFile, SpellsTable, IsLimitPlace}
 use Rattle.gf_nfg.proofs.Common.{IsWithinLimit, IsRefusal, IsJudged, IsRefused, arith, Result}
 use Rattle.gf_nfg.proofs.Common.{Fault, spelled_once, Content, table_of}
-use Rattle.gf_nfg.proofs.lemmas.limit.Passed.{one_limit_place}
+use Rattle.gf_nfg.proofs.lemmas.places.Judged.{IsAnswered, all_answered, one_limit_place}
 use Rattle.gf_nfg.proofs.lemmas.places.Judged.{only_memory}
-use Rattle.gf_nfg.proofs.lemmas.places.Heard.{IsAnswered, all_answered}
 use Rattle.gf_nfg.proofs.lemmas.tables.Meaning.{within_limit}
 
 -- ---- one judgement

@@ -1,25 +1,199 @@
--- What a row names is due there, and no other token may follow than those that it accepts; so the
--- code of each refusal is the reason for it.
-use Rattle.gf_nfg.proofs.Common.{◌≡◌, ℕ, true, false, List, [], ◌∷◌, length, map, arith, Option}
-use Rattle.gf_nfg.proofs.Common.{Some, None, Ok, Err, refl, subst, ap, inl, inr, ◌⊎◌, ◌↔◌, not}
-use Rattle.gf_nfg.proofs.Common.{Token, Opening, Closing, Text, Bare, Broken, What, Why, Expected}
-use Rattle.gf_nfg.proofs.Common.{Position, MayFollow, IsStrategicFile, Role, RoleIsDue, IsDue}
-use Rattle.gf_nfg.proofs.Common.{Format, Version, Letter, Count, Payoff, OutcomeNumber, State}
-use Rattle.gf_nfg.proofs.Common.{Content, at, to, due_at, ended, step, with_labels, p, ◌≤◌, Bool}
-use Rattle.gf_nfg.proofs.Common.{◌++◌, sym, codes, nat_eq, pointwise, Comma, IsIndex, code_of}
-use Rattle.gf_nfg.proofs.Common.{why_of, Unterminated, NotANumber, ZeroDenominator, NumberTooLarge}
-use Rattle.gf_nfg.proofs.Common.{BadIndex, NoEntry, UnknownOutcome, HasNumberFault, NumberFault}
-use Rattle.gf_nfg.proofs.Common.{number_is, same_fault, Begins, Suits, Applies, IsReason, count_of}
-use Rattle.gf_nfg.proofs.Common.{finish, index_is, index_again, count_is, count_again}
-use Rattle.gf_nfg.proofs.Common.{false_from_ne_true, number_of, lowest_of, gcd_within, index_of}
+-- The table of positions: what each row accepts and how it refuses the rest, and that the machine
+-- does so. What a row names is due there, so the code of each refusal is the reason for it.
+use Rattle.gf_nfg.proofs.Common.{number_again, number_is, number_is_computed, same_fault}
+use Rattle.gf_nfg.proofs.Common.{gcd_within, lowest_of, number_of, HasNumberFault, Reads, Ratio}
+use Rattle.gf_nfg.proofs.Common.{NumberFault, Count, Format, Letter, OutcomeNumber, Payoff, Version}
+use Rattle.gf_nfg.proofs.Common.{IsDue, Role, RoleIsDue, Suits, Applies, IsReason, IsStrategicFile}
+use Rattle.gf_nfg.proofs.Common.{Content, State, at, chosen, counted, due_at, ended, finish, paid}
+use Rattle.gf_nfg.proofs.Common.{step, step_at, to, table_of, p, Position, count_again, count_is}
+use Rattle.gf_nfg.proofs.Common.{index_again, index_is, code_of, IsIndex, count_of, index_of}
+use Rattle.gf_nfg.proofs.Common.{why_of, Begins, MayFollow, Bare, Broken, Closing, Comma, Opening}
+use Rattle.gf_nfg.proofs.Common.{Text, Token, What, BadIndex, Expected, NoEntry, NotANumber}
+use Rattle.gf_nfg.proofs.Common.{UnknownOutcome, Unterminated, ZeroDenominator, Why, Bool, Err}
+use Rattle.gf_nfg.proofs.Common.{List, None, Ok, Option, Result, Some, [], ap, arith, false, inl}
+use Rattle.gf_nfg.proofs.Common.{inr, length, map, nat_eq, refl, subst, suc, sym, true, zero, ℕ}
+use Rattle.gf_nfg.proofs.Common.{◌++◌, ◌-◌, ◌<◌, ◌∷◌, ◌≡◌, ◌≤◌, nat_tests, false_from_ne_true}
+use Rattle.gf_nfg.proofs.Common.{pointwise, codes, if◌then◌else◌, not, ◌==◌, ◌||◌, ◌↔◌, ◌⊎◌}
+use Rattle.gf_nfg.proofs.lemmas.places.Led.{begins, follows, is_file, refused, stops}
+use Rattle.gf_nfg.proofs.lemmas.runs.Common.{same_bytes}
+use Rattle.gf_nfg.proofs.lemmas.runs.Ends.{zero_is_index, zero_is_number, zero_number, zero_text}
+use Rattle.gf_nfg.proofs.lemmas.runs.Strategies.{labels_walk}
+use Rattle.gf_nfg.proofs.lemmas.runs.Walks.{Leads, leads_on, walk}
 use Rattle.gf_token.specs.declared.fault.What.TheVariants as what
 use Rattle.gf_fraction.specs.declared.fraction.NumberFault.TheVariants as number
-use Rattle.gf_nfg.proofs.lemmas.places.DueRows.{Row, Accepts, AcceptsBare, answers, no, row_at}
-use Rattle.gf_nfg.proofs.lemmas.places.DueRows.{unfilled, has_some, listed_in, RefusesBare}
-use Rattle.gf_nfg.proofs.lemmas.places.DueRows.{RefusesClosing, Refuses, Answers}
-use Rattle.gf_nfg.proofs.lemmas.runs.Walks.{Leads, walk, leads_on}
-use Rattle.gf_nfg.proofs.lemmas.places.Led.{follows, is_file, refused, begins, stops}
-use Rattle.gf_nfg.proofs.lemmas.runs.Ends.{zero_text, zero_number, zero_is_number, zero_is_index}
+
+-- Which tokens a row accepts, bare ones by their role, and the `What` of its E3.
+pub record Row : Type 0 where
+  pub opening : Bool
+  pub closing : Bool
+  pub comma : Bool
+  pub text : Bool
+  pub bare : Option Role
+  pub expected : What
+
+abbrev pub none : What → Row
+none expected = record {
+  opening = false;
+  closing = false;
+  comma = false;
+  text = false;
+  bare = None;
+  expected = expected;
+}
+
+abbrev pub AcceptsBare : Option Role → List ℕ → Type 0
+AcceptsBare None bytes = false ≡ true
+AcceptsBare (Some role) bytes = Suits role bytes
+
+abbrev pub Accepts : Row → Token → Type 0
+Accepts row Opening = row.opening ≡ true
+Accepts row Closing = row.closing ≡ true
+Accepts row Comma = row.comma ≡ true
+Accepts row (Text label) = row.text ≡ true
+Accepts row (Bare bytes) = AcceptsBare row.bare bytes
+Accepts row Broken = false ≡ true
+
+abbrev pub RefusesBare : Option Role → What → List ℕ → Why → Type 0
+RefusesBare (Some Payoff) expected bytes why =
+    (fault : NumberFault) × (why ≡ why_of fault) × HasNumberFault bytes fault
+RefusesBare (Some Count) expected bytes why = why ≡ BadIndex
+RefusesBare (Some (OutcomeNumber outcomes)) expected bytes why =
+    ((why ≡ BadIndex) × ((n : ℕ) → ¬ (IsIndex bytes n)))
+    ⊎ ((why ≡ UnknownOutcome) × ((n : ℕ) × IsIndex bytes n × (outcomes < n)))
+RefusesBare _ expected bytes why = why ≡ Expected expected
+
+abbrev pub RefusesClosing : Bool → What → Why → Type 0
+RefusesClosing true expected why = why ≡ NoEntry
+RefusesClosing false expected why = why ≡ Expected expected
+
+abbrev pub Refuses : Bool → Row → Token → Why → Type 0
+Refuses unfilled row (Bare bytes) why = RefusesBare row.bare row.expected bytes why
+Refuses unfilled row Closing why = RefusesClosing unfilled row.expected why
+Refuses unfilled row _ why = why ≡ Expected row.expected
+
+-- the machine's answer to a token is that of the row, if a closing brace leaves a list empty or not
+abbrev pub Answers : Bool → Row → Token → Result State Why → Type 0
+Answers unfilled row token (Ok after) = Accepts row token
+Answers unfilled row token (Err why) = ¬ (Accepts row token) × Refuses unfilled row token why
+
+pub no : ¬ (false ≡ true)
+no e = absurd cc
+
+-- ---- what bare tokens are answered
+
+same_word : (b word : List ℕ) → pointwise nat_eq word word ≡ true → b ≡ word
+    → pointwise nat_eq b word ≡ true
+same_word b word h e = subst (λ (x : List ℕ). pointwise nat_eq x word ≡ true) (sym e) h
+
+counted_by : (row : Row) (s : State) (b : List ℕ) (o : Option ℕ) → count_of b ≡ o
+    → Answers false (record row { bare = Some Count }) (Bare b) (counted s o)
+counted_by row s b o e = grind (arith, count_is b, count_again b)
+
+paid_by : (row : Row) (q : Position) (s : State) (b : List ℕ) (o : Result Ratio NumberFault)
+    → number_of b ≡ o → Answers false (record row { bare = Some Payoff }) (Bare b) (paid q s o)
+paid_by row q s b (Ok n) e = (n, number_is b n e)
+paid_by row q s b (Err fault) e = (
+  λ suits. let f = number_again b suits.0 suits.1 in absurd cc,
+  (fault, refl, subst (Reads b) e (number_is_computed b)),
+)
+
+chosen_by : (row : Row) (s : State) (b : List ℕ) (o : Option ℕ) → index_of b ≡ o
+    → Answers false (record row { bare = Some (OutcomeNumber s.outcomes) }) (Bare b) (chosen s o)
+chosen_by row s b o e = grind (arith, nat_tests, index_is b, index_again b)
+
+-- ---- the rows
+
+abbrev pub only : Role → What → Row
+only role expected = record (none expected) { bare = Some role }
+
+abbrev a_text : Row
+a_text = record (none what.Text) { text = true }
+
+abbrev an_opening : Row
+an_opening = record (none what.Opening) { opening = true }
+
+abbrev a_closing : Row
+a_closing = record (none what.Closing) { closing = true }
+
+abbrev first_row : Row
+first_row = record (none what.Strategies) { opening = true; bare = Some Count }
+
+abbrev a_payoff : Row
+a_payoff = only Payoff what.Number
+
+abbrev a_body : Row
+a_body = record a_payoff { opening = true }
+
+-- no players
+abbrev an_empty_body : Row
+an_empty_body = record (none what.End) { opening = true }
+
+-- with one more token accepted
+abbrev or_text : Row → Row
+or_text row = record row { text = true }
+
+abbrev or_comma : Row → Row
+or_comma row = record row { comma = true }
+
+abbrev pub has_some : ℕ → Bool
+has_some zero = false
+has_some (suc n) = true
+
+-- how many labels stand in the list
+abbrev pub listed_in : State → ℕ
+listed_in s = length s.content.labels - s.list_start
+
+-- a closing brace would leave a list of labels empty
+abbrev pub unfilled : Position → State → Bool
+unfilled p.InList s = not (has_some (listed_in s))
+unfilled _ s = false
+
+-- the row of a position, by what is due
+abbrev pub row_at : Position → State → Row
+row_at p.Format s = only Format what.Format
+row_at p.Version s = only Version what.Version
+row_at p.Letter s = only Letter what.Letter
+row_at p.Title s = a_text
+row_at p.BeforePlayers s = an_opening
+row_at p.InPlayers s = record a_text { closing = true }
+row_at p.BeforeStrategies s = an_opening
+row_at p.FirstStrategies s = if s.due == 0 then a_closing else first_row
+row_at p.Counts s = if s.due == 0 then a_closing else only Count what.Index
+row_at p.BeforeList s = if s.due == 0 then a_closing else an_opening
+row_at p.InList s = record a_text { closing = has_some (listed_in s) }
+row_at p.AfterStrategies s = if s.due == 0 then or_text an_empty_body else or_text a_body
+row_at p.AfterComment s = if s.due == 0 then an_empty_body else a_body
+row_at p.FlatPayoffs s = if s.due == 0 then none what.End else a_payoff
+row_at p.InOutcomes s = record an_opening { closing = true }
+row_at p.OutcomeName s = a_text
+row_at p.BracedPayoff s = if s.due == 0 then a_closing else a_payoff
+row_at p.AfterBracedPayoff s = if s.due == 0 then or_comma a_closing else or_comma a_payoff
+row_at p.OutcomeNumbers s =
+    if s.due == 0 then none what.End else only (OutcomeNumber s.outcomes) what.Index
+
+-- ---- the machine's answers
+
+letter_again : (b : List ℕ) → Suits Letter b
+    → (pointwise nat_eq b (codes "R") || pointwise nat_eq b (codes "D")) ≡ true
+letter_again b h = grind (arith, same_word)
+
+pub answers : (q : Position) (s : State) (t : Token)
+    → Answers (unfilled q s) (row_at q s) t (step_at q s t)
+answers p.Format s (Bare b) = grind (arith, same_bytes, same_word)
+answers p.Version s (Bare b) = grind (arith, same_bytes, same_word)
+answers p.Letter s (Bare b) = grind (arith, same_bytes, letter_again)
+answers p.FirstStrategies s (Bare b) = grind (arith, counted_by first_row s b (count_of b) refl)
+answers p.Counts s (Bare b) = grind (arith, counted_by first_row s b (count_of b) refl)
+answers p.AfterStrategies s (Bare b) = grind (arith, paid_by a_body p.FlatPayoffs s b _ refl)
+answers p.AfterComment s (Bare b) = grind (arith, paid_by a_body p.FlatPayoffs s b _ refl)
+answers p.FlatPayoffs s (Bare b) = grind (arith, paid_by a_body p.FlatPayoffs s b _ refl)
+answers p.BracedPayoff s (Bare b) = grind (arith, paid_by a_body p.AfterBracedPayoff s b _ refl)
+answers p.AfterBracedPayoff s (Bare b) =
+    grind (arith, paid_by a_body p.AfterBracedPayoff s b _ refl)
+answers p.OutcomeNumbers s (Bare b) = grind (arith, chosen_by first_row s b (index_of b) refl)
+answers q s t = grind arith
+
+-- ---- what is due
 
 -- what a row names it accepts
 abbrev pub Names : Row → What → Type 0
@@ -52,23 +226,17 @@ named_at q s = grind arith
 abbrev pub row_of : State → Row
 row_of s = row_at s.position s
 
--- ---- an unterminated text is refused in each state
-
+-- an unterminated text is refused in each state
 pub broken_refused : (s : State) → (why : Why) × (step s Broken ≡ Err why)
 broken_refused s = let a = answers s.position s Broken in grind arith
 
 -- ---- texts after a refused brace
 
-fill : (labels : List (List ℕ)) (due from outcomes : ℕ) (c : Content)
-    → (after : State) × (walk (at p.InList due from outcomes c) (map Text labels) ≡ Ok after)
-fill [] due from outcomes c = (at p.InList due from outcomes c, refl)
-fill (label ∷ labels) due from outcomes c =
-    fill labels due from outcomes (with_labels c (label ∷ []))
-
 -- if a brace would leave a list empty, any labels may follow
 pub labels_follow : (q : Position) (s : State) → unfilled q s ≡ true → (labels : List (List ℕ))
     → (after : State) × (walk (to q s) (map Text labels) ≡ Ok after)
-labels_follow p.InList s e labels = fill labels s.due s.list_start s.outcomes s.content
+labels_follow p.InList s e labels =
+    (_, labels_walk labels s.due s.list_start s.outcomes s.content)
 labels_follow _ s e labels = absurd (no e)
 
 abbrev pub two_texts : List Token
@@ -84,51 +252,47 @@ no_texts_follow p.Title s e f = (Expected what.Opening, refl)
 no_texts_follow p.InPlayers s e f = absurd cc
 no_texts_follow p.InList s e f = absurd (some_or_unfilled (listed_in s) e f)
 no_texts_follow p.AfterStrategies s e f = grind (arith, broken_refused (to p.AfterComment s))
-no_texts_follow p.OutcomeName s e f = grind (
-  arith,
-  broken_refused (at p.BracedPayoff (length
-      s.content.players) s.list_start s.outcomes s.content),
-)
+no_texts_follow p.OutcomeName s e f =
+    let c = s.content in
+    grind (arith, broken_refused (at p.BracedPayoff (length c.players) s.list_start s.outcomes c))
 no_texts_follow q s e f = let b = broken_refused (to q s) in (b.0, rw b.1 refl)
 
 -- ---- what may follow
 
--- limits aside, a token may follow exactly if its row accepts it
-pub may_follow : (ts : List Token) (s : State) → Leads ts s → (token : Token)
-    → MayFollow IsStrategicFile ts token ↔ Accepts (row_of s) token
-may_follow ts s h token =
-    let a = answers s.position s token in
-    let b = λ (after : State). follows ts token s after h in
-    let d = λ (why : Why). refused ts token s why h in
-    grind (arith, a, b, d)
+-- limits aside, after tokens that lead to a state
+module _ (ts : List Token) (s : State) (h : Leads ts s) where
+  -- a token may follow exactly if its row accepts it
+  pub may_follow : (token : Token)
+      → MayFollow IsStrategicFile ts token ↔ Accepts (row_of s) token
+  may_follow token =
+      let a = answers s.position s token in
+      let b = λ (after : State). follows ts token s after h in
+      let d = λ (why : Why). refused ts token s why h in
+      grind (arith, a, b, d)
 
-pub role_is_due : (ts : List Token) (s : State) (role : Role) → Leads ts s
-    → (row_of s).bare ≡ Some role → RoleIsDue ts role
-role_is_due ts s role h e = λ bytes. subst
-    (λ (o : Option Role). MayFollow IsStrategicFile ts (Bare bytes) ↔ AcceptsBare o bytes) e
-    (may_follow ts s h (Bare bytes))
+  role_is_due : (role : Role) → (row_of s).bare ≡ Some role → RoleIsDue ts role
+  role_is_due role e = λ bytes. subst
+      (λ (o : Option Role). MayFollow IsStrategicFile ts (Bare bytes) ↔ AcceptsBare o bytes) e
+      (may_follow (Bare bytes))
 
-named_is_due : (ts : List Token) (s : State) (expected : What) → Leads ts s
-    → Names (row_of s) expected → due_at s.position s.due ≡ unless_end expected → IsDue ts expected
-named_is_due ts s what.Format h n e = role_is_due ts s Format h n
-named_is_due ts s what.Version h n e = role_is_due ts s Version h n
-named_is_due ts s what.Letter h n e = role_is_due ts s Letter h n
-named_is_due ts s what.Text h n e = ([], (may_follow ts s h (Text [])).1 n)
-named_is_due ts s what.Opening h n e = (may_follow ts s h Opening).1 n
-named_is_due ts s what.Closing h n e = (may_follow ts s h Closing).1 n
-named_is_due ts s what.Number h n e = role_is_due ts s Payoff h n
-named_is_due ts s what.Index h (inl n) e = inl (role_is_due ts s Count h n)
-named_is_due ts s what.Index h (inr n) e = grind (arith, role_is_due ts s (OutcomeNumber n.0) h n.1)
-named_is_due ts s what.Strategies h n e =
-    (role_is_due ts s Count h n.0, (may_follow ts s h Opening).1 n.1)
-named_is_due ts s what.Node h n e = absurd n
-named_is_due ts s what.End h n e = grind (arith, is_file ts s s.content h (ap (ended s.content) e))
+  named_is_due : (expected : What) → Names (row_of s) expected
+      → due_at s.position s.due ≡ unless_end expected → IsDue ts expected
+  named_is_due what.Format n e = role_is_due Format n
+  named_is_due what.Version n e = role_is_due Version n
+  named_is_due what.Letter n e = role_is_due Letter n
+  named_is_due what.Text n e = ([], (may_follow (Text [])).1 n)
+  named_is_due what.Opening n e = (may_follow Opening).1 n
+  named_is_due what.Closing n e = (may_follow Closing).1 n
+  named_is_due what.Number n e = role_is_due Payoff n
+  named_is_due what.Index (inl n) e = inl (role_is_due Count n)
+  named_is_due what.Index (inr n) e = inr (n.0, role_is_due (OutcomeNumber n.0) n.1)
+  named_is_due what.Strategies n e = (role_is_due Count n.0, (may_follow Opening).1 n.1)
+  named_is_due what.Node n e = absurd n
+  named_is_due what.End n e =
+      (table_of s.content, is_file ts s s.content h (ap (ended s.content) e))
 
-pub expected_is : (s : State) → due_at s.position s.due ≡ unless_end (row_of s).expected
-expected_is s = (named_at s.position s).1
-
-pub expected_is_due : (ts : List Token) (s : State) → Leads ts s → IsDue ts (row_of s).expected
-expected_is_due ts s h = grind (arith, named_is_due, named_at, expected_is)
+  expected_is_due : IsDue ts (row_of s).expected
+  expected_is_due = let n = named_at s.position s in named_is_due (row_of s).expected n.0 n.1
 
 -- ---- no two roles of numbers are due at one place
 
@@ -156,82 +320,73 @@ two_suits_count = let h = count_is two_text 2 computed.3 in (2, h.1, h.0)
 no_zero_count : ¬ (Suits Count zero_text)
 no_zero_count h = let f = count_again zero_text h.0 h.2 h.1 in let e = computed.2 in absurd cc
 
-not_payoff_and_count : (ts : List Token) → RoleIsDue ts Payoff → ¬ (RoleIsDue ts Count)
-not_payoff_and_count ts h k = no_zero_count ((k zero_text).0 ((h zero_text).1 zero_suits_payoff))
+module _ (ts : List Token) where
+  not_payoff_and_count : RoleIsDue ts Payoff → ¬ (RoleIsDue ts Count)
+  not_payoff_and_count h k = no_zero_count ((k zero_text).0 ((h zero_text).1 zero_suits_payoff))
 
-not_outcome_and_count : (ts : List Token) (outcomes : ℕ) → RoleIsDue ts (OutcomeNumber outcomes)
-    → ¬ (RoleIsDue ts Count)
-not_outcome_and_count ts outcomes h k =
-    no_zero_count ((k zero_text).0 ((h zero_text).1 (zero_suits_outcome outcomes)))
+  not_outcome_and_count : (outcomes : ℕ) → RoleIsDue ts (OutcomeNumber outcomes)
+      → ¬ (RoleIsDue ts Count)
+  not_outcome_and_count outcomes h k =
+      no_zero_count ((k zero_text).0 ((h zero_text).1 (zero_suits_outcome outcomes)))
 
-not_payoff_and_outcome : (ts : List Token) (outcomes : ℕ) → RoleIsDue ts Payoff
-    → ¬ (RoleIsDue ts (OutcomeNumber outcomes))
-not_payoff_and_outcome ts outcomes h k =
-    let g = (k signed_text).0
-    ((h signed_text).1 (zero_number, number_is signed_text zero_number computed.0)) in
-    let f = index_again signed_text g.0 g.1 in
-    let e = computed.1 in
-    absurd cc
+  not_payoff_and_outcome : (outcomes : ℕ) → RoleIsDue ts Payoff
+      → ¬ (RoleIsDue ts (OutcomeNumber outcomes))
+  not_payoff_and_outcome outcomes h k =
+      let g = (k signed_text).0
+      ((h signed_text).1 (zero_number, number_is signed_text zero_number computed.0)) in
+      let f = index_again signed_text g.0 g.1 in
+      let e = computed.1 in
+      absurd cc
 
--- ---- the lowest code
+  -- ---- the lowest code
 
-abbrev Lowest : Why → List Token → Token → Type 0
-Lowest why ts t = (other : Why) → Applies other ts t → code_of why ≤ code_of other
+  abbrev Lowest : Why → Token → Type 0
+  Lowest why t = (other : Why) → Applies other ts t → code_of why ≤ code_of other
 
-lowest_number : (ts : List Token) (b : List ℕ) (fault : NumberFault)
-    → RoleIsDue ts Payoff → HasNumberFault b fault → Lowest (why_of fault) ts (Bare b)
-lowest_number ts b fault h k NotANumber g =
-    let e = same_fault b fault number.NotANumber k g.1 in grind arith
-lowest_number ts b fault h k ZeroDenominator g =
-    let e = same_fault b fault number.ZeroDenominator k g.1 in grind arith
-lowest_number ts b fault h k NumberTooLarge g = grind arith
-lowest_number ts b fault h k other g =
-    grind (arith, not_payoff_and_count, not_payoff_and_outcome)
+  lowest_number : (b : List ℕ) (fault : NumberFault) → RoleIsDue ts Payoff → HasNumberFault b fault
+      → Lowest (why_of fault) (Bare b)
+  lowest_number b fault h k NotANumber g =
+      let e = same_fault b fault number.NotANumber k g.1 in grind arith
+  lowest_number b fault h k ZeroDenominator g =
+      let e = same_fault b fault number.ZeroDenominator k g.1 in grind arith
+  lowest_number b fault h k other g =
+      grind (arith, not_payoff_and_count, not_payoff_and_outcome)
 
-lowest_index : (ts : List Token) (b : List ℕ) → ¬ (RoleIsDue ts Payoff)
-    → Lowest BadIndex ts (Bare b)
-lowest_index ts b h other g = grind arith
+  lowest_index : (b : List ℕ) → ¬ (RoleIsDue ts Payoff) → Lowest BadIndex (Bare b)
+  lowest_index b h other g = grind arith
 
-lowest_outcome : (ts : List Token) (b : List ℕ) (outcomes n : ℕ)
-    → RoleIsDue ts (OutcomeNumber outcomes) → IsIndex b n → Lowest UnknownOutcome ts (Bare b)
-lowest_outcome ts b outcomes n h k other g =
-    grind (arith, not_payoff_and_outcome, not_outcome_and_count)
+  lowest_outcome : (b : List ℕ) (outcomes n : ℕ) → RoleIsDue ts (OutcomeNumber outcomes)
+      → IsIndex b n → Lowest UnknownOutcome (Bare b)
+  lowest_outcome b outcomes n h k other g =
+      grind (arith, not_payoff_and_outcome, not_outcome_and_count)
 
-lowest_entry : (ts : List Token) → Lowest NoEntry ts Closing
-lowest_entry ts other g = grind arith
+  lowest_entry : Lowest NoEntry Closing
+  lowest_entry other g = grind arith
 
-lowest_broken : (ts : List Token) → Lowest Unterminated ts Broken
-lowest_broken ts other g = grind arith
+  -- an unterminated text
+  pub broken_reason : (after : List Token) → IsReason Unterminated ts (Broken ∷ after)
+  broken_reason after = (tt, λ other g. grind arith)
 
--- ---- if none applies
+  -- ---- if none applies
 
-abbrev NoneApplies : List Token → Token → Type 0
-NoneApplies ts t = (why : Why) → ¬ (Applies why ts t)
+  abbrev NoneApplies : Token → Type 0
+  NoneApplies t = (why : Why) → ¬ (Applies why ts t)
 
--- if neither 0 nor 2 may follow
-none_of_bare : (ts : List Token) (b : List ℕ) → ¬ (MayFollow IsStrategicFile ts (Bare zero_text))
-    → ¬ (MayFollow IsStrategicFile ts (Bare two_text)) → NoneApplies ts (Bare b)
-none_of_bare ts b z t NotANumber g = z ((g.0 zero_text).1 zero_suits_payoff)
-none_of_bare ts b z t ZeroDenominator g = z ((g.0 zero_text).1 zero_suits_payoff)
-none_of_bare ts b z t NumberTooLarge g = z ((g.0 zero_text).1 zero_suits_payoff)
-none_of_bare ts b z t BadIndex (inl g) = t ((g.0 two_text).1 two_suits_count)
-none_of_bare ts b z t BadIndex (inr g) = z ((g.1.0 zero_text).1 (zero_suits_outcome g.0))
-none_of_bare ts b z t UnknownOutcome g = z ((g.1.0 zero_text).1 (zero_suits_outcome g.0))
-none_of_bare ts b z t _ g = absurd g
+  -- if neither 0 nor 2 may follow
+  none_of_bare : (b : List ℕ) → ¬ (MayFollow IsStrategicFile ts (Bare zero_text))
+      → ¬ (MayFollow IsStrategicFile ts (Bare two_text)) → NoneApplies (Bare b)
+  none_of_bare b z t BadIndex (inl g) = t ((g.0 two_text).1 two_suits_count)
+  none_of_bare b z t BadIndex (inr g) = z ((g.1.0 zero_text).1 (zero_suits_outcome g.0))
+  none_of_bare b z t UnknownOutcome g = z ((g.1.0 zero_text).1 (zero_suits_outcome g.0))
+  none_of_bare b z t why g =
+      let suits = λ (r : RoleIsDue ts Payoff). z ((r zero_text).1 zero_suits_payoff) in
+      grind (arith, suits)
 
-none_of_closing : (ts : List Token) → ¬ (Begins IsStrategicFile (ts ++ two_texts))
-    → NoneApplies ts Closing
-none_of_closing ts h NoEntry g = h (g.0 ([] ∷ [] ∷ []))
-none_of_closing ts h _ g = absurd g
+  none_of_closing : ¬ (Begins IsStrategicFile (ts ++ two_texts)) → NoneApplies Closing
+  none_of_closing h NoEntry g = h (g.0 ([] ∷ [] ∷ []))
+  none_of_closing h _ g = absurd g
 
 -- ---- the reason at a token
-
-abbrev Reason : List Token → List Token → Token → Why → Type 0
-Reason ts after t why = IsReason why ts (t ∷ after)
-
-number_reason : (ts after : List Token) (b : List ℕ) (fault : NumberFault)
-    → RoleIsDue ts Payoff → HasNumberFault b fault → Reason ts after (Bare b) (why_of fault)
-number_reason ts after b fault h k = grind (arith, lowest_number)
 
 differs : (bytes word : List ℕ)
     → pointwise nat_eq bytes word ≡ false → pointwise nat_eq word word ≡ true → ¬ (bytes ≡ word)
@@ -241,105 +396,96 @@ no_letter : (bytes : List ℕ) → ¬ (bytes ≡ codes "R") → ¬ (bytes ≡ co
     → ¬ (Suits Letter bytes)
 no_letter bytes r d h = grind arith
 
-follows_as : (ts : List Token) (s : State) (h : Leads ts s) (o : Option Role) (b : List ℕ)
-    → (row_of s).bare ≡ o → MayFollow IsStrategicFile ts (Bare b) → AcceptsBare o b
-follows_as ts s h o b e f = grind (arith, may_follow ts s h (Bare b))
-
-expected_reason : (ts after : List Token) (t : Token) (s : State) (h : Leads ts s) (why : Why)
-    → why ≡ Expected (row_of s).expected → NoneApplies ts t → Reason ts after t why
-expected_reason ts after t s h why e none = grind (arith, expected_is_due)
-
--- in a row that expects no number
-word_reason : (ts after : List Token) (b : List ℕ) (s : State) (h : Leads ts s) (why : Why)
-    (o : Option Role) → (row_of s).bare ≡ o → ¬ (AcceptsBare o zero_text)
-    → ¬ (AcceptsBare o two_text) → why ≡ Expected (row_of s).expected → Reason ts after (Bare b) why
-word_reason ts after b s h why o e z t is =
-    search (arith, expected_reason, none_of_bare, follows_as, zero_text)
-
-bare_reason : (ts after : List Token) (b : List ℕ) (s : State) (h : Leads ts s) (why : Why)
-    (o : Option Role) → (row_of s).bare ≡ o → ¬ (AcceptsBare o b)
-    → RefusesBare o (row_of s).expected b why → Reason ts after (Bare b) why
-bare_reason ts after b s h why None e n r = word_reason ts after b s h why None e no no r
-bare_reason ts after b s h why (Some Format) e n r = search (arith, word_reason, differs, zero_text)
-bare_reason ts after b s h why (Some Version) e n r = word_reason ts after b s h why (Some Version)
-    e (differs zero_text (codes "1") refl refl) (differs two_text (codes "1") refl refl) r
-bare_reason ts after b s h why (Some Letter) e n r =
-    search (arith, word_reason, no_letter, zero_text, differs)
-bare_reason ts after b s h why (Some Count) e n r =
-    let due = role_is_due ts s Count h e in
-    rw r (inl (due, n), lowest_index ts b (λ payoff. not_payoff_and_count ts payoff due))
-bare_reason ts after b s h why (Some Payoff) e n r =
-    rw r.1 (number_reason ts after b r.0 (role_is_due ts s Payoff h e) r.2)
-bare_reason ts after b s h why (Some (OutcomeNumber outcomes)) e n (inl r) =
-    let due = role_is_due ts s (OutcomeNumber outcomes) h e in
-    subst (λ (x : Why). IsReason x ts (Bare b ∷ after)) (sym r.0) (
-      inr (outcomes, (due, r.1)),
-      lowest_index ts b (λ payoff. not_payoff_and_outcome ts outcomes payoff due),
-    )
-bare_reason ts after b s h why (Some (OutcomeNumber outcomes)) e n (inr r) =
-    let due = role_is_due ts s (OutcomeNumber outcomes) h e in
-    rw r.0 ((outcomes, (due, r.1)), lowest_outcome ts b outcomes r.1.0 due r.1.1)
-
-closing_reason : (ts after : List Token) (s : State) (h : Leads ts s) (why : Why) (empty : Bool)
-    → unfilled s.position s ≡ empty → ¬ ((row_of s).closing ≡ true)
-    → RefusesClosing empty (row_of s).expected why → Reason ts after Closing why
-closing_reason ts after s h why true e n r =
-    let labels : (labels : List (List ℕ)) → Begins IsStrategicFile (ts ++ map Text labels) =
-    λ labels.
-    let w = labels_follow s.position s e labels in
-    begins (ts ++ map Text labels) w.0 (leads_on ts (map Text labels) s w.0 h w.1) in
-    grind (arith, may_follow ts s h Closing, lowest_entry ts)
-closing_reason ts after s h why false e n r =
-    let w = no_texts_follow s.position s (false_from_ne_true (row_of s).closing n) e in
-    expected_reason ts after Closing s h why r (none_of_closing ts (stops ts two_texts s w.0 h w.1))
-
--- no code applies to these tokens
-abbrev IsOther : Token → Type 0
-IsOther Opening = Unit {0}
-IsOther Comma = Unit {0}
-IsOther (Text label) = Unit {0}
-IsOther token = ⊥
-
-none_of_other : (ts : List Token) (t : Token) → IsOther t → NoneApplies ts t
-none_of_other ts t o why g = grind arith
-
 -- a token of a text that has an end
 abbrev pub IsWhole : Token → Type 0
 IsWhole Broken = ⊥
 IsWhole token = Unit {0}
 
-refused_reason : (ts after : List Token) (t : Token) (s : State) (h : Leads ts s) (why : Why)
-    → IsWhole t → ¬ (Accepts (row_of s) t) → Refuses (unfilled s.position s) (row_of s) t why
-    → Reason ts after t why
-refused_reason ts after Opening s h why w n r = grind (arith, expected_reason, none_of_other)
-refused_reason ts after Comma s h why w n r = grind (arith, expected_reason, none_of_other)
-refused_reason ts after (Text label) s h why w n r = grind (arith, expected_reason, none_of_other)
-refused_reason ts after Closing s h why w n r = grind (arith, closing_reason, unfilled)
-refused_reason ts after (Bare b) s h why w n r = grind (arith, bare_reason, row_of)
-refused_reason ts after Broken s h why w n r = absurd w
-
-pub reason : (ts after : List Token) (t : Token) (s : State) (why : Why)
-    → Leads ts s → IsWhole t → step s t ≡ Err why → IsReason why ts (t ∷ after)
-reason ts after t s why leads whole e =
-    let a : Answers (unfilled s.position s) (row_of s) t (Err why) =
-    subst (Answers (unfilled s.position s) (row_of s) t) e (answers s.position s t) in
-    refused_reason ts after t s leads why whole a.0 a.1
-
--- ---- an unterminated text
-
-pub broken_reason : (ts after : List Token) → IsReason Unterminated ts (Broken ∷ after)
-broken_reason ts after = (tt, lowest_broken ts)
-
--- ---- the end
-
 end_names : (c : Content) (expected named : What)
     → ended c (unless_end expected) ≡ Err (Expected named) → expected ≡ named
 end_names c expected named e = grind arith
 
-pub end_reason : (ts : List Token) (s : State) (named : What)
-    → Leads ts s → finish s ≡ Err (Expected named) → IsReason (Expected named) ts []
-end_reason ts s named h e = (
-  subst (IsDue ts) (end_names s.content (row_of s).expected named (rw (← expected_is s) e))
-      (expected_is_due ts s h),
-  λ why g. g,
-)
+module _ (ts after : List Token) (s : State) (h : Leads ts s) where
+  follows_as : (o : Option Role) (b : List ℕ) → (row_of s).bare ≡ o
+      → MayFollow IsStrategicFile ts (Bare b) → AcceptsBare o b
+  follows_as o b e f = grind (arith, may_follow ts s h (Bare b))
+
+  expected_reason : (t : Token) (why : Why) → why ≡ Expected (row_of s).expected
+      → NoneApplies ts t → IsReason why ts (t ∷ after)
+  expected_reason t why e none = rw e (expected_is_due ts s h, none)
+
+  -- in a row that expects no number
+  word_reason : (b : List ℕ) (why : Why) (o : Option Role) → (row_of s).bare ≡ o
+      → ¬ (AcceptsBare o zero_text) → ¬ (AcceptsBare o two_text)
+      → why ≡ Expected (row_of s).expected → IsReason why ts (Bare b ∷ after)
+  word_reason b why o e z t is = expected_reason (Bare b) why is (none_of_bare ts b
+      (λ f. z (follows_as o zero_text e f)) (λ f. t (follows_as o two_text e f)))
+
+  bare_reason : (b : List ℕ) (why : Why) (o : Option Role) → (row_of s).bare ≡ o
+      → ¬ (AcceptsBare o b) → RefusesBare o (row_of s).expected b why
+      → IsReason why ts (Bare b ∷ after)
+  bare_reason b why None e n r = word_reason b why None e no no r
+  bare_reason b why (Some Format) e n r = word_reason b why (Some Format) e
+      (differs zero_text (codes "NFG") refl refl) (differs two_text (codes "NFG") refl refl) r
+  bare_reason b why (Some Version) e n r = word_reason b why (Some Version) e
+      (differs zero_text (codes "1") refl refl) (differs two_text (codes "1") refl refl) r
+  bare_reason b why (Some Letter) e n r =
+      search (arith, word_reason, no_letter, zero_text, differs)
+  bare_reason b why (Some Count) e n r =
+      let due = role_is_due ts s h Count e in
+      rw r (inl (due, n), lowest_index ts b (λ payoff. not_payoff_and_count ts payoff due))
+  bare_reason b why (Some Payoff) e n r =
+      let due = role_is_due ts s h Payoff e in
+      let lowest = lowest_number ts b r.0 due r.2 in
+      rw r.1 (number_reason r.0 due r.2 lowest)
+    where
+      number_reason : (fault : NumberFault) → RoleIsDue ts Payoff → HasNumberFault b fault
+          → Lowest ts (why_of fault) (Bare b) → IsReason (why_of fault) ts (Bare b ∷ after)
+      number_reason fault due k lowest = grind arith
+  bare_reason b why (Some (OutcomeNumber outcomes)) e n (inl r) =
+      let due = role_is_due ts s h (OutcomeNumber outcomes) e in
+      subst (λ (x : Why). IsReason x ts (Bare b ∷ after)) (sym r.0) (
+        inr (outcomes, (due, r.1)),
+        lowest_index ts b (λ payoff. not_payoff_and_outcome ts outcomes payoff due),
+      )
+  bare_reason b why (Some (OutcomeNumber outcomes)) e n (inr r) =
+      let due = role_is_due ts s h (OutcomeNumber outcomes) e in
+      rw r.0 ((outcomes, (due, r.1)), lowest_outcome ts b outcomes r.1.0 due r.1.1)
+
+  closing_reason : (why : Why) (empty : Bool) → unfilled s.position s ≡ empty
+      → ¬ ((row_of s).closing ≡ true) → RefusesClosing empty (row_of s).expected why
+      → IsReason why ts (Closing ∷ after)
+  closing_reason why true e n r =
+      let labels : (labels : List (List ℕ)) → Begins IsStrategicFile (ts ++ map Text labels) =
+      λ labels.
+      let w = labels_follow s.position s e labels in
+      begins (ts ++ map Text labels) w.0 (leads_on ts (map Text labels) s w.0 h w.1) in
+      grind (arith, may_follow ts s h Closing, lowest_entry ts)
+  closing_reason why false e n r =
+      let w = no_texts_follow s.position s (false_from_ne_true (row_of s).closing n) e in
+      expected_reason Closing why r (none_of_closing ts (stops ts two_texts s w.0 h w.1))
+
+  refused_reason : (t : Token) (why : Why) → IsWhole t → ¬ (Accepts (row_of s) t)
+      → Refuses (unfilled s.position s) (row_of s) t why → IsReason why ts (t ∷ after)
+  refused_reason Closing why w n r = closing_reason why (unfilled s.position s) refl n r
+  refused_reason (Bare b) why w n r = bare_reason b why (row_of s).bare refl n r
+  refused_reason Broken why w n r = absurd w
+  refused_reason Opening why w n r = expected_reason Opening why r (λ other g. grind arith)
+  refused_reason Comma why w n r = expected_reason Comma why r (λ other g. grind arith)
+  refused_reason (Text label) why w n r =
+      expected_reason (Text label) why r (λ other g. grind arith)
+
+  pub reason : (t : Token) (why : Why) → IsWhole t → step s t ≡ Err why
+      → IsReason why ts (t ∷ after)
+  reason t why whole e =
+      let a = subst (Answers (unfilled s.position s) (row_of s) t) e (answers s.position s t) in
+      refused_reason t why whole a.0 a.1
+
+  -- ---- the end
+
+  pub end_reason : (named : What) → finish s ≡ Err (Expected named) → IsReason (Expected named) ts []
+  end_reason named e = (
+    subst (IsDue ts) (end_names s.content (row_of s).expected named
+        (rw (← (named_at s.position s).1) e)) (expected_is_due ts s h),
+    λ why g. g,
+  )

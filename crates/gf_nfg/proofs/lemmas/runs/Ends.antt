@@ -1,13 +1,13 @@
 -- Each state of the machine can be completed.
-use Rattle.gf_nfg.proofs.Common.{true, ◌≡◌, ℕ, zero, suc, ◌+◌, ◌-◌, ◌*◌, ◌<◌, List, [], ◌∷◌, length}
-use Rattle.gf_nfg.proofs.Common.{Some, Ok, refl, ap, subst, ◌∙◌, arith, nat_le, codes, pos, mul-one}
-use Rattle.gf_nfg.proofs.Common.{le-leb, length-append, Token, Opening, Closing, Text, Bare, Comma}
-use Rattle.gf_nfg.proofs.Common.{Ratio, whole, Position, count_of, State, Content, at, step, run}
-use Rattle.gf_nfg.proofs.Common.{listed, with_title, with_labels, with_count, with_payoffs}
-use Rattle.gf_nfg.proofs.Common.{with_choices, next_outcome, inl, inr, p, number_of, lowest_of}
-use Rattle.gf_nfg.proofs.Common.{gcd_within, index_of}
+use Rattle.gf_nfg.proofs.Common.{gcd_within, lowest_of, number_of, Ratio, whole, Content, State, at}
+use Rattle.gf_nfg.proofs.Common.{next_outcome, run, step, with_choices, with_count, with_labels}
+use Rattle.gf_nfg.proofs.Common.{with_payoffs, with_title, p, Position, count_of, index_of, Bare}
+use Rattle.gf_nfg.proofs.Common.{Closing, Comma, Opening, Text, Token, List, Ok, Some, [], ap}
+use Rattle.gf_nfg.proofs.Common.{arith, inl, inr, length, length-append, pos, refl, subst, suc}
+use Rattle.gf_nfg.proofs.Common.{true, zero, ℕ, ◌*◌, ◌+◌, ◌-◌, ◌<◌, ◌∙◌, ◌∷◌, ◌≡◌, mul-one, le-leb}
+use Rattle.gf_nfg.proofs.Common.{codes, nat_le}
 use Rattle.gf_nfg.proofs.lemmas.runs.Common.{not_zero, pred_suc}
-use Rattle.gf_nfg.proofs.lemmas.runs.Strategies.{Takes}
+use Rattle.gf_nfg.proofs.lemmas.runs.Strategies.{Takes, list_closed}
 use Rattle.gf_nfg.proofs.lemmas.runs.Strategies.Kind.{ByCounts}
 
 -- it can be completed, to this many profiles
@@ -99,10 +99,6 @@ counted_ends q takes (suc due) from outcomes c =
     (by_one (at p.Counts due from outcomes (with_count c 1)) c.profiles 1 refl
     (counted_ends p.Counts (inr refl) due from outcomes (with_count c 1)))
 
-listed_step : (s : State) (n : ℕ) → 0 < n
-    → listed s n ≡ Ok (at p.BeforeList s.due 0 s.outcomes (with_count s.content n))
-listed_step s n some = grind arith
-
 longer : (c : Content) → length (with_labels c ([] ∷ [])).labels ≡ length c.labels + 1
 longer c = length-append c.labels ([] ∷ [])
 
@@ -118,7 +114,7 @@ lists_ends (suc due) from outcomes c =
     let some : 0 < n = omega (arith, one) in
     then _ (at p.InList due (length c.labels) outcomes c) Opening (rw (not_zero, pred_suc) refl)
     (then _ (at p.InList due (length c.labels) outcomes d) (Text []) refl
-    (then _ _ Closing (listed_step (at p.InList due (length c.labels) outcomes d) n some)
+    (then _ _ Closing (list_closed (at p.InList due (length c.labels) outcomes d) n some)
     (by_one (at p.BeforeList due 0 outcomes (with_count d n)) c.profiles n one
     (lists_ends due 0 outcomes (with_count d n)))))
 
@@ -127,7 +123,7 @@ list_ends : (n due from outcomes : ℕ) (c : Content) → from < length c.labels
 list_ends zero due from outcomes c h =
     let n = length c.labels - from in (
       c.profiles * n,
-      then _ _ Closing (listed_step (at p.InList due from outcomes c) n (omega arith))
+      then _ _ Closing (list_closed (at p.InList due from outcomes c) n (omega arith))
           (lists_ends due 0 outcomes (with_count c n)),
     )
 list_ends (suc n) due from outcomes c h =

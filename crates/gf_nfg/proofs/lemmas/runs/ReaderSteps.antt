@@ -1,14 +1,14 @@
 -- What the methods of the reader rest on: answers carried back, and steps with a test of what is
 -- due.
-use Rattle.gf_nfg.proofs.Common.{◌≡◌, ℕ, ◌<◌, ◌-◌, ◌*◌, List, [], ◌∷◌, length, Result, Ok, Err}
-use Rattle.gf_nfg.proofs.Common.{refl, sym, ap, subst, ◌∙◌, arith, MatchResult, Label, Remaining}
-use Rattle.gf_nfg.proofs.Common.{Lexeme, lexeme, Opening, Closing, Text, Fault, Span, Answer, Fails}
-use Rattle.gf_nfg.proofs.Common.{Goes, heard, read_on, then_on, within, Content, State, at, settled}
-use Rattle.gf_nfg.proofs.Common.{HasToldAll, body_answer, content_in, content_told, labels_of}
-use Rattle.gf_nfg.proofs.Common.{told_answer, Told, length-map, p, Heading, Reader}
-use Rattle.gf_nfg.specs.declared.reader.receive.Version.TheVariants as version
+use Rattle.gf_nfg.proofs.Common.{Reader, Heading, Answer, Fails, Goes, heard, read_on, then_on}
+use Rattle.gf_nfg.proofs.Common.{within, Content, State, at, settled, p, HasToldAll, body_answer}
+use Rattle.gf_nfg.proofs.Common.{content_in, content_told, labels_of, told_answer, Told, Remaining}
+use Rattle.gf_nfg.proofs.Common.{Closing, Opening, Text, Lexeme, lexeme, Fault, Span, Label, Err}
+use Rattle.gf_nfg.proofs.Common.{List, Ok, Result, [], ap, arith, length, refl, subst, sym, ℕ, ◌*◌}
+use Rattle.gf_nfg.proofs.Common.{◌-◌, ◌<◌, ◌∙◌, ◌∷◌, ◌≡◌, length-map, MatchResult}
 use Rattle.gf_nfg.specs.declared.reader.receive.Version.{Version}
-use Rattle.gf_nfg.proofs.lemmas.places.Heard.{carried, wants_memory}
+use Rattle.gf_nfg.proofs.lemmas.places.Judged.{carried, wants_memory}
+use Rattle.gf_nfg.specs.declared.reader.receive.Version.TheVariants as version
 
 -- ---- answers carried back
 
@@ -64,23 +64,19 @@ outcome_named told outcomes players t new start end label next input size = grin
 
 -- ---- after the last of the strategies
 
+ends_alike : (end : ℕ) (c : Content) (ls : List Lexeme)
+    → (read_on end (at p.BeforeList 0 0 0 c) ls ≡ read_on end (at p.FirstStrategies 0 0 0 c) ls)
+    × (read_on end (at p.Counts 0 0 0 c) ls ≡ read_on end (at p.FirstStrategies 0 0 0 c) ls)
+ends_alike end c [] = (refl, refl)
+ends_alike end c (l ∷ ls) = (refl, refl)
+
 pub lists_end : (c : Content) (t : Remaining)
     → heard (at p.BeforeList 0 0 0 c) t ≡ heard (at p.FirstStrategies 0 0 0 c) t
-lists_end c t = ap (λ o. record { input = t.input; machine = o }) (by t.ahead)
-  where
-    by : (ls : List Lexeme) → read_on (length t.input) (at p.BeforeList 0 0 0 c) ls
-        ≡ read_on (length t.input) (at p.FirstStrategies 0 0 0 c) ls
-    by [] = refl
-    by (l ∷ ls) = refl
+lists_end c t = grind (arith, ends_alike (length t.input) c t.ahead)
 
 pub counts_end : (c : Content) (t : Remaining)
     → heard (at p.Counts 0 0 0 c) t ≡ heard (at p.FirstStrategies 0 0 0 c) t
-counts_end c t = ap (λ o. record { input = t.input; machine = o }) (by t.ahead)
-  where
-    by : (ls : List Lexeme) → read_on (length t.input) (at p.Counts 0 0 0 c) ls
-        ≡ read_on (length t.input) (at p.FirstStrategies 0 0 0 c) ls
-    by [] = refl
-    by (l ∷ ls) = refl
+counts_end c t = grind (arith, ends_alike (length t.input) c t.ahead)
 
 -- how many labels were read
 pub label_count : (now before : List Label) (n m k : ℕ) → n ≡ length now → m ≡ length before

@@ -14,15 +14,15 @@ use Rattle.gf_nfg.proofs.lemmas.tables.Meaning.{strategies_of-joined}
 use Rattle.gf_nfg.proofs.lemmas.tables.Rows.{rows_numbered, entries_again}
 use Rattle.gf_nfg.proofs.lemmas.runs.Payoffs.{flat_found, flat_again, greatest, outcomes_found}
 use Rattle.gf_nfg.proofs.lemmas.runs.Payoffs.{outcomes_again, choices_found, choices_again}
-use Rattle.gf_nfg.proofs.lemmas.runs.Rows.{rows_each, rows_joined, outcomes_full, choices_pay}
-use Rattle.gf_nfg.proofs.lemmas.runs.Rows.{choices_chosen}
+use Rattle.gf_nfg.proofs.lemmas.runs.Payoffs.{rows_each, rows_joined, outcomes_full, choices_pay}
+use Rattle.gf_nfg.proofs.lemmas.runs.Payoffs.{choices_chosen}
 use Rattle.gf_nfg.proofs.lemmas.runs.Strategies.{ended, AllSome, IsGroup, Kind, Strategies}
 use Rattle.gf_nfg.proofs.lemmas.runs.Strategies.{labels_in, strategies_again, strategies_found}
 use Rattle.gf_nfg.proofs.lemmas.runs.Strategies.{with_counts}
 use Rattle.gf_nfg.proofs.lemmas.tables.Profiles.{length-profiles}
 use Rattle.gf_nfg.proofs.lemmas.runs.Common.{ok_why, ok_is}
 use Rattle.gf_nfg.proofs.lemmas.runs.Walks.{leads_run}
-use Rattle.gf_nfg.proofs.lemmas.runs.Heading.{heading, heading_found, heading_leads, heading_line}
+use Rattle.gf_nfg.proofs.lemmas.runs.Strategies.{heading, heading_found, heading_leads, heading_line}
 use Rattle.gf_nfg.proofs.lemmas.runs.Strategies.Kind.{ByCounts, ByLists}
 
 -- with the body

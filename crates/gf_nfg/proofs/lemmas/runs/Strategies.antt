@@ -1,16 +1,160 @@
--- Runs over the strategies: a count for each player, or a list of labels for each.
-use Rattle.gf_nfg.proofs.Common.{◌≡◌, ℕ, zero, suc, ◌-◌, ◌*◌, ◌<◌, List, [], ◌∷◌, ◌++◌, length, map}
-use Rattle.gf_nfg.proofs.Common.{Option, Some, Ok, refl, sym, ap, ◌∙◌, append_assoc, arith, inl}
-use Rattle.gf_nfg.proofs.Common.{inr, ◌⊎◌, AllByRecursion, append-nil, length-append, mul-one}
-use Rattle.gf_nfg.proofs.Common.{mul_assoc, Token, Opening, Closing, Text, Bare, Each, braced}
-use Rattle.gf_nfg.proofs.Common.{product, count_of, IsCount, IsLabelList, counted_labels, State}
-use Rattle.gf_nfg.proofs.Common.{Content, Position, at, run, step, counted, listed, opened}
-use Rattle.gf_nfg.proofs.Common.{with_count, with_labels, ◌>>=◌, count_is, count_again, p}
+-- Runs over the heading, and over the strategies: a count for each player, or a list of labels for
+-- each.
+use Rattle.gf_nfg.proofs.Common.{product, IsCount, IsLabelList, counted_labels, Content, State, at}
+use Rattle.gf_nfg.proofs.Common.{counted, listed, nothing, opened, run, start, step, with_count}
+use Rattle.gf_nfg.proofs.Common.{with_labels, with_players, with_title, ◌>>=◌, p, Position}
+use Rattle.gf_nfg.proofs.Common.{count_again, count_is, Each, braced, count_of, Bare, Closing}
+use Rattle.gf_nfg.proofs.Common.{Opening, Text, Token, List, Ok, Option, Some, [], ap, append-nil}
+use Rattle.gf_nfg.proofs.Common.{append_assoc, arith, inl, inr, length, length-append, map, refl}
+use Rattle.gf_nfg.proofs.Common.{subst, suc, sym, zero, ℕ, ◌*◌, ◌++◌, ◌+◌, ◌-◌, ◌<◌, ◌∙◌, ◌∷◌, ◌≡◌}
+use Rattle.gf_nfg.proofs.Common.{mul-one, mul_assoc, AllByRecursion, codes, ◌⊎◌}
+use Rattle.gf_nfg.proofs.lemmas.runs.Common.{not_zero, pred_suc, same_bytes, with_more_labels}
+use Rattle.gf_nfg.proofs.lemmas.runs.Common.{with_more_players, with_no_labels, with_no_players}
+use Rattle.gf_nfg.proofs.lemmas.runs.Walks.{Leads, leads_more, leads_on, walk, walk_run, walk_then}
 use Rattle.gf_nfg.proofs.lemmas.tables.Lists.{joined, length-counted_labels}
-use Rattle.gf_nfg.proofs.lemmas.runs.Common.{not_zero, pred_suc, with_no_labels, with_more_labels}
-use Rattle.gf_nfg.proofs.lemmas.runs.Groups.{First, Groups, all_in, and_more, and_more_is}
-use Rattle.gf_nfg.proofs.lemmas.runs.Groups.{each_both, groups_found}
-use Rattle.gf_nfg.proofs.lemmas.runs.Walks.{walk, walk_run, walk_then}
+
+-- ---- groups of tokens, one for each of some items
+
+-- after these items, if each adds something
+abbrev pub all_in : {A : Type 0} → (Content → A → Content) → Content → List A → Content
+all_in add c [] = c
+all_in add c (x ∷ xs) = all_in add (add c x) xs
+
+-- as many as these items, and more
+abbrev pub and_more : {A : Type 0} → List A → ℕ → ℕ
+and_more [] due = due
+and_more (x ∷ xs) due = suc (and_more xs due)
+
+pub and_more_is : {A : Type 0} (xs : List A) (due : ℕ) → and_more xs due ≡ length xs + due
+and_more_is [] due = omega arith
+and_more_is (x ∷ xs) due = let h = and_more_is xs due in omega (arith, h)
+
+pub each_both : {A : Type 0} (P : List Token → A → Type 0) (Q : A → Type 0) (xs : List A)
+    (ts : List Token) → Each (λ us x. P us x × Q x) ts xs → Each P ts xs × AllByRecursion Q xs
+each_both P Q [] ts h = (h, tt)
+each_both P Q (x ∷ xs) ts h = grind (arith, each_both P Q xs h.1 h.4)
+
+pub each_parts : {A : Type 0} (P : List Token → A → Type 0) (xs ys : List A) (ts : List Token)
+    → Each P ts (xs ++ ys)
+    → (front : List Token) × (rest : List Token) × (ts ≡ front ++ rest)
+    × Each P front xs × Each P rest ys
+each_parts P [] ys ts h = ([], ts, refl, refl, h)
+each_parts P (x ∷ xs) ys ts h =
+    let k = each_parts P xs ys h.1 h.4 in
+    (h.0 ++ k.0, k.1, cc (h.2, k.2, append_assoc h.0 k.0 k.1), (h.0, k.0, refl, h.3, k.3), k.4)
+
+-- which tokens are a group, in which state so many are due, and what an item adds
+module _ {A : Type 0} (P : List Token → A → Type 0) (state : ℕ → Content → State)
+    (add : Content → A → Content) where
+  -- tokens are a group and the rest, from which it goes on
+  abbrev pub First : List Token → ℕ → Content → Content → Type 0
+  First ts due c r = (first : List Token) × (rest : List Token) × (item : A) × (ts ≡ first ++ rest)
+      × P first item × (run (state due (add c item)) rest ≡ Ok r)
+
+  -- they are as many groups as are due and the rest
+  abbrev pub Groups : List Token → ℕ → Content → Content → Type 0
+  Groups ts due c r = (inner : List Token) × (rest : List Token) × (items : List A)
+      × (ts ≡ inner ++ rest) × Each P inner items × (length items ≡ due)
+      × (run (state 0 (all_in add c items)) rest ≡ Ok r)
+
+  -- if each run that ends well takes a group first
+  pub groups_found : ((ts : List Token) (due : ℕ) (c r : Content)
+      → run (state (suc due) c) ts ≡ Ok r → First ts due c r)
+      → (ts : List Token) (due : ℕ) (c r : Content) → run (state due c) ts ≡ Ok r
+      → Groups ts due c r
+  groups_found one ts zero c r e = ([], ts, [], refl, refl, refl, e)
+  groups_found one ts (suc due) c r e =
+      let f = one ts due c r e in
+      let h = groups_found one f.1 due (add c f.2) r f.5 in (
+        f.0 ++ h.0,
+        h.1,
+        f.2 ∷ h.2,
+        cc (f.3, h.3, append_assoc f.0 h.0 h.1),
+        (f.0, h.0, refl, f.4, h.4),
+        ap suc h.5,
+        h.6,
+      )
+
+-- ---- the heading
+
+-- ---- what was read
+
+begun_found : (format version letter : List ℕ) (ts : List Token) (r : Content)
+    → run start (Bare format ∷ Bare version ∷ Bare letter ∷ ts) ≡ Ok r
+    → (format ≡ codes "NFG") × (version ≡ codes "1")
+    × ((letter ≡ codes "R") ⊎ (letter ≡ codes "D")) × (run (at p.Title 0 0 0 nothing) ts ≡ Ok r)
+begun_found format version letter ts r e = grind (arith, same_bytes)
+
+-- Text* Closing
+players_found : (ts : List Token) (c r : Content) → run (at p.InPlayers 0 0 0 c) ts ≡ Ok r
+    → (players : List (List ℕ)) × (rest : List Token) × (ts ≡ map Text players ++ Closing ∷ rest)
+    × (run (at p.BeforeStrategies (length (c.players ++ players)) 0 0 (with_players c players)) rest
+    ≡ Ok r)
+players_found (Text label ∷ ts) c r e =
+    let h = players_found ts (with_players c (label ∷ [])) r e in
+    grind (arith, run, with_more_players)
+players_found (Closing ∷ ts) c r e = (
+  [],
+  ts,
+  refl,
+  subst (λ (d : Content). run (at p.BeforeStrategies (length d.players) 0 0 d) ts ≡ Ok r)
+      (sym (with_no_players c)) e,
+)
+players_found _ c r e = absurd cc
+
+-- of this title and these players
+abbrev pub heading : List ℕ → List (List ℕ) → Content
+heading title players = record nothing { title = title; players = players }
+
+pub record Heading (ts : List Token) (r : Content) : Type 0 where
+  pub letter : List ℕ
+  pub title : List ℕ
+  pub players : List (List ℕ)
+  pub rest : List Token
+  pub parts : ts ≡ Bare (codes "NFG") ∷ Bare (codes "1") ∷ Bare letter ∷ Text title
+      ∷ (braced (map Text players) ++ rest)
+  pub is_letter : (letter ≡ codes "R") ⊎ (letter ≡ codes "D")
+  pub goes_on : run (at p.BeforeStrategies (length players) 0 0 (heading title players)) rest ≡ Ok r
+
+pub heading_found : (ts : List Token) (r : Content) → run start ts ≡ Ok r → Heading ts r
+heading_found (Bare format ∷ Bare version ∷ Bare letter ∷ Text title ∷ Opening ∷ ts) r e =
+    let h = begun_found format version letter (Text title ∷ Opening ∷ ts) r e in
+    let g = players_found ts (with_title nothing title) r h.3 in
+    grind (arith, append_assoc, map)
+heading_found _ r e = absurd (grind arith)
+
+-- ---- where each heading leads
+
+abbrev pub heading_line : List ℕ → List ℕ → List (List ℕ) → List Token
+heading_line letter title players =
+    Bare (codes "NFG") ∷ Bare (codes "1") ∷ Bare letter ∷ Text title ∷ braced (map Text players)
+
+abbrev title_line : List ℕ → List ℕ → List Token
+title_line letter title =
+    Bare (codes "NFG") ∷ Bare (codes "1") ∷ Bare letter ∷ Text title ∷ Opening ∷ []
+
+title_leads : (letter title : List ℕ) → (letter ≡ codes "R") ⊎ (letter ≡ codes "D")
+    → Leads (title_line letter title) (at p.InPlayers 0 0 0 (with_title nothing title))
+title_leads letter title h = grind arith
+
+players_walk : (players : List (List ℕ)) (c : Content)
+    → walk (at p.InPlayers 0 0 0 c) (map Text players)
+    ≡ Ok (at p.InPlayers 0 0 0 (with_players c players))
+players_walk [] c = cc (with_no_players c)
+players_walk (label ∷ players) c =
+    grind (arith, with_more_players, players_walk players (with_players c (label ∷ [])))
+
+pub heading_leads : (letter title : List ℕ) (players : List (List ℕ))
+    → (letter ≡ codes "R") ⊎ (letter ≡ codes "D") → Leads (heading_line letter title players)
+    (at p.BeforeStrategies (length players) 0 0 (heading title players))
+heading_leads letter title players h =
+    let line = title_line letter title in
+    let texts = map Text players in
+    let walks = players_walk players (with_title nothing title) in
+    leads_more (line ++ texts) Closing _ _
+    (leads_on line texts _ _ (title_leads letter title h) walks) refl
+
+-- ---- the strategies
 
 -- the labels of some players' strategies, a list for each
 abbrev pub Strategies : Type 0
@@ -180,25 +324,15 @@ strategies_found _ due c r e = absurd (grind arith)
 
 -- ---- where strategies lead
 
--- a group leads there, and only its last token increases the number of profiles
-pub record Taken (s after : State) (group : List Token) : Type 0 where
-  pub front : List Token
-  pub last : Token
-  pub parts : group ≡ front ++ last ∷ []
-  pub mid : State
-  pub walks : walk s front ≡ Ok mid
-  pub keeps : mid.content.profiles ≡ s.content.profiles
-  pub steps : step mid last ≡ Ok after
+pub labels_walk : (labels : List (List ℕ)) (due from outcomes : ℕ) (c : Content)
+    → walk (at p.InList due from outcomes c) (map Text labels)
+    ≡ Ok (at p.InList due from outcomes (with_labels c labels))
+labels_walk [] due from outcomes c = cc (with_no_labels c)
+labels_walk (label ∷ labels) due from outcomes c =
+    labels_walk labels due from outcomes (with_labels c (label ∷ []))
+    ∙ ap (λ d. Ok (at p.InList due from outcomes d)) (with_more_labels c (label ∷ []) labels)
 
-labels_walk : (labels : List (List ℕ)) (due from : ℕ) (c : Content)
-    → walk (at p.InList due from 0 c) (map Text labels)
-    ≡ Ok (at p.InList due from 0 (with_labels c labels))
-labels_walk [] due from c = cc (with_no_labels c)
-labels_walk (label ∷ labels) due from c =
-    labels_walk labels due from (with_labels c (label ∷ []))
-    ∙ ap (λ d. Ok (at p.InList due from 0 d)) (with_more_labels c (label ∷ []) labels)
-
-list_closed : (s : State) (n : ℕ) → 0 < n
+pub list_closed : (s : State) (n : ℕ) → 0 < n
     → listed s n ≡ Ok (at p.BeforeList s.due 0 s.outcomes (with_count s.content n))
 list_closed s n some = grind arith
 
@@ -211,55 +345,54 @@ open_step : (q : Position) → Takes ByLists q → (due : ℕ) (c : Content)
     → step (at q (suc due) 0 0 c) Opening ≡ Ok (at p.InList due (length c.labels) 0 c)
 open_step q takes due c = grind arith
 
-pub taken : (k : Kind) (q : Position) → Takes k q → (due : ℕ) (c : Content) (group : List Token)
+group_walk : (k : Kind) (q : Position) → Takes k q → (due : ℕ) (c : Content) (group : List Token)
     (labels : List (List ℕ)) → IsGroup k group labels → 0 < length labels
-    → Taken (at q (suc due) 0 0 c) (due_at k due (with_group k c labels)) group
-taken ByCounts q takes due c group labels h some =
+    → walk (at q (suc due) 0 0 c) group ≡ Ok (due_at k due (with_group k c labels))
+group_walk ByCounts q takes due c group labels h some =
     let same : length labels ≡ h.1 = ap length h.4 ∙ length-counted_labels h.1 in
     let read = count_again h.0 h.1 (omega (arith, some, same)) h.3 ∙ ap Some (sym same) in
-    record {
-      front = [];
-      last = Bare h.0;
-      parts = h.2;
-      mid = at q (suc due) 0 0 c;
-      walks = refl;
-      keeps = refl;
-      steps = count_step q takes h.0 (length labels) due c read;
-    }
-taken ByLists q takes due c group labels h some =
+    let one : walk (at q (suc due) 0 0 c) (Bare h.0 ∷ [])
+    ≡ Ok (due_at ByCounts due (with_group ByCounts c labels)) =
+    rw (count_step q takes h.0 (length labels) due c read) refl in
+    ap (walk (at q (suc due) 0 0 c)) h.2 ∙ one
+group_walk ByLists q takes due c group labels h some =
     let mid : State = at p.InList due (length c.labels) 0 (with_labels c labels) in
-    record {
-      front = Opening ∷ map Text labels;
-      last = Closing;
-      parts = h;
-      mid = mid;
-      walks = rw (open_step q takes due c) (labels_walk labels due (length c.labels) c);
-      keeps = refl;
-      steps = rw (behind_front c.labels labels) (list_closed mid (length labels) some);
-    }
+    ap (walk (at q (suc due) 0 0 c)) h
+    ∙ walk_then (Opening ∷ map Text labels) (Closing ∷ []) (at q (suc due) 0 0 c) mid
+    (due_at ByLists due (with_group ByLists c labels))
+    (rw (open_step q takes due c) (labels_walk labels due (length c.labels) 0 c))
+    (rw (behind_front c.labels labels) (rw (list_closed mid (length labels) some) refl))
 
-taken_walk : (s after : State) (group : List Token) → Taken s after group → walk s group ≡ Ok after
-taken_walk s after group h = ap (walk s) h.parts
-    ∙ walk_then h.front (h.last ∷ []) s h.mid after h.walks (rw h.steps refl)
+-- where groups of some players lead
+abbrev pub behind : Kind → Strategies → Position → Position
+behind k [] q = q
+behind k (labels ∷ strategies) q = next k
 
--- groups of some players lead to where this many more are due
+behind_next : (k : Kind) (strategies : Strategies) → behind k strategies (next k) ≡ next k
+behind_next k [] = refl
+behind_next k (labels ∷ strategies) = refl
+
+-- there this many more are due
 pub groups_walk : (k : Kind) (strategies : Strategies) (inner : List Token) (q : Position)
     → Takes k q → (due : ℕ) (c : Content) → Each (IsGroup k) inner strategies → AllSome strategies
-    → (after : Position) × Takes k after × (walk (at q (and_more strategies due) 0 0 c) inner
-    ≡ Ok (at after due 0 0 (all_in (with_group k) c strategies)))
-groups_walk k [] inner q takes due c h some = (q, takes, ap (walk (at q due 0 0 c)) h)
+    → walk (at q (and_more strategies due) 0 0 c) inner
+    ≡ Ok (at (behind k strategies q) due 0 0 (all_in (with_group k) c strategies))
+groups_walk k [] inner q takes due c h some = ap (walk (at q due 0 0 c)) h
 groups_walk k (labels ∷ strategies) inner q takes due c h some =
     let left = and_more strategies due in
-    let first = taken k q takes left c h.0 labels h.3 some.0 in
-    let mid : State = due_at k left (with_group k c labels) in
     let s : State = at q (suc left) 0 0 c in
-    let w = groups_walk k strategies h.1 (next k) (inr refl) due (with_group k c labels) h.4 some.1
-    in
-    (w.0, w.1, ap (walk s) h.2 ∙ walk_then h.0 h.1 s mid _ (taken_walk s mid h.0 first) w.2)
+    let d = with_group k c labels in
+    let w = groups_walk k strategies h.1 (next k) (inr refl) due d h.4 some.1
+    ∙ ap (λ (x : Position). Ok (at x due 0 0 (all_in (with_group k) d strategies))) (behind_next k strategies) in
+    ap (walk s) h.2 ∙ walk_then h.0 h.1 s (due_at k left d) _
+    (group_walk k q takes left c h.0 labels h.3 some.0) w
 
-closed : (k : Kind) (q : Position) → Takes k q → (rest : List Token) (c : Content)
-    → run (at q 0 0 0 c) (Closing ∷ rest) ≡ run (ended c) rest
-closed k q takes rest c = grind arith
+closed : (k : Kind) (strategies : Strategies) (rest : List Token) (c : Content)
+    → run (at (behind k strategies p.FirstStrategies) 0 0 0 c) (Closing ∷ rest)
+    ≡ run (ended c) rest
+closed k [] rest c = refl
+closed ByCounts (labels ∷ strategies) rest c = refl
+closed ByLists (labels ∷ strategies) rest c = refl
 
 pub strategies_again : (k : Kind) (strategies : Strategies) (inner rest : List Token) (c : Content)
     → Each (IsGroup k) inner strategies → AllSome strategies

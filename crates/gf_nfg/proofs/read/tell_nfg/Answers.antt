@@ -1,5 +1,5 @@
 use Rattle.gf_nfg.proofs.Common.{◌∙◌, ap, sym, Answer, content_told}
-use Rattle.gf_nfg.proofs.lemmas.places.Heard.{answer_read, heard_begun}
+use Rattle.gf_nfg.proofs.lemmas.places.Judged.{answer_read, heard_begun}
 use Rattle.gf_nfg.proofs.read.tell_nfg.Goals as goal
 
 pub returns-clause-told : goal.returns-clause-told

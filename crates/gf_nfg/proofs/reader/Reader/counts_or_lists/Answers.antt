@@ -1,6 +1,6 @@
 use Rattle.gf_nfg.proofs.Common.{rules, ◌≡◌, ◌<◌, ◌-◌, ◌∙◌, ap, sym, length, FirstStrategies}
 use Rattle.gf_nfg.proofs.Common.{answer, content_in}
-use Rattle.gf_nfg.proofs.lemmas.places.Heard.{carried}
+use Rattle.gf_nfg.proofs.lemmas.places.Judged.{carried}
 use Rattle.gf_nfg.proofs.lemmas.runs.ReaderSteps.{first_opens, goes_back}
 use Rattle.gf_nfg.proofs.reader.Reader.counts_or_lists.Goals as goal
 

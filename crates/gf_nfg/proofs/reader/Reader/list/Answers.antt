@@ -1,6 +1,6 @@
 use Rattle.gf_nfg.proofs.Common.{rules, ◌≡◌, ◌<◌, ◌-◌, [], ◌∷◌, ◌∙◌, length, arith, label_of, at}
 use Rattle.gf_nfg.proofs.Common.{with_labels, InList, content_in, labels_of}
-use Rattle.gf_nfg.proofs.lemmas.places.Heard.{wants_memory}
+use Rattle.gf_nfg.proofs.lemmas.places.Judged.{wants_memory}
 use Rattle.gf_nfg.proofs.lemmas.runs.ReaderSteps.{goes_back, goes_from, label_count, list_closes}
 use Rattle.gf_nfg.proofs.reader.Reader.list.Goals as goal
 

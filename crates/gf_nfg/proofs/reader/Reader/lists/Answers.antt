@@ -1,5 +1,5 @@
 use Rattle.gf_nfg.proofs.Common.{rules, ◌-◌, ◌∙◌, content_in}
-use Rattle.gf_nfg.proofs.lemmas.places.Heard.{carried}
+use Rattle.gf_nfg.proofs.lemmas.places.Judged.{carried}
 use Rattle.gf_nfg.proofs.lemmas.runs.ReaderSteps.{goes_back, later_opens}
 use Rattle.gf_nfg.proofs.reader.Reader.lists.Goals as goal
 

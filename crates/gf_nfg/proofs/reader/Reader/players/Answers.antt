@@ -1,5 +1,5 @@
 use Rattle.gf_nfg.proofs.Common.{rules, [], ◌∷◌, label_of, at, with_players, InPlayers, content_in}
-use Rattle.gf_nfg.proofs.lemmas.places.Heard.{wants_memory}
+use Rattle.gf_nfg.proofs.lemmas.places.Judged.{wants_memory}
 use Rattle.gf_nfg.proofs.lemmas.runs.ReaderSteps.{goes_back}
 use Rattle.gf_nfg.proofs.reader.Reader.players.Goals as goal
 

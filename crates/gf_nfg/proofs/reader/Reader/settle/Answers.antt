@@ -1,5 +1,5 @@
 use Rattle.gf_nfg.proofs.Common.{rules, at, with_count, BeforeList, Counts, content_in}
-use Rattle.gf_nfg.proofs.lemmas.places.Heard.{wants_memory}
+use Rattle.gf_nfg.proofs.lemmas.places.Judged.{wants_memory}
 use Rattle.gf_nfg.proofs.reader.Reader.settle.Goals as goal
 
 pub returns-in_default-push-clause-counts : goal.returns-in_default-push-clause-counts

@@ -1,5 +1,5 @@
 use Rattle.gf_nfg.proofs.Common.{arith, rules, ◌-◌, at, OutcomeNumbers, content_told, with_number}
-use Rattle.gf_nfg.proofs.lemmas.places.Heard.{wants_memory}
+use Rattle.gf_nfg.proofs.lemmas.places.Judged.{wants_memory}
 use Rattle.gf_nfg.proofs.reader.body.number.Goals as goal
 
 pub returns-clause-told : goal.returns-clause-told

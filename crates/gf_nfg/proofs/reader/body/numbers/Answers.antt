@@ -1,6 +1,6 @@
 use Rattle.gf_nfg.proofs.Common.{◌∙◌, arith, rules, choosing}
 use Rattle.gf_nfg.proofs.lemmas.runs.ReaderSteps.{ends_back}
-use Rattle.gf_nfg.proofs.lemmas.places.Heard.{carried}
+use Rattle.gf_nfg.proofs.lemmas.places.Judged.{carried}
 use Rattle.gf_nfg.proofs.reader.body.numbers.Goals as goal
 
 pub loop-due-init : goal.loop-due-init

@@ -1,6 +1,6 @@
 use Rattle.gf_nfg.proofs.Common.{◌≡◌, ◌∙◌, rules, label_of, Fails, next_outcome, BracedPayoff}
 use Rattle.gf_nfg.proofs.Common.{InOutcomes, told_answer, paying, arith}
-use Rattle.gf_nfg.proofs.lemmas.places.Heard.{carried}
+use Rattle.gf_nfg.proofs.lemmas.places.Judged.{carried}
 use Rattle.gf_nfg.proofs.lemmas.runs.ReaderSteps.{ends_back, outcome_named}
 use Rattle.gf_nfg.proofs.reader.body.outcome.Goals as goal
 

@@ -1,6 +1,6 @@
 use Rattle.gf_nfg.proofs.Common.{◌≡◌, ◌∙◌, rules, next_outcome, InOutcomes, OutcomeName}
 use Rattle.gf_nfg.proofs.Common.{told_answer, paying, arith}
-use Rattle.gf_nfg.proofs.lemmas.places.Heard.{carried}
+use Rattle.gf_nfg.proofs.lemmas.places.Judged.{carried}
 use Rattle.gf_nfg.proofs.lemmas.runs.ReaderSteps.{ends_back}
 use Rattle.gf_nfg.proofs.reader.body.outcomes.Goals as goal
 

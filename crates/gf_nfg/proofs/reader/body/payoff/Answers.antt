@@ -1,6 +1,6 @@
 use Rattle.gf_nfg.proofs.Common.{arith, rules, ◌-◌, at, AfterBracedPayoff, FlatPayoffs}
 use Rattle.gf_nfg.proofs.Common.{content_told, with_payoff}
-use Rattle.gf_nfg.proofs.lemmas.places.Heard.{wants_memory}
+use Rattle.gf_nfg.proofs.lemmas.places.Judged.{wants_memory}
 use Rattle.gf_nfg.proofs.reader.body.payoff.Goals as goal
 
 pub returns-in-Ok-payoff-clause-flat : goal.returns-in-Ok-payoff-clause-flat
