@@ -1,9 +1,9 @@
 -- Two worked files: the counts of one pass the limit at the second count, those of the other
 -- nowhere.
 use Rattle.gf_nfg.proofs.Common.{profile_limit, IsLimitPlace, State, step, found, same_tokens}
-use Rattle.gf_nfg.proofs.Common.{index_of, tokens_of, Bare, Closing, Lexeme, lexeme, Spells}
-use Rattle.gf_nfg.proofs.Common.{Span, Gap, List, Ok, [], ap, arith, refl, subst, take, ℕ, ◌++◌}
-use Rattle.gf_nfg.proofs.Common.{◌<◌, ◌∙◌, ◌∷◌, ◌≡◌, ◌≤◌, map-append, codes}
+use Rattle.gf_nfg.proofs.Common.{index_of, tokens_of, Bare, Closing, Lexeme, lexeme, Spells, Span}
+use Rattle.gf_nfg.proofs.Common.{Gap, List, Ok, [], ap, arith, refl, subst, take, ℕ, ◌++◌, ◌<◌, ◌∙◌}
+use Rattle.gf_nfg.proofs.Common.{◌∷◌, ◌≡◌, ◌≤◌, map-append, codes}
 use Rattle.gf_token.specs.inner.Lexing.{lex}
 use Rattle.gf_nfg.proofs.lemmas.limit.Counts.{limit_by_files}
 use Rattle.gf_nfg.proofs.lemmas.places.Judged.{limit}

@@ -378,11 +378,9 @@ module _ (bytes : List ℕ) where
           let none : 0 + length bytes ≡ length bytes = omega arith in
           let order = subst (λ (n : ℕ). AreInOrder n 0 whole) none (in_order 0 bytes whole k) in
           let same = same_tokens bytes all whole spelled k in
-          let passed : HasPassed (read_on (length bytes) start whole) l.start =
-          subst (λ (n : ℕ). HasPassed (read_on (length bytes) start whole) n) place.0
-          (subst (λ (x : List Lexeme). HasPassed (read_on (length bytes) start x) span.start) same
-          h.passed) in
-          subst (IsAcceptedWithinLimit bytes) (same_span (span_of l) span (sym place.0) (sym place.1))
+          let passed = rw (same, place.0) at h.passed in
+          let is = same_span (span_of l) span (sym place.0) (sym place.1) in
+          subst (IsAcceptedWithinLimit bytes) is
           (passed_token 0 start before after l order (led_none bytes whole k) passed)
 
 -- ---- the answer to all tokens

@@ -321,13 +321,8 @@ no_zero_count : ¬ (Suits Count zero_text)
 no_zero_count h = let f = count_again zero_text h.0 h.2 h.1 in let e = computed.2 in absurd cc
 
 module _ (ts : List Token) where
-  not_payoff_and_count : RoleIsDue ts Payoff → ¬ (RoleIsDue ts Count)
-  not_payoff_and_count h k = no_zero_count ((k zero_text).0 ((h zero_text).1 zero_suits_payoff))
-
-  not_outcome_and_count : (outcomes : ℕ) → RoleIsDue ts (OutcomeNumber outcomes)
-      → ¬ (RoleIsDue ts Count)
-  not_outcome_and_count outcomes h k =
-      no_zero_count ((k zero_text).0 ((h zero_text).1 (zero_suits_outcome outcomes)))
+  no_count : (role : Role) → Suits role zero_text → RoleIsDue ts role → ¬ (RoleIsDue ts Count)
+  no_count role suits h k = no_zero_count ((k zero_text).0 ((h zero_text).1 suits))
 
   not_payoff_and_outcome : (outcomes : ℕ) → RoleIsDue ts Payoff
       → ¬ (RoleIsDue ts (OutcomeNumber outcomes))
@@ -350,7 +345,7 @@ module _ (ts : List Token) where
   lowest_number b fault h k ZeroDenominator g =
       let e = same_fault b fault number.ZeroDenominator k g.1 in grind arith
   lowest_number b fault h k other g =
-      grind (arith, not_payoff_and_count, not_payoff_and_outcome)
+      let none = no_count Payoff zero_suits_payoff h in grind (arith, not_payoff_and_outcome)
 
   lowest_index : (b : List ℕ) → ¬ (RoleIsDue ts Payoff) → Lowest BadIndex (Bare b)
   lowest_index b h other g = grind arith
@@ -358,7 +353,8 @@ module _ (ts : List Token) where
   lowest_outcome : (b : List ℕ) (outcomes n : ℕ) → RoleIsDue ts (OutcomeNumber outcomes)
       → IsIndex b n → Lowest UnknownOutcome (Bare b)
   lowest_outcome b outcomes n h k other g =
-      grind (arith, not_payoff_and_outcome, not_outcome_and_count)
+      let none = no_count (OutcomeNumber outcomes) (zero_suits_outcome outcomes) h in
+      grind (arith, not_payoff_and_outcome)
 
   lowest_entry : Lowest NoEntry Closing
   lowest_entry other g = grind arith
@@ -433,7 +429,8 @@ module _ (ts after : List Token) (s : State) (h : Leads ts s) where
       search (arith, word_reason, no_letter, zero_text, differs)
   bare_reason b why (Some Count) e n r =
       let due = role_is_due ts s h Count e in
-      rw r (inl (due, n), lowest_index ts b (λ payoff. not_payoff_and_count ts payoff due))
+      let none = λ (other : RoleIsDue ts Payoff). no_count ts Payoff zero_suits_payoff other due in
+      rw r (inl (due, n), lowest_index ts b none)
   bare_reason b why (Some Payoff) e n r =
       let due = role_is_due ts s h Payoff e in
       let lowest = lowest_number ts b r.0 due r.2 in
@@ -483,7 +480,8 @@ module _ (ts after : List Token) (s : State) (h : Leads ts s) where
 
   -- ---- the end
 
-  pub end_reason : (named : What) → finish s ≡ Err (Expected named) → IsReason (Expected named) ts []
+  pub end_reason : (named : What) → finish s ≡ Err (Expected named)
+      → IsReason (Expected named) ts []
   end_reason named e = (
     subst (IsDue ts) (end_names s.content (row_of s).expected named
         (rw (← (named_at s.position s).1) e)) (expected_is_due ts s h),

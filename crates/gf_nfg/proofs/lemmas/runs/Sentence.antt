@@ -18,11 +18,11 @@ use Rattle.gf_nfg.proofs.lemmas.runs.Payoffs.{rows_each, rows_joined, outcomes_f
 use Rattle.gf_nfg.proofs.lemmas.runs.Payoffs.{choices_chosen}
 use Rattle.gf_nfg.proofs.lemmas.runs.Strategies.{ended, AllSome, IsGroup, Kind, Strategies}
 use Rattle.gf_nfg.proofs.lemmas.runs.Strategies.{labels_in, strategies_again, strategies_found}
-use Rattle.gf_nfg.proofs.lemmas.runs.Strategies.{with_counts}
+use Rattle.gf_nfg.proofs.lemmas.runs.Strategies.{with_counts, heading, heading_found, heading_leads}
+use Rattle.gf_nfg.proofs.lemmas.runs.Strategies.{heading_line}
 use Rattle.gf_nfg.proofs.lemmas.tables.Profiles.{length-profiles}
 use Rattle.gf_nfg.proofs.lemmas.runs.Common.{ok_why, ok_is}
 use Rattle.gf_nfg.proofs.lemmas.runs.Walks.{leads_run}
-use Rattle.gf_nfg.proofs.lemmas.runs.Strategies.{heading, heading_found, heading_leads, heading_line}
 use Rattle.gf_nfg.proofs.lemmas.runs.Strategies.Kind.{ByCounts, ByLists}
 
 -- with the body

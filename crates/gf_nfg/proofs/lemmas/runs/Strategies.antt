@@ -383,7 +383,8 @@ groups_walk k (labels ∷ strategies) inner q takes due c h some =
     let s : State = at q (suc left) 0 0 c in
     let d = with_group k c labels in
     let w = groups_walk k strategies h.1 (next k) (inr refl) due d h.4 some.1
-    ∙ ap (λ (x : Position). Ok (at x due 0 0 (all_in (with_group k) d strategies))) (behind_next k strategies) in
+    ∙ ap (λ (x : Position). Ok (at x due 0 0 (all_in (with_group k) d strategies)))
+    (behind_next k strategies) in
     ap (walk s) h.2 ∙ walk_then h.0 h.1 s (due_at k left d) _
     (group_walk k q takes left c h.0 labels h.3 some.0) w
 
