@@ -24,8 +24,8 @@ pub use Rattle.gf_nfg.specs.Sentence.{Pays, Sentence, counted_labels}
 pub use Rattle.gf_nfg.specs.Table.{Entry, IsSpellable, IsTable, Table, rows}
 pub use Rattle.gf_nfg.specs.TableAccess.{IsTableOf, payoffs_at}
 pub use Rattle.gf_nfg.specs.TableParts.{AreParts, AreShared, AreSpellings, HasRows, IsCut, IsHeld}
-pub use Rattle.gf_nfg.specs.TableParts.{IsNamed, Names, RisesTo, entries_of, groups, kept_row}
-pub use Rattle.gf_nfg.specs.TableParts.{number_in, numbers_of, own_of, pieces, place_of, row_of}
+pub use Rattle.gf_nfg.specs.TableParts.{Names, RisesTo, entries_of, groups, kept_row}
+pub use Rattle.gf_nfg.specs.TableParts.{numbers_of, own_of, pieces, place_of, row_of}
 pub use Rattle.gf_nfg.specs.TableParts.{start_of, table_with}
 pub use Rattle.gf_nfg.specs.TableText.{SpellsTable, lines_text, list_text, named_by, quoted, spaced}
 pub use Rattle.gf_nfg.specs.TableText.{table_text}
@@ -43,7 +43,7 @@ pub use Rattle.gf_nfg.specs.inner.Machine.{finish, listed, next_outcome, nothing
 pub use Rattle.gf_nfg.specs.inner.Machine.{settled, start, step, step_at, to, with_choices}
 pub use Rattle.gf_nfg.specs.inner.Machine.{with_comment, with_count, with_labels, with_payoffs}
 pub use Rattle.gf_nfg.specs.inner.Machine.{with_players, with_title, ◌>>=◌}
-pub use Rattle.gf_nfg.specs.inner.Meaning.{HasLabels, HasPayoffs, IsComplete, choices_of, names_in}
+pub use Rattle.gf_nfg.specs.inner.Meaning.{HasLabels, HasPayoffs, IsComplete, names_in}
 pub use Rattle.gf_nfg.specs.inner.Meaning.{rows_by, strategies_of, table_of}
 pub use Rattle.gf_nfg.specs.inner.PayoffLists.{payoffs_in, rows_in}
 pub use Rattle.gf_nfg.specs.inner.Position.Position.{AfterBracedPayoff, BeforeList, BeforePlayers}
@@ -58,7 +58,7 @@ pub use Rattle.gf_nfg.specs.inner.TextParts.{Keeps, first_line, heading_text, li
 pub use Rattle.gf_nfg.specs.inner.TextParts.{names_by, others_text, row_text}
 pub use Rattle.gf_nfg.specs.inner.Told.{Told, choosing, paying, told_heading, with_number}
 pub use Rattle.gf_nfg.specs.inner.Told.{with_payoff}
-pub use Rattle.gf_nfg.specs.inner.ToldTable.{HasToldTable}
+pub use Rattle.gf_nfg.specs.inner.ToldTable.{HasToldTable, MeansTable}
 pub use Rattle.gf_nfg.specs.inner.ToldText.{AreLaid, AreLines, HasBody, HasText, begun_text}
 pub use Rattle.gf_token.proofs.Places.{PartsBefore, begins_front, first_and_rest, one_code}
 pub use Rattle.gf_token.proofs.Places.{one_offending_place, one_span, overtaken, parts, same_span}

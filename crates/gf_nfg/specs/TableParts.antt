@@ -7,7 +7,8 @@ use Rattle.gf_fraction.specs.Ratio.{IsFraction, Ratio, whole}
 use Rattle.gf_token.specs.LabelSpelling.{IsLabel}
 use Rattle.gf_nfg.specs.Profiles.{positions, product, profiles}
 use Rattle.gf_nfg.specs.Limit.{profile_limit}
-use Rattle.gf_nfg.specs.Table.{Entry, Table, IsSpellable}
+use Rattle.gf_nfg.specs.LimitPlace.{IsWithinLimit}
+use Rattle.gf_nfg.specs.Table.{Entry, Table, IsSpellable, IsTable, rows}
 
 -- a list cut at these ends, from this place on
 abbrev pub pieces : {A : Type 0} → ℕ → List ℕ → List A → List (List A)
@@ -83,25 +84,19 @@ table_with names rows = record {
   entries = entries_of (profiles (map length names.strategies)) rows;
 }
 
--- the row with this number, from 1, among rows one after another; at 0 each player is paid zero
-abbrev pub row_of : ℕ → List Ratio → ℕ → List Ratio
-row_of players payoffs zero = replicate players (whole (pos 0))
-row_of players payoffs (suc k) = take players (drop (k * players) payoffs)
-
--- the number of the row of each profile; if there are no choices, the number of the profile itself
-abbrev pub numbers_of : ℕ → Option (List ℕ) → List ℕ
-numbers_of count None = positions count
-numbers_of count (Some choices) = choices
-
--- one of them
-abbrev pub number_in : Option (List ℕ) → ℕ → Option ℕ
-number_in None place = Some (place + 1)
-number_in (Some choices) place = slice_get choices place
-
--- the row with this number as it is kept; at 0 the row of zeros
+-- the row with this number, from 1, among rows one after another; at 0 the row of zeros
 abbrev pub kept_row : ℕ → List Ratio → List Ratio → ℕ → List Ratio
 kept_row players payoffs zeros zero = zeros
 kept_row players payoffs zeros (suc k) = take players (drop (k * players) payoffs)
+
+-- the same; at 0 each player is paid zero
+abbrev pub row_of : ℕ → List Ratio → ℕ → List Ratio
+row_of players payoffs = kept_row players payoffs (replicate players (whole (pos 0)))
+
+-- the number of the row of each profile; if none is chosen, the number of the profile itself
+abbrev pub numbers_of : ℕ → List ℕ → List ℕ
+numbers_of count [] = positions count
+numbers_of count (k ∷ choices) = k ∷ choices
 
 -- a number for each profile, below a bound: profiles with the same number have the same row, and
 -- each number has a row
@@ -111,18 +106,12 @@ pub record AreShared (rows : List (List Ratio)) (numbers : List ℕ) (players : 
   pub below : AllByRecursion (λ number. number < bound) numbers
   pub kept : (number : ℕ) → number < bound → number * players ≤ length payoffs
 
--- these are the names of a table with this many profiles
-pub record IsNamed (names : Names) (count : ℕ) : Type 0 where
-  pub one_list_each : length names.strategies ≡ length names.players
-  pub some_strategy : AllByRecursion (λ own. 0 < length own) names.strategies
-  pub counted : count ≡ product (map length names.strategies)
-
 -- these are the names and rows of a table that a file within the limit of profiles can hold
-pub record IsHeld (names : Names) (rows : List (List Ratio)) : Type 0 where
-  pub named : IsNamed names (length rows)
-  pub one_payoff_each : AllByRecursion (λ row. length row ≡ length names.players) rows
-  pub within : length rows ≤ profile_limit
-  pub spellable : IsSpellable (table_with names rows)
+pub record IsHeld (names : Names) (rs : List (List Ratio)) : Type 0 where
+  pub is_table : IsTable (table_with names rs)
+  pub spellable : IsSpellable (table_with names rs)
+  pub within : IsWithinLimit (table_with names rs)
+  pub rows_are : rows (table_with names rs) ≡ rs
 
 -- names, and the payoffs of a table with these names in the order of a file
 pub record AreParts (names : Names) (payoffs : List Ratio) : Type 0 where
@@ -135,13 +124,10 @@ pub record AreParts (names : Names) (payoffs : List Ratio) : Type 0 where
   pub spelled : AreSpellings (names.title ∷ names.comment
       ∷ (names.players ++ flat_map (λ own. own) names.strategies))
 
--- there is a row with the number of each profile, and one of zeros if a number is 0
-pub record HasRows (players count : ℕ) (payoffs zeros : List Ratio)
-    (numbers : List ℕ) : Type 0 where
+-- there is a row with the number of each profile
+pub record HasRows (players count : ℕ) (payoffs : List Ratio) (numbers : List ℕ) : Type 0 where
   pub one_number_each : length numbers ≡ count
   pub rows_kept : AllByRecursion (λ number. number * players ≤ length payoffs) numbers
-  pub zeros_kept : AllByRecursion
-      (λ number. number ≡ 0 → zeros ≡ replicate players (whole (pos 0))) numbers
 
 -- ---- profiles
 

@@ -15,6 +15,7 @@ ghost use Rattle.gf_nfg.specs.inner.ToldTable.{HasToldTable};
 
 use crate::read::tell_nfg;
 use crate::reader::receive::{Kept, Receive, Version};
+use crate::table::Table;
 use crate::table::agree::{same_heading, same_kept_rows};
 use crate::table::heading::Heading;
 use crate::table::listed::ListedTable;
@@ -122,22 +123,38 @@ impl<'t> Comparison<'t> {
             → IfOk result (λ answer. IsTrue answer ↔ SameTable (named_by named t.now)
             (named_by named (table_of (content_told h.told)))) }
     {
-        let names = heading.names(alloc)?;
-        if !same_heading(t.names(), &names, named) {
-            return Ok(false);
-        }
         if self.version == Version::Payoffs {
+            let names = heading.names(alloc)?;
+            if !same_heading(t.names(), &names, named) {
+                return Ok(false);
+            }
             return Ok(self.has_ended());
         }
-        let rows = (Parts {
+        let parts = Parts {
             heading,
             kept: self.kept,
-        })
-        .rows(alloc)?;
-        match t.shared() {
-            Some(own) => same_kept_rows(alloc, own, &rows),
-            None => Ok(same_left(t.payoffs_in_turn(), PayoffsInTurn::new(&rows))),
-        }
+        };
+        let other = parts.into_table(alloc)?;
+        same_table(alloc, t, &other, named)
+    }
+}
+
+/// Whether both tables are the same; title and comment count if it is `named`.
+fn same_table(
+    alloc: Global,
+    t: &ListedTable,
+    other: &Table,
+    named: bool,
+) -> Result<bool, AllocError>
+    ensures { IfOk result (λ answer. IsTrue answer
+        ↔ SameTable (named_by named t.now) (named_by named other.now)) }
+{
+    if !same_heading(t.names(), other.names(), named) {
+        return Ok(false);
+    }
+    match t.shared() {
+        Some(own) => same_kept_rows(alloc, own, other.rows()),
+        None => Ok(same_left(t.payoffs_in_turn(), PayoffsInTurn::new(other.rows()))),
     }
 }
 

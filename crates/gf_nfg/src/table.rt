@@ -96,7 +96,7 @@ impl Table {
         let strategies = Strategies::of_lists(alloc, strategies)?;
         let names = Names::new(alloc, title, comment, players, strategies)?;
         let rows = Vec::from_clones(alloc, rows)?;
-        Ok(Table::in_turn(alloc, names, rows))
+        Table::in_turn(alloc, names, rows)
     }
 
     /// The table of these parts, as `new` makes it. The payoffs are not copied, nor are the labels
@@ -122,24 +122,22 @@ impl Table {
     {
         let strategies = Strategies::of_labels(alloc, strategies)?;
         let names = Names::new(alloc, title, comment, players, strategies)?;
-        Ok(Table::in_turn(alloc, names, rows))
+        Table::in_turn(alloc, names, rows)
     }
 
     /// The table of these names and of payoffs in the order of a file.
-    #[tactic(auto, using(crate::proofs::lemmas::tables::Made::made_of_rows))]
-    fn in_turn(alloc: Global, names: Names, rows: Vec<Fraction>) -> Table
+    fn in_turn(alloc: Global, names: Names, rows: Vec<Fraction>) -> Result<Table, AllocError>
         requires { AreParts names rows.items }
-        ensures { IsTableOf result names.title names.comment names.players names.strategies
-            rows.items }
+        ensures { IfOk result (λ t. IsTableOf t names.title names.comment names.players
+            names.strategies rows.items) }
     {
         let players = names.players();
         let profiles = rows.len().checked_div(players).unwrap_or(1);
-        let payoffs = Rows::in_turn(alloc, players, profiles as u32, rows);
-        Table::of_parts(names, payoffs)
+        let payoffs = Rows::new(alloc, players, profiles as u32, rows, Vec::new(alloc))?;
+        Ok(Table::of_parts(names, payoffs))
     }
 
     /// Everything except the payoffs.
-    #[tactic(auto, using(crate::proofs::lemmas::tables::Rows::is_table))]
     pub(crate) fn names(&self) -> &Names
         ensures is_table { IsTable self.now }
         ensures spellable { IsSpellable self.now }
@@ -221,7 +219,6 @@ impl Table {
     /// profile one entry with one payoff for each player (`is_table`); its labels can be spelled,
     /// and its payoffs are fractions (`spellable`); and it is within the limit of profiles
     /// (`within`).
-    #[tactic(auto, using(crate::proofs::lemmas::tables::Rows::is_table))]
     pub fn profiles(&self) -> u32
         ensures number { result ≡ length self.now.entries }
         ensures is_table { IsTable self.now }

@@ -1,8 +1,9 @@
 -- Tables that are only compared, and what is kept of their payoffs.
-use Rattle.std.specs.Prelude.{◌≡◌, ◌*◌, IsTrue, List, [], length, map, ⊤}
-use Rattle.gf_fraction.specs.Ratio.{Ratio}
+use Rattle.std.specs.Prelude.{◌≡◌, IsTrue, [], length, map, ⊤}
+use Rattle.std.specs.List.{flat_map}
 use Rattle.gf_nfg.specs.Profiles.{positions, product}
-use Rattle.gf_nfg.specs.TableParts.{IsHeld, Names, row_of}
+use Rattle.gf_nfg.specs.Table.{IsTable, Table, rows}
+use Rattle.gf_nfg.specs.TableParts.{row_of, table_with}
 use Rattle.gf_nfg.specs.inner.PayoffLists.{payoffs_in}
 use Rattle.gf_nfg.specs.inner.Told.{Told}
 use Rattle.gf_nfg.specs.declared.reader.receive.Version.TheVariants.{Outcomes}
@@ -17,19 +18,20 @@ pub record IsListing (l : Listing) (told : Told) : Type 0 where
   pub none_other : IsTrue l.small → l.kept.payoffs.items ≡ []
   pub none_small : told.version ≡ Outcomes → ¬ (IsTrue l.small) × (l.whole.items ≡ [])
 
--- the payoffs at each profile
-abbrev pub listed_rows : Names → Body → List (List Ratio)
-listed_rows names (InTurn numbers others) =
-    map (row_of (length names.players) (payoffs_in numbers.items others.items))
-    (positions (product (map length names.strategies)))
-listed_rows names (Shared rows) = rows
+-- the table that is kept
+abbrev pub listed : Body → Table
+listed (InTurn names numbers others) = table_with names
+    (map (row_of (length names.players) (payoffs_in numbers.items others.items))
+    (positions (product (map length names.strategies))))
+listed (Shared t) = t
 
--- there is one for each player
-abbrev pub IsFull : Names → Body → Type 0
-IsFull names (InTurn numbers others) = length (payoffs_in numbers.items others.items)
-    ≡ product (map length names.strategies) * length names.players
-IsFull names (Shared rows) = ⊤
+-- payoffs in turn are those of the table
+abbrev pub IsFull : Body → Type 0
+IsFull (InTurn names numbers others) =
+    flat_map (λ row. row) (rows (listed (InTurn names numbers others)))
+    ≡ payoffs_in numbers.items others.items
+IsFull (Shared t) = ⊤
 
-pub record IsListed (names : Names) (body : Body) : Type 0 where
-  pub held : IsHeld names (listed_rows names body)
-  pub full : IsFull names body
+pub record IsListed (body : Body) : Type 0 where
+  pub is_table : IsTable (listed body)
+  pub full : IsFull body

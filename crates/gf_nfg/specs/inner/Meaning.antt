@@ -1,6 +1,5 @@
 -- The table that what was read means.
-use Rattle.std.specs.Prelude.{◌≡◌, ℕ, ◌*◌, ◌<◌, ◌≤◌, List, [], ◌∷◌, length, map, sum, Option, None}
-use Rattle.std.specs.Prelude.{Some}
+use Rattle.std.specs.Prelude.{◌≡◌, ℕ, ◌*◌, ◌<◌, ◌≤◌, List, [], ◌∷◌, length, map, sum}
 use Rattle.std.specs.List.{AllByRecursion}
 use Rattle.gf_fraction.specs.Ratio.{Ratio}
 use Rattle.gf_nfg.specs.Profiles.{product}
@@ -23,15 +22,10 @@ names_in c = record {
   strategies = strategies_of c.counts c.labels;
 }
 
--- the outcomes that are chosen, if this is the outcome version
-abbrev pub choices_of : List ℕ → Option (List ℕ)
-choices_of [] = None
-choices_of (k ∷ choices) = Some (k ∷ choices)
-
--- the rows of the profiles
+-- the rows of the profiles; if no outcomes are chosen, they come in turn
 abbrev pub rows_by : Content → List ℕ → List (List Ratio)
 rows_by c choices =
-    map (row_of (length c.players) c.payoffs) (numbers_of c.profiles (choices_of choices))
+    map (row_of (length c.players) c.payoffs) (numbers_of c.profiles choices)
 
 abbrev pub table_of : Content → Table
 table_of c = table_with (names_in c) (rows_by c c.choices)

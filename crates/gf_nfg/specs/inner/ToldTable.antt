@@ -1,11 +1,19 @@
 -- What a receiver was told of a table.
 use Rattle.std.specs.Prelude.{◌≡◌, ℕ, List, []}
+use Rattle.gf_nfg.specs.LimitPlace.{IsWithinLimit}
+use Rattle.gf_nfg.specs.inner.Machine.{Content}
 use Rattle.gf_nfg.specs.inner.Meaning.{IsComplete, table_of}
 use Rattle.gf_nfg.specs.inner.ReaderState.{content_told}
 use Rattle.gf_nfg.specs.TableText.{SpellsTable}
 use Rattle.gf_nfg.specs.inner.Told.{Told}
 use Rattle.gf_nfg.specs.declared.table.heading.Heading.{Heading}
 use Rattle.gf_nfg.specs.declared.reader.receive.Version.TheVariants.{Payoffs}
+
+-- these parts mean a table within the limit, which the bytes spell
+pub record MeansTable (bytes : List ℕ) (c : Content) : Type 0 where
+  pub spelled : SpellsTable bytes (table_of c)
+  pub complete : IsComplete c
+  pub within : IsWithinLimit (table_of c)
 
 -- It was told this heading and a body, and they mean a table that the bytes spell. In payoff
 -- version no numbers were told.

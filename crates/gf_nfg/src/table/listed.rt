@@ -10,6 +10,7 @@ ghost use Rattle.gf_nfg.specs.inner.ReaderState.{content_told};
 ghost use Rattle.gf_nfg.specs.inner.ToldTable.{HasToldTable};
 
 use crate::reader::receive::{Kept, Receive, Version};
+use crate::table::Table;
 use crate::table::heading::Heading;
 use crate::table::names::Names;
 use crate::table::parts::Parts;
@@ -108,32 +109,30 @@ impl<'a> Receive<'a> for Listing {
     }
 }
 
-/// The payoffs of a table.
+/// A table, by what is kept of its payoffs.
 #[derive(Drop)]
 enum Body {
     /// Those of the profiles in turn: whole numbers, and then others.
-    InTurn(Vec<i64>, Vec<Fraction>),
+    InTurn(Names, Vec<i64>, Vec<Fraction>),
     /// Rows that profiles share.
-    Shared(Rows),
+    Shared(Table),
 }
 
 /// A table that is only compared.
 #[derive(Drop)]
 pub struct ListedTable {
-    names: Names,
     body: Body,
 }
 
 impl Model for ListedTable {
-    ghost use Rattle.gf_nfg.specs.Table.{Table};
-    ghost use Rattle.gf_nfg.specs.TableParts.{table_with};
-    ghost use Rattle.gf_nfg.specs.inner.ListedTable.{IsListed, listed_rows};
+    ghost use Rattle.gf_nfg.specs.Table.{Table as table};
+    ghost use Rattle.gf_nfg.specs.inner.ListedTable.{IsListed, listed};
 
-    ghost Value = { Table };
+    ghost Value = { table };
 
-    ghost view = { λ t. table_with t.names (listed_rows t.names t.body) };
+    ghost view = { λ t. listed t.body };
 
-    ghost invariant = { λ t. IsListed t.names t.body };
+    ghost invariant = { λ t. IsListed t.body };
 }
 
 impl ListedTable {
@@ -148,18 +147,16 @@ impl ListedTable {
             → (h : HasToldTable IsListing bytes heading.entry listing)
             → t ≡ table_of (content_told h.told)) }
     {
-        let names = heading.names(alloc)?;
         let Listing { whole, kept, .. } = listing;
         if kept.numbers.is_empty() {
+            let names = heading.names(alloc)?;
             return Ok(ListedTable {
-                names,
-                body: Body::InTurn(whole, kept.payoffs),
+                body: Body::InTurn(names, whole, kept.payoffs),
             });
         }
-        let rows = (Parts { heading, kept }).rows(alloc)?;
+        let table = (Parts { heading, kept }).into_table(alloc)?;
         Ok(ListedTable {
-            names,
-            body: Body::Shared(rows),
+            body: Body::Shared(table),
         })
     }
 
@@ -173,7 +170,10 @@ impl ListedTable {
           strategies = self.now.strategies;
         } }
     {
-        &self.names
+        match &self.body {
+            Body::InTurn(names, _, _) => names,
+            Body::Shared(table) => table.names(),
+        }
     }
 
     /// The payoffs of all profiles in turn.
@@ -181,8 +181,8 @@ impl ListedTable {
         ensures { result ≡ flat_map (λ row. row) (rows self.now) }
     {
         match &self.body {
-            Body::InTurn(whole, others) => PayoffsInTurn::of_lists(whole, others),
-            Body::Shared(rows) => PayoffsInTurn::new(rows),
+            Body::InTurn(_, whole, others) => PayoffsInTurn::of_lists(whole, others),
+            Body::Shared(table) => PayoffsInTurn::new(table.rows()),
         }
     }
 
@@ -191,8 +191,8 @@ impl ListedTable {
         ensures { IfSome result (λ own. own.now ≡ rows self.now) }
     {
         match &self.body {
-            Body::InTurn(_, _) => None,
-            Body::Shared(rows) => Some(rows),
+            Body::InTurn(_, _, _) => None,
+            Body::Shared(table) => Some(table.rows()),
         }
     }
 }

@@ -1,9 +1,9 @@
 //! What a strategic file holds, as it was read, and the table that it means.
 
-ghost use Rattle.std.specs.Prelude.{◌≡◌, IfOk};
+ghost use Rattle.std.specs.Prelude.{◌≡◌, List, ℕ, IfOk};
 ghost use Rattle.gf_nfg.specs.inner.Meaning.{IsComplete, rows_by, table_of};
 ghost use Rattle.gf_nfg.specs.inner.ReaderState.{content_of};
-ghost use Rattle.gf_nfg.specs.Table.{IsSpellable};
+ghost use Rattle.gf_nfg.specs.inner.ToldTable.{MeansTable};
 
 use crate::reader::receive::Kept;
 use crate::table::Table;
@@ -23,24 +23,26 @@ pub struct Parts<'a> {
 
 impl<'a> Parts<'a> {
     /// A row for each profile. The payoffs are not copied.
+    #[tactic(auto, using(crate::proofs::lemmas::tables::Meaning::has_rows))]
     pub(crate) fn rows(self, alloc: Global) -> Result<Rows, AllocError>
         requires { IsComplete (content_of self) }
         ensures { IfOk result
             (λ rows. rows ≡ rows_by (content_of self.entry) self.entry.kept.numbers.items) }
     {
         let players = self.heading.players.len();
-        let Kept { payoffs, numbers } = self.kept;
-        if numbers.is_empty() {
-            Ok(Rows::in_turn(alloc, players, self.heading.profiles.count, payoffs))
-        } else {
-            Rows::by_number(players, payoffs, numbers)
-        }
+        let profiles = self.heading.profiles.count;
+        Rows::new(
+            alloc,
+            players,
+            profiles,
+            self.kept.payoffs,
+            self.kept.numbers,
+        )
     }
 
     /// The table that the parts mean.
     pub(crate) fn into_table(self, alloc: Global) -> Result<Table, AllocError>
-        requires complete { IsComplete (content_of self) }
-        requires spellable { IsSpellable (table_of (content_of self)) }
+        requires { (bytes : List ℕ) × MeansTable bytes (content_of self) }
         ensures { IfOk result (λ t. t ≡ table_of (content_of self.entry)) }
     {
         let names = self.heading.names(alloc)?;

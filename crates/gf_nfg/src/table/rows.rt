@@ -1,10 +1,8 @@
 //! Rows of payoffs, one for each profile. Profiles may share them.
 
-ghost use Rattle.std.specs.Prelude.{◌≡◌, ◌*◌, ◌<◌, ◌≤◌, ◌^◌, Some, IfOk, IfSome};
-ghost use Rattle.std.specs.Prelude.{IsSome, length, map, option_map, slice_get};
-ghost use Rattle.std.specs.List.{AllByRecursion};
-ghost use Rattle.gf_nfg.specs.Profiles.{positions};
-ghost use Rattle.gf_nfg.specs.TableParts.{AreShared, kept_row, number_in, row_of};
+ghost use Rattle.std.specs.Prelude.{◌≡◌, ◌+◌, ◌*◌, ◌<◌, ◌≤◌, ◌^◌, Some, IfOk, IfSome};
+ghost use Rattle.std.specs.Prelude.{length, map, slice_get, unwrap_or};
+ghost use Rattle.gf_nfg.specs.TableParts.{AreShared, HasRows, kept_row, numbers_of, row_of};
 
 use gf_fraction::Fraction;
 use std::alloc::{AllocError, Global};
@@ -19,23 +17,23 @@ pub(crate) struct Rows {
     payoffs: Vec<Fraction>,
     /// For each profile the number of its row, from 1, or 0 if each player is paid zero. Without
     /// numbers, the rows are those of the profiles in turn.
-    choices: Option<Vec<u32>>,
+    choices: Vec<u32>,
     /// A zero for each player, if there are numbers.
     zeros: Vec<Fraction>,
 }
 
 impl Model for Rows {
-    ghost use Rattle.std.specs.Prelude.{List, map, option_map};
+    ghost use Rattle.std.specs.Prelude.{List, map};
     ghost use Rattle.gf_fraction.specs.Ratio.{Ratio};
-    ghost use Rattle.gf_nfg.specs.TableParts.{HasRows, numbers_of, row_of};
+    ghost use Rattle.gf_nfg.specs.TableParts.{HasRows, kept_row, numbers_of};
 
     ghost Value = { List (List Ratio) };
 
-    ghost view = { λ r. map (row_of r.players r.payoffs.items)
-        (numbers_of r.profiles (option_map (λ v. v.items) r.choices)) };
+    ghost view = { λ r. map (kept_row r.players r.payoffs.items r.zeros.items)
+        (numbers_of r.profiles r.choices.items) };
 
-    ghost invariant = { λ r. HasRows r.players r.profiles r.payoffs.items r.zeros.items
-        (numbers_of r.profiles (option_map (λ v. v.items) r.choices)) };
+    ghost invariant = { λ r.
+        HasRows r.players r.profiles r.payoffs.items (numbers_of r.profiles r.choices.items) };
 }
 
 /// Rows with numbers, from 0, that profiles share.
@@ -52,12 +50,11 @@ pub(crate) struct Shared<'t> {
 }
 
 /// The number of the row of the profile with this place.
-fn number_in(choices: &Option<Vec<u32>>, place: u32) -> usize
-    requires { IsSome (number_in (option_map (λ v. v.items) choices.now) place) }
-    ensures { number_in (option_map (λ v. v.items) choices.now) place ≡ Some result }
+fn number_in(choices: &[u32], place: u32) -> usize
+    ensures { result ≡ unwrap_or (slice_get choices.now place) (place + 1) }
 {
-    match choices {
-        Some(choices) => choices[place as usize] as usize,
+    match choices.get(place as usize) {
+        Some(number) => *number as usize,
         None => place as usize + 1,
     }
 }
@@ -91,42 +88,26 @@ impl<'t> Shared<'t> {
 }
 
 impl Rows {
-    /// The payoffs are those of the profiles in turn.
-    pub(crate) fn in_turn(
+    /// Each profile has the row with its number. At 0 each player is paid zero. Without numbers the
+    /// payoffs are those of the profiles in turn.
+    pub(crate) fn new(
         alloc: Global,
         players: usize,
         profiles: u32,
         payoffs: Vec<Fraction>,
-    ) -> Rows
-        requires { length payoffs.items ≡ profiles * players }
-        ensures { result ≡ map (row_of players payoffs.items) (positions profiles) }
+        choices: Vec<u32>,
+    ) -> Result<Rows, AllocError>
+        requires { HasRows players profiles payoffs.items (numbers_of profiles choices.items) }
+        ensures { IfOk result (λ rows. rows
+            ≡ map (row_of players payoffs.items) (numbers_of profiles choices.items)) }
     {
-        Rows {
+        let count = if choices.is_empty() { 0 } else { players };
+        let zeros = vec![in alloc; Fraction::zero(); count]?;
+        Ok(Rows {
             players,
             profiles,
             payoffs,
-            choices: None,
-            zeros: Vec::new(alloc),
-        }
-    }
-
-    /// Each profile has the row with its number. At 0 each player is paid zero.
-    pub(crate) fn by_number(
-        players: usize,
-        payoffs: Vec<Fraction>,
-        choices: Vec<u32>,
-    ) -> Result<Rows, AllocError>
-        requires profiles { length choices.items < 2 ^ 32 }
-        requires rows { AllByRecursion (λ number. number * players ≤ length payoffs.items)
-            choices.items }
-        ensures { IfOk result (λ rows. rows ≡ map (row_of players payoffs.items) choices.items) }
-    {
-        let zeros = vec![in *payoffs.allocator(); Fraction::zero(); players]?;
-        Ok(Rows {
-            players,
-            profiles: choices.len() as u32,
-            payoffs,
-            choices: Some(choices),
+            choices,
             zeros,
         })
     }
@@ -153,15 +134,15 @@ impl Rows {
             s.numbers.now s.players s.payoffs.now s.zeros.now s.rows) }
         ensures few { IfSome result (λ s. s.rows < 2 ^ 63) }
     {
-        match &self.choices {
-            Some(choices) if self.players > 0 => Some(Shared {
-                numbers: choices,
-                rows: self.payoffs.len() / self.players + 1,
-                players: self.players,
-                payoffs: &self.payoffs,
-                zeros: &self.zeros,
-            }),
-            _ => None,
+        if self.choices.is_empty() || self.players == 0 {
+            return None;
         }
+        Some(Shared {
+            numbers: &self.choices,
+            rows: self.payoffs.len() / self.players + 1,
+            players: self.players,
+            payoffs: &self.payoffs,
+            zeros: &self.zeros,
+        })
     }
 }

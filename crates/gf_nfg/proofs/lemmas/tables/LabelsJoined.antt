@@ -38,18 +38,6 @@ pub labels_spelled : (ls : List Label) → AreSpellings (map label_of ls)
 labels_spelled [] = tt
 labels_spelled (l ∷ ls) = (l.spelled, labels_spelled ls)
 
--- what holds for each item holds for each item of each piece
-pub all_pieces : {A : Type 0} (P : A → Type 0) (from : ℕ) (ends : List ℕ) (items : List A)
-    → AllByRecursion P items → AllByRecursion (λ xs. AllByRecursion P xs) (pieces from ends items)
-all_pieces P from [] items h = tt
-all_pieces P from (end ∷ ends) items h =
-    let behind = all_parts P (take from items) (drop from items)
-    (subst (AllByRecursion P) (sym (take-append-drop from items)) h) in
-    let own = all_parts P (take (end - from) (drop from items))
-    (drop (end - from) (drop from items))
-    (subst (AllByRecursion P) (sym (take-append-drop (end - from) (drop from items))) behind.1) in
-    (own.0, all_pieces P end ends items h)
-
 behind_dash : (ys : List ℕ) → is_spelling_after 34 ys ≡ true → is_spelling_after 45 ys ≡ true
 behind_dash [] h = refl
 behind_dash (y ∷ ys) h = h

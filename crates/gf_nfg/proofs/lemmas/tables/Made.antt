@@ -1,14 +1,17 @@
 -- A table that is made from labels and fractions.
 use Rattle.gf_nfg.proofs.Common.{◌≡◌, ℕ, ◌*◌, ◌/◌, ◌<◌, ◌≤◌, List, [], ◌∷◌, length, map, refl, sym}
-use Rattle.gf_nfg.proofs.Common.{ap, subst, ◌∙◌, arith, Option, SomeIff, Vec, unwrap_or, vec_len}
-use Rattle.gf_nfg.proofs.Common.{AllByRecursion, AllZip, flat_map, length-map, label_of, Label}
+use Rattle.gf_nfg.proofs.Common.{ap, ◌∙◌, arith, Option, SomeIff, Vec, unwrap_or, vec_len}
+use Rattle.gf_nfg.proofs.Common.{AllByRecursion, AllZip, length-map, label_of, Label}
 use Rattle.gf_nfg.proofs.Common.{Ratio, IsFraction, all_both, all_joined, all_lists, profile_limit}
-use Rattle.gf_nfg.proofs.Common.{positions, product, IsSpellable, Table, IsTableOf, AreParts}
-use Rattle.gf_nfg.proofs.Common.{AreSpellings, IsHeld, IsNamed, Names, row_of, table_with}
+use Rattle.gf_nfg.proofs.Common.{positions, product, IsTableOf, AreParts}
+use Rattle.gf_nfg.proofs.Common.{numbers_of, HasRows, AreSpellings, IsHeld, IsTable, Names, rows}
+use Rattle.gf_nfg.proofs.Common.{row_of, table_with}
 use Rattle.gf_nfg.proofs.lemmas.tables.LabelsJoined.{labels_spelled}
-use Rattle.gf_nfg.proofs.lemmas.tables.Rows.{counts_of_lists, full_rows, length-kept, made_of_parts}
-use Rattle.gf_nfg.proofs.lemmas.tables.Rows.{positions_have_rows, some_in_lists, profiles_counted}
-use Rattle.gf_nfg.proofs.lemmas.tables.Rows.{rows-table_with, rows_in_turn}
+use Rattle.gf_nfg.proofs.lemmas.tables.Lists.{joined}
+use Rattle.gf_nfg.proofs.lemmas.tables.NumbersInTurn.{length-numbers_from}
+use Rattle.gf_nfg.proofs.lemmas.tables.Rows.{counts_of_lists, entries_counted, full_rows, is_table}
+use Rattle.gf_nfg.proofs.lemmas.tables.Rows.{positions_have_rows, profiles_counted, rows-table_with}
+use Rattle.gf_nfg.proofs.lemmas.tables.Rows.{rows_in_turn, some_in_lists}
 
 lists_spelled : {Z : Type 0} (lists : List (Vec Label Z)) → AllByRecursion
     (λ own. AreSpellings own) (map (λ own. map label_of own.items) lists)
@@ -66,61 +69,61 @@ parts_of_lists title comment players lists payoffs one some few fractions full =
 
 -- ---- the table
 
--- names, and rows of these fractions, one for each profile
-pub record IsMade (names : Names) (payoffs : List Ratio) (players size : ℕ) (quotient : Option ℕ)
-    (count : ℕ) : Type 0 where
-  pub parts : AreParts names payoffs
-  pub players_are : players ≡ length names.players
-  pub size_is : size ≡ length payoffs
-  pub divided : SomeIff quotient (0 < players) (size / players)
-  pub counted : count ≡ unwrap_or quotient 1
+-- names, and rows of these payoffs, one for each profile
+module _ (names : Names) (payoffs : List Ratio) (p : AreParts names payoffs) where
+  abbrev pub made_rows : List (List Ratio)
+  made_rows = map (row_of (length names.players) payoffs)
+      (positions (product (map length names.strategies)))
 
-module _ (names : Names) (payoffs : List Ratio) (players size : ℕ) (quotient : Option ℕ)
-    (count : ℕ) (m : IsMade names payoffs players size quotient count) where
-  pub made_counted : count ≡ product (map length names.strategies)
-  made_counted = grind (arith, profiles_counted, length-map)
+  counted : length made_rows ≡ product (map length names.strategies)
+  counted = grind (arith, length-map, length-numbers_from)
 
-  pub made_whole : length payoffs ≡ count * players
-  made_whole = m.parts.one_row_each ∙ (λ i. sym made_counted i * sym m.players_are i)
+  rows_are : rows (table_with names made_rows) ≡ made_rows
+  rows_are = rows-table_with names made_rows counted
 
-  abbrev rs : List (List Ratio)
-  rs = map (row_of players payoffs) (positions count)
+  in_turn : joined made_rows ≡ payoffs
+  in_turn = rows_in_turn (length names.players) _ payoffs p.one_row_each
 
-  made_count : length rs ≡ count
-  made_count =
-      length-kept players count payoffs [] (positions count)
-      (positions_have_rows players count payoffs [] made_whole)
+  table_made : IsTable (table_with names made_rows)
+  table_made = is_table names made_rows counted p.one_list_each p.some_strategy
+      (full_rows (length names.players) payoffs _
+      (positions_have_rows (length names.players) _ payoffs p.one_row_each).rows_kept)
 
-  made_named : IsNamed names (length rs)
-  made_named = grind (arith, made_count, made_counted)
-
-  made_full : AllByRecursion (λ row. length row ≡ length names.players) rs
-  made_full =
-      let kept = positions_have_rows players count payoffs [] made_whole in
-      rw (← m.players_are) (full_rows players payoffs (positions count) kept.rows_kept)
-
-  made_in_turn : flat_map (λ row. row) rs ≡ payoffs
-  made_in_turn = rows_in_turn players count payoffs made_whole
-
-  made_spellable : IsSpellable (table_with names rs)
-  made_spellable = record {
-    labels_spelled = m.parts.spelled;
-    payoffs_are_fractions = rw (rows-table_with names rs made_named.counted)
-        (all_lists IsFraction rs
-        (subst (λ xs. AllByRecursion IsFraction xs) (sym made_in_turn) m.parts.fractions));
+  pub made_held : IsHeld names made_rows
+  made_held = record {
+    is_table = table_made;
+    spellable = record {
+      labels_spelled = p.spelled;
+      payoffs_are_fractions =
+          rw rows_are (all_lists IsFraction made_rows (rw in_turn p.fractions));
+    };
+    within = omega (arith, entries_counted _ table_made, p.within);
+    rows_are = rows_are;
   }
 
-  pub made_held : (rows : List (List Ratio)) → rows ≡ map (row_of players payoffs) (positions count)
-      → IsHeld names rows
-  made_held rows is = grind (arith, made_named, made_full, made_count, made_counted, made_spellable)
+  pub made_is : IsTableOf (table_with names made_rows) names.title names.comment names.players
+      names.strategies payoffs
+  made_is = record {
+    title_is = refl;
+    comment_is = refl;
+    players_are = refl;
+    strategies_are = refl;
+    payoffs_are = ap joined rows_are ∙ in_turn;
+    is_table = table_made;
+  }
 
-  pub made_is : (rows : List (List Ratio)) (t : Table)
-      → rows ≡ map (row_of players payoffs) (positions count) → t ≡ table_with names rows
-      → IsTableOf t names.title names.comment names.players names.strategies payoffs
-  made_is rows t is made =
-      made_of_parts t names _ _ _ _ rs payoffs refl made_named made_full made_in_turn
-      (made ∙ ap (table_with names) is)
+  module _ (players size count : ℕ) (quotient : Option ℕ) (e : players ≡ length names.players)
+      (f : size ≡ length payoffs) (is : SomeIff quotient (0 < players) (size / players))
+      (n : count ≡ unwrap_or quotient 1) where
+    pub made_count : count ≡ product (map length names.strategies)
+    made_count = grind (arith, profiles_counted, length-map)
+
+    pub have_rows : HasRows players count payoffs (positions count)
+    have_rows = positions_have_rows players count payoffs
+        (p.one_row_each ∙ (λ i. sym made_count i * sym e i))
+
+    pub rows_made : (choices : List ℕ) (qs : List (List Ratio)) → choices ≡ []
+        → qs ≡ map (row_of players payoffs) (numbers_of count choices) → qs ≡ made_rows
+    rows_made choices qs none are = let same = made_count in grind arith
 
 pub ruleset made_of_labels = (names_with, parts_of_labels)
-
-pub ruleset made_of_rows = (made_counted, made_held, made_is, made_whole)

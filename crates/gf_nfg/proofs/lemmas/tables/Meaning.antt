@@ -1,11 +1,10 @@
 -- What was read in full means a table, and a table can be recovered from its parts.
-use Rattle.gf_nfg.proofs.Common.{◌≡◌, ℕ, ◌*◌, ◌<◌, ◌≤◌, List, [], Bool, true, false, ◌∷◌, length}
-use Rattle.gf_nfg.proofs.Common.{map, drop, refl, ◌∙◌, arith, length-take, length-drop, ◌==◌, sum}
-use Rattle.gf_nfg.proofs.Common.{replicate, pos, AllByRecursion, mul_comm, mul-le-mul_right}
-use Rattle.gf_nfg.proofs.Common.{length-map, Ratio, whole, all_mapped, positions, profile_limit}
-use Rattle.gf_nfg.proofs.Common.{IsWithinLimit, IsSpellable, IsTable, rows, Names, groups}
-use Rattle.gf_nfg.proofs.Common.{numbers_of, row_of, IsHeld, IsNamed, HasRows, Content, names_in}
-use Rattle.gf_nfg.proofs.Common.{choices_of, strategies_of, rows_by, table_of, HasPayoffs}
+use Rattle.gf_nfg.proofs.Common.{◌≡◌, ℕ, ◌*◌, ◌<◌, ◌≤◌, List, [], ◌∷◌, length, map, drop, refl, sym}
+use Rattle.gf_nfg.proofs.Common.{◌∙◌, arith, length-take, length-drop, sum, AllByRecursion}
+use Rattle.gf_nfg.proofs.Common.{mul_comm, mul-le-mul_right, length-map, Ratio, all_mapped}
+use Rattle.gf_nfg.proofs.Common.{positions, product, profile_limit, IsWithinLimit, IsSpellable}
+use Rattle.gf_nfg.proofs.Common.{IsTable, rows, Names, groups, numbers_of, row_of, IsHeld, HasRows}
+use Rattle.gf_nfg.proofs.Common.{Content, names_in, strategies_of, rows_by, table_of, HasPayoffs}
 use Rattle.gf_nfg.proofs.Common.{HasLabels, IsComplete, drop_at, take_at}
 use Rattle.gf_nfg.proofs.lemmas.tables.Lists.{joined, sum-cons, counts_back, groups-joined}
 use Rattle.gf_nfg.proofs.lemmas.tables.Rows as kept
@@ -59,95 +58,50 @@ choices_within players outcomes [] payoffs e h = tt
 choices_within players outcomes (k ∷ choices) payoffs e h =
     grind (arith, mul-le-mul_right, mul_comm, choices_within players outcomes choices payoffs e h.1)
 
-zeros_kept : {A : Type 0} (zeros : List A) (numbers : List ℕ)
-    → AllByRecursion (λ number. number ≡ 0 → zeros ≡ zeros) numbers
-zeros_kept zeros [] = tt
-zeros_kept zeros (number ∷ numbers) = (λ e. refl, zeros_kept zeros numbers)
-
-has_rows : (c : Content) (choices : List ℕ) → HasPayoffs c choices
-    → HasRows (length c.players) c.profiles c.payoffs (replicate (length c.players) (whole (pos 0)))
-    (numbers_of c.profiles (choices_of choices))
+pub has_rows : (c : Content) (choices : List ℕ) → HasPayoffs c choices
+    → HasRows (length c.players) c.profiles c.payoffs (numbers_of c.profiles choices)
 has_rows c [] h = kept.positions_have_rows (length c.players) c.profiles c.payoffs
-    (replicate (length c.players) (whole (pos 0))) (h ∙ mul_comm (length c.players) c.profiles)
+    (h ∙ mul_comm (length c.players) c.profiles)
 has_rows c (k ∷ choices) h = record {
   one_number_each = h.2;
   rows_kept = choices_within (length c.players) h.0 (k ∷ choices) c.payoffs h.1 h.3;
-  zeros_kept = zeros_kept (replicate (length c.players) (whole (pos 0))) (k ∷ choices);
 }
-
-pub length-rows_by : (c : Content) (choices : List ℕ) → HasPayoffs c choices
-    → length (rows_by c choices) ≡ c.profiles
-length-rows_by c choices h = grind (arith, length-map, has_rows)
 
 -- ---- the table
 
-pub named : (c : Content) → IsComplete c → IsNamed (names_in c) c.profiles
-named c h = grind (arith, counts-strategies_of, length-map, all_mapped)
+module _ (c : Content) (h : IsComplete c) where
+  abbrev rs : List (List Ratio)
+  rs = rows_by c c.choices
 
-named_rows : (c : Content) → IsComplete c → IsNamed (names_in c) (length (rows_by c c.choices))
-named_rows c h = rw (length-rows_by c c.choices h.has_rows) (named c h)
+  rows_counted : length rs ≡ c.profiles
+  rows_counted = grind (arith, length-map, has_rows)
 
-full_rows : (c : Content) → IsComplete c
-    → AllByRecursion (λ row. length row ≡ length c.players) (rows_by c c.choices)
-full_rows c h =
-    kept.full_rows (length c.players) c.payoffs (numbers_of c.profiles (choices_of c.choices))
-    (has_rows c c.choices h.has_rows).rows_kept
+  pub profiles_counted : c.profiles ≡ product (map length (names_in c).strategies)
+  profiles_counted = grind (arith, counts-strategies_of)
 
-pub is_table : (c : Content) → IsComplete c → IsTable (table_of c)
-is_table c h = kept.is_table (names_in c) (rows_by c c.choices) (named_rows c h) (full_rows c h)
+  one_row_each : length rs ≡ product (map length (names_in c).strategies)
+  one_row_each = rows_counted ∙ profiles_counted
 
-pub rows-table_of : (c : Content) → IsComplete c → rows (table_of c) ≡ rows_by c c.choices
-rows-table_of c h = kept.rows-table_with (names_in c) (rows_by c c.choices) (named_rows c h).counted
+  pub rows-table_of : rows (table_of c) ≡ rs
+  rows-table_of = kept.rows-table_with (names_in c) rs one_row_each
 
-pub length-entries : (c : Content) → IsComplete c → length (table_of c).entries ≡ c.profiles
-length-entries c h =
-    kept.length-entries (names_in c) (rows_by c c.choices) (named_rows c h).counted
-    ∙ length-rows_by c c.choices h.has_rows
+  pub is_table : IsTable (table_of c)
+  is_table = kept.is_table (names_in c) rs one_row_each
+      (grind (arith, counts-strategies_of, length-map))
+      (grind (arith, counts-strategies_of, all_mapped))
+      (kept.full_rows (length c.players) c.payoffs _ (has_rows c c.choices h.has_rows).rows_kept)
 
-pub within_limit : (c : Content) → IsComplete c → c.profiles ≤ profile_limit
-    → IsWithinLimit (table_of c)
-within_limit c h within = let count = length-entries c h in omega (arith, count, within)
+  pub length-entries : length (table_of c).entries ≡ c.profiles
+  length-entries = kept.entries_counted (table_of c) is_table ∙ sym profiles_counted
 
--- ---- the test whether a list is empty
+  pub within_limit : c.profiles ≤ profile_limit → IsWithinLimit (table_of c)
+  within_limit within = omega (arith, length-entries, within)
 
-pub present : (size count : ℕ) (empty : Bool) → empty ≡ (size == 0) → empty ≡ false
-    → size ≡ count → 0 < count
-present size count empty is given same = grind arith
-
-pub lacking : (size count : ℕ) (empty : Bool) → empty ≡ (size == 0) → empty ≡ true
-    → size ≡ count → count ≡ 0
-lacking size count empty is none same = grind arith
-
--- ---- the table as it is made
-
-pub held : (c : Content) (names : Names) (rs : List (List Ratio)) → names ≡ names_in c
-    → rs ≡ rows_by c c.choices → IsComplete c → c.profiles ≤ profile_limit
-    → IsSpellable (table_of c) → IsHeld names rs
-held c names rs names_are rows_are h within spellable =
-    let count = length-rows_by c c.choices h.has_rows in
-    rw (names_are, rows_are) (record {
-      named = named_rows c h;
-      one_payoff_each = full_rows c h;
-      within = omega (arith, count, within);
-      spellable = spellable;
-    })
-
-pub none_chosen : (profiles : ℕ) (choices : List ℕ) → length choices ≡ 0
-    → numbers_of profiles (choices_of choices) ≡ positions profiles
-none_chosen profiles choices h = grind arith
-
-pub some_chosen : (profiles : ℕ) (choices : List ℕ) → 0 < length choices
-    → numbers_of profiles (choices_of choices) ≡ choices
-some_chosen profiles choices h = grind arith
-
-pub payoffs_in_turn : (c : Content) (choices : List ℕ) → HasPayoffs c choices → length choices ≡ 0
-    → length c.payoffs ≡ c.profiles * length c.players
-payoffs_in_turn c choices h none = grind arith
-
-pub count_chosen : (c : Content) (choices : List ℕ) → HasPayoffs c choices → 0 < length choices
-    → length choices ≡ c.profiles
-count_chosen c choices h some = grind arith
-
-pub rows_chosen : (c : Content) (choices : List ℕ) → HasPayoffs c choices → 0 < length choices
-    → AllByRecursion (λ number. number * length c.players ≤ length c.payoffs) choices
-rows_chosen c choices h some = grind (arith, some_chosen, has_rows)
+  pub held : (names : Names) (qs : List (List Ratio)) → names ≡ names_in c → qs ≡ rs
+      → c.profiles ≤ profile_limit → IsSpellable (table_of c) → IsHeld names qs
+  held names qs n r within spellable = rw (n, r) (record {
+    is_table = is_table;
+    spellable = spellable;
+    within = within_limit within;
+    rows_are = rows-table_of;
+  })

@@ -6,10 +6,11 @@ use Rattle.gf_nfg.proofs.Common.{option_and_then, AllByRecursion, pointwise, dro
 use Rattle.gf_nfg.proofs.Common.{slice_get-map, slice_get_within, get_or_from_slice_get}
 use Rattle.gf_nfg.proofs.Common.{Decides-eqb, nat_tests, slice_eq-Decides, mul_comm}
 use Rattle.gf_nfg.proofs.Common.{mul-le-mul_right, Ratio, all_images, profile_limit, IsProfile}
-use Rattle.gf_nfg.proofs.Common.{place, product, profiles, Table, payoffs_at, Names, entries_of}
-use Rattle.gf_nfg.proofs.Common.{place_of, table_with, cases_Bool, length-map}
-use Rattle.gf_nfg.proofs.lemmas.tables.Profiles.{every_profile, place_at as stands_at}
-use Rattle.gf_nfg.proofs.lemmas.tables.Rows.{matched}
+use Rattle.gf_nfg.proofs.Common.{place, product, profiles, Table, IsTable, rows, payoffs_at, Names}
+use Rattle.gf_nfg.proofs.Common.{entries_of, IsHeld, place_of, table_with, cases_Bool, length-map}
+use Rattle.gf_nfg.proofs.lemmas.tables.Profiles.{every_profile, length-profiles}
+use Rattle.gf_nfg.proofs.lemmas.tables.Profiles.{place_at as stands_at}
+use Rattle.gf_nfg.proofs.lemmas.tables.Rows.{entries_again, entries_counted}
 
 -- a profile has a place, and nothing else has one
 abbrev IsPlacedIn : List ℕ → List ℕ → Type 0
@@ -175,13 +176,27 @@ strategy_fits {names} {profile} {at} a above within =
     (all_images (λ n. 0 < n) length names.strategies a.some_strategy) in
     omega (arith, below, whole, a.within)
 
-pub payoffs_found : (names : Names) (rs : List (List Ratio)) (t : Table) (profile : List ℕ)
-    → length rs ≡ product (map length names.strategies) → table_with names rs ≡ t
+pub payoffs_found : (t : Table) (profile : List ℕ) → IsTable t
     → payoffs_at profile t.entries
-    ≡ option_and_then (λ k. slice_get rs k) (place_of (map length names.strategies) profile)
-payoffs_found names rs t profile one view =
-    let counts = map length names.strategies in
-    cc (payoffs_placed counts profile rs (matched names rs one) (placed counts profile))
+    ≡ option_and_then (λ k. slice_get (rows t) k) (place_of (map length t.strategies) profile)
+payoffs_found t profile h =
+    let counts = map length t.strategies in
+    let sizes : length (profiles counts) ≡ length (rows t) = length-profiles counts
+    ∙ sym (entries_counted t h) ∙ sym (length-map t.entries (λ e. e.payoffs)) in
+    cc (
+      payoffs_placed counts profile (rows t) sizes (placed counts profile),
+      entries_again t.entries,
+      h.one_entry_each,
+    )
+
+pub place_there : (names : Names) (rs : List (List Ratio)) (profile : List ℕ) (place : ℕ)
+    → IsHeld names rs → place_of (map length names.strategies) profile ≡ Some place
+    → place < length rs
+place_there names rs profile place h found =
+    let counted = entries_counted (table_with names rs) h.is_table in
+    let sizes = length-map (table_with names rs).entries (λ e. e.payoffs) in
+    let below = place_below (map length names.strategies) profile place found in
+    omega (arith, below, counted, sizes, ap length h.rows_are)
 
 pub ruleset places_found =
     (length-map, none_by_length, place_below, player_before, strategy_in, strategy_fits)

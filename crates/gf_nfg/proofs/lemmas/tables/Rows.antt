@@ -1,33 +1,27 @@
 -- The rows of a table.
 use Rattle.gf_nfg.proofs.Common.{◌≡◌, ℕ, zero, suc, ◌+◌, ◌*◌, ◌<◌, ◌≤◌, List, [], ◌∷◌, length, map}
 use Rattle.gf_nfg.proofs.Common.{take, drop, Option, Some, None, slice_get, option_map, refl, sym}
-use Rattle.gf_nfg.proofs.Common.{ap, ◌∙◌, arith, pos, replicate, IsSome, SomeIff, unwrap_or}
-use Rattle.gf_nfg.proofs.Common.{vec_len, Vec, ◌/◌, AllByRecursion, flat_map, length-take}
-use Rattle.gf_nfg.proofs.Common.{length-drop, take-append-drop, length-map, length-replicate}
-use Rattle.gf_nfg.proofs.Common.{drop-drop, mul-div_cancel, mul-le-mul_left, mul-le-mul_right}
-use Rattle.gf_nfg.proofs.Common.{slice_get-map, Ratio, whole, all_at, all_images, profile_limit}
-use Rattle.gf_nfg.proofs.Common.{numbers_from, positions, product, profiles, Entry, Table, IsTable}
-use Rattle.gf_nfg.proofs.Common.{rows, IsTableOf, Names, entries_of, kept_row, table_with, row_of}
-use Rattle.gf_nfg.proofs.Common.{number_in, numbers_of, IsNamed, HasRows}
+use Rattle.gf_nfg.proofs.Common.{ap, ◌∙◌, arith, pos, replicate, SomeIff, unwrap_or, vec_len, Vec}
+use Rattle.gf_nfg.proofs.Common.{◌/◌, AllByRecursion, flat_map, length-take, length-drop}
+use Rattle.gf_nfg.proofs.Common.{take-append-drop, length-map, length-replicate, drop-drop}
+use Rattle.gf_nfg.proofs.Common.{mul-div_cancel, mul-le-mul_left, mul-le-mul_right, slice_get-map}
+use Rattle.gf_nfg.proofs.Common.{Ratio, whole, all_at, all_images, profile_limit, numbers_from}
+use Rattle.gf_nfg.proofs.Common.{positions, product, profiles, Entry, Table, IsTable, rows, Names}
+use Rattle.gf_nfg.proofs.Common.{entries_of, kept_row, table_with, row_of, numbers_of, HasRows}
+use Rattle.gf_nfg.proofs.Common.{IsWithinLimit, slice_get-get_or, AreShared, le-div_iff_mul-le}
 use Rattle.gf_nfg.proofs.lemmas.tables.Profiles.{length-profiles}
 use Rattle.gf_nfg.proofs.lemmas.tables.Lists.{product_above_zero}
 use Rattle.gf_nfg.proofs.lemmas.tables.NumbersInTurn.{length-numbers_from}
 
-pub length-entries_of : (ps : List (List ℕ)) (rs : List (List Ratio)) → length ps ≡ length rs
-    → length (entries_of ps rs) ≡ length rs
-length-entries_of (p ∷ ps) (r ∷ rs) h = ap suc (length-entries_of ps rs (omega (arith, h)))
-length-entries_of ps rs h = grind arith
-
-pub profiles-entries_of : (ps : List (List ℕ)) (rs : List (List Ratio)) → length ps ≡ length rs
-    → map (λ e. e.profile) (entries_of ps rs) ≡ ps
-profiles-entries_of (p ∷ ps) (r ∷ rs) h = cc (profiles-entries_of ps rs (omega (arith, h)))
-profiles-entries_of ps rs h = grind arith
-
-pub payoffs-entries_of : (ps : List (List ℕ)) (rs : List (List Ratio)) → length ps ≡ length rs
-    → map (λ e. e.payoffs) (entries_of ps rs) ≡ rs
-payoffs-entries_of [] [] h = refl
-payoffs-entries_of (p ∷ ps) (r ∷ rs) h = cc (payoffs-entries_of ps rs (omega (arith, h)))
-payoffs-entries_of ps rs h = grind arith
+-- entries have their profiles and their rows
+parted : (ps : List (List ℕ)) (rs : List (List Ratio)) → length ps ≡ length rs
+    → (map (λ e. e.profile) (entries_of ps rs) ≡ ps)
+    × (map (λ e. e.payoffs) (entries_of ps rs) ≡ rs)
+parted [] [] h = (refl, refl)
+parted (p ∷ ps) (r ∷ rs) h =
+    let rest = parted ps rs (omega (arith, h)) in
+    (ap (λ qs. p ∷ qs) rest.0, ap (λ qs. r ∷ qs) rest.1)
+parted ps rs h = absurd (omega (arith, h))
 
 -- entries are found again from their profiles and their payoffs
 pub entries_again : (entries : List Entry)
@@ -39,19 +33,26 @@ entries_again (e ∷ entries) = ap (λ es. e ∷ es) (entries_again entries)
 
 module _ (names : Names) (rs : List (List Ratio))
     (one : length rs ≡ product (map length names.strategies)) where
-  -- as many rows as there are profiles
-  pub matched : length (profiles (map length names.strategies)) ≡ length rs
-  matched = length-profiles (map length names.strategies) ∙ sym one
-
-  pub length-entries : length (table_with names rs).entries ≡ length rs
-  length-entries = search (arith, length-entries_of, matched)
+  abbrev counts : List ℕ
+  counts = map length names.strategies
 
   pub rows-table_with : rows (table_with names rs) ≡ rs
-  rows-table_with = search (arith, payoffs-entries_of, matched)
+  rows-table_with = (parted (profiles counts) rs (length-profiles counts ∙ sym one)).1
 
-pub is_table : (names : Names) (rs : List (List Ratio)) → IsNamed names (length rs)
-    → AllByRecursion (λ row. length row ≡ length names.players) rs → IsTable (table_with names rs)
-is_table names rs named full = search (arith, profiles-entries_of, matched, rows-table_with)
+  pub is_table : length names.strategies ≡ length names.players
+      → AllByRecursion (λ own. 0 < length own) names.strategies
+      → AllByRecursion (λ row. length row ≡ length names.players) rs → IsTable (table_with names rs)
+  is_table one_list_each some full = record {
+    one_list_each = one_list_each;
+    some_strategy = some;
+    one_entry_each = (parted (profiles counts) rs (length-profiles counts ∙ sym one)).0;
+    one_payoff_each = rw rows-table_with full;
+  }
+
+pub entries_counted : (t : Table) → IsTable t
+    → length t.entries ≡ product (map length t.strategies)
+entries_counted t h =
+    sym (length-map t.entries (λ e. e.profile)) ∙ ap length h.one_entry_each ∙ length-profiles _
 
 -- ---- rows by their numbers
 
@@ -67,11 +68,6 @@ full_rows players payoffs [] h = tt
 full_rows players payoffs (number ∷ numbers) h =
     (length-row_of players payoffs number h.0, full_rows players payoffs numbers h.1)
 
-pub length-kept : (players count : ℕ) (payoffs zeros : List Ratio) (numbers : List ℕ)
-    → HasRows players count payoffs zeros numbers
-    → length (map (row_of players payoffs) numbers) ≡ count
-length-kept players count payoffs zeros numbers kept = grind (arith, length-map)
-
 -- ---- rows of the profiles in turn
 
 positions_kept : (players whole first n : ℕ) → (first + n) * players ≤ whole + players
@@ -82,19 +78,13 @@ positions_kept players whole first (suc n) h =
     let moved : first + 1 + n ≡ first + suc n = omega arith in
     (omega (arith, here, h), positions_kept players whole (first + 1) n (rw moved h))
 
-positions_above : (A : Type 0) (first n : ℕ) → 0 < first
-    → AllByRecursion (λ number. number ≡ 0 → A) (numbers_from first n)
-positions_above A first zero h = tt
-positions_above A first (suc n) h = grind (arith, positions_above A (first + 1) n (omega arith))
-
-pub positions_have_rows : (players count : ℕ) (payoffs zeros : List Ratio)
-    → length payoffs ≡ count * players → HasRows players count payoffs zeros (positions count)
-positions_have_rows players count payoffs zeros h = record {
+pub positions_have_rows : (players count : ℕ) (payoffs : List Ratio)
+    → length payoffs ≡ count * players → HasRows players count payoffs (positions count)
+positions_have_rows players count payoffs h = record {
   one_number_each = length-numbers_from 1 count;
   rows_kept = positions_kept players (length payoffs) 1 count
       (let split : (1 + count) * players ≡ players + count * players = omega arith in
       omega (arith, h, split));
-  zeros_kept = positions_above (zeros ≡ replicate players (whole (pos 0))) 1 count (omega arith);
 }
 
 -- this many rows of this length, from the payoffs in turn
@@ -102,17 +92,23 @@ abbrev pub rows_of : ℕ → ℕ → List Ratio → List (List Ratio)
 rows_of players zero payoffs = []
 rows_of players (suc n) payoffs = take players payoffs ∷ rows_of players n (drop players payoffs)
 
-numbered_rows : (players k n : ℕ) (payoffs : List Ratio)
-    → map (row_of players payoffs) (numbers_from (suc k) n)
+numbered_rows : (players k n : ℕ) (payoffs zeros : List Ratio)
+    → map (kept_row players payoffs zeros) (numbers_from (suc k) n)
     ≡ rows_of players n (drop (k * players) payoffs)
-numbered_rows players k zero payoffs = refl
-numbered_rows players k (suc n) payoffs =
-    grind (arith, drop-drop, take, drop, numbered_rows players (suc k) n payoffs)
+numbered_rows players k zero payoffs zeros = refl
+numbered_rows players k (suc n) payoffs zeros =
+    grind (arith, drop-drop, take, drop, numbered_rows players (suc k) n payoffs zeros)
 
 -- rows with the numbers from 1 are the rows in turn
+kept_in_turn : (players n : ℕ) (payoffs zeros : List Ratio)
+    → map (kept_row players payoffs zeros) (positions n) ≡ rows_of players n payoffs
+kept_in_turn players n payoffs zeros =
+    let none : 0 * players ≡ 0 = omega arith in
+    rw none at (numbered_rows players 0 n payoffs zeros)
+
 pub rows_numbered : (players n : ℕ) (payoffs : List Ratio)
     → map (row_of players payoffs) (positions n) ≡ rows_of players n payoffs
-rows_numbered players n payoffs = grind (arith, numbered_rows)
+rows_numbered players n payoffs = kept_in_turn players n payoffs _
 
 joined_again : (players n : ℕ) (payoffs : List Ratio) → length payoffs ≡ n * players
     → flat_map (λ row. row) (rows_of players n payoffs) ≡ payoffs
@@ -130,28 +126,15 @@ rows_in_turn players count payoffs h = search (arith, rows_numbered, joined_agai
 
 -- ---- one row
 
--- the number of the row of the profile with this place
-pub record IsNumber (players count : ℕ) (payoffs zeros : List Ratio) (numbers : List ℕ)
-    (place number : ℕ) : Type 0 where
-  pub kept : HasRows players count payoffs zeros numbers
-  pub number_is : slice_get numbers place ≡ Some number
-
-module _ (players count : ℕ) (payoffs zeros : List Ratio) (numbers : List ℕ) (place number : ℕ)
-    (h : IsNumber players count payoffs zeros numbers place number) where
-  pub number_within : number * players ≤ length payoffs
-  number_within = grind (arith, all_at)
-
-  pub number_zero : number ≡ 0 → zeros ≡ replicate players (whole (pos 0))
-  number_zero = grind (arith, all_at)
-
-  pub row_is : slice_get (map (row_of players payoffs) numbers) place
-      ≡ Some (row_of players payoffs number)
-  row_is = grind (arith, slice_get-map)
-
-pub kept_row_is : (players : ℕ) (payoffs zeros : List Ratio) (number : ℕ)
-    → (number ≡ 0 → zeros ≡ row_of players payoffs 0)
-    → kept_row players payoffs zeros number ≡ row_of players payoffs number
-kept_row_is players payoffs zeros number h = grind arith
+-- the row of zeros matters only if a number may be 0
+pub rows_alike : (players count : ℕ) (payoffs zeros : List Ratio) (choices : List ℕ)
+    → (0 < length choices → zeros ≡ replicate players (whole (pos 0)))
+    → map (kept_row players payoffs zeros) (numbers_of count choices)
+    ≡ map (row_of players payoffs) (numbers_of count choices)
+rows_alike players count payoffs zeros [] h =
+    kept_in_turn players count payoffs zeros ∙ sym (rows_numbered players count payoffs)
+rows_alike players count payoffs zeros (k ∷ choices) h =
+    ap (λ none. map (kept_row players payoffs none) (k ∷ choices)) (h (omega arith))
 
 slice_get-numbers_from : (first n k : ℕ) → k < n
     → slice_get (numbers_from first n) k ≡ Some (first + k)
@@ -159,29 +142,69 @@ slice_get-numbers_from first (suc n) (suc k) h =
     grind (arith, slice_get-numbers_from (first + 1) n k (omega (arith, h)))
 slice_get-numbers_from first n k h = grind arith
 
-pub number_found : (count : ℕ) (choices : Option (List ℕ)) (place : ℕ) → place < count
-    → number_in choices place ≡ slice_get (numbers_of count choices) place
-number_found count choices place h = grind (arith, slice_get-numbers_from)
+number_found : (count : ℕ) (choices : List ℕ) (place : ℕ)
+    → place < length (numbers_of count choices) → slice_get (numbers_of count choices) place
+    ≡ Some (unwrap_or (slice_get choices place) (place + 1))
+number_found count [] place h =
+    grind (arith, slice_get-numbers_from 1 count place, length-numbers_from 1 count)
+number_found count (k ∷ choices) place h = grind (arith, slice_get-get_or (k ∷ choices) place 0)
 
-pub some_from : {A : Type 0} (xs : List A) (k : ℕ) → k < length xs → IsSome (slice_get xs k)
-some_from (x ∷ xs) (suc k) h = some_from xs k (omega (arith, h))
-some_from xs k h = grind arith
+-- the row at a place
+module _ (players count : ℕ) (payoffs zeros : List Ratio) (choices : List ℕ)
+    (rs : List (List Ratio)) (place number : ℕ)
+    (kept : HasRows players count payoffs (numbers_of count choices))
+    (view : map (kept_row players payoffs zeros) (numbers_of count choices) ≡ rs)
+    (less : place < length rs)
+    (is : number ≡ unwrap_or (slice_get choices place) (place + 1)) where
+  there : slice_get (numbers_of count choices) place ≡ Some number
+  there = grind (arith, length-map, number_found)
+
+  pub number_within : number * players ≤ length payoffs
+  number_within = grind (arith, all_at, there)
+
+  pub row_there : slice_get rs place ≡ Some (kept_row players payoffs zeros number)
+  row_there = grind (arith, slice_get-map, there)
+
+-- ---- rows that profiles share
+
+rows_below : (players size : ℕ) (numbers : List ℕ) → 0 < players
+    → AllByRecursion (λ number. number * players ≤ size) numbers
+    → AllByRecursion (λ number. number < size / players + 1) numbers
+rows_below players size [] some h = tt
+rows_below players size (number ∷ numbers) some h =
+    grind (arith, le-div_iff_mul-le, rows_below players size numbers some h.1)
+
+pub are_shared : (players count : ℕ) (payoffs zeros : List Ratio) (choices : List ℕ)
+    (rs : List (List Ratio)) → HasRows players count payoffs (numbers_of count choices)
+    → map (kept_row players payoffs zeros) (numbers_of count choices) ≡ rs → 0 < players
+    → 0 < length choices
+    → AreShared rs choices players payoffs zeros (length payoffs / players + 1)
+are_shared players count payoffs zeros [] rs kept view some chosen = absurd (omega (arith, chosen))
+are_shared players count payoffs zeros (k ∷ choices) rs kept view some chosen = record {
+  rows_are = sym view;
+  below = rows_below players (length payoffs) (k ∷ choices) some kept.rows_kept;
+  kept = λ number less. (le-div_iff_mul-le some).0 (omega (arith, less));
+}
 
 -- ---- a table's counts
 
 -- if each player has a strategy, nobody has more strategies than there are profiles
-pub count_at_most : (strategies : List (List (List ℕ))) (k : ℕ) (own : List (List ℕ))
-    → AllByRecursion (λ own. 0 < length own) strategies → slice_get strategies k ≡ Some own
-    → length own ≤ product (map length strategies)
-count_at_most [] k own h e = absurd (cc)
-count_at_most (first ∷ others) zero own h e =
+count_at_most : (strategies : List (List (List ℕ))) (k n : ℕ)
+    → AllByRecursion (λ own. 0 < length own) strategies
+    → option_map length (slice_get strategies k) ≡ Some n → n ≤ product (map length strategies)
+count_at_most [] k n h e = absurd (cc)
+count_at_most (first ∷ others) zero n h e =
     let some = product_above_zero (map length others) (all_images (λ n. 0 < n) length others h.1) in
     grind (arith, mul-le-mul_left (length first) some)
-count_at_most (first ∷ others) (suc k) own h e = grind (
+count_at_most (first ∷ others) (suc k) n h e = grind (
   arith,
-  count_at_most others k own h.1 e,
+  count_at_most others k n h.1 e,
   mul-le-mul_right (product (map length others)) h.0,
 )
+
+pub own_count_within : (t : Table) (k n : ℕ) → IsTable t → IsWithinLimit t
+    → option_map length (slice_get t.strategies k) ≡ Some n → n ≤ profile_limit
+own_count_within t k n h within e = grind (arith, count_at_most, entries_counted)
 
 -- ---- a table made from its parts
 
@@ -205,45 +228,3 @@ profiles_counted rows zero [] (Some q) is one h = absurd (omega (arith, is.0))
 profiles_counted rows zero (count ∷ counts) quotient is one h = absurd (omega (arith, one))
 profiles_counted rows (suc n) counts None is one h = absurd (is (omega arith))
 profiles_counted rows (suc n) counts (Some q) is one h = grind (arith, mul-div_cancel)
-
-pub counted_own : (o : Option (List (List ℕ))) (n : ℕ) → option_map length o ≡ Some n
-    → (own : List (List ℕ)) × (o ≡ Some own) × (length own ≡ n)
-counted_own o n e = grind arith
-
-pub own_count_within : (names : Names) (count k n : ℕ) → IsNamed names count → count ≤ profile_limit
-    → option_map length (slice_get names.strategies k) ≡ Some n → n ≤ profile_limit
-own_count_within names count k n h within e = grind (arith, counted_own, count_at_most)
-
-pub place_within : (players count : ℕ) (payoffs zeros : List Ratio) (numbers : List ℕ)
-    (rs : List (List Ratio)) (place : ℕ) → HasRows players count payoffs zeros numbers
-    → map (row_of players payoffs) numbers ≡ rs → place < length rs → place < count
-place_within players count payoffs zeros numbers rs place kept view h = grind (arith, length-kept)
-
-pub numbered : (players count : ℕ) (payoffs zeros : List Ratio) (choices : Option (List ℕ))
-    (rs : List (List Ratio)) (place number : ℕ)
-    → HasRows players count payoffs zeros (numbers_of count choices)
-    → map (row_of players payoffs) (numbers_of count choices) ≡ rs → place < length rs
-    → number_in choices place ≡ Some number
-    → IsNumber players count payoffs zeros (numbers_of count choices) place number
-numbered players count payoffs zeros choices rs place number kept view h e =
-    grind (arith, place_within, number_found)
-
-pub made_of_parts : (t : Table) (names : Names) (title comment : List ℕ) (players : List (List ℕ))
-    (strategies : List (List (List ℕ))) (rs : List (List Ratio)) (given : List Ratio)
-    → names ≡ record {
-      title = title;
-      comment = comment;
-      players = players;
-      strategies = strategies;
-    } → IsNamed names (length rs) → AllByRecursion (λ row. length row ≡ length names.players) rs
-    → flat_map (λ row. row) rs ≡ given → t ≡ table_with names rs
-    → IsTableOf t title comment players strategies given
-made_of_parts t names title comment players strategies rs given is named full in_turn made =
-    record {
-      title_is = grind arith;
-      comment_is = grind arith;
-      players_are = grind arith;
-      strategies_are = grind arith;
-      payoffs_are = cc (rows-table_with names rs named.counted);
-      is_table = rw made (is_table names rs named full);
-    }

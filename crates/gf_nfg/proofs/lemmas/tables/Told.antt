@@ -1,15 +1,10 @@
 -- What was told of a file, and was kept or written, means its table.
-use Rattle.gf_nfg.proofs.Common.{◌≡◌, ℕ, List, subst, IsWithinLimit, Content, IsComplete, table_of}
-use Rattle.gf_nfg.proofs.Common.{content_of, content_told, SpellsTable, Told, HasToldTable, Heading}
-use Rattle.std.proofs.Common.{arith}
+use Rattle.gf_nfg.proofs.Common.{◌≡◌, ℕ, List, subst}
+use Rattle.gf_nfg.proofs.Common.{content_of, content_told, Told, HasToldTable, Heading}
+use Rattle.gf_nfg.proofs.Common.{arith}
+pub use Rattle.gf_nfg.specs.inner.ToldTable.{MeansTable}
 use Rattle.gf_nfg.specs.declared.reader.receive.Kept.{Kept}
 use Rattle.gf_nfg.proofs.lemmas.tables.Meaning.{within_limit}
-
--- these parts mean a table within the limit, which the bytes spell
-pub record MeansTable (bytes : List ℕ) (c : Content) : Type 0 where
-  pub spelled : SpellsTable bytes (table_of c)
-  pub complete : IsComplete c
-  pub within : IsWithinLimit (table_of c)
 
 pub told_means : {T : Type 0} (holds : T → Told → Type 0) (bytes : List ℕ) (heading : Heading)
     (to : T) (h : HasToldTable holds bytes heading to) → MeansTable bytes (content_told h.told)

@@ -1,35 +1,13 @@
 -- Lines of rows that profiles share.
-use Rattle.gf_nfg.proofs.Common.{◌≡◌, ℕ, ◌+◌, ◌*◌, ◌/◌, ◌<◌, ◌≤◌, List, [], ◌∷◌, ◌++◌, length, map}
+use Rattle.gf_nfg.proofs.Common.{◌≡◌, ℕ, ◌+◌, ◌<◌, List, [], ◌∷◌, ◌++◌, length, map}
 use Rattle.gf_nfg.proofs.Common.{drop, get_or, Some, slice_get, append_assoc, refl, sym, ap, ◌∙◌}
-use Rattle.gf_nfg.proofs.Common.{arith, length-append, AllByRecursion, le-div_iff_mul-le, drop_more}
+use Rattle.gf_nfg.proofs.Common.{arith, length-append, AllByRecursion, drop_more}
 use Rattle.gf_nfg.proofs.Common.{get_or-map, length-map, map-append, get_or_from_slice_get, Ratio}
-use Rattle.gf_nfg.proofs.Common.{numbers_from, line_text, lines_with, row_text, RisesTo, kept_row}
-use Rattle.gf_nfg.proofs.Common.{pieces, row_of, lines_text, Content, IsComplete, rows_by, subst}
-use Rattle.gf_nfg.proofs.Common.{replicate, whole, pos}
-use Rattle.gf_nfg.proofs.lemmas.tables.Meaning.{rows_chosen, some_chosen}
+use Rattle.gf_nfg.proofs.Common.{numbers_from, line_text, lines_with, row_text, RisesTo, pieces}
+use Rattle.gf_nfg.proofs.Common.{lines_text, AreShared, kept_row, subst}
 use Rattle.gf_nfg.proofs.lemmas.tables.NumbersInTurn.{get_or-numbers_from, length-numbers_from}
 use Rattle.gf_nfg.proofs.lemmas.tables.NumbersInTurn.{numbers_joined}
-use Rattle.gf_nfg.proofs.lemmas.tables.Rows.{kept_row_is}
 use Rattle.gf_nfg.proofs.lemmas.tables.Pieces.{pieces-push, rises-push}
-
-pub rows_below : (players size : ℕ) (numbers : List ℕ) → 0 < players
-    → AllByRecursion (λ number. number * players ≤ size) numbers
-    → AllByRecursion (λ number. number < size / players + 1) numbers
-rows_below players size [] some h = tt
-rows_below players size (number ∷ numbers) some h =
-    grind (arith, le-div_iff_mul-le, rows_below players size numbers some h.1)
-
-pub rows_kept : (players size : ℕ) → 0 < players → (number : ℕ) → number < size / players + 1
-    → number * players ≤ size
-rows_kept players size some number h = (le-div_iff_mul-le some).0 (omega (arith, h))
-
--- a row is kept with its number, if the row of zeros is kept when a number is 0
-pub kept_rows_are : (players : ℕ) (payoffs zeros : List Ratio) (numbers : List ℕ)
-    → AllByRecursion (λ number. number ≡ 0 → zeros ≡ row_of players payoffs 0) numbers
-    → map (row_of players payoffs) numbers ≡ map (kept_row players payoffs zeros) numbers
-kept_rows_are players payoffs zeros [] h = refl
-kept_rows_are players payoffs zeros (number ∷ numbers) h =
-    grind (arith, kept_row_is, kept_rows_are players payoffs zeros numbers h.1)
 
 -- ---- the lines
 
@@ -103,38 +81,17 @@ lines_chosen row bound [] h = refl
 lines_chosen row bound (number ∷ numbers) h =
     (λ i. line_there row bound number h.0 i ++ lines_chosen row bound numbers h.1 i)
 
--- ---- the lines of outcomes
+-- the lines of rows that profiles share
+module _ (rows : List (List Ratio)) (numbers : List ℕ) (players : ℕ) (payoffs zeros : List Ratio)
+    (bound : ℕ) (lines : List (List ℕ)) (h : AreShared rows numbers players payoffs zeros bound)
+    (are : lines ≡ map (λ n. line_text (kept_row players payoffs zeros n)) (numbers_from 0 bound))
+    where
+  pub numbers_within : AllByRecursion (λ number. number < length lines) numbers
+  numbers_within = subst (λ (n : ℕ). AllByRecursion (λ number. number < n) numbers)
+      (sym (lines_counted (kept_row players payoffs zeros) bound lines are)) h.below
 
-each_zero : (A : Type 0) (numbers : List ℕ) → A → AllByRecursion (λ number. number ≡ 0 → A) numbers
-each_zero A [] a = tt
-each_zero A (number ∷ numbers) a = (λ e. a, each_zero A numbers a)
-
--- a number of an outcome for each profile, and the lines of all outcomes
-module _ (c : Content) (players size : ℕ) (payoffs zeros : List Ratio) (lines : List (List ℕ))
-    (h : IsComplete c) (players_are : length c.players ≡ players) (some : 0 < players)
-    (chosen : 0 < length c.choices) (payoffs_are : payoffs ≡ c.payoffs)
-    (size_is : size ≡ length c.payoffs)
-    (are : lines ≡ map (λ number. line_text (kept_row players payoffs zeros number))
-    (numbers_from 0 (size / players + 1))) where
-  outcomes_within : AllByRecursion (λ number. number < size / players + 1) c.choices
-  outcomes_within = rows_below players size c.choices some
-      (subst (λ (p : ℕ × ℕ). AllByRecursion (λ number. number * p.0 ≤ p.1) c.choices)
-      (λ i. (players_are i, sym size_is i)) (rows_chosen c c.choices h.has_rows chosen))
-
-  pub numbers_within : AllByRecursion (λ number. number < length lines) c.choices
-  numbers_within = subst (λ (n : ℕ). AllByRecursion (λ number. number < n) c.choices)
-      (sym (lines_counted (kept_row players payoffs zeros) (size / players + 1) lines are))
-      outcomes_within
-
-  same_rows : map (row_of players payoffs) c.choices ≡ rows_by c c.choices
-  same_rows = (λ i. map (row_of (sym players_are i) (payoffs_are i))
-      (sym (some_chosen c.profiles c.choices chosen) i))
-
-  pub outcome_lines : zeros ≡ replicate players (whole (pos 0))
-      → lines_with lines c.choices ≡ lines_text (map row_text (rows_by c c.choices))
-  outcome_lines none =
-      ap (λ (ls : List (List ℕ)). lines_with ls c.choices) are
-      ∙ lines_chosen (kept_row players payoffs zeros) (size / players + 1) c.choices outcomes_within
-      ∙ ap (λ (rs : List (List Ratio)). lines_text (map row_text rs))
-      (sym (kept_rows_are players payoffs zeros c.choices (each_zero _ c.choices none))
-      ∙ same_rows)
+  pub shared_lines : lines_with lines numbers ≡ lines_text (map row_text rows)
+  shared_lines =
+      ap (λ (ls : List (List ℕ)). lines_with ls numbers) are
+      ∙ lines_chosen (kept_row players payoffs zeros) bound numbers h.below
+      ∙ ap (λ (rs : List (List Ratio)). lines_text (map row_text rs)) (sym h.rows_are)

@@ -1,38 +1,29 @@
-use Rattle.gf_nfg.proofs.Common.{◌≡◌, ◌∙◌, ap, rules, sym, ◌↔◌, IsTrue, content_told, table_of}
-use Rattle.gf_nfg.proofs.Common.{SameTable, named_by, IfOk-weaker}
-use Rattle.gf_nfg.proofs.lemmas.tables.Listed.{in_turn_compared, payoffs_compared, rows_compared}
-use Rattle.gf_nfg.proofs.lemmas.tables.Listed.{rows_kept}
-use Rattle.gf_nfg.proofs.lemmas.tables.Lists.{joined}
+use Rattle.gf_nfg.proofs.Common.{ap, sym, subst, ◌∙◌, table_of, MeansTable, rules, IfOk}
+use Rattle.gf_nfg.proofs.Common.{IsTrue, SameTable, named_by, ◌↔◌}
+use Rattle.gf_nfg.proofs.lemmas.tables.Listed.{parts_kept, told_compared}
+use Rattle.gf_nfg.proofs.lemmas.tables.Told.{told_means}
 use Rattle.gf_nfg.proofs.comparison.Comparison.is_same.Goals as goal
 
 pub returns-then-eq : goal.returns-then-eq
 returns-then-eq c = λ bytes h.
-    payoffs_compared c.args.named _ _ _ _ _ _ h c.names-2.ensures.is_table c.names-2.ensures.names
-    c.in_ok-names.ensures c.has_ended.result (search rules)
-    (c.same_heading.ensures.0 c.if-not-same_heading.false) c.has_ended.ensures
+    let compared = told_compared c.args.t.now _ _ _ h c.args.named _ _
+    c.names-then-eq.ensures.is_table c.names-then-eq.ensures.names c.in_ok-names.ensures
+    (search rules) in
+    let same = c.same_heading.ensures.0 c.if-not-same_heading.false in (
+      λ yes. compared.1 (same, c.has_ended.ensures.0 yes),
+      λ is. c.has_ended.ensures.1 (compared.0 is).1,
+    )
 
-pub returns-in-Some : goal.returns-in-Some
-returns-in-Some c = λ bytes h.
-    let qs = c.in_ok-rows.ensures
-    ∙ rows_kept c.args.named _ _ _ _ _ _ h c.names-2.ensures.is_table c.names-2.ensures.names
-    c.in_ok-names.ensures (search rules) in
-    IfOk-weaker c.same_kept_rows.result
-    (λ answer. IsTrue answer ↔ (c.in-Some.own.now ≡ c.in_ok-rows.rows))
-    (λ answer. IsTrue answer ↔ SameTable (named_by c.args.named c.args.t.now)
-    (named_by c.args.named (table_of (content_told h.told))))
-    (rows_compared c.args.named _ _ _ _ _ _ h c.names-2.ensures.is_table c.names-2.ensures.names
-    c.in_ok-names.ensures _ _ (c.same_heading.ensures.0 c.if-not-same_heading.false)
-    c.in-Some.ensures qs)
-    c.same_kept_rows.ensures
+pub into_table-requires : goal.into_table-requires
+into_table-requires c = (
+  c.requires.0,
+  subst (MeansTable c.requires.0) (parts_kept c.args.t.now _ _ _ c.requires.1 (search rules))
+      (told_means _ _ _ _ c.requires.1),
+)
 
 pub returns : goal.returns
 returns c = λ bytes h.
-    let qs = c.new.ensures ∙ ap joined (c.in_ok-rows.ensures
-    ∙ rows_kept c.args.named _ _ _ _ _ _ h c.names-2.ensures.is_table c.names-2.ensures.names
-    c.in_ok-names.ensures (search rules)) in
-    in_turn_compared c.args.named _ _ _ _ _ _ h c.names-2.ensures.is_table c.names-2.ensures.names
-    c.in_ok-names.ensures c.same_left.result
-    (c.same_heading.ensures.0 c.if-not-same_heading.false) (
-      λ yes. sym c.payoffs_in_turn.ensures ∙ c.same_left.ensures.0 yes ∙ qs,
-      λ same. c.same_left.ensures.1 (c.payoffs_in_turn.ensures ∙ same ∙ sym qs),
-    )
+    subst (λ u. IfOk c.same_table.result (λ answer. IsTrue answer
+    ↔ SameTable (named_by c.args.named c.args.t.now) (named_by c.args.named u)))
+    (c.in_ok-other.ensures ∙ ap table_of (sym (parts_kept c.args.t.now _ _ _ h (search rules))))
+    c.same_table.ensures

@@ -1,18 +1,20 @@
-use Rattle.std.proofs.Common.{arith}
-use Rattle.gf_nfg.proofs.lemmas.tables.Places.{payoffs_found, place_below}
+use Rattle.gf_nfg.proofs.Common.{arith, sym, ◌∙◌}
+use Rattle.gf_nfg.proofs.lemmas.tables.Places.{payoffs_found, place_there}
+use Rattle.gf_nfg.proofs.lemmas.tables.Rows.{entries_counted}
 use Rattle.gf_nfg.proofs.table.Table.payoffs.Goals as goal
 
+pub place_of-requires-clause-within : goal.place_of-requires-clause-within
+place_of-requires-clause-within c =
+    let counted = entries_counted _ c.self.invariant.is_table in
+    omega (arith, counted, c.self.invariant.within)
+
 pub row-requires : goal.row-requires
-row-requires c = grind (arith, place_below)
+row-requires c =
+    place_there _ c.self.inside.payoffs c.args.profile.now _ c.self.invariant
+    (sym c.place_of.ensures ∙ c.in-Some.is)
 
 pub returns-in-Some : goal.returns-in-Some
-returns-in-Some c =
-    let found = payoffs_found _ c.self.inside.payoffs c.args.self.now c.args.profile.now
-    c.self.invariant.named.counted c.self.view_is in
-    grind arith
+returns-in-Some c = grind (arith, payoffs_found)
 
 pub returns-in-None : goal.returns-in-None
-returns-in-None c =
-    let found = payoffs_found _ c.self.inside.payoffs c.args.self.now c.args.profile.now
-    c.self.invariant.named.counted c.self.view_is in
-    grind arith
+returns-in-None c = grind (arith, payoffs_found)

@@ -1,9 +1,11 @@
-use Rattle.std.proofs.Common.{arith}
+use Rattle.gf_nfg.proofs.Common.{arith, table_with}
 use Rattle.gf_nfg.proofs.lemmas.tables.Rows.{own_count_within}
 use Rattle.gf_nfg.proofs.table.Table.strategies.Goals as goal
 
 pub overflow_cast-result : goal.overflow_cast-result
 overflow_cast-result c =
-    let h = own_count_within _ _ _ _ c.self.invariant.named c.self.invariant.within
+    let t = c.self.inside in
+    let h = c.self.invariant in
+    let few = own_count_within (table_with t.names t.payoffs) _ _ h.is_table h.within
     c.strategies.ensures in
-    omega (arith, h)
+    omega (arith, few)

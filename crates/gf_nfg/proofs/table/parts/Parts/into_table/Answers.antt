@@ -1,12 +1,21 @@
-use Rattle.gf_nfg.proofs.Common.{◌∙◌, table_with, content_of}
+use Rattle.gf_nfg.proofs.Common.{◌∙◌, length-map, label_of, table_with, content_of}
 use Rattle.gf_nfg.proofs.lemmas.tables.Meaning.{held}
+use Rattle.gf_nfg.proofs.lemmas.tables.Spelled.{spelled_is_spellable}
 use Rattle.gf_nfg.proofs.table.parts.Parts.into_table.Goals as goal
+
+pub names-requires : goal.names-requires
+names-requires c =
+    c.requires.1.complete.one_count_each ∙ length-map c.args.self.heading.players.items label_of
+
+pub rows-requires : goal.rows-requires
+rows-requires c = c.requires.1.complete
 
 pub of_parts-requires : goal.of_parts-requires
 of_parts-requires c =
-    held (content_of c.args.self) c.in_ok-names.names c.in_ok-rows.rows c.in_ok-names.ensures
-    c.in_ok-rows.ensures c.requires.complete c.args.self.heading.profiles.within
-    c.requires.spellable
+    let m = c.requires.1 in
+    held (content_of c.args.self) m.complete c.in_ok-names.names c.in_ok-rows.rows
+    c.in_ok-names.ensures c.in_ok-rows.ensures c.args.self.heading.profiles.within
+    (spelled_is_spellable _ _ m.spelled).1
 
 pub returns : goal.returns
 returns c =
