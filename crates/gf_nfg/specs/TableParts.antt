@@ -35,6 +35,11 @@ pub record IsCut (ends : List ℕ) (bytes : List ℕ) : Type 0 where
   pub rises : RisesTo (length bytes) 0 ends
   pub spelled : AreSpellings (pieces 0 ends bytes)
 
+-- each after a dash
+abbrev pub dashed : List (List ℕ) → List ℕ
+dashed [] = []
+dashed (label ∷ labels) = 45 ∷ (label ++ dashed labels)
+
 -- this many items, then this many of the others, and so on
 abbrev pub groups : {A : Type 0} → List ℕ → List A → List (List A)
 groups [] items = []

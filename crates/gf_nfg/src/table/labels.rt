@@ -6,7 +6,7 @@ ghost use Rattle.std.specs.List.{join_with_byte};
 ghost use Rattle.gf_token.specs.Label.{label_of};
 ghost use Rattle.gf_token.specs.LabelSpelling.{IsLabel};
 ghost use Rattle.gf_nfg.specs.Sentence.{counted_labels};
-ghost use Rattle.gf_nfg.specs.TableParts.{AreSpellings};
+ghost use Rattle.gf_nfg.specs.TableParts.{AreSpellings, dashed};
 ghost use Rattle.gf_nfg.specs.inner.TextParts.{Keeps};
 
 use crate::table::pieces::piece;
@@ -33,20 +33,36 @@ impl Model for Labels {
     ghost invariant = { λ l. IsCut l.ends.items l.bytes.items };
 }
 
+/// Appends labels, each after a `-`.
+#[tactic(auto, using(crate::proofs::lemmas::tables::LabelsJoined::dashed_more))]
+fn write_dashed(parts: &[Label<'_>], bytes: &mut Vec<u8>) -> Result<(), AllocError>
+    ensures text { OnOk result
+        (bytes.new.items ≡ bytes.old.items ++ dashed (map label_of parts.now)) }
+    ensures kept { OnErr result (Keeps bytes.old.items bytes.new.items) }
+{
+    for part in parts {
+        bytes.push(b'-')?;
+        bytes.extend_from_slice(part.raw())?;
+    }
+    Ok(())
+}
+
 /// Appends these labels, joined by `-`.
+#[tactic(auto, using(crate::proofs::lemmas::tables::LabelsJoined::joined_labels))]
 fn write_joined(parts: &[Label<'_>], bytes: &mut Vec<u8>) -> Result<(), AllocError>
     ensures text { OnOk result
         (bytes.new.items ≡ bytes.old.items ++ join_with_byte 45 (map label_of parts.now)) }
     ensures label { OnOk result (IsLabel (join_with_byte 45 (map label_of parts.now))) }
     ensures kept { OnErr result (Keeps bytes.old.items bytes.new.items) }
 {
-    for at in 0..parts.len() {
-        if at > 0 {
-            bytes.push(b'-')?;
+    match parts.split_first() {
+        None => Ok(()),
+        Some((first, others)) => {
+            bytes.extend_from_slice(first.raw())?;
+            write_dashed(others, bytes)?;
+            Ok(())
         }
-        bytes.extend_from_slice(parts[at].raw())?;
     }
-    Ok(())
 }
 
 impl Labels {

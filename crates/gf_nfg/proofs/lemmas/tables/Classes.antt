@@ -80,15 +80,9 @@ pub rows_united : (parents : List ℕ) (a b high low : ℕ) → a < length paren
     → high ≡ max a b → low ≡ min a b → (row : ℕ → List Ratio) → row a ≡ row b
     → ShareRows row parents → ShareRows row (set parents high low)
 rows_united parents a b high low ha hb h l row same rows =
-    rows_hung row parents high low (omega (arith, h, ha, hb)) lower rows
-  where
-    lower : row low ≡ row high
-    lower = elim (cases_lt a b) [
-      | inl lt ↦ let x : low ≡ a = omega arith in let y : high ≡ b = omega arith in
-          ap row x ∙ same ∙ ap row (sym y)
-      | inr le ↦ let x : low ≡ b = omega arith in let y : high ≡ a = omega arith in
-          ap row x ∙ sym same ∙ ap row (sym y)
-    ]
+    let there : high < length parents = omega arith in
+    let lower : row low ≡ row high = grind (arith, cases_lt) in
+    rows_hung row parents high low there lower rows
 
 -- ---- the rows of two tables
 

@@ -6,7 +6,8 @@ use Rattle.gf_nfg.proofs.Common.{AllByRecursion, join_with_byte, and_from, and_p
 use Rattle.gf_nfg.proofs.Common.{take-append-drop, length-drop, length-map, length-take, map_push}
 use Rattle.gf_nfg.proofs.Common.{take_more, get_or_from_slice_get, slice_get_within, all_parts}
 use Rattle.gf_nfg.proofs.Common.{label_of, IsLabel, is_spelling_after, Label, AreSpellings, RisesTo}
-use Rattle.gf_nfg.proofs.Common.{pieces}
+use Rattle.gf_nfg.proofs.Common.{pieces, at_drop_more}
+use Rattle.gf_nfg.specs.TableParts.{dashed}
 use Rattle.gf_nfg.proofs.lemmas.tables.Lists.{sum-cons}
 use Rattle.gf_nfg.proofs.lemmas.tables.Pieces.{rises_within}
 
@@ -45,9 +46,7 @@ behind_dash (y ∷ ys) h = h
 joined_behind : (before : ℕ) (xs ys : List ℕ) → is_spelling_after before xs ≡ true → IsLabel ys
     → is_spelling_after before (xs ++ 45 ∷ ys) ≡ true
 joined_behind before [] ys h l = behind_dash ys l
-joined_behind before (x ∷ xs) ys h l =
-    let parts = and_parts _ (is_spelling_after x xs) h in
-    and_from _ _ parts.0 (joined_behind x xs ys parts.1 l)
+joined_behind before (x ∷ xs) ys h l = grind (arith, and_from, and_parts, joined_behind x xs ys)
 
 -- labels that are joined by a dash make a label
 pub joined_label : (labels : List (List ℕ)) → AreSpellings labels
@@ -55,11 +54,21 @@ pub joined_label : (labels : List (List ℕ)) → AreSpellings labels
 joined_label (x ∷ y ∷ labels) h = grind (arith, joined_behind, joined_label (y ∷ labels) h.1)
 joined_label labels h = grind arith
 
-pub one_joined_more : (labels : List (List ℕ)) (x : List ℕ) → 0 < length labels
-    → join_with_byte 45 (labels ++ x ∷ []) ≡ join_with_byte 45 labels ++ 45 ∷ x
-one_joined_more (y ∷ z ∷ labels) x some =
-    grind (arith, append_assoc, one_joined_more (z ∷ labels) x (omega arith))
-one_joined_more labels x some = grind arith
+-- ---- labels that are joined, from any place on
+
+abbrev pub dashes : List Label → List ℕ
+dashes labels = dashed (map label_of labels)
+
+pub dashed_more : (labels : List Label) (i : ℕ) (d : Label) → i < length labels
+    → dashes (drop i labels) ≡ 45 ∷ (label_of (get_or labels i d) ++ dashes (drop (i + 1) labels))
+dashed_more labels i d h = at_drop_more dashes labels i d h
+
+pub join_dashed : (label : List ℕ) (labels : List (List ℕ))
+    → join_with_byte 45 (label ∷ labels) ≡ label ++ dashed labels
+join_dashed label [] = sym (append-nil label)
+join_dashed label (next ∷ labels) = grind (arith, join_dashed next labels)
+
+pub ruleset joined_labels = (append_assoc, join_dashed, joined_label, labels_spelled)
 
 -- ---- one more label
 
@@ -68,35 +77,5 @@ pub one_taken_at : {A : Type 0} (others : List A) (at : ℕ) (x : A) → slice_g
 one_taken_at others at x found =
     take_more others at x (slice_get_within others at x found)
     ∙ ap (λ y. take at others ++ y ∷ []) (get_or_from_slice_get others at x x found)
-
-one_taken : (labels : List Label) (at : ℕ) (x d : Label) → x ≡ get_or labels at d
-    → at < length labels
-    → map label_of (take (at + 1) labels) ≡ map label_of (take at labels) ++ label_of x ∷ []
-one_taken labels at x d is within =
-    grind (arith, take_more labels, map_push label_of (take at labels) (get_or labels at d), take)
-
-pub first_joined : (old bytes next more : List ℕ) (labels : List Label) (at : ℕ) (x d : Label)
-    → at ≡ 0 → x ≡ get_or labels at d → at < length labels
-    → bytes ≡ old ++ join_with_byte 45 (map label_of (take at labels)) → more ≡ label_of x
-    → next ≡ bytes ++ more → next ≡ old ++ join_with_byte 45 (map label_of (take (at + 1) labels))
-first_joined old bytes next more labels at x d none is within h m e =
-    grind (arith, one_taken, append-nil)
-
-pub more_joined : (old bytes dashed next more : List ℕ) (labels : List Label) (at : ℕ) (x d : Label)
-    → 0 < at → x ≡ get_or labels at d → at < length labels
-    → bytes ≡ old ++ join_with_byte 45 (map label_of (take at labels))
-    → dashed ≡ bytes ++ 45 ∷ [] → more ≡ label_of x → next ≡ dashed ++ more
-    → next ≡ old ++ join_with_byte 45 (map label_of (take (at + 1) labels))
-more_joined old bytes dashed next more labels at x d some is within h dash m e =
-    let before = map label_of (take at labels) in
-    let counted : length before ≡ at = grind (arith, length-map, take, length-take) in
-    grind (
-      arith,
-      append_assoc (old ++ join_with_byte 45 before) (45 ∷ []) (label_of x),
-      append_assoc old (join_with_byte 45 before) (45 ∷ label_of x),
-      one_joined_more before
-          (label_of x) (omega (arith, some, counted)),
-      one_taken labels,
-    )
 
 pub ruleset one_label_more = (append_assoc, one_taken_at)

@@ -1,13 +1,12 @@
 -- Tables that are only compared: what is kept of their payoffs, and that it means the table; and a
 -- file that was told whole is the same as a table exactly if no difference was found.
-use Rattle.gf_nfg.proofs.Common.{◌≡◌, ℕ, ◌<◌, List, [], ◌∷◌, length, map, sym, ap}
-use Rattle.gf_nfg.proofs.Common.{arith, subst, ◌∙◌, mul_comm, Ratio, positions, product, IsTable}
-use Rattle.gf_nfg.proofs.Common.{Table, rows, Names, row_of, table_with, Content, IsComplete}
-use Rattle.gf_nfg.proofs.Common.{names_in, rows_by, table_of, content_in, content_of, content_told}
-use Rattle.gf_nfg.proofs.Common.{HasToldTable, Outcomes, Payoffs, Heading, Bool, true, ◌==◌, ◌++◌}
-use Rattle.gf_nfg.proofs.Common.{append-nil, ◌+◌, Some, drop, slice_get, ◌↔◌, IsTrue, length-map}
-use Rattle.gf_nfg.proofs.Common.{ComparesBody, IsCompared, content_with, SameTable, named_by}
-use Rattle.gf_nfg.proofs.Common.{names_by}
+use Rattle.gf_nfg.proofs.Common.{◌≡◌, ℕ, ◌<◌, List, [], ◌∷◌, length, map, sym, ap, arith, subst}
+use Rattle.gf_nfg.proofs.Common.{◌∙◌, mul_comm, Ratio, positions, product, IsTable, Table, rows}
+use Rattle.gf_nfg.proofs.Common.{Names, row_of, table_with, Content, IsComplete, names_in, rows_by}
+use Rattle.gf_nfg.proofs.Common.{table_of, content_in, content_of, content_told, HasToldTable}
+use Rattle.gf_nfg.proofs.Common.{Outcomes, Payoffs, Heading, Bool, true, ◌==◌, ◌++◌, append-nil}
+use Rattle.gf_nfg.proofs.Common.{◌+◌, Some, drop, slice_get, ◌↔◌, IsTrue, length-map, ComparesBody}
+use Rattle.gf_nfg.proofs.Common.{IsCompared, content_with, SameTable, named_by, names_by}
 use Rattle.gf_nfg.specs.inner.ListedTable.{IsListed, IsListing, listed}
 use Rattle.gf_nfg.specs.declared.table.listed.Body.{Body}
 use Rattle.gf_nfg.specs.declared.table.listed.Body.TheVariants.{InTurn}

@@ -1,11 +1,10 @@
 -- A table that is made from labels and fractions.
 use Rattle.gf_nfg.proofs.Common.{◌≡◌, ℕ, ◌*◌, ◌/◌, ◌<◌, ◌≤◌, List, [], ◌∷◌, length, map, refl, sym}
 use Rattle.gf_nfg.proofs.Common.{ap, ◌∙◌, arith, Option, SomeIff, Vec, unwrap_or, vec_len}
-use Rattle.gf_nfg.proofs.Common.{AllByRecursion, AllZip, length-map, label_of, Label}
-use Rattle.gf_nfg.proofs.Common.{Ratio, IsFraction, all_both, all_joined, all_lists, profile_limit}
-use Rattle.gf_nfg.proofs.Common.{positions, product, IsTableOf, AreParts}
-use Rattle.gf_nfg.proofs.Common.{numbers_of, HasRows, AreSpellings, IsHeld, IsTable, Names, rows}
-use Rattle.gf_nfg.proofs.Common.{row_of, table_with}
+use Rattle.gf_nfg.proofs.Common.{AllByRecursion, AllZip, length-map, label_of, Label, Ratio}
+use Rattle.gf_nfg.proofs.Common.{IsFraction, all_both, all_joined, all_lists, profile_limit}
+use Rattle.gf_nfg.proofs.Common.{positions, product, IsTableOf, AreParts, numbers_of, HasRows}
+use Rattle.gf_nfg.proofs.Common.{AreSpellings, IsHeld, IsTable, Names, rows, row_of, table_with}
 use Rattle.gf_nfg.proofs.lemmas.tables.LabelsJoined.{labels_spelled}
 use Rattle.gf_nfg.proofs.lemmas.tables.Lists.{joined}
 use Rattle.gf_nfg.proofs.lemmas.tables.NumbersInTurn.{length-numbers_from}

@@ -5,7 +5,7 @@ use Rattle.gf_nfg.proofs.Common.{mul_comm, mul-le-mul_right, length-map, Ratio, 
 use Rattle.gf_nfg.proofs.Common.{positions, product, profile_limit, IsWithinLimit, IsSpellable}
 use Rattle.gf_nfg.proofs.Common.{IsTable, rows, Names, groups, numbers_of, row_of, IsHeld, HasRows}
 use Rattle.gf_nfg.proofs.Common.{Content, names_in, strategies_of, rows_by, table_of, HasPayoffs}
-use Rattle.gf_nfg.proofs.Common.{HasLabels, IsComplete, drop_at, take_at}
+use Rattle.gf_nfg.proofs.Common.{HasLabels, IsComplete, drop_at, take_at, all_weaker}
 use Rattle.gf_nfg.proofs.lemmas.tables.Lists.{joined, sum-cons, counts_back, groups-joined}
 use Rattle.gf_nfg.proofs.lemmas.tables.Rows as kept
 
@@ -51,20 +51,15 @@ pub rows_again : (players : ℕ) (rs : List (List Ratio))
 rows_again players rs h =
     kept.rows_numbered players (length rs) (joined rs) ∙ rows_of-joined players rs h
 
-choices_within : (players outcomes : ℕ) (choices : List ℕ) (payoffs : List Ratio)
-    → length payoffs ≡ players * outcomes → AllByRecursion (λ k. k ≤ outcomes) choices
-    → AllByRecursion (λ k. k * players ≤ length payoffs) choices
-choices_within players outcomes [] payoffs e h = tt
-choices_within players outcomes (k ∷ choices) payoffs e h =
-    grind (arith, mul-le-mul_right, mul_comm, choices_within players outcomes choices payoffs e h.1)
-
 pub has_rows : (c : Content) (choices : List ℕ) → HasPayoffs c choices
     → HasRows (length c.players) c.profiles c.payoffs (numbers_of c.profiles choices)
 has_rows c [] h = kept.positions_have_rows (length c.players) c.profiles c.payoffs
     (h ∙ mul_comm (length c.players) c.profiles)
 has_rows c (k ∷ choices) h = record {
   one_number_each = h.2;
-  rows_kept = choices_within (length c.players) h.0 (k ∷ choices) c.payoffs h.1 h.3;
+  rows_kept = all_weaker (λ n. n ≤ h.0) (λ n. n * length c.players ≤ length c.payoffs)
+      (λ n less. grind (arith, mul-le-mul_right (length c.players) less, mul_comm)) (k ∷ choices)
+      h.3;
 }
 
 -- ---- the table

@@ -38,12 +38,14 @@ places_all count counts (others ∷ tails) k e =
 length-firsts : (count : ℕ) (tails : List (List ℕ))
     → length (flat_map (firsts count) tails) ≡ count * length tails
 length-firsts count [] = omega arith
-length-firsts count (others ∷ tails) =
-    let first = length-map (positions count) (λ (s : ℕ). s ∷ others) in
-    let size = length-numbers_from 1 count in
-    let rest = length-firsts count tails in
-    let both = length-append (firsts count others) (flat_map (firsts count) tails) in
-    omega (arith, first, size, rest, both, mul-suc count (length tails))
+length-firsts count (others ∷ tails) = grind (
+  arith,
+  length-map,
+  length-numbers_from,
+  length-append,
+  mul-suc,
+  length-firsts count tails,
+)
 
 pub length-profiles : (counts : List ℕ) → length (profiles counts) ≡ product counts
 length-profiles [] = refl

@@ -8,7 +8,8 @@ use Rattle.gf_nfg.proofs.Common.{mul-div_cancel, mul-le-mul_left, mul-le-mul_rig
 use Rattle.gf_nfg.proofs.Common.{Ratio, whole, all_at, all_images, profile_limit, numbers_from}
 use Rattle.gf_nfg.proofs.Common.{positions, product, profiles, Entry, Table, IsTable, rows, Names}
 use Rattle.gf_nfg.proofs.Common.{entries_of, kept_row, table_with, row_of, numbers_of, HasRows}
-use Rattle.gf_nfg.proofs.Common.{IsWithinLimit, slice_get-get_or, AreShared, le-div_iff_mul-le}
+use Rattle.gf_nfg.proofs.Common.{IsWithinLimit, slice_get-get_or, AreShared, all_weaker}
+use Rattle.gf_nfg.proofs.Common.{le-div_iff_mul-le}
 use Rattle.gf_nfg.proofs.lemmas.tables.Profiles.{length-profiles}
 use Rattle.gf_nfg.proofs.lemmas.tables.Lists.{product_above_zero}
 use Rattle.gf_nfg.proofs.lemmas.tables.NumbersInTurn.{length-numbers_from}
@@ -167,13 +168,6 @@ module _ (players count : ℕ) (payoffs zeros : List Ratio) (choices : List ℕ)
 
 -- ---- rows that profiles share
 
-rows_below : (players size : ℕ) (numbers : List ℕ) → 0 < players
-    → AllByRecursion (λ number. number * players ≤ size) numbers
-    → AllByRecursion (λ number. number < size / players + 1) numbers
-rows_below players size [] some h = tt
-rows_below players size (number ∷ numbers) some h =
-    grind (arith, le-div_iff_mul-le, rows_below players size numbers some h.1)
-
 pub are_shared : (players count : ℕ) (payoffs zeros : List Ratio) (choices : List ℕ)
     (rs : List (List Ratio)) → HasRows players count payoffs (numbers_of count choices)
     → map (kept_row players payoffs zeros) (numbers_of count choices) ≡ rs → 0 < players
@@ -182,7 +176,10 @@ pub are_shared : (players count : ℕ) (payoffs zeros : List Ratio) (choices : L
 are_shared players count payoffs zeros [] rs kept view some chosen = absurd (omega (arith, chosen))
 are_shared players count payoffs zeros (k ∷ choices) rs kept view some chosen = record {
   rows_are = sym view;
-  below = rows_below players (length payoffs) (k ∷ choices) some kept.rows_kept;
+  below = all_weaker (λ number. number * players ≤ length payoffs)
+      (λ number. number < length payoffs / players + 1)
+      (λ number fits. let most = (le-div_iff_mul-le some).1 fits in omega (arith, most))
+      (k ∷ choices) kept.rows_kept;
   kept = λ number less. (le-div_iff_mul-le some).0 (omega (arith, less));
 }
 

@@ -6,36 +6,27 @@ use Rattle.gf_nfg.proofs.Common.{rows, Names, SamePlay, SameTable}
 use Rattle.gf_nfg.proofs.lemmas.tables.Agreement as agrees
 use Rattle.gf_nfg.proofs.lemmas.tables.Profiles.{profiles_distinct}
 
+profile_at : (counts : List ℕ) (xs : List Entry) (i : ℕ) (d : Entry)
+    → map (λ e. e.profile) xs ≡ profiles counts → i < length xs
+    → (i < length (profiles counts)) × (get_or (profiles counts) i [] ≡ (get_or xs i d).profile)
+profile_at counts xs i d r h =
+    grind (arith, length-map, get_or-map (λ (e : Entry). e.profile) xs i d [] h)
+
 -- an entry for each profile, and each of the entries among the others: the same entries
 same_entries : (counts : List ℕ) (es fs : List Entry) → map (λ e. e.profile) es ≡ profiles counts
     → map (λ e. e.profile) fs ≡ profiles counts → ((e : Entry) → Contains es e → Contains fs e)
     → es ≡ fs
-same_entries counts es fs p q pays = same_lists es fs sizes same
+same_entries counts es fs p q pays = same_lists es fs (grind (arith, length-map)) same
   where
-    size : (xs : List Entry) → map (λ e. e.profile) xs ≡ profiles counts
-        → length xs ≡ length (profiles counts)
-    size xs r = sym (length-map xs (λ e. e.profile)) ∙ ap length r
-
-    sizes : length es ≡ length fs
-    sizes = size es p ∙ sym (size fs q)
-
-    profile_at : (xs : List Entry) (i : ℕ) (d : Entry) → map (λ e. e.profile) xs ≡ profiles counts
-        → i < length xs → get_or (profiles counts) i [] ≡ (get_or xs i d).profile
-    profile_at xs i d r h =
-        ap (λ ps. get_or ps i []) (sym r) ∙ get_or-map (λ (e : Entry). e.profile) xs i d [] h
-
     same : (k : ℕ) (d : Entry) → k < length es → get_or es k d ≡ get_or fs k d
     same k d h =
         let e = get_or es k d in
         let c = pays e (k, h, get_or_default es k e d h) in
-        let profile : get_or (profiles counts) k [] ≡ get_or (profiles counts) c.0 [] =
-        profile_at es k d p h
-        ∙ ap (λ (x : Entry). x.profile) (sym c.2)
-        ∙ sym (profile_at fs c.0 e q c.1) in
-        let in_es : k < length (profiles counts) = omega (arith, h, size es p) in
-        let in_fs : c.0 < length (profiles counts) = omega (arith, c.1, size fs q) in
-        let place : k ≡ c.0 = profiles_distinct counts k c.0 [] in_es in_fs profile in
-        sym c.2 ∙ get_or_default fs c.0 e d c.1 ∙ ap (λ (i : ℕ). get_or fs i d) (sym place)
+        let here = profile_at counts es k d p h in
+        let there = profile_at counts fs c.0 e q c.1 in
+        let place : k ≡ c.0 = profiles_distinct counts k c.0 [] here.0 there.0
+        (here.1 ∙ ap (λ (x : Entry). x.profile) (sym c.2) ∙ sym there.1) in
+        cc (get_or_default fs c.0 e d c.1, c.2)
 
 -- each table pays what the other does: the same entries
 same_payoffs : (t u : Table) → IsTable t → IsTable u → SamePlay t u → t.entries ≡ u.entries

@@ -1,7 +1,6 @@
 -- What was told of a file, and was kept or written, means its table.
-use Rattle.gf_nfg.proofs.Common.{◌≡◌, ℕ, List, subst}
-use Rattle.gf_nfg.proofs.Common.{content_of, content_told, Told, HasToldTable, Heading}
-use Rattle.gf_nfg.proofs.Common.{arith}
+use Rattle.gf_nfg.proofs.Common.{◌≡◌, ℕ, List, subst, content_of, content_told, Told, HasToldTable}
+use Rattle.gf_nfg.proofs.Common.{Heading, arith}
 pub use Rattle.gf_nfg.specs.inner.ToldTable.{MeansTable}
 use Rattle.gf_nfg.specs.declared.reader.receive.Kept.{Kept}
 use Rattle.gf_nfg.proofs.lemmas.tables.Meaning.{within_limit}
