@@ -1,6 +1,6 @@
 -- Places in classes that are merged, and the rows at them.
 use Rattle.gf_nfg.proofs.Common.{◌≡◌, ◌≢◌, ℕ, ◌+◌, ◌-◌, ◌<◌, ◌≤◌, List, length, get_or, set, take}
-use Rattle.gf_nfg.proofs.Common.{Some, slice_get, refl, sym, ap, ◌∙◌, arith, inl, inr}
+use Rattle.gf_nfg.proofs.Common.{Some, slice_get, refl, ◌∙◌, arith}
 use Rattle.gf_nfg.proofs.Common.{if◌then◌else◌, max, min, nat_lt, range_with_len, cases_eq}
 use Rattle.gf_nfg.proofs.Common.{cases_lt, lt-ltb, get_or-set_at, get_or_default_zero}
 use Rattle.gf_nfg.proofs.Common.{get_or-set_other, get_or_past, length-set, slice_get-get_or}
@@ -51,15 +51,14 @@ pub way_on : (begin parents : List ℕ) (place at parent above : ℕ)
     → above ≡ get_or parents parent above → IsOnWay begin (set parents at above) place above
 way_on begin parents place at parent above way first second =
     let below = parent_at parents at parent way.back way.there first in
-    let parent_there : parent < length parents = omega (arith, below.1, way.there) in
-    let nearer = parent_at parents parent above way.back parent_there second in
+    let there : parent < length parents = omega (arith, below.1, way.there) in
+    let nearer = parent_at parents parent above way.back there second in
     let size = length-set parents at above in
-    let above_at : above ≤ at = omega (arith, below.1, nearer.1) in
     let same : (row : ℕ → List Ratio) → ShareRows row parents → row above ≡ row at = grind arith in
     record {
-      back = back_hung parents at above way.there above_at way.back;
+      back = back_hung parents at above way.there (omega (arith, below.1, nearer.1)) way.back;
       places = size ∙ way.places;
-      there = omega (arith, size, above_at, way.there);
+      there = omega (arith, size, below.1, nearer.1, way.there);
       rows = λ row rows.
           let known = way.rows row rows in (
             rows_hung row parents at above way.there (same row known.0) known.0,

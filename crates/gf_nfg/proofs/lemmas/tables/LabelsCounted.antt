@@ -9,9 +9,7 @@ digits_label : (before : ℕ) (bytes : List ℕ) → (before == 92) ≡ false �
     → is_spelling_after before bytes ≡ true
 digits_label before [] e h = rw e refl
 digits_label before (b ∷ bytes) e h =
-    let no_quote : (b == 34) ≡ false = let d = h.0 in grind (arith, nat_tests) in
-    let no_backslash : (b == 92) ≡ false = let d = h.0 in grind (arith, nat_tests) in
-    rw no_quote (digits_label b bytes no_backslash h.1)
+    let digit = h.0 in grind (arith, nat_tests, digits_label b bytes)
 
 -- a number is the spelling of a label
 pub decimal_label : (n : ℕ) → n < 10 ^ 64 → IsLabel (decimal n)

@@ -4,14 +4,13 @@ use Rattle.gf_nfg.proofs.Common.{◌≡◌, ℕ, ◌<◌, List, [], ◌∷◌, l
 use Rattle.gf_nfg.proofs.Common.{◌∙◌, mul_comm, Ratio, positions, product, IsTable, Table, rows}
 use Rattle.gf_nfg.proofs.Common.{Names, row_of, table_with, Content, IsComplete, names_in, rows_by}
 use Rattle.gf_nfg.proofs.Common.{table_of, content_in, content_of, content_told, HasToldTable}
-use Rattle.gf_nfg.proofs.Common.{Outcomes, Payoffs, Heading, Bool, true, ◌==◌, ◌++◌, append-nil}
-use Rattle.gf_nfg.proofs.Common.{◌+◌, Some, drop, slice_get, ◌↔◌, IsTrue, length-map, ComparesBody}
-use Rattle.gf_nfg.proofs.Common.{IsCompared, content_with, SameTable, named_by, names_by}
+use Rattle.gf_nfg.proofs.Common.{Payoffs, Heading, Bool, true, ◌==◌, ◌++◌, append-nil}
+use Rattle.gf_nfg.proofs.Common.{◌+◌, Some, drop, slice_get, ◌↔◌, IsTrue, length-map}
+use Rattle.gf_nfg.proofs.Common.{IsCompared, SameTable, named_by, names_by}
 use Rattle.gf_nfg.specs.inner.ListedTable.{IsListed, IsListing, listed}
 use Rattle.gf_nfg.specs.declared.table.listed.Body.{Body}
 use Rattle.gf_nfg.specs.declared.table.listed.Body.TheVariants.{InTurn}
 use Rattle.gf_nfg.specs.declared.table.listed.Listing.{Listing}
-use Rattle.gf_nfg.specs.declared.reader.receive.Version.{Version}
 use Rattle.gf_nfg.specs.declared.comparison.Comparison.{Comparison}
 use Rattle.gf_nfg.proofs.lemmas.tables.Lists.{joined}
 use Rattle.gf_nfg.proofs.lemmas.tables.Meaning.{is_table, profiles_counted, rows-table_of}
@@ -154,15 +153,7 @@ module _ (t : Table) (bytes : List ℕ) (heading : Heading) (c : Comparison)
 
   pub parts_kept : ¬ (c.version ≡ Payoffs)
       → content_told h.told ≡ content_of (record { heading = heading; kept = c.kept })
-  parts_kept not =
-      let x = h.holding in
-      let body = kept h.told.version x.version_is x.compares in
-      (λ i. content_with (h.same i) (sym body i) (sym x.numbers_are i))
-    where
-      kept : (v : Version) → c.version ≡ v → ComparesBody v (joined (rows t)) c h.told
-          → c.kept.payoffs.items ≡ h.told.payoffs
-      kept Payoffs is k = absurd (not is)
-      kept Outcomes is k = k
+  parts_kept not = let x = h.holding in grind arith
 
 -- the row at the next place
 pub next_row : (rs : List (List Ratio)) (row next all : List Ratio) (place : ℕ) → length row ≡ 0

@@ -31,9 +31,8 @@ counts-strategies_of counts labels h = grind (arith, counts_back, length-groups)
 pub strategies_of-joined : (lists : List (List (List ℕ)))
     → AllByRecursion (λ n. 0 < n) (map length lists)
     → strategies_of (map length lists) (joined lists) ≡ lists
-strategies_of-joined [] h = refl
-strategies_of-joined ([] ∷ lists) h = absurd (let some : 0 < 0 = h.0 in omega arith)
 strategies_of-joined ((label ∷ labels) ∷ lists) h = groups-joined ((label ∷ labels) ∷ lists)
+strategies_of-joined lists h = grind arith
 
 -- ---- rows
 

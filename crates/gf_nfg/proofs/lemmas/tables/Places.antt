@@ -27,12 +27,12 @@ found_at : (profile : List ℕ) (ps : List (List ℕ)) (rs : List (List Ratio)) 
     → length ps ≡ length rs → k < length ps → get_or ps k profile ≡ profile
     → ((i : ℕ) → i < k → ¬ (get_or ps i profile ≡ profile))
     → payoffs_at profile (entries_of ps rs) ≡ slice_get rs k
-found_at profile (p ∷ ps) (r ∷ rs) zero e h is first =
-    grind (arith, slice_eq-Decides Decides-eqb p profile (pointwise nat_eq p profile) refl)
 found_at profile (p ∷ ps) (r ∷ rs) (suc k) e h is first =
     let other = first 0 (omega arith) in
     let later = found_at profile ps rs k (omega (arith, e)) (omega (arith, h)) is
     (λ i less. first (suc i) (omega (arith, less))) in
+    grind (arith, slice_eq-Decides Decides-eqb p profile (pointwise nat_eq p profile) refl)
+found_at profile (p ∷ ps) rs k e h is first =
     grind (arith, slice_eq-Decides Decides-eqb p profile (pointwise nat_eq p profile) refl)
 found_at profile ps rs k e h is first = absurd (omega (arith, e, h))
 
@@ -102,13 +102,9 @@ place_below_by n k product o place h h2 h3 = grind arith
 pub place_below : (counts profile : List ℕ) (place : ℕ) → place_of counts profile ≡ Some place
     → place < product counts
 place_below (n ∷ counts) (suc k ∷ ss) place h =
-    elim (cases_Bool (nat_lt k n)) [
-      | inl e ↦
-          let l : k < n = grind (arith, nat_tests, e) in
-          place_below_by n k (product counts) (place_of counts ss) place l
-          (λ m f. place_below counts ss m f) (rw e at h)
-      | inr e ↦ let none : None ≡ Some place = rw e at h in absurd (cc)
-    ]
+    let rest = place_below counts ss in
+    let by = place_below_by n k (product counts) (place_of counts ss) place in
+    grind (arith, cases_Bool, nat_tests)
 place_below counts profile place h = grind arith
 
 pub product_drop : (counts : List ℕ) (at : ℕ) → AllByRecursion (λ n. 0 < n) counts

@@ -26,7 +26,7 @@ places_all : (count : ℕ) (counts : List ℕ) (tails : List (List ℕ)) (k : �
     → map (place counts) tails ≡ numbers_from k (length tails)
     → map (place (count ∷ counts)) (flat_map (firsts count) tails)
     ≡ numbers_from (count * k) (count * length tails)
-places_all count counts [] k e = let z : count * 0 ≡ 0 = omega arith in rw z refl
+places_all count counts [] k e = grind arith
 places_all count counts (others ∷ tails) k e =
     let here : place counts others ≡ k = cc in
     let first = places_first count counts others k count 1 here (omega arith) in
@@ -83,23 +83,16 @@ profiles_distinct counts i j d hi hj e = cc (place_at counts i d hi, place_at co
 
 profile_in : (counts profile : List ℕ) → IsProfile counts profile → IsIn (profiles counts) profile
 profile_in [] [] h = ([], [], refl)
-profile_in [] (s ∷ others) h = absurd h
-profile_in (count ∷ counts) [] h = absurd h
 profile_in (count ∷ counts) (s ∷ others) h =
     let r = profile_in counts others h.1 in
     let n = number_in 1 count s h.0.0 (omega (arith, h.0.1)) in
     let f = λ (i : ℕ). i ∷ others in
-    let g = flat_map (firsts count) in
-    let first : firsts count others ≡ map f n.0 ++ (s ∷ others) ∷ map f n.1 =
-    grind (arith, map-append) in
-    grind (
-      arith,
-      flat_map-append (firsts count) r.0 (others ∷ r.1),
-      append_assoc (map f n.0)
-          ((s ∷ others) ∷ map f n.1) (g r.1),
-      append_assoc (g r.0) (map f n.0)
-          ((s ∷ others) ∷ (map f n.1 ++ g r.1)),
+    let g = flat_map (firsts count) in (
+      g r.0 ++ map f n.0,
+      map f n.1 ++ g r.1,
+      grind (arith, map-append, flat_map-append (firsts count) r.0 (others ∷ r.1), append_assoc),
     )
+profile_in counts profile h = absurd (grind arith)
 
 all_first : (count : ℕ) (counts others : List ℕ)
     → IsProfile counts others → (s n : ℕ) → 1 ≤ s → s + n ≤ count + 1

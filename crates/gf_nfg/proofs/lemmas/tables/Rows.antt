@@ -75,9 +75,7 @@ positions_kept : (players whole first n : ℕ) → (first + n) * players ≤ who
     → AllByRecursion (λ number. number * players ≤ whole) (numbers_from first n)
 positions_kept players whole first zero h = tt
 positions_kept players whole first (suc n) h =
-    let here : (first + 1) * players ≤ (first + suc n) * players = omega arith in
-    let moved : first + 1 + n ≡ first + suc n = omega arith in
-    (omega (arith, here, h), positions_kept players whole (first + 1) n (rw moved h))
+    grind (arith, positions_kept players whole (first + 1) n)
 
 pub positions_have_rows : (players count : ℕ) (payoffs : List Ratio)
     → length payoffs ≡ count * players → HasRows players count payoffs (positions count)
@@ -116,9 +114,7 @@ joined_again : (players n : ℕ) (payoffs : List Ratio) → length payoffs ≡ n
 joined_again players zero [] h = refl
 joined_again players zero (x ∷ payoffs) h = absurd (omega (arith, h))
 joined_again players (suc n) payoffs h =
-    let rest : length (drop players payoffs) ≡ n * players =
-    omega (arith, h, length-drop players payoffs) in
-    cc (joined_again players n (drop players payoffs) rest, take-append-drop players payoffs)
+    grind (arith, length-drop, take-append-drop, joined_again players n (drop players payoffs))
 
 -- rows of the profiles in turn are the payoffs
 pub rows_in_turn : (players count : ℕ) (payoffs : List Ratio) → length payoffs ≡ count * players

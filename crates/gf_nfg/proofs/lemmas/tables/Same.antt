@@ -1,5 +1,5 @@
 -- Tables that are the same are equal.
-use Rattle.gf_nfg.proofs.Common.{◌≡◌, ℕ, ◌<◌, List, [], length, map, get_or, sym, ap, subst, ◌∙◌}
+use Rattle.gf_nfg.proofs.Common.{◌≡◌, ℕ, ◌<◌, List, [], length, map, get_or, sym, ap, ◌∙◌}
 use Rattle.gf_nfg.proofs.Common.{arith, ◌↔◌, Bool, IsTrue, Contains, length-map, get_or-map}
 use Rattle.gf_nfg.proofs.Common.{get_or_default, same_lists, Ratio, profiles, Entry, Table, IsTable}
 use Rattle.gf_nfg.proofs.Common.{rows, Names, SamePlay, SameTable}
@@ -37,24 +37,10 @@ same_payoffs t u ht hu h =
 
 pub same_play_by_rows : (t u : Table) → IsTable t → IsTable u
     → SamePlay t u ↔ ((t.players ≡ u.players) × (t.strategies ≡ u.strategies) × (rows t ≡ rows u))
-same_play_by_rows t u ht hu = (to, from)
-  where
-    to : SamePlay t u → (t.players ≡ u.players) × (t.strategies ≡ u.strategies) × (rows t ≡ rows u)
-    to h = (h.players, h.strategies, ap (map (λ e. e.payoffs)) (same_payoffs t u ht hu h))
-
-    from : (t.players ≡ u.players) × (t.strategies ≡ u.strategies) × (rows t ≡ rows u)
-        → SamePlay t u
-    from h =
-        let same = agrees.same_entries t u ht hu h.1 h.2 in
-        record {
-          players = h.0;
-          strategies = h.1;
-          payoffs = λ profile payoffs. (
-            λ c. subst (λ es. Contains es (record { profile = profile; payoffs = payoffs })) same c,
-            λ c. subst (λ es. Contains es (record { profile = profile; payoffs = payoffs }))
-                (sym same) c,
-          );
-        }
+same_play_by_rows t u ht hu =
+    let entries = agrees.same_entries t u ht hu in
+    let pays = same_payoffs t u ht hu in
+    grind arith
 
 -- a table but for its payoffs
 abbrev pub names_in : Table → Names
@@ -74,25 +60,9 @@ same_play_as_kept t u m n xs ys answer ht hu left right both mine others same =
     grind (arith, same_play_by_rows)
 
 pub same_is_equal : (t u : Table) → IsTable t → IsTable u → SameTable t u ↔ (t ≡ u)
-same_is_equal t u ht hu = (to, from)
-  where
-    to : SameTable t u → t ≡ u
-    to h =
-        let entries = same_payoffs t u ht hu h.play in
-        λ i. record {
-          title = h.title i;
-          comment = h.comment i;
-          players = h.play.players i;
-          strategies = h.play.strategies i;
-          entries = entries i;
-        }
-
-    from : t ≡ u → SameTable t u
-    from e = record {
-      title = ap (λ x. x.title) e;
-      comment = ap (λ x. x.comment) e;
-      play = (same_play_by_rows t u ht hu).1
-          (ap (λ x. x.players) e, ap (λ x. x.strategies) e, ap rows e);
-    }
+same_is_equal t u ht hu =
+    let play = same_play_by_rows t u ht hu in
+    let entries = agrees.same_entries t u ht hu in
+    grind arith
 
 pub ruleset same_tables = (same_is_equal, same_play_by_rows)

@@ -55,15 +55,12 @@ pub next_group : {A B : Type 0} (f : A → B) (all all' : List (List B)) (sizes 
     → AreMade f all' sizes items (i + 1) end
 next_group f all all' sizes items own i size start end h is stop cut m g =
     let left = drop start items in
-    let behind = groups (drop (i + 1) sizes) (map f (drop end items)) in
     let part : end - start ≡ min size (length left) = omega (arith, length-drop start items) in
     let first : map f own ≡ take size (map f left) =
     cc (take_min size left, take-map f size left) in
     let rest : map f (drop end items) ≡ drop size (map f left) =
     grind (arith, drop-drop, drop_min, drop-map) in
-    let now : groups (drop i sizes) (map f left) ≡ map f own ∷ behind =
-    grind (arith, drop_more, drop) in
-    grind (arith, append_assoc, map)
+    grind (arith, append_assoc, drop_more, map, drop)
 
 -- ---- one of the lists
 
@@ -109,21 +106,16 @@ pub label_at : {labels : List (List ℕ)} {lists : List (List (List ℕ))} {at k
     → IsLabelAt labels lists at k end (start + k)
 label_at {labels} {lists} {at} {k} {start} {end} s h =
     let own = take (end - start) (drop start labels) in
-    let size = length-own labels start end s.ordered s.within in
     let some : k < length own = rw s.is at h in
-    let inside : start + k < length labels = omega (arith, some, size, s.within) in
-    record {
-      before = omega (arith, some, size);
-      within = inside;
-      is = cc (
-        slice_get-get_or own k [] some,
-        get_or-take (end - start) (drop start labels) k []
-            (omega (arith, some, size)),
-        get_or-drop start labels k [],
-        slice_get-get_or labels
-            (start + k) [] inside,
-      );
-    }
+    grind (
+      arith,
+      slice_get-get_or own k [],
+      get_or-take (end - start) (drop start labels) k [],
+      get_or-drop start labels k [],
+      slice_get-get_or labels (start + k) [],
+      length-take,
+      length-drop,
+    )
 
 pub ruleset as_many_lists = (length-strategies_of)
 

@@ -1,5 +1,5 @@
-use Rattle.gf_nfg.proofs.Common.{ap, sym, subst, ◌∙◌, table_of, MeansTable, rules, IfOk}
-use Rattle.gf_nfg.proofs.Common.{IsTrue, SameTable, named_by, ◌↔◌}
+use Rattle.gf_nfg.proofs.Common.{ap, sym, subst, ◌∙◌, table_of, MeansTable, rules, IfOk, IsTrue}
+use Rattle.gf_nfg.proofs.Common.{SameTable, named_by, ◌↔◌}
 use Rattle.gf_nfg.proofs.lemmas.tables.Listed.{parts_kept, told_compared}
 use Rattle.gf_nfg.proofs.lemmas.tables.Told.{told_means}
 use Rattle.gf_nfg.proofs.comparison.Comparison.is_same.Goals as goal
