@@ -2,7 +2,6 @@
 
 mod faults;
 mod forms;
-mod jobs;
 mod library;
 mod runs;
 mod trees;

@@ -4,9 +4,9 @@
 use super::trees::read_tree;
 use gf_form::{EvalFault, are_strategies, expected};
 use gf_fraction::Fraction;
-use std::alloc::{AllocError, Global};
+use gf_tree::Game;
+use std::alloc::Global;
 use std::process::Abort;
-use std::test::Fail;
 
 /// Outcomes at an inner node and at leaves, and a player who never moves.
 const BONUS: &[u8] = b"EFG 2 R \"g\" { \"A\" \"B\" }
@@ -45,36 +45,40 @@ t \"\" 1
 
 const NOBODY: &[u8] = b"EFG 2 R \"\" { } t \"\" 0";
 
+/// An action at each set of each player.
+fn strategies(rt: &impl Abort, alloc: Global, choices: &[&[u32]]) -> Vec<Vec<u32>> {
+    let mut all = Vec::new(alloc);
+    for strategy in choices {
+        let own = Vec::from_slice(alloc, strategy).expect(rt, "no memory for a strategy");
+        all.push(own).expect(rt, "no memory for strategies");
+    }
+    all
+}
+
+/// What the players of a game are paid at these strategies.
+fn paid_in(
+    rt: &impl Abort,
+    alloc: Global,
+    game: &Game<'_>,
+    own: &[Vec<u32>],
+) -> Result<Vec<Fraction>, EvalFault> {
+    assert!(rt; are_strategies(game, own));
+    match expected(alloc, game, own) {
+        Err(EvalFault::Memory) => expected(alloc, game, own),
+        payoffs => payoffs,
+    }
+}
+
 /// What the players of a file are paid at these choices.
 fn paid(
     rt: &impl Abort,
     alloc: Global,
     file: &[u8],
     choices: &[&[u32]],
-) -> Result<Result<Vec<Fraction>, EvalFault>, AllocError> {
+) -> Result<Vec<Fraction>, EvalFault> {
     let game = read_tree(rt, alloc, file);
-    let mut own = Vec::new(alloc);
-    for strategy in choices {
-        own.push(Vec::from_slice(alloc, strategy)?)?;
-    }
-    assert!(rt; are_strategies(&game, &own), "{choices:?}");
-    Ok(match expected(alloc, &game, &own) {
-        Err(EvalFault::Memory) => expected(alloc, &game, &own),
-        payoffs => payoffs,
-    })
-}
-
-/// Fractions by their parts.
-fn fractions(
-    rt: &impl Abort,
-    alloc: Global,
-    parts: &[(i128, u128)],
-) -> Result<Vec<Fraction>, AllocError> {
-    let mut all = Vec::new(alloc);
-    for (num, den) in parts {
-        all.push(Fraction::new(*num, *den).expect(rt, "a fraction"))?;
-    }
-    Ok(all)
+    let own = strategies(rt, alloc, choices);
+    paid_in(rt, alloc, &game, &own)
 }
 
 /// Asserts what the players of a file are paid at these choices.
@@ -83,46 +87,56 @@ fn assert_paid(
     alloc: Global,
     file: &[u8],
     choices: &[&[u32]],
-    parts: &[(i128, u128)],
-) -> Result<(), AllocError> {
-    let payoffs = fractions(rt, alloc, parts)?;
-    assert!(rt;
-        paid(rt, alloc, file, choices)? == Ok(payoffs),
-        "at {choices:?}"
-    );
-    Ok(())
+    wanted: &[Fraction],
+) {
+    let payoffs = paid(rt, alloc, file, choices).expect(rt, "payoffs");
+    assert!(rt; payoffs.as_slice() == wanted);
+}
+
+fn fraction(rt: &impl Abort, num: i128, den: u128) -> Fraction {
+    Fraction::new(num, den).expect(rt, "a fraction")
 }
 
 #[test]
-fn pays_what_the_plays_pay(rt: HostRuntime) -> Result<(), Fail> {
+fn pays_what_the_plays_pay(rt: HostRuntime) {
     let alloc = rt.alloc();
-    assert_paid(&rt, alloc, BONUS, &[&[1], &[]], &[(3, 2), (0, 1)])?;
-    assert_paid(&rt, alloc, BONUS, &[&[2], &[]], &[(2, 1), (1, 2)])?;
-    assert_paid(&rt, alloc, OVERFLOWING, &[&[1, 1]], &[(-1, 1)])?;
-    assert_paid(&rt, alloc, UNLIKELY, &[&[]], &[(1, 1)])?;
-    assert_paid(&rt, alloc, NOBODY, &[], &[])?;
-    Ok(())
+    let (half, one) = (fraction(&rt, 1, 2), Fraction::one());
+    let (two, minus_one) = (Fraction::whole(false, 2), Fraction::whole(true, 1));
+    assert_paid(&rt, alloc, BONUS, &[&[2], &[]], &[two, half]);
+    assert_paid(&rt, alloc, OVERFLOWING, &[&[1, 1]], &[minus_one]);
+    assert_paid(&rt, alloc, UNLIKELY, &[&[]], &[one]);
+    assert_paid(&rt, alloc, NOBODY, &[], &[]);
+}
+
+fn assert_overflow(rt: &impl Abort, alloc: Global, file: &[u8], choices: &[&[u32]]) {
+    assert!(rt; paid(rt, alloc, file, choices) == Err(EvalFault::Overflow));
 }
 
 #[test]
-fn overflows_where_a_value_on_the_way_does(rt: HostRuntime) -> Result<(), Fail> {
-    let at_profile = paid(&rt, rt.alloc(), OVERFLOWING, &[&[2, 1]])?;
-    assert!(rt; at_profile == Err(EvalFault::Overflow));
-    let where_unlikely = paid(&rt, rt.alloc(), UNLIKELY_AND_GREAT, &[&[]])?;
-    assert!(rt; where_unlikely == Err(EvalFault::Overflow));
-    Ok(())
+fn overflows_where_a_value_on_the_way_does(rt: HostRuntime) {
+    assert_overflow(&rt, rt.alloc(), OVERFLOWING, &[&[2, 1]]);
+    assert_overflow(&rt, rt.alloc(), UNLIKELY_AND_GREAT, &[&[]]);
 }
 
-#[test]
-fn evaluates_a_tree_of_any_depth(rt: HostRuntime) -> Result<(), Fail> {
+/// A tree with a single path, on which each of many moves pays.
+fn chain(rt: &impl Abort, alloc: Global, moves: usize) -> Vec<u8> {
     let mut file = Vec::from_slice(
-        rt.alloc(),
+        alloc,
         b"EFG 2 R \"d\" { \"A\" }\np \"\" 1 1 \"i\" { \"L\" } 1 \"x\" { 1/2 }\n",
-    )?;
-    for _ in 1..100_000 {
-        file.extend_from_slice(b"p \"\" 1 1 1\n")?;
+    )
+    .expect(rt, "no memory for the first move");
+    for _ in 1..moves {
+        let longer = file.extend_from_slice(b"p \"\" 1 1 1\n");
+        longer.expect(rt, "no memory for a move");
     }
-    file.extend_from_slice(b"t \"\" 0\n")?;
-    assert_paid(&rt, rt.alloc(), &file, &[&[1]], &[(50_000, 1)])?;
-    Ok(())
+    let whole = file.extend_from_slice(b"t \"\" 0\n");
+    whole.expect(rt, "no memory for the end");
+    file
+}
+
+#[test]
+fn evaluates_a_tree_of_any_depth(rt: HostRuntime) {
+    let file = chain(&rt, rt.alloc(), 100_000);
+    let payoff = Fraction::whole(false, 50_000);
+    assert_paid(&rt, rt.alloc(), &file, &[&[1]], &[payoff]);
 }

