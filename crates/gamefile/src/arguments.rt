@@ -33,21 +33,23 @@ impl<R: Env> Env for BehindName<'_, R> {
     }
 }
 
-fn not_words(alloc: Global, kind: ErrorKind) -> WordsFault {
+/// Why there are no arguments. Those that are not UTF-8 are wrong usage.
+fn no_words(alloc: Global, kind: ErrorKind) -> WordsFault {
     match (kind, String::from_str(alloc, NOT_UTF8)) {
         (ErrorKind::InvalidData, Ok(text)) => WordsFault::Usage(text),
         _ => WordsFault::Memory,
     }
 }
 
-/// What the program was started for. Arguments that are not UTF-8 are wrong usage.
+fn words_given<R: Env>(rt: &R, alloc: Global) -> Result<Vec<String>, WordsFault> {
+    match env::args(&(BehindName { rt }, alloc)) {
+        Ok(words) => Ok(words.collect(alloc)?),
+        Err(error) => Err(no_words(alloc, error.kind())),
+    }
+}
+
+/// What the program was started for.
 pub fn job_asked<R: Env + AllocGlobal>(rt: &R) -> Result<Asked, WordsFault> {
-    let alloc = rt.alloc();
-    let given = env::args(&(BehindName { rt }, alloc)).map_err(|error| not_words(
-        alloc,
-        error.kind(),
-    ))?;
-    let words: Vec<String> = given.collect(alloc)?;
-    let texts: Vec<&str> = words.iter().map(|word| word.as_str()).collect(alloc)?;
-    parse_words(alloc, texts.as_slice())
+    let words = words_given(rt, rt.alloc())?;
+    parse_words(rt.alloc(), words.as_slice())
 }

@@ -11,6 +11,7 @@ use std::io::{IsTerminal, Stdout};
 use std::process::ExitCode;
 
 mod arguments;
+mod commands;
 mod help;
 mod words;
 
