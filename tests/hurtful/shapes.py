@@ -50,17 +50,6 @@ def payoff_that_never_comes(sets, *payoffs):
     return tree.game(relevant=True)
 
 
-def toss_that_never_comes(sets, *payoffs):
-    """After a side that never comes up, a toss for two payoffs."""
-    tree = Tree(1)
-    tree.toss(1, [1, 0])
-    paid_sets(tree, sets)
-    tree.toss(3, ["1/2", "1/2"])
-    for outcome, payoff in enumerate(payoffs, 900):
-        tree.end(outcome, payoff)
-    return tree.game(relevant=True)
-
-
 def many_players(players, width):
     """Many leaves that pay many players."""
     tree = Tree(players)
@@ -392,25 +381,6 @@ def paid_at_the_root(sets, payoff):
     return tree.game(relevant=True)
 
 
-def met_or_not(players, sets):
-    """Chance says of each set whether play comes to it, and each leaf pays all players: there are as many
-    demands as ways to choose or not to choose at each set."""
-    tree, due = Tree(players), [1]
-    tree.pays(1, *[1] * players)
-    while due:
-        step = due.pop()
-        if step == sets + 1:
-            tree.end(1)
-        elif step > 0:
-            tree.toss(1, ["1/2", "1/2"])
-            due += [-step, step + 1]
-        else:
-            tree.move(1, -step)
-            due += [1 - step] * 2
-    # Chance may bring play to each set, whatever is chosen before.
-    return tree.game(relevant=True)
-
-
 def folded(a, b):
     """The step of the kit's fast hasher."""
     product = a * b
@@ -498,16 +468,6 @@ SHAPES = {
         partial(set_behind_a_later_one, 512, 5_000),
         partial(set_behind_a_later_one, 512, 5_000, met=False),
     ),
-}
-
-# The same of shapes that are too slow at full size, which docs/DECISIONS.md lists: at a size that passes.
-KNOWN = {
-    "a toss that never comes": (
-        partial(toss_that_never_comes, 17, LARGEST, -1),
-        partial(toss_that_never_comes, 17, 7, -1),
-    ),
-    "a wide tree": (partial(wide_tree, 500, 8, 20, without=["reduced"]), MOST_ROWS),
-    "many players paid at each demand": (partial(met_or_not, 20, 12), partial(many_players, 20, 300)),
 }
 
 # The same of shapes that have a short way to the strategic form: the twin has to go the long way.
