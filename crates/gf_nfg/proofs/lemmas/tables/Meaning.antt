@@ -6,6 +6,7 @@ use Rattle.gf_nfg.proofs.Common.{positions, product, profile_limit, IsWithinLimi
 use Rattle.gf_nfg.proofs.Common.{IsTable, rows, Names, groups, numbers_of, row_of, IsHeld, HasRows}
 use Rattle.gf_nfg.proofs.Common.{Content, names_in, strategies_of, rows_by, table_of, HasPayoffs}
 use Rattle.gf_nfg.proofs.Common.{HasLabels, IsComplete, drop_at, take_at, all_weaker}
+use Rattle.gf_nfg.proofs.Common.{◌+◌, ◌/◌, AreShared, pos, replicate, whole}
 use Rattle.gf_nfg.proofs.lemmas.tables.Lists.{joined, sum-cons, counts_back, groups-joined}
 use Rattle.gf_nfg.proofs.lemmas.tables.Rows as kept
 
@@ -60,6 +61,17 @@ has_rows c (k ∷ choices) h = record {
       (λ n less. grind (arith, mul-le-mul_right (length c.players) less, mul_comm)) (k ∷ choices)
       h.3;
 }
+
+-- a number of an outcome is read for each profile
+pub outcomes_shared : (c : Content) (players size : ℕ) (zeros : List Ratio) → HasPayoffs c c.choices
+    → length c.players ≡ players → size ≡ length c.payoffs → 0 < players → 0 < length c.choices
+    → zeros ≡ replicate players (whole (pos 0))
+    → AreShared (rows_by c c.choices) c.choices players c.payoffs zeros (size / players + 1)
+outcomes_shared c players size zeros h p s some chosen z =
+    rw (z, s, sym p)
+    (kept.are_shared (length c.players) c.profiles c.payoffs
+    (replicate (length c.players) (whole (pos 0))) c.choices (rows_by c c.choices)
+    (has_rows c c.choices h) refl (omega (arith, p, some)) chosen)
 
 -- ---- the table
 

@@ -85,13 +85,13 @@ lines_chosen row bound (number ∷ numbers) h =
 module _ (rows : List (List Ratio)) (numbers : List ℕ) (players : ℕ) (payoffs zeros : List Ratio)
     (bound : ℕ) (lines : List (List ℕ)) (h : AreShared rows numbers players payoffs zeros bound)
     (are : lines ≡ map (λ n. line_text (kept_row players payoffs zeros n)) (numbers_from 0 bound))
-    where
-  pub numbers_within : AllByRecursion (λ number. number < length lines) numbers
-  numbers_within = subst (λ (n : ℕ). AllByRecursion (λ number. number < n) numbers)
-      (sym (lines_counted (kept_row players payoffs zeros) bound lines are)) h.below
+  where
+    pub numbers_within : AllByRecursion (λ number. number < length lines) numbers
+    numbers_within = subst (λ (n : ℕ). AllByRecursion (λ number. number < n) numbers)
+        (sym (lines_counted (kept_row players payoffs zeros) bound lines are)) h.below
 
-  pub shared_lines : lines_with lines numbers ≡ lines_text (map row_text rows)
-  shared_lines =
-      ap (λ (ls : List (List ℕ)). lines_with ls numbers) are
-      ∙ lines_chosen (kept_row players payoffs zeros) bound numbers h.below
-      ∙ ap (λ (rs : List (List Ratio)). lines_text (map row_text rs)) (sym h.rows_are)
+    pub shared_lines : lines_with lines numbers ≡ lines_text (map row_text rows)
+    shared_lines =
+        ap (λ (ls : List (List ℕ)). lines_with ls numbers) are
+        ∙ lines_chosen (kept_row players payoffs zeros) bound numbers h.below
+        ∙ ap (λ (rs : List (List Ratio)). lines_text (map row_text rs)) (sym h.rows_are)
