@@ -83,7 +83,7 @@ fn push_numbers(
 
 /// Appends these, quickly if they are few.
 #[inline(always)]
-fn push_few<T: Copy>(items: &mut Vec<T>, few: &[T]) -> Result<(), AllocError>
+pub(crate) fn push_few<T: Copy>(items: &mut Vec<T>, few: &[T]) -> Result<(), AllocError>
     ensures { OnOk result (items.new.items ≡ items.old.items ++ few.now) }
 {
     items.reserve(few.len())?;

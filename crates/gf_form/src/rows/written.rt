@@ -21,7 +21,7 @@ use crate::fault::{EvalFault, FormFault};
 use crate::rows::chosen::Chosen;
 use crate::rows::digits::Digit;
 use crate::rows::pairs::Pair;
-use crate::rows::terms::Terms;
+use crate::rows::terms::{Terms, push_few};
 use crate::strategies::counts::Counts;
 use crate::strategies::profile::{no_actions, write_strategies};
 use crate::values::expectation::expected_with;
@@ -193,7 +193,8 @@ impl Written {
         self.push_walked(asked, before)
     }
 
-    /// Appends the rows of these profiles, at each of which the terms come to what is paid.
+    /// Appends the rows of these profiles, at each of which the terms come to what is paid: copies
+    /// of one, which is worked out once.
     fn push_alike(
         &mut self,
         asked: &Asked<'_, '_, '_>,
@@ -212,11 +213,17 @@ impl Written {
             start: all,
             end: all,
         };
-        let pair = terms.pair(alone);
-        for before in run.from..run.to {
-            self.push_row(asked, pair, terms.players, before)?;
+        let _players = asked.game.players();
+        if let Some(pair) = terms.pair(alone) {
+            let mut row = Vec::with_capacity(self.alloc, terms.players)?;
+            if pair.push_to(terms.players, &mut row)? {
+                for before in run.from..run.to {
+                    push_few(&mut self.rows, &row)?;
+                }
+                return Ok(());
+            }
         }
-        Ok(())
+        self.push_all_walked(asked, run.from, run.to)
     }
 
     /// Appends the rows of these profiles, by what the terms come to at the choice for the only

@@ -95,9 +95,6 @@ set_pack actions ds place k h within free = grind arith
 
 -- ---- which choices meet the demands
 
-and_turned : (a b : Bool) → (a && b) ≡ (b && a)
-and_turned a b = grind arith
-
 abbrev pub met : List ℕ → List ℕ → Bool
 met (c ∷ cs) (d ∷ ds) = (d == 0 || d == c) && met cs ds
 met _ _ = true

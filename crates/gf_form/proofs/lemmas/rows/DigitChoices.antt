@@ -10,12 +10,6 @@ use Rattle.gf_form.proofs.lemmas.rows.DigitPlaces.{HasShape, product_joined}
 use Rattle.gf_form.proofs.lemmas.strategies.NumberedProfiles.{numbered}
 use Rattle.gf_form.proofs.lemmas.strategies.StrategiesByNumber.{all_at, choices_next, joined_at}
 
--- ---- places among all choices
-
-pub at_place : (counts choice : List ℕ) → IsChoice counts choice
-    → get_or (all_choices counts) (place counts choice) [] ≡ choice
-at_place counts choice h = (at_its_place counts choice h).1
-
 pub choice_at_number : (counts : List ℕ) (n : ℕ) → n < product counts
     → IsChoice counts (get_or (all_choices counts) n [])
 choice_at_number counts n less = grind (arith, all_at, are_choices, length-all_choices)

@@ -62,10 +62,6 @@ pub values_same : (counts : List ℕ) (i n values whole : ℕ) → i < length co
     → width (drop (i + 1) counts) * values ≡ whole
 values_same counts i n values whole less is none h = grind (arith, width_same, next_is)
 
-pub all_values : (counts : List ℕ) (i values whole : ℕ) → length counts ≤ i
-    → width (drop i counts) * values ≡ whole → values ≡ whole
-all_values counts i values whole past h = grind (arith, none_left)
-
 -- ---- steps
 
 -- the step of the sets so far, and of those to come

@@ -11,7 +11,8 @@ use Rattle.gf_form.proofs.Common.{AreExactAt, Entry, IsScale, entries, entries_o
 use Rattle.gf_form.proofs.Common.{heads_of, lowered, part, size_of_entries, sum_of_entries}
 use Rattle.gf_form.proofs.Common.{HasPairRow, IsPaidPair, pair_number, actions_at, SettleRows}
 use Rattle.gf_form.proofs.Common.{Settles, SettlesAt, at_place, value, Chosen, Digit, Scale, Scaled}
-use Rattle.gf_form.proofs.Common.{Terms, Asked, Run}
+use Rattle.gf_form.proofs.Common.{Terms, Asked, Run, AreWritten, asked_profiles, sym}
+use Rattle.gf_form.specs.declared.rows.written.Written.{Written}
 use Rattle.std.proofs.lemmas.List.{append_assoc}
 use Rattle.gf_form.specs.inner.rows.Pairs.{ComeToOne, ComeToPair, IsOnly, entry_of}
 use Rattle.gf_form.specs.inner.rows.SettledRows.{PaysOver, SettleAlike}
@@ -21,6 +22,8 @@ use Rattle.gf_form.proofs.lemmas.rows.DemandDigits.{spans_above}
 use Rattle.gf_form.proofs.lemmas.rows.FlatRows.{terms_count}
 use Rattle.gf_form.proofs.lemmas.rows.MergedEntries.{first_parts}
 use Rattle.gf_form.proofs.lemmas.rows.Merges.{part_next, part_past, ranges}
+use Rattle.gf_form.proofs.lemmas.rows.RowsMade.{all_more, one_row_more}
+use Rattle.gf_form.proofs.lemmas.strategies.PickedProfiles.{numbered_at}
 use Rattle.gf_form.proofs.lemmas.strategies.StrategiesByNumber.{choices_row}
 use Rattle.gf_form.proofs.lemmas.values.PayoffsGiven.{are_payoffs, have_values}
 use Rattle.gf_form.proofs.lemmas.values.RowSums.{fraction_at}
@@ -129,6 +132,29 @@ row_settled g game spellable number players profile pair old new is all paid mor
         → value g (choices_by g (strategies_at g (get_or (full_profiles g) number []))) (suc k)
         g.tree ≡ Some (at_place more.row k)
     values k less = grind (arith, one_fraction, fraction_at)
+
+-- the next row is what the pair comes to
+pub next_row : (asked : Asked) → IsGame asked.game.now → IsSpellable asked.game.now
+    → (before players : ℕ) (pair : Pair) (written after : Written) (old new : List Ratio)
+    → before < length asked.numbers.now → players ≡ length asked.game.now.players
+    → IsPaidPair asked.game.now (get_or asked.numbers.now before 0) pair
+    → (more : HasPairRow pair players old new)
+    → after.rows.items ≡ written.rows.items ++ more.row
+    → after.strategies ≡ written.strategies
+    → AreWritten asked before written → AreWritten asked (before + 1) after
+next_row asked game spellable before players pair written after old new within all paid more is same
+    done =
+    let g = asked.game.now in
+    let profiles = asked_profiles asked in
+    let at = numbered_at g asked.numbers.now before within in
+    let right = row_settled g game spellable (get_or asked.numbers.now before 0) players
+    (get_or profiles before []) pair old new (sym at.1) all paid more in
+    record {
+      rows = one_row_more (ArePayoffsAt g) profiles before written.rows.items after.rows.items
+          more.row at.0 done.rows right.0 is;
+      values = all_more (HasValues g) profiles before [] at.0 done.values right.1;
+      as_long = ap (λ (own : _). length own.items) same ∙ done.as_long;
+    }
 
 -- ---- while a row is pushed
 

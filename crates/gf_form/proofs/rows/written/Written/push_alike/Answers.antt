@@ -1,15 +1,25 @@
-use Rattle.gf_form.proofs.Common.{arith, get_or}
-use Rattle.gf_form.proofs.lemmas.rows.PairRows.{paid_alike, some_weaker}
+use Rattle.gf_form.proofs.Common.{◌≡◌, ◌++◌, ◌∙◌, List, ap, arith, get_or, refl, Ratio}
+use Rattle.gf_form.proofs.lemmas.rows.PairRows.{next_row, paid_alike}
 use Rattle.gf_form.proofs.rows.written.Written.push_alike.Goals as goal
 
-pub push_row-requires-clause-paid : goal.push_row-requires-clause-paid
-push_row-requires-clause-paid c =
+pub loop-before-preserved : goal.loop-before-preserved
+loop-before-preserved c =
     let asked = c.args.asked.now in
     let before = c.loop-before.before in
     let t = c.args.terms.now in
-    some_weaker c.pair-pair.result _ _
-    (λ pair come. paid_alike asked.game.now t (get_or asked.numbers.now before 0) pair
-    (c.requires.settles before (omega (arith, c.loop-before.auto.before))
-    (omega (arith, c.loop-before-test.true)))
-    (come (omega (arith, c.len-all.ensures, t.demands.ok.0)) (omega arith)))
-    c.pair-pair.ensures.all
+    let less = c.loop-before-test.true in
+    let more = c.in_ok-push_to.ensures.row c.if-branch.true in
+    let row : c.push_to.new.rows.items ≡ more.row =
+    more.is ∙ ap (λ (old : List Ratio). old ++ more.row) c.in_ok-row.ensures.items in
+    next_row asked c.players-players.ensures.is_game c.players-players.ensures.spellable before
+    t.players c.in-Some.pair c.loop-before.self
+    (record c.loop-before.self { rows = c.push_few.new.items }) c.in_ok-row.row.items
+    c.push_to.new.rows.items (omega (arith, less, c.requires.due.2)) c.requires.terms.2
+    (paid_alike asked.game.now t (get_or asked.numbers.now before 0) c.in-Some.pair
+    (c.requires.settles before (omega (arith, c.loop-before.auto.before)) (omega (arith, less)))
+    (c.in-Some.ensures.all (omega (arith, c.len-all.ensures, t.demands.ok.0)) (omega arith)))
+    more
+    (c.in_ok-push_few.ensures
+    ∙ ap (λ (xs : List Ratio). c.loop-before.self.rows.items ++ xs)
+    (c.deref.ensures.value ∙ row))
+    refl c.loop-before.invariant
