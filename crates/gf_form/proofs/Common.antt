@@ -63,7 +63,7 @@ pub use Rattle.gf_form.specs.inner.rows.Entries.{IsExactAt, AreExactAt, AreMerge
 pub use Rattle.gf_form.specs.inner.rows.Entries.{sum_of_entries, AreAlike, AreChosen, part}
 pub use Rattle.gf_form.specs.inner.rows.GameDigits.{HasDigits, digit_actions, actions_at}
 pub use Rattle.gf_form.specs.inner.rows.KeptNodes.{paid_reached, is_paid}
-pub use Rattle.gf_form.specs.inner.rows.ListedNodes.{AreTermsOf, HasShare, IsTermOf}
+pub use Rattle.gf_form.specs.inner.rows.ListedNodes.{AreTermsOf}
 pub use Rattle.gf_form.specs.inner.rows.Pairs.{HasPairRow, IsPaidPair, pair_number}
 pub use Rattle.gf_form.specs.inner.rows.PathsLeft.{steps_of_paths, nodes_left}
 pub use Rattle.gf_form.specs.inner.rows.ProfileRows.{AreRowsAt}

@@ -6,7 +6,7 @@ pub mod FlatRows
 pub mod GameDigits
 pub mod GameRows
 pub mod IdlePaths
-pub mod JoinedTerms
+pub mod ItemRows
 pub mod KeptShares
 pub mod ListedEntries
 pub mod MergedEntries

@@ -3,6 +3,7 @@ pub mod DigitSteps
 pub mod Entries
 pub mod FitsTable
 pub mod GameDigits
+pub mod ItemRows
 pub mod KeptNodes
 pub mod ListedNodes
 pub mod Pairs

@@ -1,14 +1,14 @@
 //! The terms of the nodes that choices can reach.
 
-ghost use Rattle.std.specs.Prelude.{◌≡◌, ◌<◌, ◌≤◌, ℕ, IfOk, IsTrue, List, OnOk, length};
+ghost use Rattle.std.specs.Prelude.{◌≡◌, ◌<◌, ◌≤◌, ℕ, IfOk, IfSome, IsTrue, OnOk, get_or, length};
 ghost use Rattle.std.specs.Prelude.{map};
-ghost use Rattle.std.specs.Int.{◌∣◌};
+ghost use Rattle.gf_fraction.specs.Ratio.{IsWithin};
 ghost use Rattle.std.specs.List.Sorted.{IsNonDecreasingBy};
 ghost use Rattle.gf_tree.specs.Game.{Game};
-ghost use Rattle.gf_form.specs.inner.rows.Entries.{AreOrdered, EndsBelow, IsShaped, entries};
+ghost use Rattle.gf_form.specs.inner.rows.Entries.{AreOrdered, IsShaped, entries};
 ghost use Rattle.gf_form.specs.inner.rows.Entries.{heads};
 ghost use Rattle.gf_form.specs.inner.rows.KeptNodes.{paid_reached};
-ghost use Rattle.gf_form.specs.inner.rows.ListedNodes.{AreTermsOf, IsTermMore};
+ghost use Rattle.gf_form.specs.inner.rows.ListedNodes.{AreTermsOf, HasShares, IsTermMore};
 ghost use Rattle.gf_form.specs.inner.values.PaidRows.{rows_of};
 ghost use Rattle.gf_form.specs.inner.rows.Paying.{FitOver};
 ghost use Rattle.gf_form.specs.inner.values.Rows.{ArePaid};
@@ -17,9 +17,9 @@ ghost use Rattle.gf_form.specs.declared.rows.paths.Reached.{Reached};
 
 use crate::rows::digits::Digits;
 use crate::rows::paths::{Path, Reached};
-use crate::rows::share::{payoff_at, share_of};
+use crate::rows::share::{Share, payoff_at, share_of};
 use crate::rows::shares::paid_sums;
-use crate::rows::sums::multiple;
+use crate::rows::sums::{combined, factor, multiple};
 use crate::rows::terms::{Head, Terms};
 use crate::values::payoffs::Payoffs;
 use gf_fraction::Fraction;
@@ -31,9 +31,7 @@ const LARGEST: u128 = i128::MAX as u128;
 
 /// A multiple of a denominator: this one, if it is a multiple, and otherwise the denominator
 /// itself.
-fn served(den: u128, common: u128) -> u128
-    ensures { den ∣ result }
-{
+fn served(den: u128, common: u128) -> u128 {
     if den == 0 || den == common || common % den != 0 {
         return den;
     }
@@ -42,9 +40,7 @@ fn served(den: u128, common: u128) -> u128
 
 /// A denominator that serves what a path adds to each of these payoffs: this one, if it does, and
 /// otherwise the least that does; 0 if that is too large.
-fn denominator(path: Path, row: &[Fraction], common: u128) -> u128
-    ensures { path.den ∣ result }
-{
+fn denominator(path: Path, row: &[Fraction], common: u128) -> u128 {
     let mut least = 1;
     for payoff in row {
         if payoff.den() != least {
@@ -60,9 +56,9 @@ fn denominator(path: Path, row: &[Fraction], common: u128) -> u128
     }
 }
 
-/// A denominator that serves all of these nodes; `None` if it is too large.
-fn common_denominator(nodes: &[Reached], payoffs: &Payoffs<'_>) -> Option<u128> {
-    let mut common = 1;
+/// A denominator that serves all of these nodes: this one, if it does; `None` if it is too large.
+fn common_denominator(nodes: &[Reached], payoffs: &Payoffs<'_>, start: u128) -> Option<u128> {
+    let mut common = start;
     for node in nodes {
         let own = denominator(node.path, payoffs.at(node.outcome), common);
         if own != common {
@@ -72,67 +68,76 @@ fn common_denominator(nodes: &[Reached], payoffs: &Payoffs<'_>) -> Option<u128> 
     Some(common)
 }
 
-/// Appends the term of a node, over this denominator if it serves.
-fn push_node(
+/// What nodes add together to the payoff of the player at this place, from 0, over a denominator;
+/// `None` if that is not a whole number, or is too large.
+fn shares_of(nodes: &[Reached], payoffs: &Payoffs<'_>, place: usize, den: u128) -> Option<Share>
+    ensures shares { IfSome result (λ sum. (g : Game) → ArePaid g (rows_of payoffs.now)
+        → HasShares g nodes.now place den sum.bound sum.amount) }
+    ensures within { IfSome result (λ sum. IsWithin sum.amount) }
+{
+    let mut sum = Share {
+        amount: 0,
+        bound: 0,
+    };
+    for node in nodes {
+        let times = factor(den, node.path.den)?;
+        let payoff = payoff_at(payoffs, node.outcome, place);
+        let share = share_of(node.path, payoff, times)?;
+        let amount = combined(sum.amount, 1, share.amount, 1)?;
+        let bound = sum.bound.checked_add(share.bound)?;
+        sum = Share { amount, bound };
+    }
+    Some(sum)
+}
+
+/// Appends the term of nodes that have these demands, over this denominator if it serves.
+fn push_nodes(
     terms: &mut Terms,
-    node: Reached,
+    demands: u64,
+    nodes: &[Reached],
     payoffs: &Payoffs<'_>,
     common: u128,
 ) -> Result<(), AllocError>
     requires { IsShaped terms.old }
-    ensures term { OnOk result (IsTermMore (rows_of payoffs.now) node terms.old terms.new) }
+    ensures term { OnOk result
+        (IsTermMore (rows_of payoffs.now) demands nodes.now terms.old terms.new) }
     ensures shaped { OnOk result (IsShaped terms.new) }
     ensures players { terms.new.players ≡ terms.old.players }
 {
-    let den = denominator(node.path, payoffs.at(node.outcome), common);
-    let times = if den == 0 { 0 } else { den / node.path.den };
+    let den = common_denominator(nodes, payoffs, common).unwrap_or(0);
     let mut fits = true;
     let mut size: u128 = 0;
     for place in 0..terms.players {
-        let payoff = payoff_at(payoffs, node.outcome, place);
-        if let Some(share) = share_of(node.path, payoff, times) {
-            size = size.max(share.bound);
-            terms.numbers.push(share.amount)?;
+        if let Some(sum) = shares_of(nodes, payoffs, place, den) {
+            size = size.max(sum.bound);
+            terms.numbers.push(sum.amount)?;
         } else {
             fits = false;
             terms.numbers.push(0)?;
         }
     }
-    let demands = node.path.demands;
     let den = if fits { den } else { 0 };
     terms.push_head(Head { demands, den, size })?;
     Ok(())
 }
 
-impl Terms {
-    /// If the last two terms have the same demands, replaces both by their sum, which is made in
-    /// another list.
-    fn join_last(&mut self, spare: &mut Terms) -> Result<(), AllocError>
-        requires shaped { IsShaped self.old }
-        requires players { spare.old.players ≡ self.old.players }
-        ensures terms { OnOk result ((g : Game) (players : ℕ) (nodes : List Reached)
-            → AreTermsOf g players nodes (entries self.old)
-            → AreTermsOf g players nodes (entries self.new)) }
-        ensures ordered { OnOk result (AreOrdered self.old → AreOrdered self.new) }
-        ensures last { OnOk result ((demands : ℕ) → EndsBelow self.old.demands.items demands
-            → EndsBelow self.new.demands.items demands) }
-        ensures shaped { OnOk result (IsShaped self.new) }
-        ensures players { OnOk result ((self.new.players ≡ self.old.players)
-            × (spare.new.players ≡ spare.old.players)) }
-    {
-        let count = self.demands.len();
-        if count < 2 || self.demands[count - 1] != self.demands[count - 2] {
-            return Ok(());
-        }
-        spare.clear(self.den);
-        spare.push_sum(self, count - 2, count - 1)?;
-        self.demands.truncate(count - 2);
-        self.scaled.truncate(count - 2);
-        self.numbers.truncate((count - 2) * self.players);
-        self.push(spare, 0, 0)?;
-        Ok(())
+/// The place after the last of the nodes that have the demands of the one at this place, from 0.
+fn alike_end(nodes: &[Reached], start: usize) -> usize
+    requires { start < length nodes.now }
+    ensures onward { start < result }
+    ensures within { result ≤ length nodes.now }
+    ensures alike { (d : Reached) (k : ℕ) → start ≤ k → k < result
+        → (get_or nodes.now k d).path.demands ≡ (get_or nodes.now start d).path.demands }
+{
+    let demands = nodes[start].path.demands;
+    let mut end = start + 1;
+    while end < nodes.len() && nodes[end].path.demands == demands {
+        end += 1;
     }
+    end
+}
 
+impl Terms {
     /// Whether all are over this denominator, and fit together.
     pub(crate) fn fit_over(&self, den: u128) -> bool
         ensures { IsTrue result → FitOver den (heads self.now) }
@@ -171,10 +176,12 @@ fn listed_over(
     ensures players { IfOk result (λ terms. terms.players ≡ players) }
 {
     let mut terms = Terms::new(alloc, players, 0);
-    let mut spare = Terms::new(alloc, players, 0);
-    for node in nodes {
-        push_node(&mut terms, *node, payoffs, common)?;
-        terms.join_last(&mut spare)?;
+    let mut start = 0;
+    while start < nodes.len() {
+        let end = alike_end(nodes, start);
+        let demands = nodes[start].path.demands;
+        push_nodes(&mut terms, demands, &nodes[start..end], payoffs, common)?;
+        start = end;
     }
     Ok(terms)
 }
@@ -194,7 +201,7 @@ fn listed(
     ensures shaped { IfOk result (λ terms. IsShaped terms) }
     ensures players { IfOk result (λ terms. terms.players ≡ players) }
 {
-    if let Some(common) = common_denominator(nodes, payoffs) {
+    if let Some(common) = common_denominator(nodes, payoffs, 1) {
         let terms = listed_over(alloc, nodes, payoffs, players, common)?;
         if terms.fit_over(common) {
             return Ok(terms);

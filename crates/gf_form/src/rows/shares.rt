@@ -1,6 +1,6 @@
 //! The nodes that pay somebody something, among those that choices can reach.
 
-ghost use Rattle.std.specs.Prelude.{◌≡◌, IfOk, IfSome, map};
+ghost use Rattle.std.specs.Prelude.{◌≡◌, IfOk, false, map, true};
 ghost use Rattle.std.specs.List.Sorted.{IsNonDecreasingBy};
 ghost use Rattle.gf_form.specs.inner.rows.KeptNodes.{paid_reached};
 ghost use Rattle.gf_form.specs.inner.rows.SummedNodes.{HaveSharesOf, IsNodeSum, order_of};
@@ -9,7 +9,7 @@ ghost use Rattle.gf_form.specs.Strategies.{choices_by};
 ghost use Rattle.gf_form.specs.declared.rows.paths.Reached.{Reached};
 
 use crate::rows::digits::Digits;
-use crate::rows::paths::{Path, Paths, Reached};
+use crate::rows::paths::{Paths, Reached};
 use crate::values::payoffs::Payoffs;
 use gf_tree::Game;
 use std::alloc::{AllocError, Global};
@@ -28,26 +28,25 @@ impl Reached {
         (demands * RADIX + outcome) * RADIX + self.path.den % RADIX
     }
 
-    /// Both as one node, if they differ in weight alone; `None` if its weight is too large.
-    fn joined(self, other: Reached) -> Option<Reached>
-        ensures { IfSome result (IsNodeSum self other) }
+    /// Adds another node to this one, if they differ in weight alone and the sum of their weights
+    /// fits.
+    fn absorbs(&mut self, other: Reached) -> bool
+        ensures sum { result ≡ true → IsNodeSum self.old other self.new }
+        ensures same { result ≡ false → self.new ≡ self.old }
     {
         let path = self.path;
         let alike = path.den == other.path.den && path.demands == other.path.demands;
         if !alike || self.outcome != other.outcome {
-            return None;
+            return false;
         }
-        let weight = path.weight.checked_add(other.path.weight)?;
-        let bound = path.bound.checked_add(other.path.bound)?;
-        Some(Reached {
-            path: Path {
-                weight,
-                bound,
-                den: path.den,
-                demands: path.demands,
-            },
-            outcome: self.outcome,
-        })
+        let weight = path.weight.checked_add(other.path.weight);
+        let bound = path.bound.checked_add(other.path.bound);
+        let (Some(weight), Some(bound)) = (weight, bound) else {
+            return false;
+        };
+        self.path.weight = weight;
+        self.path.bound = bound;
+        true
     }
 }
 
@@ -77,24 +76,7 @@ fn add_up(nodes: &mut Vec<Reached>)
     ensures shares { HaveSharesOf nodes.old.items nodes.new.items }
     ensures ordered { IsNonDecreasingBy (λ (r : Reached). r.path.demands) nodes.new.items }
 {
-    if nodes.is_empty() {
-        return;
-    }
-    let mut last = nodes[0];
-    let mut count = 0;
-    for place in 1..nodes.len() {
-        let node = nodes[place];
-        match last.joined(node) {
-            Some(sum) => last = sum,
-            None => {
-                nodes[count] = last;
-                count += 1;
-                last = node;
-            }
-        }
-    }
-    nodes[count] = last;
-    nodes.truncate(count + 1);
+    nodes.dedup_by(|node, last| last.absorbs(*node));
 }
 
 /// These nodes in order of demands, with those that differ in weight alone as one.

@@ -5,8 +5,9 @@ ghost use Rattle.std.specs.Prelude.{◌≡◌, ◌+◌, ◌*◌, ◌<◌, ◌≤
 ghost use Rattle.std.specs.Prelude.{IfOk, IsTrue, List, OnOk, get_or, length, pos, true};
 ghost use Rattle.std.specs.List.{AllByRecursion};
 ghost use Rattle.gf_fraction.specs.Ratio.{IsWithin};
-ghost use Rattle.gf_form.specs.inner.rows.Entries.{AreAlike, HasNumbers, HasSum, IsScale, IsShaped};
+ghost use Rattle.gf_form.specs.inner.rows.Entries.{AreAlike, HasSum, IsScale, IsShaped, IsSumAt};
 ghost use Rattle.gf_form.specs.inner.rows.Entries.{entries, entry_at, heads, heads_of, lowered};
+ghost use Rattle.gf_form.specs.inner.rows.ItemRows.{HasRow};
 
 use crate::rows::sums::{Scale, combined, scale_of};
 use std::alloc::{AllocError, Global};
@@ -64,8 +65,8 @@ fn push_numbers(
     requires alike { length first.now ≡ length second.now }
     requires first { AllByRecursion IsWithin first.now }
     requires second { AllByRecursion IsWithin second.now }
-    ensures { IfOk result (λ fits. HasNumbers first.now second.now by_first by_second fits
-        numbers.old.items numbers.new.items) }
+    ensures { IfOk result (λ fits. HasRow (IsSumAt first.now second.now by_first by_second fits)
+        (length first.now) numbers.old.items numbers.new.items) }
 {
     numbers.reserve(first.len())?;
     let mut fits = true;

@@ -1,15 +1,15 @@
 -- Terms whose numbers stand one row after another.
 use Rattle.gf_form.proofs.Common.{◌≡◌, ℕ, ℤ, suc, ◌+◌, ◌*◌, ◌<◌, ◌≤◌, ◌/◌, ◌+ℤ◌, ◌*ℤ◌, List, []}
-use Rattle.gf_form.proofs.Common.{◌∷◌, ◌++◌, Bool, true, false, pos, inl, inr, ◌⊎◌, length, get_or}
-use Rattle.gf_form.proofs.Common.{take, drop, refl, ap, sym, subst, ◌∙◌, arith, map, take-length}
-use Rattle.gf_form.proofs.Common.{get_or-append_seam, ◌∣◌, zero-*ℤ, cases_lt, get_or_past}
-use Rattle.gf_form.proofs.Common.{get_or_append_left, length-take-le, drop-drop, take-append-drop}
-use Rattle.gf_form.proofs.Common.{length-append, map-append, dvd_refl, IsWithin, all_both}
-use Rattle.gf_form.proofs.Common.{all_parts, AllByRecursion, Entry, IsScale, IsShaped, IsSumOf}
-use Rattle.gf_form.proofs.Common.{entries, entries_of, entry_at, heads, heads_of, no_entry}
+use Rattle.gf_form.proofs.Common.{◌∷◌, ◌++◌, Bool, true, pos, inl, inr, length, get_or, take, drop}
+use Rattle.gf_form.proofs.Common.{refl, ap, sym, subst, ◌∙◌, arith, map, take-length, ◌∣◌, zero-*ℤ}
+use Rattle.gf_form.proofs.Common.{cases_lt, get_or_past, length-take-le, drop-drop}
+use Rattle.gf_form.proofs.Common.{take-append-drop, length-append, map-append, dvd_refl, IsWithin}
+use Rattle.gf_form.proofs.Common.{all_both, all_parts, AllByRecursion, Entry, IsScale, IsShaped}
+use Rattle.gf_form.proofs.Common.{IsSumOf, entries, entries_of, entry_at, heads, heads_of, no_entry}
 use Rattle.gf_form.proofs.Common.{number_at, Scale, Head, Scaled, Terms, length-drop}
-use Rattle.std.proofs.lemmas.List.{append_assoc, drop-append-le, take-append-le}
-use Rattle.gf_form.specs.inner.rows.Entries.{HasNumbers, no_head}
+use Rattle.std.proofs.lemmas.List.{drop-append-le, take-append-le}
+use Rattle.gf_form.specs.inner.rows.Entries.{IsSumAt, no_head}
+use Rattle.gf_form.specs.inner.rows.ItemRows.{HasRow}
 
 pub none_taken : {X : Type 0} (xs : List X) → take 0 xs ≡ []
 none_taken xs = grind arith
@@ -213,64 +213,20 @@ plain_scale t first second one other none above =
 
 -- ---- rows of sums
 
-pub record Adding (first second : List ℤ) (by_first by_second : ℕ) (place : ℕ) (fits : Bool)
-    (old new : List ℤ) : Type 0 where
-  pub row : List ℤ
-  pub is : new ≡ old ++ row
-  pub one_each : length row ≡ place
-  pub within : AllByRecursion IsWithin row
-  pub sums : fits ≡ true → (k : ℕ) → k < place → get_or row k (pos 0)
-      ≡ get_or first k (pos 0) *ℤ pos by_first +ℤ get_or second k (pos 0) *ℤ pos by_second
-
-module _ (first second : List ℤ) (by_first by_second : ℕ) (place : ℕ) (old new after : List ℤ)
-    (number : ℤ) (small : IsWithin number) (pushed : after ≡ new ++ number ∷ []) where
-  abbrev sum_there : ℕ → ℤ
-  sum_there k = get_or first k (pos 0) *ℤ pos by_first +ℤ get_or second k (pos 0) *ℤ pos by_second
-
-  more_row : (fits : Bool) (before : Adding first second by_first by_second place fits old new)
-      → after ≡ old ++ (before.row ++ number ∷ [])
-  more_row fits before = grind (arith, append_assoc)
-
-  more_length : (fits : Bool) (before : Adding first second by_first by_second place fits old new)
-      → length (before.row ++ number ∷ []) ≡ place + 1
-  more_length fits before =
-      length-append before.row (number ∷ []) ∙ omega (arith, before.one_each)
-
-  pub one_added : (fits : Bool) → number ≡ sum_there place
-      → Adding first second by_first by_second place fits old new
-      → Adding first second by_first by_second (place + 1) fits old after
-  one_added fits is before = record {
-    row = before.row ++ number ∷ [];
-    is = more_row fits before;
-    one_each = more_length fits before;
-    within = all_both IsWithin before.row (number ∷ []) before.within (small, tt);
-    sums = λ known k less. by known k less (cases_lt k place);
-  }
-    where
-      by : fits ≡ true → (k : ℕ) → k < place + 1 → (k < place) ⊎ (place ≤ k)
-          → get_or (before.row ++ number ∷ []) k (pos 0) ≡ sum_there k
-      by known k less (inl h) = grind (arith, get_or_append_left)
-      by known k less (inr h) = grind (arith, get_or-append_seam)
-
-  pub none_added : (fits : Bool) → Adding first second by_first by_second place fits old new
-      → Adding first second by_first by_second (place + 1) false old after
-  none_added fits before = record {
-    row = before.row ++ number ∷ [];
-    is = more_row fits before;
-    one_each = more_length fits before;
-    within = all_both IsWithin before.row (number ∷ []) before.within (small, tt);
-    sums = λ known k less. absurd (let no : false ≡ true = known in cc);
-  }
-
 no_sum : (x y : ℤ) → pos 0 *ℤ x +ℤ pos 0 *ℤ y ≡ pos 0
 no_sum x y = λ i. zero-*ℤ x i +ℤ zero-*ℤ y i
 
-pub all_added : (first second : List ℤ) (by_first by_second : ℕ) (place : ℕ) (fits : Bool)
-    (old new : List ℤ) → length first ≡ length second → place ≡ length first
-    → Adding first second by_first by_second place fits old new
-    → HasNumbers first second by_first by_second fits old new
-all_added first second by_first by_second place fits old new same all done =
-    grind (arith, cases_lt, get_or, get_or_past, no_sum)
+-- the sums in the whole row, and past its end
+pub all_sums : (first second : List ℤ) (by_first by_second : ℕ) (fits : Bool) (old new : List ℤ)
+    → length first ≡ length second
+    → (h : HasRow (IsSumAt first second by_first by_second fits) (length first) old new)
+    → fits ≡ true → (k : ℕ) → get_or h.row k (pos 0)
+    ≡ get_or first k (pos 0) *ℤ pos by_first +ℤ get_or second k (pos 0) *ℤ pos by_second
+all_sums first second by_first by_second fits old new same h known k =
+    elim (cases_lt k (length first)) [
+      | inl less ↦ (h.each k (pos 0) less).1 known
+      | inr past ↦ let out = h.one_each in grind (arith, get_or_past, no_sum)
+    ]
 
 -- the sum of two terms
 pub sum_made : (a b : Entry) (s : Scale) (fits : Bool) (demands : ℕ) (row : List ℤ)

@@ -1,20 +1,22 @@
 -- The terms of nodes say what the nodes add.
 use Rattle.gf_form.proofs.Common.{◌≡◌, ℕ, ℤ, pos, suc, ◌+◌, ◌*◌, ◌/◌, ◌<◌, ◌≤◌, ◌*ℤ◌, Bool, true}
 use Rattle.gf_form.proofs.Common.{List, [], ◌∷◌, ◌++◌, ap, sym, subst, ◌∙◌, arith, get_or, length}
-use Rattle.gf_form.proofs.Common.{take, if◌then◌else◌, ◌∣◌, dvd-mul_right, mul-le-mul_right}
-use Rattle.gf_form.proofs.Common.{mul-div_cancel, pos_of_dvd_of_pos, ints, unsigned_abs-mul}
-use Rattle.gf_form.proofs.Common.{dvd_trans, all_both, all_parts, *ℤ_assoc, Ratio, Game, meets}
-use Rattle.gf_form.proofs.Common.{Entry, IsExactAt, IsSumOf, number_at, AreOrdered, EndsBelow}
-use Rattle.gf_form.proofs.Common.{IsShaped, entries, AreTermsOf, HasShare, IsTermOf, ArePaid, Terms}
-use Rattle.gf_form.proofs.Common.{IsNonDecreasingBy, get_or_default, take_more, IsExact}
-use Rattle.gf_form.proofs.Common.{IsExactIfMet, over, pay_at, share, share_bound, Reached}
-use Rattle.gf_form.specs.inner.rows.ListedNodes.{IsTermMore}
-use Rattle.gf_form.proofs.lemmas.rows.Merges.{below_more, ordered_more}
+use Rattle.gf_form.proofs.Common.{take, ◌∣◌, dvd-mul_right, mul-le-mul_right, mul-div_cancel}
+use Rattle.gf_form.proofs.Common.{pos_of_dvd_of_pos, unsigned_abs-mul, dvd_trans, all_both}
+use Rattle.gf_form.proofs.Common.{all_parts, *ℤ_assoc, Ratio, Game, meets, Entry, IsExactAt}
+use Rattle.gf_form.proofs.Common.{number_at, AreOrdered, EndsBelow, IsShaped, entries, AreTermsOf}
+use Rattle.gf_form.proofs.Common.{ArePaid, Terms, met_bounds, ◌-◌, ◌+ℤ◌, false, refl, drop}
+use Rattle.gf_form.proofs.Common.{AllByRecursion, zero-*ℤ, add-*ℤ, sum_of_shares, IsNonDecreasingBy}
+use Rattle.gf_form.proofs.Common.{get_or_default, IsExact, IsExactIfMet, over, pay_at, share}
+use Rattle.gf_form.proofs.Common.{share_bound, Reached}
+use Rattle.std.proofs.Math.Seq.{take-nil}
+use Rattle.gf_form.specs.inner.rows.ListedNodes.{HasShares, IsTermMore, Tells}
+use Rattle.gf_form.proofs.lemmas.rows.Merges.{all_in, below_more, ordered_more}
 use Rattle.gf_form.specs.inner.rows.Shares.{scale}
-use Rattle.gf_form.proofs.lemmas.rows.MergedEntries.{both_size, both_sum, exact_first, exact_second}
 use Rattle.gf_form.proofs.lemmas.rows.MergedEntries.{size_append, sum_append}
 use Rattle.gf_form.proofs.lemmas.rows.OverOneDenominator.{quotient_above, quotient_through}
-use Rattle.gf_form.proofs.lemmas.rows.ShareSums.{bounds_append, shares_append}
+use Rattle.gf_form.proofs.lemmas.rows.ShareSums.{bound_first, bounds_append, met_first}
+use Rattle.gf_form.proofs.lemmas.rows.ShareSums.{shares_append, unmet_first}
 
 -- ---- shares over a multiple of a denominator
 
@@ -67,57 +69,84 @@ module _ (g : Game) (player m den : ℕ) (r : Reached) (above : 0 < m) (second :
   pub bound_more : share_bound g player den r ≡ share_bound g player m r * (den / m)
   bound_more = grind (arith, over_is, unsigned_abs-mul)
 
--- ---- a node, and its term
+-- ---- nodes with the same demands, and their term
 
-met_number : (met : Bool) (x y : ℤ) → (met ≡ true → x ≡ y)
-    → (if met then x else pos 0) ≡ (if met then y else pos 0)
-met_number met x y h = grind arith
+module _ (g : Game) (k den : ℕ) (steps choices : List ℕ) (demands : ℕ) where
+  abbrev AreAlike : List Reached → Type 0
+  AreAlike rs = AllByRecursion (λ (r : Reached). r.path.demands ≡ demands) rs
 
-met_size : (met : Bool) (x y : ℕ) → (met ≡ true → x ≤ y)
-    → (if met then x else 0) ≤ (if met then y else 0)
-met_size met x y h = grind arith
+  abbrev AreExact : List Reached → Type 0
+  AreExact rs = AllByRecursion (IsExactIfMet g (suc k) den steps choices) rs
 
-module _ (g : Game) (players : ℕ) (r : Reached) (e : Entry) (is : IsTermOf g players r e) (k : ℕ)
-    (less : k < players) (den : ℕ) (steps choices : List ℕ)
-    (exact : IsExactAt den steps choices e) where
-  same_met : meets steps choices r.path.demands ≡ meets steps choices e.head.demands
-  same_met = ap (meets steps choices) (sym is.demands)
+  nodes_met : (m : ℕ) → 0 < m → m ∣ den → meets steps choices demands ≡ true
+      → (rs : List Reached) → AreAlike rs → AllByRecursion (IsExact g (suc k) m) rs → AreExact rs
+      × (sum_of_shares g (suc k) den steps choices rs
+      ≡ sum_of_shares g (suc k) m [] [] rs *ℤ pos (den / m))
+      × (met_bounds g (suc k) den steps choices rs
+      ≡ met_bounds g (suc k) m [] [] rs * (den / m))
+  nodes_met m above divides met [] alike exact =
+      (tt, sym (zero-*ℤ (pos (den / m))), omega arith)
+  nodes_met m above divides met (r ∷ rs) alike exact =
+      let later = nodes_met m above divides met rs alike.1 exact.1 in
+      let here : meets steps choices r.path.demands ≡ true =
+      ap (meets steps choices) alike.0 ∙ met in
+      let bound = bound_more g (suc k) m den r above divides exact.0 in (
+        ((λ _ _. exact_more g (suc k) m den r above divides exact.0), later.0),
+        met_first g (suc k) den steps choices r rs here
+            ∙ (λ i. share_more g (suc k) m den r above divides exact.0 i +ℤ later.1 i)
+            ∙ sym (add-*ℤ (share g (suc k) m r) (sum_of_shares g (suc k) m [] [] rs)
+            (pos (den / m))),
+        bound_first g (suc k) den steps choices r rs here ∙ (grind (arith, bound, later.2)),
+      )
 
-  has : meets steps choices r.path.demands ≡ true
-      → HasShare g r e k × (0 < e.head.den) × (e.head.den ∣ den)
-  has met = grind arith
+  nodes_unmet : meets steps choices demands ≡ false → (rs : List Reached) → AreAlike rs
+      → AreExact rs × (sum_of_shares g (suc k) den steps choices rs ≡ pos 0)
+      × (met_bounds g (suc k) den steps choices rs ≡ 0)
+  nodes_unmet unmet [] alike = (tt, refl, refl)
+  nodes_unmet unmet (r ∷ rs) alike =
+      let later = nodes_unmet unmet rs alike.1 in
+      let here : meets steps choices r.path.demands ≡ false =
+      ap (meets steps choices) alike.0 ∙ unmet in (
+        ((λ met _. absurd (let no : false ≡ true = cc (here, met) in cc)), later.0),
+        unmet_first g (suc k) den steps choices r rs here ∙ later.1,
+        rw here (omega (arith, later.2)),
+      )
 
-  node_exact : IsExactIfMet g (suc k) den steps choices r
-  node_exact met pays =
-      let h = has met in exact_more g (suc k) e.head.den den r h.1 h.2 h.0.exact
-
-  node_sum : (if meets steps choices r.path.demands then share g (suc k) den r else pos 0)
-      ≡ (if meets steps choices e.head.demands
-      then number_at k e *ℤ pos (den / e.head.den) else pos 0)
-  node_sum = grind (arith, met_number, has, share_more, same_met)
-
-  node_bound : (if meets steps choices r.path.demands then share_bound g (suc k) den r else 0)
-      ≤ (if meets steps choices e.head.demands then e.head.size * (den / e.head.den) else 0)
-  node_bound =
-      let whole = e.head.size * (den / e.head.den) in
-      let le = met_size (meets steps choices r.path.demands) (share_bound g (suc k) den r) whole
-      (λ met. let h = has met in
-      let more = bound_more g (suc k) e.head.den den r h.1 h.2 h.0.exact in
-      grind (arith, mul-le-mul_right)) in
-      grind arith
+nodes_told : (g : Game) (k den : ℕ) (steps choices : List ℕ) (rs : List Reached) (e : Entry)
+    → AllByRecursion (λ (r : Reached). r.path.demands ≡ e.head.demands) rs
+    → (0 < e.head.den → HasShares g rs k e.head.den e.head.size (number_at k e))
+    → IsExactAt den steps choices e → Tells g k den steps choices rs (e ∷ [])
+nodes_told g k den steps choices rs e alike says exact =
+    by (meets steps choices e.head.demands) refl
+  where
+    by : (b : Bool) → meets steps choices e.head.demands ≡ b
+        → Tells g k den steps choices rs (e ∷ [])
+    by true met =
+        let at = exact met in
+        let h = says at.0 in
+        let n = nodes_met g k den steps choices e.head.demands e.head.den at.0 at.1 met rs alike
+        h.exact in
+        let most = mul-le-mul_right (den / e.head.den) h.bound in
+        record { exact = n.0; sums = grind (arith, h.number_is, n.1); bounds = grind arith }
+    by false unmet =
+        let n = nodes_unmet g k den steps choices e.head.demands unmet rs alike in
+        record { exact = n.0; sums = rw unmet n.1; bounds = rw unmet (omega (arith, n.2)) }
 
 -- ---- lists of them
 
-pub one_node_more : (g : Game) (players : ℕ) (rs : List Reached) (es : List Entry) (r : Reached)
-    (e : Entry) → IsTermOf g players r e → AreTermsOf g players rs es
-    → AreTermsOf g players (rs ++ r ∷ []) (es ++ e ∷ [])
-one_node_more g players rs es r e is before k less den steps choices exact =
+nodes_more : (g : Game) (players : ℕ) (rs group : List Reached) (es : List Entry) (e : Entry)
+    → AllByRecursion (λ (r : Reached). r.path.demands ≡ e.head.demands) group
+    → (0 < e.head.den → (k : ℕ) → k < players
+    → HasShares g group k e.head.den e.head.size (number_at k e))
+    → AreTermsOf g players rs es → AreTermsOf g players (rs ++ group) (es ++ e ∷ [])
+nodes_more g players rs group es e alike says before k less den steps choices exact =
     let both = all_parts (IsExactAt den steps choices) es (e ∷ []) exact in
-    let told = before k less den steps choices both.0 in record {
-      exact = all_both (IsExactIfMet g (suc k) den steps choices) rs (r ∷ []) told.exact
-          (node_exact g players r e is k less den steps choices both.1.0, tt);
-      sums = grind (arith, shares_append, sum_append, node_sum);
-      bounds = grind (arith, bounds_append, size_append, node_bound);
+    let told = before k less den steps choices both.0 in
+    let here = nodes_told g k den steps choices group e alike (λ above. says above k less)
+    both.1.0 in record {
+      exact = all_both (IsExactIfMet g (suc k) den steps choices) rs group told.exact here.exact;
+      sums = grind (arith, shares_append, sum_append);
+      bounds = grind (arith, bounds_append, size_append);
     }
 
 -- what the code reads at a place
@@ -137,61 +166,56 @@ pub record Listing (rows : List (List Ratio)) (players : ℕ) (rs : List Reached
   pub shaped : IsShaped terms
   pub players_are : terms.players ≡ players
 
+taken_on : {A : Type 0} (m n : ℕ) (xs : List A) → take (m + n) xs ≡ take m xs ++ take n (drop m xs)
+taken_on (suc m) n (x ∷ xs) =
+    let e : suc m + n ≡ suc (m + n) = omega arith in
+    ap (λ (k : ℕ). take k (x ∷ xs)) e ∙ ap (λ (ys : List _). x ∷ ys) (taken_on m n xs)
+taken_on m n xs = grind (arith, take-nil)
+
 module _ (rows : List (List Ratio)) (players : ℕ) (rs : List Reached)
-    (sorted : IsNonDecreasingBy (λ (r : Reached). r.path.demands) rs) (at : ℕ)
-    (less : at < length rs) (r : Reached) (is : r ≡ get_or rs at r) (old new after : Terms)
-    (before : Listing rows players rs at old) (more : IsTermMore rows r old new) where
-  pub node_listed : IsShaped after → after.players ≡ new.players → new.players ≡ old.players
-      → ((g : Game) (players : ℕ) (nodes : List Reached) → AreTermsOf g players nodes (entries new)
-      → AreTermsOf g players nodes (entries after))
-      → (AreOrdered new → AreOrdered after)
-      → ((demands : ℕ) → EndsBelow new.demands.items demands
-      → EndsBelow after.demands.items demands)
-      → Listing rows players rs (at + 1) after
-  node_listed shaped same_after same_new told ordered last = record {
-    told = λ g are. told g players (take (at + 1) rs)
-        (subst (AreTermsOf g players (take (at + 1) rs)) (sym more.is)
-        (subst (λ (ns : List Reached). AreTermsOf g players ns (entries old ++ more.term ∷ []))
-        (sym (take_more rs at r less ∙ ap (λ (n : Reached). take at rs ++ n ∷ []) (sym is)))
-        (one_node_more g players (take at rs) (entries old) r more.term
-        (subst (λ (n : ℕ). IsTermOf g n r more.term) before.players_are (more.says g are))
-        (before.told g are))));
-    ordered = ordered (ordered_more old.demands.items new.demands.items more.term.head.demands
-        more.grown before.ordered ends);
-    next = λ d there. last (get_or rs (at + 1) d).path.demands
-        (below_more old.demands.items new.demands.items more.term.head.demands
-        (get_or rs (at + 1) d).path.demands more.grown (up d there));
+    (sorted : IsNonDecreasingBy (λ (r : Reached). r.path.demands) rs) (at end : ℕ)
+    (less : at < length rs) (onward : at < end) (within : end ≤ length rs)
+    (alike : (d : Reached) (k : ℕ) → at ≤ k → k < end
+    → (get_or rs k d).path.demands ≡ (get_or rs at d).path.demands) (demands : ℕ)
+    (is : demands ≡ (node_at rs at).path.demands) (old new : Terms)
+    (before : Listing rows players rs at old)
+    (more : IsTermMore rows demands (take (end - at) (drop at rs)) old new) where
+  abbrev group : List Reached
+  group = take (end - at) (drop at rs)
+
+  joined : take end rs ≡ take at rs ++ group
+  joined =
+      let whole : end ≡ at + (end - at) = omega (arith, onward) in
+      ap (λ (n : ℕ). take n rs) whole ∙ taken_on at (end - at) rs
+
+  all_alike : AllByRecursion (λ (r : Reached). r.path.demands ≡ more.term.head.demands) group
+  all_alike =
+      all_in (λ (r : Reached). r.path.demands ≡ more.term.head.demands) no_node rs (end - at) at
+      (omega (arith, onward, within))
+      (λ k from to. alike no_node k from (omega (arith, to, onward)) ∙ sym is
+      ∙ sym more.demands_are)
+
+  up : (d : Reached) → end < length rs
+      → more.term.head.demands ≤ (get_or rs end d).path.demands
+  up d there =
+      let le = sorted at end d (omega (arith, onward)) there in
+      grind (arith, get_or_default)
+
+  pub nodes_listed : IsShaped new → new.players ≡ old.players
+      → Listing rows players rs end new
+  nodes_listed shaped same = record {
+    told = λ g are. subst (λ (ns : List Reached). AreTermsOf g players ns (entries new))
+        (sym joined)
+        (subst (AreTermsOf g players (take at rs ++ group)) (sym more.is)
+        (nodes_more g players (take at rs) group (entries old) more.term all_alike
+        (λ above k there. more.says g are above k (omega (arith, there, before.players_are)))
+        (before.told g are)));
+    ordered = ordered_more old.demands.items new.demands.items more.term.head.demands more.grown
+        before.ordered
+        (λ d some. let le = before.next no_node less d some in
+        omega (arith, le, is, more.demands_are));
+    next = λ d there. below_more old.demands.items new.demands.items more.term.head.demands
+        (get_or rs end d).path.demands more.grown (up d there);
     shaped = shaped;
-    players_are = same_after ∙ same_new ∙ before.players_are;
+    players_are = same ∙ before.players_are;
   }
-    where
-      ends : EndsBelow old.demands.items more.term.head.demands
-      ends = grind arith
-
-      up : (d : Reached) → at + 1 < length rs
-          → more.term.head.demands ≤ (get_or rs (at + 1) d).path.demands
-      up d there =
-          let le = sorted at (at + 1) d (omega arith) there in
-          grind (arith, get_or_default)
-
--- the sum of two terms in place of both
-pub one_term_less : (g : Game) (players : ℕ) (rs : List Reached) (es : List Entry)
-    (a b sum : Entry) → sum.head.demands ≡ a.head.demands → sum.head.demands ≡ b.head.demands
-    → (0 < sum.head.den → IsSumOf a b sum) → AreTermsOf g players rs (es ++ a ∷ b ∷ [])
-    → AreTermsOf g players rs (es ++ sum ∷ [])
-one_term_less g players rs es a b sum first second adds before k less den steps choices exact =
-    let both = all_parts (IsExactAt den steps choices) es (sum ∷ []) exact in
-    let known : IsExactAt den steps choices sum = both.1.0 in
-    let told = before k less den steps choices
-    (grind (arith, all_both, exact_first, exact_second)) in record {
-      exact = told.exact;
-      sums = omega (
-        arith,
-        ints,
-        told.sums,
-        sum_append den steps choices k es (a ∷ b ∷ []),
-        sum_append den steps choices k es (sum ∷ []),
-        both_sum den steps choices a b sum first second adds known k,
-      );
-      bounds = grind (arith, size_append, both_size);
-    }

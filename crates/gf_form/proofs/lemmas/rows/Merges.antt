@@ -26,16 +26,15 @@ pub part_past : (es : List Entry) (i end : ℕ) → end ≤ i → part i end es 
 part_past es i end past = grind arith
 
 -- all of a range, by the places of all
-all_in : (P : Entry → Type 0) (es : List Entry) (n i : ℕ) → i + n ≤ length es
-    → ((k : ℕ) → i ≤ k → k < i + n → P (get_or es k no_entry))
-    → AllByRecursion P (take n (drop i es))
-all_in P es zero i within each = subst (AllByRecursion P) (sym (none_taken (drop i es))) tt
-all_in P es (suc n) i within each =
-    let d : drop i es ≡ get_or es i no_entry ∷ drop (suc i) es =
-    drop-cons es i no_entry (omega (arith, within)) in
-    subst (λ (xs : List Entry). AllByRecursion P (take (suc n) xs)) (sym d) (
+pub all_in : {A : Type 0} (P : A → Type 0) (d : A) (xs : List A) (n i : ℕ) → i + n ≤ length xs
+    → ((k : ℕ) → i ≤ k → k < i + n → P (get_or xs k d)) → AllByRecursion P (take n (drop i xs))
+all_in P d xs zero i within each = subst (AllByRecursion P) (sym (none_taken (drop i xs))) tt
+all_in P d xs (suc n) i within each =
+    let next : drop i xs ≡ get_or xs i d ∷ drop (suc i) xs =
+    drop-cons xs i d (omega (arith, within)) in
+    subst (λ (ys : List _). AllByRecursion P (take (suc n) ys)) (sym next) (
       each i (omega arith) (omega arith),
-      all_in P es n (suc i) (omega (arith, within))
+      all_in P d xs n (suc i) (omega (arith, within))
           (λ k from to. each k (omega (arith, from)) (omega (arith, to))),
     )
 
@@ -83,21 +82,21 @@ module _ (from : Terms) (step action : ℕ) (some : 1 ≤ action) (chosen : Chos
       (part chosen.start chosen.end es) (drop chosen.end es)
   ranges = record {
     joined = grind (arith, take-append-drop, cut, free_le, start_le);
-    are_free = all_in (IsFree step) es chosen.free 0 (omega (arith, count, are.free.bound))
+    are_free = all_in (IsFree step) no_entry es chosen.free 0 (omega (arith, count, are.free.bound))
         (λ k at less. by_demands (IsFree step) (λ n. n < step) (λ e q. q) k
         (omega (arith, less, are.free.bound)) (are.free.below k (omega (arith, less))));
-    are_between = all_in (IsOther step action) es (chosen.start - chosen.free) chosen.free
+    are_between = all_in (IsOther step action) no_entry es (chosen.start - chosen.free) chosen.free
         (omega (arith, count, are.start.bound, free_le))
         (λ k at less. by_demands (IsOther step action)
         (λ n. (step ≤ n) × (n < action * step)) (λ e q. (q.0, inl q.1)) k
         (omega (arith, less, are.start.bound, free_le)) (grind (arith, free_le)));
-    are_own = all_in (IsOwn step action) es (chosen.end - chosen.start) chosen.start
+    are_own = all_in (IsOwn step action) no_entry es (chosen.end - chosen.start) chosen.start
         (omega (arith, count, are.end.bound, start_le))
         (λ k at less. by_demands (IsOwn step action)
         (λ n. (action * step ≤ n) × (n < action * step + step)) (λ e q. q) k
         (omega (arith, less, are.end.bound, start_le)) (grind (arith, start_le)));
     are_rest = subst (AllByRecursion (IsOther step action)) rest_is
-        (all_in (IsOther step action) es (length es - chosen.end) chosen.end
+        (all_in (IsOther step action) no_entry es (length es - chosen.end) chosen.end
         (omega (arith, count, are.end.bound))
         (λ k at less. by_demands (IsOther step action)
         (λ n. (step ≤ n) × (action * step + step ≤ n)) (λ e q. (q.0, inr q.1)) k

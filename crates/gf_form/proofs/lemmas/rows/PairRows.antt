@@ -2,18 +2,15 @@
 use Rattle.gf_form.proofs.Common.{◌≡◌, ℕ, ℤ, suc, ◌+◌, ◌-◌, ◌*◌, ◌/◌, ◌<◌, ◌≤◌, ◌^◌, List, [], ◌∷◌}
 use Rattle.gf_form.proofs.Common.{◌++◌, Some, drop, get_or, length, lit<, map, take, refl, ap}
 use Rattle.gf_form.proofs.Common.{subst, ◌∙◌, arith, true, Option, IfSome, ◌==◌, AllByRecursion}
-use Rattle.gf_form.proofs.Common.{get_or-append_seam, take-length, cases_lt, eqb-true, append-nil}
-use Rattle.gf_form.proofs.Common.{get_or_append_left, length-append, length-take-le, HasValue}
-use Rattle.gf_form.proofs.Common.{IsFraction, Ratio, all_both, one_fraction, Game, IsGame}
-use Rattle.gf_form.proofs.Common.{IsSpellable, HasValues, ArePayoffsAt, all_choices, choices_by}
-use Rattle.gf_form.proofs.Common.{full_profiles, strategies_at, meets, steps_of, AreChosen}
-use Rattle.gf_form.proofs.Common.{AreExactAt, Entry, IsScale, entries, entries_of, entry_at}
-use Rattle.gf_form.proofs.Common.{heads_of, lowered, part, size_of_entries, sum_of_entries}
-use Rattle.gf_form.proofs.Common.{HasPairRow, IsPaidPair, pair_number, actions_at, SettleRows}
+use Rattle.gf_form.proofs.Common.{take-length, eqb-true, length-take-le, IsFraction, Ratio}
+use Rattle.gf_form.proofs.Common.{one_fraction, Game, IsGame, IsSpellable, HasValues, ArePayoffsAt}
+use Rattle.gf_form.proofs.Common.{all_choices, choices_by, full_profiles, strategies_at, meets}
+use Rattle.gf_form.proofs.Common.{steps_of, AreChosen, AreExactAt, Entry, IsScale, entries}
+use Rattle.gf_form.proofs.Common.{entries_of, entry_at, heads_of, lowered, part, size_of_entries}
+use Rattle.gf_form.proofs.Common.{sum_of_entries, HasPairRow, IsPaidPair, actions_at, SettleRows}
 use Rattle.gf_form.proofs.Common.{Settles, SettlesAt, at_place, value, Chosen, Digit, Scale, Scaled}
-use Rattle.gf_form.proofs.Common.{Terms, Asked, Run, AreWritten, asked_profiles, sym}
+use Rattle.gf_form.proofs.Common.{Terms, Asked, Run, AreWritten, asked_profiles, sym, zero_ratio}
 use Rattle.gf_form.specs.declared.rows.written.Written.{Written}
-use Rattle.std.proofs.lemmas.List.{append_assoc}
 use Rattle.gf_form.specs.inner.rows.Pairs.{ComeToOne, ComeToPair, IsOnly, entry_of}
 use Rattle.gf_form.specs.inner.rows.SettledRows.{PaysOver, SettleAlike}
 use Rattle.gf_form.specs.declared.rows.pairs.Only.{Only}
@@ -26,7 +23,7 @@ use Rattle.gf_form.proofs.lemmas.rows.RowsMade.{all_more, one_row_more}
 use Rattle.gf_form.proofs.lemmas.strategies.PickedProfiles.{numbered_at}
 use Rattle.gf_form.proofs.lemmas.strategies.StrategiesByNumber.{choices_row}
 use Rattle.gf_form.proofs.lemmas.values.PayoffsGiven.{are_payoffs, have_values}
-use Rattle.gf_form.proofs.lemmas.values.RowSums.{fraction_at}
+use Rattle.gf_form.proofs.lemmas.rows.ItemRows.{all_by_place}
 
 -- ---- one term, or none
 
@@ -124,14 +121,18 @@ pub row_settled : (g : Game) → IsGame g → IsSpellable g → (number players 
 row_settled g game spellable number players profile pair old new is all paid more =
     subst (λ (p : List ℕ). ArePayoffsAt g p more.row × HasValues g p) is
     (let choices = choices_by g (strategies_at g (get_or (full_profiles g) number [])) in (
-      are_payoffs g game spellable choices more.row (more.one_each ∙ all) more.fractions values,
+      are_payoffs g game spellable choices more.row (more.one_each ∙ all)
+          (all_by_place IsFraction more.row
+          (λ k d less. (more.each k d (omega (arith, less, more.one_each))).0)) values,
       have_values g game spellable choices more.row values,
     ))
   where
     values : (k : ℕ) → k < length g.players
         → value g (choices_by g (strategies_at g (get_or (full_profiles g) number []))) (suc k)
         g.tree ≡ Some (at_place more.row k)
-    values k less = grind (arith, one_fraction, fraction_at)
+    values k less =
+        let here = more.each k zero_ratio (omega (arith, less, all)) in
+        grind (arith, one_fraction)
 
 -- the next row is what the pair comes to
 pub next_row : (asked : Asked) → IsGame asked.game.now → IsSpellable asked.game.now
@@ -155,26 +156,6 @@ next_row asked game spellable before players pair written after old new within a
       values = all_more (HasValues g) profiles before [] at.0 done.values right.1;
       as_long = ap (λ (own : _). length own.items) same ∙ done.as_long;
     }
-
--- ---- while a row is pushed
-
-pub no_row : (pair : Pair) (old : List Ratio) → HasPairRow pair 0 old old
-no_row pair old = grind (arith, append-nil)
-
--- one more number of a row
-pub one_more : (pair : Pair) (place : ℕ) (old new after : List Ratio) (f : Ratio)
-    → after ≡ new ++ f ∷ [] → IsFraction f → HasValue f (pair_number pair place) pair.scale.den
-    → HasPairRow pair place old new → HasPairRow pair (place + 1) old after
-one_more pair place old new after f is fraction value before =
-    grind (
-      arith,
-      cases_lt,
-      append_assoc,
-      length-append,
-      all_both,
-      get_or_append_left,
-      get_or-append_seam,
-    )
 
 -- ---- the fastest digit
 

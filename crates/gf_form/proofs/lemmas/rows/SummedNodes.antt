@@ -1,17 +1,13 @@
 -- Nodes that differ in weight alone have the shares of their sum.
-use Rattle.gf_form.proofs.Common.{◌≡◌, ℕ, ℤ, pos, ◌+◌, ◌-◌, ◌<◌, ◌≤◌, ◌*ℤ◌, Bool, List, [], ◌∷◌}
-use Rattle.gf_form.proofs.Common.{◌++◌, arith, refl, ap, sym, subst, ◌∙◌, get_or, length, set, take}
-use Rattle.gf_form.proofs.Common.{◌+ℤ◌, if◌then◌else◌, IsNonDecreasingBy, IsPermutation, mod-lt}
-use Rattle.gf_form.proofs.Common.{get_or-append_seam, take-length, get_or_default, get_or-set_other}
-use Rattle.gf_form.proofs.Common.{length-append, length-set, take_more, take_more_set}
-use Rattle.gf_form.proofs.Common.{All-from_recursion, IsNonDecreasingBy-push, all_both, all_parts}
-use Rattle.gf_form.proofs.Common.{Game, Entry, AreTermsOf, IsExactIfMet, order_of, Reached}
-use Rattle.gf_form.proofs.Common.{recursion_from_All, All-permutation}
-use Rattle.std.proofs.lemmas.List.{append_assoc}
+use Rattle.gf_form.proofs.Common.{◌≡◌, ℕ, zero, suc, ℤ, pos, ◌+◌, ◌<◌, ◌≤◌, ◌*ℤ◌, Bool, true, false}
+use Rattle.gf_form.proofs.Common.{List, [], ◌∷◌, ◌++◌, ⊤, arith, ap, refl, sym, subst, ◌∙◌, get_or}
+use Rattle.gf_form.proofs.Common.{length, ◌+ℤ◌, if◌then◌else◌, IsNonDecreasingBy, IsPermutation}
+use Rattle.gf_form.proofs.Common.{mod-lt, All-from_recursion, all_both, all_parts, Game, Entry}
+use Rattle.gf_form.proofs.Common.{AreTermsOf, IsExactIfMet, order_of, Reached, recursion_from_All}
+use Rattle.gf_form.proofs.Common.{All-permutation, MatchBool}
+use Rattle.std.specs.List.Retain.{DedupsFrom, IsDeduped}
 use Rattle.std.proofs.lemmas.List.Sorted.{IsPermutation-sym}
 use Rattle.gf_form.specs.inner.rows.SummedNodes.{HaveSharesOf, IsNodeSum, weighing}
-use Rattle.gf_form.proofs.lemmas.rows.FlatRows.{none_taken}
-use Rattle.gf_form.proofs.lemmas.rows.ListedEntries.{no_node, node_at}
 use Rattle.gf_form.proofs.lemmas.rows.OrderedShares.{bounds_permuted, shares_permuted}
 use Rattle.gf_form.proofs.lemmas.rows.ShareSums.{bounds_append, shares_append}
 
@@ -73,105 +69,80 @@ in_order rs sorted i j d le less =
     let up = sorted i j d le less in
     omega (arith, up, mod-lt)
 
--- what this many of the first nodes add up to; the last sum may still grow
-pub record Summing (rs : List Reached) (at : ℕ) (sums : List Reached) (last : Reached) : Type 0
-  where
-    pub shares : HaveSharesOf (take at rs) (sums ++ last ∷ [])
-    pub ordered : IsNonDecreasingBy demands_of sums
-    pub ends : (d : Reached) → 0 < length sums
-        → demands_of (get_or sums (length sums - 1) d) ≤ demands_of last
-    pub next : at < length rs → demands_of last ≤ demands_of (node_at rs at)
+-- the demands are at least this, and none is below the one before it
+abbrev AreRising : ℕ → List Reached → Type 0
+AreRising n [] = ⊤
+AreRising n (r ∷ rs) = (n ≤ demands_of r) × AreRising (demands_of r) rs
 
-module _ (rs : List Reached) (sorted : IsNonDecreasingBy demands_of rs) where
-  up : (at : ℕ) → at + 1 < length rs → demands_of (node_at rs at) ≤ demands_of (node_at rs (at + 1))
-  up at there = sorted at (at + 1) no_node (omega arith) there
+rising : (n : ℕ) (rs : List Reached)
+    → ((d : Reached) → 0 < length rs → n ≤ demands_of (get_or rs 0 d))
+    → IsNonDecreasingBy demands_of rs → AreRising n rs
+rising n [] first sorted = tt
+rising n (r ∷ rs) first sorted = (
+  first r (omega arith),
+  rising (demands_of r) rs (λ d some. sorted 0 1 d (omega arith) (omega (arith, some)))
+      (λ i j d le less.
+      sorted (suc i) (suc j) d (omega (arith, le)) (omega (arith, less))),
+)
 
-  pub first_summed : 0 < length rs → Summing rs 1 [] (node_at rs 0)
-  first_summed some = grind (arith, node_at, take_more, no_node, have_same, up)
+least : (n : ℕ) (rs : List Reached) → AreRising n rs → (j : ℕ) (d : Reached) → j < length rs
+    → n ≤ demands_of (get_or rs j d)
+least n (r ∷ rs) h (suc j) d less =
+    let later = least (demands_of r) rs h.1 j d (omega (arith, less)) in
+    omega (arith, h.0, later)
+least n rs h j d less = grind arith
 
-  module _ (at : ℕ) (less : at < length rs) (sums : List Reached) (last : Reached)
-      (before : Summing rs at sums last) where
-    abbrev r : Reached
-    r = node_at rs at
+in_turn : (n : ℕ) (rs : List Reached) → AreRising n rs → IsNonDecreasingBy demands_of rs
+in_turn n (r ∷ rs) h (suc i) (suc j) d le less =
+    in_turn (demands_of r) rs h.1 i j d (omega (arith, le)) (omega (arith, less))
+in_turn n (r ∷ rs) h zero (suc j) d le less =
+    least (demands_of r) rs h.1 j d (omega (arith, less))
+in_turn n rs h i j d le less = grind arith
 
-    both : HaveSharesOf (take (at + 1) rs) ((sums ++ last ∷ []) ++ r ∷ [])
-    both =
-        subst (λ (ns : List Reached). HaveSharesOf ns ((sums ++ last ∷ []) ++ r ∷ []))
-        (sym (take_more rs at no_node less))
-        (grind (arith, have_both, have_same))
+-- neighbours are added up where this test says so
+module _ {F : Type 0} (R : F → Reached → Reached → Bool → F → Reached → Reached → Type 0)
+    (told : (s : F) (x k : Reached) (b : Bool) (t : F) (y l : Reached) → R s x k b t y l
+    → (b ≡ true → IsNodeSum k x l) × (b ≡ false → l ≡ k) × (y ≡ x)) where
+  abbrev AddUp : List Reached → List Reached → Type 0
+  AddUp rs ys = HaveSharesOf rs ys × ((n : ℕ) → AreRising n rs → AreRising n ys)
 
-    pub one_added : (sum : Reached) → IsNodeSum last r sum → Summing rs (at + 1) sums sum
-    one_added sum h =
-        grind (arith, have_then, both, append_assoc, have_both, have_same, sum_shares, up)
+  adds_up : (xs : List Reached) (s : F) (k : Reached) (ys : List Reached)
+      → DedupsFrom R s k xs ys → AddUp (k ∷ xs) ys
+  adds_up [] s k ys h =
+      subst (AddUp (k ∷ [])) (sym h) (have_same (k ∷ []), λ n up. up)
+  adds_up (x ∷ xs) s k ys h =
+      by h.0 h.1 h.2 h.3 (told s x k h.0 h.1 h.2 h.3 h.4) h.5 (adds_up xs)
+    where
+      by : (b : Bool) (t : F) (y l : Reached)
+          → (b ≡ true → IsNodeSum k x l) × (b ≡ false → l ≡ k) × (y ≡ x)
+          → MatchBool b (DedupsFrom R t l xs ys)
+          ((zs : List Reached) × DedupsFrom R t y xs zs × (ys ≡ l ∷ zs))
+          → ((t : F) (k : Reached) (ys : List Reached) → DedupsFrom R t k xs ys
+          → AddUp (k ∷ xs) ys) → AddUp (k ∷ x ∷ xs) ys
+      by true t y l is h rest =
+          let later = rest t l ys h in
+          let sum = is.0 refl in (
+            have_then (k ∷ x ∷ xs) (l ∷ xs) ys
+                (have_both (k ∷ x ∷ []) (l ∷ []) xs xs (sum_shares k x l sum) (have_same xs))
+                later.0,
+            λ n up. later.1 n (grind arith),
+          )
+      by false t y l is h rest =
+          let later = rest t x h.0
+          (subst (λ (z : Reached). DedupsFrom R t z xs h.0) is.2 h.1) in
+          subst (AddUp (k ∷ x ∷ xs)) (sym (h.2 ∙ ap (λ (z : Reached). z ∷ h.0) (is.1 refl))) (
+            have_both (k ∷ []) (k ∷ []) (x ∷ xs) h.0 (have_same (k ∷ [])) later.0,
+            λ n up. (up.0, later.1 (demands_of k) up.1),
+          )
 
-    pub one_apart : Summing rs (at + 1) (sums ++ last ∷ []) r
-    one_apart = record {
-      shares = both;
-      ordered = IsNonDecreasingBy-push demands_of sums last before.ordered before.ends;
-      ends = λ d some. let count : length (sums ++ last ∷ []) - 1 ≡ length sums =
-          omega (arith, length-append sums (last ∷ [])) in
-          grind (arith, get_or-append_seam);
-      next = up at;
-    }
-
--- the same, where the sums but the last are kept in place of the nodes that are done
-pub record AddingUp (rs : List Reached) (at count : ℕ) (now : List Reached) (last : Reached)
-    : Type 0 where
-  pub summing : Summing rs at (take count now) last
-  pub left : (k : ℕ) (d : Reached) → at ≤ k → get_or now k d ≡ get_or rs k d
-  pub room : count < at
-  pub within : at ≤ length rs
-  pub length_is : length now ≡ length rs
-
-module _ (rs : List Reached) (sorted : IsNonDecreasingBy demands_of rs) where
-  pub first_adding : 0 < length rs → (r : Reached) → r ≡ get_or rs 0 r → AddingUp rs 1 0 rs r
-  first_adding some r is = record {
-    summing = subst (λ (ns : List Reached). Summing rs 1 ns r) (sym (none_taken rs))
-        (grind (arith, get_or_default rs 0 r no_node some, first_summed rs sorted some));
-    left = λ k d more. refl;
-    room = omega arith;
-    within = omega (arith, some);
-    length_is = refl;
-  }
-
-  module _ (at : ℕ) (less : at < length rs) (count : ℕ) (now : List Reached)
-      (last : Reached) (before : AddingUp rs at count now last)
-      (node : Reached) (read : node ≡ get_or now at node) where
-    there : node ≡ node_at rs at
-    there = read ∙ before.left at node (omega arith) ∙ get_or_default rs at node no_node less
-
-    pub last_grows : (sum : Reached) → IsNodeSum last node sum → AddingUp rs (at + 1) count now sum
-    last_grows sum h = grind (arith, one_added, there)
-
-    pub last_is_kept : AddingUp rs (at + 1) (count + 1) (set now count last) node
-    last_is_kept = record {
-      summing = subst (λ (ns : List Reached). Summing rs (at + 1) ns node)
-          (sym (take_more_set now count last (omega (arith, before.room, less, before.length_is))))
-          (subst (Summing rs (at + 1) (take count now ++ last ∷ [])) (sym there)
-          (one_apart rs sorted at less (take count now) last before.summing));
-      left = grind (arith, get_or-set_other);
-      room = omega (arith, before.room);
-      within = omega (arith, less);
-      length_is = length-set now count last ∙ before.length_is;
-    }
-
-pub all_added : (rs : List Reached) (at count : ℕ) (now : List Reached) (last : Reached)
-    → AddingUp rs at count now last → length rs ≤ at
-    → HaveSharesOf rs (take (count + 1) (set now count last))
-    × IsNonDecreasingBy demands_of (take (count + 1) (set now count last))
-all_added rs at count now last done end =
-    let kept : take (count + 1) (set now count last) ≡ take count now ++ last ∷ [] =
-    take_more_set now count last (omega (arith, done.room, done.within, done.length_is)) in
-    let whole : take at rs ≡ rs =
-    (let all : at ≡ length rs = omega (arith, done.within, end) in
-    ap (λ (n : ℕ). take n rs) all ∙ take-length rs) in
-    let s = done.summing in (
-      subst (HaveSharesOf rs) (sym kept)
-          (subst (λ (ns : List Reached). HaveSharesOf ns (take count now ++ last ∷ [])) whole
-          s.shares),
-      subst (IsNonDecreasingBy demands_of) (sym kept)
-          (IsNonDecreasingBy-push demands_of (take count now) last s.ordered s.ends),
-    )
+  pub added_up : (s : F) (rs ys : List Reached) → IsDeduped R s rs ys
+      → IsNonDecreasingBy demands_of rs → HaveSharesOf rs ys × IsNonDecreasingBy demands_of ys
+  added_up s [] ys h sorted =
+      subst (λ (zs : List Reached). HaveSharesOf [] zs × IsNonDecreasingBy demands_of zs)
+      (sym h.told) (have_same [], sorted)
+  added_up s (r ∷ rs) ys h sorted =
+      let all = adds_up rs s r ys h.told in
+      (all.0, in_turn 0 ys (all.1 0 (rising 0 (r ∷ rs) (λ d some. omega arith) sorted)))
 
 -- ---- terms
 

@@ -109,15 +109,10 @@ pub record IsScale (a b : Head) (s : Scale) : Type 0 where
   pub second : IsFactor b.den s.den s.second
   pub size : a.size * (s.den / a.den) + b.size * (s.den / b.den) ≤ s.size
 
--- one more row, of sums of numbers, each times its factor, if they are known to fit
-pub record HasNumbers (first second : List ℤ) (by_first by_second : ℕ) (fits : Bool)
-    (old new : List ℤ) : Type 0 where
-  pub row : List ℤ
-  pub is : new ≡ old ++ row
-  pub one_each : length row ≡ length first
-  pub within : AllByRecursion IsWithin row
-  pub sums : fits ≡ true → (k : ℕ) → get_or row k (pos 0)
-      ≡ get_or first k (pos 0) *ℤ pos by_first +ℤ get_or second k (pos 0) *ℤ pos by_second
+-- the sum of the numbers at this place, each times its factor, if it is known to fit
+abbrev pub IsSumAt : List ℤ → List ℤ → ℕ → ℕ → Bool → ℕ → ℤ → Type 0
+IsSumAt first second by_first by_second fits k number = IsWithin number × (fits ≡ true → number
+    ≡ get_or first k (pos 0) *ℤ pos by_first +ℤ get_or second k (pos 0) *ℤ pos by_second)
 
 -- the term is the sum of two others
 pub record IsSumOf (a b sum : Entry) : Type 0 where

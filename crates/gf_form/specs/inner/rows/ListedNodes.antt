@@ -1,34 +1,36 @@
 -- The terms of nodes that choices can reach.
-use Rattle.std.specs.Prelude.{◌≡◌, ℕ, suc, ◌<◌, ◌≤◌, List, [], ◌∷◌, ◌++◌}
+use Rattle.std.specs.Prelude.{◌≡◌, ℕ, ℤ, suc, ◌<◌, ◌≤◌, Bool, List, [], ◌∷◌, ◌++◌, true}
 use Rattle.std.specs.List.{AllByRecursion}
-use Rattle.gf_fraction.specs.Ratio.{Ratio}
+use Rattle.gf_fraction.specs.Ratio.{IsWithin, Ratio}
 use Rattle.gf_tree.specs.Game.{Game}
 use Rattle.gf_form.specs.inner.rows.Entries.{AreExactAt, Entry, entries, number_at, size_of_entries}
 use Rattle.gf_form.specs.inner.rows.Entries.{sum_of_entries}
 use Rattle.gf_form.specs.inner.values.Rows.{ArePaid}
-use Rattle.gf_form.specs.inner.rows.Shares.{IsExact, IsExactIfMet, met_bounds, share, share_bound}
-use Rattle.gf_form.specs.inner.rows.Shares.{sum_of_shares}
+use Rattle.gf_form.specs.inner.rows.Shares.{IsExact, IsExactIfMet, met_bounds, sum_of_shares}
 use Rattle.gf_form.specs.declared.rows.paths.Reached.{Reached}
 use Rattle.gf_form.specs.declared.rows.terms.Terms.{Terms}
 
--- the player, by his place from 0, has the share of this node as his number
-pub record HasShare (g : Game) (r : Reached) (e : Entry) (k : ℕ) : Type 0 where
-  pub exact : IsExact g (suc k) e.head.den r
-  pub number : number_at k e ≡ share g (suc k) e.head.den r
-  pub bound : share_bound g (suc k) e.head.den r ≤ e.head.size
+-- over this denominator, the shares of these nodes come to this number for the player, by his place
+-- from 0, and their bounds to at most this size
+pub record HasShares (g : Game) (rs : List Reached) (k den size : ℕ) (number : ℤ) : Type 0 where
+  pub exact : AllByRecursion (IsExact g (suc k) den) rs
+  pub number_is : number ≡ sum_of_shares g (suc k) den [] [] rs
+  pub bound : met_bounds g (suc k) den [] [] rs ≤ size
 
--- the term says what a node adds, if it is known to fit
-pub record IsTermOf (g : Game) (players : ℕ) (r : Reached) (e : Entry) : Type 0 where
-  pub demands : e.head.demands ≡ r.path.demands
-  pub shares : 0 < e.head.den → (k : ℕ) → k < players → HasShare g r e k
+-- the same for a number in bounds, if it is known to fit
+abbrev pub IsShareAt : List (List Ratio) → List Reached → ℕ → ℕ → Bool → ℕ → ℤ → Type 0
+IsShareAt rows rs den size fits k number = IsWithin number
+    × (fits ≡ true → (g : Game) → ArePaid g rows → HasShares g rs k den size number)
 
--- the term of one more node, by these rows of payoffs
-pub record IsTermMore (rows : List (List Ratio)) (r : Reached) (old new : Terms) : Type 0 where
+-- one more term, which has these demands, and says what these nodes add if it is known to fit
+pub record IsTermMore (rows : List (List Ratio)) (demands : ℕ) (rs : List Reached) (old new : Terms)
+    : Type 0 where
   pub term : Entry
   pub is : entries new ≡ entries old ++ term ∷ []
   pub grown : new.demands.items ≡ old.demands.items ++ term.head.demands ∷ []
-  pub demands : term.head.demands ≡ r.path.demands
-  pub says : (g : Game) → ArePaid g rows → IsTermOf g old.players r term
+  pub demands_are : term.head.demands ≡ demands
+  pub says : (g : Game) → ArePaid g rows → 0 < term.head.den → (k : ℕ) → k < old.players
+      → HasShares g rs k term.head.den term.head.size (number_at k term)
 
 -- over this denominator and at these choices, the terms come to the shares of a player, by his
 -- place from 0, in the nodes that the choices reach

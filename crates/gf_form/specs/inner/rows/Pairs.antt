@@ -1,15 +1,14 @@
 -- What at most two terms come to: one that demands nothing, and one that demands an action of the
 -- fastest digit.
-use Rattle.std.specs.Prelude.{◌≡◌, ℕ, ℤ, pos, ◌/◌, ◌<◌, ◌≤◌, ◌*◌, ◌^◌, ◌+ℤ◌, ◌*ℤ◌}
-use Rattle.std.specs.Prelude.{List, [], ◌++◌, get_or, length}
+use Rattle.std.specs.Prelude.{◌≡◌, ℕ, ℤ, pos, ◌/◌, ◌<◌, ◌≤◌, ◌*◌, ◌^◌, ◌+ℤ◌, ◌*ℤ◌, List, [], get_or}
+use Rattle.std.specs.Prelude.{length}
 use Rattle.std.specs.Int.{◌∣◌}
-use Rattle.std.specs.List.{AllByRecursion}
 use Rattle.gf_fraction.specs.Ratio.{HasValue, IsFraction, Ratio}
 use Rattle.gf_tree.specs.Game.{Game}
 use Rattle.gf_form.specs.inner.rows.Entries.{AreExactAt, Entry, number_at, size_of_entries}
 use Rattle.gf_form.specs.inner.rows.Entries.{sum_of_entries}
+use Rattle.gf_form.specs.inner.rows.ItemRows.{HasRow}
 use Rattle.gf_form.specs.inner.rows.SettledRows.{PaysOver}
-use Rattle.gf_form.specs.inner.values.Rows.{at_place}
 use Rattle.gf_form.specs.declared.rows.pairs.Only.{Only}
 use Rattle.gf_form.specs.declared.rows.pairs.Pair.{Pair}
 
@@ -46,11 +45,10 @@ pub record IsPaidPair (g : Game) (number : ℕ) (pair : Pair) : Type 0 where
   pub pays : (k : ℕ) → k < length g.players
       → PaysOver g number k pair.scale.den (pair_number pair k)
 
--- this many more fractions, whose values are those of the pair
-pub record HasPairRow (pair : Pair) (players : ℕ) (old new : List Ratio) : Type 0 where
-  pub row : List Ratio
-  pub is : new ≡ old ++ row
-  pub one_each : length row ≡ players
-  pub fractions : AllByRecursion IsFraction row
-  pub values : (k : ℕ) → k < players
-      → HasValue (at_place row k) (pair_number pair k) pair.scale.den
+-- the value that the pair has for the player at this place, from 0
+abbrev pub IsPairAt : Pair → ℕ → Ratio → Type 0
+IsPairAt pair k payoff = IsFraction payoff × HasValue payoff (pair_number pair k) pair.scale.den
+
+-- this many more fractions with these values
+abbrev pub HasPairRow : Pair → ℕ → List Ratio → List Ratio → Type 0
+HasPairRow pair players old new = HasRow (IsPairAt pair) players old new

@@ -1,22 +1,25 @@
-use Rattle.gf_form.proofs.Common.{◌≡◌, ◌∙◌, arith, length, take-length, get_or_default}
-use Rattle.gf_form.proofs.lemmas.rows.ListedEntries.{no_node, node_listed}
+use Rattle.gf_form.proofs.Common.{◌≡◌, ap, arith, length, take-length, get_or_default, Reached}
+use Rattle.gf_form.proofs.lemmas.rows.ListedEntries.{no_node, nodes_listed}
 use Rattle.gf_form.proofs.rows.listed.listed_over.Goals as goal
 
-pub loop-node-preserved : goal.loop-node-preserved
-loop-node-preserved c =
-    let same = c.in_ok-join_last.ensures.players in record {
-      listing = node_listed _ _ c.args.nodes.now c.requires c.loop-node.node-index
-          c.loop-node-test.true _ (get_or_default _ c.loop-node.node-index no_node _
-          c.loop-node-test.true) _ _ _ c.loop-node.invariant.listing
-          c.in_ok-push_node.ensures.term c.in_ok-join_last.ensures.shaped same.0
-          c.in_ok-push_node.ensures.players c.in_ok-join_last.ensures.terms
-          c.in_ok-join_last.ensures.ordered c.in_ok-join_last.ensures.last;
-      spare = same.1 ∙ c.loop-node.invariant.spare;
-    }
+pub loop-start-preserved : goal.loop-start-preserved
+loop-start-preserved c =
+    let start = c.loop-start.start in
+    let inv = c.loop-start.invariant in
+    let end = c.alike_end-end.ensures in
+    let more = c.in_ok-push_nodes.ensures in (
+      nodes_listed _ _ c.args.nodes.now c.requires start c.alike_end-end.result
+          c.loop-start-test.true end.onward end.within end.alike _
+          (ap (λ (r : Reached). r.path.demands)
+          (get_or_default c.args.nodes.now start _ no_node c.loop-start-test.true)) _ _ inv.0
+          more.term more.shaped more.players,
+      end.within,
+    )
 
 pub returns-clause-terms : goal.returns-clause-terms
 returns-clause-terms c g are =
-    let all : c.loop-node.node-index ≡ length c.args.nodes.now =
-    omega (arith, c.loop-node-test.false, c.loop-node.auto.node-index-end) in
-    let told = c.loop-node.invariant.listing.told g are in
+    let inv = c.loop-start.invariant in
+    let all : c.loop-start.start ≡ length c.args.nodes.now =
+    omega (arith, c.loop-start-test.false, inv.1) in
+    let told = inv.0.told g are in
     rw take-length at (rw all at told)

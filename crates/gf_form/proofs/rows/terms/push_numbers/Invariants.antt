@@ -1,10 +1,11 @@
 use Rattle.gf_form.proofs.Common.{◌+◌, ◌-◌, ◌≤◌, length, vec_capacity, vec_len}
-use Rattle.gf_form.proofs.lemmas.rows.FlatRows.{Adding}
+use Rattle.gf_form.specs.inner.rows.Entries.{IsSumAt}
+use Rattle.gf_form.specs.inner.rows.ItemRows.{HasRow}
 use Rattle.gf_form.proofs.rows.terms.push_numbers.Given as goal
 
 abbrev pub invariant-loop-place : goal.invariant-loop-place
 invariant-loop-place l = record {
-  adding : Adding l.first l.second l.fn.by_first l.fn.by_second l.place l.fits
+  adding : HasRow (IsSumAt l.first l.second l.fn.by_first l.fn.by_second l.fits) l.place
       l.fn.numbers.items l.numbers.items;
   room : vec_len l.numbers + (length l.first - l.place) ≤ vec_capacity l.numbers;
 }

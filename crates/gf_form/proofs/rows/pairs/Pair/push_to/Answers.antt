@@ -1,10 +1,11 @@
 use Rattle.gf_form.proofs.Common.{◌≡◌, ◌∙◌, ◌+ℤ◌, ◌*ℤ◌, ℤ, of_z, pos, subst, to_z, w128}
 use Rattle.gf_form.proofs.Common.{fits_signed_from_abs, to_z-of_z, HasValue, pair_number}
-use Rattle.gf_form.proofs.lemmas.rows.PairRows.{no_row, one_more}
+use Rattle.gf_form.specs.inner.rows.Pairs.{IsPairAt}
+use Rattle.gf_form.proofs.lemmas.rows.ItemRows.{no_item, one_item}
 use Rattle.gf_form.proofs.rows.pairs.Pair.push_to.Goals as goal
 
 pub loop-place-init : goal.loop-place-init
-loop-place-init c = no_row c.args.self c.args.rows.now.items
+loop-place-init c = no_item (IsPairAt c.args.self) c.args.rows.now.items
 
 pub loop-place-preserved : goal.loop-place-preserved
 loop-place-preserved c =
@@ -21,7 +22,10 @@ loop-place-preserved c =
     let is : number ≡ pair_number pair c.loop-place.place =
     c.in-Some.ensures.sum
     ∙ (λ i. first i *ℤ pos pair.scale.first +ℤ second i *ℤ pos pair.scale.second) in
-    one_more pair c.loop-place.place c.args.rows.now.items c.loop-place.rows.items
-    c.push.new.self.items c.over.result c.in_ok-push.ensures.items c.over.ensures.fraction
-    (subst (λ (z : ℤ). HasValue c.over.result z pair.scale.den) (whole ∙ is) c.over.ensures.value)
+    one_item (IsPairAt pair) (IsPairAt pair) c.loop-place.place c.args.rows.now.items
+    c.loop-place.rows.items c.push.new.self.items c.over.result c.in_ok-push.ensures.items
+    (λ k f h. h) (
+      c.over.ensures.fraction,
+      subst (λ (z : ℤ). HasValue c.over.result z pair.scale.den) (whole ∙ is) c.over.ensures.value,
+    )
     c.loop-place.invariant

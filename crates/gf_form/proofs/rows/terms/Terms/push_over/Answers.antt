@@ -1,7 +1,8 @@
 use Rattle.gf_form.proofs.Common.{◌≡◌, ◌∙◌, ◌<◌, ◌+ℤ◌, ◌*ℤ◌, ap, arith, get_or, length, pos, ℕ, ℤ}
-use Rattle.gf_form.proofs.Common.{sym, true, Vec, Global, get_or_default, entry_at}
+use Rattle.gf_form.proofs.Common.{sym, true, Vec, Global, get_or_default, entry_at, IsWithin}
 use Rattle.gf_form.proofs.lemmas.rows.FlatRows.{Pushed, entry_demands, is_pushed, row_in_bound}
-use Rattle.gf_form.proofs.lemmas.rows.FlatRows.{row_length, sum_made}
+use Rattle.gf_form.proofs.lemmas.rows.FlatRows.{all_sums, row_length, sum_made}
+use Rattle.gf_form.proofs.lemmas.rows.ItemRows.{all_by_place}
 use Rattle.gf_form.proofs.rows.terms.Terms.push_over.Goals.{then-fits, else-fits}
 use Rattle.gf_form.proofs.rows.terms.Terms.push_over.Goals as goal
 
@@ -24,7 +25,9 @@ made c =
     let after = c.in_ok-push_head.ensures in
     is_pushed c.args.self.now c.push_head.new.self
     (record { demands = c.index.result.now; den = c.if-fits.den; size = c.args.scale.size })
-    more.row c.requires.shaped.0 more.within
+    more.row c.requires.shaped.0
+    (all_by_place IsWithin more.row
+    (λ k d less. (more.each k d (omega (arith, less, more.one_each))).0))
     (more.one_each ∙ ap length c.row-one.ensures
     ∙ row_length from c.args.first c.requires.shaped.1 c.requires.first ∙ sym c.requires.players)
     after.alike.0 after.heads after.demands after.scaled
@@ -35,7 +38,9 @@ returns-clause-sum c =
     let from = c.args.from.now in
     let scale = c.args.scale in
     let more = c.in_ok-fits.ensures in
-    let sums = λ (fits : c.in_ok-fits.fits ≡ true) (k : ℕ). more.sums fits k
+    let sums = λ (fits : c.in_ok-fits.fits ≡ true) (k : ℕ).
+    all_sums c.row-one.result.now c.row-other.result.now scale.first scale.second c.in_ok-fits.fits
+    _ _ (grind (arith, row_length)) more fits k
     ∙ (λ i. get_or (c.row-one.ensures i) k (pos 0) *ℤ pos scale.first
     +ℤ get_or (c.row-other.ensures i) k (pos 0) *ℤ pos scale.second) in
     let known : 0 < c.if-fits.den → (c.in_ok-fits.fits ≡ true) × (c.if-fits.den ≡ scale.den) =

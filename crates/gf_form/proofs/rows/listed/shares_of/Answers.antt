@@ -1,0 +1,47 @@
+use Rattle.gf_form.proofs.Common.{◌≡◌, ◌∙◌, ◌+ℤ◌, ◌*ℤ◌, ℤ, List, arith, length, of_z, pos, subst}
+use Rattle.gf_form.proofs.Common.{sym, take, take-length, take_more, to_z, w128}
+use Rattle.gf_form.proofs.Common.{fits_signed_from_abs, to_z-of_z, *ℤ-one, IsWithin, Ratio, Reached}
+use Rattle.gf_form.proofs.Common.{rows_of}
+use Rattle.gf_form.specs.inner.rows.ListedNodes.{HasShares}
+use Rattle.gf_form.specs.inner.rows.Shares.{IsShare}
+use Rattle.gf_form.proofs.lemmas.rows.ListedEntries.{no_node, node_at}
+use Rattle.gf_form.proofs.lemmas.rows.NodeTerms.{one_share_more}
+use Rattle.gf_form.proofs.rows.listed.shares_of.Goals as goal
+
+in_bits : (z : ℤ) → IsWithin z → to_z w128 (of_z w128 z) ≡ z
+in_bits z small = to_z-of_z w128 z (fits_signed_from_abs w128 z small)
+
+pub loop-node-preserved : goal.loop-node-preserved
+loop-node-preserved c =
+    let nodes = c.args.nodes.now in
+    let at = c.loop-node.node-index in
+    let r = node_at nodes at in
+    let inv = c.loop-node.invariant in
+    let sum = c.loop-node.sum in
+    let share = c.in_ok-share.share in
+    let amount = c.in_ok-amount.amount in
+    let small = c.in_ok-amount.ensures.within in
+    let first = in_bits sum.amount inv.0 in
+    let second = in_bits share.amount c.in_ok-share.ensures.within in
+    let total : amount ≡ sum.amount +ℤ share.amount =
+    c.in_ok-amount.ensures.sum ∙ (λ i. first i *ℤ pos 1 +ℤ second i *ℤ pos 1)
+    ∙ (λ i. *ℤ-one sum.amount i +ℤ *ℤ-one share.amount i) in
+    rw (in_bits amount small) (
+      small,
+      λ g are. subst (λ (rs : List Reached). HasShares g rs c.args.place c.args.den
+          c.in_ok-bound.bound amount)
+          (sym (take_more nodes at no_node c.loop-node-test.true))
+          (one_share_more g (rows_of c.args.payoffs.now) are c.args.place c.args.den
+          (take at nodes) r c.in_ok-times.times sum.bound c.in_ok-bound.bound sum.amount amount
+          share c.in_ok-times.ensures
+          (subst (λ (pay : Ratio). IsShare r.path pay c.in_ok-times.times share)
+          c.payoff_at-payoff.ensures c.in_ok-share.ensures.share)
+          total c.in_ok-bound.ensures.1 (inv.1 g are)),
+    )
+
+pub returns-clause-shares : goal.returns-clause-shares
+returns-clause-shares c g are =
+    let all : c.loop-node.node-index ≡ length c.args.nodes.now =
+    omega (arith, c.loop-node-test.false, c.loop-node.auto.node-index-end) in
+    let told = c.loop-node.invariant.1 g are in
+    rw take-length at (rw all at told)
