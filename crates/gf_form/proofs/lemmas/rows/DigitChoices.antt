@@ -4,7 +4,6 @@ use Rattle.gf_form.proofs.Common.{map, get_or, refl, ◌∙◌, arith, AllByRecu
 use Rattle.gf_form.proofs.Common.{mod-add-div, mul_comm, AllZip-long, product, at_digits, picked}
 use Rattle.gf_form.proofs.Common.{all_choices, mod-eq_of_lt, mod-lt, ArePositive}
 use Rattle.gf_form.proofs.lemmas.strategies.Choices.{IsChoice, are_choices, length-all_choices}
-use Rattle.gf_form.proofs.lemmas.strategies.Choices.{place, at_its_place}
 use Rattle.gf_form.proofs.lemmas.strategies.CountedActions.{product_positive}
 use Rattle.gf_form.proofs.lemmas.rows.DigitPlaces.{HasShape, product_joined}
 use Rattle.gf_form.proofs.lemmas.strategies.NumberedProfiles.{numbered}
