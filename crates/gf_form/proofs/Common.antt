@@ -44,11 +44,13 @@ pub use Rattle.gf_form.specs.inner.reduced.Levels.{ArePositive, IsLevel, is_left
 pub use Rattle.gf_form.specs.inner.reduced.Levels.{can_be_met, IsChosen, IsChosenAt}
 pub use Rattle.gf_form.specs.inner.reduced.OwnDigits.{digits_from, own_steps}
 pub use Rattle.gf_form.specs.inner.reduced.Relevance.{FindRelevance}
-pub use Rattle.gf_form.specs.inner.reduced.Search.{AreFirstBelow, AreFoundTo, AreInTurn}
-pub use Rattle.gf_form.specs.inner.reduced.Search.{AreLabelledTo, AreOwn, HaveChoices, HaveNumbers}
-pub use Rattle.gf_form.specs.inner.reduced.Search.{IsElsewhere, IsHere, IsKept, IsLast, IsNextBelow}
+pub use Rattle.gf_form.specs.inner.reduced.Search.{AreFirstBelow, AreFoundTo, AreInTurn, IsFine}
+pub use Rattle.gf_form.specs.inner.reduced.Search.{HaveNumbers}
+pub use Rattle.gf_form.specs.inner.reduced.Search.{AreLabelledTo, AreOwn, HaveChoices, steps_to}
+pub use Rattle.gf_form.specs.inner.reduced.Search.{IsElsewhere, IsKept, IsLast, IsNextBelow}
 pub use Rattle.gf_form.specs.inner.reduced.Search.{IsSearched, IsToldBy, IsWritten, actions_of}
 pub use Rattle.gf_form.specs.inner.reduced.Search.{digit_at, is_relevant_at, is_settled, numbered}
+pub use Rattle.gf_form.specs.inner.reduced.Search.{choices_at}
 pub use Rattle.gf_form.specs.inner.reduced.Shown.{chooses_first, is_first, relevant_sets, shown}
 pub use Rattle.gf_form.specs.inner.reduced.Survey.{FindsMore, sizes, survey_size, visits_at}
 pub use Rattle.gf_form.specs.inner.reduced.Survey.{visits_below, own_step, own_visit}
@@ -79,7 +81,8 @@ pub use Rattle.gf_form.specs.inner.rows.SummedNodes.{order_of}
 pub use Rattle.gf_form.specs.inner.strategies.Counted.{AreCounts}
 pub use Rattle.gf_form.specs.inner.strategies.LabelTexts.{choice_text, IsPlain}
 pub use Rattle.gf_form.specs.inner.strategies.ProfileNumbers.{AreProfileNumbers, AreBelow}
-pub use Rattle.gf_form.specs.inner.strategies.ProfileNumbers.{numbered_profiles, numbers_with}
+pub use Rattle.gf_form.specs.inner.strategies.ProfileNumbers.{ArePicked, IsPicked, full_at}
+pub use Rattle.gf_form.specs.inner.strategies.ProfileNumbers.{numbered_profiles}
 pub use Rattle.gf_form.specs.inner.values.CodeLeft.{code_left, strategies_of_walk}
 pub use Rattle.gf_form.specs.inner.values.PaidRows.{rows_of}
 pub use Rattle.gf_form.specs.inner.values.Program.{run, paid_at_node, paid, chance_code, child_code}

@@ -2,6 +2,4 @@ pub mod FormMade
 pub mod FormTables
 pub mod Forms
 pub mod SameForms
-pub mod SameRefusals
 pub mod Worked
-pub mod WorkedGames

@@ -3,13 +3,9 @@ pub mod Choices
 pub mod Chosen
 pub mod CountedActions
 pub mod CountsGiven
-pub mod JoinedTexts
 pub mod KnownSets
-pub mod LabelsJoined
 pub mod Lookups
-pub mod NoPlayer
 pub mod NumberedProfiles
 pub mod PickedProfiles
 pub mod StrategiesByNumber
 pub mod StrategyLabels
-pub mod WrittenStrategies

@@ -2,12 +2,8 @@ pub mod Alike
 pub mod BottomUp
 pub mod ChanceSigns
 pub mod Denominators
-pub mod Followed
 pub mod Following
-pub mod Lotteries
-pub mod PaidRowsKept
 pub mod PayoffsGiven
-pub mod PlaySums
 pub mod ProgramRuns
 pub mod RowSums
 pub mod Stacks

@@ -23,7 +23,7 @@ pub(crate) struct OwnDigit {
 
 /// The step of the digit of each set, if a player has this many actions at each; 0 if he has only
 /// one there.
-#[tactic(auto, using(crate::proofs::lemmas::reduced::OwnDigits::own_digit_steps))]
+#[tactic(auto, using(crate::proofs::lemmas::reduced::SearchStarts::own_digit_steps))]
 pub(crate) fn own_steps(alloc: Global, counts: &[u32]) -> Result<Vec<u64>, AllocError>
     requires some { ArePositive counts.now }
     requires few { product counts.now < 2 ^ 32 }
@@ -47,7 +47,7 @@ pub(crate) fn step_at(steps: &[u64], position: u32) -> u64
 }
 
 /// The digits of sets with this many actions, from the slowest on, and with these steps.
-#[tactic(auto, using(crate::proofs::lemmas::reduced::OwnDigits::own_digit_steps))]
+#[tactic(auto, using(crate::proofs::lemmas::reduced::SearchStarts::own_digit_steps))]
 pub(crate) fn own_digits(
     alloc: Global,
     counts: &[u32],

@@ -10,7 +10,7 @@ ghost use Rattle.gf_form.specs.inner.reduced.Firsts.{AreFirsts, AreFirstsOf};
 ghost use Rattle.gf_form.specs.inner.reduced.OwnDigits.{digits_from};
 ghost use Rattle.gf_form.specs.inner.reduced.Relevance.{FindRelevance};
 ghost use Rattle.gf_form.specs.inner.reduced.Search.{AreFirstBelow, AreFoundTo, AreOwn};
-ghost use Rattle.gf_form.specs.inner.reduced.Search.{HaveChoices, IsHere, IsSearched, digit_at};
+ghost use Rattle.gf_form.specs.inner.reduced.Search.{HaveChoices, IsSearched, digit_at};
 ghost use Rattle.gf_form.specs.inner.reduced.Visits.{AreWithin};
 ghost use Rattle.gf_form.specs.Reduced.{reduced_labels};
 ghost use Rattle.gf_form.specs.Strategies.{action_counts, players_of, strategies};
@@ -32,21 +32,6 @@ pub(crate) struct Player<'q, 'a> {
     pub game: &'q Game<'a>,
     pub number: u32,
     pub digits: Vec<OwnDigit>,
-}
-
-impl<'q, 'a> Player<'q, 'a> {
-    /// The digit at this depth, from 0; `None` if there are no more.
-    #[tactic(auto, using(crate::proofs::lemmas::reduced::SearchSteps::digit_here))]
-    pub(crate) fn digit(&self, depth: usize) -> Option<OwnDigit>
-        requires { depth ≤ length self.now.digits.items }
-        ensures { MatchOption result (depth ≡ length self.now.digits.items)
-            (IsHere self.now.digits.items depth) }
-    {
-        if depth == self.digits.len() {
-            return None;
-        }
-        Some(self.digits[depth])
-    }
 }
 
 /// A search for the first strategies of a player that reduce to each of his reduced ones. It
@@ -115,18 +100,19 @@ impl Search {
     }
 
     /// Appends the numbers of the first strategies among those with the choices at the first
-    /// digits, as many as the depth says. They have numbers from this one on, and there are `count`
-    /// of them.
+    /// digits, as many as the depth says; these are the other ones. They have numbers from this one
+    /// on, and there are `count` of them.
     fn push_below(
         &mut self,
         player: &Player<'_, '_>,
+        digits: &[OwnDigit],
         level: &Level,
         depth: usize,
         number: u32,
         count: u32,
     ) -> Result<(), AllocError>
         requires below { IsSearched player.now.game.now player.now.number player.now.digits.items
-            level.now depth number count }
+            digits.now level.now depth number count }
         requires found { AreFoundTo player.now.game.now player.now.number self.old.numbers.items
             number }
         ensures found { OnOk result (AreFoundTo player.now.game.now player.now.number
@@ -140,18 +126,25 @@ impl Search {
         if !are_set(&self.met[..depth]) {
             return Ok(());
         }
-        let Some(digit) = player.digit(depth) else {
+        let Some((digit, faster)) = digits.split_first() else {
             return self.push_all(player, number, count);
         };
         let each = count / digit.actions;
-        let tried = self.actions_tried(depth, digit);
+        let tried = self.actions_tried(depth, *digit);
         let mut left = match self.spare.pop() {
             Some(level) => level,
             None => Level::none(self.alloc),
         };
         for before in 0..tried {
             left.choose_at(level, digit.step, u64::from(before + 1), depth)?;
-            self.push_below(player, &left, depth + 1, number + before * each, each)?;
+            self.push_below(
+                player,
+                faster,
+                &left,
+                depth + 1,
+                number + before * each,
+                each,
+            )?;
         }
         self.spare.push(left)?;
         Ok(())
@@ -220,7 +213,7 @@ fn first_numbers(
         numbers: Vec::new(alloc),
         spare: Vec::new(alloc),
     };
-    search.push_below(player, &level, 0, 0, whole)?;
+    search.push_below(player, &player.digits, &level, 0, 0, whole)?;
     Ok(search.numbers)
 }
 

@@ -1,7 +1,7 @@
 //! The labels of reduced strategies.
 
 ghost use Rattle.std.specs.Prelude.{◌≡◌, ◌≤◌, ◌<◌, ◌+◌, ◌++◌, [], ◌∷◌, None, Some, IfOk, OnOk};
-ghost use Rattle.std.specs.Prelude.{drop, false, get_or, if◌then◌else◌, length, true, ℕ};
+ghost use Rattle.std.specs.Prelude.{false, get_or, if◌then◌else◌, length, true, ℕ};
 ghost use Rattle.std.specs.List.{AllByRecursion};
 ghost use Rattle.gf_token.specs.LabelSpelling.{IsLabel};
 ghost use Rattle.gf_form.specs.inner.strategies.LabelTexts.{IsPlain, choice_text};
@@ -14,6 +14,7 @@ ghost use Rattle.gf_form.specs.inner.reduced.Search.{HaveChoices, IsKept, IsLast
 ghost use Rattle.gf_form.specs.inner.reduced.Search.{IsWritten};
 ghost use Rattle.gf_form.specs.inner.reduced.Shown.{shown};
 
+use crate::reduced::digits::OwnDigit;
 use crate::reduced::first::Player;
 use crate::reduced::level::Level;
 use crate::reduced::visits::Visit;
@@ -43,7 +44,7 @@ fn write_choice(is_relevant: bool, action: u32, text: &mut Vec<u8>) -> Result<()
 
 /// Replaces a text by the label of a reduced strategy: the actions at the relevant sets, and `*` at
 /// the others, joined by `-`.
-#[tactic(auto, using(crate::proofs::lemmas::reduced::ReducedText::label_steps))]
+#[tactic(auto, using(crate::proofs::lemmas::reduced::SearchLabels::label_steps))]
 fn write_reduced_label(
     relevant: &[bool],
     strategy: &[u32],
@@ -132,31 +133,31 @@ impl Labelling {
         Ok(())
     }
 
-    /// Appends the labels of the strategies with these numbers among those with the choices at the
-    /// first digits, as many as the depth says. They have numbers from this one on, there are
-    /// `count` of them, and one of them at least has a label due.
+    /// Appends the labels of the strategies with these numbers among those with the choices so far,
+    /// at all digits but these. They have numbers from this one on, there are `count` of them, and
+    /// one of them at least has a label due.
     fn push_below(
         &mut self,
         player: &Player<'_, '_>,
+        digits: &[OwnDigit],
         numbers: &[u32],
         level: &Level,
-        depth: usize,
         number: u32,
         count: u32,
     ) -> Result<(), AllocError>
-        requires below { IsWritten player.now.game.now player.now.number player.now.digits.items
-            self.old.strategy.items level.now depth number count }
+        requires below { IsWritten player.now.game.now player.now.number digits.now
+            self.old.strategy.items level.now number count }
         requires ordered { AreInTurn numbers.now }
         requires next { IsNextBelow numbers.now self.old.labels (number + count) }
         requires labelled { AreLabelledTo player.now.game.now player.now.number numbers.now
             self.old.labels number }
-        ensures kept { OnOk result (IsKept (drop depth player.now.digits.items)
-            self.old.strategy.items self.new.strategy.items) }
+        ensures kept { OnOk result (IsKept digits.now self.old.strategy.items
+            self.new.strategy.items) }
         ensures labelled { OnOk result (AreLabelledTo player.now.game.now player.now.number
             numbers.now self.new.labels (number + count)) }
     {
         let _players = player.game.players();
-        let Some(digit) = player.digit(depth) else {
+        let Some((digit, faster)) = digits.split_first() else {
             return self.push_label(player, numbers, level, number);
         };
         let each = count / digit.actions;
@@ -171,7 +172,7 @@ impl Labelling {
             }
             self.strategy[digit.place] = before + 1;
             left.choose(level, digit.step, u64::from(before + 1))?;
-            self.push_below(player, numbers, &left, depth + 1, first, each)?;
+            self.push_below(player, faster, numbers, &left, first, each)?;
         }
         self.spare.push(left)?;
         Ok(())
@@ -204,6 +205,6 @@ pub(crate) fn labels_of(
     if !labelling.is_next_below(numbers, whole) {
         return Ok(labelling.labels);
     }
-    labelling.push_below(player, numbers, &level, 0, 0, whole)?;
+    labelling.push_below(player, &player.digits, numbers, &level, 0, whole)?;
     Ok(labelling.labels)
 }

@@ -3,7 +3,7 @@
 ghost use Rattle.std.specs.Prelude.{◌≡◌, ◌<◌, ◌+◌, ◌*◌, ◌^◌, ◌++◌, ℕ, IfOk, OnOk, length, map};
 ghost use Rattle.std.specs.List.{AllByRecursion, flat_map};
 ghost use Rattle.gf_nfg.specs.Profiles.{numbers_from, product};
-ghost use Rattle.gf_form.specs.inner.strategies.ProfileNumbers.{AreBelow, numbers_with};
+ghost use Rattle.gf_form.specs.inner.strategies.ProfileNumbers.{AreBelow, ArePicked};
 
 use std::alloc::{AllocError, Global};
 
@@ -64,7 +64,7 @@ pub(crate) fn profile_numbers(
     requires some { 0 < product counts.now }
     requires few { product counts.now < 2 ^ 32 }
     ensures { IfOk result
-        (λ numbers. numbers.items ≡ numbers_with counts.now (map (λ own. own.items) picked.now)) }
+        (λ numbers. ArePicked counts.now (map (λ own. own.items) picked.now) numbers.items) }
 {
     let mut numbers = Vec::new(alloc);
     numbers.push(0)?;

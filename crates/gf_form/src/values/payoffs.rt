@@ -67,7 +67,7 @@ impl<'g> Payoffs<'g> {
     }
 
     /// The row of the outcome at this position, from 1; an empty one if there is no such outcome.
-    #[tactic(auto, using(crate::proofs::lemmas::values::PaidRowsKept::row_steps))]
+    #[tactic(auto, using(crate::proofs::lemmas::values::Stacks::row_steps))]
     pub(crate) fn at(&self, position: u32) -> &'g [Fraction]
         ensures { result.now ≡ row_at (rows_of self.now) position }
     {

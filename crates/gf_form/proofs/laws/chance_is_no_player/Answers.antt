@@ -1,5 +1,4 @@
-use Rattle.gf_form.proofs.lemmas.strategies.NoPlayer.{chance_chooses_nothing}
-use Rattle.gf_form.proofs.lemmas.strategies.NoPlayer.{chance_is_paid_nothing}
+use Rattle.gf_form.proofs.lemmas.strategies.Chosen.{chance_chooses_nothing, chance_is_paid_nothing}
 use Rattle.gf_form.proofs.laws.chance_is_no_player.Goals as goal
 
 pub returns-clause-choices : goal.returns-clause-choices

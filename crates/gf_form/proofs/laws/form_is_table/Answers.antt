@@ -1,5 +1,5 @@
 use Rattle.gf_form.proofs.lemmas.form.FormTables.{form_is_table}
-use Rattle.gf_form.proofs.lemmas.reduced.ReducedTables.{reduced_is_table}
+use Rattle.gf_form.proofs.lemmas.reduced.ReducedForms.{reduced_is_table}
 use Rattle.gf_form.proofs.laws.form_is_table.Goals as goal
 
 pub returns-clause-strategic : goal.returns-clause-strategic

@@ -1,5 +1,4 @@
-use Rattle.gf_form.proofs.lemmas.reduced.ReducedPays.{reduced_pay}
-use Rattle.gf_form.proofs.lemmas.reduced.ReducedValues.{reduced_value}
+use Rattle.gf_form.proofs.lemmas.reduced.Reducing.{reduced_pay, reduced_value}
 use Rattle.gf_form.proofs.laws.reduced_profiles_pay_alike.Goals as goal
 
 pub returns-clause-payoffs : goal.returns-clause-payoffs

@@ -1,6 +1,6 @@
 use Rattle.gf_form.proofs.lemmas.form.SameForms.{same_payoffs, same_values, same_forms}
-use Rattle.gf_form.proofs.lemmas.form.SameForms.{same_strategies, same_strategies_at}
-use Rattle.gf_form.proofs.lemmas.form.SameRefusals.{same_count, same_overflow}
+use Rattle.gf_form.proofs.lemmas.form.SameForms.{same_strategies, same_strategies_at, same_count}
+use Rattle.gf_form.proofs.lemmas.form.SameForms.{same_overflow}
 use Rattle.gf_form.proofs.laws.same_games_same_form.Goals as goal
 
 pub returns-clause-payoffs : goal.returns-clause-payoffs

@@ -1,6 +1,5 @@
-use Rattle.gf_form.proofs.lemmas.reduced.SameReduced.{same_reduced, same_reduced_by}
-use Rattle.gf_form.proofs.lemmas.reduced.SameReduced.{same_reduced_forms, same_reduced_overflow}
-use Rattle.gf_form.proofs.lemmas.reduced.SameReduced.{same_reduced_strategies}
+use Rattle.gf_form.proofs.lemmas.form.SameForms.{same_reduced, same_reduced_by, same_reduced_forms}
+use Rattle.gf_form.proofs.lemmas.form.SameForms.{same_reduced_overflow, same_reduced_strategies}
 use Rattle.gf_form.proofs.laws.same_games_same_reduced_form.Goals as goal
 
 pub returns-clause-reduced : goal.returns-clause-reduced

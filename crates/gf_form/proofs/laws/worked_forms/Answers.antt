@@ -2,8 +2,7 @@ use Rattle.gf_form.proofs.lemmas.form.Worked.{plays_of_bonus, form_of_bonus, gre
 use Rattle.gf_form.proofs.lemmas.form.Worked.{no_value, unlikely_payoff, no_value_either}
 use Rattle.gf_form.proofs.lemmas.form.Worked.{balanced_payoff, no_balanced_value, form_of_ending}
 use Rattle.gf_form.proofs.lemmas.form.Worked.{reduced_of_ending, both_strategies}
-use Rattle.gf_form.proofs.lemmas.form.Worked.{contradicted_strategies}
-use Rattle.gf_form.proofs.lemmas.form.WorkedGames.{worked_games}
+use Rattle.gf_form.proofs.lemmas.form.Worked.{contradicted_strategies, worked_games}
 use Rattle.gf_form.proofs.laws.worked_forms.Goals as goal
 
 pub returns-clause-plays : goal.returns-clause-plays

@@ -12,8 +12,7 @@ use Rattle.gf_form.proofs.Common.{HasActions, is_own_choice, agrees, comes_to, i
 use Rattle.gf_form.proofs.Common.{cases_Bool}
 use Rattle.gf_form.proofs.lemmas.strategies.Chosen.{his_actions}
 use Rattle.gf_form.proofs.lemmas.values.Following.{IsPlayOf, play_of, taken_child}
-use Rattle.gf_form.proofs.lemmas.values.Lotteries.{actions_at}
-use Rattle.gf_form.proofs.lemmas.values.Whole.{some_play_in}
+use Rattle.gf_form.proofs.lemmas.values.Whole.{actions_at, some_play_in}
 use Rattle.gf_form.proofs.lemmas.reduced.Reducing.{any_has}
 use Rattle.gf_form.proofs.lemmas.strategies.KnownSets.{own_set}
 

@@ -1,4 +1,5 @@
--- A set is relevant exactly if the choices come to it in the tree.
+-- A set is relevant exactly if the choices come to it in the tree. So all sets are relevant of a
+-- player with one strategy, who has one action at each.
 use Rattle.gf_form.proofs.Common.{◌≡◌, ℕ, ◌+◌, ◌<◌, Bool, true, false, List, [], ◌∷◌, Option, Some}
 use Rattle.gf_form.proofs.Common.{None, MatchOption, length, map, refl, ap, arith, subst, ◌||◌}
 use Rattle.gf_form.proofs.Common.{◌&&◌, option_map, AllByRecursion, list_any, option_map_or}
@@ -6,11 +7,25 @@ use Rattle.gf_form.proofs.Common.{list_any-append, all_parts, Tree, Trees, count
 use Rattle.gf_form.proofs.Common.{more, InformationSet, SetKey, same_set, Node, Game, IsGame}
 use Rattle.gf_form.proofs.Common.{HasChildren, set_at, flatten, flatten_all, has_map, tree_comes}
 use Rattle.gf_form.proofs.Common.{trees_come, Play, from_node, plays, plays_from, comes_to}
-use Rattle.gf_form.proofs.Common.{is_own_choice, is_relevant}
+use Rattle.gf_form.proofs.Common.{is_own_choice, is_relevant, zero, suc, ◌*◌, ◌≤◌, cond, get_or}
+use Rattle.gf_form.proofs.Common.{sym, ◌∙◌, inl, inr, codes, decimal, filter, find, unwrap_or}
+use Rattle.gf_form.proofs.Common.{Contains, join_with_byte, or_left, or_right, get_or_default}
+use Rattle.gf_form.proofs.Common.{length-map, none-some, product, Described, description_at}
+use Rattle.gf_form.proofs.Common.{player_keys, player_sets, was_used, map_same, map_twice}
+use Rattle.gf_form.proofs.Common.{same_set_equality, Has, AreFirstsOf, reduced, reduced_label}
+use Rattle.gf_form.proofs.Common.{reduced_labels, reduced_strategies, chooses_first, is_first}
+use Rattle.gf_form.proofs.Common.{relevant_sets, shown, action_counts, all_choices, choice_at}
+use Rattle.gf_form.proofs.Common.{strategies, strategy_label}
 use Rattle.std.proofs.Math.Bool.{and-or_distrib_left}
-use Rattle.gf_form.proofs.lemmas.strategies.KnownSets.{set_is}
-use Rattle.gf_form.proofs.lemmas.reduced.ReducedValues.{first_play}
-use Rattle.gf_form.proofs.lemmas.reduced.Reducing.{any_has}
+use Rattle.gf_form.proofs.lemmas.strategies.KnownSets.{set_is, own_set}
+use Rattle.gf_form.proofs.lemmas.reduced.Reducing.{first_play, any_has}
+use Rattle.std.specs.List.{filter_map}
+use Rattle.gf_tree.specs.PrefixOrder.{Entry}
+use Rattle.gf_form.proofs.lemmas.strategies.Choices.{length-all_choices}
+use Rattle.gf_form.proofs.lemmas.strategies.Chosen.{among_his, his_actions}
+use Rattle.gf_form.proofs.lemmas.reduced.FirstStrategies.{flags_fit, reduced_shown_at}
+use Rattle.gf_form.proofs.lemmas.reduced.FirstStrategies.{reduced_strategies_are}
+use Rattle.gf_form.proofs.lemmas.values.Following.{in_either}
 
 module _ (g : Game) (game : IsGame g) (choices : SetKey → ℕ) (key : SetKey) where
   -- some of these plays comes to the set so
@@ -89,3 +104,188 @@ module _ (g : Game) (game : IsGame g) (choices : SetKey → ℕ) (key : SetKey) 
 
   pub relevant_is : is_relevant g choices key ≡ tree_comes choices key g.tree
   relevant_is = comes_in g.tree game.children
+
+-- ---- one action at each set
+
+both_one : (a b : ℕ) → a * b ≡ 1 → (a ≡ 1) × (b ≡ 1)
+both_one zero b e = absurd (omega (arith, e))
+both_one (suc zero) b e = grind arith
+both_one (suc (suc a)) zero e = grind arith
+both_one (suc (suc a)) (suc b) e = grind arith
+
+one_action : (key : SetKey) (ss : List (Described SetKey InformationSet)) (set : InformationSet)
+    → product (map (λ s. length s.description.actions) ss) ≡ 1
+    → description_at same_set ss key ≡ Some set → length set.actions ≡ 1
+one_action key [] set h is = absurd (none-some set is)
+one_action key (s ∷ ss) set h is =
+    let parts = both_one (length s.description.actions)
+    (product (map (λ s. length s.description.actions) ss)) h in
+    by (same_set s.key key) parts.0 (one_action key ss set parts.1) is
+  where
+    by : (b : Bool) → length s.description.actions ≡ 1
+        → (description_at same_set ss key ≡ Some set → length set.actions ≡ 1)
+        → option_map (λ e. e.description) (cond b (Some s) (find (λ e. same_set e.key key) ss))
+        ≡ Some set
+        → length set.actions ≡ 1
+    by true one others is = sym (ap (λ o. length (unwrap_or o s.description).actions) is) ∙ one
+    by false one others is = others is
+
+-- ---- the nodes of a set
+
+from_filter_map : {X Y : Type 0} (f : X → Option Y) (xs : List X) (y : Y) → Has (filter_map f xs) y
+    → (x : X) × Has xs x × (f x ≡ Some y)
+from_filter_map f [] y h = absurd h
+from_filter_map {X} {Y} f (x ∷ xs) y h = grind (arith, from_filter_map f xs y)
+
+node_of : (g : Game) → IsGame g → (player : ℕ) (key : SetKey) → Has (player_keys g player) key
+    → (e : Entry Node) × Has (flatten g.tree) e × (e.node.set ≡ Some key)
+node_of g game player key i =
+    let s = own_set g player key i in
+    let known : Has (map (λ (s : Described SetKey InformationSet). s.key) g.sets) key =
+    subst (Has (map (λ (s : Described SetKey InformationSet). s.key) g.sets)) s.2
+    (has_map (λ (s : Described SetKey InformationSet). s.key) g.sets s.0 s.1) in
+    grind (arith, Has, from_filter_map, was_used)
+
+-- ---- choices come to each set whose owner has one action at each of his
+
+module _ (g : Game) (choices : SetKey → ℕ) (key : SetKey)
+    (one : (own : SetKey) (set : InformationSet) → own.player ≡ key.player → set_at g own ≡ Some set
+    → (length set.actions ≡ 1) × (choices own ≡ 1)) where
+  abbrev IsChosen : Node → ℕ → Type 0
+  IsChosen n k = is_own_choice choices key.player (record { node = n; taken = k }) ≡ true
+
+  chosen_child : (n : Node) (own : SetKey) (m : ℕ) → n.set ≡ Some own
+      → option_map (λ set. length set.actions) (set_at g own) ≡ Some m
+      → (k : ℕ) → 1 ≤ k → k ≤ m → IsChosen n k
+  chosen_child n own m at known k above within = grind arith
+
+  mutual
+    comes_there : (t : Tree Node) → AllByRecursion (HasChildren g) (flatten t) → (e : Entry Node)
+        → Has (flatten t) e → e.node.set ≡ Some key → tree_comes choices key t ≡ true
+    comes_there (branch n ts) children e i is =
+        by_set n.set refl children.0 i
+        (λ chosen j. come_there ts n 1 chosen children.1 e j is)
+      where
+        IsBelow : Type 0
+        IsBelow = ((k : ℕ) → 1 ≤ k → k < 1 + count ts → IsChosen n k) → Has (flatten_all ts) e
+            → trees_come choices key n 1 ts ≡ true
+
+        no_child : (ts : Trees Node) → count ts ≡ 0 → Has (flatten_all ts) e → ⊥
+        no_child none c j = j
+        no_child (more t ts) c j = omega (arith, c)
+
+        by_set : (o : Option SetKey) → n.set ≡ o → MatchOption o (count ts ≡ 0)
+            (λ own. option_map (λ set. length set.actions) (set_at g own) ≡ Some (count ts))
+            → Has (flatten (branch n ts)) e → IsBelow
+            → option_map_or (λ own. same_set key own || trees_come choices key n 1 ts) o false
+            ≡ true
+        by_set None at c (inl q) below =
+            absurd (none-some key (sym at ∙ ap (λ (e : Entry Node). e.node.set) q ∙ is))
+        by_set None at c (inr j) below = absurd (no_child ts c j)
+        by_set (Some own) at c (inl q) below =
+            let same : Some own ≡ Some key =
+            sym at ∙ ap (λ (e : Entry Node). e.node.set) q ∙ is in
+            or_left (same_set key own) (trees_come choices key n 1 ts)
+            ((same_set_equality key own).1 (sym (ap (λ o. unwrap_or o own) same)))
+        by_set (Some own) at c (inr j) below =
+            or_right (same_set key own) (trees_come choices key n 1 ts)
+            (below
+            (λ k above less. chosen_child n own (count ts) at c k above (omega (arith, less))) j)
+
+    come_there : (ts : Trees Node) (n : Node) (k : ℕ)
+        → ((j : ℕ) → k ≤ j → j < k + count ts → IsChosen n j)
+        → AllByRecursion (HasChildren g) (flatten_all ts) → (e : Entry Node)
+        → Has (flatten_all ts) e → e.node.set ≡ Some key → trees_come choices key n k ts ≡ true
+    come_there none n k chosen children e i is = absurd i
+    come_there (more t ts) n k chosen children e i is =
+        let both = all_parts (HasChildren g) (flatten t) (flatten_all ts) children in
+        let move = is_own_choice choices key.player (record { node = n; taken = k }) in
+        elim (in_either (flatten t) (flatten_all ts) e i) [
+          | inl j ↦
+              or_left (move && tree_comes choices key t) (trees_come choices key n (k + 1) ts)
+              (λ l. chosen k (omega arith) (omega arith) l && comes_there t both.0 e j is l)
+          | inr j ↦
+              or_right (move && tree_comes choices key t) (trees_come choices key n (k + 1) ts)
+              (come_there ts n (k + 1)
+              (λ m above less. chosen m (omega (arith, above)) (omega (arith, less))) both.1 e j is)
+        ]
+
+-- ---- the strategy
+
+all_shown : {A : Type 0} (xs : List A) (s : List ℕ) → length xs ≡ length s
+    → shown (map (λ x. true) xs) s ≡ map Some s
+all_shown (x ∷ xs) (a ∷ s) e = cc (all_shown xs s (omega (arith, e)))
+all_shown [] [] e = refl
+all_shown xs s e = grind arith
+
+all_chosen : {A : Type 0} (xs : List A) (s : List ℕ) → chooses_first (map (λ x. true) xs) s ≡ true
+all_chosen (x ∷ xs) (a ∷ s) = all_chosen xs s
+all_chosen xs s = grind arith
+
+one_alone : {A : Type 0} (xs : List A) (d : A) → length xs ≡ 1 → xs ≡ get_or xs 0 d ∷ []
+one_alone (x ∷ []) d e = refl
+one_alone xs d e = absurd (omega (arith, e))
+
+module _ (g : Game) (game : IsGame g) (player : ℕ)
+    (one : product (action_counts g player) ≡ 1) where
+  abbrev only : List ℕ
+  only = get_or (all_choices (action_counts g player)) 0 []
+
+  counted : length (strategies g player) ≡ 1
+  counted = length-all_choices (action_counts g player) ∙ one
+
+  only_there : Contains (strategies g player) only
+  only_there = grind (arith, counted, get_or_default)
+
+  all_relevant : (key : SetKey) → Has (player_keys g player) key
+      → is_relevant g (choice_at (player_keys g player) only) key ≡ true
+  all_relevant key i =
+      let his = (own_set g player key i).3 in
+      let choices = choice_at (player_keys g player) only in
+      let node = node_of g game player key i in
+      relevant_is g game choices key
+      ∙ comes_there g choices key (λ own set same known.
+      let owner : player ≡ own.player = sym (same ∙ his) in
+      let actions = one_action own (player_sets g own.player) set
+      (subst (λ p. product (action_counts g p) ≡ 1) owner one) (among_his g own ∙ known) in
+      let choice = his_actions g game only own set
+      (subst (λ p. Contains (strategies g p) only) owner only_there) known in (
+        actions,
+        subst (λ p. choice_at (player_keys g p) only own ≡ 1) (sym owner)
+            (omega (arith, choice.0, choice.1, actions)),
+      ))
+      g.tree game.children node.0 node.1 node.2
+
+  all_flags : relevant_sets g player only ≡ map (λ key. true) (player_keys g player)
+  all_flags = grind (arith, all_relevant, map_same)
+
+  only_shown : reduced g player only ≡ map Some only
+  only_shown =
+      let less : 0 < length (strategies g player) = omega (arith, counted) in
+      let flags = length-map (player_keys g player) (λ key. true) in
+      let fit = ap length (sym all_flags) ∙ flags_fit g game player 0 less in
+      reduced_shown_at g game player 0 less
+      ∙ ap (λ (flags : List Bool). shown flags only) all_flags
+      ∙ all_shown (player_keys g player) only (sym flags ∙ fit)
+
+  only_reduced : reduced_strategies g player ≡ reduced g player only ∷ []
+  only_reduced =
+      let first : is_first g player only ≡ true =
+      ap (λ (flags : List Bool). chooses_first flags only) all_flags
+      ∙ all_chosen (player_keys g player) only in
+      reduced_strategies_are g game player
+      ∙ ap (λ (all : List (List ℕ)). map (reduced g player) (filter (is_first g player) all))
+      (one_alone (strategies g player) [] counted)
+      ∙ ap (λ b. map (reduced g player) (cond b (only ∷ []) [])) first
+
+  pub only_first : AreFirstsOf g (0 ∷ []) player
+  only_first = (sym only_reduced, (omega (arith, counted), tt))
+
+  pub only_label : map strategy_label (all_choices (action_counts g player)) ≡ reduced_labels g
+      player
+  only_label =
+      ap (map strategy_label) (one_alone (strategies g player) [] counted)
+      ∙ ap (λ (bs : List ℕ). bs ∷ []) (sym (ap reduced_label only_shown
+      ∙ ap (join_with_byte 45)
+      (map_twice (λ (choice : Option ℕ). option_map_or decimal choice (codes "*")) Some only)))
+      ∙ sym (ap (map reduced_label) only_reduced)

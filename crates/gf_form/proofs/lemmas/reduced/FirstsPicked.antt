@@ -1,44 +1,39 @@
 -- The profiles of the first strategies that reduce to each reduced strategy are those of the
 -- reduced form, in its order.
-use Rattle.gf_form.proofs.Common.{◌≡◌, ℕ, zero, suc, ◌+◌, ◌-◌, ◌<◌, ◌≤◌, List, [], ◌∷◌, Option}
-use Rattle.gf_form.proofs.Common.{Some, length, map, get_or, take, refl, sym, ap, subst, ◌∙◌, ◌++◌}
-use Rattle.gf_form.proofs.Common.{add-one, arith, inl, inr, zip, AllByRecursion, AllZip, Contains}
-use Rattle.gf_form.proofs.Common.{mul-le-mul, take-suc, get_or-map, length-map, unwrap_or-slice_get}
-use Rattle.gf_form.proofs.Common.{IsFraction, Ratio, all_weaker, at_position, profile_limit}
-use Rattle.gf_form.proofs.Common.{IsProfile, product, profiles, Table, every_profile}
+use Rattle.gf_form.proofs.Common.{◌≡◌, ℕ, ◌+◌, ◌-◌, ◌<◌, ◌≤◌, List, [], ◌∷◌, Option}
+use Rattle.gf_form.proofs.Common.{AreProfileNumbers, AreBelow, ArePicked, IsPicked, full_at}
+use Rattle.gf_form.proofs.Common.{numbered_profiles, get_or_default, AllZip-long, ◌↔◌, length, map}
+use Rattle.gf_form.proofs.Common.{get_or, take, refl, sym, ap, subst, ◌∙◌, ◌++◌, add-one, arith}
+use Rattle.gf_form.proofs.Common.{zip, AllByRecursion, AllZip, Contains, mul-le-mul, take-suc}
+use Rattle.gf_form.proofs.Common.{get_or-map, length-map, unwrap_or-slice_get, IsFraction, Ratio}
+use Rattle.gf_form.proofs.Common.{all_weaker, profile_limit, IsProfile, product, profiles, Table}
 use Rattle.gf_form.proofs.Common.{length-profiles, get_or-numbers_from, length-numbers_from, Game}
-use Rattle.gf_form.proofs.Common.{IsGame, Has, all_of_each, contains, each, has_map, AreFirstsOf}
-use Rattle.gf_form.proofs.Common.{IsPaidAt, AreRowsAt, AreReducedPayoffsAt, IsReducedForm, reduced}
-use Rattle.gf_form.proofs.Common.{reduced_at, reduced_by, reduced_labels, reduced_profiles}
-use Rattle.gf_form.proofs.Common.{reduced_strategies, HasReducedValues, HasValues, IsFirstWithout}
-use Rattle.gf_form.proofs.Common.{ReducedOverflowsAt, ArePayoffsAt, IsFormBy, full_profiles}
-use Rattle.gf_form.proofs.Common.{players_of, strategies, strategy_at}
+use Rattle.gf_form.proofs.Common.{IsGame, AreFirstsOf, IsPaidAt, AreRowsAt, AreReducedPayoffsAt}
+use Rattle.gf_form.proofs.Common.{IsReducedForm, reduced, reduced_at, reduced_by, reduced_labels}
+use Rattle.gf_form.proofs.Common.{reduced_profiles, reduced_strategies, HasReducedValues, HasValues}
+use Rattle.gf_form.proofs.Common.{IsFirstWithout, ReducedOverflowsAt, ArePayoffsAt, IsFormBy}
+use Rattle.gf_form.proofs.Common.{full_profiles, players_of, strategies, strategy_at}
 use Rattle.gf_nfg.specs.Table.{Entry}
 use Rattle.gf_form.specs.inner.reduced.Firsts.{AreFirsts}
 use Rattle.gf_form.proofs.lemmas.strategies.CountedActions.{strategy_counts}
 use Rattle.gf_form.proofs.lemmas.reduced.FirstStrategies.{fewer_reduced}
 use Rattle.gf_form.proofs.lemmas.form.FormMade.{full_row, row_fractions}
 use Rattle.gf_form.proofs.lemmas.form.Forms.{form_profiles}
-use Rattle.gf_form.proofs.lemmas.strategies.Lookups.{strategy_before}
-use Rattle.gf_form.proofs.lemmas.strategies.PickedProfiles.{AreNumbers, full_at, picked_full}
-use Rattle.gf_form.proofs.lemmas.strategies.PickedProfiles.{picked_profiles}
-use Rattle.gf_form.proofs.lemmas.reduced.ReducedForms.{counts_are, same_row}
-use Rattle.gf_form.proofs.lemmas.reduced.ReducedTables.{some_reduced_strategy}
-use Rattle.gf_form.proofs.lemmas.reduced.ReducedValues.{reduced_value}
+use Rattle.gf_form.proofs.lemmas.strategies.Lookups.{all_alike, all_right, first_alike}
+use Rattle.gf_form.proofs.lemmas.strategies.Lookups.{strategy_before, zip_weaker}
+use Rattle.gf_nfg.proofs.lemmas.tables.Profiles.{are_profiles}
+use Rattle.gf_form.proofs.lemmas.reduced.ReducedForms.{counts_are, same_row, some_reduced_strategy}
+use Rattle.gf_form.proofs.lemmas.reduced.Reducing.{reduced_value}
 use Rattle.gf_form.proofs.lemmas.rows.RowsMade.{zip_more}
 
 -- ---- numbers of strategies
 
-numbers_of : (g : Game) (players : List ℕ) (firsts : List (List ℕ))
+pub are_below : (g : Game) (players : List ℕ) (firsts : List (List ℕ))
     → AllZip (AreFirstsOf g) firsts players
-    → AllZip (λ own player. AllByRecursion (λ number. number < length (strategies g player)) own)
-    firsts players
-numbers_of g (player ∷ players) (own ∷ firsts) h = (h.0.1, numbers_of g players firsts h.1)
-numbers_of g [] [] h = tt
-numbers_of g players firsts h = grind arith
-
-pub are_numbers : (g : Game) (firsts : List (List ℕ)) → AreFirsts g firsts → AreNumbers g firsts
-are_numbers g firsts h = numbers_of g (players_of g) firsts h
+    → AreBelow (map (λ player. length (strategies g player)) players) firsts
+are_below g (player ∷ players) (own ∷ firsts) h = (h.0.1, are_below g players firsts h.1)
+are_below g [] [] h = tt
+are_below g players firsts h = grind arith
 
 counted_of : (g : Game) (players : List ℕ) (firsts : List (List ℕ))
     → AllZip (AreFirstsOf g) firsts players
@@ -63,17 +58,6 @@ fewer_of g game (player ∷ players) =
 -- no more profiles than those of all strategies
 pub fewer_profiles : (g : Game) → IsGame g → length (reduced_profiles g) ≤ length (full_profiles g)
 fewer_profiles g game = grind (arith, fewer_of, length-profiles, strategy_counts)
-
-pub few_firsts : (g : Game) → IsGame g → (firsts : List (List ℕ)) → AreFirsts g firsts
-    → length (full_profiles g) ≤ profile_limit → product (map length firsts) ≤ profile_limit
-few_firsts g game firsts h few =
-    omega (
-      arith,
-      few,
-      fewer_profiles g game,
-      length-profiles (map (λ player. length (reduced_strategies g player)) (players_of g)),
-      ap product (firsts_counted g firsts h),
-    )
 
 -- one more player
 pub one_player_more : (g : Game) (firsts next : List (List ℕ)) (own : List ℕ) (place : ℕ)
@@ -113,91 +97,112 @@ reduces g (player ∷ players) (own ∷ firsts) (s ∷ profile) h k =
     λ i. first i ∷ reduces g players firsts profile h.1 k.1 i
 reduces g players firsts profile h k = grind arith
 
-module _ (g : Game) (firsts : List (List ℕ)) (are : AreFirsts g firsts) where
-  their_profiles : profiles (map length firsts) ≡ reduced_profiles g
-  their_profiles = ap profiles (firsts_counted g firsts are)
+-- ---- their numbers among all profiles
 
-  full_there : (profile : List ℕ) → Has (reduced_profiles g) profile
-      → Contains (full_profiles g) (full_at firsts profile)
-      × (reduced_by g (full_at firsts profile) ≡ reduced_at g profile)
-  full_there profile i =
-      grind (arith, Has, are_numbers, contains, every_profile, picked_full, reduces, their_profiles)
+-- the profile with the number reduces to this one
+record Reduces (g : Game) (profile : List ℕ) (number : ℕ) : Type 0 where
+  there : Contains (full_profiles g) (get_or (full_profiles g) number [])
+  is : reduced_by g (get_or (full_profiles g) number []) ≡ reduced_at g profile
 
-  -- ---- rows
+values_too : (g : Game) (p q : List ℕ) → Contains (full_profiles g) p
+    → Contains (full_profiles g) q → reduced_by g p ≡ reduced_by g q → HasValues g p → HasValues g q
+values_too g p q hp hq e values = grind (arith, all_weaker, reduced_value)
 
-  rows_over : (ps : List (List ℕ)) (rows : List (List Ratio))
-      → ((profile : List ℕ) → Has ps profile → Has (reduced_profiles g) profile)
-      → AllZip (ArePayoffsAt g) (map (full_at firsts) ps) rows → AllZip (IsPaidAt g) ps rows
-  rows_over (profile ∷ ps) (row ∷ rows) there h =
-      let at = full_there profile (there profile (inl refl)) in (
-        record { full = full_at firsts profile; there = at.0; reduces = at.1; paid = h.0 },
-        rows_over ps rows (λ other i. there other (inr i)) h.1,
+-- the profiles with these numbers, in place of those that they reduce to
+paid_over : (g : Game) (ps : List (List ℕ)) (numbers : List ℕ) (rows : List (List Ratio))
+    → AllZip (Reduces g) ps numbers → AllZip (ArePayoffsAt g) (numbered_profiles g numbers) rows
+    → AllZip (IsPaidAt g) ps rows
+paid_over g (profile ∷ ps) (number ∷ numbers) (row ∷ rows) h k = (
+  record {
+    full = get_or (full_profiles g) number [];
+    there = h.0.there;
+    reduces = h.0.is;
+    paid = k.0;
+  },
+  paid_over g ps numbers rows h.1 k.1,
+)
+paid_over g ps numbers rows h k = grind arith
+
+values_at : (g : Game) (profile : List ℕ) (number : ℕ) → Reduces g profile number
+    → HasValues g (get_or (full_profiles g) number []) ↔ HasReducedValues g profile
+values_at g profile number h = (
+  λ values full there e. values_too g (get_or (full_profiles g) number []) full h.there there
+      (h.is ∙ sym e) values,
+  λ values. values (get_or (full_profiles g) number []) h.there h.is,
+)
+
+values_over : (g : Game) (ps : List (List ℕ)) (numbers : List ℕ) → AllZip (Reduces g) ps numbers
+    → AllZip (λ full profile. HasValues g full ↔ HasReducedValues g profile)
+    (numbered_profiles g numbers) ps
+values_over g (profile ∷ ps) (number ∷ numbers) h =
+    (values_at g profile number h.0, values_over g ps numbers h.1)
+values_over g [] [] h = tt
+values_over g ps numbers h = grind arith
+
+-- the numbers are those of the profiles of first strategies
+pub record AreTheirs (g : Game) (firsts : List (List ℕ)) (numbers : List ℕ) : Type 0 where
+  pub game : IsGame g
+  pub few : length (full_profiles g) ≤ profile_limit
+  pub are : AreFirsts g firsts
+  pub picked : ArePicked (strategy_counts g) firsts numbers
+
+module _ (g : Game) (firsts : List (List ℕ)) (numbers : List ℕ)
+    (theirs : AreTheirs g firsts numbers) where
+  all_reduce : AllZip (Reduces g) (reduced_profiles g) numbers
+  all_reduce =
+      subst (λ (ps : List (List ℕ)). AllZip (Reduces g) ps numbers)
+      (ap profiles (firsts_counted g firsts theirs.are))
+      (zip_weaker (IsProfile (map length firsts)) (IsPicked (strategy_counts g) firsts) (Reduces g)
+      (λ profile number valid one.
+      let within : number < length (full_profiles g) =
+      omega (arith, one.within, length-profiles (strategy_counts g)) in
+      let p = get_or (full_profiles g) number [] in
+      record {
+        there = (number, within, get_or_default (full_profiles g) number p [] within);
+        is = ap (λ (full : List ℕ). reduced_by g full) one.is
+            ∙ reduces g (players_of g) firsts profile theirs.are valid;
+      })
+      (profiles (map length firsts)) numbers (are_profiles (map length firsts)) theirs.picked)
+
+  pub their_numbers : AreProfileNumbers g numbers
+  their_numbers =
+      all_right (IsPicked (strategy_counts g) firsts)
+      (λ number. number < length (full_profiles g))
+      (λ profile number one. omega (arith, one.within, length-profiles (strategy_counts g)))
+      (profiles (map length firsts)) numbers theirs.picked
+
+  pub few_numbers : length numbers ≤ profile_limit
+  few_numbers =
+      omega (
+        arith,
+        AllZip-long (Reduces g) (reduced_profiles g) numbers all_reduce,
+        fewer_profiles g theirs.game,
+        theirs.few,
       )
-  rows_over ps rows there h = grind arith
 
   pub reduced_rows : (payoffs : List Ratio)
-      → AreRowsAt (ArePayoffsAt g) (picked_profiles firsts) payoffs
+      → AreRowsAt (ArePayoffsAt g) (numbered_profiles g numbers) payoffs
       → AreRowsAt (IsPaidAt g) (reduced_profiles g) payoffs
-  reduced_rows payoffs h = grind (arith, full_at, rows_over, their_profiles)
+  reduced_rows payoffs h = record {
+    rows = h.rows;
+    joined = h.joined;
+    right = paid_over g (reduced_profiles g) numbers h.rows all_reduce h.right;
+  }
 
-  -- ---- values
+  their_values : AllZip (λ full profile. HasValues g full ↔ HasReducedValues g profile)
+      (numbered_profiles g numbers) (reduced_profiles g)
+  their_values = values_over g (reduced_profiles g) numbers all_reduce
 
-  values_too : (p q : List ℕ) → Contains (full_profiles g) p → Contains (full_profiles g) q
-      → reduced_by g p ≡ reduced_by g q → HasValues g p → HasValues g q
-  values_too p q hp hq e values = grind (arith, all_weaker, reduced_value)
-
-  at_all : (profile : List ℕ) → Has (reduced_profiles g) profile
-      → HasValues g (full_at firsts profile) → HasReducedValues g profile
-  at_all profile i values full there e = grind (arith, full_at, full_there, values_too)
-
-  pub reduced_values : AllByRecursion (HasValues g) (picked_profiles firsts)
+  pub reduced_values : AllByRecursion (HasValues g) (numbered_profiles g numbers)
       → AllByRecursion (HasReducedValues g) (reduced_profiles g)
-  reduced_values h =
-      all_of_each (HasReducedValues g) (reduced_profiles g) (λ profile i.
-      at_all profile i (each (HasValues g) (map (full_at firsts) (reduced_profiles g))
-      (full_at firsts profile)
-      (subst (λ (ps : List (List ℕ)). AllByRecursion (HasValues g) (map (full_at firsts) ps))
-      their_profiles h)
-      (has_map (full_at firsts) (reduced_profiles g) profile i)))
-
-  -- the first profile without
-
-  mapped_there : (ps : List (List ℕ)) (position : ℕ) (full : List ℕ)
-      → at_position (map (full_at firsts) ps) position ≡ Some full
-      → (profile : List ℕ) × Has ps profile × (at_position ps position ≡ Some profile)
-      × (full_at firsts profile ≡ full)
-  mapped_there (profile ∷ ps) (suc (suc k)) full there =
-      let other = mapped_there ps (suc k) full there in (other.0, inr other.1, other.2, other.3)
-  mapped_there (profile ∷ ps) (suc zero) full there = (profile, inl refl, refl, cc)
-  mapped_there ps position full there = absurd (grind arith)
-
-  image_there : (ps : List (List ℕ)) (position : ℕ) (profile : List ℕ)
-      → at_position ps position ≡ Some profile
-      → Has ps profile × (at_position (map (full_at firsts) ps) position
-      ≡ Some (full_at firsts profile))
-  image_there (p ∷ ps) (suc (suc k)) profile there =
-      let other = image_there ps (suc k) profile there in (inr other.0, other.1)
-  image_there ps position profile there = grind arith
+  reduced_values = all_alike (HasValues g) (HasReducedValues g) (numbered_profiles g numbers)
+      (reduced_profiles g) their_values
 
   pub reduced_overflow : (position : ℕ)
-      → IsFirstWithout (HasValues g) (picked_profiles firsts) position
+      → IsFirstWithout (HasValues g) (numbered_profiles g numbers) position
       → ReducedOverflowsAt g position
-  reduced_overflow position o =
-      let ps = reduced_profiles g in
-      let images : picked_profiles firsts ≡ map (full_at firsts) ps =
-      ap (map (full_at firsts)) their_profiles in
-      let one = mapped_there ps position o.profile
-      (ap (λ (all : List (List ℕ)). at_position all position) (sym images) ∙ o.there) in
-      let at = full_there one.0 one.1 in
-      record {
-        profile = one.0;
-        there = one.2;
-        overflows = grind arith;
-        first = λ earlier other before is.
-            let image = image_there ps earlier other is in
-            at_all other image.0 (o.first earlier (full_at firsts other) before
-            (ap (λ (all : List (List ℕ)). at_position all earlier) images ∙ image.1));
-      }
+  reduced_overflow position = first_alike (HasValues g) (HasReducedValues g)
+      (numbered_profiles g numbers) (reduced_profiles g) position their_values
 
 -- ---- the form
 

@@ -1,18 +1,19 @@
--- What is left of a player's visits after a choice, visit by visit.
+-- What is left of a player's visits after a choice, visit by visit, and which sets can be met.
 use Rattle.gf_form.proofs.Common.{◌≡◌, ℕ, ◌+◌, ◌-◌, ◌*◌, ◌<◌, ◌≤◌, ◌⊎◌, inl, inr, Bool, true, false}
 use Rattle.gf_form.proofs.Common.{List, [], ◌∷◌, ◌++◌, Some, None, length, get_or, set, take, drop}
 use Rattle.gf_form.proofs.Common.{ap, sym, ◌∙◌, arith, ◌||◌, list_any, IsPermutation, option_map_or}
 use Rattle.gf_form.proofs.Common.{or-false, take-length, cases_Bool, cases_lt, or_left, or_right}
 use Rattle.gf_form.proofs.Common.{get_or-set_at, get_or-set_other, get_or-take, get_or_default}
-use Rattle.gf_form.proofs.Common.{length-drop}
-use Rattle.gf_form.proofs.Common.{length-set, length-take, take-append-drop, All-from_recursion}
-use Rattle.gf_form.proofs.Common.{recursion_from_All, list_any-append, All-permutation}
-use Rattle.gf_form.proofs.Common.{list_any-IsPermutation, all_both, meets, ArePositive, IsChosen}
-use Rattle.gf_form.proofs.Common.{is_left, left_of, AreWithin, is_met, is_met_on, Level, Visit}
+use Rattle.gf_form.proofs.Common.{length-drop, length-set, length-take, take-append-drop}
+use Rattle.gf_form.proofs.Common.{All-from_recursion, recursion_from_All, list_any-append}
+use Rattle.gf_form.proofs.Common.{All-permutation, list_any-IsPermutation, all_both, meets}
+use Rattle.gf_form.proofs.Common.{ArePositive, IsChosen, is_left, left_of, AreWithin, is_met}
+use Rattle.gf_form.proofs.Common.{is_met_on, Level, Visit, suc, ◌==◌, take_more, can_be_met}
 use Rattle.std.proofs.lemmas.List.{get_or-drop}
 use Rattle.std.proofs.lemmas.List.Folds.{Any-from_list_any, list_any_at, list_any_more}
 use Rattle.gf_form.proofs.lemmas.strategies.StrategiesByNumber.{all_at}
 use Rattle.gf_form.specs.inner.reduced.Levels.{AddsLeft, HasSets, HaveBelow}
+use Rattle.std.proofs.Math.Bool.{or-true}
 
 -- no demands are met
 pub meets_none : (steps choices : List ℕ) → ArePositive steps → meets steps choices 0 ≡ true
@@ -249,3 +250,42 @@ chosen_by step action from begun added left none known adds same order position 
       list_any-IsPermutation (is_met_on position steps choices) added.visits.items
           left.visits.items order,
     )
+
+flag_on : (flags : List Bool) (at place : ℕ) → at < length flags
+    → get_or (set flags at true) place false ≡ (get_or flags place false || suc at == suc place)
+flag_on flags at place inside = grind (arith, get_or-set_at, get_or-set_other, or-true, or-false)
+
+abbrev is_to : ℕ → Visit → Bool
+is_to position v = v.set == position
+
+-- the marks after the first i visits
+pub record MarkedTo (level : Level) (i : ℕ) (met : List Bool) : Type 0 where
+  pub counted : length met ≡ length level.known.items
+  pub marked : (place : ℕ) → get_or met place false ≡ (get_or level.known.items place false
+      || list_any (is_to (suc place)) (take i level.visits.items))
+
+pub marked_more : (level : Level) (i : ℕ) (met next : List Bool) → MarkedTo level i met
+    → i < length level.visits.items → 1 ≤ (get_or level.visits.items i no_visit).set
+    → (get_or level.visits.items i no_visit).set ≤ length level.known.items
+    → next ≡ set met ((get_or level.visits.items i no_visit).set - 1) true
+    → MarkedTo level (i + 1) next
+marked_more level i met next before less above within is = record {
+  counted = grind (arith, length-set, before.counted);
+  marked = λ place.
+      grind (
+        arith,
+        flag_on met (here.set - 1) place (omega (arith, above, within, before.counted)),
+        before.marked place,
+        take_more level.visits.items i no_visit less,
+        list_any-append,
+      );
+}
+  where
+    here : Visit
+    here = get_or level.visits.items i no_visit
+
+pub all_marked : (level : Level) (i : ℕ) (met : List Bool) → MarkedTo level i met
+    → i ≡ length level.visits.items → (place : ℕ)
+    → get_or met place false ≡ can_be_met (suc place) level
+all_marked level i met m end place =
+    grind (arith, m.marked, take-length)

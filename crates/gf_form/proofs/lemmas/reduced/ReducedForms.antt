@@ -1,18 +1,22 @@
 -- The reduced form of a game: some full profile reduces to each of its profiles, and each full
--- profile reduces to one.
-use Rattle.gf_form.proofs.Common.{◌≡◌, ℕ, zero, suc, ◌≤◌, List, [], ◌∷◌, Option, None, length, map}
-use Rattle.gf_form.proofs.Common.{refl, sym, ap, ◌∙◌, subst, arith, inl, inr, ◌↔◌, zip, Decides}
+-- profile reduces to one; it is a table.
+use Rattle.gf_form.proofs.Common.{◌≡◌, ℕ, ◌≤◌, List, [], ◌∷◌, Option, None, length, map, refl, sym}
+use Rattle.gf_form.proofs.Common.{suc, inl, inr, zero, ap, ◌∙◌, subst, arith, ◌↔◌, zip, Decides}
 use Rattle.gf_form.proofs.Common.{Contains, pointwise, length-map, Ratio, IsProfile, profiles}
 use Rattle.gf_form.proofs.Common.{Table, every_profile, Game, is_used, was_used, map_same}
 use Rattle.gf_form.proofs.Common.{map_twice, Has, contains, has, has_map, mapped_from}
 use Rattle.gf_form.proofs.Common.{AreReducedPayoffsAt, IsReducedForm, reduced, reduced_at}
 use Rattle.gf_form.proofs.Common.{reduced_by, reduced_labels, reduced_strategies, same_choice}
 use Rattle.gf_form.proofs.Common.{ArePayoffsAt, PaysFractions, choices_by, full_profiles}
-use Rattle.gf_form.proofs.Common.{players_of, strategies, strategies_at, strategy_at}
+use Rattle.gf_form.proofs.Common.{players_of, strategies, strategies_at, strategy_at, ◌<◌, Bool}
+use Rattle.gf_form.proofs.Common.{IsTable, first_uses, IsGame, each, reduced_label, ◌-◌}
 use Rattle.std.proofs.lemmas.Slice.Eq.{slice_eq-Decides}
 use Rattle.gf_form.proofs.lemmas.form.Forms.{form_profiles, of_row, one_form_by, one_row, row_of}
 use Rattle.gf_form.proofs.lemmas.form.Forms.{rows_of_form, same_row as same_pays, some_form_by}
-use Rattle.gf_form.proofs.lemmas.reduced.ReducedPays.{reduced_pay}
+use Rattle.gf_form.proofs.lemmas.reduced.Reducing.{reduced_pay}
+use Rattle.gf_nfg.specs.Table.{Entry}
+use Rattle.gf_form.proofs.lemmas.form.FormTables.{as_many, table_by}
+use Rattle.gf_form.proofs.lemmas.strategies.CountedActions.{some_strategy}
 
 -- ---- positions
 
@@ -164,3 +168,32 @@ module _ (g : Game) where
         row_of g (choices_by g (strategies_at g one.0)) (players_of g) (pays one.0 one.1) in
         (row.0, λ full j e. same_row one.0 full one.1 j (one.2 ∙ sym e) row.0 row.1)),
   )
+
+some_first : {K : Type 0} (same : K → K → Bool) (ks : List K) → 0 < length ks
+    → 0 < length (first_uses same ks)
+some_first same [] h = absurd (omega arith)
+some_first same (k ∷ ks) h = omega arith
+
+pub some_reduced_strategy : (g : Game) → IsGame g → (player : ℕ)
+    → 0 < length (reduced_strategies g player)
+some_reduced_strategy g game player = grind (arith, length-map, some_first, some_strategy)
+
+module _ (g : Game) (game : IsGame g) (t : Table) (form : IsReducedForm g t) where
+  listed : map (λ e. e.profile) t.entries ≡ form_profiles (reduced_labels g) g
+  listed = form.profiles ∙ ap (λ s. profiles (map length s)) form.strategies
+
+  one_each : (e : Entry) → Has t.entries e → length e.payoffs ≡ length (players_of g)
+  one_each e i =
+      let there =
+      subst (λ ps. Has ps e.profile) listed (has_map (λ (d : Entry). d.profile) t.entries e i) in
+      let full = some_full g e.profile there in
+      let right =
+      each (λ (d : Entry). AreReducedPayoffsAt g d.profile d.payoffs) t.entries e form.payoffs i in
+      as_many _ e.payoffs (players_of g) (right full.0 full.1 full.2)
+
+  pub reduced_is_table : IsTable t
+  reduced_is_table =
+      table_by (reduced_labels g) (AreReducedPayoffsAt g) g t form
+      (λ player. subst (λ n. 0 < n) (sym (length-map (reduced_strategies g player) reduced_label))
+      (some_reduced_strategy g game player))
+      one_each

@@ -12,11 +12,11 @@ use Rattle.gf_form.proofs.Common.{reduced_profiles, reduced_strategies, same_cho
 use Rattle.gf_form.proofs.Common.{choice_at, full_profiles, players_of, strategies, strategy_at}
 use Rattle.gf_form.proofs.lemmas.strategies.Choices.{every_choice}
 use Rattle.gf_form.proofs.lemmas.reduced.FirstsPicked.{reduced_form_profiles}
-use Rattle.gf_form.proofs.lemmas.strategies.JoinedTexts.{AreDigits, AreUndashed, digits_of}
-use Rattle.gf_form.proofs.lemmas.strategies.JoinedTexts.{same_joined, undashed_number}
+use Rattle.gf_form.proofs.lemmas.strategies.StrategyLabels.{AreDigits, AreUndashed, digits_of}
+use Rattle.gf_form.proofs.lemmas.strategies.StrategyLabels.{same_joined, undashed_number, AreSmall}
+use Rattle.gf_form.proofs.lemmas.strategies.StrategyLabels.{small_choice}
 use Rattle.gf_form.proofs.lemmas.strategies.Lookups.{strategy_before}
 use Rattle.gf_form.proofs.lemmas.reduced.ReducedForms.{choices_equality, some_full, some_reduced}
-use Rattle.gf_form.proofs.lemmas.strategies.StrategyLabels.{AreSmall, small_choice}
 
 -- ---- places
 

@@ -1,122 +1,93 @@
--- The labels of first strategies, one after another, as they are come to choice by choice.
-use Rattle.gf_form.proofs.Common.{◌≡◌, ℕ, suc, ◌+◌, ◌-◌, ◌*◌, ◌/◌, ◌<◌, Bool, true}
-use Rattle.gf_form.proofs.Common.{false, List, [], ◌∷◌, ◌++◌, length, drop, get_or, map, set, take}
-use Rattle.gf_form.proofs.Common.{refl, sym, ap, subst, ◌∙◌, arith, add-one, ◌==◌, eqb-true}
-use Rattle.gf_form.proofs.Common.{eqb-false, drop_of_length-le, get_or-set_at, get_or-set_other}
-use Rattle.gf_form.proofs.Common.{length-set, length-append, take_more, map-append, Game, IsGame}
-use Rattle.gf_form.proofs.Common.{player_keys, reduced, reduced_label, strategies}
-use Rattle.gf_form.proofs.Common.{IsLevel, IsChosen, can_be_met, relevant_sets, shown, AreInTurn}
-use Rattle.gf_form.proofs.Common.{AreLabelledTo, HaveChoices, IsElsewhere, IsHere, IsKept, IsLast}
-use Rattle.gf_form.proofs.Common.{IsNextBelow, IsToldBy, IsWritten, actions_of, is_relevant_at}
-use Rattle.gf_form.proofs.Common.{numbered, product, OwnDigit, Level}
+-- The labels of first strategies, one after another, as they are come to choice by choice, and the
+-- text of each.
+use Rattle.gf_form.proofs.Common.{◌≡◌, ℕ, suc, ◌+◌, ◌-◌, ◌*◌, ◌/◌, ◌<◌, Bool, true, ◌≤◌, false}
+use Rattle.gf_form.proofs.Common.{List, [], ◌∷◌, ◌++◌, length, get_or, set, refl, sym, ap, subst}
+use Rattle.gf_form.proofs.Common.{◌∙◌, arith, ◌==◌, eqb-true, eqb-false, get_or-set_at}
+use Rattle.gf_form.proofs.Common.{get_or-set_other, length-set, length-append, take_more}
+use Rattle.gf_form.proofs.Common.{map-append, Game, IsGame, player_keys, reduced, reduced_label}
+use Rattle.gf_form.proofs.Common.{strategies, IsLevel, IsChosen, can_be_met, relevant_sets, shown}
+use Rattle.gf_form.proofs.Common.{AreInTurn, AreLabelledTo, AllByRecursion, IsElsewhere, IsKept}
+use Rattle.gf_form.proofs.Common.{IsLast, IsNextBelow, IsWritten, numbered, OwnDigit, Level, zero}
+use Rattle.gf_form.proofs.Common.{◌^◌, Option, Some, None, take, append_assoc, add-one}
+use Rattle.gf_form.proofs.Common.{if◌then◌else◌, take-append_seam, append-nil, all_both, IsPlain}
+use Rattle.gf_form.proofs.Common.{choice_text}
 use Rattle.std.proofs.lemmas.List.{ext_get_or}
-use Rattle.gf_form.proofs.lemmas.strategies.CountedActions.{sets_counted}
+use Rattle.gf_form.proofs.lemmas.strategies.CountedActions.{sets_counted, take_past}
 use Rattle.gf_form.proofs.lemmas.reduced.FirstStrategies.{flags_fit, reduced_shown_at}
-use Rattle.gf_form.proofs.lemmas.reduced.SearchEnds.{left_all, long}
-use Rattle.gf_form.proofs.lemmas.reduced.SearchSteps.{chosen_there, each_is, next_choices}
-use Rattle.gf_form.proofs.lemmas.reduced.SearchSteps.{next_told, row_end, there}
+use Rattle.gf_form.proofs.lemmas.reduced.Searches.{left_all, long, chosen_there, next_choices}
+use Rattle.gf_form.proofs.lemmas.reduced.Searches.{next_end, next_told}
+use Rattle.gf_form.proofs.lemmas.strategies.StrategiesByNumber.{all_taken, plain_label}
+use Rattle.gf_form.proofs.lemmas.strategies.StrategiesByNumber.{plain_number}
 
 -- ---- at a digit
 
-module _ {g : Game} {player number count depth : ℕ} {digits : List OwnDigit}
-    {strategy : List ℕ} {level : Level} {d : OwnDigit}
-    (below : IsWritten g player digits strategy level depth number count)
-    (here : IsHere digits depth d) where
-  pub choices_at : HaveChoices g player (d ∷ drop (suc depth) digits) number count
-  choices_at = subst (λ ds. HaveChoices g player ds number count) here.left below.choices
+module _ {g : Game} {player number count : ℕ} {d : OwnDigit} {faster : List OwnDigit}
+    {strategy now : List ℕ} {level : Level}
+    (below : IsWritten g player (d ∷ faster) strategy level number count)
+    (kept : IsKept (d ∷ faster) strategy now) (before : ℕ) where
+  wide : length (set now d.place (before + 1)) ≡ length strategy
+  wide = length-set now d.place (before + 1) ∙ kept.wide
 
-  pub place_there : d.place < length strategy
-  place_there =
-      subst (λ (d : OwnDigit). d.place < length strategy) here.is (below.inside depth here.deep)
+  pub next_written : before < d.actions → (left : Level)
+      → IsLevel (length (player_keys g player)) left → IsChosen d.step (before + 1) level left
+      → IsWritten g player faster (set now d.place (before + 1)) left
+      (number + before * (count / d.actions)) (count / d.actions)
+  next_written less left levelled chosen = record {
+    choices = next_choices below.choices before less;
+    told = next_told below.choices before less below.told levelled chosen;
+    wide = wide ∙ below.wide;
+    inside = subst (λ (n : ℕ). AllByRecursion (λ (d : OwnDigit). d.place < n) faster) (sym wide)
+        below.inside.1;
+    chosen = λ n place from to among elsewhere.
+        by n place from to (omega (arith, among, wide)) elsewhere (d.place == place) refl;
+  }
+    where
+      by : (n place : ℕ) → number + before * (count / d.actions) ≤ n
+          → n < number + before * (count / d.actions) + count / d.actions → place < length strategy
+          → IsElsewhere place faster → (b : Bool) → (d.place == place) ≡ b
+          → get_or (set now d.place (before + 1)) place 0 ≡ get_or (numbered g player n) place 0
+      by n place from to among elsewhere true e =
+          let is = eqb-true d.place place e in
+          let chosen_now = chosen_there below.choices before less n from to in
+          grind (arith, get_or-set_at, kept.wide, is, chosen_now)
+      by n place from to among elsewhere false e =
+          let other = eqb-false d.place place e in
+          get_or-set_other now d.place place (before + 1) 0 (λ q. other (sym q))
+          ∙ kept.same place (other, elsewhere)
+          ∙ below.chosen n place (omega (arith, from))
+          (omega (arith, to, next_end below.choices before less)) among (other, elsewhere)
 
-  module _ {now : List ℕ} (kept : IsKept (drop depth digits) strategy now) (before : ℕ)
-      (less : before < d.actions) where
-    pub next_written : (left : Level) → IsLevel (length (player_keys g player)) left
-        → IsChosen d.step (before + 1) level left
-        → IsWritten g player digits (set now d.place (before + 1)) left (depth + 1)
-        (number + before * (count / d.actions)) (count / d.actions)
-    next_written left levelled chosen = record {
-      deep = omega (arith, here.deep);
-      choices = rw (add-one depth) (next_choices choices_at before less);
-      told = rw (add-one depth) (next_told choices_at before less
-          (subst (λ ds. IsToldBy (λ number position. is_relevant_at g player number (position - 1))
-          (length (player_keys g player)) (actions_of ds) level number) here.left below.told)
-          levelled chosen);
-      wide = wide ∙ below.wide;
-      inside = λ j within. omega (arith, below.inside j within, wide);
-      chosen = λ k place within among elsewhere.
-          by k place (omega (arith, within, each_is choices_at)) (omega (arith, among, wide))
-          (rw (add-one depth) at elsewhere) (d.place == place) refl
-          ∙ ap (λ (n : ℕ). get_or (numbered g player n) place 0)
-          (sym (there choices_at before less k));
-    }
-      where
-        others : ℕ
-        others = product (actions_of (drop (suc depth) digits))
-
-        wide : length (set now d.place (before + 1)) ≡ length strategy
-        wide = length-set now d.place (before + 1) ∙ kept.wide
-
-        by : (k place : ℕ) → k < others → place < length strategy
-            → IsElsewhere place (drop (suc depth) digits) → (b : Bool) → (d.place == place) ≡ b
-            → get_or (set now d.place (before + 1)) place 0
-            ≡ get_or (numbered g player (number + (before * others + k))) place 0
-        by k place within among elsewhere true e =
-            let is = eqb-true d.place place e in
-            let chosen_now = ap (λ (n : ℕ). get_or (numbered g player n) d.place 0)
-            (sym (there choices_at before less k))
-            ∙ chosen_there choices_at before less k (omega (arith, within, each_is choices_at)) in
-            grind (arith, get_or-set_at, kept.wide, is, chosen_now)
-        by k place within among elsewhere false e =
-            let other = eqb-false d.place place e in
-            let all : IsElsewhere place (drop depth digits) =
-            subst (IsElsewhere place) (sym here.left) (other, elsewhere) in
-            get_or-set_other now d.place place (before + 1) 0 (λ q. other (sym q))
-            ∙ kept.same place all
-            ∙ below.chosen (before * others + k) place
-            (omega (arith, within, row_end choices_at before less)) among all
-
-    -- the choices before the digit stay as they are
-    pub kept_more : (new : List ℕ)
-        → IsKept (drop (depth + 1) digits) (set now d.place (before + 1)) new
-        → IsKept (drop depth digits) strategy new
-    kept_more new same = record {
-      wide = same.wide ∙ length-set now d.place (before + 1) ∙ kept.wide;
-      same = λ place elsewhere.
-          let both = rw here.left at elsewhere in
-          same.same place (rw (add-one depth) both.1)
-          ∙ get_or-set_other now d.place place (before + 1) 0 (λ q. both.0 (sym q))
-          ∙ kept.same place elsewhere;
-    }
+  -- the choices before the digit stay as they are
+  pub kept_more : (new : List ℕ) → IsKept faster (set now d.place (before + 1)) new
+      → IsKept (d ∷ faster) strategy new
+  kept_more new same = record {
+    wide = same.wide ∙ wide;
+    same = λ place elsewhere.
+        same.same place elsewhere.1
+        ∙ get_or-set_other now d.place place (before + 1) 0 (λ q. elsewhere.0 (sym q))
+        ∙ kept.same place elsewhere;
+  }
 
 -- ---- no digit left
 
-pub last_written : (g : Game) → IsGame g → (player : ℕ) (digits : List OwnDigit)
-    (strategy : List ℕ) (level : Level) (depth number count : ℕ)
-    → IsWritten g player digits strategy level depth number count → depth ≡ length digits
+pub last_written : (g : Game) → IsGame g → (player : ℕ) (strategy : List ℕ) (level : Level)
+    (number count : ℕ) → IsWritten g player [] strategy level number count
     → IsLast g player strategy level number × (count ≡ 1)
-last_written g game player digits strategy level depth number count below end =
-    let none : drop depth digits ≡ [] = drop_of_length-le digits (omega (arith, end)) in
-    let one : count ≡ 1 = rw none at below.choices.counted in
+last_written g game player strategy level number count below =
+    let one : count ≡ 1 = below.choices.counted in
     let within : number < length (strategies g player) =
     omega (arith, one, below.choices.end) in
-    let told = subst (λ ds.
-    IsToldBy (λ number position. is_relevant_at g player number (position - 1))
-    (length (player_keys g player)) (actions_of ds) level number) none below.told in
-    let same : number + 0 ≡ number = omega arith in
+    let to : number < number + count = omega (arith, one) in
+    let from : number ≤ number = omega arith in
     let sets = below.wide ∙ sets_counted g player in (
       record {
-        levelled = rw sets told.levelled;
+        levelled = rw sets below.told.levelled;
         within = within;
         is = ext_get_or 0 strategy (numbered g player number)
             (below.wide ∙ sym (long g game player number within))
-            (λ place among. rw same at (below.chosen 0 place (omega (arith, one)) among
-            (subst (IsElsewhere place) (sym none) tt)));
+            (λ place among. below.chosen number place from to among tt);
         met = λ place among.
-            let back : suc place - 1 ≡ place = omega arith in
-            ap (is_relevant_at g player number) (sym back)
-            ∙ (rw same at (told.tells 0 (suc place) (omega arith) (omega arith)
-            (omega (arith, among, sets))))
+            below.told.tells number place from to (omega (arith, among, sets))
             ∙ left_all (suc place) level;
       },
       one,
@@ -166,3 +137,66 @@ one_label_more g player numbers labels next label number in_turn due labelled la
 
     is : get_or numbers (length labels) 0 ≡ number
     is = omega (arith, due.0, due.1, labelled.next due.0)
+
+-- each choice with a dash after it
+abbrev pub marked : List (Option ℕ) → List ℕ
+marked [] = []
+marked (choice ∷ choices) = (choice_text choice ++ 45 ∷ []) ++ marked choices
+
+marked_last : (choice : Option ℕ) (choices : List (Option ℕ))
+    → marked (choice ∷ choices) ≡ reduced_label (choice ∷ choices) ++ 45 ∷ []
+marked_last choice [] = append-nil (choice_text choice ++ 45 ∷ [])
+marked_last choice (next ∷ choices) =
+    grind (arith, append_assoc, marked_last next choices)
+
+-- the choice at a place
+abbrev pub choice_in : List Bool → List ℕ → ℕ → Option ℕ
+choice_in flags s i = if get_or flags i false then Some (get_or s i 0) else None
+
+next_marked : (flags : List Bool) (s : List ℕ) (i : ℕ) → i < length flags → i < length s
+    → marked (take (suc i) (shown flags s))
+    ≡ marked (take i (shown flags s)) ++ (choice_text (choice_in flags s i) ++ 45 ∷ [])
+next_marked (f ∷ flags) (a ∷ s) (suc i) hf hs =
+    grind (arith, append_assoc, next_marked flags s i (omega (arith, hf)) (omega (arith, hs)))
+next_marked (f ∷ flags) (a ∷ s) zero hf hs = grind (arith, append-nil)
+next_marked flags s i hf hs = absurd (omega (arith, hf, hs))
+
+-- one more
+pub marked_more : (flags : List Bool) (s : List ℕ) (i : ℕ) (old new : List ℕ) → i < length flags
+    → i < length s → old ≡ marked (take i (shown flags s))
+    → new ≡ (old ++ choice_text (choice_in flags s i)) ++ 45 ∷ []
+    → new ≡ marked (take (i + 1) (shown flags s))
+marked_more flags s i old new hf hs old_is new_is =
+    grind (arith, add-one, append_assoc, next_marked)
+
+length-shown : (flags : List Bool) (s : List ℕ) → length (shown flags s) ≤ length s
+length-shown [] s = omega arith
+length-shown (f ∷ flags) [] = omega arith
+length-shown (f ∷ flags) (a ∷ s) = omega (arith, length-shown flags s)
+
+pub all_marked : (flags : List Bool) (s bytes : List ℕ) (i : ℕ)
+    → bytes ≡ marked (take i (shown flags s)) → length s ≤ i → bytes ≡ marked (shown flags s)
+all_marked flags s bytes i is past = grind (arith, length-shown, take_past)
+
+-- without the last dash it is the label
+pub mark_removed : (choices : List (Option ℕ)) (bytes new : List ℕ) (n : ℕ) → bytes ≡ marked choices
+    → n ≡ length bytes → new ≡ take (n - 1) bytes → new ≡ reduced_label choices
+mark_removed [] bytes new n is counted rest = cc
+mark_removed (choice ∷ choices) bytes new n is counted rest =
+    let label = reduced_label (choice ∷ choices) in
+    let whole : bytes ≡ label ++ 45 ∷ [] = is ∙ marked_last choice choices in
+    let front : n - 1 ≡ length label =
+    omega (arith, counted, ap length whole, length-append label (45 ∷ [])) in
+    rest ∙ (λ i. take (front i) (whole i)) ∙ take-append_seam label (45 ∷ [])
+
+-- what is written spells itself
+pub plain_choice : (is_relevant : Bool) (action : ℕ) → action < 2 ^ 32
+    → AllByRecursion IsPlain (choice_text (if is_relevant then Some action else None))
+plain_choice true action small = plain_number action small
+plain_choice false action small = ((refl, refl), tt)
+
+pub plain_more : (old choice new : List ℕ) → new ≡ (old ++ choice) ++ 45 ∷ []
+    → AllByRecursion IsPlain choice → AllByRecursion IsPlain old → AllByRecursion IsPlain new
+plain_more old choice new is plain h = grind (arith, all_both)
+
+pub ruleset label_steps = (marked_more, plain_label, all_taken)

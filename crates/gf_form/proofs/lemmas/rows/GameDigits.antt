@@ -2,13 +2,13 @@
 use Rattle.gf_form.proofs.Common.{◌≡◌, ℕ, suc, ◌-◌, ◌<◌, ◌≤◌, ◌^◌, Bool, true, false, cond, List}
 use Rattle.gf_form.proofs.Common.{[], ◌∷◌, ◌++◌, Some, length, map, get_or, refl, sym, ap, subst}
 use Rattle.gf_form.proofs.Common.{◌∙◌, arith, option_map, slice_get, find, append-nil}
-use Rattle.gf_form.proofs.Common.{get_or_default}
-use Rattle.gf_form.proofs.Common.{length-map, none-some, AllZip-long, product, length-profiles}
-use Rattle.gf_form.proofs.Common.{SetKey, InformationSet, same_set, Described, description_at}
-use Rattle.gf_form.proofs.Common.{player_sets, Game, IsGame, set_at, spans, steps_of, all_steps}
-use Rattle.gf_form.proofs.Common.{at_digits, width, HasDigits, digit_actions, AreDigits, IsDigitOf}
-use Rattle.gf_form.proofs.Common.{action_counts, all_choices, choice_at, choices_by, full_profiles}
-use Rattle.gf_form.proofs.Common.{players_of, strategies, strategies_at, Digits}
+use Rattle.gf_form.proofs.Common.{get_or_default, length-map, none-some, AllZip-long, product}
+use Rattle.gf_form.proofs.Common.{length-profiles, SetKey, InformationSet, same_set, Described}
+use Rattle.gf_form.proofs.Common.{description_at, player_sets, Game, IsGame, set_at, spans}
+use Rattle.gf_form.proofs.Common.{steps_of, all_steps, at_digits, width, HasDigits, digit_actions}
+use Rattle.gf_form.proofs.Common.{AreDigits, IsDigitOf, action_counts, all_choices, choice_at}
+use Rattle.gf_form.proofs.Common.{choices_by, full_profiles, players_of, strategies, strategies_at}
+use Rattle.gf_form.proofs.Common.{Digits}
 use Rattle.gf_form.specs.inner.rows.GameDigits.{digit_steps}
 use Rattle.std.proofs.lemmas.List.Elements.{AllZip-get_or}
 use Rattle.gf_form.proofs.lemmas.strategies.Choices.{IsChoice, length-all_choices}

@@ -1,4 +1,4 @@
--- The strategies of a profile choose an action at each set.
+-- The strategies of a profile choose an action at each set, and chance has none.
 use Rattle.gf_form.proofs.Common.{◌≡◌, ℕ, ◌+◌, ◌-◌, ◌<◌, ◌≤◌, Bool, true, List, [], ◌∷◌, Some}
 use Rattle.gf_form.proofs.Common.{length, map, get_or, refl, sym, ◌∙◌, subst, arith, zip, filter}
 use Rattle.gf_form.proofs.Common.{find, AllZip, Contains, get_or_default, IsProfile, every_profile}
@@ -6,7 +6,7 @@ use Rattle.gf_form.proofs.Common.{SetKey, InformationSet, same_set, Described, d
 use Rattle.gf_form.proofs.Common.{IsGame, set_at, player_keys, player_sets, action_counts}
 use Rattle.gf_form.proofs.Common.{strategies, players_of, strategies_at, strategy_at, choice_at}
 use Rattle.gf_form.proofs.Common.{choices_by, full_profiles, HasActions, AllZip-long}
-use Rattle.gf_form.proofs.Common.{length-numbers_from}
+use Rattle.gf_form.proofs.Common.{length-numbers_from, zero_ratio, set_of, Node, payoff_at}
 use Rattle.gf_form.proofs.lemmas.strategies.Choices.{IsChoice, every_choice}
 use Rattle.gf_form.proofs.lemmas.strategies.Lookups.{strategy_before, zip_counted}
 use Rattle.gf_form.proofs.lemmas.strategies.KnownSets.{set_is}
@@ -87,3 +87,14 @@ pub profile_strategies : (g : Game) (profile : List ℕ) → Contains (full_prof
     → AllZip (λ strategy player. Contains (strategies g player) strategy) (strategies_at g profile)
     (players_of g)
 profile_strategies g profile h = grind (arith, are_strategies, every_profile)
+
+nothing_chosen : (keys : List SetKey) (key : SetKey) → choice_at keys [] key ≡ 0
+nothing_chosen [] key = refl
+nothing_chosen (k ∷ keys) key = refl
+
+pub chance_chooses_nothing : (g : Game) (all : List (List ℕ)) (number : ℕ)
+    → choices_by g all (set_of 0 number) ≡ 0
+chance_chooses_nothing g all number = nothing_chosen (player_keys g 0) (set_of 0 number)
+
+pub chance_is_paid_nothing : (g : Game) (n : Node) → payoff_at g 0 n ≡ zero_ratio
+chance_is_paid_nothing g n = grind arith

@@ -4,7 +4,8 @@ use Rattle.gf_form.proofs.Common.{List, [], ◌∷◌, Option, MatchOption, ap, 
 use Rattle.gf_form.proofs.Common.{get_or, arith, option_map, unwrap_or, option_and_then, slice_get}
 use Rattle.gf_form.proofs.Common.{⊤, AllByRecursion, unwrap_or-slice_get, at_position, strategy_at}
 use Rattle.gf_form.proofs.Common.{all_images, all_of_each, subst, AllZip, AllZip-long, positions}
-use Rattle.gf_form.proofs.Common.{get_or-numbers_from, length-numbers_from}
+use Rattle.gf_form.proofs.Common.{get_or-numbers_from, length-numbers_from, flat_map, ◌++◌, ◌↔◌}
+use Rattle.gf_form.proofs.Common.{Some, zero, IsFirstWithout}
 use Rattle.std.specs.List.{find}
 
 -- a property of what there is, if there is something
@@ -89,3 +90,69 @@ zip_counted R d xs n h k less =
     let there = get_or-numbers_from 1 n k 0 (omega (arith, less, long, length-numbers_from 1 n)) in
     let number : get_or (positions n) k 0 ≡ k + 1 = omega (arith, there) in
     subst (R (get_or xs k d)) number (zip_at R d 0 xs (positions n) h k less)
+
+pub all_right : {A B : Type 0} (R : A → B → Type 0) (P : B → Type 0)
+    → ((x : A) (y : B) → R x y → P y) → (xs : List A) (ys : List B) → AllZip R xs ys
+    → AllByRecursion P ys
+all_right R P each (x ∷ xs) (y ∷ ys) h = (each x y h.0, all_right R P each xs ys h.1)
+all_right R P each [] [] h = tt
+all_right R P each xs ys h = grind arith
+
+pub zip_weaker : {A B : Type 0} (P : A → Type 0) (R S : A → B → Type 0)
+    → ((x : A) (y : B) → P x → R x y → S x y) → (xs : List A) (ys : List B) → AllByRecursion P xs
+    → AllZip R xs ys → AllZip S xs ys
+zip_weaker P R S weaker (x ∷ xs) (y ∷ ys) p h =
+    (weaker x y p.0 h.0, zip_weaker P R S weaker xs ys p.1 h.1)
+zip_weaker P R S weaker [] [] p h = tt
+zip_weaker P R S weaker xs ys p h = grind arith
+
+zip_both : {A B : Type 0} (R : A → B → Type 0) (xs more : List A) (ys bs : List B) → AllZip R xs ys
+    → AllZip R more bs → AllZip R (xs ++ more) (ys ++ bs)
+zip_both R (x ∷ xs) more (y ∷ ys) bs h k = (h.0, zip_both R xs more ys bs h.1 k)
+zip_both R [] more [] bs h k = k
+zip_both R xs more ys bs h k = grind arith
+
+pub zip_flat : {A B C D : Type 0} (R : A → B → Type 0) (S : C → D → Type 0) (f : A → List C)
+    (h : B → List D) → ((x : A) (y : B) → R x y → AllZip S (f x) (h y)) → (xs : List A)
+    (ys : List B) → AllZip R xs ys → AllZip S (flat_map f xs) (flat_map h ys)
+zip_flat R S f h each (x ∷ xs) (y ∷ ys) all =
+    zip_both S (f x) (flat_map f xs) (h y) (flat_map h ys) (each x y all.0)
+    (zip_flat R S f h each xs ys all.1)
+zip_flat R S f h each [] [] all = tt
+zip_flat R S f h each xs ys all = grind arith
+
+-- ---- what holds of one list in turn exactly if it holds of the other
+
+pub all_alike : {A B : Type 0} (P : A → Type 0) (Q : B → Type 0) (xs : List A) (ys : List B)
+    → AllZip (λ x y. P x ↔ Q y) xs ys → AllByRecursion P xs → AllByRecursion Q ys
+all_alike P Q (x ∷ xs) (y ∷ ys) h all = (h.0.0 all.0, all_alike P Q xs ys h.1 all.1)
+all_alike P Q [] [] h all = tt
+all_alike P Q xs ys h all = grind arith
+
+alike_at : {A B : Type 0} (P : A → Type 0) (Q : B → Type 0) (xs : List A) (ys : List B)
+    (position : ℕ) (x : A) → AllZip (λ x y. P x ↔ Q y) xs ys → at_position xs position ≡ Some x
+    → (y : B) × (at_position ys position ≡ Some y) × (P x ↔ Q y)
+alike_at P Q (z ∷ xs) (y ∷ ys) (suc (suc k)) x h at = alike_at P Q xs ys (suc k) x h.1 at
+alike_at P Q (z ∷ xs) (y ∷ ys) (suc zero) x h at = (y, refl, grind arith)
+alike_at P Q xs ys position x h at = absurd (grind arith)
+
+pub alike_back : {A B : Type 0} (P : A → Type 0) (Q : B → Type 0) (xs : List A) (ys : List B)
+    → AllZip (λ x y. P x ↔ Q y) xs ys → AllZip (λ y x. Q y ↔ P x) ys xs
+alike_back P Q (x ∷ xs) (y ∷ ys) h = ((h.0.1, h.0.0), alike_back P Q xs ys h.1)
+alike_back P Q [] [] h = tt
+alike_back P Q xs ys h = grind arith
+
+-- the first one of which it does not hold
+pub first_alike : (P Q : List ℕ → Type 0) (ps qs : List (List ℕ)) (position : ℕ)
+    → AllZip (λ p q. P p ↔ Q q) ps qs → IsFirstWithout P ps position
+    → IsFirstWithout Q qs position
+first_alike P Q ps qs position h o =
+    let there = alike_at P Q ps qs position o.profile h o.there in
+    record {
+      profile = there.0;
+      there = there.1;
+      overflows = λ holds. o.overflows (there.2.1 holds);
+      first = λ earlier other before is.
+          let one = alike_at Q P qs ps earlier other (alike_back P Q ps qs h) is in
+          one.2.1 (o.first earlier one.0 before one.1);
+    }

@@ -1,39 +1,20 @@
 -- The profiles of some strategies of each player, and their numbers among all profiles.
 use Rattle.gf_form.proofs.Common.{◌≡◌, ℕ, suc, ◌+◌, ◌-◌, ◌*◌, ◌/◌, ◌%◌, ◌<◌, ◌≤◌, List, [], ◌∷◌}
-use Rattle.gf_form.proofs.Common.{◌++◌, length, map, get_or, refl, sym, ap, subst, ◌∙◌, arith, zero}
-use Rattle.gf_form.proofs.Common.{drop, zip, AllByRecursion, AllZip, Contains, flat_map}
+use Rattle.gf_form.proofs.Common.{ArePicked, IsPicked, length, map, get_or, sym, ap, ◌∙◌, arith}
+use Rattle.gf_form.proofs.Common.{zero, drop, AllByRecursion, AllZip, Contains, flat_map}
 use Rattle.gf_form.proofs.Common.{mod-add-div, mul_comm, mul-le-mul_right, get_or-map}
-use Rattle.gf_form.proofs.Common.{get_or_default, length-map, map-append, all_both, all_weaker}
-use Rattle.gf_form.proofs.Common.{numbers_from, positions, product, profiles, IsProfile}
-use Rattle.gf_form.proofs.Common.{every_profile, length-profiles, Game, AreCounts, Counts}
-use Rattle.gf_form.proofs.Common.{length-numbers_from, AreBelow, AreProfileNumbers}
-use Rattle.gf_form.proofs.Common.{numbered_profiles, numbers_with, AreStrategies, action_counts}
-use Rattle.gf_form.proofs.Common.{full_profiles, players_of, strategies, strategies_at, all_images}
-use Rattle.std.proofs.lemmas.List.Folds.{flat_map-map}
+use Rattle.gf_form.proofs.Common.{get_or_default, length-map, all_weaker, numbers_from, positions}
+use Rattle.gf_form.proofs.Common.{product, profiles, IsProfile, every_profile, length-profiles}
+use Rattle.gf_form.proofs.Common.{Game, AreCounts, Counts, length-numbers_from, AreBelow}
+use Rattle.gf_form.proofs.Common.{AreProfileNumbers, numbered_profiles, AreStrategies}
+use Rattle.gf_form.proofs.Common.{action_counts, full_profiles, players_of, strategies}
+use Rattle.gf_form.proofs.Common.{strategies_at}
 use Rattle.gf_nfg.specs.ProfilePlaces.{place}
 use Rattle.gf_nfg.proofs.lemmas.tables.Profiles.{are_profiles, place_at}
-use Rattle.gf_form.proofs.lemmas.strategies.Lookups.{in_turn}
+use Rattle.gf_form.proofs.lemmas.strategies.Lookups.{in_turn, zip_flat}
 use Rattle.gf_form.proofs.lemmas.strategies.Choices.{IsChoice, every_choice}
 use Rattle.gf_form.proofs.lemmas.strategies.Chosen.{profile_strategies}
-use Rattle.gf_form.proofs.lemmas.strategies.CountedActions.{strategy_counts}
 use Rattle.gf_form.proofs.lemmas.strategies.StrategiesByNumber.{all_at, positive_parts}
-
--- for each player, the numbers of some of his strategies, from 0
-abbrev pub AreNumbers : Game → List (List ℕ) → Type 0
-AreNumbers g numbers = AllZip (λ own player.
-    AllByRecursion (λ number. number < length (strategies g player)) own) numbers (players_of g)
-
--- the strategies of a profile of these, by their positions among all, from 1
-abbrev pub full_at : List (List ℕ) → List ℕ → List ℕ
-full_at numbers profile = map (λ p. get_or p.0 (p.1 - 1) 0 + 1) (zip numbers profile)
-
--- the profiles, by such positions
-abbrev pub picked_profiles : List (List ℕ) → List (List ℕ)
-picked_profiles numbers = map (full_at numbers) (profiles (map length numbers))
-
-pub counted_profiles : (picked : List (List ℕ))
-    → length (picked_profiles picked) ≡ product (map length picked)
-counted_profiles picked = grind (arith, length-map, length-profiles)
 
 -- ---- the profile with a number
 
@@ -70,26 +51,7 @@ some_factor counts number i h less = grind arith
 
 -- ---- full profiles
 
-full_profile : (g : Game) (players : List ℕ) (picked : List (List ℕ)) (profile : List ℕ)
-    → AllZip (λ own player. AllByRecursion (λ number. number < length (strategies g player)) own)
-    picked players
-    → IsProfile (map length picked) profile
-    → IsProfile (map (λ player. length (strategies g player)) players) (full_at picked profile)
-full_profile g (player ∷ players) (own ∷ picked) (s ∷ profile) h k =
-    grind (arith, all_at, full_profile g players picked profile h.1 k.1)
-full_profile g [] [] profile h k = grind arith
-full_profile g players picked profile h k = absurd (grind arith)
-
-pub picked_full : (g : Game) (picked : List (List ℕ)) → AreNumbers g picked → (profile : List ℕ)
-    → Contains (profiles (map length picked)) profile
-    → Contains (full_profiles g) (full_at picked profile)
-picked_full g picked numbers profile there =
-    (every_profile (map (λ player. length (strategies g player)) (players_of g))
-    (full_at picked profile)).1
-    (full_profile g (players_of g) picked profile numbers
-    ((every_profile (map length picked) profile).0 there))
-
--- and they have an action for each set
+-- their strategies have an action for each set
 chosen : (g : Game) (all : List (List ℕ)) (players : List ℕ)
     → AllZip (λ strategy player. Contains (strategies g player) strategy) all players
     → AllZip (λ strategy player. IsChoice (action_counts g player) strategy) all players
@@ -110,96 +72,27 @@ sum_below : (count rest size number : ℕ) → rest < size → number < count
     → number + count * rest < count * size
 sum_below count rest size number less below = grind arith
 
-sums_below : (count rest size : ℕ) (own : List ℕ) → rest < size
+-- one player more, with his strategies from a place on, before a profile of the others
+more_picked : (count : ℕ) (counts all : List ℕ) (picked : List (List ℕ)) (others : List ℕ)
+    (rest : ℕ) → IsPicked counts picked others rest → (own : List ℕ) (k : ℕ)
     → AllByRecursion (λ number. number < count) own
-    → AllByRecursion (λ number. number < count * size) (map (λ number. number + count * rest) own)
-sums_below count rest size own less h =
-    all_images (λ number. number < count * size) (λ number. number + count * rest) own
-    (all_weaker (λ number. number < count) (λ number. number + count * rest < count * size)
-    (λ number. sum_below count rest size number less) own h)
-
-all_sums_below : (count size : ℕ) (own rests : List ℕ)
-    → AllByRecursion (λ number. number < count) own → AllByRecursion (λ rest. rest < size) rests
-    → AllByRecursion (λ number. number < count * size)
-    (flat_map (λ rest. map (λ number. number + count * rest) own) rests)
-all_sums_below count size own [] h k = tt
-all_sums_below count size own (rest ∷ rests) h k =
-    all_both (λ number. number < count * size) (map (λ number. number + count * rest) own)
-    (flat_map (λ rest. map (λ number. number + count * rest) own) rests)
-    (sums_below count rest size own k.0 h) (all_sums_below count size own rests h k.1)
-
-pub numbers_within : (counts : List ℕ) (picked : List (List ℕ)) → AreBelow counts picked
-    → AllByRecursion (λ number. number < product counts) (numbers_with counts picked)
-numbers_within (count ∷ counts) (own ∷ picked) h =
-    grind (arith, all_sums_below, numbers_within counts picked h.1)
-numbers_within counts picked h = grind arith
-
--- the profiles of one player more
-
-abbrev joined : List ℕ → List ℕ → List (List ℕ)
-joined own others = map (λ number. (number + 1) ∷ others) own
-
-by_sums : (count : ℕ) (counts : List ℕ) (rest : ℕ) (own : List ℕ)
-    → rest < product counts → AllByRecursion (λ number. number < count) own
-    → map (λ number. get_or (profiles (count ∷ counts)) number [])
-    (map (λ number. number + count * rest) own) ≡ joined own (get_or (profiles counts) rest [])
-by_sums count counts rest [] less h = refl
-by_sums count counts rest (number ∷ own) less h =
-    λ i. profile_at count counts number rest h.0 less i ∷ by_sums count counts rest own less h.1 i
-
-by_all_sums : (count : ℕ) (counts own rests : List ℕ)
-    → AllByRecursion (λ number. number < count) own
-    → AllByRecursion (λ rest. rest < product counts) rests
-    → map (λ number. get_or (profiles (count ∷ counts)) number [])
-    (flat_map (λ rest. map (λ number. number + count * rest) own) rests)
-    ≡ flat_map (λ rest. joined own (get_or (profiles counts) rest [])) rests
-by_all_sums count counts own [] h k = refl
-by_all_sums count counts own (rest ∷ rests) h k =
-    grind (arith, map-append, by_sums, by_all_sums count counts own rests h k.1)
-
-by_positions : (all : List ℕ) (picked : List (List ℕ)) (others own : List ℕ) (k : ℕ)
-    → ((i : ℕ) → get_or all (k + i) 0 ≡ get_or own i 0) → map (full_at (all ∷ picked))
-    (map (λ s. s ∷ others) (numbers_from (k + 1) (length own))) ≡ joined own (full_at picked others)
-by_positions all picked others [] k h = refl
-by_positions all picked others (number ∷ own) k h =
+    → ((i : ℕ) → get_or all (k + i) 0 ≡ get_or own i 0)
+    → AllZip (IsPicked (count ∷ counts) (all ∷ picked))
+    (map (λ s. s ∷ others) (numbers_from (k + 1) (length own)))
+    (map (λ number. number + count * rest) own)
+more_picked count counts all picked others rest one [] k below h = tt
+more_picked count counts all picked others rest one (number ∷ own) k below h =
     let here : k + 1 - 1 ≡ k + 0 = omega arith in
-    let first = ap (λ (n : ℕ). get_or all n 0) here ∙ h 0 in
-    λ i. ((first i + 1) ∷ full_at picked others)
-    ∷ by_positions all picked others own (k + 1)
-    (λ j. let next : k + 1 + j ≡ k + suc j = omega arith in
-    ap (λ (n : ℕ). get_or all n 0) next ∙ h (suc j)) i
-
-by_all_positions : (own : List ℕ) (picked tails : List (List ℕ)) → map (full_at (own ∷ picked))
-    (flat_map (λ others. map (λ s. s ∷ others) (positions (length own))) tails)
-    ≡ flat_map (λ others. joined own (full_at picked others)) tails
-by_all_positions own picked [] = refl
-by_all_positions own picked (others ∷ tails) =
-    map-append (full_at (own ∷ picked)) (map (λ s. s ∷ others) (positions (length own)))
-    (flat_map (λ others. map (λ s. s ∷ others) (positions (length own))) tails)
-    ∙ (λ i. by_positions own picked others own 0
-    (λ j. let same : 0 + j ≡ j = omega arith in ap (λ (n : ℕ). get_or own n 0) same) i
-    ++ by_all_positions own picked tails i)
-
-by_numbers : (counts : List ℕ) (picked : List (List ℕ)) → AreBelow counts picked
-    → map (λ number. get_or (profiles counts) number []) (numbers_with counts picked)
-    ≡ picked_profiles picked
-by_numbers (count ∷ counts) (own ∷ picked) h =
-    let rests = numbers_with counts picked in
-    by_all_sums count counts own rests h.0 (numbers_within counts picked h.1)
-    ∙ sym (flat_map-map (joined own) (λ rest. get_or (profiles counts) rest []) rests)
-    ∙ ap (flat_map (joined own)) (by_numbers counts picked h.1)
-    ∙ flat_map-map (joined own) (full_at picked) (profiles (map length picked))
-    ∙ sym (by_all_positions own picked (profiles (map length picked)))
-by_numbers [] [] h = refl
-by_numbers counts picked h = absurd (grind arith)
-
-are_below : (g : Game) (players : List ℕ) (picked : List (List ℕ))
-    → AllZip (λ own player. AllByRecursion (λ number. number < length (strategies g player)) own)
-    picked players
-    → AreBelow (map (λ player. length (strategies g player)) players) picked
-are_below g (player ∷ players) (own ∷ picked) h = (h.0, are_below g players picked h.1)
-are_below g [] [] h = tt
-are_below g players picked h = absurd (grind arith)
+    let first = ap (λ (n : ℕ). get_or all n 0) here ∙ h 0 in (
+      record {
+        within = sum_below count rest (product counts) number one.within below.0;
+        is = profile_at count counts number rest below.0 one.within
+            ∙ (λ i. (sym first i + 1) ∷ one.is i);
+      },
+      more_picked count counts all picked others rest one own (k + 1) below.1
+          (λ j. let next : k + 1 + j ≡ k + suc j = omega arith in
+          ap (λ (n : ℕ). get_or all n 0) next ∙ h (suc j)),
+    )
 
 -- ---- one player after another
 
@@ -210,14 +103,22 @@ player_at (count ∷ counts) (own ∷ picked) (suc i) h less =
     player_at counts picked i h.1 (omega (arith, less))
 player_at counts picked i h less = grind arith
 
-pub numbers_next : (counts : List ℕ) (picked : List (List ℕ)) (i : ℕ) → AreBelow counts picked
-    → i < length counts
-    → flat_map (λ rest. map (λ number. number + get_or counts i 0 * rest) (get_or picked i []))
-    (numbers_with (drop (suc i) counts) (drop (suc i) picked))
-    ≡ numbers_with (drop i counts) (drop i picked)
-numbers_next (count ∷ counts) (own ∷ picked) (suc i) h less =
-    numbers_next counts picked i h.1 (omega (arith, less))
-numbers_next counts picked i h less = grind arith
+pub next_picked : (counts : List ℕ) (picked : List (List ℕ)) (i : ℕ) (others : List ℕ)
+    → AreBelow counts picked → i < length counts
+    → ArePicked (drop (suc i) counts) (drop (suc i) picked) others
+    → ArePicked (drop i counts) (drop i picked)
+    (flat_map (λ rest. map (λ number. number + get_or counts i 0 * rest) (get_or picked i []))
+    others)
+next_picked (count ∷ counts) (own ∷ picked) (suc i) others h less are =
+    next_picked counts picked i others h.1 (omega (arith, less)) are
+next_picked (count ∷ counts) (own ∷ picked) zero others h less are =
+    zip_flat (IsPicked counts picked) (IsPicked (count ∷ counts) (own ∷ picked))
+    (λ profile. map (λ s. s ∷ profile) (positions (length own)))
+    (λ rest. map (λ number. number + count * rest) own)
+    (λ profile rest one. more_picked count counts own picked profile rest one own 0 h.0
+    (λ j. let same : 0 + j ≡ j = omega arith in ap (λ (n : ℕ). get_or own n 0) same))
+    (profiles (map length picked)) others are
+next_picked counts picked i others h less are = absurd (grind arith)
 
 pub no_less : (counts : List ℕ) (i : ℕ) → 0 < product counts
     → product (drop i counts) ≤ product counts
@@ -234,22 +135,6 @@ pub sums_fit : (count rest size most : ℕ) (own : List ℕ) → rest < size →
 sums_fit count rest size most own less fits h =
     all_weaker (λ number. number < count) (λ number. number + count * rest < most)
     (λ number below. omega (arith, sum_below count rest size number less below, fits)) own h
-
--- ---- of a game
-
-module _ (g : Game) (counts : List ℕ) (picked : List (List ℕ)) (are : AreNumbers g picked)
-    (counts_are : counts ≡ strategy_counts g) where
-  pub below : AreBelow counts picked
-  below = grind (arith, are_below g (players_of g) picked are)
-
-  pub are_profile_numbers : AreProfileNumbers g (numbers_with counts picked)
-  are_profile_numbers =
-      subst (λ (n : ℕ). AllByRecursion (λ number. number < n) (numbers_with counts picked))
-      (ap product counts_are ∙ sym (length-profiles (strategy_counts g)))
-      (numbers_within counts picked below)
-
-  pub profiles_are : numbered_profiles g (numbers_with counts picked) ≡ picked_profiles picked
-  profiles_are = cc (by_numbers (strategy_counts g) picked (are_below g (players_of g) picked are))
 
 -- ---- all
 

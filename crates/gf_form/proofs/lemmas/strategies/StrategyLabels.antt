@@ -1,9 +1,73 @@
--- The labels of different strategies differ.
-use Rattle.gf_form.proofs.Common.{◌≡◌, ℕ, ◌^◌, ◌<◌, List, [], ◌∷◌, length, get_or, refl, sym, ◌∙◌}
-use Rattle.gf_form.proofs.Common.{arith, decimal, AllByRecursion, decimal_injective, get_or_default}
-use Rattle.gf_form.proofs.Common.{all_choices, strategy_label}
+-- The labels of strategies: they differ, and those of all sets are joined from those of some and of
+-- the others.
+use Rattle.gf_form.proofs.Common.{◌≡◌, ℕ, ◌+◌, ◌%◌, ◌^◌, ◌<◌, ◌≤◌, List, [], ◌∷◌, ◌++◌, length, map}
+use Rattle.gf_form.proofs.Common.{get_or, drop, refl, ap, arith, decimal, AllByRecursion}
+use Rattle.gf_form.proofs.Common.{join_with_byte, length-map, all_both, all_images, all_weaker, sym}
+use Rattle.gf_form.proofs.Common.{◌∙◌, decimal_injective, get_or_default, all_choices}
+use Rattle.gf_form.proofs.Common.{strategy_label, suc, ◌*◌, Some, take, append_assoc, slice_get}
+use Rattle.gf_form.proofs.Common.{product}
+use Rattle.std.proofs.lemmas.Fmt.{decimal_by_steps}
 use Rattle.gf_form.proofs.lemmas.strategies.Choices.{IsChoice, every_choice, choices_distinct}
-use Rattle.gf_form.proofs.lemmas.strategies.JoinedTexts.{same_joined, undashed_number}
+use Rattle.gf_form.proofs.lemmas.strategies.Choices.{are_choices, length-all_choices}
+use Rattle.gf_form.proofs.lemmas.strategies.CountedActions.{take_past}
+use Rattle.gf_form.proofs.lemmas.rows.DigitPlaces.{product_joined}
+use Rattle.gf_form.proofs.lemmas.reduced.FirstStrategies.{choice_length}
+use Rattle.gf_form.proofs.lemmas.strategies.StrategiesByNumber.{all_at, joined_at, one_label_more}
+
+-- none of these bytes is a dash
+abbrev pub AreUndashed : List ℕ → Type 0
+AreUndashed bytes = AllByRecursion (λ b. ¬ (b ≡ 45)) bytes
+
+abbrev pub AreDigits : List ℕ → Type 0
+AreDigits bytes = AllByRecursion (λ b. 48 ≤ b) bytes
+
+pub digits_of : (n : ℕ) → n < 2 ^ 64 → AreDigits (decimal n)
+digits_of n h =
+    decimal_by_steps (λ _ ds. AreDigits ds) (λ k _. (omega arith, tt))
+    (λ k ds _ p. all_both (λ b. 48 ≤ b) ds ((48 + k % 10) ∷ []) p (omega arith, tt)) n h
+
+pub undashed_number : (n : ℕ) → n < 2 ^ 64 → AreUndashed (decimal n)
+undashed_number n h = grind (arith, all_weaker, digits_of)
+
+head_same : (x y : ℕ) (xs ys : List ℕ) → x ∷ xs ≡ y ∷ ys → x ≡ y
+head_same x y xs ys e = ap (λ (zs : List ℕ). get_or zs 0 0) e
+
+-- what stands before the first dash, and after it
+cut : (xs ys us vs : List ℕ) → AreUndashed xs → AreUndashed ys → xs ++ 45 ∷ us ≡ ys ++ 45 ∷ vs
+    → (xs ≡ ys) × (us ≡ vs)
+cut (x ∷ xs) (y ∷ ys) us vs hx hy e =
+    grind (arith, head_same, cut xs ys us vs hx.1 hy.1 (ap (drop 1) e))
+cut [] [] us vs hx hy e = (refl, ap (drop 1) e)
+cut xs ys us vs hx hy e = absurd (grind (arith, head_same))
+
+same_texts : (xs ys : List (List ℕ)) → length xs ≡ length ys → AllByRecursion AreUndashed xs
+    → AllByRecursion AreUndashed ys → join_with_byte 45 xs ≡ join_with_byte 45 ys → xs ≡ ys
+same_texts (x ∷ u ∷ xs) (y ∷ v ∷ ys) n hx hy e =
+    let parts = cut x y (join_with_byte 45 (u ∷ xs)) (join_with_byte 45 (v ∷ ys)) hx.0 hy.0 e in
+    let others = same_texts (u ∷ xs) (v ∷ ys) (omega (arith, n)) hx.1 hy.1 parts.1 in
+    λ i. parts.0 i ∷ others i
+same_texts (x ∷ []) (y ∷ ys) n hx hy e = grind arith
+same_texts [] [] n hx hy e = refl
+same_texts xs ys n hx hy e = absurd (omega (arith, n))
+
+-- and so are items that are told from their texts
+module _ {X : Type 0} (text : X → List ℕ) (IsFine : X → Type 0)
+    (undashed : (x : X) → IsFine x → AreUndashed (text x))
+    (one : (x y : X) → IsFine x → IsFine y → text x ≡ text y → x ≡ y) where
+  same_items : (xs ys : List X) → AllByRecursion IsFine xs → AllByRecursion IsFine ys
+      → map text xs ≡ map text ys → xs ≡ ys
+  same_items (x ∷ xs) (y ∷ ys) hx hy e = grind (arith, same_items xs ys hx.1 hy.1 (ap (drop 1) e))
+  same_items [] [] hx hy e = refl
+  same_items xs ys hx hy e = absurd (grind arith)
+
+  all_undashed : (xs : List X) → AllByRecursion IsFine xs → AllByRecursion AreUndashed (map text xs)
+  all_undashed xs h = all_images AreUndashed text xs
+      (all_weaker IsFine (λ x. AreUndashed (text x)) undashed xs h)
+
+  pub same_joined : (xs ys : List X) → length xs ≡ length ys → AllByRecursion IsFine xs
+      → AllByRecursion IsFine ys
+      → join_with_byte 45 (map text xs) ≡ join_with_byte 45 (map text ys) → xs ≡ ys
+  same_joined xs ys n hx hy e = grind (arith, same_items, same_texts, length-map, all_undashed)
 
 abbrev pub AreSmall : List ℕ → Type 0
 AreSmall ns = AllByRecursion (λ n. n < 2 ^ 64) ns
@@ -30,3 +94,53 @@ labels_differ counts i j small hi hj e =
     let ht = small_choice counts t small
     ((every_choice counts t).0 (j, hj, get_or_default (all_choices counts) j t [] hj)) in
     choices_distinct counts i j [] hi hj (same_label s t (hs.1 ∙ sym ht.1) hs.0 ht.0 e)
+
+-- ---- texts
+
+label_of_both : (f b : List ℕ) → 0 < length f → 0 < length b
+    → strategy_label (f ++ b) ≡ strategy_label f ++ 45 ∷ strategy_label b
+label_of_both (a ∷ e ∷ f) (c ∷ b) hf hb =
+    grind (arith, append_assoc, label_of_both (e ∷ f) (c ∷ b) (omega arith) hb)
+label_of_both (a ∷ []) (c ∷ b) hf hb = refl
+label_of_both f b hf hb = absurd (grind arith)
+
+got : (xs : List (List ℕ)) (i : ℕ) (v : List ℕ) → slice_get (map strategy_label xs) i ≡ Some v
+    → i < length xs → v ≡ strategy_label (get_or xs i [])
+got (x ∷ xs) (suc i) v e less = got xs i v e (omega (arith, less))
+got xs i v e less = grind arith
+
+long : (counts : List ℕ) (n : ℕ) → n < product counts
+    → length (get_or (all_choices counts) n []) ≡ length counts
+long counts n less = grind (arith, choice_length, all_at, are_choices, length-all_choices)
+
+-- labels of strategies, made from this many first ones with all others, and from one more with this
+-- many
+pub record AreJoined (firsts others labels : List (List ℕ)) (i j : ℕ) : Type 0 where
+  pub are : (xs ys : List ℕ) → 0 < length xs → 0 < length ys
+      → firsts ≡ map strategy_label (all_choices xs) → others ≡ map strategy_label (all_choices ys)
+      → labels ≡ map strategy_label (take (i * product ys + j) (all_choices (xs ++ ys)))
+
+counted : (labels : List (List ℕ)) (counts : List ℕ)
+    → labels ≡ map strategy_label (all_choices counts) → length labels ≡ product counts
+counted labels counts is = grind (arith, is, length-map, length-all_choices)
+
+pub one_joined_more : (firsts others labels next : List (List ℕ)) (i j : ℕ)
+    (first other label : List ℕ) → i < length firsts → j < length others
+    → slice_get firsts i ≡ Some first → slice_get others j ≡ Some other
+    → label ≡ first ++ 45 ∷ other → next ≡ labels ++ label ∷ []
+    → AreJoined firsts others labels i j → AreJoined firsts others next i (j + 1)
+one_joined_more firsts others labels next i j first other label hi hj at_i at_j is more h =
+    grind (arith, counted, got, length-all_choices, joined_at, label_of_both, long, one_label_more)
+
+pub row_joined : (firsts others labels : List (List ℕ)) (i j : ℕ) → j ≡ length others
+    → AreJoined firsts others labels i j → AreJoined firsts others labels (i + 1) 0
+row_joined firsts others labels i j end h = grind (arith, counted)
+
+pub all_joined : (firsts others labels : List (List ℕ)) (i : ℕ) → i ≡ length firsts
+    → AreJoined firsts others labels i 0 → (xs ys : List ℕ) → 0 < length xs → 0 < length ys
+    → firsts ≡ map strategy_label (all_choices xs) → others ≡ map strategy_label (all_choices ys)
+    → labels ≡ map strategy_label (all_choices (xs ++ ys))
+all_joined firsts others labels i end h xs ys hx hy f o =
+    grind (arith, counted, product_joined, take_past, length-all_choices)
+
+pub ruleset joined_steps = (one_joined_more, row_joined, all_joined)

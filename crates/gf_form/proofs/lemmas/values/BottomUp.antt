@@ -13,14 +13,12 @@ use Rattle.gf_form.proofs.Common.{is_chosen, probability, payoff_at, payoff, pla
 use Rattle.gf_form.proofs.Common.{play_payoff, IsValue, IsChanceValue, IsChildValue}
 use Rattle.gf_form.proofs.lemmas.values.Denominators.{probability_above, payoff_above}
 use Rattle.gf_form.proofs.lemmas.values.Denominators.{play_probability_above, worth_above}
-use Rattle.gf_form.proofs.lemmas.values.Lotteries.{no_chance}
+use Rattle.gf_form.proofs.lemmas.values.Whole.{no_chance, followed, followed_in, each_chosen}
+use Rattle.gf_form.proofs.lemmas.values.Whole.{first_chosen, only_this, not_this, one_of, by_one}
+use Rattle.gf_form.proofs.lemmas.values.Whole.{first_whole, this_whole, chance_whole, node_by}
+use Rattle.gf_form.proofs.lemmas.values.Whole.{sum_joined, weight_above, all_worth_above}
+use Rattle.gf_form.proofs.lemmas.values.Whole.{worth_after}
 use Rattle.gf_form.proofs.lemmas.values.ValuesComputed.{value_is}
-use Rattle.gf_form.proofs.lemmas.values.Followed.{followed, followed_in, each_chosen, first_chosen}
-use Rattle.gf_form.proofs.lemmas.values.Followed.{only_this, not_this}
-use Rattle.gf_form.proofs.lemmas.values.Whole.{one_of, by_one, first_whole, this_whole}
-use Rattle.gf_form.proofs.lemmas.values.Whole.{chance_whole, node_by}
-use Rattle.gf_form.proofs.lemmas.values.PlaySums.{sum_joined, weight_above, all_worth_above}
-use Rattle.gf_form.proofs.lemmas.values.PlaySums.{worth_after}
 
 -- ---- what the arithmetic of values says
 

@@ -1,17 +1,16 @@
 -- A search for the first strategies of a player, digit by digit, and another one for their labels.
-use Rattle.std.specs.Prelude.{◌≡◌, ◌≤◌, ◌<◌, ◌+◌, ◌-◌, ◌^◌, ◌==◌, ◌&&◌, ◌||◌, ℕ, suc, Bool, false}
-use Rattle.std.specs.Prelude.{true, List, [], ◌∷◌, drop, filter, get_or, length, map, nat_le, take}
+use Rattle.std.specs.Prelude.{◌≡◌, ◌≤◌, ◌<◌, ◌+◌, ◌*◌, ◌^◌, ◌==◌, ◌&&◌, ◌||◌, ℕ, suc, Bool, false}
+use Rattle.std.specs.Prelude.{true, List, [], drop, filter, get_or, length, map, nat_lt, take}
 use Rattle.std.specs.List.{AllByRecursion}
 use Rattle.gf_nfg.specs.Profiles.{product}
 use Rattle.gf_tree.specs.FirstUse.{player_keys}
 use Rattle.gf_tree.specs.Game.{Game}
 use Rattle.gf_form.specs.Reduced.{reduced, reduced_label}
 use Rattle.gf_form.specs.Strategies.{action_counts, all_choices, strategies}
-use Rattle.gf_form.specs.inner.reduced.Levels.{ArePositive, IsLevel, can_be_met, is_left}
+use Rattle.gf_form.specs.inner.reduced.Levels.{IsLevel, can_be_met, is_left}
 use Rattle.gf_form.specs.inner.reduced.OwnDigits.{digits_from}
 use Rattle.gf_form.specs.inner.reduced.Shown.{is_first, relevant_sets}
 use Rattle.gf_form.specs.inner.reduced.Visits.{AreWithin, is_met}
-use Rattle.gf_form.specs.inner.rows.Demands.{spans, steps_of}
 use Rattle.gf_form.specs.declared.reduced.digits.OwnDigit.{OwnDigit}
 use Rattle.gf_form.specs.declared.reduced.level.Level.{Level}
 use Rattle.gf_form.specs.declared.reduced.visits.Visit.{Visit}
@@ -21,15 +20,19 @@ use Rattle.gf_form.specs.declared.reduced.visits.Visit.{Visit}
 abbrev pub digit_at : List OwnDigit → ℕ → OwnDigit
 digit_at digits k = get_or digits k (record { place = 0; step = 0; actions = 0 })
 
--- the digit at this depth
-pub record IsHere (digits : List OwnDigit) (depth : ℕ) (d : OwnDigit) : Type 0 where
-  pub deep : depth < length digits
-  pub left : drop depth digits ≡ d ∷ drop (suc depth) digits
-  pub is : digit_at digits depth ≡ d
-
 -- how many actions there are at each digit
 abbrev pub actions_of : List OwnDigit → List ℕ
 actions_of digits = map (λ d. d.actions) digits
+
+-- what one more at each digit adds to demands
+abbrev pub steps_to : List OwnDigit → List ℕ
+steps_to digits = map (λ d. d.step) digits
+
+-- one more action than there are still fits
+pub record IsFine (d : OwnDigit) : Type 0 where
+  pub step : 0 < d.step
+  pub actions : 0 < d.actions
+  pub fits : d.actions * d.step + d.step < 2 ^ 64
 
 -- the set at a place, from 0, has none of these digits
 abbrev pub IsElsewhere : ℕ → List OwnDigit → Type 0
@@ -52,29 +55,30 @@ abbrev pub is_relevant_at : Game → ℕ → ℕ → ℕ → Bool
 is_relevant_at g player number place =
     get_or (relevant_sets g player (numbered g player number)) place false
 
+-- what the strategy with a number chooses at these digits
+abbrev pub choices_at : Game → ℕ → List OwnDigit → ℕ → List ℕ
+choices_at g player digits number =
+    map (λ d. get_or (numbered g player number) d.place 0) digits
+
 -- The strategies with numbers from this one on, as many as the count says, have all choices at
 -- these digits in turn.
 pub record HaveChoices (g : Game) (player : ℕ) (digits : List OwnDigit) (number count : ℕ) : Type 0
   where
-    pub steps : map (λ d. d.step) digits ≡ steps_of (actions_of digits)
-    pub some : ArePositive (actions_of digits)
-    pub fits : product (spans (actions_of digits)) < 2 ^ 64
+    pub fine : AllByRecursion IsFine digits
     pub counted : count ≡ product (actions_of digits)
     pub end : number + count ≤ length (strategies g player)
     pub few : length (strategies g player) < 2 ^ 32
-    pub chosen : (k : ℕ) → k < count
-        → map (λ d. get_or (numbered g player (number + k)) d.place 0) digits
-        ≡ get_or (all_choices (actions_of digits)) k []
+    pub chosen : (k n : ℕ) → n ≡ number + k → k < count
+        → choices_at g player digits n ≡ get_or (all_choices (actions_of digits)) k []
 
--- The level tells the flags at so many positions, by the choices that are left at digits with so
--- many actions; the number is that of the first of these.
-pub record IsToldBy (flag : ℕ → ℕ → Bool) (positions : ℕ) (actions : List ℕ) (level : Level)
-    (number : ℕ) : Type 0
+-- The level tells the flags at so many places under each of these strategies, by what it chooses
+-- at the digits that are left.
+pub record IsToldBy (g : Game) (player : ℕ) (digits : List OwnDigit) (flag : ℕ → ℕ → Bool)
+    (places : ℕ) (level : Level) (number count : ℕ) : Type 0
   where
-    pub levelled : IsLevel positions level
-    pub tells : (k position : ℕ) → k < product actions → 1 ≤ position → position ≤ positions
-        → flag (number + k) position
-        ≡ is_left position (steps_of actions) (get_or (all_choices actions) k []) level
+    pub levelled : IsLevel places level
+    pub tells : (n place : ℕ) → number ≤ n → n < number + count → place < places
+        → flag n place ≡ is_left (suc place) (steps_to digits) (choices_at g player digits n) level
 
 -- ---- first strategies
 
@@ -83,28 +87,29 @@ abbrev pub AreInTurn : List ℕ → Type 0
 AreInTurn numbers = (k : ℕ) → suc k < length numbers
     → get_or numbers k 0 < get_or numbers (suc k) 0
 
--- The set of the digit at a position is relevant, or the digit is one of the first ones, as many as
+-- The set of the digit at a place is relevant, or the digit is one of the first ones, as many as
 -- the depth says, and has the first action.
 abbrev pub is_settled : Game → ℕ → List OwnDigit → ℕ → ℕ → ℕ → Bool
-is_settled g player digits depth number position =
-    is_relevant_at g player number (digit_at digits (position - 1)).place
-    || (nat_le position depth
-    && get_or (numbered g player number) (digit_at digits (position - 1)).place 0 == 1)
+is_settled g player all depth number j =
+    is_relevant_at g player number (digit_at all j).place
+    || (nat_lt j depth && get_or (numbered g player number) (digit_at all j).place 0 == 1)
 
--- As many digits are chosen as the depth says, by the strategies with numbers from this one on.
-pub record IsSearched (g : Game) (player : ℕ) (digits : List OwnDigit) (level : Level)
+-- As many of all digits are chosen as the depth says, by the strategies with numbers from this one
+-- on, and these are left.
+pub record IsSearched (g : Game) (player : ℕ) (all digits : List OwnDigit) (level : Level)
     (depth number count : ℕ) : Type 0
   where
-    pub digits_are : digits ≡ digits_from 0 (action_counts g player)
-    pub deep : depth ≤ length digits
-    pub choices : HaveChoices g player (drop depth digits) number count
-    pub told : IsToldBy (is_settled g player digits depth) (length digits)
-        (actions_of (drop depth digits)) level number
+    pub all_are : all ≡ digits_from 0 (action_counts g player)
+    pub rest : drop depth all ≡ digits
+    pub deep : depth ≤ length all
+    pub choices : HaveChoices g player digits number count
+    pub told : IsToldBy g player digits (is_settled g player all depth) (length all) level number
+        count
 
 -- all strategies with these numbers are first ones
 abbrev pub AreFirstBelow : Game → ℕ → ℕ → ℕ → Type 0
-AreFirstBelow g player number count = (k : ℕ) → k < count
-    → is_first g player (numbered g player (number + k)) ≡ true
+AreFirstBelow g player number count =
+    (n : ℕ) → number ≤ n → n < number + count → is_first g player (numbered g player n) ≡ true
 
 -- the numbers of those of the first i items that pass the test, in turn
 pub record HaveNumbers {A : Type 0} (test : A → Bool) (all : List A) (d : A) (numbers : List ℕ)
@@ -121,19 +126,18 @@ AreFoundTo g player numbers number =
 
 -- ---- labels
 
--- the digits are chosen by a strategy too, which is right at each set that has none of the others
+-- The digits but these are chosen, by a strategy too, which is right at each set that has none of
+-- these.
 pub record IsWritten (g : Game) (player : ℕ) (digits : List OwnDigit) (strategy : List ℕ)
-    (level : Level) (depth number count : ℕ) : Type 0
+    (level : Level) (number count : ℕ) : Type 0
   where
-    pub deep : depth ≤ length digits
-    pub choices : HaveChoices g player (drop depth digits) number count
-    pub told : IsToldBy (λ number position. is_relevant_at g player number (position - 1))
-        (length (player_keys g player)) (actions_of (drop depth digits)) level number
+    pub choices : HaveChoices g player digits number count
+    pub told : IsToldBy g player digits (is_relevant_at g player) (length (player_keys g player))
+        level number count
     pub wide : length strategy ≡ length (action_counts g player)
-    pub inside : (j : ℕ) → j < length digits → (digit_at digits j).place < length strategy
-    pub chosen : (k place : ℕ) → k < count → place < length strategy
-        → IsElsewhere place (drop depth digits)
-        → get_or strategy place 0 ≡ get_or (numbered g player (number + k)) place 0
+    pub inside : AllByRecursion (λ d. d.place < length strategy) digits
+    pub chosen : (n place : ℕ) → number ≤ n → n < number + count → place < length strategy
+        → IsElsewhere place digits → get_or strategy place 0 ≡ get_or (numbered g player n) place 0
 
 -- with all digits chosen there is one strategy, and the level tells which sets are relevant
 pub record IsLast (g : Game) (player : ℕ) (strategy : List ℕ) (level : Level) (number : ℕ) : Type 0

@@ -1,6 +1,7 @@
 -- Profiles by their numbers among all, from 0.
-use Rattle.std.specs.Prelude.{ℕ, ◌+◌, ◌*◌, ◌<◌, List, [], ◌∷◌, get_or, length, map}
-use Rattle.std.specs.List.{AllByRecursion, AllZip, flat_map}
+use Rattle.std.specs.Prelude.{◌≡◌, ℕ, ◌+◌, ◌-◌, ◌<◌, List, [], get_or, length, map, zip}
+use Rattle.std.specs.List.{AllByRecursion, AllZip}
+use Rattle.gf_nfg.specs.Profiles.{product, profiles}
 use Rattle.gf_tree.specs.Game.{Game}
 use Rattle.gf_form.specs.Strategies.{full_profiles}
 
@@ -17,9 +18,18 @@ abbrev pub AreBelow : List ℕ → List (List ℕ) → Type 0
 AreBelow counts picked =
     AllZip (λ own count. AllByRecursion (λ number. number < count) own) picked counts
 
--- The numbers of the profiles of these strategies, in order, if players have this many strategies
--- each.
-abbrev pub numbers_with : List ℕ → List (List ℕ) → List ℕ
-numbers_with (count ∷ counts) (own ∷ picked) =
-    flat_map (λ rest. map (λ number. number + count * rest) own) (numbers_with counts picked)
-numbers_with _ _ = 0 ∷ []
+-- the strategies of a profile of these, by their positions among all, from 1
+abbrev pub full_at : List (List ℕ) → List ℕ → List ℕ
+full_at picked profile = map (λ p. get_or p.0 (p.1 - 1) 0 + 1) (zip picked profile)
+
+-- If players have this many strategies each, the profile with this number has those of a profile of
+-- the picked ones.
+pub record IsPicked (counts : List ℕ) (picked : List (List ℕ)) (profile : List ℕ) (number : ℕ)
+    : Type 0 where
+  pub within : number < product counts
+  pub is : get_or (profiles counts) number [] ≡ full_at picked profile
+
+-- the numbers of the profiles of the picked strategies, in order
+abbrev pub ArePicked : List ℕ → List (List ℕ) → List ℕ → Type 0
+ArePicked counts picked numbers =
+    AllZip (IsPicked counts picked) (profiles (map length picked)) numbers

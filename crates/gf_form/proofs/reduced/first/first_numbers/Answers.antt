@@ -1,6 +1,5 @@
 use Rattle.gf_form.proofs.Common.{◌≡◌, ◌+◌, ◌<◌, ◌^◌, ◌∙◌, ℕ, ap, arith, length, subst, sym}
-use Rattle.gf_form.proofs.Common.{product}
-use Rattle.gf_form.proofs.Common.{action_counts, IsLevel, AreFoundTo, actions_of}
+use Rattle.gf_form.proofs.Common.{product, action_counts, IsLevel, AreFoundTo, actions_of}
 use Rattle.gf_form.proofs.lemmas.reduced.SearchStarts.{few_digits, none_found_yet, searched_all}
 use Rattle.gf_form.proofs.reduced.first.first_numbers.Goals as goal
 
@@ -36,13 +35,13 @@ push_below-requires-clause-below c =
     let game = c.players-players.ensures.is_game in
     let player = c.args.player.now.number in
     let digits = c.args.player.now.digits.items in
-    searched_all g game player digits c.requires.digits c.args.whole
+    rw c.deref-3.ensures.value (searched_all g game player digits c.requires.digits c.args.whole
     c.requires.choices c.args.visits.now c.requires.visits c.in_ok-level.level
     c.in_ok-level.ensures.unknown c.in_ok-own.own.items
     (rw c.deref.ensures.value at c.in_ok-own.ensures)
     (rw c.deref-2.ensures.value at c.in_ok-level.ensures.visits)
     (subst (λ (positions : ℕ). IsLevel positions c.in_ok-level.level)
-    (c.len.ensures ∙ c.args.player.now.digits.ok.0) c.in_ok-level.ensures.level)
+    (c.len.ensures ∙ c.args.player.now.digits.ok.0) c.in_ok-level.ensures.level))
 
 pub push_below-requires-clause-found : goal.push_below-requires-clause-found
 push_below-requires-clause-found c =

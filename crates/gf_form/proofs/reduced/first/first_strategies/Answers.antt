@@ -1,8 +1,7 @@
-use Rattle.gf_form.proofs.Common.{◌∙◌, ap, arith, subst, sym, product, action_counts}
-use Rattle.gf_form.proofs.Common.{ArePositive, digits_from}
+use Rattle.gf_form.proofs.Common.{◌∙◌, ap, arith, subst, sym, product, action_counts, ArePositive}
+use Rattle.gf_form.proofs.Common.{digits_from}
 use Rattle.gf_form.proofs.lemmas.strategies.CountedActions.{actions_positive}
-use Rattle.gf_form.proofs.lemmas.reduced.OwnDigits.{width_fits}
-use Rattle.gf_form.proofs.lemmas.reduced.SearchStarts.{all_choices_had, firsts_are}
+use Rattle.gf_form.proofs.lemmas.reduced.SearchStarts.{width_fits, all_choices_had, firsts_are}
 use Rattle.gf_form.proofs.reduced.first.first_strategies.Goals as goal
 
 pub own_steps-requires-clause-some : goal.own_steps-requires-clause-some

@@ -1,6 +1,6 @@
 use Rattle.gf_form.proofs.Common.{◌++◌, ◌∷◌, ◌∙◌, [], ℕ, List, ap, map, subst, sym, product}
 use Rattle.gf_form.proofs.Common.{AreFirstsOf, all_choices, strategy_label}
-use Rattle.gf_form.proofs.lemmas.reduced.OnlyStrategies.{only_first, only_label}
+use Rattle.gf_form.proofs.lemmas.reduced.Coming.{only_first, only_label}
 use Rattle.gf_form.proofs.reduced.first.only_strategy.Goals as goal
 
 pub returns-clause-firsts : goal.returns-clause-firsts

@@ -1,6 +1,6 @@
 use Rattle.gf_form.proofs.Common.{◌<◌, arith, length}
 use Rattle.gf_form.proofs.lemmas.reduced.LevelsChosen.{at_visit}
-use Rattle.gf_form.proofs.lemmas.reduced.OwnVisits.{added}
+use Rattle.gf_form.proofs.lemmas.reduced.SearchStarts.{added}
 use Rattle.gf_form.proofs.reduced.first.own_visits.Goals as goal
 
 pub loop-visit-preserved : goal.loop-visit-preserved

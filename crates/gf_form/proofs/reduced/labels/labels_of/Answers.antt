@@ -10,13 +10,13 @@ push_below-requires-clause-below c =
     let player = c.args.player.now.number in
     let digits = c.args.player.now.digits.items in
     let made = c.in_ok-labelling.ensures in
-    written_all g game player digits c.requires.digits c.args.whole
+    rw c.deref.ensures.value (written_all g game player digits c.requires.digits c.args.whole
     c.requires.choices c.args.visits.now c.requires.visits c.in_ok-level.level
     c.in_ok-level.ensures.unknown _ (made.wide ∙ c.requires.sets)
     (λ place less. made.strategy place (omega (arith, less, c.requires.sets)))
     c.in_ok-level.ensures.visits
     (subst (λ (sets : ℕ). IsLevel sets c.in_ok-level.level) c.requires.sets
-    c.in_ok-level.ensures.level)
+    c.in_ok-level.ensures.level))
 
 pub push_below-requires-clause-labelled : goal.push_below-requires-clause-labelled
 push_below-requires-clause-labelled c =

@@ -1,5 +1,5 @@
 use Rattle.gf_form.proofs.Common.{arith, rules}
-use Rattle.gf_form.proofs.lemmas.reduced.ReducedText.{plain_choice, plain_more}
+use Rattle.gf_form.proofs.lemmas.reduced.SearchLabels.{plain_choice, plain_more}
 use Rattle.gf_form.proofs.reduced.labels.write_choice.Goals as goal
 
 pub returns-clause-plain : goal.returns-clause-plain

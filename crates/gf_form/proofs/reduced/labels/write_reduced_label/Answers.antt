@@ -1,5 +1,5 @@
 use Rattle.gf_form.proofs.Common.{arith, shown}
-use Rattle.gf_form.proofs.lemmas.reduced.ReducedText.{all_marked, mark_removed}
+use Rattle.gf_form.proofs.lemmas.reduced.SearchLabels.{all_marked, mark_removed}
 use Rattle.gf_form.proofs.reduced.labels.write_reduced_label.Goals as goal
 
 pub returns-clause-text : goal.returns-clause-text

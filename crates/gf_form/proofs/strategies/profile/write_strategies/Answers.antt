@@ -2,7 +2,7 @@ use Rattle.gf_form.proofs.Common.{◌∙◌, ◌%◌, [], ap, get_or, product, a
 use Rattle.gf_form.proofs.Common.{Global, arith, length-map}
 use Rattle.std.proofs.lemmas.List.{map-set}
 use Rattle.gf_form.proofs.lemmas.strategies.CountsGiven.{Read, actions_in, read_actions, read_whole}
-use Rattle.gf_form.proofs.lemmas.strategies.WrittenStrategies.{one_written}
+use Rattle.gf_form.proofs.lemmas.strategies.NumberedProfiles.{one_written}
 use Rattle.gf_form.proofs.strategies.profile.write_strategies.Goals as goal
 
 pub loop-place-preserved : goal.loop-place-preserved

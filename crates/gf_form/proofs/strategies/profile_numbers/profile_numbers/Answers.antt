@@ -1,8 +1,8 @@
-use Rattle.gf_form.proofs.Common.{◌≡◌, ◌∙◌, ◌-◌, ◌<◌, ℕ, suc, List, Vec, Global, ap, arith, drop}
-use Rattle.gf_form.proofs.Common.{length, map, drop-cons, product}
+use Rattle.gf_form.proofs.Common.{◌≡◌, ◌-◌, ◌<◌, ℕ, suc, List, Vec, Global, ap, arith, drop}
+use Rattle.gf_form.proofs.Common.{drop_of_length-le, length-map, length, map, drop-cons, product}
 use Rattle.gf_form.proofs.lemmas.strategies.CountsGiven.{own_read}
-use Rattle.gf_form.proofs.lemmas.strategies.PickedProfiles.{no_less, numbers_next, numbers_within}
-use Rattle.gf_form.proofs.lemmas.strategies.PickedProfiles.{player_at}
+use Rattle.gf_form.proofs.lemmas.strategies.Lookups.{all_right}
+use Rattle.gf_form.proofs.lemmas.strategies.PickedProfiles.{next_picked, no_less, player_at}
 use Rattle.gf_form.proofs.strategies.profile_numbers.profile_numbers.Goals as goal
 
 abbrev lists : List (Vec ℕ Global) → List (List ℕ)
@@ -27,8 +27,9 @@ with_player-requires-clause-others c =
     let next : place ≡ suc i = omega (arith, c.loop-place-test.true) in
     let inv = c.loop-place.invariant in (
       product (drop (suc i) counts),
-      rw (c.deref-in-loop-place.ensures.value, rw next at inv)
-          (numbers_within _ _ (player_at counts _ i c.requires.below less).1),
+      rw c.deref-in-loop-place.ensures.value
+          (all_right _ (λ rest. rest < product (drop (suc i) counts)) (λ _ _ one. one.within) _ _
+          (rw next at inv)),
       omega (
         arith,
         ap product (drop-cons counts i 0 less),
@@ -46,8 +47,9 @@ loop-place-preserved c =
     let next : c.loop-place.place ≡ suc i = omega (arith, c.loop-place-test.true) in
     let own = own_read c.args.picked.now i _ _ (omega (arith, less, c.requires.as_many))
     c.index-picked-place.is c.deref.ensures.value in
-    let here = numbers_next counts picked i c.requires.below less in
     let inv = c.loop-place.invariant in
-    let given = rw next at inv in
-    let made = c.in_ok-numbers.ensures in
-    rw (own, c.deref-in-loop-place.ensures.value, given) at made ∙ here
+    let all = next_picked counts picked i _ c.requires.below less (rw next at inv) in
+    rw (c.in_ok-numbers.ensures, own, c.deref-in-loop-place.ensures.value) all
+
+pub loop-place-init : goal.loop-place-init
+loop-place-init c = grind (arith, drop_of_length-le, c.requires.as_many, length-map)

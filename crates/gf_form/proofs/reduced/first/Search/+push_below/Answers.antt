@@ -1,15 +1,13 @@
-use Rattle.gf_form.proofs.Common.{◌≡◌, ◌+◌, ◌*◌, ◌/◌, ◌<◌, ◌∙◌, ◌^◌, ℕ, arith, false, length}
-use Rattle.gf_form.proofs.Common.{subst, sym, get_or-take, length-take-le, IsChosenAt, IsLevel}
-use Rattle.gf_form.proofs.Common.{AreFoundTo}
-use Rattle.gf_form.proofs.lemmas.reduced.SearchEnds.{all_found, known_firsts, last_firsts}
-use Rattle.gf_form.proofs.lemmas.reduced.SearchEnds.{none_found}
-use Rattle.gf_form.proofs.lemmas.reduced.SearchSteps.{choices_here}
-use Rattle.gf_form.proofs.lemmas.reduced.SearchSteps.{next_searched, some_actions, step_fits}
+use Rattle.gf_form.proofs.Common.{◌≡◌, ◌+◌, ◌*◌, ◌/◌, ◌<◌, ◌∙◌, ℕ, ap, arith, false, length, subst}
+use Rattle.gf_form.proofs.Common.{sym, get_or-take, length-take-le, IsChosenAt, IsLevel, AreFoundTo}
+use Rattle.gf_form.proofs.lemmas.reduced.Searches.{all_found, known_firsts, last_firsts, none_found}
+use Rattle.gf_form.proofs.lemmas.reduced.Searches.{next_searched, no_digits, some_actions}
+use Rattle.gf_form.proofs.lemmas.reduced.Searches.{step_fits}
 use Rattle.gf_form.proofs.reduced.first.Search.+push_below.Goals as goal
 
 pub push_all-requires-clause-firsts : goal.push_all-requires-clause-firsts
 push_all-requires-clause-firsts t c =
-    known_firsts _ c.players-players.ensures.is_game _ _ c.requires.below.digits_are _ _ _ _
+    known_firsts _ c.players-players.ensures.is_game _ _ c.requires.below.all_are _ _ _ _ _
     c.requires.below
     ((rw c.deref.ensures.value at c.are_set.ensures.set) c.if-are_set.true)
 
@@ -18,9 +16,9 @@ pub push_all-requires-in_default-clause-firsts
 push_all-requires-in_default-clause-firsts t c =
     let met = c.mark.new.met.items in
     let wide = c.in_ok-mark.ensures.counted ∙ c.requires.below.told.levelled.has.counted in
-    last_firsts _ c.players-players.ensures.is_game _ _ c.requires.below.digits_are _ _ _ _
+    last_firsts _ c.players-players.ensures.is_game _ _ c.requires.below.all_are _ _ _ _ _
     c.requires.below met c.in_ok-mark.ensures.marks
-    c.in_default.ensures
+    (no_digits _ c.in_default.ensures.cases)
     (λ k early. sym (get_or-take c.args.depth met k false early)
     ∙ (rw c.deref-2.ensures.value at c.are_set-2.ensures.set) c.if-not-are_set.false k
     (omega (
@@ -41,33 +39,33 @@ returns-then-not-are_set t c =
       length-take-le c.args.depth met (omega (arith, wide, c.requires.below.deep)),
     ) in
     record {
-      found = none_found _ c.players-players.ensures.is_game _ _ c.requires.below.digits_are _ _ _ _
+      found = none_found _ c.players-players.ensures.is_game _ _ c.requires.below.all_are _ _ _ _ _
           c.requires.below met c.in_ok-mark.ensures.marks shut.0 early
           (sym (get_or-take c.args.depth met shut.0 false early) ∙ shut.2) _ c.requires.found;
     }
 
 pub nonzero_div-each : goal.nonzero_div-each
 nonzero_div-each t c =
-    some_actions (choices_here c.requires.below c.in-Some.ensures)
+    let below = rw c.in-Some.ensures.cases.0 at c.requires.below in
+    some_actions below.choices
 
 pub choose_at-requires-clause-fits : goal.choose_at-requires-clause-fits
 choose_at-requires-clause-fits t c =
-    subst (λ (a : ℕ). a * c.in-Some.digit.step + c.in-Some.digit.step < 2 ^ 64)
-    (sym c.from.ensures)
-    (step_fits (choices_here c.requires.below c.in-Some.ensures)
-    (c.loop-before.before + 1)
+    let below = rw c.in-Some.ensures.cases.0 at c.requires.below in
+    rw c.from.ensures (step_fits below.choices (c.loop-before.before + 1)
     (omega (arith, c.loop-before-test.true, c.actions_tried-tried.ensures.upto)))
 
 pub push_below-requires : goal.push_below-requires
 push_below-requires t c =
+    let below = rw c.in-Some.ensures.cases.0 at c.requires.below in
     let left = c.choose_at.new.self in (
-      omega (arith, c.decreases, c.in-Some.ensures.deep),
+      omega (arith, c.decreases, ap length c.in-Some.ensures.cases.0),
       (
-        next_searched c.requires.below c.in-Some.ensures c.loop-before.before
+        next_searched below c.loop-before.before
             (omega (arith, c.loop-before-test.true, c.actions_tried-tried.ensures.upto)) left
             (subst (λ (sets : ℕ). IsLevel sets left) c.requires.below.told.levelled.has.counted
             c.in_ok-choose_at.ensures.level)
-            (subst (λ (a : ℕ). IsChosenAt c.args.depth c.in-Some.digit.step a
+            (subst (λ (a : ℕ). IsChosenAt c.args.depth c.in-Some.digit.now.step a
             c.args.level.now left) c.from.ensures c.in_ok-choose_at.ensures.chosen),
         c.loop-before.invariant,
       ),
@@ -75,7 +73,7 @@ push_below-requires t c =
 
 pub loop-before-init : goal.loop-before-init
 loop-before-init t c =
-    let none : c.args.number ≡ c.args.number + 0 * (c.args.count / c.in-Some.digit.actions)
+    let none : c.args.number ≡ c.args.number + 0 * (c.args.count / c.in-Some.digit.now.actions)
     = omega arith in
     subst (AreFoundTo c.args.player.now.game.now c.args.player.now.number
     c.args.self.now.numbers.items) none c.requires.found
@@ -83,7 +81,7 @@ loop-before-init t c =
 pub loop-before-preserved : goal.loop-before-preserved
 loop-before-preserved t c =
     let before = c.loop-before.before in
-    let each = c.args.count / c.in-Some.digit.actions in
+    let each = c.args.count / c.in-Some.digit.now.actions in
     let row : c.args.number + before * each + each ≡ c.args.number + (before + 1) * each =
     omega arith in
     subst (AreFoundTo c.args.player.now.game.now c.args.player.now.number
@@ -91,10 +89,10 @@ loop-before-preserved t c =
 
 pub returns : goal.returns
 returns t c =
+    let below = rw c.in-Some.ensures.cases.0 at c.requires.below in
     let end : c.loop-before.before ≡ c.actions_tried-tried.result =
     omega (arith, c.loop-before-test.false, c.loop-before.auto.before-end) in record {
-      found = all_found _ c.players-players.ensures.is_game _ _ c.requires.below.digits_are _ _ _ _
-          c.requires.below _ c.in_ok-mark.ensures.marks
-          c.in-Some.ensures
+      found = all_found _ c.players-players.ensures.is_game _ _ below.all_are _ _ _ _ _ _ _
+          below _ c.in_ok-mark.ensures.marks
           (end ∙ c.actions_tried-tried.ensures.all) _ c.loop-before.invariant;
     }

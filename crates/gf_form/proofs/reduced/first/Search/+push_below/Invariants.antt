@@ -1,8 +1,8 @@
-use Rattle.gf_form.proofs.Common.{◌+◌, ◌*◌, ◌-◌, length, AreFoundTo}
+use Rattle.gf_form.proofs.Common.{◌+◌, ◌*◌, length, AreFoundTo}
 use Rattle.gf_form.proofs.reduced.first.Search.+push_below.Given as goal
 
 abbrev pub decreases-push_below : goal.decreases-push_below
-decreases-push_below l = length l.player.now.digits.items - l.depth
+decreases-push_below l = length l.digits.now
 
 abbrev pub invariant-loop-before : goal.invariant-loop-before
 invariant-loop-before l =

@@ -1,5 +1,5 @@
 use Rattle.gf_form.proofs.Common.{◌≡◌, ◌+◌, [], arith, subst, is_first, strategies, AreFoundTo}
-use Rattle.gf_form.proofs.lemmas.reduced.FirstNumbers.{first_kept}
+use Rattle.gf_form.proofs.lemmas.reduced.Searches.{first_kept}
 use Rattle.gf_form.proofs.reduced.first.Search.push_all.Goals as goal
 
 pub loop-before-preserved : goal.loop-before-preserved
@@ -12,4 +12,5 @@ loop-before-preserved c =
     (first_kept (is_first g player) (strategies g player) [] n
     (omega (arith, c.loop-before-test.true, c.requires.within)) c.loop-before.self.numbers.items
     c.push.new.self.items c.loop-before.invariant
-    (c.requires.firsts c.loop-before.before c.loop-before-test.true) c.in_ok-push.ensures.items)
+    (c.requires.firsts n (omega arith) (omega (arith, c.loop-before-test.true)))
+    c.in_ok-push.ensures.items)

@@ -1,28 +1,25 @@
-use Rattle.gf_form.proofs.Common.{◌≡◌, ◌+◌, ◌*◌, ◌/◌, ◌<◌, ◌∙◌, ◌^◌, ℕ, arith, length, subst, sym}
-use Rattle.gf_form.proofs.Common.{ap, refl, get_or, on_ok_weaker, OnOk, Vec, Global, IsChosen}
-use Rattle.gf_form.proofs.Common.{IsLevel}
+use Rattle.gf_form.proofs.Common.{◌≡◌, ◌+◌, ◌*◌, ◌/◌, ◌∙◌, ℕ, arith, length, subst, sym, ap, refl}
+use Rattle.gf_form.proofs.Common.{get_or, on_ok_weaker, OnOk, Vec, Global, IsChosen, IsLevel}
 use Rattle.gf_form.proofs.Common.{AreLabelledTo}
-use Rattle.gf_form.proofs.lemmas.reduced.SearchLabels.{choices_at, kept_more, last_written}
-use Rattle.gf_form.proofs.lemmas.reduced.SearchLabels.{next_written, place_there}
-use Rattle.gf_form.proofs.lemmas.reduced.SearchSteps.{all_rows, some_actions}
-use Rattle.gf_form.proofs.lemmas.reduced.SearchSteps.{step_fits}
+use Rattle.gf_form.proofs.lemmas.reduced.SearchLabels.{kept_more, last_written, next_written}
+use Rattle.gf_form.proofs.lemmas.reduced.Searches.{all_rows, no_digits, some_actions, step_fits}
 use Rattle.gf_form.proofs.reduced.labels.Labelling.+push_below.Goals as goal
 
 pub push_label-requires-clause-last : goal.push_label-requires-clause-last
 push_label-requires-clause-last t c =
-    (last_written _ c.players-players.ensures.is_game _ _ _ _ _ _ _ c.requires.below
-    c.in_default.ensures).0
+    let below = rw (no_digits _ c.in_default.ensures.cases) at c.requires.below in
+    (last_written _ c.players-players.ensures.is_game _ _ _ _ _ below).0
 
 pub push_label-requires-clause-next : goal.push_label-requires-clause-next
 push_label-requires-clause-next t c =
-    let one = (last_written _ c.players-players.ensures.is_game _ _ _ _ _ _ _ c.requires.below
-    c.in_default.ensures).1 in
+    let below = rw (no_digits _ c.in_default.ensures.cases) at c.requires.below in
+    let one : c.args.count ≡ 1 = below.choices.counted in
     (c.requires.next.0, omega (arith, c.requires.next.1, one))
 
 pub returns-in_default-clause-labelled : goal.returns-in_default-clause-labelled
 returns-in_default-clause-labelled t c =
-    let one = (last_written _ c.players-players.ensures.is_game _ _ _ _ _ _ _ c.requires.below
-    c.in_default.ensures).1 in
+    let below = rw (no_digits _ c.in_default.ensures.cases) at c.requires.below in
+    let one : c.args.count ≡ 1 = below.choices.counted in
     subst (λ (k : ℕ). OnOk c.push_label.result (AreLabelledTo c.args.player.now.game.now
     c.args.player.now.number c.args.numbers.now c.push_label.new.self.labels (c.args.number + k)))
     (sym one) c.push_label.ensures.labelled
@@ -39,11 +36,12 @@ returns-in_default-clause-kept t c =
 
 pub nonzero_div-each : goal.nonzero_div-each
 nonzero_div-each t c =
-    some_actions (choices_at c.requires.below c.in-Some.ensures)
+    let below = rw c.in-Some.ensures.cases.0 at c.requires.below in
+    some_actions below.choices
 
 pub loop-before-init : goal.loop-before-init
 loop-before-init t c =
-    let none : c.args.number ≡ c.args.number + 0 * (c.args.count / c.in-Some.digit.actions)
+    let none : c.args.number ≡ c.args.number + 0 * (c.args.count / c.in-Some.digit.now.actions)
     = omega arith in (
       subst (AreLabelledTo c.args.player.now.game.now c.args.player.now.number c.args.numbers.now
           c.args.self.now.labels) none c.requires.labelled,
@@ -53,7 +51,7 @@ loop-before-init t c =
 pub loop-before-preserved-then-not-is_next_below : goal.loop-before-preserved-then-not-is_next_below
 loop-before-preserved-then-not-is_next_below t c =
     let before = c.loop-before.before in
-    let each = c.args.count / c.in-Some.digit.actions in
+    let each = c.args.count / c.in-Some.digit.now.actions in
     let row : c.args.number + before * each + each ≡ c.args.number + (before + 1) * each =
     omega arith in
     let i = c.loop-before.invariant in (
@@ -70,31 +68,32 @@ loop-before-preserved-then-not-is_next_below t c =
 
 pub index_mut-requires : goal.index_mut-requires
 index_mut-requires t c =
+    let below = rw c.in-Some.ensures.cases.0 at c.requires.below in
     omega (
       arith,
-      place_there c.requires.below c.in-Some.ensures,
+      below.inside.0,
       c.loop-before.invariant.1.wide,
       c.loop-before.self.strategy.ok.0,
     )
 
 pub choose-requires-clause-fits : goal.choose-requires-clause-fits
 choose-requires-clause-fits t c =
-    subst (λ (a : ℕ). a * c.in-Some.digit.step + c.in-Some.digit.step < 2 ^ 64)
-    (sym c.from.ensures)
-    (step_fits (choices_at c.requires.below c.in-Some.ensures)
-    (c.loop-before.before + 1) (omega (arith, c.loop-before-test.true)))
+    let below = rw c.in-Some.ensures.cases.0 at c.requires.below in
+    rw c.from.ensures
+    (step_fits below.choices (c.loop-before.before + 1) (omega (arith, c.loop-before-test.true)))
 
 pub push_below-requires : goal.push_below-requires
 push_below-requires t c =
+    let below = rw c.in-Some.ensures.cases.0 at c.requires.below in
     let i = c.loop-before.invariant in
+    let kept = rw c.in-Some.ensures.cases.0 at i.1 in
     let left = c.choose.new.self in (
-      omega (arith, c.decreases, c.in-Some.ensures.deep),
+      omega (arith, c.decreases, ap length c.in-Some.ensures.cases.0),
       (
-        next_written c.requires.below c.in-Some.ensures i.1 c.loop-before.before
-            c.loop-before-test.true left
+        next_written below kept c.loop-before.before c.loop-before-test.true left
             (subst (λ (sets : ℕ). IsLevel sets left) c.requires.below.told.levelled.has.counted
             c.in_ok-choose.ensures.level)
-            (subst (λ (a : ℕ). IsChosen c.in-Some.digit.step a c.args.level.now left)
+            (subst (λ (a : ℕ). IsChosen c.in-Some.digit.now.step a c.args.level.now left)
             c.from.ensures c.in_ok-choose.ensures.chosen),
         (
           c.requires.ordered,
@@ -106,14 +105,14 @@ push_below-requires t c =
 pub loop-before-preserved : goal.loop-before-preserved
 loop-before-preserved t c =
     let before = c.loop-before.before in
-    let each = c.args.count / c.in-Some.digit.actions in
+    let each = c.args.count / c.in-Some.digit.now.actions in
+    let below = rw c.in-Some.ensures.cases.0 at c.requires.below in
+    let kept = rw c.in-Some.ensures.cases.0 at c.loop-before.invariant.1 in
     let row : c.args.number + before * each + each ≡ c.args.number + (before + 1) * each =
     omega arith in (
       subst (AreLabelledTo c.args.player.now.game.now c.args.player.now.number c.args.numbers.now
           c.push_below.new.self.labels) row c.in_ok-push_below.ensures.labelled,
-      kept_more c.requires.below c.in-Some.ensures
-          c.loop-before.invariant.1 before c.loop-before-test.true _
-          c.in_ok-push_below.ensures.kept,
+      rw c.in-Some.ensures.cases.0 (kept_more below kept before _ c.in_ok-push_below.ensures.kept),
     )
 
 pub returns-clause-kept : goal.returns-clause-kept
@@ -121,10 +120,11 @@ returns-clause-kept t c = c.loop-before.invariant.1
 
 pub returns-clause-labelled : goal.returns-clause-labelled
 returns-clause-labelled t c =
-    let end : c.loop-before.before ≡ c.in-Some.digit.actions =
+    let end : c.loop-before.before ≡ c.in-Some.digit.now.actions =
     omega (arith, c.loop-before-test.false, c.loop-before.auto.before-end) in
-    let each = c.args.count / c.in-Some.digit.actions in
-    let rows = all_rows (choices_at c.requires.below c.in-Some.ensures) in
+    let each = c.args.count / c.in-Some.digit.now.actions in
+    let below = rw c.in-Some.ensures.cases.0 at c.requires.below in
+    let rows = all_rows below.choices in
     subst (AreLabelledTo c.args.player.now.game.now c.args.player.now.number c.args.numbers.now
     c.loop-before.self.labels)
     (ap (λ (b : ℕ). c.args.number + b * each) end ∙ rows) c.loop-before.invariant.0

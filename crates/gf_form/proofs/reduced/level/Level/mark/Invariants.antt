@@ -1,4 +1,4 @@
-use Rattle.gf_form.proofs.lemmas.reduced.Marks.{MarkedTo}
+use Rattle.gf_form.proofs.lemmas.reduced.LevelsChosen.{MarkedTo}
 use Rattle.gf_form.proofs.reduced.level.Level.mark.Given as goal
 
 abbrev pub invariant-loop-visit : goal.invariant-loop-visit
