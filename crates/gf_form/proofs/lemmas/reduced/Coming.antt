@@ -8,14 +8,13 @@ use Rattle.gf_form.proofs.Common.{more, InformationSet, SetKey, same_set, Node, 
 use Rattle.gf_form.proofs.Common.{HasChildren, set_at, flatten, flatten_all, has_map, tree_comes}
 use Rattle.gf_form.proofs.Common.{trees_come, Play, from_node, plays, plays_from, comes_to}
 use Rattle.gf_form.proofs.Common.{is_own_choice, is_relevant, zero, suc, ◌*◌, ◌≤◌, cond, get_or}
-use Rattle.gf_form.proofs.Common.{sym, ◌∙◌, inl, inr, codes, decimal, filter, find, unwrap_or}
-use Rattle.gf_form.proofs.Common.{Contains, join_with_byte, or_left, or_right, get_or_default}
-use Rattle.gf_form.proofs.Common.{length-map, none-some, product, Described, description_at}
-use Rattle.gf_form.proofs.Common.{player_keys, player_sets, was_used, map_same, map_twice}
-use Rattle.gf_form.proofs.Common.{same_set_equality, Has, AreFirstsOf, reduced, reduced_label}
-use Rattle.gf_form.proofs.Common.{reduced_labels, reduced_strategies, chooses_first, is_first}
-use Rattle.gf_form.proofs.Common.{relevant_sets, shown, action_counts, all_choices, choice_at}
-use Rattle.gf_form.proofs.Common.{strategies, strategy_label}
+use Rattle.gf_form.proofs.Common.{sym, ◌∙◌, codes, decimal, filter, find, unwrap_or, Contains}
+use Rattle.gf_form.proofs.Common.{join_with_byte, get_or_default, length-map, none-some, product}
+use Rattle.gf_form.proofs.Common.{Described, description_at, player_keys, player_sets, was_used}
+use Rattle.gf_form.proofs.Common.{map_same, map_twice, same_set_equality, Has, AreFirstsOf, reduced}
+use Rattle.gf_form.proofs.Common.{reduced_label, reduced_labels, reduced_strategies, chooses_first}
+use Rattle.gf_form.proofs.Common.{is_first, relevant_sets, shown, action_counts, all_choices}
+use Rattle.gf_form.proofs.Common.{choice_at, strategies, strategy_label}
 use Rattle.std.proofs.Math.Bool.{and-or_distrib_left}
 use Rattle.gf_form.proofs.lemmas.strategies.KnownSets.{set_is, own_set}
 use Rattle.gf_form.proofs.lemmas.reduced.Reducing.{first_play, any_has}
@@ -25,7 +24,6 @@ use Rattle.gf_form.proofs.lemmas.strategies.Choices.{length-all_choices}
 use Rattle.gf_form.proofs.lemmas.strategies.Chosen.{among_his, his_actions}
 use Rattle.gf_form.proofs.lemmas.reduced.FirstStrategies.{flags_fit, reduced_shown_at}
 use Rattle.gf_form.proofs.lemmas.reduced.FirstStrategies.{reduced_strategies_are}
-use Rattle.gf_form.proofs.lemmas.values.Following.{in_either}
 
 module _ (g : Game) (game : IsGame g) (choices : SetKey → ℕ) (key : SetKey) where
   -- some of these plays comes to the set so
@@ -148,6 +146,14 @@ node_of g game player key i =
 
 -- ---- choices come to each set whose owner has one action at each of his
 
+abbrev is_there : SetKey → Entry Node → Bool
+is_there key e = option_map_or (same_set key) e.node.set false
+
+no_child : (key : SetKey) (ts : Trees Node) → count ts ≡ 0
+    → list_any (is_there key) (flatten_all ts) ≡ false
+no_child key none c = refl
+no_child key (more t ts) c = absurd (omega (arith, c))
+
 module _ (g : Game) (choices : SetKey → ℕ) (key : SetKey)
     (one : (own : SetKey) (set : InformationSet) → own.player ≡ key.player → set_at g own ≡ Some set
     → (length set.actions ≡ 1) × (choices own ≡ 1)) where
@@ -159,56 +165,36 @@ module _ (g : Game) (choices : SetKey → ℕ) (key : SetKey)
       → (k : ℕ) → 1 ≤ k → k ≤ m → IsChosen n k
   chosen_child n own m at known k above within = grind arith
 
+  node_comes : (n : Node) (ts : Trees Node) (o : Option SetKey) → n.set ≡ o
+      → MatchOption o (count ts ≡ 0)
+      (λ own. option_map (λ set. length set.actions) (set_at g own) ≡ Some (count ts))
+      → (((k : ℕ) → 1 ≤ k → k < 1 + count ts → IsChosen n k)
+      → trees_come choices key n 1 ts ≡ list_any (is_there key) (flatten_all ts))
+      → option_map_or (λ own. same_set key own || trees_come choices key n 1 ts) o false
+      ≡ (option_map_or (same_set key) o false || list_any (is_there key) (flatten_all ts))
+  node_comes n ts None at c below = sym (no_child key ts c)
+  node_comes n ts (Some own) at c below =
+      ap (λ b. same_set key own || b)
+      (below (λ k above less. chosen_child n own (count ts) at c k above (omega (arith, less))))
+
   mutual
-    comes_there : (t : Tree Node) → AllByRecursion (HasChildren g) (flatten t) → (e : Entry Node)
-        → Has (flatten t) e → e.node.set ≡ Some key → tree_comes choices key t ≡ true
-    comes_there (branch n ts) children e i is =
-        by_set n.set refl children.0 i
-        (λ chosen j. come_there ts n 1 chosen children.1 e j is)
-      where
-        IsBelow : Type 0
-        IsBelow = ((k : ℕ) → 1 ≤ k → k < 1 + count ts → IsChosen n k) → Has (flatten_all ts) e
-            → trees_come choices key n 1 ts ≡ true
+    comes_where : (t : Tree Node) → AllByRecursion (HasChildren g) (flatten t)
+        → tree_comes choices key t ≡ list_any (is_there key) (flatten t)
+    comes_where (branch n ts) children =
+        node_comes n ts n.set refl children.0 (λ chosen. come_where ts n 1 chosen children.1)
 
-        no_child : (ts : Trees Node) → count ts ≡ 0 → Has (flatten_all ts) e → ⊥
-        no_child none c j = j
-        no_child (more t ts) c j = omega (arith, c)
-
-        by_set : (o : Option SetKey) → n.set ≡ o → MatchOption o (count ts ≡ 0)
-            (λ own. option_map (λ set. length set.actions) (set_at g own) ≡ Some (count ts))
-            → Has (flatten (branch n ts)) e → IsBelow
-            → option_map_or (λ own. same_set key own || trees_come choices key n 1 ts) o false
-            ≡ true
-        by_set None at c (inl q) below =
-            absurd (none-some key (sym at ∙ ap (λ (e : Entry Node). e.node.set) q ∙ is))
-        by_set None at c (inr j) below = absurd (no_child ts c j)
-        by_set (Some own) at c (inl q) below =
-            let same : Some own ≡ Some key =
-            sym at ∙ ap (λ (e : Entry Node). e.node.set) q ∙ is in
-            or_left (same_set key own) (trees_come choices key n 1 ts)
-            ((same_set_equality key own).1 (sym (ap (λ o. unwrap_or o own) same)))
-        by_set (Some own) at c (inr j) below =
-            or_right (same_set key own) (trees_come choices key n 1 ts)
-            (below
-            (λ k above less. chosen_child n own (count ts) at c k above (omega (arith, less))) j)
-
-    come_there : (ts : Trees Node) (n : Node) (k : ℕ)
+    come_where : (ts : Trees Node) (n : Node) (k : ℕ)
         → ((j : ℕ) → k ≤ j → j < k + count ts → IsChosen n j)
-        → AllByRecursion (HasChildren g) (flatten_all ts) → (e : Entry Node)
-        → Has (flatten_all ts) e → e.node.set ≡ Some key → trees_come choices key n k ts ≡ true
-    come_there none n k chosen children e i is = absurd i
-    come_there (more t ts) n k chosen children e i is =
+        → AllByRecursion (HasChildren g) (flatten_all ts)
+        → trees_come choices key n k ts ≡ list_any (is_there key) (flatten_all ts)
+    come_where none n k chosen children = refl
+    come_where (more t ts) n k chosen children =
         let both = all_parts (HasChildren g) (flatten t) (flatten_all ts) children in
-        let move = is_own_choice choices key.player (record { node = n; taken = k }) in
-        elim (in_either (flatten t) (flatten_all ts) e i) [
-          | inl j ↦
-              or_left (move && tree_comes choices key t) (trees_come choices key n (k + 1) ts)
-              (λ l. chosen k (omega arith) (omega arith) l && comes_there t both.0 e j is l)
-          | inr j ↦
-              or_right (move && tree_comes choices key t) (trees_come choices key n (k + 1) ts)
-              (come_there ts n (k + 1)
-              (λ m above less. chosen m (omega (arith, above)) (omega (arith, less))) both.1 e j is)
-        ]
+        let here = chosen k (omega arith) (omega arith) in
+        let first = comes_where t both.0 in
+        let later = come_where ts n (k + 1)
+        (λ m above less. chosen m (omega (arith, above)) (omega (arith, less))) both.1 in
+        grind (arith, list_any-append)
 
 -- ---- the strategy
 
@@ -244,7 +230,7 @@ module _ (g : Game) (game : IsGame g) (player : ℕ)
       let choices = choice_at (player_keys g player) only in
       let node = node_of g game player key i in
       relevant_is g game choices key
-      ∙ comes_there g choices key (λ own set same known.
+      ∙ comes_where g choices key (λ own set same known.
       let owner : player ≡ own.player = sym (same ∙ his) in
       let actions = one_action own (player_sets g own.player) set
       (subst (λ p. product (action_counts g p) ≡ 1) owner one) (among_his g own ∙ known) in
@@ -254,7 +240,9 @@ module _ (g : Game) (game : IsGame g) (player : ℕ)
         subst (λ p. choice_at (player_keys g p) only own ≡ 1) (sym owner)
             (omega (arith, choice.0, choice.1, actions)),
       ))
-      g.tree game.children node.0 node.1 node.2
+      g.tree game.children
+      ∙ any_has (is_there key) (flatten g.tree) node.0 node.1
+      (ap (λ o. option_map_or (same_set key) o false) node.2 ∙ (same_set_equality key key).1 refl)
 
   all_flags : relevant_sets g player only ≡ map (λ key. true) (player_keys g player)
   all_flags = grind (arith, all_relevant, map_same)

@@ -1,9 +1,9 @@
 -- The reduced form of a game: some full profile reduces to each of its profiles, and each full
 -- profile reduces to one; it is a table.
 use Rattle.gf_form.proofs.Common.{◌≡◌, ℕ, ◌≤◌, List, [], ◌∷◌, Option, None, length, map, refl, sym}
-use Rattle.gf_form.proofs.Common.{suc, inl, inr, zero, ap, ◌∙◌, subst, arith, ◌↔◌, zip, Decides}
-use Rattle.gf_form.proofs.Common.{Contains, pointwise, length-map, Ratio, IsProfile, profiles}
-use Rattle.gf_form.proofs.Common.{Table, every_profile, Game, is_used, was_used, map_same}
+use Rattle.gf_form.proofs.Common.{get_or, get_or_default, ◌+◌, ap, ◌∙◌, subst, arith, ◌↔◌, zip}
+use Rattle.gf_form.proofs.Common.{Decides, Contains, pointwise, length-map, Ratio, IsProfile}
+use Rattle.gf_form.proofs.Common.{profiles, Table, every_profile, Game, is_used, was_used, map_same}
 use Rattle.gf_form.proofs.Common.{map_twice, Has, contains, has, has_map, mapped_from}
 use Rattle.gf_form.proofs.Common.{AreReducedPayoffsAt, IsReducedForm, reduced, reduced_at}
 use Rattle.gf_form.proofs.Common.{reduced_by, reduced_labels, reduced_strategies, same_choice}
@@ -11,6 +11,8 @@ use Rattle.gf_form.proofs.Common.{ArePayoffsAt, PaysFractions, choices_by, full_
 use Rattle.gf_form.proofs.Common.{players_of, strategies, strategies_at, strategy_at, ◌<◌, Bool}
 use Rattle.gf_form.proofs.Common.{IsTable, first_uses, IsGame, each, reduced_label, ◌-◌}
 use Rattle.std.proofs.lemmas.Slice.Eq.{slice_eq-Decides}
+use Rattle.gf_form.proofs.lemmas.strategies.Chosen.{strategy_there}
+use Rattle.gf_form.proofs.lemmas.strategies.Lookups.{strategy_before}
 use Rattle.gf_form.proofs.lemmas.form.Forms.{form_profiles, of_row, one_form_by, one_row, row_of}
 use Rattle.gf_form.proofs.lemmas.form.Forms.{rows_of_form, same_row as same_pays, some_form_by}
 use Rattle.gf_form.proofs.lemmas.reduced.Reducing.{reduced_pay}
@@ -23,21 +25,15 @@ use Rattle.gf_form.proofs.lemmas.strategies.CountedActions.{some_strategy}
 -- what stands in a list has a position
 position_in : {A : Type 0} (xs : List (List A)) (x : List A) → Has xs x
     → (s : ℕ) × (1 ≤ s) × (s ≤ length xs) × (strategy_at xs s ≡ x)
-position_in [] x h = absurd h
-position_in (y ∷ xs) x (inl e) = (1, omega arith, omega arith, e)
-position_in (y ∷ xs) x (inr h) = further (position_in xs x h)
-  where
-    further : (s : ℕ) × (1 ≤ s) × (s ≤ length xs) × (strategy_at xs s ≡ x)
-        → (s : ℕ) × (1 ≤ s) × (s ≤ suc (length xs)) × (strategy_at (y ∷ xs) s ≡ x)
-    further one = (suc one.0, omega arith, omega (arith, one.2), grind (arith, one.1, one.3))
-
--- and what has a position stands there
-in_position : {A : Type 0} (xs : List (List A)) (s : ℕ) → 1 ≤ s → s ≤ length xs
-    → Has xs (strategy_at xs s)
-in_position (x ∷ xs) (suc (suc k)) above within =
-    inr (in_position xs (suc k) (omega arith) (omega arith))
-in_position (x ∷ xs) (suc zero) above within = inl refl
-in_position xs s above within = absurd (omega arith)
+position_in xs x h =
+    let at = contains xs x h in
+    let back : at.0 + 1 - 1 ≡ at.0 = omega arith in (
+      at.0 + 1,
+      omega arith,
+      omega (arith, at.1),
+      strategy_before xs (at.0 + 1) (omega arith) ∙ ap (λ (i : ℕ). get_or xs i []) back
+          ∙ get_or_default xs at.0 [] x at.1 ∙ at.2,
+    )
 
 -- ---- a strategy reduces to one, and each is reduced to
 
@@ -59,7 +55,7 @@ module _ (g : Game) where
   full_of player s above within =
       let there = was_used (pointwise same_choice) (map (reduced g player) (strategies g player))
       (strategy_at (reduced_strategies g player) s)
-      (in_position (reduced_strategies g player) s above within) in
+      (has _ _ (strategy_there (reduced_strategies g player) s above within)) in
       let one = mapped_from (reduced g player) (strategies g player)
       (strategy_at (reduced_strategies g player) s) there in
       let k = position_in (strategies g player) one.0 one.1 in
@@ -73,7 +69,7 @@ module _ (g : Game) where
       is_used (pointwise same_choice) choices_equality
       (map (reduced g player) (strategies g player)) (reduced g player strategy)
       (has_map (reduced g player) (strategies g player) strategy
-      (in_position (strategies g player) k above within)) in
+      (has _ _ (strategy_there (strategies g player) k above within))) in
       let s = position_in (reduced_strategies g player) (reduced g player strategy) there in
       (s.0, s.1, s.2, sym s.3)
 

@@ -70,8 +70,9 @@ module _ (g : Game) (game : IsGame g) where
 
 -- ---- the strategies of a profile
 
-got : (xs : List (List ℕ)) (s : ℕ) → 1 ≤ s → s ≤ length xs → Contains xs (strategy_at xs s)
-got xs s above within =
+pub strategy_there : {A : Type 0} (xs : List (List A)) (s : ℕ) → 1 ≤ s → s ≤ length xs
+    → Contains xs (strategy_at xs s)
+strategy_there xs s above within =
     let less : s - 1 < length xs = omega arith in
     subst (Contains xs) (sym (strategy_before xs s above))
     (s - 1, less, get_or_default xs (s - 1) (get_or xs (s - 1) []) [] less)
@@ -80,7 +81,7 @@ are_strategies : (g : Game) (players profile : List ℕ)
     → IsProfile (map (λ player. length (strategies g player)) players) profile
     → AreStrategies g (map (λ p. strategy_at (strategies g p.0) p.1) (zip players profile)) players
 are_strategies g (player ∷ players) (s ∷ profile) h =
-    (got (strategies g player) s h.0.0 h.0.1, are_strategies g players profile h.1)
+    (strategy_there (strategies g player) s h.0.0 h.0.1, are_strategies g players profile h.1)
 are_strategies g players profile h = grind arith
 
 pub profile_strategies : (g : Game) (profile : List ℕ) → Contains (full_profiles g) profile
