@@ -12,8 +12,7 @@ use crate::fault::{FaultNumbers, tell};
 use crate::flags::names_by;
 use crate::handing::hand_out;
 use crate::status::Status;
-use gf_canon::{Names, canonical_by};
-use sha2::{Digest, Sha256};
+use gf_canon::{Names, TextPieces, canonical_by, canonical_text, sha256_of};
 use std::alloc::{AllocError, Global};
 
 fn write_text(
@@ -52,10 +51,10 @@ pub fn write_canonical(
 }
 
 /// The digest of a text in hexadecimal digits.
-fn hash_of(alloc: Global, text: &[u8]) -> Result<String, AllocError>
-    ensures { IfOk result (λ hash. string_bytes hash ≡ encode_lower (sha256 text.now)) }
+fn hash_of(alloc: Global, text: TextPieces) -> Result<String, AllocError>
+    ensures { IfOk result (λ hash. string_bytes hash ≡ encode_lower (sha256 text.rest)) }
 {
-    hex::encode(alloc, Sha256::digest(text))
+    hex::encode(alloc, sha256_of(text))
 }
 
 fn write_hash_by(
@@ -69,11 +68,11 @@ fn write_hash_by(
     ensures { IsWritten (IsHashBy names input.now) input.now out.old out.new needed.new fault.new
         result }
 {
-    let text = match canonical_by(alloc, input, names) {
+    let text = match canonical_text(alloc, input, names) {
         Ok(text) => text,
         Err(refusal) => return tell(refusal, fault),
     };
-    match hash_of(alloc, &text) {
+    match hash_of(alloc, text) {
         Ok(hash) => hand_out(hash.as_bytes(), out, needed),
         Err(_) => Status::OutOfMemory,
     }

@@ -9,9 +9,11 @@ use Rattle.gf_run.specs.Turns.{GivesUp, Moves, Transfers}
 abbrev pub IsOffer : List ℕ → List ℕ → Type 0
 IsOffer offered bytes = bytes ≡ offered
 
--- what is left of a text after the bytes that were taken
-abbrev pub IsRest : List ℕ → List ℕ → List ℕ → Type 0
-IsRest text taken rest = taken ++ rest ≡ text
+-- these bytes, at least one, come next in a text after those that were taken
+pub record IsNext (text taken offered : List ℕ) : Type 0 where
+  pub some : 0 < length offered
+  pub after : List ℕ
+  pub in_text : taken ++ offered ++ after ≡ text
 
 -- for a writer: what a push gives
 module _ {S : Type 0} (gives : S → List ℕ → Result ℕ Error → S → Type 0) where
@@ -22,10 +24,10 @@ module _ {S : Type 0} (gives : S → List ℕ → Result ℕ Error → S → Typ
 -- for a writer: the bytes that it holds, if it reports them, and what a push gives
 module _ {S : Type 0} (contents : S → Option (List ℕ))
     (gives : S → List ℕ → Result ℕ Error → S → Type 0) where
-  -- a text was taken whole: each turn offered what was left of it
+  -- a text was taken whole: each turn offered bytes that came next
   pub record IsWritten (old new : S) (text : List ℕ) : Type 0 where
     pub appended : Appends (contents old) (contents new) text
-    pub turns : Transfers gives (IsRest text) text old new
+    pub turns : Transfers gives (IsNext text) text old new
 
 -- for a writer: its count of failures too
 module _ {S : Type 0} (contents : S → Option (List ℕ)) (count : S → ℕ)
@@ -35,10 +37,10 @@ module _ {S : Type 0} (contents : S → Option (List ℕ)) (count : S → ℕ)
   pub record IsWriteFault (old new : S) (text : List ℕ) : Type 0 where
     pub taken : List ℕ
     pub rest : List ℕ
-    pub front : IsRest text taken rest
+    pub front : taken ++ rest ≡ text
     pub less : 0 < length rest
     pub appended : Appends (contents old) (contents new) taken
     pub counted : HasRisen (count old) (count new)
     pub mid : S
-    pub turns : Transfers gives (IsRest text) taken old mid
-    pub last : Stops gives (IsRest text taken) mid new
+    pub turns : Transfers gives (IsNext text) taken old mid
+    pub last : Stops gives (IsNext text taken) mid new

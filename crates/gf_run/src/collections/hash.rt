@@ -11,8 +11,7 @@ ghost use Rattle.gf_run.specs.Run.{Answers};
 use crate::fault::{RunFault, Which};
 use crate::streams::sink::{Sink, push_all};
 use crate::streams::source::{Source, load};
-use gf_canon::{Names, canonical_by};
-use sha2::{Digest, Sha256};
+use gf_canon::{Names, canonical_text, sha256_of};
 use std::alloc::{AllocError, Global};
 
 /// The hash of these bytes' canonical text: SHA-256 (FIPS 180-4).
@@ -21,11 +20,11 @@ fn hash_of(alloc: Global, bytes: &[u8], names: Names) -> Result<[u8; 32], RunFau
     ensures refused { IfErr result (IsFaultOfFile bytes.now) }
     ensures before_writing { IfErr result (λ fault. fault ≢ RunFault.Write) }
 {
-    let text = canonical_by(alloc, bytes, names).map_err(|fault| RunFault::Refused {
+    let text = canonical_text(alloc, bytes, names).map_err(|fault| RunFault::Refused {
         which: Which::Only,
         fault,
     })?;
-    Ok(Sha256::digest(text.as_slice()))
+    Ok(sha256_of(text))
 }
 
 /// Reads a file whole, and returns the hash of its canonical text, with names or without.

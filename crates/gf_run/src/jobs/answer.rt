@@ -17,7 +17,7 @@ use crate::jobs::table::form_text;
 use crate::opening::read::Texts;
 use crate::texts::comparison::{Compared, compare};
 use crate::texts::text::Text;
-use gf_canon::{Format, Names, canonical_by, check};
+use gf_canon::{Format, Names, TextPieces, canonical_text, check};
 use gf_form::Strategies;
 use gf_token::Fault;
 use std::alloc::Global;
@@ -47,7 +47,7 @@ pub(crate) fn canon(alloc: Global, bytes: &[u8], names: Names) -> Result<Answer,
         × IsTextBy names bytes.now (bytes_of answer.text)) }
     ensures refused { IfErr result (IsRefusal bytes.now) }
 {
-    match canonical_by(alloc, bytes, names) {
+    match canonical_text(alloc, bytes, names) {
         Ok(text) => Ok(Answer {
             status: 0,
             text: Text::Made(text),
@@ -132,7 +132,7 @@ pub(crate) fn table(alloc: Global, bytes: &[u8], reduced: bool) -> Result<Answer
     match form_text(alloc, bytes, strategies_of(reduced)) {
         Ok(text) => Ok(Answer {
             status: 0,
-            text: Text::Made(text),
+            text: Text::Made(TextPieces::of(text)),
         }),
         Err(fault) => Err(fault),
     }

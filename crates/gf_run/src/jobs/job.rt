@@ -14,12 +14,14 @@ use crate::jobs::answer::answer_of;
 use crate::jobs::ending::tell;
 use crate::opening::inputs::Inputs;
 use crate::opening::read::{Texts, read_inputs};
-use crate::streams::sink::{Sink, push_all};
+use crate::streams::sink::Sink;
+use crate::texts::text::push_text;
 use std::alloc::Global;
 
 /// Writes the answer of a job over the bytes of its inputs, and returns its exit status.
 ///
-/// The text is made whole before its first byte is written.
+/// The inputs are judged whole, and the memory that the text needs is had, before its first byte is
+/// written.
 fn write_answer<W: Sink>(
     alloc: Global,
     job: &Job,
@@ -38,7 +40,7 @@ fn write_answer<W: Sink>(
         × IsFaultOf job.now texts.now.first.items texts.now.second.items fault)) }
 {
     match answer_of(alloc, job, texts) {
-        Ok(answer) => match push_all(output, answer.text.as_slice()) {
+        Ok(answer) => match push_text(output, answer.text) {
             Ok(()) => Ok(answer.status),
             Err(WriteFault) => Err(RunFault::Write),
         },
@@ -96,9 +98,9 @@ pub(crate) fn run_job<I: Inputs, W: Sink>(
 /// Does a job, and returns the exit status.
 ///
 /// The inputs that the job names are opened, both before either is read. The first is read whole,
-/// and then the second; only then is the first judged, and then the second. The answer is made
-/// whole before its first byte is written. So a prefix of it has been written only after `Write`;
-/// before any other fault, nothing is asked of the output.
+/// and then the second; only then is the first judged, and then the second. They are judged whole,
+/// and the memory that the answer needs is had, before its first byte is written. So a prefix of it
+/// has been written only after `Write`; before any other fault, nothing is asked of the output.
 ///
 /// - `Canon` writes the canonical text of a file, with names or without.
 /// - `Check` writes what a file holds: `tree` or `table`, and a line feed.

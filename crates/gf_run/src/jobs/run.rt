@@ -1,4 +1,4 @@
-//! The runs over an input that is open: each reads it whole, makes its answer, and writes it.
+//! The runs over an input that is open: each reads it whole, judges it, and writes its answer.
 
 ghost use Rattle.std.specs.Prelude.{◌≡◌, ◌≢◌, IfErr, IfOk, OnOk};
 ghost use Rattle.gf_canon.specs.Judgement.{IsRefusedWith, IsTextBy};
@@ -13,15 +13,16 @@ use crate::fault::{RunFault, Which};
 use crate::jobs::answer::{FileKind, canon, kind, kind_line, table};
 use crate::streams::sink::{Sink, push_all};
 use crate::streams::source::{Source, load};
+use crate::texts::text::push_text;
 use gf_canon::Names;
 use gf_form::Strategies;
 use std::alloc::Global;
 
 /// Writes the canonical text of the file that it reads, with names or without.
 ///
-/// The input is read whole before it is judged, and the text is made whole before its first byte is
-/// written. So a prefix of the text has been written only after `Write`; before any other fault,
-/// nothing is asked of the output.
+/// The input is read whole before it is judged. It is judged whole, and the memory that the text
+/// needs is had, before the first byte is written. So a prefix of the text has been written only
+/// after `Write`; before any other fault, nothing is asked of the output.
 ///
 /// # Errors
 ///
@@ -51,7 +52,7 @@ pub fn run_canon<R: Source, W: Sink>(
 {
     let bytes = load(alloc, input, Which::Only)?;
     let answer = canon(alloc, bytes.as_slice(), names)?;
-    push_all(output, answer.text.as_slice())?;
+    push_text(output, answer.text)?;
     Ok(())
 }
 
@@ -103,7 +104,7 @@ fn run_form<R: Source, W: Sink>(
 {
     let bytes = load(alloc, input, Which::Only)?;
     let answer = table(alloc, bytes.as_slice(), reduced)?;
-    push_all(output, answer.text.as_slice())?;
+    push_text(output, answer.text)?;
     Ok(())
 }
 

@@ -11,9 +11,10 @@ ghost use Rattle.gf_run.specs.SameText.{IsAnswer, IsLine, IsLineAndMap};
 
 use crate::fault::RunFault;
 use crate::opening::read::read_both;
-use crate::streams::sink::{Sink, push_all};
+use crate::streams::sink::Sink;
 use crate::streams::source::Source;
 use crate::texts::comparison::compare;
+use crate::texts::text::push_text;
 use gf_canon::Names;
 use std::alloc::Global;
 
@@ -47,7 +48,7 @@ fn run_compare<R: Source, S: Source, W: Sink>(
         map,
         names,
     )?;
-    push_all(output, answer.text.as_slice())?;
+    push_text(output, answer.text)?;
     Ok(answer.same)
 }
 

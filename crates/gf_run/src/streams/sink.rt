@@ -74,6 +74,7 @@ fn push_again<W: Sink>(output: &mut W, from: &[u8]) -> Result<usize, WriteFault>
 pub fn push_all<W: Sink>(output: &mut W, text: &[u8]) -> Result<(), WriteFault>
     ensures all { OnOk result
         (IsWritten W.contents W.push_gives output.old output.new text.now) }
+    ensures grown { OnOk result (W.count output.old ≤ W.count output.new) }
     ensures part { OnErr result
         (IsWriteFault W.contents W.count W.push_gives output.old output.new text.now) }
 {

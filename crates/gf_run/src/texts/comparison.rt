@@ -14,7 +14,8 @@ use crate::fault::RunFault;
 use crate::texts::renumbering::pair_line;
 use crate::texts::text::Text;
 use gf_canon::{
-    Meaning, Names, NumberPair, ReceivePairs, SameFault, pairs_between, read_file, same_by,
+    Meaning, Names, NumberPair, ReceivePairs, SameFault, TextPieces, pairs_between, read_file,
+    same_by,
 };
 use std::alloc::{AllocError, Global};
 
@@ -85,7 +86,7 @@ fn compare_meanings(alloc: Global, a: &Meaning<'_>, b: &Meaning<'_>) -> Result<C
     if pairs_between(alloc, a, b, &mut lines)? {
         Ok(Compared {
             same: true,
-            text: Text::Made(lines.text),
+            text: Text::Made(TextPieces::of(lines.text)),
         })
     } else {
         Ok(in_a_line(false))

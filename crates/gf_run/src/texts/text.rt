@@ -1,24 +1,45 @@
 //! A text that is written.
 
-ghost use Rattle.std.specs.Prelude.{◌≡◌};
+ghost use Rattle.std.specs.Prelude.{OnErr, OnOk};
 ghost use Rattle.gf_run.specs.AnswerText.{bytes_of};
+ghost use Rattle.gf_run.specs.Output.{IsWriteFault, IsWritten};
+
+use crate::fault::WriteFault;
+use crate::streams::sink::{Sink, push_all};
+use gf_canon::TextPieces;
 
 /// A text that is written.
 #[derive(Drop)]
 pub enum Text {
     /// A line that is always the same, and takes no memory.
     Line(&'static [u8]),
-    /// A text that was made.
-    Made(Vec<u8>),
+    /// A text that was made, or that is made piece by piece.
+    Made(TextPieces),
 }
 
-impl Text {
-    pub fn as_slice(&self) -> &[u8]
-        ensures { result.now ≡ bytes_of self.now }
-    {
-        match self {
-            Text::Line(line) => line,
-            Text::Made(text) => text.as_slice(),
-        }
+/// Writes a text piece by piece. If the writer fails, a prefix of it has been written.
+fn push_pieces<W: Sink>(output: &mut W, pieces: TextPieces) -> Result<(), WriteFault>
+    ensures all { OnOk result
+        (IsWritten W.contents W.push_gives output.old output.new pieces.rest) }
+    ensures part { OnErr result
+        (IsWriteFault W.contents W.count W.push_gives output.old output.new pieces.rest) }
+{
+    let mut text = pieces;
+    while text.advance() {
+        push_all(output, text.piece())?;
+    }
+    Ok(())
+}
+
+/// Writes a text. If the writer fails, a prefix of it has been written.
+pub fn push_text<W: Sink>(output: &mut W, text: Text) -> Result<(), WriteFault>
+    ensures all { OnOk result
+        (IsWritten W.contents W.push_gives output.old output.new (bytes_of text)) }
+    ensures part { OnErr result
+        (IsWriteFault W.contents W.count W.push_gives output.old output.new (bytes_of text)) }
+{
+    match text {
+        Text::Line(line) => push_all(output, line),
+        Text::Made(pieces) => push_pieces(output, pieces),
     }
 }

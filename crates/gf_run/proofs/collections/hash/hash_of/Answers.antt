@@ -7,8 +7,8 @@ use Rattle.gf_run.proofs.collections.hash.hash_of.Goals as goal
 
 pub returns-in_err-text-clause-refused : goal.returns-in_err-text-clause-refused
 returns-in_err-text-clause-refused c =
-    let h : IfErr c.canonical_by.result (IsRefusedWith c.args.bytes.now) =
-    refused c.args.bytes.now (λ x text. text.items ≡ canonical_text (file_by c.args.names x))
-    c.canonical_by.result c.canonical_by.ensures.judged c.canonical_by.ensures.placed
-    c.canonical_by.ensures.only in
+    let h : IfErr c.canonical_text.result (IsRefusedWith c.args.bytes.now) =
+    refused c.args.bytes.now (λ x text. text.rest ≡ canonical_text (file_by c.args.names x))
+    c.canonical_text.result c.canonical_text.ensures.judged c.canonical_text.ensures.placed
+    c.canonical_text.ensures.only in
     search (rules, h)

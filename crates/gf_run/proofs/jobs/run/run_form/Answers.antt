@@ -2,10 +2,10 @@ use Rattle.std.proofs.Common.{inr, refl}
 use Rattle.gf_run.proofs.Errors.{IfErr-only}
 use Rattle.gf_run.proofs.jobs.run.run_form.Goals as goal
 
-pub returns-in_err-push_all-clause-refused : goal.returns-in_err-push_all-clause-refused
-returns-in_err-push_all-clause-refused g c =
+pub returns-in_err-push_text-clause-refused : goal.returns-in_err-push_text-clause-refused
+returns-in_err-push_text-clause-refused g c =
     let text = c.in_ok-answer.ensures.answer.1 in
-    IfErr-only _ _ _ c.from_residual-in_err-push_all.ensures.1
+    IfErr-only _ _ _ c.from_residual-in_err-push_text.ensures.1
     (inr (
       c.in_ok-bytes.bytes.items,
       c.in_ok-bytes.ensures.whole,
