@@ -93,6 +93,39 @@ check_giant() { # NAME SECONDS KIBIBYTES GAME-FILE [WORD..]
     fi
 }
 
+# The canonical text of an `outcome_file`.
+outcome_text() { # PLAYERS STRATEGIES
+    local line
+    line=$(yes 1/2 | head -n "$1" | paste -sd ' ')
+    echo "NFG 1 R \"\" { $(yes '"a player"' | head -n "$1" | paste -sd ' ') }"
+    echo "{ { $(seq "$2" | sed 's/.*/"&"/' | paste -sd ' ') }$(yes ' { "1" }' | head -n $(($1 - 1)) | tr -d '\n') }"
+    printf '""\n\n'
+    yes "$line" | head -n "$2"
+}
+
+# A text of 420 MB from a file of 2 MB is written and hashed piece by piece, within much less memory.
+check_pieces() {
+    local room=131072 file=$scratch/shared.nfg hash
+    outcome_file 100 1048576 >"$file"
+    status=0
+    (
+        ulimit -v "$room"
+        exec timeout 60 "$program"
+    ) <"$file" 2>"$scratch/err" | cmp -s - <(outcome_text 100 1048576)
+    if [[ ${PIPESTATUS[*]} == "0 0" && ! -s $scratch/err ]]; then
+        passed=$((passed + 1))
+    else
+        fail "a long text: it is not written within $room KiB: $(head -n 1 "$scratch/err")"
+    fi
+    hash=$(outcome_text 100 1048576 | sha256sum)
+    echo "$hash" >"$scratch/text"
+    (
+        ulimit -v "$room"
+        exec timeout 60 "$program" hash
+    ) <"$file" >"$scratch/out" 2>"$scratch/err" || status=$?
+    judge "the hash of a long text" "$scratch/text" "$nothing" 0
+}
+
 check_memory() {
     local least=1024
     # An empty file takes no memory beyond that of the words. With less the program doesn't get there.
@@ -111,7 +144,8 @@ check_memory() {
     tree_file 600 >"$scratch/path.efg"
     check_page_by_page "same --map" "$nothing" "$least" same --map "$scratch/path.efg" "$scratch/path.efg"
     outcome_file 1000 1048576 >"$scratch/giant.nfg"
-    check_giant "a giant text" 60 400000 "$scratch/giant.nfg"
+    check_giant "a giant text" 60 400000 "$scratch/giant.nfg" table
+    check_pieces
     labels_file 20000 >"$scratch/giant.efg"
     check_giant "giant labels" 3 4000000 "$scratch/giant.efg" table
     check_giant "giant labels of the reduced form" 3 4000000 "$scratch/giant.efg" table --reduced
