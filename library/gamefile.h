@@ -87,7 +87,7 @@ const char *gamefile_version(void);
 /* Whether the bytes are a game file, and of which kind. */
 gamefile_status gamefile_check(const uint8_t *in, size_t n, gamefile_kind *kind, gamefile_fault *fault);
 
-/* The canonical text, which is the same for two files exactly if they mean the same game. Flags: 0
+/* The canonical text, which is the same for two files exactly when they mean the same game. Flags: 0
  * or GAMEFILE_NO_NAMES. After GAMEFILE_OK and GAMEFILE_TOO_SMALL, `needed` is the length of the
  * text. A text is seldom longer than its file: a buffer of n + n / 8 + 4096 bytes nearly always
  * holds it. To get the length only, pass NULL with a `cap` of 0. */

@@ -1,7 +1,7 @@
 # shellcheck shell=bash disable=SC2034,SC2154
 # `same` and texts without names, over pairs of games.
 
-# Texts without names are equal exactly if the files are the same aside from names, and each is its
+# Texts without names are equal exactly when the files are the same aside from names, and each is its
 # own canonical text.
 check_unnamed() { # A B NO-NAMES-STATUS
     local unequal=0

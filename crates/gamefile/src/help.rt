@@ -7,7 +7,7 @@ pub const VERSION: &str = "1.0.0";
 pub const HEAD: &str = "gamefile 1.0.0";
 
 pub const ABOUT: &str = "\
-Read Gambit game files: write each game in one spelling or as a table, and
+Read Gambit game files: write each game in canonical form or as a table, and
 compare games";
 
 pub const AFTER: &str = "\
@@ -36,7 +36,7 @@ pub const EXPLAIN: &str = "If it fails, explain what is wrong, and where";
 pub const CANON: &str = "Write the canonical text of a game file";
 
 pub const AFTER_CANON: &str = "\
-Writes the game as a game file in one spelling, so that two files of the same
+Writes the game as a game file in canonical form, so that two files of the same
 game become the same bytes. The layout is fixed, numbers are exact and in lowest
 terms, and the information sets and outcomes of a tree are numbered 1, 2 and so
 on in order of first use.
@@ -76,13 +76,13 @@ pub const AFTER_TABLE: &str = "\
 Writes a tree as a strategic file in canonical text. A strategy is an action at
 each information set of its player, in order of first use, such as 1-2. Each
 profile of strategies has its exact expected payoffs. A strategic file is
-written as canon writes it. The files that canon refuses are refused.
+written as canon writes it. Every file that canon refuses is refused.
 
 A tree with more than 1,048,576 profiles has no table, and standard error says
-'too many profiles'. Nor has a tree whose expected payoffs at some profile
-cannot be worked out within 127 bits; standard error names the first such
-profile, as in 'overflow at profile 2'. Nothing is written then, and the status
-is 2.
+'too many profiles'. Nor does a tree have one if its expected payoffs at some
+profile cannot be worked out within 127 bits; standard error names the first
+such profile, as in 'overflow at profile 2'. Nothing is written then, and the
+status is 2.
 
 With --reduced, a strategy has * in place of an action at each information set
 that the player's own earlier choices keep out of reach, such as 1-*. Strategies
@@ -102,7 +102,7 @@ pub const FILES: &str = "Game files and folders; standard input if none is named
 
 pub const FILES_FROM: &str = "Read the names of files and folders from FILE";
 
-pub const NULL: &str = "Names end with a zero byte, as from find -print0";
+pub const NULL: &str = "Names in FILE end with a NUL byte, as from find -print0";
 
 pub const QUIET: &str = "Do not show on the terminal how many files are done";
 
@@ -111,13 +111,13 @@ pub const HASH: &str = "Write a hash of each game file";
 pub const AFTER_HASH: &str = "\
 Writes one line for each file, as sha256sum does: the SHA-256 digest of its
 canonical text, two spaces, and its name. So files of the same game have the
-same hash. Standard input has the name '-'. For a folder, all files below it are
-read whose names end in .efg or .nfg, in upper or lower case, ordered by the
-bytes of their names. No folder is visited twice.
+same hash. Standard input has the name '-'. For a folder, every file below it is
+read whose name ends in .efg or .nfg, in upper or lower case, in the order of
+the bytes of their names. No folder below it is visited twice.
 
-A file that is refused or cannot be read has no line. Standard error has one for
-it, such as game.efg: E4 at 40..43, and the run goes on. The status is the worst
-of all files: 0, 2, 4 or 5.
+A file that is refused or cannot be read gets no line here, but one on standard
+error, such as game.efg: E4 at 40..43, and the run goes on. The status is the
+worst of all files: 0, 2, 4 or 5.
 
 With --no-names, the hash is that of the text that 'canon --no-names' writes.
 With --files-from, FILE has a name on each line, and '-' is standard input.
@@ -137,8 +137,8 @@ first files.
 
 A file that is refused or cannot be read is in no group. Standard error has a
 line for it, such as game.efg: E4 at 40..43, and the run goes on. The status is
-0 if no two files are the same, 1 if some are, and above that the worst of all
-files: 2, 4 or 5.
+0 if no two files are the same, 1 if some are or, if a file fails, the worst of
+all files: 2, 4 or 5.
 
 With --no-names, files are the same if 'same --no-names' finds them so.
 

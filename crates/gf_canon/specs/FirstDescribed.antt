@@ -1,4 +1,4 @@
--- The file of a game in which each use of a set or an outcome is described exactly if its key was
+-- The file of a game in which each use of a set or an outcome is described exactly when its key was
 -- not used before.
 use Rattle.std.specs.Prelude.{◌≡◌, ◌↔◌, List, ◌∷◌, ◌++◌}
 use Rattle.gf_tree.specs.PrefixOrder.{flatten}

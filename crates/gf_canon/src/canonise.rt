@@ -47,7 +47,7 @@ fn text_of(alloc: Global, input: &[u8], names: Names) -> Result<TextPieces, Faul
 /// canonical numbers, and for a table as it is. The first token tells the format, `EFG` or `NFG`
 /// (Gambit documentation, "Game representation formats"). With `Names::Aside`, the title, the
 /// comment, and the names of nodes, information sets and outcomes are written empty: two such texts
-/// are equal exactly if `same_by` returns true for the files.
+/// are equal exactly when `same_by` returns true for the files.
 ///
 /// The text comes in pieces, so that whoever writes it, or works out its hash, need not hold it
 /// whole: that of a table in outcome version can be a thousand times as long as its file.

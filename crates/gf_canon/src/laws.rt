@@ -39,10 +39,10 @@ ghost use Rattle.gf_canon.specs.WorkedGames.{renamed_prize, seen, two_prizes, un
 /// Each list of bytes has a canonical text, or it is refused, but never both. It never has two
 /// texts, and is never refused at two places or with two codes.
 ///
-/// If two lists of bytes have canonical texts, these are equal exactly if the bytes mean the same.
-/// Two trees do if some renumbering of information sets, player by player, and of outcomes carries
-/// one to the other; two tables do if title, comment, players, strategies and the payoffs at each
-/// profile agree; a tree and a table never do. A canonical text is its own canonical text.
+/// If two lists of bytes have canonical texts, these are equal exactly when the bytes mean the
+/// same. Two trees do if some renumbering of information sets, player by player, and of outcomes
+/// carries one to the other; two tables do if title, comment, players, strategies and the payoffs
+/// at each profile agree; a tree and a table never do. A canonical text is its own canonical text.
 ///
 /// A refusal stands at the offending place in the language of both formats, or where the profiles
 /// of a table pass their limit, with the reason that the format gives there.
@@ -135,8 +135,8 @@ pub fn canonical_game_is_same()
     ensures again { (g : Game) → IsGame g → canonical_game (canonical_game g) ≡ canonical_game g }
 {}
 
-/// Two games are the same exactly if their canonical games are equal. So are two tables; a game and
-/// a table never are.
+/// Two games are the same exactly when their canonical games are equal. So are two tables; a game
+/// and a table never are.
 #[tactic(auto, using(crate::proofs::lemmas::files::Texts::by_canonical))]
 pub fn same_by_canonical_game()
     ensures games { (g h : Game) → IsGame g → IsGame h
@@ -170,8 +170,8 @@ pub fn means_one_file()
     ensures { (bytes : List ℕ) (x y : GameFile) → SpellsFile bytes x → SpellsFile bytes y → x ≡ y }
 {}
 
-/// Two files mean the same exactly if their canonical texts are equal. The canonical text of a file
-/// is a file that means the canonical game, or the table, and it is its own canonical text.
+/// Two files mean the same exactly when their canonical texts are equal. The canonical text of a
+/// file is a file that means the canonical game, or the table, and it is its own canonical text.
 #[tactic(auto, using(crate::proofs::lemmas::files::Texts::equal_texts))]
 pub fn equal_canonical_texts()
     ensures equal { (a b : List ℕ) (x y : GameFile) → SpellsFile a x → SpellsFile b y
@@ -183,8 +183,8 @@ pub fn equal_canonical_texts()
 {}
 
 /// Files that mean the same also mean the same aside from names. Two files mean the same aside from
-/// names exactly if the canonical texts of what they mean, without names, are equal. Two tables do
-/// so exactly if they play alike.
+/// names exactly when the canonical texts of what they mean, without names, are equal. Two tables
+/// do so exactly when they play alike.
 #[tactic(auto, using(crate::proofs::lemmas::sameness::Unnamed::aside_names))]
 pub fn same_aside_names()
     ensures aside { (x y : GameFile) → SameFile x y → SameAsideNames x y }
@@ -193,7 +193,7 @@ pub fn same_aside_names()
     ensures tables { (t u : Table) → SameAsideNames (strategic t) (strategic u) ↔ SamePlay t u }
 {}
 
-/// The texts of two files, with names or without, are equal exactly if the files are the same in
+/// The texts of two files, with names or without, are equal exactly when the files are the same in
 /// this sense.
 pub fn equal_texts_by_names()
     ensures { (names : Names) (a b s t : List ℕ) → IsTextBy names a s → IsTextBy names b t

@@ -184,7 +184,7 @@ pub fn same_by(alloc: Global, a: &[u8], b: &[u8], names: Names) -> Result<bool, 
     same_as(alloc, &first, b, names)
 }
 
-/// Whether two files mean the same (this project's profile), which they do exactly if their
+/// Whether two files mean the same (this project's profile), which they do exactly when their
 /// canonical texts are equal. Two trees do if some renumbering of information sets, player by
 /// player, and of outcomes carries one to the other; two tables do if title, comment, players,
 /// strategy labels and the payoffs at each profile agree; a tree and a table never do.

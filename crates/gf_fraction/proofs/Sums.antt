@@ -52,7 +52,7 @@ quotients b d g bs ds is =
     let turned : b * p ≡ q * d = omega (arith, pg, qg) in
     (mul-div_cancel_left p bs, ap (λ x. x / d) turned ∙ mul-div_cancel q ds)
 
--- the sum fits exactly if its parts do, over the denominator that the code finds
+-- the sum fits exactly when its parts do, over the denominator that the code finds
 fits_from_parts : (x y : Ratio) (g : ℕ) → IsFraction x → IsFraction y → IsGcd x.den y.den g
     → PartsFit x.num y.num x.den (y.den / g) (x.den / g) → SumFits x y
 fits_from_parts x y g hx hy is h =

@@ -82,7 +82,7 @@ pub fn same_is_equal()
         ↔ ((t.players ≡ u.players) × (t.strategies ≡ u.strategies) × (rows t ≡ rows u)) }
 {}
 
-/// Canonical texts are equal exactly if the tables are the same.
+/// Canonical texts are equal exactly when the tables are the same.
 pub fn equal_texts()
     ensures of_tables { (t u : Table) → IsTable t → IsSpellable t → IsTable u → IsSpellable u
         → (table_text t ≡ table_text u) ↔ SameTable t u }

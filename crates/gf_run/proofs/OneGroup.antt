@@ -1,4 +1,4 @@
--- Two files are in one group exactly if their hashes are equal.
+-- Two files are in one group exactly when their hashes are equal.
 use Rattle.std.proofs.Common.{◌≡◌, ◌↔◌, ◌∙◌, ℕ, List, map, refl, sym, subst}
 use Rattle.std.specs.List.{Contains}
 use Rattle.gf_tree.proofs.lemmas.games.FirstUses.{in_filter, is_used, of_filter}

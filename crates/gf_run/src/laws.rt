@@ -4,7 +4,7 @@ ghost use Rattle.std.specs.Prelude.{◌≡◌, ◌↔◌, List};
 ghost use Rattle.std.specs.List.{Contains};
 ghost use Rattle.gf_run.specs.Duplicates.{AreInOneGroup, HashedFile};
 
-/// Two of the files that were read are in one group exactly if their hashes are equal.
+/// Two of the files that were read are in one group exactly when their hashes are equal.
 pub fn one_group_for_each_hash()
     ensures { (files : List HashedFile) (a b : HashedFile) → Contains files a → Contains files b
         → AreInOneGroup files a b ↔ (a.hash ≡ b.hash) }

@@ -26,8 +26,8 @@ pub fn labels_escape_quotes()
         → IsTrue (is_spelling bytes) ↔ (EscapesQuotes bytes × ¬ (EndsInBackslash bytes)) }
 {}
 
-/// If an index is due, bytes are read as `n` exactly if they are only digits, at least one, with
-/// the value `n`, which is at most 4,294,967,295. If a count is due, exactly if `n` is also above
+/// If an index is due, bytes are read as `n` exactly when they are only digits, at least one, with
+/// the value `n`, which is at most 4,294,967,295. If a count is due, exactly when `n` is also above
 /// 0.
 pub fn indices_by_digits()
     ensures index { (bytes : List ℕ) (n : ℕ) → (index_of bytes ≡ Some n) ↔ IsIndex bytes n }

@@ -1,5 +1,5 @@
--- How a file gives the nodes of a game: each use of a set or an outcome is described exactly if its
--- key was not used before.
+-- How a file gives the nodes of a game: each use of a set or an outcome is described exactly when
+-- its key was not used before.
 use Rattle.std.specs.Prelude.{nat_eq, Bool, List, [], ◌∷◌, map, Option, None, option_map}
 use Rattle.std.specs.Prelude.{if◌then◌else◌}
 use Rattle.std.specs.List.{filter_map, list_any}

@@ -123,7 +123,7 @@ pub fn new_numbers()
         → AreListed g sets outcomes → IsRenumbering g (listed_numbers g sets outcomes) }
 {}
 
-/// Uses are consistent exactly if their descriptions can be learned one use after another, each
+/// Uses are consistent exactly when their descriptions can be learned one use after another, each
 /// judged once against what is known by then; what is known in the end is the finite map from the
 /// keys, in order of first use, to their descriptions.
 #[tactic(auto, using(crate::proofs::lemmas::games::Learning::learned_once))]

@@ -14,7 +14,7 @@ pub record AgreesWith (names : Names) (g : Game) (told : Heading) (given : List 
     pub heading : heading_by names (heading_in g) ≡ heading_by names told
     pub nodes : map (node_by names) (file_nodes (canonical_game g)) ≡ map (node_by names) given
 
--- With any nodes after those that were told, the tree is the same exactly if no difference was
+-- With any nodes after those that were told, the tree is the same exactly when no difference was
 -- found and these nodes are what is left of the game.
 abbrev pub IsCompared : Names → Game → Bool → List FileNode → Heading → List Told → Type 0
 IsCompared names g same left heading told = (rest : List FileNode)

@@ -6,7 +6,7 @@ use Rattle.gf_nfg.specs.declared.comparison.Comparison.{Comparison}
 use Rattle.gf_nfg.specs.declared.reader.receive.Version.{Version}
 use Rattle.gf_nfg.specs.declared.reader.receive.Version.TheVariants.{Outcomes, Payoffs}
 
--- With any payoffs after those that were told they are the table's exactly if no difference was
+-- With any payoffs after those that were told they are the table's exactly when no difference was
 -- found, and these are what is left of the table's; or the payoffs are kept.
 abbrev pub ComparesBody : Version → List Ratio → Comparison → Told → Type 0
 ComparesBody Payoffs all c told = (rest : List Ratio)

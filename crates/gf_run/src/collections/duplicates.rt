@@ -89,7 +89,7 @@ fn write_groups<W: Sink, E: Sink>(
 }
 
 /// Writes which of these files are the same game, and returns the exit status. Two files that were
-/// read are in one group exactly if their hashes are equal; groups of one file are left out.
+/// read are in one group exactly when their hashes are equal; groups of one file are left out.
 ///
 /// The files are read in their order, each one freed before the next one. A file that is refused,
 /// or cannot be opened or read, is in no group: its fault is written to standard error after its

@@ -1,4 +1,4 @@
--- Bytes have one canonical text or one refusal, and equal texts exactly if they mean the same.
+-- Bytes have one canonical text or one refusal, and equal texts exactly when they mean the same.
 use Rattle.gf_canon.proofs.Common.{◌≡◌, ℕ, List, refl, sym, subst, inl, inr, ◌↔◌, ◌⊎◌, Span, Why}
 use Rattle.gf_canon.proofs.Common.{GameFile, SameFile, SpellsFile, canonical_file, canonical_text}
 use Rattle.gf_canon.proofs.Common.{extensive, strategic, IsCanonicalText, IsFileWithinLimit}

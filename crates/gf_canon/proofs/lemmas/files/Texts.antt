@@ -1,4 +1,4 @@
--- Game files of both kinds: their canonical texts are equal exactly if they are the same.
+-- Game files of both kinds: their canonical texts are equal exactly when they are the same.
 use Rattle.gf_canon.proofs.Common.{◌≡◌, ℕ, List, refl, ap, subst, arith, ◌↔◌, same_tokens, Table}
 use Rattle.gf_canon.proofs.Common.{Game, IsGame, SpellsGame, IsSpellable, spells_one_game}
 use Rattle.gf_canon.proofs.Common.{canonical_game, game_text, GameFile, IsGameFile, SpellsFile}

@@ -17,7 +17,7 @@ use Rattle.gf_tree.specs.Renumbering as numbers
 
 -- ---- one set
 
--- two pairs compare equal exactly if they are
+-- two pairs compare equal exactly when they are
 same_pair : (a b : ℕ × ℕ) → is_eq (set_order a b) ≡ same_set (set_of a.0 a.1) (set_of b.0 b.1)
 same_pair a b = grind (arith, nat_tests)
 

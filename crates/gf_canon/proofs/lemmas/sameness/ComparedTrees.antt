@@ -1,5 +1,5 @@
--- A tree that was told whole is the same as a game exactly if no difference was found, and nothing
--- is left of the game.
+-- A tree that was told whole is the same as a game exactly when no difference was found, and
+-- nothing is left of the game.
 use Rattle.gf_canon.proofs.Common.{arith, ◌≡◌, ℕ, Bool, false, List, [], map, ap, ◌∙◌, subst, ◌↔◌}
 use Rattle.gf_canon.proofs.Common.{IsTrue, Table, file_nodes, FileNode, Game, IsGame, SpellsGame}
 use Rattle.gf_canon.proofs.Common.{IsSpellable, Told, heading_in, canonical_game, extensive}

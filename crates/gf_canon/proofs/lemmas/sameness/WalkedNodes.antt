@@ -1,5 +1,5 @@
--- Two games are the same exactly if their headings and their nodes by first-use numbers are equal,
--- which a walk over the nodes of both decides.
+-- Two games are the same exactly when their headings and their nodes by first-use numbers are
+-- equal, which a walk over the nodes of both decides.
 use Rattle.gf_canon.proofs.Common.{◌≡◌, List, ◌∷◌, ◌++◌, map, sym, ap, ◌∙◌, ◌↔◌, file_nodes, Game}
 use Rattle.gf_canon.proofs.Common.{IsGame, IsSpellable, heading_in, canonical_game, extensive}
 use Rattle.gf_canon.proofs.Common.{game_text, SameBy, SameGame, heading_text, Names, Aside, Kept}
@@ -63,7 +63,7 @@ same_by_walk Aside = same_by_nodes Aside
 
 -- ---- one node after another
 
--- P holds exactly if what is left of both lists is equal by f
+-- P holds exactly when what is left of both lists is equal by f
 module _ {P : Type 0} {A B : Type 0} (f : A → B) {us vs : List A}
     (left : P ↔ (map f us ≡ map f vs)) where
   pub walks_on : {us' vs' : List A} {u v : A} → us ≡ u ∷ us' → vs ≡ v ∷ vs' → f u ≡ f v

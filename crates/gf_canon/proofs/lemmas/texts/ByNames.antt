@@ -1,4 +1,4 @@
--- The texts of two files, with names or without, are equal exactly if the files are the same in
+-- The texts of two files, with names or without, are equal exactly when the files are the same in
 -- this sense.
 use Rattle.gf_canon.proofs.Common.{◌≡◌, ℕ, List, sym, ◌∙◌, ◌↔◌, GameFile, SpellsFile}
 use Rattle.gf_canon.proofs.Common.{canonical_text, IsTextBy, SpellsWithin, file_by, SameBy, Names}

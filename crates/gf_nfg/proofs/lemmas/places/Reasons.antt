@@ -261,7 +261,7 @@ no_texts_follow q s e f = let b = broken_refused (to q s) in (b.0, rw b.1 refl)
 
 -- limits aside, after tokens that lead to a state
 module _ (ts : List Token) (s : State) (h : Leads ts s) where
-  -- a token may follow exactly if its row accepts it
+  -- a token may follow exactly when its row accepts it
   pub may_follow : (token : Token)
       → MayFollow IsStrategicFile ts token ↔ Accepts (row_of s) token
   may_follow token =

@@ -1,5 +1,5 @@
 -- Tables that are only compared: what is kept of their payoffs, and that it means the table; and a
--- file that was told whole is the same as a table exactly if no difference was found.
+-- file that was told whole is the same as a table exactly when no difference was found.
 use Rattle.gf_nfg.proofs.Common.{◌≡◌, ℕ, ◌<◌, List, [], ◌∷◌, length, map, sym, ap, arith, subst}
 use Rattle.gf_nfg.proofs.Common.{◌∙◌, mul_comm, Ratio, positions, product, IsTable, Table, rows}
 use Rattle.gf_nfg.proofs.Common.{Names, row_of, table_with, Content, IsComplete, names_in, rows_by}
@@ -110,7 +110,7 @@ module _ (named : Bool) (t u : Table) (ht : IsTable t) (hu : IsTable u) where
 
 -- ---- a table and what was told
 
--- with any payoffs after these it is all exactly if no difference was found, and they are what is
+-- with any payoffs after these it is all exactly when no difference was found, and they are what is
 -- left
 abbrev pub Compares : List Ratio → Bool → List Ratio → List Ratio → Type 0
 Compares all same left told =

@@ -20,7 +20,7 @@ use Rattle.gf_tree.proofs.lemmas.runs.Nodes.{NodeRead, behind_node, node_again}
 
 -- ---- what is known after nodes
 
--- a description of a key is known exactly if some use gives it
+-- a description of a key is known exactly when some use gives it
 pub learned_at : {K D : Type 0} (same : K → K → Bool) → IsEquality same
     → (uses : List (Use K D)) (known : List (Described K D)) → Learns same [] uses known
     → (key : K) (d : D) → (Describes uses key d → description_at same known key ≡ Some d)

@@ -176,6 +176,6 @@ read_game tokens g h =
     let of = (game_learned_once f.file g).0 l in
     (f.file, f.sentence, of.0, of.1)
 
--- tokens are those of a consistent file with this game exactly if the machine reads them to it
+-- tokens are those of a consistent file with this game exactly when the machine reads them to it
 pub machine_means : (tokens : List Token) (g : Game) → MeansGame tokens g ↔ GameRead tokens g
 machine_means tokens g = (game_read tokens g, read_game tokens g)

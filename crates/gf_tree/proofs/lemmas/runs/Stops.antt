@@ -61,7 +61,7 @@ read_bytes bytes g h =
           (record { content = h.content; read = read; means = h.means }),
     )
 
--- bytes spell a game exactly if the machine reads them to it
+-- bytes spell a game exactly when the machine reads them to it
 pub machine_spells : (bytes : List ℕ) (g : Game) → SpellsGame bytes g ↔ BytesRead bytes g
 machine_spells bytes g = (bytes_read bytes g, read_bytes bytes g)
 
