@@ -3,6 +3,7 @@
 ghost use Rattle.std.specs.Prelude.{◌≡◌, ◌≤◌, ℕ, List, IfOk, IsErrOf, OnOk, length, map};
 ghost use Rattle.std.specs.List.{AllByRecursion, Contains};
 ghost use Rattle.gf_nfg.specs.Limit.{profile_limit};
+ghost use Rattle.gf_tree.specs.Game.{IsGame};
 ghost use Rattle.gf_form.specs.inner.strategies.Counted.{AreCounts};
 ghost use Rattle.gf_form.specs.inner.reduced.Firsts.{AreFirsts, IsPaidAt};
 ghost use Rattle.gf_form.specs.inner.rows.ProfileRows.{AreRowsAt};
@@ -40,7 +41,6 @@ fn reduced_rows(
     ensures overflow { (position : ℕ) → IsErrOf result (FormFault.Overflow position)
         → ReducedOverflowsAt game.now position }
 {
-    let _players = game.players();
     let numbers = profile_numbers(alloc, &counts.strategies, firsts)?;
     profile_rows(alloc, game, counts, &numbers)
 }
@@ -53,13 +53,13 @@ fn form_with(
     labels: Vec<Labels>,
     rows: Vec<Fraction>,
 ) -> Result<Table, AllocError>
+    requires is_game { IsGame game.now }
     requires players { length game.now.players ≤ 4294967295 }
     requires few { length (full_profiles game.now) ≤ profile_limit }
     requires labels { labels.items ≡ map (reduced_labels game.now) (players_of game.now) }
     requires rows { AreRowsAt (IsPaidAt game.now) (reduced_profiles game.now) rows.items }
     ensures { IfOk result (λ t. IsReducedForm game.now t) }
 {
-    let _players = game.players();
     table_with(alloc, game, labels, rows)
 }
 

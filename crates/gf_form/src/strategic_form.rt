@@ -54,7 +54,6 @@ fn form_with(
     requires rows { AreRowsAt (ArePayoffsAt game.now) (full_profiles game.now) rows.items }
     ensures { IfOk result (λ t. IsStrategicForm game.now t) }
 {
-    let _players = game.players();
     let labels = all_labels(alloc, counts)?;
     table_with(alloc, game, labels, rows)
 }

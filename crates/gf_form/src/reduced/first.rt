@@ -5,6 +5,7 @@ ghost use Rattle.std.specs.Prelude.{◌≡◌, ◌≤◌, ◌<◌, ◌+◌, ◌^
 ghost use Rattle.std.specs.Prelude.{MatchOption};
 ghost use Rattle.std.specs.Prelude.{OnOk, get_or, if◌then◌else◌, length, map};
 ghost use Rattle.gf_nfg.specs.Profiles.{product};
+ghost use Rattle.gf_tree.specs.Game.{IsGame};
 ghost use Rattle.gf_form.specs.inner.strategies.Counted.{AreCounts};
 ghost use Rattle.gf_form.specs.inner.reduced.Firsts.{AreFirsts, AreFirstsOf};
 ghost use Rattle.gf_form.specs.inner.reduced.OwnDigits.{digits_from};
@@ -111,6 +112,7 @@ impl Search {
         number: u32,
         count: u32,
     ) -> Result<(), AllocError>
+        requires is_game { IsGame player.now.game.now }
         requires below { IsSearched player.now.game.now player.now.number player.now.digits.items
             digits.now level.now depth number count }
         requires found { AreFoundTo player.now.game.now player.now.number self.old.numbers.items
@@ -118,7 +120,6 @@ impl Search {
         ensures found { OnOk result (AreFoundTo player.now.game.now player.now.number
             self.new.numbers.items (number + count)) }
     {
-        let _players = player.game.players();
         if are_set(&level.known) {
             return self.push_all(player, number, count);
         }
@@ -196,6 +197,7 @@ fn first_numbers(
     visits: &[Visit],
     whole: u32,
 ) -> Result<Vec<u32>, AllocError>
+    requires is_game { IsGame player.now.game.now }
     requires digits { player.now.digits.items
         ≡ digits_from 0 (action_counts player.now.game.now player.now.number) }
     requires choices { HaveChoices player.now.game.now player.now.number player.now.digits.items 0
@@ -204,7 +206,6 @@ fn first_numbers(
     ensures { IfOk result (λ numbers. AreFoundTo player.now.game.now player.now.number
         numbers.items whole) }
 {
-    let _players = player.game.players();
     let own = own_visits(alloc, visits, &player.digits)?;
     let level = Level::of_visits(alloc, &own, player.digits.len())?;
     let mut search = Search {
@@ -227,12 +228,12 @@ fn first_strategies(
     counts: &[u32],
     whole: u32,
 ) -> Result<(Vec<u32>, Labels), AllocError>
+    requires is_game { IsGame game.now }
     requires counts { counts.now ≡ action_counts game.now player }
     requires whole { whole ≡ product counts.now }
     ensures firsts { IfOk result (λ own. AreFirstsOf game.now own.0.items player) }
     ensures labels { IfOk result (λ own. own.1 ≡ reduced_labels game.now player) }
 {
-    let _players = game.players();
     let steps = own_steps(alloc, counts)?;
     let digits = own_digits(alloc, counts, &steps)?;
     let visits = visits_in(alloc, game, player, &steps)?;
@@ -254,12 +255,12 @@ fn only_strategy(
     player: u32,
     counts: &[u32],
 ) -> Result<(Vec<u32>, Labels), AllocError>
+    requires is_game { IsGame game.now }
     requires counts { counts.now ≡ action_counts game.now player }
     requires one { product counts.now ≡ 1 }
     ensures firsts { IfOk result (λ own. AreFirstsOf game.now own.0.items player) }
     ensures labels { IfOk result (λ own. own.1 ≡ reduced_labels game.now player) }
 {
-    let _players = game.players();
     let mut firsts = Vec::with_capacity(alloc, 1)?;
     firsts.push(0)?;
     let labels = strategy_labels(alloc, counts, 1)?;
@@ -274,6 +275,7 @@ fn own_strategies(
     counts: &[u32],
     whole: u32,
 ) -> Result<(Vec<u32>, Labels), AllocError>
+    requires is_game { IsGame game.now }
     requires counts { counts.now ≡ action_counts game.now player }
     requires whole { whole ≡ product counts.now }
     ensures firsts { IfOk result (λ own. AreFirstsOf game.now own.0.items player) }
@@ -299,7 +301,6 @@ pub(crate) fn all_reduced(
     ensures labels { IfOk result
         (λ all. all.1.items ≡ map (reduced_labels game.now) (players_of game.now)) }
 {
-    let _players = game.players();
     let mut firsts = Vec::with_capacity(alloc, counts.actions.len())?;
     let mut labels = Vec::with_capacity(alloc, counts.actions.len())?;
     for place in 0..counts.actions.len() {

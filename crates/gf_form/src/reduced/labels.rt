@@ -4,6 +4,7 @@ ghost use Rattle.std.specs.Prelude.{◌≡◌, ◌≤◌, ◌<◌, ◌+◌, ◌+
 ghost use Rattle.std.specs.Prelude.{false, get_or, if◌then◌else◌, length, true, ℕ};
 ghost use Rattle.std.specs.List.{AllByRecursion};
 ghost use Rattle.gf_token.specs.LabelSpelling.{IsLabel};
+ghost use Rattle.gf_tree.specs.Game.{IsGame};
 ghost use Rattle.gf_form.specs.inner.strategies.LabelTexts.{IsPlain, choice_text};
 ghost use Rattle.gf_form.specs.Reduced.{reduced_label, reduced_labels};
 ghost use Rattle.gf_form.specs.Strategies.{action_counts};
@@ -116,6 +117,7 @@ impl Labelling {
         level: &Level,
         number: u32,
     ) -> Result<(), AllocError>
+        requires is_game { IsGame player.now.game.now }
         requires last { IsLast player.now.game.now player.now.number self.old.strategy.items
             level.now number }
         requires ordered { AreInTurn numbers.now }
@@ -126,7 +128,6 @@ impl Labelling {
         ensures labelled { OnOk result (AreLabelledTo player.now.game.now player.now.number
             numbers.now self.new.labels (number + 1)) }
     {
-        let _players = player.game.players();
         level.mark(&mut self.met)?;
         write_reduced_label(&self.met, &self.strategy, &mut self.text)?;
         self.labels.push(Label::of_spelling(&self.text))?;
@@ -145,6 +146,7 @@ impl Labelling {
         number: u32,
         count: u32,
     ) -> Result<(), AllocError>
+        requires is_game { IsGame player.now.game.now }
         requires below { IsWritten player.now.game.now player.now.number digits.now
             self.old.strategy.items level.now number count }
         requires ordered { AreInTurn numbers.now }
@@ -156,7 +158,6 @@ impl Labelling {
         ensures labelled { OnOk result (AreLabelledTo player.now.game.now player.now.number
             numbers.now self.new.labels (number + count)) }
     {
-        let _players = player.game.players();
         let Some((digit, faster)) = digits.split_first() else {
             return self.push_label(player, numbers, level, number);
         };
@@ -189,6 +190,7 @@ pub(crate) fn labels_of(
     whole: u32,
     sets: usize,
 ) -> Result<Labels, AllocError>
+    requires is_game { IsGame player.now.game.now }
     requires digits { player.now.digits.items
         ≡ digits_from 0 (action_counts player.now.game.now player.now.number) }
     requires choices { HaveChoices player.now.game.now player.now.number player.now.digits.items 0
@@ -199,7 +201,6 @@ pub(crate) fn labels_of(
     ensures { IfOk result
         (λ labels. labels ≡ reduced_labels player.now.game.now player.now.number) }
 {
-    let _players = player.game.players();
     let level = Level::of_visits(alloc, visits, sets)?;
     let mut labelling = Labelling::new(alloc, numbers.len(), sets)?;
     if !labelling.is_next_below(numbers, whole) {

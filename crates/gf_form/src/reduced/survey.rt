@@ -5,6 +5,7 @@ ghost use Rattle.std.specs.Prelude.{OnOk, Some, length, if◌then◌else◌, unw
 ghost use Rattle.gf_token.specs.Positions.{at_position};
 ghost use Rattle.gf_tree.specs.Branches.{game_of, tree_of};
 ghost use Rattle.gf_tree.specs.BranchesLeft.{branches_given};
+ghost use Rattle.gf_tree.specs.Game.{IsGame};
 ghost use Rattle.gf_tree.specs.PrefixOrder.{flatten};
 ghost use Rattle.gf_form.specs.Strategies.{action_counts};
 ghost use Rattle.gf_form.specs.inner.reduced.Relevance.{FindRelevance};
@@ -145,11 +146,11 @@ pub(crate) fn visits_in(
     player: u32,
     steps: &[u64],
 ) -> Result<Vec<Visit>, AllocError>
+    requires is_game { IsGame game.now }
     requires steps { steps.now ≡ steps_behind 1 (action_counts game.now player) }
     requires fits { width (action_counts game.now player) < 2 ^ 64 }
     ensures { IfOk result (λ visits. FindRelevance game.now player visits.items) }
 {
-    let _players = game.players();
     let owner = Owner { player, steps };
     let mut survey = Survey {
         visits: Vec::new(alloc),

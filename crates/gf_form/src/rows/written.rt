@@ -87,7 +87,6 @@ fn row_by_walk(
     ensures overflow { IsErrOf result EvalFault.Overflow
         → ¬ (HasValues game.now (get_or (full_profiles game.now) profile [])) }
 {
-    let _players = game.players();
     expected_with(alloc, game, payoffs, strategies, values)
 }
 
@@ -122,7 +121,6 @@ impl Written {
         ensures written { OnOk result (AreWritten asked.now (before + 1) self.new) }
         ensures refused { IsRightlyRefused asked.now result }
     {
-        let _players = asked.game.players();
         let number = asked.numbers[before as usize];
         write_strategies(asked.counts, number, &mut self.strategies)?;
         match row_by_walk(
@@ -184,7 +182,6 @@ impl Written {
         ensures written { OnOk result (AreWritten asked.now (before + 1) self.new) }
         ensures refused { IsRightlyRefused asked.now result }
     {
-        let _players = asked.game.players();
         if let Some(pair) = pair {
             if pair.push_to(players, &mut self.rows)? {
                 return Ok(());
@@ -213,7 +210,6 @@ impl Written {
             start: all,
             end: all,
         };
-        let _players = asked.game.players();
         if let Some(pair) = terms.pair(alone) {
             let mut row = Vec::with_capacity(self.alloc, terms.players)?;
             if pair.push_to(terms.players, &mut row)? {

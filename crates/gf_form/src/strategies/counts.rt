@@ -4,6 +4,7 @@ ghost use Rattle.std.specs.Prelude.{◌≡◌, ◌<◌, ◌≤◌, IfOk, MatchOp
 ghost use Rattle.gf_token.specs.Positions.{at_position};
 ghost use Rattle.gf_nfg.specs.Limit.{profile_limit};
 ghost use Rattle.gf_nfg.specs.Profiles.{product};
+ghost use Rattle.gf_tree.specs.Game.{IsGame};
 ghost use Rattle.gf_form.specs.inner.strategies.Counted.{AreCounts};
 ghost use Rattle.gf_form.specs.Refusal.{HasTooManyProfiles};
 ghost use Rattle.gf_form.specs.Strategies.{action_counts};
@@ -15,9 +16,9 @@ use std::alloc::{AllocError, Global};
 /// How many actions there are at a player's set, by its position from 1 among his; 0 if he has no
 /// such set.
 pub(crate) fn action_count(game: &Game<'_>, player: u32, position: usize) -> usize
+    requires is_game { IsGame game.now }
     ensures { result ≡ unwrap_or (at_position (action_counts game.now player) position) 0 }
 {
-    let _players = game.players();
     let Some(number) = game.set_number(player, position) else {
         return 0;
     };
@@ -35,12 +36,12 @@ fn own_counts(
     game: &Game<'_>,
     player: u32,
 ) -> Result<Option<(Vec<u32>, ProfileCount)>, AllocError>
+    requires is_game { IsGame game.now }
     ensures { IfOk result (λ own. MatchOption own
         (profile_limit < product (action_counts game.now player))
         (λ own. (own.0.items ≡ action_counts game.now player)
         × (own.1.count ≡ product (action_counts game.now player)))) }
 {
-    let _players = game.players();
     let count = game.set_count(player);
     let mut actions = Vec::with_capacity(alloc, count)?;
     let mut strategies = ProfileCount::one();

@@ -2,6 +2,7 @@
 
 ghost use Rattle.std.specs.Prelude.{◌↔◌, ◌≤◌, IsTrue, length, map};
 ghost use Rattle.std.specs.List.{AllZip};
+ghost use Rattle.gf_tree.specs.Game.{IsGame};
 ghost use Rattle.gf_form.specs.Strategies.{AreStrategies, action_counts};
 
 use crate::strategies::counts::action_count;
@@ -9,6 +10,7 @@ use gf_tree::Game;
 
 /// Whether these are an action for each set of a player.
 fn is_strategy(game: &Game<'_>, player: u32, strategy: &[u32]) -> bool
+    requires is_game { IsGame game.now }
     ensures { IsTrue result ↔ AllZip (λ action count. (1 ≤ action) × (action ≤ count)) strategy.now
         (action_counts game.now player) }
 {

@@ -9,7 +9,7 @@ use Rattle.gf_form.proofs.reduced_form.form_with.Goals as goal
 pub table_with-requires-clause-fits : goal.table_with-requires-clause-fits
 table_with-requires-clause-fits c =
     let g = c.args.game.now in
-    let game = c.players-players.ensures.is_game in
+    let game = c.requires.is_game in
     fits_table (reduced_labels g) (IsPaidAt g) g c.args.labels.items c.args.rows.items
     c.requires.labels (paid_full g)
     (subst (λ (ps : List (List ℕ)). AreRowsAt (IsPaidAt g) ps c.args.rows.items)

@@ -15,7 +15,7 @@ lists all = map (λ own. own.items) all
 theirs : (c : goal.After-deref-2)
     → AreTheirs c.args.game.now (lists c.args.firsts.now) c.deref-2.result.now
 theirs c = record {
-  game = c.players-players.ensures.is_game;
+  game = c.requires.counts.is_game;
   few = c.requires.counts.within;
   are = c.requires.firsts;
   picked = rw c.deref-2.ensures.value
@@ -38,7 +38,7 @@ profile_numbers-requires-clause-some c =
     subst (λ (counts : List ℕ). 0 < product counts)
     (sym (c.deref.ensures.value ∙ c.requires.counts.strategies))
     (product_positive (strategy_counts g)
-    (strategies_positive g c.players-players.ensures.is_game))
+    (strategies_positive g c.requires.counts.is_game))
 
 pub profile_numbers-requires-clause-few : goal.profile_numbers-requires-clause-few
 profile_numbers-requires-clause-few c =

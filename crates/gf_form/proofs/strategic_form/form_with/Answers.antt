@@ -11,7 +11,8 @@ table_with-requires-clause-fits c =
     fits_table (strategy_labels g) (ArePayoffsAt g) g _ _
     (c.in_ok-labels.ensures g c.requires.counts)
     (full_row g) (rw (sym (all_profiles g)) at c.requires.rows)
-    (λ player. grind (arith, length-map, some_strategy)) (rw all_profiles c.requires.counts.within)
+    (λ player. grind (arith, length-map, some_strategy, c.requires.counts.is_game))
+    (rw all_profiles c.requires.counts.within)
     (row_fractions g)
 
 pub returns : goal.returns

@@ -6,6 +6,7 @@ use Rattle.gf_fraction.specs.Ratio.{HasValue, IsFraction, Ratio}
 use Rattle.gf_nfg.specs.Limit.{profile_limit}
 use Rattle.gf_nfg.specs.Profiles.{product}
 use Rattle.gf_tree.specs.Game.{Game}
+use Rattle.gf_tree.specs.Spellable.{IsSpellable}
 use Rattle.gf_form.specs.inner.strategies.Counted.{AreCounts}
 use Rattle.gf_form.specs.inner.rows.Demands.{steps_of}
 use Rattle.gf_form.specs.inner.rows.Entries.{AreExactAt, AreOrdered, Entry, IsShaped, entries}
@@ -54,6 +55,7 @@ abbrev pub asked_profiles : Asked → List (List ℕ)
 asked_profiles asked = numbered_profiles asked.game.now asked.numbers.now
 
 pub record IsAsked (asked : Asked) : Type 0 where
+  pub spellable : IsSpellable asked.game.now
   pub counts : AreCounts asked.game.now asked.counts.now
   pub payoffs : ArePaid asked.game.now (rows_of asked.payoffs.now)
   pub numbers : AreProfileNumbers asked.game.now asked.numbers.now

@@ -32,7 +32,7 @@ of_visits-requires c =
 pub push_below-requires-clause-below : goal.push_below-requires-clause-below
 push_below-requires-clause-below c =
     let g = c.args.player.now.game.now in
-    let game = c.players-players.ensures.is_game in
+    let game = c.requires.is_game in
     let player = c.args.player.now.number in
     let digits = c.args.player.now.digits.items in
     rw c.deref-3.ensures.value (searched_all g game player digits c.requires.digits c.args.whole

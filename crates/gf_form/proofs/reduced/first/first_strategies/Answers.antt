@@ -7,28 +7,28 @@ use Rattle.gf_form.proofs.reduced.first.first_strategies.Goals as goal
 pub own_steps-requires-clause-some : goal.own_steps-requires-clause-some
 own_steps-requires-clause-some c =
     subst ArePositive (sym c.requires.counts)
-    (actions_positive c.args.game.now c.players-players.ensures.is_game c.args.player)
+    (actions_positive c.args.game.now c.requires.is_game c.args.player)
 
 pub visits_in-requires-clause-fits : goal.visits_in-requires-clause-fits
 visits_in-requires-clause-fits c =
     width_fits (action_counts c.args.game.now c.args.player)
-    (actions_positive c.args.game.now c.players-players.ensures.is_game c.args.player)
+    (actions_positive c.args.game.now c.requires.is_game c.args.player)
     (omega (arith, c.ranges.whole.fits, c.requires.whole, ap product c.requires.counts))
 
 pub first_numbers-requires-clause-choices : goal.first_numbers-requires-clause-choices
 first_numbers-requires-clause-choices c =
-    all_choices_had c.args.game.now c.players-players.ensures.is_game c.args.player
+    all_choices_had c.args.game.now c.requires.is_game c.args.player
     c.in_ok-digits.digits.items (c.in_ok-digits.ensures ∙ ap (digits_from 0) c.requires.counts)
     c.args.whole (c.requires.whole ∙ ap product c.requires.counts) c.ranges.whole.fits
 
 pub labels_of-requires-clause-choices : goal.labels_of-requires-clause-choices
 labels_of-requires-clause-choices c =
-    all_choices_had c.args.game.now c.players-players.ensures.is_game c.args.player
+    all_choices_had c.args.game.now c.requires.is_game c.args.player
     c.in_ok-digits.digits.items (c.in_ok-digits.ensures ∙ ap (digits_from 0) c.requires.counts)
     c.args.whole (c.requires.whole ∙ ap product c.requires.counts) c.ranges.whole.fits
 
 pub returns-clause-firsts : goal.returns-clause-firsts
 returns-clause-firsts c =
-    firsts_are c.args.game.now c.players-players.ensures.is_game c.args.player
+    firsts_are c.args.game.now c.requires.is_game c.args.player
     c.in_ok-numbers.numbers.items c.args.whole (c.requires.whole ∙ ap product c.requires.counts)
     c.in_ok-numbers.ensures

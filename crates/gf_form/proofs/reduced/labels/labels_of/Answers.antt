@@ -6,7 +6,7 @@ use Rattle.gf_form.proofs.reduced.labels.labels_of.Goals as goal
 pub push_below-requires-clause-below : goal.push_below-requires-clause-below
 push_below-requires-clause-below c =
     let g = c.args.player.now.game.now in
-    let game = c.players-players.ensures.is_game in
+    let game = c.requires.is_game in
     let player = c.args.player.now.number in
     let digits = c.args.player.now.digits.items in
     let made = c.in_ok-labelling.ensures in
@@ -25,7 +25,7 @@ push_below-requires-clause-labelled c =
 pub returns-then-not-is_next_below : goal.returns-then-not-is_next_below
 returns-then-not-is_next_below c =
     let g = c.args.player.now.game.now in
-    let game = c.players-players.ensures.is_game in
+    let game = c.requires.is_game in
     let player = c.args.player.now.number in
     labels_are g game player c.args.numbers.now c.args.whole
     (whole_counted g game player c.args.player.now.digits.items c.requires.digits c.args.whole
@@ -37,7 +37,7 @@ returns-then-not-is_next_below c =
 pub returns : goal.returns
 returns c =
     let g = c.args.player.now.game.now in
-    let game = c.players-players.ensures.is_game in
+    let game = c.requires.is_game in
     let player = c.args.player.now.number in
     let all : 0 + c.args.whole ≡ c.args.whole = omega arith in
     labels_are g game player c.args.numbers.now c.args.whole

@@ -7,7 +7,7 @@ use Rattle.gf_form.proofs.reduced.first.Search.+push_below.Goals as goal
 
 pub push_all-requires-clause-firsts : goal.push_all-requires-clause-firsts
 push_all-requires-clause-firsts t c =
-    known_firsts _ c.players-players.ensures.is_game _ _ c.requires.below.all_are _ _ _ _ _
+    known_firsts _ c.requires.is_game _ _ c.requires.below.all_are _ _ _ _ _
     c.requires.below
     ((rw c.deref.ensures.value at c.are_set.ensures.set) c.if-are_set.true)
 
@@ -16,7 +16,7 @@ pub push_all-requires-in_default-clause-firsts
 push_all-requires-in_default-clause-firsts t c =
     let met = c.mark.new.met.items in
     let wide = c.in_ok-mark.ensures.counted ∙ c.requires.below.told.levelled.has.counted in
-    last_firsts _ c.players-players.ensures.is_game _ _ c.requires.below.all_are _ _ _ _ _
+    last_firsts _ c.requires.is_game _ _ c.requires.below.all_are _ _ _ _ _
     c.requires.below met c.in_ok-mark.ensures.marks
     (no_digits _ c.in_default.ensures.cases)
     (λ k early. sym (get_or-take c.args.depth met k false early)
@@ -39,7 +39,7 @@ returns-then-not-are_set t c =
       length-take-le c.args.depth met (omega (arith, wide, c.requires.below.deep)),
     ) in
     record {
-      found = none_found _ c.players-players.ensures.is_game _ _ c.requires.below.all_are _ _ _ _ _
+      found = none_found _ c.requires.is_game _ _ c.requires.below.all_are _ _ _ _ _
           c.requires.below met c.in_ok-mark.ensures.marks shut.0 early
           (sym (get_or-take c.args.depth met shut.0 false early) ∙ shut.2) _ c.requires.found;
     }
@@ -61,13 +61,16 @@ push_below-requires t c =
     let left = c.choose_at.new.self in (
       omega (arith, c.decreases, ap length c.in-Some.ensures.cases.0),
       (
-        next_searched below c.loop-before.before
-            (omega (arith, c.loop-before-test.true, c.actions_tried-tried.ensures.upto)) left
-            (subst (λ (sets : ℕ). IsLevel sets left) c.requires.below.told.levelled.has.counted
-            c.in_ok-choose_at.ensures.level)
-            (subst (λ (a : ℕ). IsChosenAt c.args.depth c.in-Some.digit.now.step a
-            c.args.level.now left) c.from.ensures c.in_ok-choose_at.ensures.chosen),
-        c.loop-before.invariant,
+        c.requires.is_game,
+        (
+          next_searched below c.loop-before.before
+              (omega (arith, c.loop-before-test.true, c.actions_tried-tried.ensures.upto)) left
+              (subst (λ (sets : ℕ). IsLevel sets left) c.requires.below.told.levelled.has.counted
+              c.in_ok-choose_at.ensures.level)
+              (subst (λ (a : ℕ). IsChosenAt c.args.depth c.in-Some.digit.now.step a
+              c.args.level.now left) c.from.ensures c.in_ok-choose_at.ensures.chosen),
+          c.loop-before.invariant,
+        ),
       ),
     )
 
@@ -92,7 +95,7 @@ returns t c =
     let below = rw c.in-Some.ensures.cases.0 at c.requires.below in
     let end : c.loop-before.before ≡ c.actions_tried-tried.result =
     omega (arith, c.loop-before-test.false, c.loop-before.auto.before-end) in record {
-      found = all_found _ c.players-players.ensures.is_game _ _ below.all_are _ _ _ _ _ _ _
+      found = all_found _ c.requires.is_game _ _ below.all_are _ _ _ _ _ _ _
           below _ c.in_ok-mark.ensures.marks
           (end ∙ c.actions_tried-tried.ensures.all) _ c.loop-before.invariant;
     }

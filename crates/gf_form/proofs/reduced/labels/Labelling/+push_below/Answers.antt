@@ -8,7 +8,7 @@ use Rattle.gf_form.proofs.reduced.labels.Labelling.+push_below.Goals as goal
 pub push_label-requires-clause-last : goal.push_label-requires-clause-last
 push_label-requires-clause-last t c =
     let below = rw (no_digits _ c.in_default.ensures.cases) at c.requires.below in
-    (last_written _ c.players-players.ensures.is_game _ _ _ _ _ below).0
+    (last_written _ c.requires.is_game _ _ _ _ _ below).0
 
 pub push_label-requires-clause-next : goal.push_label-requires-clause-next
 push_label-requires-clause-next t c =
@@ -90,14 +90,17 @@ push_below-requires t c =
     let left = c.choose.new.self in (
       omega (arith, c.decreases, ap length c.in-Some.ensures.cases.0),
       (
-        next_written below kept c.loop-before.before c.loop-before-test.true left
-            (subst (λ (sets : ℕ). IsLevel sets left) c.requires.below.told.levelled.has.counted
-            c.in_ok-choose.ensures.level)
-            (subst (λ (a : ℕ). IsChosen c.in-Some.digit.now.step a c.args.level.now left)
-            c.from.ensures c.in_ok-choose.ensures.chosen),
+        c.requires.is_game,
         (
-          c.requires.ordered,
-          (c.is_next_below.ensures.below c.if-not-is_next_below.false, i.0),
+          next_written below kept c.loop-before.before c.loop-before-test.true left
+              (subst (λ (sets : ℕ). IsLevel sets left) c.requires.below.told.levelled.has.counted
+              c.in_ok-choose.ensures.level)
+              (subst (λ (a : ℕ). IsChosen c.in-Some.digit.now.step a c.args.level.now left)
+              c.from.ensures c.in_ok-choose.ensures.chosen),
+          (
+            c.requires.ordered,
+            (c.is_next_below.ensures.below c.if-not-is_next_below.false, i.0),
+          ),
         ),
       ),
     )

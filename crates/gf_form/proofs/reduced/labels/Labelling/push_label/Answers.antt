@@ -11,7 +11,7 @@ returns-clause-labelled c =
     c.requires.labelled
     (c.of_spelling.ensures ∙ c.deref-3.ensures.value ∙ c.in_ok-write_reduced_label.ensures.text
     ∙ ap reduced_label (λ i. shown (c.deref.ensures.value i) (c.deref-2.ensures.value i))
-    ∙ label_is g c.players-players.ensures.is_game player c.args.self.now.strategy.items
+    ∙ label_is g c.requires.is_game player c.args.self.now.strategy.items
     c.args.level.now c.args.number c.requires.last c.mark.new.met.items c.in_ok-mark.ensures.counted
     c.in_ok-mark.ensures.marks)
     c.in_ok-push.ensures.ok

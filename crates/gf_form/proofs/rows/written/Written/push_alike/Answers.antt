@@ -11,7 +11,7 @@ loop-before-preserved c =
     let more = c.in_ok-push_to.ensures.row c.if-branch.true in
     let row : c.push_to.new.rows.items ≡ more.row =
     more.is ∙ ap (λ (old : List Ratio). old ++ more.row) c.in_ok-row.ensures.items in
-    next_row asked c.players-players.ensures.is_game c.players-players.ensures.spellable before
+    next_row asked c.requires.due.0.counts.is_game c.requires.due.0.spellable before
     t.players c.in-Some.pair c.loop-before.self
     (record c.loop-before.self { rows = c.push_few.new.items }) c.in_ok-row.row.items
     c.push_to.new.rows.items (omega (arith, less, c.requires.due.2)) c.requires.terms.2

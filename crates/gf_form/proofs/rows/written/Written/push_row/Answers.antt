@@ -6,7 +6,7 @@ pub returns-then-branch-clause-written : goal.returns-then-branch-clause-written
 returns-then-branch-clause-written c =
     let asked = c.args.asked.now in
     let more = c.in_ok-push_to.ensures.row c.if-branch.true in
-    next_row asked c.players-players.ensures.is_game c.players-players.ensures.spellable
+    next_row asked c.requires.asked.counts.is_game c.requires.asked.spellable
     c.args.before c.args.players c.in-Some.pair c.args.self.now
     (record c.args.self.now { rows = c.push_to.new.rows }) c.args.self.now.rows.items
     c.push_to.new.rows.items c.requires.within c.requires.players
