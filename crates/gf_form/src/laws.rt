@@ -125,9 +125,9 @@ pub fn same_games_same_reduced_form()
         → (position : ℕ) → ReducedOverflowsAt g position ↔ ReducedOverflowsAt h position }
 {}
 
-/// A play follows the choices exactly if its players' moves are those. If the choices are actions,
-/// some play follows them, and all plays that do have probability one together: at a player's move
-/// they take the same child, and they part only where chance moves.
+/// A play follows the choices exactly when its players' moves are those. If the choices are
+/// actions, some play follows them, and all plays that do have probability one together: at a
+/// player's move they take the same child, and they part only where chance moves.
 pub fn plays_follow_choices()
     ensures by_moves { (choices : SetKey → ℕ) (play : Play) → (follows choices play ≡ true)
         ↔ AllByRecursion
@@ -163,7 +163,7 @@ pub fn strategies_have_actions()
         → HasActions g (choices_by g all) }
 {}
 
-/// Two strategies of a player reduce to the same one exactly if the same plays agree with them.
+/// Two strategies of a player reduce to the same one exactly when the same plays agree with them.
 pub fn reduced_strategies_agree()
     ensures { (g : Game) (player : ℕ) (s t : List ℕ) → IsGame g → IsSpellable g → 0 < player
         → Contains (strategies g player) s → Contains (strategies g player) t
@@ -219,7 +219,7 @@ pub fn reduced_profiles_pay_alike()
         ↔ IsValue g (choices_by g (strategies_at g q)) player g.tree value }
 {}
 
-/// A game has at most one strategic form and at most one reduced form, and it has them exactly if
+/// A game has at most one strategic form and at most one reduced form, and it has them exactly when
 /// every payoff is a fraction.
 pub fn one_form()
     ensures strategic { (g : Game) (t u : Table) → IsStrategicForm g t → IsStrategicForm g u

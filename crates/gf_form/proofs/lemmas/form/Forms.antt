@@ -50,7 +50,7 @@ some_entries R (p ∷ ps) rows =
       (row.1, others.2),
     )
 
--- a form exists exactly if there are right payoffs at each profile
+-- a form exists exactly when there are right payoffs at each profile
 pub some_form_by : (labels : ℕ → List (List ℕ)) (R : List ℕ → List Ratio → Type 0) (g : Game)
     → ((p : List ℕ) → Has (form_profiles labels g) p → (row : List Ratio) × R p row)
     → (t : Table) × IsFormBy labels R g t

@@ -1,4 +1,4 @@
--- A set is relevant exactly if the choices come to it in the tree. So all sets are relevant of a
+-- A set is relevant exactly when the choices come to it in the tree. So all sets are relevant of a
 -- player with one strategy, who has one action at each.
 use Rattle.gf_form.proofs.Common.{◌≡◌, ℕ, ◌+◌, ◌<◌, Bool, true, false, List, [], ◌∷◌, Option, Some}
 use Rattle.gf_form.proofs.Common.{None, MatchOption, length, map, refl, ap, arith, subst, ◌||◌}

@@ -121,7 +121,7 @@ zip_flat R S f h each (x ∷ xs) (y ∷ ys) all =
 zip_flat R S f h each [] [] all = tt
 zip_flat R S f h each xs ys all = grind arith
 
--- ---- what holds of one list in turn exactly if it holds of the other
+-- ---- what holds of one list in turn exactly when it holds of the other
 
 pub all_alike : {A B : Type 0} (P : A → Type 0) (Q : B → Type 0) (xs : List A) (ys : List B)
     → AllZip (λ x y. P x ↔ Q y) xs ys → AllByRecursion P xs → AllByRecursion Q ys

@@ -11,7 +11,7 @@ use Rattle.gf_form.specs.inner.reduced.Visits.{AreActions, AreWithin, is_met}
 use Rattle.gf_form.specs.inner.rows.DigitSteps.{picked}
 use Rattle.gf_form.specs.declared.reduced.visits.Visit.{Visit}
 
--- a set is relevant under a strategy exactly if it is met on a visit that comes about by it
+-- a set is relevant under a strategy exactly when it is met on a visit that comes about by it
 pub record FindRelevance (g : Game) (player : ℕ) (visits : List Visit) : Type 0 where
   pub within : AreWithin (length (player_keys g player)) visits
   pub relevant : (strategy : List ℕ) (position : ℕ) (key : SetKey)
