@@ -102,7 +102,7 @@ pub const FILES: &str = "Game files and folders; standard input if none is named
 
 pub const FILES_FROM: &str = "Read the names of files and folders from FILE";
 
-pub const NULL: &str = "Names in FILE end with a NUL byte, as from find -print0";
+pub const NULL: &str = "Names end with a NUL byte, as from find -print0";
 
 pub const QUIET: &str = "Do not show on the terminal how many files are done";
 
