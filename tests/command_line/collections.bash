@@ -230,14 +230,15 @@ check_duplicates() {
     judge "duplicates: standard output full" "$nothing" "$scratch/wanted" 4
 }
 
-# A hundred thousand small files take at most twice the processor time that `sha256sum` of them takes,
-# each at its best of three.
+# Many small files take at most twice the processor time that `sha256sum` of them takes, each at its best
+# of three.
 check_many() {
     local ratio
     ratio=$(python3 - "$scratch/many" "$program" <<'END'
 import os, resource, subprocess, sys
 folder, program = sys.argv[1:]
-for number in range(100000):
+count = 20000
+for number in range(count):
     if number % 1000 == 0:
         os.makedirs(f"{folder}/{number // 1000:02}")
     with open(f"{folder}/{number // 1000:02}/{number}.efg", "w") as game:
@@ -248,7 +249,7 @@ def best(command):
         before = resource.getrusage(resource.RUSAGE_CHILDREN)
         ran = subprocess.run(["bash", "-c", command], stdout=subprocess.PIPE, check=True)
         after = resource.getrusage(resource.RUSAGE_CHILDREN)
-        assert ran.stdout.count(b"\n") == 100000
+        assert ran.stdout.count(b"\n") == count
         spent.append(after.ru_utime + after.ru_stime - before.ru_utime - before.ru_stime)
     return min(spent)
 ours = best(f"'{program}' hash '{folder}'")
@@ -259,7 +260,7 @@ END
     if [[ -n $ratio ]] && awk "BEGIN { exit !($ratio <= 2) }"; then
         passed=$((passed + 1))
     else
-        fail "hash of 100,000 files: it took ${ratio:-?} times as long as sha256sum"
+        fail "hash of many files: it took ${ratio:-?} times as long as sha256sum"
     fi
 }
 

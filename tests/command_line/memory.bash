@@ -1,5 +1,5 @@
 # shellcheck shell=bash disable=SC2034,SC2154
-# Too little memory: a page more at a time until there is enough, and texts that no memory holds.
+# Too little memory: a few pages more at a time until there is enough, and texts that no memory holds.
 
 # The heading of a game file: the first player has so many strategies, and each other one.
 heading() { # PLAYERS STRATEGIES
@@ -32,14 +32,16 @@ run_within() { # KIBIBYTES WORD..
     unset GLIBC_TUNABLES
 }
 
-# Whether the last run ended for want of memory, with one line on standard error and nothing else.
+# Whether the last run ended out of memory, with one line on standard error and nothing else. No
+# other program is started for this, since it is asked of many runs.
 wants_memory() {
-    [[ $status == 5 && ! -s $scratch/out && $(wc -l <"$scratch/err") == 1 ]] &&
-        grep -Eqx '([AB]: )?E19( at [0-9]+\.\.[0-9]+)?' "$scratch/err"
+    local lines line='^([AB]: )?E19( at [0-9]+\.\.[0-9]+)?$'
+    mapfile -t lines <"$scratch/err"
+    [[ $status == 5 && ! -s $scratch/out && ${#lines[@]} == 1 && ${lines[0]} =~ $line ]]
 }
 
-# Runs the program on a file with one page more at a time, until there are enough for its answer. Each
-# run before has to end for want of memory, and they do so at many places.
+# Runs the program on a file with four pages more at a time, until there are enough for its answer. Each
+# run before has to end out of memory, and they do so at many places.
 check_page_by_page() { # NAME GAME-FILE LEAST-KIBIBYTES WORD..
     local name=$1 file=$2 least=$3 pages=0 places
     shift 3
@@ -47,8 +49,8 @@ check_page_by_page() { # NAME GAME-FILE LEAST-KIBIBYTES WORD..
     cp "$scratch/out" "$scratch/text"
     : >"$scratch/refusals"
     while run_within $((least + 4 * pages)) "$@" <"$file" && wants_memory && ((pages < 1024)); do
-        cat "$scratch/err" >>"$scratch/refusals"
-        pages=$((pages + 1))
+        echo "$(<"$scratch/err")" >>"$scratch/refusals"
+        pages=$((pages + 4))
     done
     judge "$name, with $pages pages more than the least" "$scratch/text" "$nothing" 0
     places=$(sort -u "$scratch/refusals" | wc -l)
@@ -103,6 +105,26 @@ outcome_text() { # PLAYERS STRATEGIES
     yes "$line" | head -n "$2"
 }
 
+# Chance chooses one of twenty sets of two actions each, ten of each of two players. So there are 2^20
+# profiles, and a payoff has two numbers of 37 or 38 digits.
+fractions_file() {
+    local set player action number outcome=0 large=1000000000000000000000000000000000067
+    echo 'EFG 2 R "" { "a" "b" }'
+    echo 'c "" 1 "" {'
+    yes '"" 1/20' | head -n 20
+    echo '} 0'
+    for set in {1..10}; do
+        for player in 1 2; do
+            echo "p \"\" $player $set \"\" { \"\" \"\" } 0"
+            for action in 1 2; do
+                outcome=$((outcome + 1))
+                number=$(printf "$((1000 + set * 100 + player * 10 + action))%.0s" {1..8})
+                echo "t \"\" $outcome \"\" { $number/$large -$number/$large }"
+            done
+        done
+    done
+}
+
 # Runs the program, and writes to the file `peak` how much memory it held at most, in KiB.
 measured() { # WORD..
     python3 -c '
@@ -122,32 +144,46 @@ judge_peak() { # NAME KIBIBYTES
     fi
 }
 
-# A text of 420 MB from a file of 2 MB is written and hashed piece by piece, in little memory.
+# A text of 105 MB from a file of 2 MB is written and hashed piece by piece, in little memory.
 check_pieces() {
     local most=32768 file=$scratch/shared.nfg
-    outcome_file 100 1048576 >"$file"
-    measured canon "$file" 2>"$scratch/err" | cmp -s - <(outcome_text 100 1048576)
+    outcome_file 25 1048576 >"$file"
+    measured canon "$file" 2>"$scratch/err" | cmp -s - <(outcome_text 25 1048576)
     if [[ ${PIPESTATUS[*]} == "0 0" && ! -s $scratch/err ]]; then
         passed=$((passed + 1))
     else
         fail "a long text: $(head -n 1 "$scratch/err")"
     fi
     judge_peak "a long text" "$most"
-    outcome_text 100 1048576 | sha256sum | sed "s|-\$|$file|" >"$scratch/text"
+    outcome_text 25 1048576 | sha256sum | sed "s|-\$|$file|" >"$scratch/text"
     status=0
     measured hash "$file" >"$scratch/out" 2>"$scratch/err" || status=$?
     judge "the hash of a long text" "$scratch/text" "$nothing" 0
     judge_peak "the hash of a long text" "$most"
 }
 
+# A table with a text of 152 MB is written from its payoffs, which take 64 MiB, and not held whole.
+check_table_pieces() {
+    local file=$scratch/fractions.efg
+    fractions_file >"$file"
+    status=0
+    measured table "$file" >"$scratch/text" 2>"$scratch/err" || status=$?
+    if [[ $status == 0 && $(wc -lc <"$scratch/text" | xargs) == "1048580 152276183" ]]; then
+        passed=$((passed + 1))
+    else
+        fail "a long table: $(head -n 1 "$scratch/err")"
+    fi
+    judge_peak "a long table" 81920
+}
+
 check_memory() {
     local least=1024
     # An empty file takes no memory beyond that of the words. With less the program doesn't get there.
     while run_within "$least" <"$nothing" && [[ $status != 2 ]] && ((least < 16384)); do
-        least=$((least + 4))
+        least=$((least + 16))
     done
-    payoff_file 3000 4 >"$scratch/payoffs.nfg"
-    outcome_file 6000 4 >"$scratch/outcomes.nfg"
+    payoff_file 6000 4 >"$scratch/payoffs.nfg"
+    outcome_file 9000 4 >"$scratch/outcomes.nfg"
     check_page_by_page "payoff version" "$scratch/payoffs.nfg" "$least"
     check_page_by_page "outcome version" "$scratch/outcomes.nfg" "$least"
     tree_file 3000 >"$scratch/tree.efg"
@@ -160,6 +196,7 @@ check_memory() {
     outcome_file 1000 1048576 >"$scratch/giant.nfg"
     check_giant "a giant text" 60 400000 "$scratch/giant.nfg"
     check_pieces
+    check_table_pieces
     labels_file 20000 >"$scratch/giant.efg"
     check_giant "giant labels" 3 4000000 "$scratch/giant.efg" table
     check_giant "giant labels of the reduced form" 3 4000000 "$scratch/giant.efg" table --reduced

@@ -13,7 +13,7 @@ from .games import Answer, Game, Rows, braced, table_text, tree_text
 
 SEED = 1
 # The most profiles of a form of which all rows are worked out, and how many of another one are.
-MANY = 5_000
+MANY = 1_000
 SAMPLE = 40
 
 

@@ -2,7 +2,7 @@
 //! library/gamefile.c gives them the names and forms of gamefile.h.
 #![tactic(auto)]
 
-ghost use Rattle.gf_canon.specs.Judgement.{IsTextBy};
+ghost use Rattle.gf_canon.specs.NamesAside.{IsTextBy};
 ghost use Rattle.gf_calls.specs.Checked.{IsChecked};
 ghost use Rattle.gf_calls.specs.Compared.{IsComparedBy};
 ghost use Rattle.gf_calls.specs.Numbers.{Answers, names_by, strategies_by};

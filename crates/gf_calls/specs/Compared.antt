@@ -1,7 +1,8 @@
 -- What a call answers that compares two files.
 use Rattle.std.specs.Prelude.{◌≡◌, ◌↔◌, ℕ, Bool, true, false, IsTrue, List, Option, Some, None}
 use Rattle.gf_canon.specs.GameFile.{GameFile}
-use Rattle.gf_canon.specs.Judgement.{MeansFile, SpellsWithin}
+use Rattle.gf_canon.specs.CanonicalText.{SpellsWithin}
+use Rattle.gf_canon.specs.Judgement.{MeansFile}
 use Rattle.gf_canon.specs.SameBy.{SameBy}
 use Rattle.gf_canon.specs.declared.sameness.Names.{Names}
 use Rattle.gf_calls.specs.Refused.{IsRefusedAs}

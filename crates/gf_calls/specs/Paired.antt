@@ -1,7 +1,8 @@
 -- What a call answers that pairs the numbers of two files.
 use Rattle.std.specs.Prelude.{◌≡◌, ℕ, List}
 use Rattle.gf_canon.specs.GameFile.{GameFile, SameFile}
-use Rattle.gf_canon.specs.Judgement.{MeansFile, SpellsWithin}
+use Rattle.gf_canon.specs.CanonicalText.{SpellsWithin}
+use Rattle.gf_canon.specs.Judgement.{MeansFile}
 use Rattle.gf_calls.specs.Handed.{IsHandedOut}
 use Rattle.gf_calls.specs.Pairs.{ArePairs}
 use Rattle.gf_calls.specs.Refused.{IsRefusedAs}

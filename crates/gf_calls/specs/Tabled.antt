@@ -5,7 +5,8 @@ use Rattle.gf_nfg.specs.TableText.{table_text}
 use Rattle.gf_tree.specs.Game.{Game}
 use Rattle.gf_canon.specs.GameFile.{GameFile}
 use Rattle.gf_canon.specs.GameFile.GameFile.{extensive, strategic}
-use Rattle.gf_canon.specs.Judgement.{MeansFile, SpellsWithin}
+use Rattle.gf_canon.specs.CanonicalText.{SpellsWithin}
+use Rattle.gf_canon.specs.Judgement.{MeansFile}
 use Rattle.gf_form.specs.Forms.{HasFewPlayers, IsFormOf, IsWithoutForm}
 use Rattle.gf_form.specs.declared.fault.FormFault.{FormFault}
 use Rattle.gf_form.specs.declared.fault.FormFault.TheVariants as form
@@ -18,16 +19,16 @@ use Rattle.gf_calls.specs.declared.status.Status.TheVariants.{Misuse, OutOfMemor
 use Rattle.gf_calls.specs.declared.status.Status.TheVariants.{Overflow, TooManyProfiles}
 
 -- the table of a file: for a game its form, and for a table the table itself
-abbrev pub IsTableOf : Strategies → GameFile → Table → Type 0
-IsTableOf strategies (extensive g) t = IsFormOf strategies g t
-IsTableOf strategies (strategic s) t = t ≡ s
+abbrev pub IsTableOfFile : Strategies → GameFile → Table → Type 0
+IsTableOfFile strategies (extensive g) t = IsFormOf strategies g t
+IsTableOfFile strategies (strategic s) t = t ≡ s
 
 -- the bytes mean a file, and this is the canonical text of its table
 pub record IsTableText (strategies : Strategies) (bytes text : List ℕ) : Type 0 where
   pub file : GameFile
   pub spelled : SpellsWithin bytes file
   pub table : Table
-  pub is_table : IsTableOf strategies file table
+  pub is_table : IsTableOfFile strategies file table
   pub is_text : text ≡ table_text table
 
 -- what is answered if a game has no table

@@ -2,7 +2,8 @@
 use Rattle.std.specs.Prelude.{◌≡◌, ℕ, List, Option, Some, None}
 use Rattle.hex.specs.Hex.{encode_lower}
 use Rattle.sha2.specs.Sha256.{sha256}
-use Rattle.gf_canon.specs.Judgement.{IsTextBy, MeansFile}
+use Rattle.gf_canon.specs.Judgement.{MeansFile}
+use Rattle.gf_canon.specs.NamesAside.{IsTextBy}
 use Rattle.gf_canon.specs.declared.sameness.Names.{Names}
 use Rattle.gf_calls.specs.Handed.{IsHandedOut}
 use Rattle.gf_calls.specs.Refused.{IsRefusedAs}

@@ -4,7 +4,7 @@ ghost use Rattle.std.specs.Prelude.{◌≡◌, IfOk};
 ghost use Rattle.std.specs.String.{string_bytes};
 ghost use Rattle.hex.specs.Hex.{encode_lower};
 ghost use Rattle.sha2.specs.Sha256.{sha256};
-ghost use Rattle.gf_canon.specs.Judgement.{IsTextBy};
+ghost use Rattle.gf_canon.specs.NamesAside.{IsTextBy};
 ghost use Rattle.gf_calls.specs.Numbers.{names_by};
 ghost use Rattle.gf_calls.specs.Written.{IsHashBy, IsWritten, IsWrittenBy};
 

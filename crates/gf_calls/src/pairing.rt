@@ -2,7 +2,7 @@
 
 ghost use Rattle.std.specs.Prelude.{ℕ, IfOk, List, MatchOption};
 ghost use Rattle.gf_canon.specs.GameFile.{SameFile};
-ghost use Rattle.gf_canon.specs.Judgement.{SpellsWithin};
+ghost use Rattle.gf_canon.specs.CanonicalText.{SpellsWithin};
 ghost use Rattle.gf_canon.specs.MeaningOf.{file_of};
 ghost use Rattle.gf_calls.specs.Paired.{IsPairing, IsPaired};
 ghost use Rattle.gf_calls.specs.Pairs.{ArePairs};

@@ -3,7 +3,7 @@
 ghost use Rattle.std.specs.Prelude.{◌≡◌, ℕ, IfOk, List};
 ghost use Rattle.gf_nfg.specs.TableText.{table_text};
 ghost use Rattle.gf_canon.specs.GameFile.GameFile.{extensive};
-ghost use Rattle.gf_canon.specs.Judgement.{SpellsWithin};
+ghost use Rattle.gf_canon.specs.CanonicalText.{SpellsWithin};
 ghost use Rattle.gf_canon.specs.MeaningOf.{file_of};
 ghost use Rattle.gf_calls.specs.Numbers.{strategies_by};
 ghost use Rattle.gf_calls.specs.Tabled.{IsMadeText, IsProfileOf, IsTabled};

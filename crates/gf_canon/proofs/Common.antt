@@ -1,15 +1,15 @@
 -- The names that many lemmas of this crate cite, passed on from one place. Declares nothing.
-pub use Rattle.gf_canon.specs.GameFile.{GameFile, IsGameFile, SameFile, SpellsFile, canonical_file}
-pub use Rattle.gf_canon.specs.GameFile.{canonical_text, file_text}
+pub use Rattle.gf_canon.specs.CanonicalFile.{canonical_file}
+pub use Rattle.gf_canon.specs.CanonicalText.{IsCanonicalText, IsFileWithinLimit, SpellsWithin}
+pub use Rattle.gf_canon.specs.GameFile.{GameFile, IsGameFile, SameFile, SpellsFile, canonical_text}
 pub use Rattle.gf_canon.specs.GameFile.GameFile.{extensive, strategic}
 pub use Rattle.gf_canon.specs.GameText.{action_fields, described_fields, game_text, mover_fields}
 pub use Rattle.gf_canon.specs.GameText.{node_text, outcome_fields, result_fields, set_fields}
 pub use Rattle.gf_canon.specs.GameText.{step_fields}
-pub use Rattle.gf_canon.specs.Judgement.{BeginsWithWord, IsCanonicalText, IsFileWithinLimit}
-pub use Rattle.gf_canon.specs.Judgement.{IsFormatReason, IsInEitherFormat, IsJudged, IsPlaced}
-pub use Rattle.gf_canon.specs.Judgement.{IsRefused, IsRefusedWith, IsTextBy, IsWithoutFormat}
-pub use Rattle.gf_canon.specs.Judgement.{MeansFile, SpellsWithin}
-pub use Rattle.gf_canon.specs.NamesAside.{SameAsideNames, file_by, unnamed, unnamed_game}
+pub use Rattle.gf_canon.specs.Judgement.{BeginsWithWord, IsFormatReason, IsInEitherFormat, IsJudged}
+pub use Rattle.gf_canon.specs.Judgement.{IsPlaced, IsRefused, IsRefusedWith, IsWithoutFormat}
+pub use Rattle.gf_canon.specs.Judgement.{MeansFile}
+pub use Rattle.gf_canon.specs.NamesAside.{IsTextBy, SameAsideNames, file_by, unnamed, unnamed_game}
 pub use Rattle.gf_canon.specs.NamesAside.{unnamed_node, unnamed_outcome, unnamed_set, unnamed_table}
 pub use Rattle.gf_canon.specs.NewNumbers.{IsOnlyRenumbering, new_numbers, new_outcome_number}
 pub use Rattle.gf_canon.specs.NewNumbers.{new_set_number, number_of_set, set_order}
@@ -73,13 +73,14 @@ pub use Rattle.gf_tree.specs.Description.{same_set, set_of}
 pub use Rattle.gf_tree.specs.FileNodeOf.{file_node_of, set_use_of}
 pub use Rattle.gf_tree.specs.FileNodes.{file_nodes, node_behind, use_behind, with_those_before}
 pub use Rattle.gf_tree.specs.FileTree.{FileNode, FileTree, Use, outcome_uses, set_uses}
+pub use Rattle.gf_tree.specs.Fills.{Fills}
 pub use Rattle.gf_tree.specs.FiniteMap.{Described, description_at, first_uses}
 pub use Rattle.gf_tree.specs.FirstUse.{first_use_number, first_use_numbers, outcome_numbers}
 pub use Rattle.gf_tree.specs.FirstUse.{player_keys, sets_of}
 pub use Rattle.gf_tree.specs.Game.{Game, HasChildren, IsGame, Node, outcome_at, set_at}
 pub use Rattle.gf_tree.specs.Game.{used_outcomes, used_sets}
 pub use Rattle.gf_tree.specs.GameOf.{IsGameOf, SpellsGame, keys_alone}
-pub use Rattle.gf_tree.specs.PrefixOrder.{Entry, Fills, flatten}
+pub use Rattle.gf_tree.specs.PrefixOrder.{Entry, flatten}
 pub use Rattle.gf_tree.specs.Renumbering.{HasOutcome, HasSet, IsRenumbering, Renumbering}
 pub use Rattle.gf_tree.specs.Renumbering.{renumbered, renumbered_node, renumbered_set}
 pub use Rattle.gf_tree.specs.SameGame.{Carries, SameGame}

@@ -29,16 +29,7 @@ SameFile (extensive g) (extensive h) = SameGame g h
 SameFile (strategic t) (strategic u) = SameTable t u
 SameFile _ _ = ⊥
 
--- a table has no numbers of sets or outcomes
-abbrev pub canonical_file : GameFile → GameFile
-canonical_file (extensive g) = extensive (canonical_game g)
-canonical_file (strategic t) = strategic t
-
--- by the numbers that it has
-abbrev pub file_text : GameFile → List ℕ
-file_text (extensive g) = game_text g
-file_text (strategic t) = table_text t
-
--- by its first-use numbers
+-- of a game by its first-use numbers; a table has no numbers of sets or outcomes
 abbrev pub canonical_text : GameFile → List ℕ
-canonical_text x = file_text (canonical_file x)
+canonical_text (extensive g) = game_text (canonical_game g)
+canonical_text (strategic t) = table_text t

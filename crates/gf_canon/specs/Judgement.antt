@@ -1,4 +1,4 @@
--- What the bytes of a game file of either format are answered with, and how they are refused.
+-- How the bytes of a game file of either format are refused.
 use Rattle.std.specs.Prelude.{◌≡◌, ◌⊎◌, ℕ, List, [], ◌∷◌, codes}
 use Rattle.gf_token.specs.Place.{tokens_of, IsAcceptedThrough, IsOffendingPlace}
 use Rattle.gf_token.specs.Token.{Token, Lexeme}
@@ -11,43 +11,16 @@ use Rattle.gf_token.specs.declared.fault.Why.{Why}
 use Rattle.gf_token.specs.declared.fault.Why.TheVariants.{Unterminated, Expected}
 use Rattle.gf_token.specs.declared.fault.Why.TheVariants.{TooManyProfiles, Memory}
 use Rattle.gf_nfg.specs.Judgement as strategic_file
-use Rattle.gf_nfg.specs.LimitPlace.{IsLimitPlace, IsWithinLimit}
+use Rattle.gf_nfg.specs.LimitPlace.{IsLimitPlace}
 use Rattle.gf_nfg.specs.Sentence.{IsStrategicFile}
 use Rattle.gf_tree.specs.Front.{IsExtensiveFile}
 use Rattle.gf_tree.specs.Judgement as extensive_file
-use Rattle.gf_canon.specs.GameFile.{GameFile, SpellsFile, canonical_text}
-use Rattle.gf_canon.specs.GameFile.GameFile.{extensive, strategic}
-use Rattle.gf_canon.specs.NamesAside.{file_by}
-use Rattle.gf_canon.specs.declared.sameness.Names.{Names}
-use Rattle.gf_canon.specs.declared.sameness.Names.TheVariants.{Kept}
-
--- ---- texts
-
--- a table has no more profiles than it may have; a game has no limit
-abbrev pub IsFileWithinLimit : GameFile → Type 0
-IsFileWithinLimit (extensive g) = Unit {0}
-IsFileWithinLimit (strategic t) = IsWithinLimit t
-
--- the bytes mean this file, and it is within the limit
-pub record SpellsWithin (bytes : List ℕ) (x : GameFile) : Type 0 where
-  pub spelled : SpellsFile bytes x
-  pub within : IsFileWithinLimit x
+use Rattle.gf_canon.specs.CanonicalText.{SpellsWithin}
+use Rattle.gf_canon.specs.GameFile.{GameFile}
 
 -- the bytes mean a file within the limit
 abbrev pub MeansFile : List ℕ → Type 0
 MeansFile bytes = (x : GameFile) × SpellsWithin bytes x
-
--- the bytes mean a file, and this is the canonical text of what counts of it
-pub record IsTextBy (names : Names) (bytes text : List ℕ) : Type 0 where
-  pub file : GameFile
-  pub spelled : SpellsWithin bytes file
-  pub is_text : text ≡ canonical_text (file_by names file)
-
--- the bytes mean a file, and this is its canonical text
-abbrev pub IsCanonicalText : List ℕ → List ℕ → Type 0
-IsCanonicalText bytes text = IsTextBy Kept bytes text
-
--- ---- refusals
 
 -- the language of both formats
 abbrev pub IsInEitherFormat : List Token → Type 0

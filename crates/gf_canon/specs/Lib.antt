@@ -1,9 +1,10 @@
+pub mod CanonicalFile
+pub mod CanonicalText
 pub mod FileFormat
 pub mod FirstDescribed
 pub mod GameFile
 pub mod GameText
 pub mod Judgement
-pub mod MeanSame
 pub mod MeaningOf
 pub mod NamesAside
 pub mod NewNumbers

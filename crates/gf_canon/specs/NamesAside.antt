@@ -1,30 +1,30 @@
 -- Games and tables without the names that nobody plays by.
-use Rattle.std.specs.Prelude.{[], map}
+use Rattle.std.specs.Prelude.{ℕ, List, [], map}
 use Rattle.gf_nfg.specs.Table.{Table}
 use Rattle.gf_tree.specs.Tree.{map_tree}
 use Rattle.gf_tree.specs.Description.{InformationSet, Outcome}
 use Rattle.gf_tree.specs.Game.{Node, Game}
-use Rattle.gf_canon.specs.GameFile.{GameFile, SameFile}
+use Rattle.gf_canon.specs.CanonicalText.{IsTextOf}
+use Rattle.gf_canon.specs.GameFile.{GameFile, SameFile, canonical_text}
 use Rattle.gf_canon.specs.GameFile.GameFile.{extensive, strategic}
 use Rattle.gf_canon.specs.declared.sameness.Names.{Names}
 use Rattle.gf_canon.specs.declared.sameness.Names.TheVariants.{Kept, Aside}
 
 abbrev pub unnamed_node : Node → Node
-unnamed_node n = record { name = []; set = n.set; outcome = n.outcome }
+unnamed_node n = record n { name = [] }
 
 abbrev pub unnamed_set : InformationSet → InformationSet
-unnamed_set set = record { name = []; actions = set.actions }
+unnamed_set set = record set { name = [] }
 
 abbrev pub unnamed_outcome : Outcome → Outcome
-unnamed_outcome outcome = record { name = []; payoffs = outcome.payoffs }
+unnamed_outcome outcome = record outcome { name = [] }
 
 -- Title, comment, and the names of nodes, sets and outcomes are empty. Labels of players and
 -- actions stay.
 abbrev pub unnamed_game : Game → Game
-unnamed_game g = record {
+unnamed_game g = record g {
   title = [];
   comment = [];
-  players = g.players;
   tree = map_tree unnamed_node g.tree;
   sets = map (λ s. record { key = s.key; description = unnamed_set s.description }) g.sets;
   outcomes =
@@ -33,13 +33,7 @@ unnamed_game g = record {
 
 -- Title and comment are empty. Labels of players and strategies stay.
 abbrev pub unnamed_table : Table → Table
-unnamed_table t = record {
-  title = [];
-  comment = [];
-  players = t.players;
-  strategies = t.strategies;
-  entries = t.entries;
-}
+unnamed_table t = record t { title = []; comment = [] }
 
 abbrev pub unnamed : GameFile → GameFile
 unnamed (extensive g) = extensive (unnamed_game g)
@@ -49,6 +43,10 @@ unnamed (strategic t) = strategic (unnamed_table t)
 abbrev pub file_by : Names → GameFile → GameFile
 file_by Kept x = x
 file_by Aside x = unnamed x
+
+-- the bytes mean a file, and this is the canonical text of what counts of it
+abbrev pub IsTextBy : Names → List ℕ → List ℕ → Type 0
+IsTextBy names = IsTextOf (λ x. canonical_text (file_by names x))
 
 -- the same aside from names
 abbrev pub SameAsideNames : GameFile → GameFile → Type 0

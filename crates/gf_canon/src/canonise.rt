@@ -6,9 +6,9 @@ ghost use Rattle.gf_tree.specs.Game.{Game as game};
 ghost use Rattle.gf_tree.specs.GameOf.{SpellsGame};
 ghost use Rattle.gf_tree.specs.Judgement.{IsJudged as IsExtensiveJudged};
 ghost use Rattle.gf_canon.specs.GameFile.{GameFile, canonical_text};
-ghost use Rattle.gf_canon.specs.Judgement.{IsCanonicalText, IsJudged, IsPlaced};
-ghost use Rattle.gf_canon.specs.Judgement.{IsRefusedWith, IsTextBy, SpellsWithin};
-ghost use Rattle.gf_canon.specs.NamesAside.{file_by};
+ghost use Rattle.gf_canon.specs.CanonicalText.{IsCanonicalText, SpellsWithin};
+ghost use Rattle.gf_canon.specs.Judgement.{IsJudged, IsPlaced, IsRefusedWith};
+ghost use Rattle.gf_canon.specs.NamesAside.{IsTextBy, file_by};
 
 use crate::format::{Format, format_of};
 use crate::sameness::Names;

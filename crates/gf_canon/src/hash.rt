@@ -1,4 +1,4 @@
-//! The hash of a canonical text, and of any other.
+//! The SHA-256 digest of a text that is given piece by piece.
 
 ghost use Rattle.std.specs.Prelude.{◌≡◌};
 ghost use Rattle.sha2.specs.Sha256.{sha256};

@@ -14,22 +14,22 @@ ghost use Rattle.gf_tree.specs.GameOf.{SpellsGame};
 ghost use Rattle.gf_tree.specs.PrefixOrder.{flatten};
 ghost use Rattle.gf_tree.specs.Spellable.{IsSpellable};
 ghost use Rattle.gf_tree.specs.WorkedTrees.{bonus, five};
-ghost use Rattle.gf_tree.specs.Renumbering.{HasOutcome, HasSet, IsRenumbering};
-ghost use Rattle.gf_tree.specs.Renumbering.{Renumbering, renumbered};
+ghost use Rattle.gf_tree.specs.CarriedParts.{CarriesParts};
+ghost use Rattle.gf_tree.specs.Renumbering.{HasOutcome, HasSet, Renumbering};
 ghost use Rattle.gf_tree.specs.FileTree.{FileTree};
-ghost use Rattle.gf_tree.specs.FirstUse.{first_use_number, first_use_numbers};
-ghost use Rattle.gf_tree.specs.FirstUse.{outcome_numbers, player_keys};
+ghost use Rattle.gf_tree.specs.FirstUse.{first_use_number, first_use_numbers, outcome_numbers};
+ghost use Rattle.gf_tree.specs.FirstUse.{player_keys};
 ghost use Rattle.gf_tree.specs.SameGame.{Carries, SameGame};
 ghost use Rattle.gf_tree.specs.CanonicalGame.{canonical_game};
 ghost use Rattle.gf_canon.specs.FirstDescribed.{IsFileOf};
 ghost use Rattle.gf_canon.specs.GameFile.{GameFile, IsGameFile, SameFile, SpellsFile};
-ghost use Rattle.gf_canon.specs.GameFile.{canonical_file, canonical_text};
+ghost use Rattle.gf_canon.specs.GameFile.{canonical_text};
 ghost use Rattle.gf_canon.specs.GameFile.GameFile.{extensive, strategic};
 ghost use Rattle.gf_canon.specs.GameText.{game_text};
-ghost use Rattle.gf_canon.specs.Judgement.{IsCanonicalText, IsRefused, IsRefusedWith, IsTextBy};
-ghost use Rattle.gf_canon.specs.Judgement.{SpellsWithin};
-ghost use Rattle.gf_canon.specs.MeanSame.{MeanSame};
-ghost use Rattle.gf_canon.specs.NamesAside.{SameAsideNames, unnamed};
+ghost use Rattle.gf_canon.specs.CanonicalFile.{canonical_file};
+ghost use Rattle.gf_canon.specs.CanonicalText.{IsCanonicalText, SpellsWithin, MeanSame};
+ghost use Rattle.gf_canon.specs.Judgement.{IsRefused, IsRefusedWith};
+ghost use Rattle.gf_canon.specs.NamesAside.{IsTextBy, SameAsideNames, unnamed};
 ghost use Rattle.gf_canon.specs.SameBy.{SameBy};
 ghost use Rattle.gf_canon.specs.declared.sameness.Names.{Names};
 ghost use Rattle.gf_canon.specs.WorkedGames.{bonus_text, five_text, lower_case_prize, no_outcome};
@@ -75,11 +75,13 @@ pub fn same_is_equivalence()
         → SameBy names x z }
 {}
 
-/// A renumbering carries a game to the same game by its new numbers, and to no other.
-#[tactic(auto, using(gf_tree::proofs::lemmas::games::Canonical::carried_by_new_numbers))]
-pub fn carried_by_new_numbers()
+/// A renumbering carries one game to another exactly when title, comment and players are equal, the
+/// trees are equal node by node but for the numbers, and each set and each outcome has the
+/// description of the one with its new number.
+#[tactic(auto, using(gf_tree::proofs::lemmas::games::Canonical::carried_by_parts))]
+pub fn carried_by_parts()
     ensures { (r : Renumbering) (g h : Game) → IsGame g → IsGame h
-        → Carries r g h ↔ (IsRenumbering g r × (renumbered r g ≡ h)) }
+        → Carries r g h ↔ CarriesParts r g h }
 {}
 
 /// No two renumberings carry one game to another: they give the game's sets and outcomes the same

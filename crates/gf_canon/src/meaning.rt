@@ -1,7 +1,8 @@
 //! What a file of either format means.
 
 ghost use Rattle.std.specs.Prelude.{IfErr, IfOk};
-ghost use Rattle.gf_canon.specs.Judgement.{IsRefusedWith, SpellsWithin};
+ghost use Rattle.gf_canon.specs.CanonicalText.{SpellsWithin};
+ghost use Rattle.gf_canon.specs.Judgement.{IsRefusedWith};
 ghost use Rattle.gf_canon.specs.MeaningOf.{file_of, file_of_listed};
 
 use crate::format::{Format, format_of};

@@ -4,14 +4,14 @@ pub use Rattle.gf_form.specs.BottomUp.{IsChildValue}
 pub use Rattle.gf_form.specs.Payoff.{payoff, play_probability, play_payoff, payoff_at, probability}
 pub use Rattle.gf_form.specs.Payoff.{action_at}
 pub use Rattle.gf_form.specs.Plays.{plays, Step, Play, from_node, is_chosen, plays_from, HasActions}
-pub use Rattle.gf_form.specs.Plays.{follows}
+pub use Rattle.gf_form.specs.Plays.{follows, nodes_of, PartAtChance}
 pub use Rattle.gf_form.specs.Reduced.{reduced_at, reduced_by, reduced_label, reduced_strategies}
 pub use Rattle.gf_form.specs.Reduced.{IsReducedForm, is_own_choice, agrees, comes_to, is_relevant}
 pub use Rattle.gf_form.specs.Reduced.{reduced, same_choice, AreReducedPayoffsAt, reduced_labels}
 pub use Rattle.gf_form.specs.Reduced.{reduced_profiles}
 pub use Rattle.gf_form.specs.Refusal.{HasTooManyProfiles, HasValues, IsFirstWithout}
-pub use Rattle.gf_form.specs.Refusal.{HasReducedValues, ReducedOverflowsAt, HasValuesBy}
-pub use Rattle.gf_form.specs.StrategicForm.{ArePayoffsAt, IsFormBy, IsStrategicForm}
+pub use Rattle.gf_form.specs.Refusal.{HasReducedValues, ReducedOverflowsAt, HasValuesWith}
+pub use Rattle.gf_form.specs.StrategicForm.{ArePayoffsAt, IsFormWith, IsStrategicForm}
 pub use Rattle.gf_form.specs.StrategicForm.{strategy_labels, PaysFractions, ArePayoffs}
 pub use Rattle.gf_form.specs.Strategies.{action_counts, players_of, strategies, choices_by}
 pub use Rattle.gf_form.specs.Strategies.{full_profiles, strategies_at, all_choices, choice_at}
@@ -45,16 +45,15 @@ pub use Rattle.gf_form.specs.inner.reduced.Levels.{can_be_met, IsChosen, IsChose
 pub use Rattle.gf_form.specs.inner.reduced.OwnDigits.{digits_from, own_steps}
 pub use Rattle.gf_form.specs.inner.reduced.Relevance.{FindRelevance}
 pub use Rattle.gf_form.specs.inner.reduced.Search.{AreFirstBelow, AreFoundTo, AreInTurn, IsFine}
-pub use Rattle.gf_form.specs.inner.reduced.Search.{HaveNumbers}
-pub use Rattle.gf_form.specs.inner.reduced.Search.{AreLabelledTo, AreOwn, HaveChoices, steps_to}
-pub use Rattle.gf_form.specs.inner.reduced.Search.{IsElsewhere, IsKept, IsLast, IsNextBelow}
-pub use Rattle.gf_form.specs.inner.reduced.Search.{IsSearched, IsToldBy, IsWritten, actions_of}
-pub use Rattle.gf_form.specs.inner.reduced.Search.{digit_at, is_relevant_at, is_settled, numbered}
-pub use Rattle.gf_form.specs.inner.reduced.Search.{choices_at}
-pub use Rattle.gf_form.specs.inner.reduced.Shown.{chooses_first, is_first, relevant_sets, shown}
+pub use Rattle.gf_form.specs.inner.reduced.Search.{IsFirst, AreLabelledTo, AreOwn, HaveChoices}
+pub use Rattle.gf_form.specs.inner.reduced.Search.{steps_to, IsElsewhere, IsKept, IsLast}
+pub use Rattle.gf_form.specs.inner.reduced.Search.{IsNextBelow, IsSearched, IsToldBy, IsWritten}
+pub use Rattle.gf_form.specs.inner.reduced.Search.{actions_of, digit_at, is_relevant_at, is_settled}
+pub use Rattle.gf_form.specs.inner.reduced.Search.{numbered, choices_at}
+pub use Rattle.gf_form.specs.inner.reduced.Shown.{relevant_sets, shown}
 pub use Rattle.gf_form.specs.inner.reduced.Survey.{FindsMore, sizes, survey_size, visits_at}
 pub use Rattle.gf_form.specs.inner.reduced.Survey.{visits_below, own_step, own_visit}
-pub use Rattle.gf_form.specs.inner.reduced.Visits.{is_met, is_met_on, AreActions, AreWithin}
+pub use Rattle.gf_form.specs.inner.reduced.Visits.{is_met, is_met_on, AreActions}
 pub use Rattle.gf_form.specs.inner.rows.Demands.{meets, spans, steps_of}
 pub use Rattle.gf_form.specs.inner.rows.DigitSteps.{steps_behind, picked, width, at_digits}
 pub use Rattle.gf_form.specs.inner.rows.DigitSteps.{all_steps}
@@ -70,8 +69,8 @@ pub use Rattle.gf_form.specs.inner.rows.Pairs.{HasPairRow, IsPaidPair, pair_numb
 pub use Rattle.gf_form.specs.inner.rows.PathsLeft.{steps_of_paths, nodes_left}
 pub use Rattle.gf_form.specs.inner.rows.ProfileRows.{AreRowsAt}
 pub use Rattle.gf_form.specs.inner.rows.ReachedNodes.{demanded, by_chance, is_sum_at, reached}
-pub use Rattle.gf_form.specs.inner.rows.ReachedNodes.{root_path, by_action, by_any, by_choice}
-pub use Rattle.gf_form.specs.inner.rows.ReachedNodes.{by_lot, over_set, below_set}
+pub use Rattle.gf_form.specs.inner.rows.ReachedNodes.{root_path, by_action, by_choice, by_each}
+pub use Rattle.gf_form.specs.inner.rows.ReachedNodes.{drawn, over_set, below_set}
 pub use Rattle.gf_form.specs.inner.rows.SettledRows.{Settles, SettlesAt, SettleRows, AreWritten}
 pub use Rattle.gf_form.specs.inner.rows.SettledRows.{asked_profiles}
 pub use Rattle.gf_form.specs.inner.rows.Shares.{IsDigitOf, AreDigits, FitsAt, IsExactIfMet}
@@ -102,10 +101,10 @@ pub use Rattle.gf_fraction.proofs.Products.{mul_above}
 pub use Rattle.gf_fraction.proofs.Rationals.{equal_refl, plus_both, plus_zero, plus_assoc}
 pub use Rattle.gf_fraction.proofs.Rationals.{times_comm, times_assoc, times_plus, times_zero}
 pub use Rattle.gf_fraction.proofs.Rationals.{times_one, IsAbove, plus_above, times_above}
-pub use Rattle.gf_fraction.proofs.Rationals.{total_above}
+pub use Rattle.gf_fraction.proofs.Rationals.{total_above, plus_comm}
 pub use Rattle.gf_fraction.proofs.Sums.{IsLcm-from_gcd}
 pub use Rattle.gf_fraction.proofs.WholeNumbers.{whole_fraction}
-pub use Rattle.gf_fraction.specs.Computed.{product_of}
+pub use Rattle.gf_fraction.specs.Computed.{product_of, sum_of}
 pub use Rattle.gf_fraction.specs.Fits.{AddsTo, MultipliesTo, SumFits, IsLcm, IsProduct, IsSum}
 pub use Rattle.gf_fraction.specs.Fits.{scaled_num}
 pub use Rattle.gf_fraction.specs.Ratio.{Ratio, IsFraction, whole, IsWithin, HasValue}
@@ -177,11 +176,10 @@ pub use Rattle.std.proofs.lemmas.List.{length-append, get_or-take, get_or_append
 pub use Rattle.std.proofs.lemmas.List.{length-take-le, get_or_past, drop-drop, take-append-drop}
 pub use Rattle.std.proofs.lemmas.List.{take_more_set, length-drop, length-take}
 pub use Rattle.std.proofs.lemmas.List.Elements.{filter-append, All-from_recursion}
-pub use Rattle.std.proofs.lemmas.List.Elements.{recursion_from_All}
+pub use Rattle.std.proofs.lemmas.List.Elements.{recursion_from_All, All-get_or, All-from_get_or}
 pub use Rattle.std.proofs.lemmas.List.Folds.{list_any-append}
-pub use Rattle.std.proofs.lemmas.List.Sorted.{IsNonDecreasingBy-push, All-permutation}
-pub use Rattle.std.proofs.lemmas.List.Sorted.{list_any-IsPermutation}
-pub use Rattle.std.proofs.lemmas.List.Sorted.{IsNonDecreasingBy-from_sort_by_key}
+pub use Rattle.std.proofs.lemmas.List.Sorted.{IsNonDecreasingBy-push, list_any-IsPermutation}
+pub use Rattle.std.proofs.lemmas.List.Sorted.{All-permutation, IsNonDecreasingBy-from_sort_by_key}
 pub use Rattle.std.proofs.lemmas.Nat.Gcd.{dvd_refl, dvd_trans}
 pub use Rattle.std.proofs.lemmas.Option.{unwrap_or-slice_get, slice_get-map, none-some}
 pub use Rattle.std.proofs.lemmas.Option.{slice_get-get_or, slice_get_past}
@@ -194,6 +192,5 @@ pub use Rattle.std.specs.List.{AllByRecursion, AllZip, Contains, list_all, list_
 pub use Rattle.std.specs.List.{flat_map}
 pub use Rattle.std.specs.List.Sorted.{IsNonDecreasingBy, IsNonDecreasing, IsPermutation}
 pub use Rattle.std.specs.Option.{option_map_or}
-pub use Rattle.std.specs.Prelude.{◌==◌, filter, ◌↔◌, ◌||◌, option_and_then, unwrap_or}
-pub use Rattle.std.specs.Prelude.{if◌then◌else◌, codes, nat_lt, unsigned_abs, not, zip, decimal}
-pub use Rattle.std.specs.Prelude.{find, ⊤, IfSome}
+pub use Rattle.std.specs.Prelude.{◌==◌, filter, ◌↔◌, ◌||◌, codes, nat_lt, not, zip, find, ⊤, IfSome}
+pub use Rattle.std.specs.Prelude.{option_and_then, unwrap_or, if◌then◌else◌, unsigned_abs, decimal}

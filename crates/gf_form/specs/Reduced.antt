@@ -14,7 +14,7 @@ use Rattle.gf_tree.specs.Game.{Game}
 use Rattle.gf_form.specs.Plays.{Step, Play, plays}
 use Rattle.gf_form.specs.Strategies.{choice_at, strategies, players_of}
 use Rattle.gf_form.specs.Strategies.{strategies_at, strategy_at, full_profiles}
-use Rattle.gf_form.specs.StrategicForm.{ArePayoffsAt, IsFormBy}
+use Rattle.gf_form.specs.StrategicForm.{ArePayoffsAt, IsFormWith}
 
 -- not a move of this player, or the one that he chooses
 abbrev pub is_own_choice : (SetKey → ℕ) → ℕ → Step → Bool
@@ -82,4 +82,4 @@ AreReducedPayoffsAt g profile payoffs = (full : List ℕ) → Contains (full_pro
 
 -- the reduced form: by the reduced strategies, with the payoffs at each of their profiles
 abbrev pub IsReducedForm : Game → Table → Type 0
-IsReducedForm g t = IsFormBy (reduced_labels g) (AreReducedPayoffsAt g) g t
+IsReducedForm g t = IsFormWith (reduced_labels g) (AreReducedPayoffsAt g) g t

@@ -15,18 +15,13 @@ abbrev pub HasTooManyProfiles : Game → Type 0
 HasTooManyProfiles g = profile_limit < length (full_profiles g)
 
 -- each player has a bottom-up value, if these are the choices
-abbrev pub HasValuesBy : Game → (SetKey → ℕ) → Type 0
-HasValuesBy g choices = AllByRecursion
+abbrev pub HasValuesWith : Game → (SetKey → ℕ) → Type 0
+HasValuesWith g choices = AllByRecursion
     (λ player. (value : Ratio) × IsValue g choices player g.tree value) (players_of g)
 
--- the player has a bottom-up value at this profile
-abbrev pub HasBottomUpValue : Game → List ℕ → ℕ → Type 0
-HasBottomUpValue g profile player =
-    (value : Ratio) × IsValue g (choices_by g (strategies_at g profile)) player g.tree value
-
--- each player has
+-- each player has a bottom-up value at this profile
 abbrev pub HasValues : Game → List ℕ → Type 0
-HasValues g profile = AllByRecursion (HasBottomUpValue g profile) (players_of g)
+HasValues g profile = HasValuesWith g (choices_by g (strategies_at g profile))
 
 -- the profile at this position is the first of these at which it does not hold
 pub record IsFirstWithout (Holds : List ℕ → Type 0) (profiles : List (List ℕ)) (position : ℕ)
@@ -37,11 +32,11 @@ pub record IsFirstWithout (Holds : List ℕ → Type 0) (profiles : List (List �
   pub first : (earlier : ℕ) (other : List ℕ) → earlier < position
       → at_position profiles earlier ≡ Some other → Holds other
 
--- at the profile at this position, and at none before it, not each player has
+-- at the profile at this position, and at none before it, some player has none
 abbrev pub OverflowsAt : Game → ℕ → Type 0
 OverflowsAt g position = IsFirstWithout (HasValues g) (full_profiles g) position
 
--- each player has at every full profile that reduces to this profile
+-- each player has one at every full profile that reduces to this profile
 abbrev pub HasReducedValues : Game → List ℕ → Type 0
 HasReducedValues g profile = (full : List ℕ) → Contains (full_profiles g) full
     → reduced_by g full ≡ reduced_at g profile → HasValues g full

@@ -29,8 +29,8 @@ PaysFractions g = (profile : List ℕ) → Contains (full_profiles g) profile
 
 -- A table with the game's title, comment and players, with these labels of each player's
 -- strategies, and with payoffs at each profile that are right there.
-pub record IsFormBy (labels : ℕ → List (List ℕ)) (IsRight : List ℕ → List Ratio → Type 0) (g : Game)
-    (t : Table) : Type 0 where
+pub record IsFormWith (labels : ℕ → List (List ℕ)) (IsRight : List ℕ → List Ratio → Type 0)
+    (g : Game) (t : Table) : Type 0 where
   pub title : t.title ≡ g.title
   pub comment : t.comment ≡ g.comment
   pub players : t.players ≡ g.players
@@ -49,4 +49,4 @@ ArePayoffsAt g profile payoffs = ArePayoffs g (choices_by g (strategies_at g pro
 
 -- the strategic form: by the strategies, with the payoffs at each profile
 abbrev pub IsStrategicForm : Game → Table → Type 0
-IsStrategicForm g t = IsFormBy (strategy_labels g) (ArePayoffsAt g) g t
+IsStrategicForm g t = IsFormWith (strategy_labels g) (ArePayoffsAt g) g t

@@ -29,6 +29,7 @@ ghost use Rattle.gf_form.specs.WorkedForms.{overflowing, second, unlikely};
 /// Worked games: plays, strategic and reduced forms, and payoffs that fit although the bottom-up
 /// value does not, once because of a child with probability zero, and once because of the sum of
 /// the children, to which the node's own payoff is added last.
+#[tactic(auto, using(crate::proofs::lemmas::form::Worked::worked_forms))]
 pub fn worked_forms()
     ensures games { AllByRecursion (λ g. IsGame g × IsSpellable g)
         (overflowing ∷ unlikely ∷ balancing ∷ ending ∷ contradicted ∷ []) }
@@ -54,6 +55,7 @@ pub fn worked_forms()
 {}
 
 /// If the bottom-up value is defined, it is one fraction, the payoff by plays, whatever is chosen.
+#[tactic(auto, using(crate::proofs::lemmas::values::BottomUp::payoffs_by_plays))]
 pub fn value_is_payoff()
     ensures one_value { (g : Game) (choices : SetKey → ℕ) (player : ℕ) (x y : Ratio) → IsGame g
         → IsSpellable g
@@ -66,6 +68,7 @@ pub fn value_is_payoff()
 /// The pure strategies of a player are all choices of an action at each of his sets, each once;
 /// there are as many as the product of the numbers of actions. Their labels differ, as long as no
 /// set has 2^64 actions.
+#[tactic(auto, using(crate::proofs::lemmas::strategies::StrategyLabels::each_strategy))]
 pub fn every_strategy()
     ensures each_choice { (g : Game) (player : ℕ) (strategy : List ℕ)
         → Contains (strategies g player) strategy
@@ -87,6 +90,7 @@ pub fn every_strategy()
 /// Games that are the same have the same strategies, the same payoffs at every profile, the same
 /// bottom-up values, and the same strategic form, or no table for the same reason: none of these
 /// depends on the numbers of sets and outcomes.
+#[tactic(auto, using(crate::proofs::lemmas::form::SameForms::same_by_pure))]
 pub fn same_games_same_form()
     ensures strategies { (g h : Game) → IsGame g → IsGame h → SameGame g h
         → (player : ℕ) → strategies g player ≡ strategies h player }
@@ -111,6 +115,7 @@ pub fn same_games_same_form()
 /// both, and so does a profile. They have the same reduced form, or lack a bottom-up value first at
 /// the same profile of it. Both have too many profiles or neither does, by the law
 /// [`same_games_same_form`](crate::laws::same_games_same_form).
+#[tactic(auto, using(crate::proofs::lemmas::form::SameForms::same_by_reduced))]
 pub fn same_games_same_reduced_form()
     ensures reduced { (g h : Game) → IsGame g → IsGame h → SameGame g h
         → (player : ℕ) (strategy : List ℕ)
@@ -128,6 +133,7 @@ pub fn same_games_same_reduced_form()
 /// A play follows the choices exactly when its players' moves are those. If the choices are
 /// actions, some play follows them, and all plays that do have probability one together: at a
 /// player's move they take the same child, and they part only where chance moves.
+#[tactic(auto, using(crate::proofs::lemmas::values::Following::followed_plays))]
 pub fn plays_follow_choices()
     ensures by_moves { (choices : SetKey → ℕ) (play : Play) → (follows choices play ≡ true)
         ↔ AllByRecursion
@@ -146,6 +152,7 @@ pub fn plays_follow_choices()
 {}
 
 /// Chance is not a player: no strategy chooses at its sets, and nothing is paid to it.
+#[tactic(auto, using(crate::proofs::lemmas::strategies::Chosen::chance_is_paid_nothing))]
 pub fn chance_is_no_player()
     ensures choices { (g : Game) (all : List (List ℕ)) (number : ℕ)
         → choices_by g all (set_of 0 number) ≡ 0 }
@@ -154,6 +161,7 @@ pub fn chance_is_no_player()
 
 /// The strategies of a profile are those of its players, one for each, and they choose an action at
 /// each set.
+#[tactic(auto, using(crate::proofs::lemmas::strategies::Chosen::profile_strategies))]
 pub fn strategies_have_actions()
     ensures one_each { (g : Game) (profile : List ℕ) → Contains (full_profiles g) profile
         → AllZip (λ strategy player. Contains (strategies g player) strategy)
@@ -194,6 +202,7 @@ pub fn every_reduced_strategy()
 
 /// Some full profile reduces to each profile of the reduced form, and each full profile reduces to
 /// exactly one profile of the reduced form.
+#[tactic(auto, using(crate::proofs::lemmas::reduced::ReducedStrategies::each_profile))]
 pub fn every_reduced_profile()
     ensures each_comes { (g : Game) (profile : List ℕ) → Contains (reduced_profiles g) profile
         → (full : List ℕ) × Contains (full_profiles g) full
@@ -207,6 +216,7 @@ pub fn every_reduced_profile()
 
 /// Full profiles that reduce to the same one have the same payoffs and the same bottom-up values,
 /// defined for both or for neither.
+#[tactic(auto, using(crate::proofs::lemmas::reduced::Reducing::reduced_value))]
 pub fn reduced_profiles_pay_alike()
     ensures payoffs { (g : Game) (player : ℕ) (p q : List ℕ) → Contains (full_profiles g) p
         → Contains (full_profiles g) q → reduced_by g p ≡ reduced_by g q
@@ -221,6 +231,7 @@ pub fn reduced_profiles_pay_alike()
 
 /// A game has at most one strategic form and at most one reduced form, and it has them exactly when
 /// every payoff is a fraction.
+#[tactic(auto, using(crate::proofs::lemmas::reduced::ReducedForms::at_most_one_form))]
 pub fn one_form()
     ensures strategic { (g : Game) (t u : Table) → IsStrategicForm g t → IsStrategicForm g u
         → t ≡ u }

@@ -1,6 +1,6 @@
 //! Rows of numbers, one for each player, that are added up. An empty row stands for zeros.
 
-ghost use Rattle.std.specs.Prelude.{◌≡◌, ◌<◌, ◌≤◌, ℕ, None, Some, OnOk, IsErrOf, length};
+ghost use Rattle.std.specs.Prelude.{◌≡◌, ◌<◌, ◌≤◌, ℕ, None, Some, OnOk, IfSome, IsErrOf, length};
 ghost use Rattle.gf_fraction.specs.Ratio.{IsFraction};
 ghost use Rattle.gf_form.specs.inner.values.Rows.{IsRow, at_place};
 ghost use Rattle.gf_form.specs.inner.values.Values.{plus_of, times_of};
@@ -40,6 +40,35 @@ pub(crate) fn write_out(row: &mut Vec<Fraction>, players: usize) -> Result<(), A
     Ok(())
 }
 
+/// Their sum, if it fits.
+#[tactic(auto, using(crate::proofs::lemmas::values::RowSums::sum_steps))]
+fn sum(x: Fraction, y: Fraction) -> Option<Fraction>
+    requires x { IsFraction x }
+    requires y { IsFraction y }
+    ensures is { result ≡ plus_of (Some x) (Some y) }
+    ensures fraction { IfSome result IsFraction }
+{
+    match x.add(y) {
+        Ok(total) => Some(total),
+        Err(_) => None,
+    }
+}
+
+/// A number and another one times a probability, if the product fits, and the sum of both.
+#[tactic(auto, using(crate::proofs::lemmas::values::RowSums::sum_steps))]
+fn weighed(number: Fraction, chance: Fraction, other: Fraction) -> Option<Fraction>
+    requires number { IsFraction number }
+    requires chance { IsFraction chance }
+    requires other { IsFraction other }
+    ensures is { result ≡ plus_of (Some number) (times_of chance (Some other)) }
+    ensures fraction { IfSome result IsFraction }
+{
+    match chance.mul(other) {
+        Ok(product) => sum(number, product),
+        Err(_) => None,
+    }
+}
+
 /// Adds a row times a probability to a sum.
 #[tactic(auto, using(crate::proofs::lemmas::values::RowSums::weigh_steps))]
 pub(crate) fn weigh(
@@ -61,10 +90,7 @@ pub(crate) fn weigh(
     }
     write_out(sum, row.len())?;
     for i in 0..row.len() {
-        let Ok(product) = chance.mul(row[i]) else {
-            return Err(EvalFault::Overflow);
-        };
-        let Ok(total) = sum[i].add(product) else {
+        let Some(total) = weighed(sum[i], chance, row[i]) else {
             return Err(EvalFault::Overflow);
         };
         sum[i] = total;
@@ -73,6 +99,7 @@ pub(crate) fn weigh(
 }
 
 /// Adds payoffs to a row.
+#[tactic(auto, using(crate::proofs::lemmas::values::RowSums::pay_steps))]
 pub(crate) fn pay(payoffs: &[Fraction], row: &mut Vec<Fraction>) -> Result<(), EvalFault>
     requires { (players : ℕ) × IsRow players payoffs.now × IsRow players row.old.items }
     ensures row { OnOk result ((players : ℕ) → IsRow players payoffs.now
@@ -87,7 +114,7 @@ pub(crate) fn pay(payoffs: &[Fraction], row: &mut Vec<Fraction>) -> Result<(), E
     }
     write_out(row, payoffs.len())?;
     for i in 0..payoffs.len() {
-        let Ok(total) = payoffs[i].add(row[i]) else {
+        let Some(total) = sum(payoffs[i], row[i]) else {
             return Err(EvalFault::Overflow);
         };
         row[i] = total;

@@ -20,7 +20,7 @@ use gf_tree::Game;
 use std::alloc::{AllocError, Global};
 
 /// The table of a game with these labels of each player's strategies, and these payoffs.
-#[tactic(auto, using(crate::proofs::lemmas::form::FormTables::table_steps))]
+#[tactic(auto, using(crate::proofs::lemmas::form::Forms::table_steps))]
 pub(crate) fn table_with(
     alloc: Global,
     game: &Game<'_>,

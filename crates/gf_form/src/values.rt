@@ -1,4 +1,4 @@
-//! What the players are paid where they choose given actions: the tree is walked once, on a stack
+//! What the players are paid if they choose given actions: the tree is walked once, on a stack
 //! of rows.
 
 pub(crate) mod evaluate;

@@ -3,7 +3,7 @@
 use Rattle.std.proofs.Common.{◌≡◌, ℕ, ◌<◌, Bool, List, []}
 use Rattle.std.proofs.Common.{◌∷◌, ◌++◌, length, Some, None, arith, refl, ap, ◌∙◌}
 use Rattle.gf_fraction.specs.Ratio.{Ratio}
-use Rattle.gf_fraction.specs.NumberSpelling.{Reading, IsPlain, HasShape, Spells}
+use Rattle.gf_fraction.specs.NumberSpelling.{Reading, IsPlain, HasShape, SpellsReading}
 use Rattle.gf_fraction.specs.NumberSpelling.{IsNumber, HasNumberFault, IsBounded, den_of}
 use Rattle.gf_fraction.specs.NumberSpelling.IsPlain.{whole, pointed}
 use Rattle.gf_fraction.specs.NumberScan.{is_minus, after_sign, scan}
@@ -33,7 +33,7 @@ shape_unsigned text reading h =
 
 -- what a text spells is scanned
 pub scan_spelled : (text : List ℕ) (negative : Bool) (reading : Reading)
-    → Spells text negative reading
+    → SpellsReading text negative reading
     → (is_minus text ≡ negative) × (scan (after_sign text) ≡ Some (held reading))
 scan_spelled text negative reading h =
     let e =
@@ -70,5 +70,5 @@ fault_from_reading text negative s fault h h' =
     grind (arith, held, zero_held, above_held, bounded_kept)
 
 pub unspelled : (text : List ℕ) → scan (after_sign text) ≡ None
-    → (negative : Bool) (reading : Reading) → ¬ (Spells text negative reading)
+    → (negative : Bool) (reading : Reading) → ¬ (SpellsReading text negative reading)
 unspelled text none negative reading h = let e = (scan_spelled text negative reading h).1 in cc

@@ -7,7 +7,8 @@ use Rattle.std.specs.Str.Parse.{AllDigits, IsNumeral, digits_value}
 use Rattle.std.proofs.lemmas.List.{append-nil}
 use Rattle.std.proofs.lemmas.Bool.{ltb-true, eqb-true}
 use Rattle.gf_fraction.specs.Ratio.{signed}
-use Rattle.gf_fraction.specs.NumberSpelling.{Reading, IsSign, IsPlain, IsExponent, HasShape, Spells}
+use Rattle.gf_fraction.specs.NumberSpelling.{Reading, IsSign, IsPlain, IsExponent, HasShape}
+use Rattle.gf_fraction.specs.NumberSpelling.{SpellsReading}
 use Rattle.gf_fraction.specs.NumberSpelling.Reading.{decimal, rational}
 use Rattle.gf_fraction.specs.NumberSpelling.IsSign.{absent, plus, minus}
 use Rattle.gf_fraction.specs.NumberSpelling.IsPlain.{whole, pointed}
@@ -233,7 +234,7 @@ found text s h = subst (λ t. Found t s) (leading_behind text)
 -- with the sign
 pub record FoundNumber (text : List ℕ) (negative : Bool) (spelling : Spelling) : Type 0 where
   pub reading : Reading
-  pub spelled : Spells text negative reading
+  pub spelled : SpellsReading text negative reading
   pub is : spelling ≡ held reading
 
 pub found_number : (text : List ℕ) (s : Spelling) → scan (after_sign text) ≡ Some s

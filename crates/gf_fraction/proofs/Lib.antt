@@ -3,7 +3,6 @@ pub mod Integers
 pub mod LeadingDigits
 pub mod Divisors
 pub mod OddParts
-pub mod LowestDecimals
 pub mod SmallFactors
 pub mod LowestTerms
 pub mod EqualRatios

@@ -1,6 +1,7 @@
 -- Ratios in lowest terms: when they are fractions, which value they have, and that no other ratio
 -- has it.
-use Rattle.std.proofs.Common.{◌≡◌, ℕ, ℤ, Bool, pos, ◌*◌, ◌^◌, ◌<◌, ◌≤◌, arith, ap, sym, ◌∙◌, subst}
+use Rattle.std.proofs.Common.{◌≡◌, ℕ, ℤ, Bool, pos, ◌*◌, ◌^◌, ◌<◌, ◌≤◌, arith, ap, refl, sym}
+use Rattle.std.proofs.Common.{◌∙◌, subst}
 use Rattle.std.specs.Prelude.{◌*ℤ◌, unsigned_abs, int_lt}
 use Rattle.std.specs.Int.{IsGcd, ◌∣◌}
 use Rattle.std.proofs.lemmas.Int.{unsigned_abs-mul}
@@ -58,6 +59,12 @@ reduced_value z low size d p q e is l =
     let F : ℤ → ℤ → Type 0 = λ num value. HasValue (record { num = num; den = q }) value d in
     let value : F (signed s p) z = subst (F (signed s p)) n (value_from s size d p q is) in
     subst (λ num. F num z) (sym l) value
+
+pub signed_value : (z : ℤ) (size d p q : ℕ) (r : Ratio) → size ≡ unsigned_abs z
+    → IsLowest size d p q → r ≡ record { num = signed (int_lt z (pos 0)) p; den = q }
+    → HasValue r z d
+signed_value z size d p q r e low is =
+    subst (λ x. HasValue x z d) (sym is) (reduced_value z _ size d p q e low refl)
 
 -- lowest terms, of any size
 pub record IsLowestRatio (r : Ratio) : Type 0 where

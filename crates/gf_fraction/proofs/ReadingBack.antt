@@ -8,8 +8,8 @@ use Rattle.std.proofs.lemmas.Int.{ints}
 use Rattle.std.proofs.lemmas.Bool.{eqb-true}
 use Rattle.std.proofs.lemmas.Fmt.{decimal_is_IsNumeral_wide}
 use Rattle.gf_fraction.specs.Ratio.{Ratio, IsFraction, HasValue, signed}
-use Rattle.gf_fraction.specs.NumberSpelling.{Reading, IsSign, Spells, IsNumber, HasNumberFault}
-use Rattle.gf_fraction.specs.NumberSpelling.{IsBounded, Reads, size_of, den_of}
+use Rattle.gf_fraction.specs.NumberSpelling.{Reading, IsSign, SpellsReading, IsNumber}
+use Rattle.gf_fraction.specs.NumberSpelling.{HasNumberFault, IsBounded, Reads, size_of, den_of}
 use Rattle.gf_fraction.specs.NumberSpelling.Reading.{decimal, rational}
 use Rattle.gf_fraction.specs.NumberSpelling.IsSign.{absent, minus}
 use Rattle.gf_fraction.specs.NumberSpelling.IsPlain.{whole}
@@ -25,8 +25,8 @@ use Rattle.gf_fraction.proofs.AnswersFromScans.{scan_spelled, bounded_kept, boun
 use Rattle.gf_fraction.proofs.AnswersFromScans.{zero_kept}
 
 -- two readings of one text agree but for what is too large
-module _ (text : List ℕ) (m n : Bool) (x y : Reading) (hx : Spells text m x)
-    (hy : Spells text n y) where
+module _ (text : List ℕ) (m n : Bool) (x y : Reading) (hx : SpellsReading text m x)
+    (hy : SpellsReading text n y) where
   same_held : held x ≡ held y
   same_held = let a = (scan_spelled text m x hx).1 in let b = (scan_spelled text n y hy).1 in cc
 

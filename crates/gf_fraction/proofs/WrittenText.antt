@@ -25,7 +25,7 @@ pub number_parts : (z : ℤ) (d : ℕ)
 unfolding number_text
 number_parts z d = part (d == 1) (signed_decimal z) (decimal d)
 
--- digits are written behind what is kept
+-- digits are written after what is kept
 pub digits_from : (old new number rest : List ℕ) (start : ℕ)
     → take start new ≡ take start old → drop start new ≡ number ++ rest
     → take (start + length number) new ≡ take start old ++ number

@@ -52,7 +52,7 @@ pub data HasShape : List ℕ → Reading → Type 0 where
       → HasShape (num ++ codes "/" ++ den) (rational (digits_value 10 num) (digits_value 10 den))
 
 -- the text is a sign, or none, followed by one of the shapes
-pub record Spells (text : List ℕ) (negative : Bool) (reading : Reading) : Type 0 where
+pub record SpellsReading (text : List ℕ) (negative : Bool) (reading : Reading) : Type 0 where
   pub sign : List ℕ
   pub rest : List ℕ
   pub spelled : text ≡ sign ++ rest
@@ -97,7 +97,7 @@ IsBounded (rational num den) = (num < 2 ^ 127) × (den < 2 ^ 127)
 pub record IsNumber (text : List ℕ) (r : Ratio) : Type 0 where
   pub negative : Bool
   pub reading : Reading
-  pub spelled : Spells text negative reading
+  pub spelled : SpellsReading text negative reading
   pub den_above_zero : 0 < den_of reading
   pub bounded : IsBounded reading
   pub fraction : IsFraction r
@@ -107,14 +107,14 @@ pub record IsNumber (text : List ℕ) (r : Ratio) : Type 0 where
 pub record HasZeroDenominator (text : List ℕ) : Type 0 where
   pub negative : Bool
   pub reading : Reading
-  pub spelled : Spells text negative reading
+  pub spelled : SpellsReading text negative reading
   pub zero : den_of reading ≡ 0
 
 -- the text has one of the shapes, and no zero denominator, but breaks a bound
 pub record IsTooLarge (text : List ℕ) : Type 0 where
   pub negative : Bool
   pub reading : Reading
-  pub spelled : Spells text negative reading
+  pub spelled : SpellsReading text negative reading
   pub den_above_zero : 0 < den_of reading
   pub unbounded : ¬ (IsBounded reading)
 
@@ -122,7 +122,7 @@ pub record IsTooLarge (text : List ℕ) : Type 0 where
 -- otherwise it breaks a bound
 abbrev pub HasNumberFault : List ℕ → NumberFault → Type 0
 HasNumberFault text NotANumber =
-    (negative : Bool) (reading : Reading) → ¬ (Spells text negative reading)
+    (negative : Bool) (reading : Reading) → ¬ (SpellsReading text negative reading)
 HasNumberFault text ZeroDenominator = HasZeroDenominator text
 HasNumberFault text TooLarge = IsTooLarge text
 

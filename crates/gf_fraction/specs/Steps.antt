@@ -3,6 +3,7 @@
 use Rattle.std.specs.Prelude.{◌≡◌, ℕ, ℤ, pos, ◌+ℤ◌, ◌*ℤ◌, ◌*◌, ◌%◌, ◌^◌, ◌<◌}
 use Rattle.std.specs.Int.{IsGcd, ◌∣◌}
 use Rattle.gf_fraction.specs.Ratio.{IsWithin}
+use Rattle.gf_fraction.specs.declared.lowest.Factors.{Factors}
 
 -- each common divisor of n and d divides k, and k divides d
 pub record HoldsCommon (n d k : ℕ) : Type 0 where
@@ -21,6 +22,10 @@ pub record IsLowest (n d p q : ℕ) : Type 0 where
 pub record IsPrime (p : ℕ) : Type 0 where
   pub above_one : 1 < p
   pub apart : (n : ℕ) → 0 < n % p → IsGcd n p 1
+
+-- the product of these
+abbrev pub factored : Factors → ℕ
+factored f = f.rest * 5 ^ f.fives * 3 ^ f.threes * 2 ^ f.twos
 
 -- p over q is n over d, and each common divisor of p and q divides k
 pub record IsReduced (n d p q k : ℕ) : Type 0 where

@@ -7,9 +7,8 @@ ghost use Rattle.gf_fraction.specs.Ratio.{HasValue, IsFraction, IsWithin, signed
 ghost use Rattle.gf_fraction.specs.Fits.{IsProduct, IsSum, ProductFits, SumFits};
 ghost use Rattle.gf_fraction.specs.Steps.{HoldsCommon};
 
-use crate::arithmetic::{
-    LARGEST, Overflow, gcd, lowest, product, quotient, sum_over, total, with_sign,
-};
+use crate::arithmetic::{LARGEST, Overflow, gcd, product, quotient, sum_over, total, with_sign};
+use crate::lowest::lowest;
 use std::alloc::AllocError;
 use std::marker::Model;
 

@@ -10,8 +10,11 @@
 mod arithmetic;
 mod fraction;
 pub mod laws;
+mod lowest;
 mod read;
+mod shared;
 mod write;
 
 pub use crate::arithmetic::Overflow;
 pub use crate::fraction::{Fraction, NumberFault};
+pub use crate::shared::SharedDenominator;

@@ -12,8 +12,9 @@ ghost use Rattle.gf_fraction.specs.NumberScan.{behind, capped, is_minus, leading
 ghost use Rattle.gf_fraction.specs.NumberScan.{reading_of, scan, scan_decimal, scan_exponent};
 ghost use Rattle.gf_fraction.specs.NumberScan.{scan_fraction};
 
-use crate::arithmetic::{LARGEST, lowest_decimal, lowest_words, product, with_sign};
+use crate::arithmetic::{LARGEST, product, with_sign};
 use crate::fraction::{Fraction, NumberFault};
+use crate::lowest::{lowest_decimal, lowest_words};
 
 /// Stands for any number above `LARGEST`: all that matters about such a number is that it is too
 /// large.

@@ -2,6 +2,7 @@
 
 ghost use Rattle.std.specs.Prelude.{◌≡◌, ◌+◌, ◌++◌, ◌<◌, ◌≤◌, [], length, codes, take};
 ghost use Rattle.std.specs.Prelude.{decimal, OnErr, OnOk, if◌then◌else◌, ◌==◌};
+ghost use Rattle.std.specs.Prelude.{vec_capacity, vec_len};
 ghost use Rattle.gf_fraction.specs.NumberText.{number_text};
 
 use crate::fraction::Fraction;
@@ -88,6 +89,9 @@ fn write_words(num: i64, den: u64, out: &mut Vec<u8>) -> Result<(), AllocError>
     ensures ok { OnOk result
         (out.new.items ≡ out.old.items ++ number_text (record { num = num; den = den })) }
     ensures err { OnErr result (out.new.items ≡ out.old.items) }
+    ensures full { OnErr result (vec_capacity out.old < vec_len out.old + 80) }
+    ensures grown { vec_len out.new ≤ vec_len out.old + 80 }
+    ensures capacity { vec_capacity out.old ≤ vec_capacity out.new }
 {
     // A sign is present about as often as not, so the minus is stored without a branch. What is
     // stored past the end is cut off.
@@ -105,6 +109,9 @@ fn write_wide(num: i128, den: u128, out: &mut Vec<u8>) -> Result<(), AllocError>
     ensures ok { OnOk result
         (out.new.items ≡ out.old.items ++ number_text (record { num = num; den = den })) }
     ensures err { OnErr result (out.new.items ≡ out.old.items) }
+    ensures full { OnErr result (vec_capacity out.old < vec_len out.old + 80) }
+    ensures grown { vec_len out.new ≤ vec_len out.old + 80 }
+    ensures capacity { vec_capacity out.old ≤ vec_capacity out.new }
 {
     let mut buffer = Buffer::new();
     let num = buffer.format(num).as_bytes();
@@ -125,11 +132,15 @@ impl Fraction {
     ///
     /// # Errors
     ///
-    /// `AllocError` if memory is refused; the vector's items are then as they were.
+    /// `AllocError` if memory is refused, which can only be if the vector has not room for 80 bytes
+    /// more; its items are then as they were.
     #[inline(always)]
     pub fn write(self, out: &mut Vec<u8>) -> Result<(), AllocError>
         ensures ok { OnOk result (out.new.items ≡ out.old.items ++ number_text self) }
         ensures err { OnErr result (out.new.items ≡ out.old.items) }
+        ensures full { OnErr result (vec_capacity out.old < vec_len out.old + 80) }
+        ensures grown { vec_len out.new ≤ vec_len out.old + 80 }
+        ensures capacity { vec_capacity out.old ≤ vec_capacity out.new }
     {
         // Both parts are passed in registers: it takes long to read back what was only just stored.
         let (num, den) = (self.num(), self.den());

@@ -16,7 +16,7 @@ pub use Rattle.gf_nfg.specs.LimitByFiles.{IsLimitByFiles, StaysWithinLimit}
 pub use Rattle.gf_nfg.specs.LimitPlace.{GivesCounts, IsLimitPlace, IsWithinLimit}
 pub use Rattle.gf_nfg.specs.ProfilePlaces.{IsProfile, place}
 pub use Rattle.gf_nfg.specs.Profiles.{numbers_from, positions, product, profiles}
-pub use Rattle.gf_nfg.specs.Reason.{Applies, Holds, IsReason}
+pub use Rattle.gf_nfg.specs.Reason.{Applies, IsReason}
 pub use Rattle.gf_nfg.specs.SameTable.{SamePlay, SameTable}
 pub use Rattle.gf_nfg.specs.Sentence.{IsCount, IsLabelList, IsOutcomeBody, IsOutcomeInBraces}
 pub use Rattle.gf_nfg.specs.Sentence.{IsOutcomeNumber, IsPayoff, IsPayoffBody, IsStrategicFile}
@@ -24,8 +24,8 @@ pub use Rattle.gf_nfg.specs.Sentence.{Pays, Sentence, counted_labels}
 pub use Rattle.gf_nfg.specs.Table.{Entry, IsSpellable, IsTable, Table, rows}
 pub use Rattle.gf_nfg.specs.TableAccess.{IsTableOf, payoffs_at}
 pub use Rattle.gf_nfg.specs.TableParts.{AreParts, AreShared, AreSpellings, HasRows, IsCut, IsHeld}
-pub use Rattle.gf_nfg.specs.TableParts.{Names, RisesTo, entries_of, groups, kept_row}
-pub use Rattle.gf_nfg.specs.TableParts.{numbers_of, own_of, pieces, place_of, row_of}
+pub use Rattle.gf_nfg.specs.TableParts.{IsPlaced, Names, RisesTo, entries_of, groups, kept_row}
+pub use Rattle.gf_nfg.specs.TableParts.{kept_rows, no_pay, own_of, pieces, row_of, rows_of}
 pub use Rattle.gf_nfg.specs.TableParts.{start_of, table_with}
 pub use Rattle.gf_nfg.specs.TableText.{SpellsTable, lines_text, list_text, named_by, quoted, spaced}
 pub use Rattle.gf_nfg.specs.TableText.{table_text}
@@ -35,7 +35,7 @@ pub use Rattle.gf_nfg.specs.declared.reader.Reader.{Reader}
 pub use Rattle.gf_nfg.specs.declared.reader.receive.Version.TheVariants.{Outcomes, Payoffs}
 pub use Rattle.gf_nfg.specs.declared.table.heading.Heading.{Heading}
 pub use Rattle.gf_nfg.specs.inner.Classes.{LeadBack, ShareRows}
-pub use Rattle.gf_nfg.specs.inner.ComparedTable.{ComparesBody, IsCompared}
+pub use Rattle.gf_nfg.specs.inner.ComparedTable.{IsCompared}
 pub use Rattle.gf_nfg.specs.inner.Heard.{Answer, Fails, Goes, HasPassed, HasPassedPlace, at_end}
 pub use Rattle.gf_nfg.specs.inner.Heard.{heard, is_past, read_on, taken, then_on, within}
 pub use Rattle.gf_nfg.specs.inner.Machine.{Content, State, at, chosen, counted, due_at, ended}
@@ -43,29 +43,28 @@ pub use Rattle.gf_nfg.specs.inner.Machine.{finish, listed, next_outcome, nothing
 pub use Rattle.gf_nfg.specs.inner.Machine.{settled, start, step, step_at, to, with_choices}
 pub use Rattle.gf_nfg.specs.inner.Machine.{with_comment, with_count, with_labels, with_payoffs}
 pub use Rattle.gf_nfg.specs.inner.Machine.{with_players, with_title, ◌>>=◌}
-pub use Rattle.gf_nfg.specs.inner.Meaning.{HasLabels, HasPayoffs, IsComplete, names_in}
-pub use Rattle.gf_nfg.specs.inner.Meaning.{rows_by, strategies_of, table_of}
-pub use Rattle.gf_nfg.specs.inner.PayoffLists.{payoffs_in, rows_in}
+pub use Rattle.gf_nfg.specs.inner.Meaning.{HasLabels, HasPayoffs, IsComplete, names_in, rows_by}
+pub use Rattle.gf_nfg.specs.inner.Meaning.{strategies_of, table_of}
+pub use Rattle.gf_nfg.specs.inner.PayoffLists.{rows_in}
 pub use Rattle.gf_nfg.specs.inner.Position.Position.{AfterBracedPayoff, BeforeList, BeforePlayers}
 pub use Rattle.gf_nfg.specs.inner.Position.Position.{BracedPayoff, Counts, FirstStrategies}
 pub use Rattle.gf_nfg.specs.inner.Position.Position.{FlatPayoffs, InList, InOutcomes, InPlayers}
 pub use Rattle.gf_nfg.specs.inner.Position.Position.{OutcomeName, OutcomeNumbers}
 pub use Rattle.gf_nfg.specs.inner.Position.{Position as p, Position}
-pub use Rattle.gf_nfg.specs.inner.ReaderState.{HasMore, HasTold, HasToldAll, answer, body_answer}
-pub use Rattle.gf_nfg.specs.inner.ReaderState.{content_in, content_of, content_told, content_with}
-pub use Rattle.gf_nfg.specs.inner.ReaderState.{labels_of, list_answer, told_answer}
+pub use Rattle.gf_nfg.specs.inner.ReaderState.{HasMore, HasToldAll, StandsAt, Telling, answer}
+pub use Rattle.gf_nfg.specs.inner.ReaderState.{body_answer, told_of, content_in, content_of}
+pub use Rattle.gf_nfg.specs.inner.ReaderState.{content_told, content_with, labels_of, list_answer}
+pub use Rattle.gf_nfg.specs.inner.ReaderState.{told_answer}
 pub use Rattle.gf_nfg.specs.inner.TextParts.{Keeps, first_line, heading_text, line_text, lines_with}
 pub use Rattle.gf_nfg.specs.inner.TextParts.{names_by, others_text, row_text}
-pub use Rattle.gf_nfg.specs.inner.Told.{Told, choosing, paying, told_heading, with_number}
-pub use Rattle.gf_nfg.specs.inner.Told.{with_payoff}
+pub use Rattle.gf_nfg.specs.inner.Told.{Told, told_heading, with_number, with_payoff}
 pub use Rattle.gf_nfg.specs.inner.ToldTable.{HasToldTable, MeansTable}
-pub use Rattle.gf_nfg.specs.inner.ToldText.{AreLaid, AreLines, HasBody, HasText, begun_text}
-pub use Rattle.gf_token.proofs.Places.{PartsBefore, begins_front, first_and_rest, one_code}
-pub use Rattle.gf_token.proofs.Places.{one_offending_place, one_span, overtaken, parts, same_span}
-pub use Rattle.gf_token.proofs.Places.{tokens_on}
+pub use Rattle.gf_nfg.specs.inner.ToldText.{AreLaid, HasText, laid_lines}
+pub use Rattle.gf_token.proofs.Places.{first_and_rest, begins_front, one_offending_place, overtaken}
+pub use Rattle.gf_token.proofs.Places.{PartsBefore, one_code, one_span, parts, same_span, tokens_on}
 pub use Rattle.gf_token.proofs.ReadingIndices.{count_again, count_is, index_again, index_is}
-pub use Rattle.gf_token.proofs.Spelled.{found, same_tokens, spelled_once, wider}
-pub use Rattle.gf_token.proofs.SpelledNumbers.{decimal_is_index, number_spelled}
+pub use Rattle.gf_token.proofs.Spelled.{found, same_tokens, spelled_once}
+pub use Rattle.gf_token.proofs.SpelledNumbers.{number_spelled}
 pub use Rattle.gf_token.specs.Code.{code_of}
 pub use Rattle.gf_token.specs.Grammar.{Each, IsComment, IsPayoffInBraces, braced}
 pub use Rattle.gf_token.specs.Index.{IsIndex}
@@ -78,48 +77,44 @@ pub use Rattle.gf_token.specs.Place.{Begins, IsAccepted, IsOffendingPlace, IsSpa
 pub use Rattle.gf_token.specs.Place.{tokens_of}
 pub use Rattle.gf_token.specs.Remaining.{AreInOrder, Remaining, StandsBefore}
 pub use Rattle.gf_token.specs.Token.Token.{Bare, Broken, Closing, Comma, Opening, Text}
-pub use Rattle.gf_token.specs.Token.{Lexeme, Token, lexeme, spelling}
-pub use Rattle.gf_token.specs.TokenSpelling.{GoesOn, IsSpelled, MayPrecede, Spells}
+pub use Rattle.gf_token.specs.Token.{Lexeme, Token, lexeme}
+pub use Rattle.gf_token.specs.TokenSpelling.{IsSpelled, Spells}
 pub use Rattle.gf_token.specs.declared.fault.Fault.{Fault}
 pub use Rattle.gf_token.specs.declared.fault.Span.{Span}
 pub use Rattle.gf_token.specs.declared.fault.What.{What}
 pub use Rattle.gf_token.specs.declared.fault.Why.TheVariants.{BadIndex, Expected, Memory, NoEntry}
-pub use Rattle.gf_token.specs.declared.fault.Why.TheVariants.{NotANumber, NumberTooLarge, TooLong}
-pub use Rattle.gf_token.specs.declared.fault.Why.TheVariants.{TooManyProfiles, UnknownOutcome}
-pub use Rattle.gf_token.specs.declared.fault.Why.TheVariants.{Unterminated, ZeroDenominator}
+pub use Rattle.gf_token.specs.declared.fault.Why.TheVariants.{NotANumber, TooLong, TooManyProfiles}
+pub use Rattle.gf_token.specs.declared.fault.Why.TheVariants.{UnknownOutcome, Unterminated}
+pub use Rattle.gf_token.specs.declared.fault.Why.TheVariants.{ZeroDenominator}
 pub use Rattle.gf_token.specs.declared.fault.Why.{Why}
 pub use Rattle.gf_token.specs.declared.label.Label.{Label}
 pub use Rattle.gf_token.specs.inner.Lexing.Mode.{Gap}
 pub use Rattle.std.proofs.Common.{Bool, Err, IfOk, List, None, Ok, Option, Result, Some, [], ap}
-pub use Rattle.std.proofs.Common.{append-nil, append_assoc, arith, cond, drop, false, get_or, inl}
-pub use Rattle.std.proofs.Common.{inr, length, length-append, length-drop, length-take}
-pub use Rattle.std.proofs.Common.{length-take-le, map, min, nat_eq, nat_lt, option_map, pos, refl}
-pub use Rattle.std.proofs.Common.{replicate, rules, set, slice_get, subst, suc, sym, take, tests}
-pub use Rattle.std.proofs.Common.{true, zero, ℕ, ℤ, ◌%◌, ◌*◌, ◌++◌, ◌+◌, ◌-◌, ◌/◌, ◌<◌, ◌^◌, ◌∙◌}
-pub use Rattle.std.proofs.Common.{◌∷◌, ◌≡◌, ◌≢◌, ◌≤◌}
-pub use Rattle.std.proofs.Math.Nat.{le-div_iff_mul-le, mul-div_cancel, mul-le-mul_left}
-pub use Rattle.std.proofs.Math.Nat.{mul-le-mul_right, mul-one, mul-suc, mul_assoc, mul_comm}
-pub use Rattle.std.proofs.Math.Nat.{one-le-mul}
-pub use Rattle.std.proofs.Math.Seq.{take-append-add, take-append_seam}
+pub use Rattle.std.proofs.Common.{append-nil, append_assoc, arith, drop, false, get_or, inl, inr}
+pub use Rattle.std.proofs.Common.{length, length-append, length-drop, length-take, map, min, nat_eq}
+pub use Rattle.std.proofs.Common.{nat_lt, option_map, pos, refl, replicate, rules, set, slice_get}
+pub use Rattle.std.proofs.Common.{subst, suc, sym, take, tests, true, zero, ℕ, ℤ, ◌*◌, ◌++◌, ◌+◌}
+pub use Rattle.std.proofs.Common.{◌-◌, ◌/◌, ◌<◌, ◌^◌, ◌∙◌, ◌∷◌, ◌≡◌, ◌≢◌, ◌≤◌}
+pub use Rattle.std.proofs.Math.Nat.{le-div_iff_mul-le, mul-le-mul_left, mul-le-mul_right, mul_assoc}
+pub use Rattle.std.proofs.Math.Nat.{mul-div_cancel, mul-one, mul-suc, mul_comm, one-le-mul}
+pub use Rattle.std.proofs.Math.Seq.{take-append_seam}
 pub use Rattle.std.proofs.lemmas.Bool.Decides.{Decides-eqb, Decides-int_eq, nat_tests}
 pub use Rattle.std.proofs.lemmas.Bool.{and_from, and_parts, cases_eq, cases_lt, le-leb, lt-ltb}
-pub use Rattle.std.proofs.lemmas.Bool.{cases_Bool, false_from_ne_true, not-false}
+pub use Rattle.std.proofs.lemmas.Bool.{false_from_ne_true, not-false}
 pub use Rattle.std.proofs.lemmas.Grind.{flat_map-append, get_or-set_at, get_or_default_zero}
 pub use Rattle.std.proofs.lemmas.List.{at_drop_more, drop-append-le, drop-drop, drop-map, drop_all}
 pub use Rattle.std.proofs.lemmas.List.{drop_at, drop_min, drop_more, get_or-drop, get_or-map}
 pub use Rattle.std.proofs.lemmas.List.{get_or-set_other, get_or-take, get_or_at, get_or_default}
 pub use Rattle.std.proofs.lemmas.List.{get_or_past, length-map, length-replicate, length-set}
-pub use Rattle.std.proofs.lemmas.List.{map-append, map_push, same_lists, take-append-drop}
-pub use Rattle.std.proofs.lemmas.List.{same_from_push, take_at, take_more_same, take-append-le}
-pub use Rattle.std.proofs.lemmas.List.{take-map, take-take, take_all, take_min, take_more}
+pub use Rattle.std.proofs.lemmas.List.{map-append, map_push, same_lists, take-append-drop, take_at}
+pub use Rattle.std.proofs.lemmas.List.{take_more_same, take-append-le, take-map, take-take}
+pub use Rattle.std.proofs.lemmas.List.{take_all, take_min, take_more}
 pub use Rattle.std.proofs.lemmas.Option.{get_or_from_slice_get, slice_get-get_or, slice_get-map}
-pub use Rattle.std.proofs.lemmas.Option.{slice_get_within, unwrap_or-slice_get}
-pub use Rattle.std.proofs.lemmas.Result.{IfOk-weaker}
+pub use Rattle.std.proofs.lemmas.Option.{slice_get_within}
 pub use Rattle.std.proofs.lemmas.Slice.Eq.{slice_eq-Decides}
 pub use Rattle.std.specs.Cmp.Lexicographic.{pointwise}
 pub use Rattle.std.specs.List.{AllByRecursion, AllZip, Contains, flat_map, join_with_byte}
 pub use Rattle.std.specs.List.{range_with_len}
-pub use Rattle.std.specs.Prelude.{IfErr, IsSome, IsSomeAnd, IsTrue, MatchResult, OnErr, OnOk}
-pub use Rattle.std.specs.Prelude.{SomeIff, Vec, codes, decimal, if◌then◌else◌, is_ok, max, nat_le}
-pub use Rattle.std.specs.Prelude.{not, option_and_then, sum, unwrap_or, vec_len, ◌&&◌, ◌==◌, ◌||◌}
-pub use Rattle.std.specs.Prelude.{◌↔◌, ◌⊎◌}
+pub use Rattle.std.specs.Prelude.{IfErr, IsTrue, MatchResult, OnErr, OnOk, Vec, codes, decimal}
+pub use Rattle.std.specs.Prelude.{if◌then◌else◌, is_ok, max, nat_le, not, sum, unwrap_or, vec_len}
+pub use Rattle.std.specs.Prelude.{◌&&◌, ◌==◌, ◌||◌, ◌↔◌, ◌⊎◌}

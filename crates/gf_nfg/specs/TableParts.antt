@@ -1,11 +1,11 @@
 -- How the parts of a table are kept.
-use Rattle.std.specs.Prelude.{◌≡◌, ℕ, zero, suc, pos, ◌+◌, ◌-◌, ◌*◌, ◌<◌, ◌≤◌, List, [], ◌++◌, ◌∷◌}
-use Rattle.std.specs.Prelude.{take, drop, length, slice_get, replicate, Option, Some, None}
-use Rattle.std.specs.Prelude.{option_map, unwrap_or, map, nat_lt, if◌then◌else◌}
+use Rattle.std.specs.Prelude.{◌≡◌, ℕ, zero, suc, pos, ◌-◌, ◌*◌, ◌<◌, ◌≤◌, List, [], ◌++◌, ◌∷◌}
+use Rattle.std.specs.Prelude.{take, drop, get_or, length, slice_get, replicate, unwrap_or, map}
 use Rattle.std.specs.List.{AllByRecursion, flat_map}
 use Rattle.gf_fraction.specs.Ratio.{IsFraction, Ratio, whole}
 use Rattle.gf_token.specs.LabelSpelling.{IsLabel}
-use Rattle.gf_nfg.specs.Profiles.{positions, product, profiles}
+use Rattle.gf_nfg.specs.ProfilePlaces.{IsProfile, place}
+use Rattle.gf_nfg.specs.Profiles.{product, profiles}
 use Rattle.gf_nfg.specs.Limit.{profile_limit}
 use Rattle.gf_nfg.specs.LimitPlace.{IsWithinLimit}
 use Rattle.gf_nfg.specs.Table.{Entry, Table, IsSpellable, IsTable, rows}
@@ -54,7 +54,7 @@ pub record Names : Type 0 where
 
 -- the strategies of the player at this place
 abbrev pub own_of : Names → ℕ → List (List ℕ)
-own_of names at = unwrap_or (slice_get names.strategies at) []
+own_of names at = get_or names.strategies at []
 
 -- the heading is the title and the comment
 abbrev pub names_of : List (List ℕ) → List (List ℕ) → List (List (List ℕ)) → Names
@@ -94,14 +94,24 @@ abbrev pub kept_row : ℕ → List Ratio → List Ratio → ℕ → List Ratio
 kept_row players payoffs zeros zero = zeros
 kept_row players payoffs zeros (suc k) = take players (drop (k * players) payoffs)
 
--- the same; at 0 each player is paid zero
-abbrev pub row_of : ℕ → List Ratio → ℕ → List Ratio
-row_of players payoffs = kept_row players payoffs (replicate players (whole (pos 0)))
+-- nothing for each player
+abbrev pub no_pay : ℕ → List Ratio
+no_pay players = replicate players (whole (pos 0))
 
--- the number of the row of each profile; if none is chosen, the number of the profile itself
-abbrev pub numbers_of : ℕ → List ℕ → List ℕ
-numbers_of count [] = positions count
-numbers_of count (k ∷ choices) = k ∷ choices
+-- the row with this number; at 0 each player is paid zero
+abbrev pub row_of : ℕ → List Ratio → ℕ → List Ratio
+row_of players payoffs = kept_row players payoffs (no_pay players)
+
+-- this many lists of this length, one after another
+abbrev pub rows_of : {A : Type 0} → ℕ → ℕ → List A → List (List A)
+rows_of size zero items = []
+rows_of size (suc n) items = take size items ∷ rows_of size n (drop size items)
+
+-- the rows of this many profiles, which have these numbers; without numbers they come in turn
+abbrev pub kept_rows : ℕ → ℕ → List Ratio → List Ratio → List ℕ → List (List Ratio)
+kept_rows players count payoffs zeros [] = rows_of players count payoffs
+kept_rows players count payoffs zeros (k ∷ numbers) =
+    map (kept_row players payoffs zeros) (k ∷ numbers)
 
 -- a number for each profile, below a bound: profiles with the same number have the same row, and
 -- each number has a row
@@ -129,18 +139,15 @@ pub record AreParts (names : Names) (payoffs : List Ratio) : Type 0 where
   pub spelled : AreSpellings (names.title ∷ names.comment
       ∷ (names.players ++ flat_map (λ own. own) names.strategies))
 
--- there is a row with the number of each profile
-pub record HasRows (players count : ℕ) (payoffs : List Ratio) (numbers : List ℕ) : Type 0 where
-  pub one_number_each : length numbers ≡ count
-  pub rows_kept : AllByRecursion (λ number. number * players ≤ length payoffs) numbers
+-- there is a row for each profile, in turn or with its number
+abbrev pub HasRows : ℕ → ℕ → List Ratio → List ℕ → Type 0
+HasRows players count payoffs [] = length payoffs ≡ count * players
+HasRows players count payoffs (k ∷ numbers) = (length (k ∷ numbers) ≡ count)
+    × AllByRecursion (λ number. number * players ≤ length payoffs) (k ∷ numbers)
 
 -- ---- profiles
 
--- the place of a profile, from 0, among those of players with this many strategies; none if it is
--- not one of them
-abbrev pub place_of : List ℕ → List ℕ → Option ℕ
-place_of [] [] = Some 0
-place_of (count ∷ counts) (suc k ∷ others) =
-    if nat_lt k count then option_map (λ place. place * count + k) (place_of counts others)
-    else None
-place_of _ _ = None
+-- a profile of players with this many strategies, and its place
+pub record IsPlaced (counts profile : List ℕ) (k : ℕ) : Type 0 where
+  pub is_profile : IsProfile counts profile
+  pub place_is : k ≡ place counts profile

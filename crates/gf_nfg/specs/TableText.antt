@@ -1,26 +1,11 @@
 -- The canonical text of a table.
-use Rattle.std.specs.Prelude.{ℕ, Bool, List, [], ◌∷◌, ◌++◌, map, codes, if◌then◌else◌}
-use Rattle.std.specs.List.{join_with_byte, flat_map}
+use Rattle.std.specs.Prelude.{ℕ, Bool, List, [], ◌∷◌, map, codes, if◌then◌else◌}
+pub use Rattle.gf_token.specs.TextLayout.{lines_text, list_text, quoted, spaced}
 use Rattle.gf_token.specs.Token.{Lexeme}
 use Rattle.gf_token.specs.TokenSpelling.{Spells}
 use Rattle.gf_fraction.specs.NumberText.{number_text}
 use Rattle.gf_nfg.specs.Table.{Table, rows}
 use Rattle.gf_nfg.specs.Sentence.{Sentence}
-
--- tokens joined by one space
-abbrev pub spaced : List (List ℕ) → List ℕ
-spaced tokens = join_with_byte 32 tokens
-
--- a list in braces, `{ }` if it is empty
-abbrev pub list_text : List (List ℕ) → List ℕ
-list_text items = spaced (codes "{" ∷ (items ++ codes "}" ∷ []))
-
-abbrev pub quoted : List ℕ → List ℕ
-quoted label = 34 ∷ (label ++ 34 ∷ [])
-
--- each line ends in one line feed
-abbrev pub lines_text : List (List ℕ) → List ℕ
-lines_text lines = flat_map (λ line. line ++ 10 ∷ []) lines
 
 -- format, title and players; the strategies; the comment; an empty line; the payoffs at each
 -- profile

@@ -6,8 +6,6 @@ ghost use Rattle.gf_token.specs.declared.fault.Why.TheVariants.{Memory};
 ghost use Rattle.gf_nfg.specs.inner.ComparedTable.{IsCompared};
 ghost use Rattle.gf_nfg.specs.Judgement.{IsJudged};
 ghost use Rattle.gf_nfg.specs.LimitPlace.{IsWithinLimit};
-ghost use Rattle.gf_nfg.specs.inner.Meaning.{table_of};
-ghost use Rattle.gf_nfg.specs.inner.ReaderState.{content_told};
 ghost use Rattle.gf_nfg.specs.SameTable.{SameTable};
 ghost use Rattle.gf_nfg.specs.Table.{Table as table, rows};
 ghost use Rattle.gf_nfg.specs.TableText.{SpellsTable, named_by};
@@ -118,10 +116,10 @@ impl<'t> Comparison<'t> {
     ) -> Result<bool, AllocError>
         requires { (bytes : List ℕ) × HasToldTable
             (IsCompared (flat_map (λ row. row) (rows t.now))) bytes heading self }
-        ensures { (bytes : List ℕ) → (h : HasToldTable
-            (IsCompared (flat_map (λ row. row) (rows t.now))) bytes heading.entry self.entry)
-            → IfOk result (λ answer. IsTrue answer ↔ SameTable (named_by named t.now)
-            (named_by named (table_of (content_told h.told)))) }
+        ensures { (bytes : List ℕ) → HasToldTable
+            (IsCompared (flat_map (λ row. row) (rows t.now))) bytes heading.entry self.entry
+            → (u : table) × SpellsTable bytes u × IsWithinLimit u × IfOk result (λ answer.
+            IsTrue answer ↔ SameTable (named_by named t.now) (named_by named u)) }
     {
         if self.version == Version::Payoffs {
             let names = heading.names(alloc)?;
@@ -140,6 +138,7 @@ impl<'t> Comparison<'t> {
 }
 
 /// Whether both tables are the same; title and comment count if it is `named`.
+#[tactic(auto, using(crate::proofs::lemmas::tables::Listed::same_listed))]
 fn same_table(
     alloc: Global,
     t: &ListedTable,

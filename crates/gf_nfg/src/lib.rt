@@ -19,4 +19,5 @@ pub use crate::table::labels::Labels;
 pub use crate::table::listed::ListedTable;
 pub use crate::text::canonical::canonical_nfg;
 pub use crate::text::pieces::TextPieces;
+pub use crate::text::table_text::{TextAndPayoffs, text_of};
 pub use crate::text::write::write_nfg;

@@ -9,8 +9,8 @@ ghost use Rattle.gf_token.specs.declared.fault.Why.TheVariants.{Memory};
 ghost use Rattle.gf_token.specs.TokenSpelling.{Spells};
 ghost use Rattle.gf_nfg.specs.inner.Heard.{Fails};
 ghost use Rattle.gf_nfg.specs.inner.Machine.{nothing};
-ghost use Rattle.gf_nfg.specs.inner.Position.Position.{Format};
-ghost use Rattle.gf_nfg.specs.inner.ReaderState.{HasCounts, HasToldAll, answer};
+ghost use Rattle.gf_nfg.specs.inner.Position.Position.{FlatPayoffs, Format, InOutcomes};
+ghost use Rattle.gf_nfg.specs.inner.ReaderState.{HasCounts, HasToldAll, StandsAt, Telling, answer};
 ghost use Rattle.gf_nfg.specs.inner.ReaderState.{body_answer, content_in, labels_of};
 ghost use Rattle.gf_nfg.specs.inner.Told.{told_heading};
 ghost use Rattle.gf_nfg.specs.declared.reader.receive.Version.TheVariants as version;
@@ -131,12 +131,12 @@ impl<'a> Reader<'a> {
     /// Reads and tells the payoffs of the players at each profile, to the end.
     #[tactic(auto, using(crate::proofs::lemmas::runs::ReaderSteps::told_ends))]
     fn tell_payoffs<R: Receive<'a>>(&mut self, to: &mut R) -> Result<(), Fault>
-        ensures { (untold : R)
-            → R.holds untold to.old (told_heading version.Payoffs self.old.heading)
-            → MatchResult result
-            (λ _. HasToldAll (R.holds untold) (body_answer version.Payoffs self.old)
-            self.new.heading to.new)
-            (λ f. Fails f (body_answer version.Payoffs self.old)) }
+        ensures { (b : Telling R) → StandsAt R.holds b FlatPayoffs
+            (length self.old.heading.players.items * self.old.heading.profiles.count) 0
+            self.old.tokens to.old
+            → b.heading ≡ self.old.heading → MatchResult result
+            (λ _. HasToldAll (R.holds b.untold) b.whole self.new.heading to.new)
+            (λ f. Fails f b.whole) }
     {
         let due = self.all_payoffs();
         body::payoffs(&mut self.tokens, due, to)?;
@@ -147,12 +147,11 @@ impl<'a> Reader<'a> {
     /// profile, to the end.
     #[tactic(auto, using(crate::proofs::lemmas::runs::ReaderSteps::told_ends))]
     fn tell_outcomes<R: Receive<'a>>(&mut self, to: &mut R) -> Result<(), Fault>
-        ensures { (untold : R)
-            → R.holds untold to.old (told_heading version.Outcomes self.old.heading)
-            → MatchResult result
-            (λ _. HasToldAll (R.holds untold) (body_answer version.Outcomes self.old)
-            self.new.heading to.new)
-            (λ f. Fails f (body_answer version.Outcomes self.old)) }
+        ensures { (b : Telling R) → b.version ≡ version.Outcomes
+            → StandsAt R.holds b InOutcomes 0 0 self.old.tokens to.old
+            → b.heading ≡ self.old.heading → MatchResult result
+            (λ _. HasToldAll (R.holds b.untold) b.whole self.new.heading to.new)
+            (λ f. Fails f b.whole) }
     {
         let outcomes = body::outcomes(&mut self.tokens, self.heading.players.len(), to)?;
         body::numbers(&mut self.tokens, self.heading.profiles.count, outcomes, to)?;

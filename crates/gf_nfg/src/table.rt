@@ -55,6 +55,19 @@ impl Model for Table {
     ghost invariant = { λ t. IsHeld t.names t.payoffs };
 }
 
+/// How many profiles the players of a table with these payoffs have.
+#[tactic(auto, using(crate::proofs::lemmas::tables::Made::counted_profiles))]
+fn profiles_of(names: &Names, payoffs: &[Fraction]) -> u32
+    requires { AreParts names.now payoffs.now }
+    ensures { result ≡ product (map length names.now.strategies) }
+{
+    let players = names.players();
+    if players == 0 {
+        return 1;
+    }
+    (payoffs.len() / players) as u32
+}
+
 impl Table {
     /// The table of these names, with a row at each profile.
     pub(crate) fn of_parts(names: Names, payoffs: Rows) -> Table
@@ -126,14 +139,14 @@ impl Table {
     }
 
     /// The table of these names and of payoffs in the order of a file.
+    #[tactic(auto, using(crate::proofs::lemmas::tables::Made::made_in_turn))]
     fn in_turn(alloc: Global, names: Names, rows: Vec<Fraction>) -> Result<Table, AllocError>
         requires { AreParts names rows.items }
         ensures { IfOk result (λ t. IsTableOf t names.title names.comment names.players
             names.strategies rows.items) }
     {
-        let players = names.players();
-        let profiles = rows.len().checked_div(players).unwrap_or(1);
-        let payoffs = Rows::new(alloc, players, profiles as u32, rows, Vec::new(alloc))?;
+        let profiles = profiles_of(&names, &rows);
+        let payoffs = Rows::new(alloc, names.players(), profiles, rows, Vec::new(alloc))?;
         Ok(Table::of_parts(names, payoffs))
     }
 
@@ -156,6 +169,13 @@ impl Table {
         ensures { result.now ≡ rows self.now }
     {
         &self.payoffs
+    }
+
+    /// The payoffs at each profile, without the names.
+    pub(crate) fn into_rows(self) -> Rows
+        ensures { result ≡ rows self }
+    {
+        self.payoffs
     }
 
     /// The title.
@@ -191,6 +211,7 @@ impl Table {
     }
 
     /// How many strategies player `i` has, or `None` if there is no such player.
+    #[tactic(auto, using(crate::proofs::lemmas::tables::Strategies::own_there))]
     pub fn strategies(&self, i: u32) -> Option<u32>
         ensures { result ≡ option_map length (at_position self.now.strategies i) }
     {
@@ -202,6 +223,7 @@ impl Table {
     }
 
     /// The label of strategy `s` of player `i`, or `None` if there is no such strategy.
+    #[tactic(auto, using(crate::proofs::lemmas::tables::Strategies::own_there))]
     pub fn strategy(&self, i: u32, s: u32) -> Option<Label<'_>>
         ensures { option_map label_of result
             ≡ option_and_then (λ own. at_position own s) (at_position self.now.strategies i) }
@@ -219,6 +241,7 @@ impl Table {
     /// profile one entry with one payoff for each player (`is_table`); its labels can be spelled,
     /// and its payoffs are fractions (`spellable`); and it is within the limit of profiles
     /// (`within`).
+    #[tactic(auto, using(crate::proofs::lemmas::tables::Rows::as_many_rows))]
     pub fn profiles(&self) -> u32
         ensures number { result ≡ length self.now.entries }
         ensures is_table { IsTable self.now }
@@ -230,6 +253,7 @@ impl Table {
 
     /// The payoffs at the profile of these strategies, one for each player. `None` if the list has
     /// another length than the list of players, or if a number is not a strategy of its player.
+    #[tactic(auto, using(crate::proofs::lemmas::tables::Places::payoffs_at_place))]
     pub fn payoffs(&self, profile: &[u32]) -> Option<&[Fraction]>
         ensures { option_map (λ row. row.now) result ≡ payoffs_at profile.now self.now.entries }
     {

@@ -1,6 +1,7 @@
 //! The canonical text of a file, written while the file is read.
 
-ghost use Rattle.std.specs.Prelude.{◌≡◌, [], OnErr, OnOk, ◌++◌, ◌∷◌};
+ghost use Rattle.std.specs.Prelude.{◌≡◌, ◌+◌, ◌<◌, ◌≤◌, [], OnErr, OnOk, ◌++◌, ◌∷◌};
+ghost use Rattle.std.specs.Prelude.{vec_capacity, vec_len};
 ghost use Rattle.gf_fraction.specs.NumberText.{number_text};
 ghost use Rattle.gf_nfg.specs.inner.Meaning.{names_in};
 ghost use Rattle.gf_nfg.specs.inner.ReaderState.{HasCounts, content_in};
@@ -14,7 +15,9 @@ use std::alloc::{AllocError, Global};
 
 pub(crate) mod canonical;
 pub(crate) mod lines;
+pub(crate) mod payoffs;
 pub(crate) mod pieces;
+pub(crate) mod table_text;
 pub(crate) mod write;
 
 /// The text of a file that is being told.
@@ -65,9 +68,11 @@ fn write_told(heading: &Heading<'_>, named: bool, out: &mut Vec<u8>) -> Result<(
 
 /// Appends a payoff, and a byte after it.
 #[inline(always)]
-fn write_payoff(payoff: Fraction, end: u8, out: &mut Vec<u8>) -> Result<(), AllocError>
-    ensures { OnOk result
+pub(crate) fn write_payoff(payoff: Fraction, end: u8, out: &mut Vec<u8>) -> Result<(), AllocError>
+    ensures text { OnOk result
         (out.new.items ≡ out.old.items ++ (number_text payoff ++ end ∷ [])) }
+    ensures full { OnErr result (vec_capacity out.old < vec_len out.old + 81) }
+    ensures capacity { vec_capacity out.old ≤ vec_capacity out.new }
 {
     payoff.write(out)?;
     out.push(end)?;

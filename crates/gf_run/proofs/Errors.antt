@@ -1,5 +1,5 @@
--- What holds for the error of a result.
-use Rattle.std.proofs.Common.{◌≡◌, Result, Ok, Err, IfErr, IsErrAnd, OnErr, sym, subst}
+-- What holds for the value or for the error of a result.
+use Rattle.std.proofs.Common.{◌≡◌, Result, Ok, Err, IfErr, IfOk, IsErrAnd, OnErr, sym, subst}
 
 -- an error, and what holds whether there is one or not
 pub OnErr-always : {T E : Type 0} (r : Result T E) (P : Type 0) → P → OnErr r P
@@ -11,3 +11,15 @@ pub IfErr-only : {T E : Type 0} (r : Result T E) (only : E) (P : E → Type 0)
     → IsErrAnd r (λ e. e ≡ only) → P only → IfErr r P
 IfErr-only (Ok x) only P is holds = tt
 IfErr-only (Err e) only P is holds = subst P (sym is) holds
+
+-- what follows from what is known of the value
+pub IfOk-then : {T E : Type 0} (r : Result T E) (P Q : T → Type 0) → IfOk r P
+    → ((x : T) → P x → Q x) → IfOk r Q
+IfOk-then (Ok x) P Q holds then = then x holds
+IfOk-then (Err e) P Q holds then = tt
+
+-- what two facts about the value say together
+pub IfOk-both : {T E : Type 0} (r : Result T E) (P Q R : T → Type 0) → IfOk r P → IfOk r Q
+    → ((x : T) → P x → Q x → R x) → IfOk r R
+IfOk-both (Ok x) P Q R p q both = both x p q
+IfOk-both (Err e) P Q R p q both = tt

@@ -7,8 +7,8 @@ use Rattle.gf_tree.specs.Game.{Game}
 use Rattle.gf_tree.specs.GameOf.{SpellsGame}
 use Rattle.gf_canon.specs.GameFile.{GameFile}
 use Rattle.gf_canon.specs.GameFile.GameFile.{extensive, strategic}
-use Rattle.gf_canon.specs.Judgement.{SpellsWithin}
-use Rattle.gf_run.specs.FormText.{HasFewPlayers}
+use Rattle.gf_canon.specs.CanonicalText.{SpellsWithin}
+use Rattle.gf_run.specs.FormText.{FileHasFewPlayers}
 use Rattle.gf_run.specs.Input.{limit}
 
 -- each player's name is a token
@@ -28,7 +28,7 @@ players_within bytes g spelled =
     omega (arith, players, parts, whole, inner, names, tokens, few)
 
 pub few_players : (bytes : List ℕ) (x : GameFile) → length bytes ≤ limit → SpellsWithin bytes x
-    → HasFewPlayers x
+    → FileHasFewPlayers x
 few_players bytes (extensive g) within x =
     let few = players_within bytes g x.spelled in
     omega (arith, few, within)

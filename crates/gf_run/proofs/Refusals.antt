@@ -3,7 +3,8 @@ use Rattle.std.proofs.Common.{◌≡◌, ℕ, List, Result, Ok, Err, IfErr, Matc
 use Rattle.gf_token.specs.declared.fault.Fault.{Fault}
 use Rattle.gf_token.specs.declared.fault.Why.TheVariants.{Memory}
 use Rattle.gf_canon.specs.GameFile.{GameFile}
-use Rattle.gf_canon.specs.Judgement.{IsJudged, IsPlaced, IsRefusedWith, SpellsWithin}
+use Rattle.gf_canon.specs.CanonicalText.{SpellsWithin}
+use Rattle.gf_canon.specs.Judgement.{IsJudged, IsPlaced, IsRefusedWith}
 
 pub refused : {A : Type 0} (bytes : List ℕ) (Is : GameFile → A → Type 0) (r : Result A Fault)
     → IfErr r (λ fault. IsJudged fault.why bytes fault.span)

@@ -2,7 +2,8 @@
 use Rattle.std.proofs.Common.{◌≡◌, ℕ, Bool, false, List, sym, subst}
 use Rattle.std.specs.Prelude.{◌↔◌, IsTrue}
 use Rattle.gf_canon.specs.GameFile.{GameFile}
-use Rattle.gf_canon.specs.Judgement.{MeansFile, SpellsWithin}
+use Rattle.gf_canon.specs.CanonicalText.{SpellsWithin}
+use Rattle.gf_canon.specs.Judgement.{MeansFile}
 use Rattle.gf_canon.specs.SameBy.{SameBy}
 use Rattle.gf_canon.specs.declared.sameness.Names.{Names}
 use Rattle.gf_run.specs.JobRun.{IsAnswerBy}

@@ -10,10 +10,10 @@ use Rattle.gf_run.specs.declared.fault.Which.{Which}
 use Rattle.gf_run.specs.declared.fault.Which.TheVariants.{Only, First, Second}
 
 -- what a line about an input begins with
-abbrev pub label_of : Which → List ℕ
-label_of Only = []
-label_of First = codes "A: "
-label_of Second = codes "B: "
+abbrev pub prefix_of : Which → List ℕ
+prefix_of Only = []
+prefix_of First = codes "A: "
+prefix_of Second = codes "B: "
 
 -- a refusal's code and place
 abbrev pub place_text : Fault → List ℕ
@@ -27,10 +27,10 @@ form_text (form.Overflow profile) = codes "overflow at profile " ++ decimal prof
 form_text form.Memory = codes "E19"
 
 -- the input that the line of a fault begins with
-abbrev pub fault_label : RunFault → List ℕ
-fault_label (Refused which fault) = label_of which
-fault_label (Read which) = label_of which
-fault_label fault = []
+abbrev pub fault_prefix : RunFault → List ℕ
+fault_prefix (Refused which fault) = prefix_of which
+fault_prefix (Read which) = prefix_of which
+fault_prefix fault = []
 
 -- the line of a fault, without the input that it begins with and without its line feed
 abbrev pub short_line : RunFault → List ℕ
@@ -42,8 +42,8 @@ short_line Memory = codes "E19"
 
 -- the line of a fault, with its line feed
 abbrev pub fault_line : RunFault → List ℕ
-fault_line (Refused which fault) = label_of which ++ place_text fault ++ codes "\n"
-fault_line (Read which) = label_of which ++ codes "E20\n"
+fault_line (Refused which fault) = prefix_of which ++ place_text fault ++ codes "\n"
+fault_line (Read which) = prefix_of which ++ codes "E20\n"
 fault_line Write = codes "E21\n"
 fault_line (Form fault) = form_text fault ++ codes "\n"
 fault_line Memory = codes "E19\n"

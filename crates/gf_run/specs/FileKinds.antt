@@ -2,7 +2,7 @@
 use Rattle.std.specs.Prelude.{◌≡◌, ℕ, List, codes}
 use Rattle.gf_canon.specs.FileFormat.{format_of}
 use Rattle.gf_canon.specs.GameFile.{GameFile}
-use Rattle.gf_canon.specs.Judgement.{SpellsWithin}
+use Rattle.gf_canon.specs.CanonicalText.{SpellsWithin}
 use Rattle.gf_canon.specs.declared.format.Format.{Format}
 use Rattle.gf_canon.specs.declared.format.Format.TheVariants.{Extensive, Strategic}
 use Rattle.gf_run.specs.declared.jobs.answer.FileKind.{FileKind}

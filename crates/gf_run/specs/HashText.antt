@@ -3,7 +3,8 @@ use Rattle.std.specs.Prelude.{◌≡◌, ℕ, List, ◌++◌, codes, Option, Res
 use Rattle.std.specs.declared.io.Error.{Error}
 use Rattle.hex.specs.Hex.{encode_lower}
 use Rattle.sha2.specs.Sha256.{sha256}
-use Rattle.gf_canon.specs.Judgement.{IsRefusedWith, IsTextBy, MeansFile}
+use Rattle.gf_canon.specs.Judgement.{IsRefusedWith, MeansFile}
+use Rattle.gf_canon.specs.NamesAside.{IsTextBy}
 use Rattle.gf_canon.specs.declared.sameness.Names.{Names}
 use Rattle.gf_run.specs.Input.{IsNotRead, IsReadWhole}
 use Rattle.gf_run.specs.declared.fault.RunFault.{RunFault}

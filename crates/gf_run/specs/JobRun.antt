@@ -3,7 +3,7 @@
 use Rattle.std.specs.Prelude.{◌≡◌, ◌⊎◌, ℕ, Bool, true, false, List, [], Option, Result}
 use Rattle.std.specs.declared.io.Error.{Error}
 use Rattle.gf_canon.specs.GameFile.{SameFile}
-use Rattle.gf_canon.specs.Judgement.{IsTextBy}
+use Rattle.gf_canon.specs.NamesAside.{IsTextBy}
 use Rattle.gf_canon.specs.SameBy.{SameBy}
 use Rattle.gf_canon.specs.declared.sameness.Names.{Names}
 use Rattle.gf_form.specs.declared.forms.Strategies.{Strategies}

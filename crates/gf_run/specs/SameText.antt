@@ -5,7 +5,7 @@ use Rattle.gf_tree.specs.Game.{Game}
 use Rattle.gf_tree.specs.Renumbering.{Renumbering}
 use Rattle.gf_canon.specs.GameFile.{GameFile}
 use Rattle.gf_canon.specs.GameFile.GameFile.{extensive}
-use Rattle.gf_canon.specs.Judgement.{SpellsWithin}
+use Rattle.gf_canon.specs.CanonicalText.{SpellsWithin}
 use Rattle.gf_canon.specs.Pairs.{renumbering_pairs}
 use Rattle.gf_canon.specs.declared.numbering.pairs.NumberPair.{NumberPair}
 use Rattle.gf_canon.specs.declared.numbering.pairs.NumberPair.TheVariants.{Set, Outcome}

@@ -2,6 +2,7 @@
 //! faults.
 
 pub mod comparison;
+pub mod joined;
 pub mod line;
 pub mod renumbering;
 pub mod report;

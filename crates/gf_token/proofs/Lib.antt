@@ -3,6 +3,7 @@ pub mod Spelled
 pub mod Spans
 pub mod Labels
 pub mod Grammar
+pub mod LaidOut
 pub mod Places
 pub mod ReadingIndices
 pub mod ScannedIndices

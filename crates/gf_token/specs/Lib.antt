@@ -13,5 +13,6 @@ pub mod Positions
 pub mod Reason
 pub mod Remaining
 pub mod Token
+pub mod TextLayout
 pub mod TokenSpelling
 pub mod inner

@@ -54,7 +54,7 @@ refusal end why (l ∷ ls) = record {
 }
 
 -- the next token does not pass the test, and is refused; or the end is
-pub record IsRefused (test : Token → Bool) (due : Why) (remaining : Remaining) (fault : Fault)
+pub record IsNextRefused (test : Token → Bool) (due : Why) (remaining : Remaining) (fault : Fault)
     : Type 0 where
   pub other : starts test remaining.ahead ≡ false
   pub refused : fault ≡ refusal (length remaining.input) due remaining.ahead

@@ -3,7 +3,7 @@
 ghost use Rattle.std.specs.Prelude.{◌≡◌, ◌∷◌, codes, length, MatchResult};
 ghost use Rattle.gf_token.specs.Label.{label_of};
 ghost use Rattle.gf_token.specs.Next.{is_letter, is_text_token, is_word};
-ghost use Rattle.gf_token.specs.Remaining.{IsRefused, Takes};
+ghost use Rattle.gf_token.specs.Remaining.{IsNextRefused, Takes};
 ghost use Rattle.gf_token.specs.Token.{lexeme};
 ghost use Rattle.gf_token.specs.Token.Token.{Text};
 ghost use Rattle.gf_token.specs.declared.fault.What.TheVariants as what;
@@ -22,7 +22,7 @@ impl<'a> Tokens<'a> {
     #[tactic(auto, using(crate::proofs::TokensAhead::taken_token))]
     pub fn word(&mut self, word: &[u8], due: What) -> Result<(), Fault>
         ensures { MatchResult result (λ _. Takes (is_word word.now) self.old self.new)
-            (IsRefused (is_word word.now) (Expected due) self.old) }
+            (IsNextRefused (is_word word.now) (Expected due) self.old) }
     {
         let Some(found) = self.bare() else {
             return Err(self.refusal(Why::Expected(due)));
@@ -39,7 +39,7 @@ impl<'a> Tokens<'a> {
     #[tactic(auto, using(crate::proofs::TokensAhead::taken_token))]
     pub fn letter(&mut self) -> Result<(), Fault>
         ensures { MatchResult result (λ _. Takes is_letter self.old self.new)
-            (IsRefused is_letter (Expected what.Letter) self.old) }
+            (IsNextRefused is_letter (Expected what.Letter) self.old) }
     {
         let Some(found) = self.bare() else {
             return Err(self.refusal(Why::Expected(What::Letter)));

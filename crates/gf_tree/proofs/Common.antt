@@ -29,12 +29,11 @@ pub use Rattle.gf_token.specs.declared.fault.Fault.{Fault}
 pub use Rattle.gf_token.specs.declared.fault.Span.{Span}
 pub use Rattle.gf_token.specs.declared.fault.What.{What}
 pub use Rattle.gf_token.specs.declared.fault.Why.{Why}
-pub use Rattle.gf_token.specs.declared.fault.Why.TheVariants.{BadIndex, Expected, Memory, Mismatch}
-pub use Rattle.gf_token.specs.declared.fault.Why.TheVariants.{NegativeProbability, NoEntry}
-pub use Rattle.gf_token.specs.declared.fault.Why.TheVariants.{SumAboveOne, SumBelowOne, SumOverflow}
-pub use Rattle.gf_token.specs.declared.fault.Why.TheVariants.{TooLong, TooManyProfiles}
-pub use Rattle.gf_token.specs.declared.fault.Why.TheVariants.{UnknownOutcome, UnknownPlayer}
-pub use Rattle.gf_token.specs.declared.fault.Why.TheVariants.{Unterminated}
+pub use Rattle.gf_token.specs.declared.fault.Why.TheVariants.{BadIndex, SumAboveOne, Unterminated}
+pub use Rattle.gf_token.specs.declared.fault.Why.TheVariants.{Expected, SumBelowOne, SumOverflow}
+pub use Rattle.gf_token.specs.declared.fault.Why.TheVariants.{Memory, UnknownOutcome, UnknownPlayer}
+pub use Rattle.gf_token.specs.declared.fault.Why.TheVariants.{Mismatch, NoEntry, TooLong}
+pub use Rattle.gf_token.specs.declared.fault.Why.TheVariants.{NegativeProbability, TooManyProfiles}
 pub use Rattle.gf_tree.specs.Actions.{action_of, actions_of}
 pub use Rattle.gf_tree.specs.Consistent.{AreConsistent, Describes, HasChildrenAsDescribed}
 pub use Rattle.gf_tree.specs.Consistent.{IsConsistent}
@@ -46,11 +45,12 @@ pub use Rattle.gf_tree.specs.Due.{ProbabilityIsDue, SetIsDue}
 pub use Rattle.gf_tree.specs.DueRoles.{OnlySuitedFollow, Role, Suits, what_of}
 pub use Rattle.gf_tree.specs.FileNodes.{file_nodes, use_behind}
 pub use Rattle.gf_tree.specs.FileTree.{FileNode, FileTree, Use, outcome_uses, set_uses}
+pub use Rattle.gf_tree.specs.Fills.{Fills}
 pub use Rattle.gf_tree.specs.FiniteMap.{Described, description_at, first_uses}
 pub use Rattle.gf_tree.specs.FirstUse.{first_use_number, first_use_numbers, outcome_numbers}
-pub use Rattle.gf_tree.specs.FirstUse.{player_keys, sets_of, through_first_use}
+pub use Rattle.gf_tree.specs.FirstUse.{player_keys, sets_of}
 pub use Rattle.gf_tree.specs.Front.{BehindOutcomeNumber, BehindSetNumber, EndsInNode, InActions}
-pub use Rattle.gf_tree.specs.Front.{InPayoffs, IsExtensiveFile, IsNewOutcome, IsNewSet, IsSetKnown}
+pub use Rattle.gf_tree.specs.Front.{InPayoffs, IsExtensiveFile, IsNewOutcome, IsNewSet}
 pub use Rattle.gf_tree.specs.Front.{KnowsOutcome, KnowsSet, ToOutcomeNumber, ToPlayerNumber}
 pub use Rattle.gf_tree.specs.Front.{ToProbability, ToSetNumber}
 pub use Rattle.gf_tree.specs.Game.{Game, HasChildren, IsGame, Node, outcome_at, set_at}
@@ -65,10 +65,10 @@ pub use Rattle.gf_tree.specs.KeptNodes.{tree_with}
 pub use Rattle.gf_tree.specs.KnownSets.{KnownSets, known_of, number_among, with_pending_set}
 pub use Rattle.gf_tree.specs.Learned.{Learns, LearnsGame}
 pub use Rattle.gf_tree.specs.Listed.{AreListed, listed_numbers, number_listed}
-pub use Rattle.gf_tree.specs.PrefixOrder.{Entry, Fills, flatten, flatten_all}
+pub use Rattle.gf_tree.specs.PrefixOrder.{Entry, flatten, flatten_all}
 pub use Rattle.gf_tree.specs.Reason.{AddUpTo, DiffersFromOutcome, DiffersFromSet, EndsInFirstUse}
 pub use Rattle.gf_tree.specs.Reason.{GoesOnWith, HasSum, Holds, IsNoText, IsReason, IsWrongBehind}
-pub use Rattle.gf_tree.specs.Reason.{ListsActions, NewProbabilityIsDue, NobodyMoves}
+pub use Rattle.gf_tree.specs.Reason.{ListsActions, NewProbabilityIsDue}
 pub use Rattle.gf_tree.specs.Renumbering.{HasOutcome, HasSet, IsRenumbering, Renumbering}
 pub use Rattle.gf_tree.specs.Renumbering.{renumbered, renumbered_node, renumbered_set}
 pub use Rattle.gf_tree.specs.RowPlaces.{BehindComment, BehindNode, BehindPayoff, BehindPlayers}
@@ -79,8 +79,9 @@ pub use Rattle.gf_tree.specs.Rows.{a_player_name, a_probability, a_set, a_text, 
 pub use Rattle.gf_tree.specs.Rows.{an_opening, an_outcome, no_label, or_comma, or_name, or_text}
 pub use Rattle.gf_tree.specs.Rows.{this_label, this_number}
 pub use Rattle.gf_tree.specs.SameGame.{Carries, SameGame}
-pub use Rattle.gf_tree.specs.Sentence.{IsAction, IsDescription, IsInformationSet, IsMover, IsNode}
-pub use Rattle.gf_tree.specs.Sentence.{IsOutcomeDescription, IsPositive, IsResult, IsStep, Sentence}
+pub use Rattle.gf_tree.specs.Sentence.{IsAction, IsDescription, IsInformationSet, SpellsMover}
+pub use Rattle.gf_tree.specs.Sentence.{IsNode, IsOutcomeDescription, IsPositive, IsResult, IsStep}
+pub use Rattle.gf_tree.specs.Sentence.{Sentence}
 pub use Rattle.gf_tree.specs.SomeRow.{IsBeforeRow, IsInHeading, IsInNode}
 pub use Rattle.gf_tree.specs.Spellable.{IsSpellable, IsSpellableAction, IsSpellableOutcome}
 pub use Rattle.gf_tree.specs.Spellable.{IsSpellableSet}
@@ -96,43 +97,38 @@ pub use Rattle.gf_tree.specs.declared.game.numbered_node.Numbering.TheVariants.{
 pub use Rattle.gf_tree.specs.declared.reader.Reader.{Reader}
 pub use Rattle.gf_tree.specs.inner.GameParts.{AreNodes, IsHeld, IsListed, Parts, game_with}
 pub use Rattle.gf_tree.specs.inner.KnownOutcomes.{KnownOutcomes}
-pub use Rattle.gf_tree.specs.inner.Machine.{Begun, Content, Position, State, after_node, at, begun}
-pub use Rattle.gf_tree.specs.inner.Machine.{behind_label, behind_outcome, behind_set, due, may_end}
-pub use Rattle.gf_tree.specs.inner.Machine.{new_label, new_set_ends, node_letter, node_or_end}
-pub use Rattle.gf_tree.specs.inner.Machine.{nothing, outcome_ends, outcome_number, paid}
-pub use Rattle.gf_tree.specs.inner.Machine.{personal_node, player_number, run, same_number}
-pub use Rattle.gf_tree.specs.inner.Machine.{same_text, set_ends, set_known, set_number, shared}
-pub use Rattle.gf_tree.specs.inner.Machine.{step, then_on, with_action, with_node, with_outcome}
-pub use Rattle.gf_tree.specs.inner.Machine.{with_payoff, with_player, with_set}
-pub use Rattle.gf_tree.specs.inner.Machine.Position.{AfterKnownPayoff, AfterNewPayoff, AfterPlayers}
-pub use Rattle.gf_tree.specs.inner.Machine.Position.{BeforePlayers, ChanceName, Format, InPlayers}
-pub use Rattle.gf_tree.specs.inner.Machine.Position.{KnownAction, KnownOutcomeName}
-pub use Rattle.gf_tree.specs.inner.Machine.Position.{KnownOutcomeOpening, KnownPayoff}
-pub use Rattle.gf_tree.specs.inner.Machine.Position.{KnownProbability, KnownSetName}
-pub use Rattle.gf_tree.specs.inner.Machine.Position.{KnownSetOpening, Letter, NewAction}
-pub use Rattle.gf_tree.specs.inner.Machine.Position.{NewOutcomeName, NewOutcomeOpening, NewPayoff}
-pub use Rattle.gf_tree.specs.inner.Machine.Position.{NewProbability, NewSetName, NewSetOpening}
-pub use Rattle.gf_tree.specs.inner.Machine.Position.{NodeDue, OutcomeNumber, PersonalName}
-pub use Rattle.gf_tree.specs.inner.Machine.Position.{PlayerNumber, SetNumber, TerminalName, Title}
-pub use Rattle.gf_tree.specs.inner.Machine.Position.{Version}
+pub use Rattle.gf_tree.specs.inner.Machine.{Begun, State, begun, due, nothing, run, step, then_on}
+pub use Rattle.gf_tree.specs.inner.Machine.{Content, may_end, set_ends, shared, with_node, with_set}
+pub use Rattle.gf_tree.specs.inner.Machine.{Position, behind_outcome, outcome_number, personal_node}
+pub use Rattle.gf_tree.specs.inner.Machine.{after_node, paid, with_action, with_payoff, with_player}
+pub use Rattle.gf_tree.specs.inner.Machine.{at, node_letter, node_or_end, same_number, with_outcome}
+pub use Rattle.gf_tree.specs.inner.Machine.{behind_label, new_set_ends, outcome_ends, player_number}
+pub use Rattle.gf_tree.specs.inner.Machine.{behind_set, new_label, same_text, set_known, set_number}
+pub use Rattle.gf_tree.specs.inner.Machine.Position.{AfterKnownPayoff, ChanceName, KnownOutcomeName}
+pub use Rattle.gf_tree.specs.inner.Machine.Position.{AfterNewPayoff, NewOutcomeName, NewProbability}
+pub use Rattle.gf_tree.specs.inner.Machine.Position.{AfterPlayers, KnownSetName, PersonalName}
+pub use Rattle.gf_tree.specs.inner.Machine.Position.{BeforePlayers, NewSetOpening, OutcomeNumber}
+pub use Rattle.gf_tree.specs.inner.Machine.Position.{Format, KnownOutcomeOpening, NewOutcomeOpening}
+pub use Rattle.gf_tree.specs.inner.Machine.Position.{InPlayers, NewAction, NewPayoff, NewSetName}
+pub use Rattle.gf_tree.specs.inner.Machine.Position.{KnownAction, KnownProbability, KnownSetOpening}
+pub use Rattle.gf_tree.specs.inner.Machine.Position.{KnownPayoff, PlayerNumber, TerminalName, Title}
+pub use Rattle.gf_tree.specs.inner.Machine.Position.{Letter, NodeDue, SetNumber, Version}
 pub use Rattle.gf_tree.specs.inner.Passed.{HasPassed}
 pub use Rattle.gf_tree.specs.inner.Probability.{Share, same_ratio, share_by, share_of, up_to_one}
-pub use Rattle.gf_tree.specs.inner.ReadGame.{game_of, run_tokens, then_run}
-pub use Rattle.gf_tree.specs.inner.ReaderState.{Answer, Fails, Goes, Grows, HasRead, answer}
-pub use Rattle.gf_tree.specs.inner.ReaderState.{begun_with, behind, content_of, heading_read, heard}
-pub use Rattle.gf_tree.specs.inner.ReaderState.{to_all}
+pub use Rattle.gf_tree.specs.inner.ReadGame.{game_in, run_tokens, then_run}
+pub use Rattle.gf_tree.specs.inner.ReaderState.{Answer, Fails, Grows, answer, behind, heard, to_all}
+pub use Rattle.gf_tree.specs.inner.ReaderState.{Goes, HasRead, begun_with, content_of, heading_read}
 pub use Rattle.gf_tree.specs.inner.Skipped.{Begin, sizes_grown, skipped}
 pub use Rattle.gf_tree.specs.inner.StoredOutcomes.{AreOutcomes, stored_outcomes}
 pub use Rattle.gf_tree.specs.inner.StoredSets.{AreSets, HoldActions, described, end_of, places_from}
 pub use Rattle.gf_tree.specs.inner.StoredSets.{stored_sets}
 pub use Rattle.gf_tree.specs.inner.Stretches.{AreStretches}
 pub use Rattle.indexmap.specs.IndexMap.{IndexMap}
-pub use Rattle.std.proofs.Common.{Bool, Err, Global, List, MatchOption, None, Ok, Option, Result}
-pub use Rattle.std.proofs.Common.{Some, Vec, [], ap, append-nil, append_assoc, arith, cond, drop}
-pub use Rattle.std.proofs.Common.{false, get_or, inl, inr, length, map, max, nat_eq, not}
-pub use Rattle.std.proofs.Common.{option_map, refl, rules, slice_get, subst, suc, sym, take, true}
-pub use Rattle.std.proofs.Common.{zero, zero-add, ℕ, ◌++◌, ◌+◌, ◌-◌, ◌<◌, ◌^◌, ◌↔◌, ◌∙◌, ◌∷◌, ◌≡◌}
-pub use Rattle.std.proofs.Common.{◌≢◌, ◌≤◌}
+pub use Rattle.std.proofs.Common.{Bool, List, None, Ok, Some, cond, drop, false, refl, rules, subst}
+pub use Rattle.std.proofs.Common.{Err, MatchOption, append-nil, append_assoc, option_map, slice_get}
+pub use Rattle.std.proofs.Common.{Global, Option, Result, arith, get_or, length, nat_eq, zero-add}
+pub use Rattle.std.proofs.Common.{Vec, inl, inr, map, max, not, suc, sym, take, true, zero, ℕ, ◌++◌}
+pub use Rattle.std.proofs.Common.{[], ap, ◌+◌, ◌-◌, ◌<◌, ◌^◌, ◌↔◌, ◌∙◌, ◌∷◌, ◌≡◌, ◌≢◌, ◌≤◌}
 pub use Rattle.std.proofs.Math.IntN.{*ℤ_comm}
 pub use Rattle.std.proofs.Math.ListN.{drop_of_length-le}
 pub use Rattle.std.proofs.lemmas.Bool.{both_ways, cases_Bool, eq-eqb, eqb-false, eqb-true}
@@ -140,10 +136,9 @@ pub use Rattle.std.proofs.lemmas.Bool.{false_from_ne_true, le-leb, not_from_fals
 pub use Rattle.std.proofs.lemmas.Bool.Decides.{Decides-eqb}
 pub use Rattle.std.proofs.lemmas.Int.{ints}
 pub use Rattle.std.proofs.lemmas.Iterator.Adapters.{position_from-zero}
-pub use Rattle.std.proofs.lemmas.List.{append_cancel_left, at_drop_more, drop-append-le, drop-map}
-pub use Rattle.std.proofs.lemmas.List.{get_or-map, length-append, length-drop, length-map}
-pub use Rattle.std.proofs.lemmas.List.{length-take-le, map-append, take-append-le, take-map}
-pub use Rattle.std.proofs.lemmas.List.{take_all}
+pub use Rattle.std.proofs.lemmas.List.{append_cancel_left, drop-append-le, drop-map, length-take-le}
+pub use Rattle.std.proofs.lemmas.List.{at_drop_more, length-append, length-drop, take-append-le}
+pub use Rattle.std.proofs.lemmas.List.{get_or-map, length-map, map-append, take-map, take_all}
 pub use Rattle.std.proofs.lemmas.List.Elements.{filter-append, filter_map-append}
 pub use Rattle.std.proofs.lemmas.Option.{get_or_from_slice_get, same_Some, slice_get-get_or}
 pub use Rattle.std.proofs.lemmas.Option.{slice_get-map, slice_get_within}

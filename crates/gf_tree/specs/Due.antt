@@ -7,26 +7,25 @@ use Rattle.gf_token.specs.Token.Token.{Opening, Closing, Text, Bare}
 use Rattle.gf_tree.specs.Description.{InformationSet, Outcome, SetKey}
 use Rattle.gf_tree.specs.FileTree.{Use}
 use Rattle.gf_tree.specs.Front.{IsExtensiveFile, EndsInNode, ToPlayerNumber, ToSetNumber}
-use Rattle.gf_tree.specs.Front.{ToProbability, ToOutcomeNumber, InPayoffs, IsSetKnown}
+use Rattle.gf_tree.specs.Front.{ToProbability, ToOutcomeNumber, InPayoffs}
 use Rattle.gf_token.specs.declared.fault.What.TheVariants as what
 
 -- the letter of a node
 abbrev pub NodeIsDue : List Token → Type 0
 NodeIsDue before = MayFollow IsExtensiveFile before (Bare (codes "t"))
 
--- the number of a player, among this many
-abbrev pub PlayerIsDue : List Token → ℕ → Type 0
-PlayerIsDue before count =
-    (f : EndsInNode before) × (count ≡ length f.players) × ToPlayerNumber f.front
+-- the number of a player
+abbrev pub PlayerIsDue : List Token → Type 0
+PlayerIsDue before = (f : EndsInNode before) × ToPlayerNumber f.front
 
 -- the number of a set
 abbrev pub SetIsDue : List Token → Type 0
 SetIsDue before = (f : EndsInNode before) × (player : ℕ) × ToSetNumber f.front player
 
--- the number of an outcome, after a set that is known
+-- the number of an outcome, or 0 for none
 abbrev pub OutcomeIsDue : List Token → Type 0
 OutcomeIsDue before = (f : EndsInNode before) × (set : Option (Use SetKey InformationSet))
-    × ToOutcomeNumber f.front set × IsSetKnown f.nodes set
+    × ToOutcomeNumber f.front set × MayFollow IsExtensiveFile before (Bare (codes "0"))
 
 -- a probability
 abbrev pub ProbabilityIsDue : List Token → Type 0
@@ -48,8 +47,7 @@ IsDue before what.Text = (label : List ℕ) × MayFollow IsExtensiveFile before 
 IsDue before what.Opening = MayFollow IsExtensiveFile before Opening
 IsDue before what.Closing = MayFollow IsExtensiveFile before Closing
 IsDue before what.Number = ProbabilityIsDue before ⊎ PayoffIsDue before
-IsDue before what.Index =
-    ((count : ℕ) × PlayerIsDue before count) ⊎ (SetIsDue before ⊎ OutcomeIsDue before)
+IsDue before what.Index = PlayerIsDue before ⊎ (SetIsDue before ⊎ OutcomeIsDue before)
 IsDue before what.Strategies = ⊥
 IsDue before what.Node = NodeIsDue before
 IsDue before what.End = IsExtensiveFile before

@@ -1,5 +1,5 @@
 -- What an extensive file says, node by node.
-use Rattle.std.specs.Prelude.{ℕ, List, None, Option, option_map}
+use Rattle.std.specs.Prelude.{ℕ, List, Option}
 use Rattle.std.specs.List.{filter_map}
 use Rattle.gf_tree.specs.Tree.{Tree}
 use Rattle.gf_tree.specs.PrefixOrder.{Entry}
@@ -15,17 +15,6 @@ pub record FileNode : Type 0 where
   pub name : List ℕ
   pub set : Option (Use SetKey InformationSet)
   pub outcome : Option (Use ℕ Outcome)
-
-abbrev pub undescribed_use : {K D : Type 0} → Use K D → Use K D
-undescribed_use u = record { key = u.key; description = None }
-
--- the node without what it describes
-abbrev pub undescribed : FileNode → FileNode
-undescribed n = record {
-  name = n.name;
-  set = option_map undescribed_use n.set;
-  outcome = option_map undescribed_use n.outcome;
-}
 
 -- Labels are lists of bytes.
 pub record FileTree : Type 0 where

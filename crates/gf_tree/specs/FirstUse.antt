@@ -1,20 +1,14 @@
 -- Numbers in order of first use, in prefix order.
-use Rattle.std.specs.Prelude.{ℕ, nat_eq, ◌==◌, Bool, List, [], ◌∷◌, length, map, if◌then◌else◌}
-use Rattle.std.specs.List.{filter}
+use Rattle.std.specs.Prelude.{ℕ, nat_eq, ◌==◌, ◌+◌, Bool, List, map}
+use Rattle.std.specs.List.{filter, position_or_len}
 use Rattle.gf_tree.specs.Description.{SetKey, InformationSet, same_set, set_of}
 use Rattle.gf_tree.specs.FiniteMap.{Described, first_uses}
 use Rattle.gf_tree.specs.Renumbering.{Renumbering}
 use Rattle.gf_tree.specs.Game.{Game, used_sets, used_outcomes}
 
--- the uses through the first one of this key
-abbrev pub through_first_use : {K : Type 0} → (K → K → Bool) → K → List K → List K
-through_first_use same key [] = []
-through_first_use same key (used ∷ uses) =
-    used ∷ (if same used key then [] else through_first_use same key uses)
-
--- how many different keys are used up to and including its first use
+-- a key's place, from 1, among the keys in order of first use
 abbrev pub first_use_number : {K : Type 0} → (K → K → Bool) → List K → K → ℕ
-first_use_number same uses key = length (first_uses same (through_first_use same key uses))
+first_use_number same uses key = position_or_len (same key) (first_uses same uses) + 1
 
 -- the uses of a player's sets
 abbrev pub sets_of : ℕ → List SetKey → List SetKey

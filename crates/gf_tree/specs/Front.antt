@@ -1,6 +1,6 @@
 -- The front of an extensive file: its heading, whole nodes one after another, and the front of the
 -- next node. This shape shows what is due after it, and what is wrong there.
-use Rattle.std.specs.Prelude.{◌≡◌, ℕ, ◌⊎◌, List, [], ◌∷◌, ◌++◌, codes, Option, Some, MatchOption}
+use Rattle.std.specs.Prelude.{◌≡◌, ℕ, List, [], ◌∷◌, ◌++◌, codes, Option}
 use Rattle.std.specs.List.{filter_map}
 use Rattle.gf_token.specs.Token.{Token}
 use Rattle.gf_token.specs.Token.Token.{Opening, Text, Bare}
@@ -8,7 +8,7 @@ use Rattle.gf_token.specs.Grammar.{Each, IsPayoffInBraces}
 use Rattle.gf_tree.specs.Description.{InformationSet, Outcome, SetKey, set_of}
 use Rattle.gf_tree.specs.FileTree.{Use, FileNode, FileTree}
 use Rattle.gf_tree.specs.Consistent.{Describes, IsConsistent}
-use Rattle.gf_tree.specs.Sentence.{IsAction, IsMover, IsPositive, IsStep, Says, Sentence}
+use Rattle.gf_tree.specs.Sentence.{IsAction, SpellsMover, IsPositive, IsStep, Says, Sentence}
 
 -- the language of extensive files
 abbrev pub IsExtensiveFile : List Token → Type 0
@@ -30,7 +30,7 @@ pub record EndsInNode (before : List Token) : Type 0 where
 -- its letter, its name and, if a player moves, his number; the set's number is next
 abbrev pub ToSetNumber : List Token → ℕ → Type 0
 ToSetNumber front player = (letter : List ℕ) × (name : List ℕ) × (mover : List Token)
-    × (front ≡ Bare letter ∷ Text name ∷ mover) × IsMover letter mover player
+    × (front ≡ Bare letter ∷ Text name ∷ mover) × SpellsMover letter mover player
 
 -- a player's node with its name; his number is next
 abbrev pub ToPlayerNumber : List Token → Type 0
@@ -89,9 +89,3 @@ KnowsOutcome nodes number outcome = Describes (filter_map (λ n. n.outcome) node
 
 abbrev pub IsNewOutcome : List FileNode → ℕ → Type 0
 IsNewOutcome nodes number = (outcome : Outcome) → ¬ (KnowsOutcome nodes number outcome)
-
--- the node describes its set, or these nodes do; a terminal node has no set
-abbrev pub IsSetKnown : List FileNode → Option (Use SetKey InformationSet) → Type 0
-IsSetKnown nodes set = MatchOption set (Unit {0}) (λ u.
-    ((d : InformationSet) × (u.description ≡ Some d))
-    ⊎ ((d : InformationSet) × KnowsSet nodes u.key d))

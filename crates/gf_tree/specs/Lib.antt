@@ -2,6 +2,7 @@ pub mod Actions
 pub mod Branches
 pub mod BranchesLeft
 pub mod CanonicalGame
+pub mod CarriedParts
 pub mod Consistent
 pub mod Description
 pub mod Due
@@ -9,6 +10,7 @@ pub mod DueRoles
 pub mod FileNodeOf
 pub mod FileNodes
 pub mod FileTree
+pub mod Fills
 pub mod FiniteMap
 pub mod FirstUse
 pub mod Front
@@ -39,6 +41,7 @@ pub mod Subtrees
 pub mod Told
 pub mod ToldGame
 pub mod Tree
+pub mod Undescribed
 pub mod WorkedReasons
 pub mod WorkedTrees
 pub mod inner

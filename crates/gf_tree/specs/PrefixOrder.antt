@@ -1,6 +1,6 @@
 -- Trees as flat lists in prefix order: a node, then the subtrees of its children from the first to
 -- the last.
-use Rattle.std.specs.Prelude.{ℕ, zero, suc, ◌+◌, List, [], ◌∷◌, ◌++◌}
+use Rattle.std.specs.Prelude.{ℕ, List, [], ◌∷◌, ◌++◌}
 use Rattle.gf_tree.specs.Tree.{Tree, Trees, count}
 use Rattle.gf_tree.specs.Tree.Tree.{branch}
 use Rattle.gf_tree.specs.Tree.Trees.{none, more}
@@ -17,10 +17,3 @@ abbrev mutual
   pub flatten_all : {N : Type 0} → Trees N → List (Entry N)
   flatten_all none = []
   flatten_all (more t ts) = flatten t ++ flatten_all ts
-
--- if this many subtrees are due, the entries are those of these subtrees and no more
-abbrev pub Fills : {N : Type 0} → ℕ → List (Entry N) → Type 0
-Fills zero [] = Unit {0}
-Fills zero (e ∷ es) = ⊥
-Fills (suc due) [] = ⊥
-Fills (suc due) (e ∷ es) = Fills (e.children + due) es

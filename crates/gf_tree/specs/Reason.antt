@@ -16,9 +16,11 @@ use Rattle.gf_fraction.specs.NumberSpelling.{HasNumberFault, IsNumber}
 use Rattle.gf_fraction.specs.declared.fraction.NumberFault.{NumberFault}
 use Rattle.gf_tree.specs.Description.{Action, InformationSet, Outcome, SetKey, set_of, set_with}
 use Rattle.gf_tree.specs.Sentence.{IsPositive}
+use Rattle.gf_token.specs.Place.{MayFollow}
 use Rattle.gf_tree.specs.Front.{EndsInNode, BehindSetNumber, InActions, ToProbability, IsNewOutcome}
 use Rattle.gf_tree.specs.Front.{BehindOutcomeNumber, InPayoffs, KnowsSet, IsNewSet, KnowsOutcome}
-use Rattle.gf_tree.specs.Due.{NodeIsDue, PlayerIsDue, SetIsDue, OutcomeIsDue, IsDue}
+use Rattle.gf_tree.specs.Front.{IsExtensiveFile, ToPlayerNumber}
+use Rattle.gf_tree.specs.Due.{NodeIsDue, IsDue}
 use Rattle.gf_token.specs.Reason as any_format
 use Rattle.gf_token.specs.declared.fault.What.TheVariants as what
 use Rattle.gf_fraction.specs.declared.fraction.NumberFault.TheVariants as number
@@ -29,23 +31,18 @@ use Rattle.gf_fraction.specs.declared.fraction.NumberFault.TheVariants as number
 abbrev pub IsFaultyNumber : List Token → List ℕ → NumberFault → Type 0
 IsFaultyNumber before bytes fault = IsDue before what.Number × HasNumberFault bytes fault
 
--- the number of a player or a set is due, and the bytes are not an index above 0; or the number of
--- an outcome is due, and they are not an index
+-- an index is due, and the bytes are not one above 0; where 0 may stand, it is not refused
 abbrev pub IsBadIndex : List Token → List ℕ → Type 0
-IsBadIndex before bytes =
-    ((((count : ℕ) × PlayerIsDue before count) ⊎ SetIsDue before)
-    × ((n : ℕ) → ¬ (IsPositive bytes n))) ⊎ (OutcomeIsDue before × ((n : ℕ) → ¬ (IsIndex bytes n)))
-
--- there are only whole nodes, and no players
-abbrev pub NobodyMoves : List Token → Type 0
-NobodyMoves before = (f : EndsInNode before) × (f.players ≡ []) × (f.front ≡ [])
+IsBadIndex before bytes = IsDue before what.Index × ((n : ℕ) → ¬ (IsPositive bytes n))
 
 -- a player's number is due, and the bytes are an index above the number of players; or a node is
--- due, and a player is to move although there are none
+-- due, and a player is to move, but none may
 abbrev pub IsUnknownPlayer : List Token → List ℕ → Type 0
 IsUnknownPlayer before bytes =
-    ((count n : ℕ) × PlayerIsDue before count × IsIndex bytes n × (count < n))
-    ⊎ (NobodyMoves before × NodeIsDue before × (bytes ≡ codes "p"))
+    ((f : EndsInNode before) × (n : ℕ) × ToPlayerNumber f.front × IsIndex bytes n
+    × (length f.players < n))
+    ⊎ (NodeIsDue before × ¬ (MayFollow IsExtensiveFile before (Bare (codes "p")))
+    × (bytes ≡ codes "p"))
 
 -- ---- descriptions
 

@@ -30,21 +30,17 @@ pub record IsRenumbering (g : Game) (r : Renumbering) : Type 0 where
 
 -- the same player's set, by its new number
 abbrev pub renumbered_set : Renumbering → SetKey → SetKey
-renumbered_set r key = record { player = key.player; number = r.set key.player key.number }
+renumbered_set r key = record key { number = r.set key.player key.number }
 
 abbrev pub renumbered_node : Renumbering → Node → Node
-renumbered_node r n = record {
-  name = n.name;
+renumbered_node r n = record n {
   set = option_map (renumbered_set r) n.set;
   outcome = option_map r.outcome n.outcome;
 }
 
 -- the same game by its new numbers
 abbrev pub renumbered : Renumbering → Game → Game
-renumbered r g = record {
-  title = g.title;
-  comment = g.comment;
-  players = g.players;
+renumbered r g = record g {
   tree = map_tree (renumbered_node r) g.tree;
   sets = map (λ s. record { key = renumbered_set r s.key; description = s.description }) g.sets;
   outcomes = map (λ o. record { key = r.outcome o.key; description = o.description }) g.outcomes;

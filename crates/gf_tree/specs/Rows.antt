@@ -36,13 +36,13 @@ pub record Row : Type 1 where
   pub other_closing : Why → Type 0
   pub otherwise : Why
 
-abbrev pub Takes : Row → Token → Type 0
-Takes row Opening = row.opening
-Takes row Closing = row.closing
-Takes row Comma = row.comma
-Takes row (Text label) = row.text label
-Takes row (Bare bytes) = row.bare bytes
-Takes row Broken = ⊥
+abbrev pub AcceptsToken : Row → Token → Type 0
+AcceptsToken row Opening = row.opening
+AcceptsToken row Closing = row.closing
+AcceptsToken row Comma = row.comma
+AcceptsToken row (Text label) = row.text label
+AcceptsToken row (Bare bytes) = row.bare bytes
+AcceptsToken row Broken = ⊥
 
 abbrev pub RefusesFor : Row → Token → Why → Type 0
 RefusesFor row Broken why = why ≡ Unterminated
@@ -54,7 +54,7 @@ RefusesFor row _ why = why ≡ row.otherwise
 -- by the tokens from a place on
 abbrev pub Accepts : Row → List Token → Type 0
 Accepts row [] = row.end
-Accepts row (token ∷ after) = Takes row token
+Accepts row (token ∷ after) = AcceptsToken row token
 
 abbrev pub Refuses : Row → List Token → Why → Type 0
 Refuses row [] why = why ≡ row.otherwise

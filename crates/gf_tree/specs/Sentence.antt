@@ -32,9 +32,9 @@ IsInformationSet player tokens set = (inner : List Token) × (tokens ≡ Text se
     × Each (IsAction player) inner set.actions
 
 -- chance moves at `c`, and another player at `p`, which has his number after the node's name
-abbrev pub IsMover : List ℕ → List Token → ℕ → Type 0
-IsMover letter tokens zero = (letter ≡ codes "c") × (tokens ≡ [])
-IsMover letter tokens (suc player) = (bytes : List ℕ) × (letter ≡ codes "p")
+abbrev pub SpellsMover : List ℕ → List Token → ℕ → Type 0
+SpellsMover letter tokens zero = (letter ≡ codes "c") × (tokens ≡ [])
+SpellsMover letter tokens (suc player) = (bytes : List ℕ) × (letter ≡ codes "p")
     × (tokens ≡ Bare bytes ∷ []) × IsIndex bytes (suc player)
 
 -- nothing at `t`; otherwise the player, and the number and the description of his set
@@ -43,7 +43,7 @@ IsStep letter tokens None = (letter ≡ codes "t") × (tokens ≡ [])
 IsStep letter tokens (Some u) =
     (player : List Token) × (number : List ℕ) × (description : List Token)
     × (tokens ≡ player ++ Bare number ∷ description)
-    × IsMover letter player u.key.player × IsPositive number u.key.number
+    × SpellsMover letter player u.key.player × IsPositive number u.key.number
     × IsDescription (IsInformationSet u.key.player) description u.description
 
 -- Text Opening payoffs Closing, a payoff for each player

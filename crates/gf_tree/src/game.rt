@@ -1,20 +1,18 @@
 //! Games in memory.
 
-ghost use Rattle.std.specs.Prelude.{◌≡◌, ◌+◌, ◌<◌, ◌≤◌, ◌^◌, ℕ, [], Some, MatchOption, drop};
-ghost use Rattle.std.specs.Prelude.{length};
-ghost use Rattle.std.specs.Prelude.{map, option_map, slice_get};
+ghost use Rattle.std.specs.Prelude.{◌≡◌, ◌+◌, ◌<◌, ◌^◌, [], Some, MatchOption, drop, length, map};
+ghost use Rattle.std.specs.Prelude.{option_map, slice_get};
 ghost use Rattle.gf_token.specs.Label.{label_of};
 ghost use Rattle.gf_token.specs.Positions.{at_position};
 ghost use Rattle.gf_tree.specs.Actions.{actions_of};
 ghost use Rattle.gf_tree.specs.Branches.{game_of, tree_of};
 ghost use Rattle.gf_tree.specs.NodesLeft.{nodes_left};
-ghost use Rattle.gf_tree.specs.PrefixOrder.{Fills, flatten};
+ghost use Rattle.gf_tree.specs.PrefixOrder.{flatten};
 ghost use Rattle.gf_tree.specs.Description.{set_of};
 ghost use Rattle.gf_tree.specs.FirstUse.{outcome_numbers, player_keys};
 ghost use Rattle.gf_tree.specs.Game.{IsGame, outcome_at, set_at};
 ghost use Rattle.gf_tree.specs.inner.GameParts.{IsKeptAt, IsListed, game_with, parts_of};
 ghost use Rattle.gf_tree.specs.Description.{outcome_with, set_with};
-ghost use Rattle.gf_tree.specs.KeptNodes.{AreAmong, entries_with};
 ghost use Rattle.gf_tree.specs.Movers.{IsMover};
 ghost use Rattle.gf_tree.specs.NodeOf.{node_of};
 ghost use Rattle.gf_tree.specs.OutcomePositions.{position_among};

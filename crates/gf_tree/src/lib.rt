@@ -1,4 +1,4 @@
-//! Gambit extensive files: the trees that they say, and the games that they mean.
+//! Gambit extensive files: the trees that they spell, and the games that they mean.
 //!
 //! The tests of these calls are in gf_tests: a crate with tests is proved a second time for them.
 #![tactic(auto)]

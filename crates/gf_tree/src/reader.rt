@@ -5,14 +5,14 @@
 //! values would otherwise pass through memory. Descriptions are read by separate functions that are
 //! `inline(never)`.
 
-ghost use Rattle.std.specs.Prelude.{◌≡◌, ℕ, List, Ok, IfOk, OnOk};
+ghost use Rattle.std.specs.Prelude.{◌≡◌, ◌<◌, ◌^◌, ℕ, List, Ok, length, IfOk, OnOk};
 ghost use Rattle.gf_token.specs.Remaining.{StandsBefore};
 ghost use Rattle.gf_token.specs.TokenSpelling.{Spells};
 ghost use Rattle.gf_tree.specs.inner.Machine.{nothing};
 ghost use Rattle.gf_tree.specs.inner.Machine.Position.{Format, NodeDue};
 ghost use Rattle.gf_tree.specs.GameOf.{SpellsGame};
-ghost use Rattle.gf_tree.specs.inner.ReaderState.{answer, content_of, Goes, HasRoom, IsRead};
-ghost use Rattle.gf_tree.specs.inner.ReaderState.{KeepsNodes};
+ghost use Rattle.gf_tree.specs.inner.ReaderState.{answer, content_of, Goes, IsRead, KeepsNodes};
+ghost use Rattle.gf_tree.specs.inner.ReaderState.{ReadsHeading};
 
 pub(crate) mod again;
 mod heading;
@@ -58,7 +58,7 @@ impl<'a> Reader<'a> {
         ensures input { result.tokens.input ≡ input.entry.now }
         ensures spelled { Spells 0 input.entry.now result.tokens.ahead }
         ensures due { result.due ≡ 1 }
-        ensures room { HasRoom 0 result }
+        ensures few { length result.tokens.ahead < 2 ^ 64 }
         ensures untold { (result.told_sets ≡ 0) × (result.told_outcomes ≡ 0) }
     {
         let empty = Label::new(&[]).unwrap();
@@ -78,14 +78,9 @@ impl<'a> Reader<'a> {
 
     /// Reads the heading: everything before the first node. Returns the place of its last token.
     fn begin(&mut self) -> Result<Span, Fault>
-        requires due { self.old.due ≡ 1 }
-        requires room { HasRoom 0 self.old }
+        requires { self.old.due ≡ 1 }
         ensures machine { Goes (answer Format self.old) result (answer NodeDue self.new) }
-        ensures room { OnOk result (HasRoom 0 self.new) }
-        ensures untold { OnOk result ((self.new.told_sets ≡ self.old.told_sets)
-            × (self.new.told_outcomes ≡ self.old.told_outcomes)) }
-        ensures unknown { OnOk result ((self.new.sets ≡ self.old.sets)
-            × (self.new.outcomes ≡ self.old.outcomes)) }
+        ensures read { OnOk result (ReadsHeading self.old self.new) }
         ensures place { IfOk result (λ last. StandsBefore self.new.tokens last) }
     {
         self.heading()?;

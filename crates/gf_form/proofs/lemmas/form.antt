@@ -1,5 +1,4 @@
 pub mod FormMade
-pub mod FormTables
 pub mod Forms
 pub mod SameForms
 pub mod Worked

@@ -1,13 +1,9 @@
 pub mod Alike
 pub mod BottomUp
-pub mod ChanceSigns
 pub mod Denominators
 pub mod Following
 pub mod PayoffsGiven
-pub mod ProgramRuns
 pub mod RowSums
 pub mod Stacks
 pub mod ValuesComputed
 pub mod Walks
-pub mod Whole
-pub mod Zeros

@@ -1,7 +1,6 @@
 //! The digits of one player's demands: one for each of his sets at which he has several actions.
 
-ghost use Rattle.std.specs.Prelude.{◌≡◌, ◌<◌, ◌^◌, IfOk, unwrap_or};
-ghost use Rattle.gf_token.specs.Positions.{at_position};
+ghost use Rattle.std.specs.Prelude.{◌≡◌, ◌<◌, ◌^◌, IfOk, get_or};
 ghost use Rattle.gf_nfg.specs.Profiles.{product};
 ghost use Rattle.gf_form.specs.inner.reduced.Levels.{ArePositive};
 ghost use Rattle.gf_form.specs.inner.reduced.OwnDigits.{digits_from};
@@ -33,14 +32,11 @@ pub(crate) fn own_steps(alloc: Global, counts: &[u32]) -> Result<Vec<u64>, Alloc
     steps_within(alloc, counts, values)
 }
 
-/// The step of the digit of the set at this position; 0 if there is no such set.
-pub(crate) fn step_at(steps: &[u64], position: u32) -> u64
-    ensures { result ≡ unwrap_or (at_position steps.now position) 0 }
+/// The step of the digit of the set at this place; 0 if there is no such set.
+pub(crate) fn step_at(steps: &[u64], place: u32) -> u64
+    ensures { result ≡ get_or steps.now place 0 }
 {
-    if position == 0 {
-        return 0;
-    }
-    match steps.get(position as usize - 1) {
+    match steps.get(place as usize) {
         Some(step) => *step,
         None => 0,
     }

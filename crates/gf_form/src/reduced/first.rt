@@ -12,7 +12,6 @@ ghost use Rattle.gf_form.specs.inner.reduced.OwnDigits.{digits_from};
 ghost use Rattle.gf_form.specs.inner.reduced.Relevance.{FindRelevance};
 ghost use Rattle.gf_form.specs.inner.reduced.Search.{AreFirstBelow, AreFoundTo, AreOwn};
 ghost use Rattle.gf_form.specs.inner.reduced.Search.{HaveChoices, IsSearched, digit_at};
-ghost use Rattle.gf_form.specs.inner.reduced.Visits.{AreWithin};
 ghost use Rattle.gf_form.specs.Reduced.{reduced_labels};
 ghost use Rattle.gf_form.specs.Strategies.{action_counts, players_of, strategies};
 
@@ -73,6 +72,7 @@ impl Search {
         number: u32,
         count: u32,
     ) -> Result<(), AllocError>
+        requires is_game { IsGame player.now.game.now }
         requires found { AreFoundTo player.now.game.now player.now.number self.old.numbers.items
             number }
         requires within { number + count
@@ -166,7 +166,7 @@ fn digit_of(digits: &[OwnDigit], place: usize) -> Option<usize>
     None
 }
 
-/// The visits to sets with a digit, each to the position of the digit, from 1.
+/// The visits to sets with a digit, each to the place of the digit, from 0.
 fn own_visits(
     alloc: Global,
     visits: &[Visit],
@@ -174,17 +174,16 @@ fn own_visits(
 ) -> Result<Vec<Visit>, AllocError>
     requires digits { (counts : List ℕ) × (digits.now ≡ digits_from 0 counts) }
     requires few { length digits.now < 2 ^ 32 }
-    requires within { (sets : ℕ) × AreWithin sets visits.now }
     ensures { IfOk result (λ own. AreOwn digits.now visits.now own.items) }
 {
     let mut own = Vec::new(alloc);
     for visit in visits {
-        let Some(position) = digit_of(digits, visit.set as usize - 1) else {
+        let Some(position) = digit_of(digits, visit.set as usize) else {
             continue;
         };
         own.push(Visit {
             demands: visit.demands,
-            set: position as u32 + 1,
+            set: position as u32,
         })?;
     }
     Ok(own)

@@ -1,11 +1,10 @@
 //! What is left of a player's visits after choices at the slower digits.
 
 ghost use Rattle.std.specs.Prelude.{◌≡◌, ◌<◌, ◌+◌, ◌*◌, ◌^◌, false, [], IfOk, OnOk, get_or, length};
-ghost use Rattle.std.specs.Prelude.{ℕ, suc};
+ghost use Rattle.std.specs.Prelude.{ℕ};
 ghost use Rattle.std.specs.List.Sorted.{IsNonDecreasingBy, IsPermutation};
-ghost use Rattle.gf_form.specs.inner.reduced.Levels.{AddsLeft, HasSets, HaveBelow, IsChosen};
+ghost use Rattle.gf_form.specs.inner.reduced.Levels.{AddsLeft, HaveBelow, IsChosen};
 ghost use Rattle.gf_form.specs.inner.reduced.Levels.{IsChosenAt, IsLevel, can_be_met, left_of};
-ghost use Rattle.gf_form.specs.inner.reduced.Visits.{AreWithin};
 
 use crate::reduced::visits::Visit;
 use std::alloc::{AllocError, Global};
@@ -62,7 +61,6 @@ impl Level {
         visits: &[Visit],
         sets: usize,
     ) -> Result<Level, AllocError>
-        requires { AreWithin sets visits.now }
         ensures visits { IfOk result (λ level. IsPermutation visits.now level.visits.items) }
         ensures unknown { IfOk result (λ level. (place : ℕ)
             → get_or level.known.items place false ≡ false) }
@@ -79,23 +77,25 @@ impl Level {
     fn sort(&mut self)
         ensures known { self.new.known ≡ self.old.known }
         ensures visits { IsPermutation self.old.visits.items self.new.visits.items }
-        ensures level { (sets : ℕ) → HasSets sets self.old → IsLevel sets self.new }
+        ensures ordered { IsNonDecreasingBy (λ (v : Visit). v.demands) self.new.visits.items }
     {
         self.visits.sort_unstable_by_key(|visit| visit.demands);
     }
 
-    /// Adds what is left of these visits if this action is chosen at the slowest digit, with this
-    /// step.
+    /// Adds what is left of these visits, to sets of the level, if this action is chosen at the
+    /// slowest digit, with this step.
     #[tactic(auto, using(crate::proofs::lemmas::reduced::LevelsChosen::left_steps))]
     fn add_left(&mut self, visits: &[Visit], step: u64, action: u64) -> Result<(), AllocError>
         requires fits { action * step + step < 2 ^ 64 }
-        requires within { AreWithin (length self.old.known.items) visits.now }
-        requires sets { HasSets (length self.old.known.items) self.old }
         ensures left { OnOk result (AddsLeft step action visits.now self.old self.new) }
-        ensures sets { OnOk result (HasSets (length self.old.known.items) self.new) }
+        ensures counted { OnOk result
+            (length self.new.known.items ≡ length self.old.known.items) }
     {
         for visit in visits {
-            let place = visit.set as usize - 1;
+            let place = visit.set as usize;
+            if place >= self.known.len() {
+                continue;
+            }
             if self.known[place] {
                 continue;
             }
@@ -118,11 +118,10 @@ impl Level {
     /// the digit or the action.
     fn add_chosen(&mut self, visits: &[Visit], step: u64, action: u64) -> Result<(), AllocError>
         requires fits { action * step + step < 2 ^ 64 }
-        requires within { AreWithin (length self.old.known.items) visits.now }
         requires ordered { IsNonDecreasingBy (λ (v : Visit). v.demands) visits.now }
-        requires sets { HasSets (length self.old.known.items) self.old }
         ensures left { OnOk result (AddsLeft step action visits.now self.old self.new) }
-        ensures sets { OnOk result (HasSets (length self.old.known.items) self.new) }
+        ensures counted { OnOk result
+            (length self.new.known.items ≡ length self.old.known.items) }
     {
         let lowest = action * step;
         let free = count_below(visits, step);
@@ -137,7 +136,7 @@ impl Level {
     /// digit, with this step.
     pub(crate) fn choose(&mut self, from: &Level, step: u64, action: u64) -> Result<(), AllocError>
         requires fits { action * step + step < 2 ^ 64 }
-        requires level { IsLevel (length from.now.known.items) from.now }
+        requires ordered { IsNonDecreasingBy (λ (v : Visit). v.demands) from.now.visits.items }
         ensures chosen { OnOk result (IsChosen step action from.now self.new) }
         ensures level { OnOk result (IsLevel (length from.now.known.items) self.new) }
     {
@@ -158,7 +157,7 @@ impl Level {
         place: usize,
     ) -> Result<(), AllocError>
         requires fits { action * step + step < 2 ^ 64 }
-        requires level { IsLevel (length from.now.known.items) from.now }
+        requires ordered { IsNonDecreasingBy (λ (v : Visit). v.demands) from.now.visits.items }
         requires there { place < length from.now.known.items }
         ensures chosen { OnOk result (IsChosenAt place step action from.now self.new) }
         ensures level { OnOk result (IsLevel (length from.now.known.items) self.new) }
@@ -171,16 +170,19 @@ impl Level {
     }
 
     /// Replaces flags by whether each set can be met.
+    #[tactic(auto, using(crate::proofs::lemmas::reduced::LevelsChosen::mark_steps))]
     pub(crate) fn mark(&self, met: &mut Vec<bool>) -> Result<(), AllocError>
-        requires { IsLevel (length self.now.known.items) self.now }
         ensures counted { OnOk result (length met.new.items ≡ length self.now.known.items) }
-        ensures marks { OnOk result ((place : ℕ)
-            → get_or met.new.items place false ≡ can_be_met (suc place) self.now) }
+        ensures marks { OnOk result ((place : ℕ) → place < length self.now.known.items
+            → get_or met.new.items place false ≡ can_be_met place self.now) }
     {
         met.clear();
         met.extend_from_slice(&self.known)?;
         for visit in &self.visits {
-            met[visit.set as usize - 1] = true;
+            let place = visit.set as usize;
+            if place < met.len() {
+                met[place] = true;
+            }
         }
         Ok(())
     }

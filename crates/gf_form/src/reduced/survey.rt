@@ -1,8 +1,7 @@
 //! The visits of a player, which one walk through the tree finds, whatever he chooses.
 
-ghost use Rattle.std.specs.Prelude.{◌≡◌, ◌<◌, ◌+◌, ◌*◌, ◌%◌, ◌^◌, ◌==◌, ◌++◌, [], ◌∷◌, IfOk, None};
-ghost use Rattle.std.specs.Prelude.{OnOk, Some, length, if◌then◌else◌, unwrap_or};
-ghost use Rattle.gf_token.specs.Positions.{at_position};
+ghost use Rattle.std.specs.Prelude.{◌≡◌, ◌<◌, ◌+◌, ◌-◌, ◌*◌, ◌%◌, ◌^◌, ◌==◌, ◌++◌, [], ◌∷◌, IfOk};
+ghost use Rattle.std.specs.Prelude.{None, OnOk, Some, get_or, length, if◌then◌else◌};
 ghost use Rattle.gf_tree.specs.Branches.{game_of, tree_of};
 ghost use Rattle.gf_tree.specs.BranchesLeft.{branches_given};
 ghost use Rattle.gf_tree.specs.Game.{IsGame};
@@ -79,15 +78,16 @@ impl<'g, 'a> Survey<'g, 'a> {
         ensures nodes { self.new.nodes ≡ self.old.nodes }
         ensures own { IfOk result (λ step. mover.0 ≡ owner.now.player
             → (self.new.visits.items
-            ≡ self.old.visits.items ++ record { demands = demands; set = mover.1 } ∷ [])
-            × (step ≡ unwrap_or (at_position owner.now.steps.now mover.1) 0)) }
+            ≡ self.old.visits.items ++ record { demands = demands; set = mover.1 - 1 } ∷ [])
+            × (step ≡ get_or owner.now.steps.now (mover.1 - 1) 0)) }
         ensures other { IfOk result (λ step. ¬ (mover.0 ≡ owner.now.player)
             → (self.new.visits ≡ self.old.visits) × (step ≡ 0)) }
     {
-        let (player, set) = mover;
+        let (player, position) = mover;
         if player != owner.player {
             return Ok(0);
         }
+        let set = position.saturating_sub(1);
         self.visits.push(Visit { demands, set })?;
         Ok(step_at(owner.steps, set))
     }

@@ -10,7 +10,7 @@ ghost use Rattle.gf_form.specs.declared.reduced.visits.Visit.{Visit};
 pub(crate) struct Visit {
     /// The choices that it demands of the player, by the digits of his sets.
     pub demands: u64,
-    /// The position of the set among his, from 1.
+    /// The place of the set among his, from 0.
     pub set: u32,
 }
 

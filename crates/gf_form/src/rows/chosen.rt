@@ -7,6 +7,8 @@ ghost use Rattle.gf_form.specs.inner.rows.Entries.{AreChosen, AreWithin, CountsB
 /// The terms that demand nothing at the slowest digit, and those that demand an action there.
 #[derive(Clone, Copy)]
 pub(crate) struct Chosen {
+    /// The action, by its position; 0 if these are none yet.
+    pub action: u64,
     /// How many demand nothing there. They are the first ones.
     pub free: usize,
     /// The place of the first one that demands the action, and that after the last one, from 0.
@@ -36,6 +38,7 @@ impl Chosen {
         ensures { (demands : List ℕ) → AreWithin demands result }
     {
         Chosen {
+            action: 0,
             free: 0,
             start: 0,
             end: 0,
@@ -55,6 +58,11 @@ impl Chosen {
         let free = count_near(demands, step, self.free);
         let start = count_near(demands, lowest, self.end.max(free));
         let end = count_near(demands, lowest + step, start);
-        Chosen { free, start, end }
+        Chosen {
+            action,
+            free,
+            start,
+            end,
+        }
     }
 }

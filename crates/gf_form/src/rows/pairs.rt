@@ -3,14 +3,13 @@
 
 ghost use Rattle.std.specs.Prelude.{◌≡◌, ◌+◌, ◌<◌, ◌≤◌, ◌^◌, ◌+ℤ◌, ◌*ℤ◌, ℕ, IfOk, IfSome, get_or};
 ghost use Rattle.std.specs.Prelude.{[], ◌∷◌, false, length, pos, true};
-ghost use Rattle.gf_fraction.specs.Ratio.{HasValue, IsFraction, IsWithin};
 ghost use Rattle.gf_form.specs.inner.rows.Entries.{AreChosen, AreWithin, IsShaped, entries, part};
 ghost use Rattle.gf_form.specs.inner.rows.Pairs.{ComeToPair, HasPairRow, IsOnly};
 
 use crate::rows::chosen::Chosen;
 use crate::rows::sums::{Scale, combined, scale_of};
 use crate::rows::terms::{Head, Terms};
-use gf_fraction::Fraction;
+use gf_fraction::{Fraction, SharedDenominator};
 use std::alloc::AllocError;
 
 /// The greatest denominator, and the greatest size.
@@ -45,23 +44,26 @@ fn number_at(numbers: &[i128], place: usize) -> i128
     }
 }
 
-/// A whole number over a denominator.
-fn over(den: u128, whole: i128) -> Fraction
-    requires above_zero { 0 < den }
-    requires den_within { den < 2 ^ 127 }
-    requires within { IsWithin whole }
-    ensures fraction { IsFraction result }
-    ensures value { HasValue result whole den }
+/// Makes it this denominator. Quick if it is that already.
+#[inline(always)]
+fn put(shared: &mut SharedDenominator, den: u128)
+    requires above { 0 < den }
+    requires within { den < 2 ^ 127 }
+    ensures { shared.new ≡ den }
 {
-    Fraction::new(whole, den).unwrap()
+    if shared.den() != den {
+        *shared = SharedDenominator::new(den);
+    }
 }
 
 impl<'t> Pair<'t> {
-    /// Appends its row, if all numbers fit.
+    /// Appends its row, if all numbers fit. Quick if the denominator that is kept is that of the
+    /// pair.
     #[inline(always)]
     pub(crate) fn push_to(
         self,
         players: usize,
+        kept: &mut SharedDenominator,
         rows: &mut Vec<Fraction>,
     ) -> Result<bool, AllocError>
         requires above { 0 < self.scale.den }
@@ -70,6 +72,7 @@ impl<'t> Pair<'t> {
             → HasPairRow self.entry players rows.old.items rows.new.items) }
         ensures none { IfOk result (λ fits. fits ≡ false → rows.new.items ≡ rows.old.items) }
     {
+        put(kept, self.scale.den);
         let before = rows.len();
         for place in 0..players {
             let first = number_at(self.first, place);
@@ -78,7 +81,7 @@ impl<'t> Pair<'t> {
                 rows.truncate(before);
                 return Ok(false);
             };
-            rows.push(over(self.scale.den, number))?;
+            rows.push(kept.lowest(number))?;
         }
         Ok(true)
     }

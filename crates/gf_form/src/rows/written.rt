@@ -1,6 +1,6 @@
 //! The payoffs at the profiles of a table, from the terms of which they are sums.
 
-ghost use Rattle.std.specs.Prelude.{◌≡◌, ◌+◌, ◌*◌, ◌<◌, ◌≤◌, ◌^◌, [], ◌∷◌, ℕ, IfOk, IfSome};
+ghost use Rattle.std.specs.Prelude.{◌≡◌, ◌+◌, ◌*◌, ◌/◌, ◌<◌, ◌≤◌, ◌^◌, [], ◌∷◌, ℕ, IfOk, IfSome};
 ghost use Rattle.std.specs.Prelude.{IsErrOf, OnOk};
 ghost use Rattle.std.specs.Prelude.{get_or, length, map, true};
 ghost use Rattle.gf_nfg.specs.Profiles.{product};
@@ -27,7 +27,7 @@ use crate::strategies::profile::{no_actions, write_strategies};
 use crate::values::expectation::expected_with;
 use crate::values::payoffs::Payoffs;
 use crate::values::stack::Values;
-use gf_fraction::Fraction;
+use gf_fraction::{Fraction, SharedDenominator};
 use gf_tree::Game;
 use std::alloc::{AllocError, Global};
 
@@ -62,6 +62,8 @@ pub(crate) struct Written {
     /// The strategies of the last profile with a walk.
     pub strategies: Vec<Vec<u32>>,
     pub values: Values,
+    /// The denominator of the last pair.
+    pub shared: SharedDenominator,
     /// Lists whose room is used again.
     pub spare: Vec<Terms>,
 }
@@ -108,6 +110,7 @@ impl Written {
             rows: Vec::with_capacity(alloc, profiles as usize * players)?,
             strategies: no_actions(alloc, counts.actions.len())?,
             values: Values::new(alloc),
+            shared: SharedDenominator::new(1),
             spare: Vec::new(alloc),
         })
     }
@@ -183,7 +186,7 @@ impl Written {
         ensures refused { IsRightlyRefused asked.now result }
     {
         if let Some(pair) = pair {
-            if pair.push_to(players, &mut self.rows)? {
+            if pair.push_to(players, &mut self.shared, &mut self.rows)? {
                 return Ok(());
             }
         }
@@ -206,13 +209,14 @@ impl Written {
     {
         let all = terms.demands.len();
         let alone = Chosen {
+            action: 0,
             free: all,
             start: all,
             end: all,
         };
         if let Some(pair) = terms.pair(alone) {
             let mut row = Vec::with_capacity(self.alloc, terms.players)?;
-            if pair.push_to(terms.players, &mut row)? {
+            if pair.push_to(terms.players, &mut self.shared, &mut row)? {
                 for before in run.from..run.to {
                     push_few(&mut self.rows, &row)?;
                 }
@@ -337,8 +341,9 @@ impl Terms {
             (λ next. SettleRows asked.now (actions_at faster.now) self.new next.0) }
         ensures near { IfOk result (λ next. AreWithin terms.now.demands.items next.1) }
     {
-        let count = run.count / slowest.actions;
-        let before = (asked.numbers[run.from as usize] - run.first) / count;
+        let count = divided(run.count, slowest.actions);
+        let number = asked.numbers[run.from as usize] - run.first;
+        let before = part_of(number, count, near.action);
         let first = run.first + before * count;
         let action = u64::from(before) + 1;
         let chosen = near.next(&terms.demands, slowest.step, action);
@@ -354,6 +359,34 @@ impl Terms {
         };
         Ok((alike, chosen))
     }
+}
+
+/// The quotient. Quick if the divisor is 2, as most digits have two actions.
+#[inline(always)]
+fn divided(count: u32, by: u32) -> u32
+    requires { 0 < by }
+    ensures { result ≡ count / by }
+{
+    if by == 2 {
+        return count / 2;
+    }
+    count / by
+}
+
+/// Which part of this many numbers each, from 0, a number is in. Quick if it is this one.
+#[inline(always)]
+fn part_of(number: u32, count: u32, guess: u64) -> u32
+    requires { 0 < count }
+    ensures { result ≡ number / count }
+{
+    if let Ok(part) = u32::try_from(guess) {
+        let start = guess * u64::from(count);
+        let after = start + u64::from(count);
+        if start <= u64::from(number) && u64::from(number) < after {
+            return part;
+        }
+    }
+    number / count
 }
 
 /// The place after the last number, between one place and another, in the run of numbers that are

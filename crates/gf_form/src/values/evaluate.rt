@@ -13,6 +13,7 @@ ghost use Rattle.gf_form.specs.inner.values.Values.{value};
 ghost use Rattle.gf_form.specs.declared.values.op.Op.{Op};
 
 use crate::fault::EvalFault;
+use crate::rows::{pay, weigh};
 use crate::values::op::Op;
 use crate::values::payoffs::Payoffs;
 use crate::values::stack::Values;
@@ -42,8 +43,24 @@ fn step(payoffs: &Payoffs<'_>, op: Op, values: &mut Values) -> Result<(), EvalFa
         Op::Push(outcome) => values.push(payoffs.at(outcome)),
         Op::Begin => values.push(&[]),
         Op::Nothing => Err(EvalFault::Overflow),
-        Op::Weigh(chance) => values.weigh(chance),
-        Op::Pay(outcome) => values.pay(payoffs.at(outcome)),
+        Op::Weigh(chance) => {
+            let row = values.pop();
+            let mut sum = values.pop();
+            if let Err(fault) = weigh(&mut sum, chance, &row) {
+                return Err(fault);
+            }
+            values.put(sum)?;
+            values.give_back(row)?;
+            Ok(())
+        }
+        Op::Pay(outcome) => {
+            let mut row = values.pop();
+            if let Err(fault) = pay(payoffs.at(outcome), &mut row) {
+                return Err(fault);
+            }
+            values.put(row)?;
+            Ok(())
+        }
     }
 }
 

@@ -3,7 +3,7 @@
 ghost use Rattle.std.specs.Prelude.{◌≤◌, IfOk, IsErrOf, OnOk, map};
 ghost use Rattle.std.specs.List.{AllZip};
 ghost use Rattle.gf_form.specs.inner.values.PaidRows.{rows_of};
-ghost use Rattle.gf_form.specs.Refusal.{HasValuesBy};
+ghost use Rattle.gf_form.specs.Refusal.{HasValuesWith};
 ghost use Rattle.gf_form.specs.inner.values.Rows.{ArePaid};
 ghost use Rattle.gf_form.specs.StrategicForm.{ArePayoffs};
 ghost use Rattle.gf_form.specs.Strategies.{AreStrategies, choices_by};
@@ -31,9 +31,9 @@ pub(crate) fn expected_with(
     requires payoffs { ArePaid game.now (rows_of payoffs.now) }
     ensures payoffs { IfOk result (λ payoffs. ArePayoffs game.now
         (choices_by game.now (map (λ own. own.items) choices.now)) payoffs.items) }
-    ensures values { OnOk result (HasValuesBy game.now
+    ensures values { OnOk result (HasValuesWith game.now
         (choices_by game.now (map (λ own. own.items) choices.now))) }
-    ensures overflow { IsErrOf result EvalFault.Overflow → ¬ (HasValuesBy game.now
+    ensures overflow { IsErrOf result EvalFault.Overflow → ¬ (HasValuesWith game.now
         (choices_by game.now (map (λ own. own.items) choices.now))) }
 {
     let players = game.players().len();
@@ -69,9 +69,9 @@ pub fn expected(
     requires { AreStrategies game.now (map (λ own. own.items) choices.now) }
     ensures payoffs { IfOk result (λ payoffs. ArePayoffs game.now
         (choices_by game.now (map (λ own. own.items) choices.now)) payoffs.items) }
-    ensures values { OnOk result (HasValuesBy game.now
+    ensures values { OnOk result (HasValuesWith game.now
         (choices_by game.now (map (λ own. own.items) choices.now))) }
-    ensures overflow { IsErrOf result EvalFault.Overflow → ¬ (HasValuesBy game.now
+    ensures overflow { IsErrOf result EvalFault.Overflow → ¬ (HasValuesWith game.now
         (choices_by game.now (map (λ own. own.items) choices.now))) }
 {
     let _players = game.players();

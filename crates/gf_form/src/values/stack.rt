@@ -2,18 +2,10 @@
 //! The room of a row that is taken off is used for a later one, so a walk allocates no more rows
 //! once it has as many as it needs at a time.
 
-ghost use Rattle.std.specs.Prelude.{◌≡◌, ◌<◌, ◌≤◌, ℕ, suc, List, [], ◌∷◌, None, Option};
-ghost use Rattle.std.specs.Prelude.{OnOk};
-ghost use Rattle.std.specs.Prelude.{IsErrOf, OnErr, length, vec_capacity, vec_len};
-ghost use Rattle.gf_fraction.specs.Ratio.{Ratio};
-ghost use Rattle.gf_tree.specs.Game.{Game};
-ghost use Rattle.gf_form.specs.inner.values.Program.{paid, run};
-ghost use Rattle.gf_form.specs.inner.values.Rows.{AreRows, IsRow, at_place, column};
-ghost use Rattle.gf_form.specs.declared.values.op.Op.{Op};
-ghost use Rattle.gf_form.specs.declared.values.op.Op.TheVariants.{Pay, Weigh};
+ghost use Rattle.std.specs.Prelude.{◌≡◌, ◌≤◌, [], ◌∷◌, OnOk, IsErrOf, OnErr, length};
+ghost use Rattle.std.specs.Prelude.{vec_capacity, vec_len};
 
 use crate::fault::EvalFault;
-use crate::rows::{pay, weigh};
 use gf_fraction::Fraction;
 use std::alloc::{AllocError, Global};
 
@@ -65,55 +57,11 @@ impl Values {
         Ok(())
     }
 
-    /// Adds the row on top, times a probability, to the one below it.
-    pub(crate) fn weigh(&mut self, chance: Fraction) -> Result<(), EvalFault>
-        requires two { 2 ≤ length (rows_on self.old) }
-        requires rows { (players : ℕ) × AreRows players (rows_on self.old) }
-        ensures rows { OnOk result ((players : ℕ) → AreRows players (rows_on self.old)
-            → AreRows players (rows_on self.new)) }
-        ensures added { OnOk result ((g : Game) (k : ℕ) (ops : List Op)
-            → run g (suc k) (Weigh chance ∷ ops) (column k (rows_on self.old))
-            ≡ run g (suc k) ops (column k (rows_on self.new))) }
-        ensures overflow { IsErrOf result EvalFault.Overflow → (k : ℕ)
-            × (below : List (Option Ratio))
-            × ((players : ℕ) → AreRows players (rows_on self.old) → k < players)
-            × ((g : Game) (ops : List Op)
-            → run g (suc k) (Weigh chance ∷ ops) (column k (rows_on self.old))
-            ≡ run g (suc k) ops (None ∷ below)) }
+    /// Puts a row onto the stack, and keeps its room.
+    #[tactic(auto, using(crate::proofs::lemmas::values::Stacks::pushed))]
+    pub(crate) fn put(&mut self, row: Vec<Fraction>) -> Result<(), AllocError>
+        ensures { OnOk result (rows_on self.new ≡ row.items ∷ rows_on self.old) }
     {
-        let row = self.rows.pop().unwrap();
-        let mut sum = self.rows.pop().unwrap();
-        if let Err(fault) = weigh(&mut sum, chance, &row) {
-            return Err(fault);
-        }
-        self.rows.push(sum)?;
-        self.spare.push(row)?;
-        Ok(())
-    }
-
-    /// Adds payoffs to the row on top.
-    pub(crate) fn pay(&mut self, payoffs: &[Fraction]) -> Result<(), EvalFault>
-        requires one { 1 ≤ length (rows_on self.old) }
-        requires rows { (players : ℕ) × AreRows players (rows_on self.old)
-            × IsRow players payoffs.now }
-        ensures rows { OnOk result ((players : ℕ) → AreRows players (rows_on self.old)
-            → IsRow players payoffs.now → AreRows players (rows_on self.new)) }
-        ensures added { OnOk result ((g : Game) (k position : ℕ) (ops : List Op)
-            → at_place payoffs.now k ≡ paid g (suc k) position
-            → run g (suc k) (Pay position ∷ ops) (column k (rows_on self.old))
-            ≡ run g (suc k) ops (column k (rows_on self.new))) }
-        ensures overflow { IsErrOf result EvalFault.Overflow → (k : ℕ)
-            × (below : List (Option Ratio))
-            × ((players : ℕ) → IsRow players payoffs.now → k < players)
-            × ((g : Game) (position : ℕ) (ops : List Op)
-            → at_place payoffs.now k ≡ paid g (suc k) position
-            → run g (suc k) (Pay position ∷ ops) (column k (rows_on self.old))
-            ≡ run g (suc k) ops (None ∷ below)) }
-    {
-        let mut row = self.rows.pop().unwrap();
-        if let Err(fault) = pay(payoffs, &mut row) {
-            return Err(fault);
-        }
         self.rows.push(row)?;
         Ok(())
     }

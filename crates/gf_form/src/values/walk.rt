@@ -89,6 +89,7 @@ impl<'c, 'g, 'a> Walk<'c, 'g, 'a> {
     }
 
     /// Makes the remaining children of a node of chance come next, and then its payoffs.
+    #[tactic(auto, using(crate::proofs::lemmas::values::Walks::open_steps))]
     fn go_on(&mut self, node: Branch<'g, 'a>, mut rest: Branches<'g, 'a>) -> Result<(), AllocError>
         requires { self.old.next ≡ None }
         ensures same { strategies_of_walk self.new ≡ strategies_of_walk self.old }

@@ -4,4 +4,3 @@ pub mod Payoffs
 pub mod ReaderSteps
 pub mod Sentence
 pub mod Strategies
-pub mod Walks

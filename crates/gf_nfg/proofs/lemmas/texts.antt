@@ -1,6 +1,5 @@
-pub mod Lines
 pub mod OneTable
+pub mod PayoffLines
 pub mod Pieces
 pub mod SharedLines
-pub mod Spelled
 pub mod Told

@@ -1,9 +1,9 @@
 -- Tables that are only compared, and what is kept of their payoffs.
 use Rattle.std.specs.Prelude.{◌≡◌, IsTrue, [], length, map, ⊤}
 use Rattle.std.specs.List.{flat_map}
-use Rattle.gf_nfg.specs.Profiles.{positions, product}
+use Rattle.gf_nfg.specs.Profiles.{product}
 use Rattle.gf_nfg.specs.Table.{IsTable, Table, rows}
-use Rattle.gf_nfg.specs.TableParts.{row_of, table_with}
+use Rattle.gf_nfg.specs.TableParts.{rows_of, table_with}
 use Rattle.gf_nfg.specs.inner.PayoffLists.{payoffs_in}
 use Rattle.gf_nfg.specs.inner.Told.{Told}
 use Rattle.gf_nfg.specs.declared.reader.receive.Version.TheVariants.{Outcomes}
@@ -21,8 +21,8 @@ pub record IsListing (l : Listing) (told : Told) : Type 0 where
 -- the table that is kept
 abbrev pub listed : Body → Table
 listed (InTurn names numbers others) = table_with names
-    (map (row_of (length names.players) (payoffs_in numbers.items others.items))
-    (positions (product (map length names.strategies))))
+    (rows_of (length names.players) (product (map length names.strategies))
+    (payoffs_in numbers.items others.items))
 listed (Shared t) = t
 
 -- payoffs in turn are those of the table

@@ -80,18 +80,31 @@ body_answer version.Payoffs r =
     answer p.FlatPayoffs (length r.heading.players.items * r.heading.profiles.count) 0 r
 body_answer version.Outcomes r = answer p.InOutcomes 0 0 r
 
--- The receiver was told a list, and the machine goes on after it.
-pub record HasTold {A T : Type 0} (holds : T → Told → Type 0) (telling : List A → Told)
-    (before : Answer) (after : Told → Answer) (to : T) : Type 0 where
-  pub told : List A
-  pub goes : before ≡ after (telling told)
-  pub holding : holds to (telling told)
+-- What a receiver was before it was told anything, what the machine answers where the body begins,
+-- and the heading that was told.
+pub record Telling (T : Type 0) : Type 0 where
+  pub untold : T
+  pub whole : Answer
+  pub version : Version
+  pub heading : Heading
 
--- the same of a call
-abbrev pub GoesTelling : {A T X : Type 0} → (T → Told → Type 0) → (List A → Told) → Result X Fault
-    → Answer → (Told → Answer) → T → Type 0
-GoesTelling holds telling result before after to =
-    MatchResult result (λ _. HasTold holds telling before after to) (λ f. Fails f before)
+-- the same, and the body as far as it was told
+abbrev pub told_of : {T : Type 0} → Telling T → List Ratio → List ℕ → Told
+told_of b payoffs numbers =
+    record { version = b.version; heading = b.heading; payoffs = payoffs; numbers = numbers }
+
+-- The receiver holds what it was told, and from there the machine gives its answer.
+pub record StandsAt {T : Type 0} (holds : T → T → Told → Type 0) (b : Telling T) (q : Position)
+    (due outcomes : ℕ) (tokens : Remaining) (to : T) : Type 0 where
+  pub payoffs : List Ratio
+  pub numbers : List ℕ
+  pub unnumbered : b.version ≡ version.Payoffs → numbers ≡ []
+  pub goes : b.whole ≡ told_answer q due outcomes tokens (told_of b payoffs numbers)
+  pub holding : holds b.untold to (told_of b payoffs numbers)
+
+-- a call leads from one such place to another
+abbrev pub GoesTo : {T X : Type 0} → Telling T → Result X Fault → Type 0 → Type 0 → Type 0
+GoesTo b result before after = before → MatchResult result (λ _. after) (λ f. Fails f b.whole)
 
 -- The receiver was told the whole file, to its end. In payoff version no numbers were told.
 pub record HasToldAll {T : Type 0} (holds : T → Told → Type 0) (before : Answer) (heading : Heading)

@@ -1,6 +1,6 @@
 -- The pieces of a canonical text, for the functions that append them.
-use Rattle.std.specs.Prelude.{◌≡◌, ℕ, ◌+◌, ◌<◌, ◌≤◌, Bool, List, length, [], ◌∷◌, ◌++◌, map, codes}
-use Rattle.std.specs.Prelude.{drop, get_or, if◌then◌else◌, take}
+use Rattle.std.specs.Prelude.{◌≡◌, ℕ, ◌+◌, ◌-◌, ◌<◌, ◌≤◌, Bool, List, length, [], ◌∷◌, ◌++◌, map}
+use Rattle.std.specs.Prelude.{codes, drop, get_or, if◌then◌else◌, nat_lt, take}
 use Rattle.std.specs.List.{AllByRecursion, flat_map}
 use Rattle.gf_fraction.specs.Ratio.{Ratio}
 use Rattle.gf_fraction.specs.NumberText.{number_text}
@@ -30,6 +30,14 @@ row_text row = spaced (map number_text row)
 -- and their line
 abbrev pub line_text : List Ratio → List ℕ
 line_text row = row_text row ++ 10 ∷ []
+
+-- Payoffs in lines of so many, of which the first one lacks so many. A space or a line feed stands
+-- after each.
+abbrev pub payoffs_text : ℕ → ℕ → List Ratio → List ℕ
+payoffs_text width left [] = []
+payoffs_text width left (payoff ∷ payoffs) = number_text payoff
+    ++ (if nat_lt 1 left then 32 ∷ payoffs_text width (left - 1) payoffs
+    else 10 ∷ payoffs_text width width payoffs)
 
 -- the format, the title and the players
 abbrev pub first_line : Names → List ℕ

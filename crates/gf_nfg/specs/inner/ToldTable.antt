@@ -1,12 +1,14 @@
 -- What a receiver was told of a table.
 use Rattle.std.specs.Prelude.{◌≡◌, ℕ, List, []}
+use Rattle.gf_fraction.specs.Ratio.{Ratio}
 use Rattle.gf_nfg.specs.LimitPlace.{IsWithinLimit}
 use Rattle.gf_nfg.specs.inner.Machine.{Content}
 use Rattle.gf_nfg.specs.inner.Meaning.{IsComplete, table_of}
-use Rattle.gf_nfg.specs.inner.ReaderState.{content_told}
+use Rattle.gf_nfg.specs.inner.ReaderState.{content_with}
 use Rattle.gf_nfg.specs.TableText.{SpellsTable}
 use Rattle.gf_nfg.specs.inner.Told.{Told}
 use Rattle.gf_nfg.specs.declared.table.heading.Heading.{Heading}
+use Rattle.gf_nfg.specs.declared.reader.receive.Version.{Version}
 use Rattle.gf_nfg.specs.declared.reader.receive.Version.TheVariants.{Payoffs}
 
 -- these parts mean a table within the limit, which the bytes spell
@@ -19,9 +21,14 @@ pub record MeansTable (bytes : List ℕ) (c : Content) : Type 0 where
 -- version no numbers were told.
 pub record HasToldTable {T : Type 0} (holds : T → Told → Type 0) (bytes : List ℕ)
     (heading : Heading) (to : T) : Type 0 where
-  pub told : Told
-  pub same : told.heading ≡ heading
-  pub spelled : SpellsTable bytes (table_of (content_told told))
-  pub complete : IsComplete (content_told told)
-  pub unnumbered : told.version ≡ Payoffs → told.numbers ≡ []
-  pub holding : holds to told
+  pub version : Version
+  pub payoffs : List Ratio
+  pub numbers : List ℕ
+  pub means : MeansTable bytes (content_with heading payoffs numbers)
+  pub unnumbered : version ≡ Payoffs → numbers ≡ []
+  pub holding : holds to (record {
+    version = version;
+    heading = heading;
+    payoffs = payoffs;
+    numbers = numbers;
+  })

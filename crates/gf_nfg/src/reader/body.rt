@@ -12,8 +12,8 @@ ghost use Rattle.gf_nfg.specs.inner.Machine.{Content, at, next_outcome};
 ghost use Rattle.gf_nfg.specs.inner.Position.Position.{AfterBracedPayoff, BracedPayoff};
 ghost use Rattle.gf_nfg.specs.inner.Position.Position.{FlatPayoffs};
 ghost use Rattle.gf_nfg.specs.inner.Position.Position.{InOutcomes, OutcomeName, OutcomeNumbers};
-ghost use Rattle.gf_nfg.specs.inner.ReaderState.{GoesTelling, HasTold, content_told, told_answer};
-ghost use Rattle.gf_nfg.specs.inner.Told.{Told, choosing, paying};
+ghost use Rattle.gf_nfg.specs.inner.ReaderState.{GoesTo, StandsAt, Telling};
+ghost use Rattle.gf_nfg.specs.declared.reader.receive.Version.TheVariants as version;
 
 use crate::reader::receive::Receive;
 use gf_token::{Fault, Tokens, What, Why};
@@ -21,15 +21,12 @@ use gf_token::{Fault, Tokens, What, Why};
 /// Reads a payoff, and tells it.
 #[inline(always)]
 fn payoff<'a, R: Receive<'a>>(tokens: &mut Tokens<'a>, to: &mut R) -> Result<(), Fault>
-    ensures flat { (untold : R) (told : Told) (due : ℕ) → 0 < due → R.holds untold to.old told
-        → GoesTelling (R.holds untold) (paying told) result
-        (told_answer FlatPayoffs due 0 tokens.old told)
-        (told_answer FlatPayoffs (due - 1) 0 tokens.new) to.new }
-    ensures braced { (untold : R) (told : Told) (due outcomes : ℕ) → 0 < due
-        → R.holds untold to.old told
-        → GoesTelling (R.holds untold) (paying told) result
-        (told_answer BracedPayoff due outcomes tokens.old told)
-        (told_answer AfterBracedPayoff (due - 1) outcomes tokens.new) to.new }
+    ensures flat { (b : Telling R) (due : ℕ) → 0 < due → GoesTo b result
+        (StandsAt R.holds b FlatPayoffs due 0 tokens.old to.old)
+        (StandsAt R.holds b FlatPayoffs (due - 1) 0 tokens.new to.new) }
+    ensures braced { (b : Telling R) (due outcomes : ℕ) → 0 < due → GoesTo b result
+        (StandsAt R.holds b BracedPayoff due outcomes tokens.old to.old)
+        (StandsAt R.holds b AfterBracedPayoff (due - 1) outcomes tokens.new to.new) }
     ensures shorter { OnOk result (length tokens.new.ahead ≤ length tokens.old.ahead) }
 
     // Memory is refused only if the receiver had no room.
@@ -55,10 +52,9 @@ pub(super) fn payoffs<'a, R: Receive<'a>>(
     mut due: u128,
     to: &mut R,
 ) -> Result<(), Fault>
-    ensures { (untold : R) (told : Told) → R.holds untold to.old told
-        → GoesTelling (R.holds untold) (paying told) result
-        (told_answer FlatPayoffs due 0 tokens.old told)
-        (told_answer FlatPayoffs 0 0 tokens.new) to.new }
+    ensures { (b : Telling R) → GoesTo b result
+        (StandsAt R.holds b FlatPayoffs due 0 tokens.old to.old)
+        (StandsAt R.holds b FlatPayoffs 0 0 tokens.new to.new) }
 {
     while due > 0 {
         payoff(tokens, to)?;
@@ -84,10 +80,9 @@ fn braced_payoffs<'a, R: Receive<'a>>(
     mut due: usize,
     to: &mut R,
 ) -> Result<(), Fault>
-    ensures told { (untold : R) (told : Told) (outcomes : ℕ) → R.holds untold to.old told
-        → GoesTelling (R.holds untold) (paying told) result
-        (told_answer BracedPayoff due outcomes tokens.old told)
-        (told_answer BracedPayoff 0 outcomes tokens.new) to.new }
+    ensures told { (b : Telling R) (outcomes : ℕ) → GoesTo b result
+        (StandsAt R.holds b BracedPayoff due outcomes tokens.old to.old)
+        (StandsAt R.holds b BracedPayoff 0 outcomes tokens.new to.new) }
     ensures shorter { OnOk result (length tokens.new.ahead ≤ length tokens.old.ahead) }
 {
     while due > 0 {
@@ -104,11 +99,10 @@ fn outcome<'a, R: Receive<'a>>(
     players: usize,
     to: &mut R,
 ) -> Result<(), Fault>
-    ensures told { (untold : R) (told : Told) (outcomes : ℕ)
-        → length (content_told told).players ≡ players → R.holds untold to.old told
-        → GoesTelling (R.holds untold) (paying told) result
-        (told_answer OutcomeName 0 outcomes tokens.old told)
-        (told_answer InOutcomes 0 (next_outcome outcomes) tokens.new) to.new }
+    ensures told { (b : Telling R) (outcomes : ℕ) → length b.heading.players.items ≡ players
+        → GoesTo b result
+        (StandsAt R.holds b OutcomeName 0 outcomes tokens.old to.old)
+        (StandsAt R.holds b InOutcomes 0 (next_outcome outcomes) tokens.new to.new) }
     ensures shorter { OnOk result (length tokens.new.ahead ≤ length tokens.old.ahead) }
 {
     let Some(_) = tokens.text() else {
@@ -128,12 +122,12 @@ pub(super) fn outcomes<'a, R: Receive<'a>>(
     players: usize,
     to: &mut R,
 ) -> Result<u32, Fault>
-    ensures { (untold : R) (told : Told)
-        → length (content_told told).players ≡ players → R.holds untold to.old told
-        → MatchResult result (λ outcomes. HasTold (R.holds untold) (paying told)
-        (told_answer InOutcomes 0 0 tokens.old told)
-        (told_answer OutcomeNumbers (content_told told).profiles outcomes tokens.new) to.new)
-        (λ f. Fails f (told_answer InOutcomes 0 0 tokens.old told)) }
+    ensures { (b : Telling R) → length b.heading.players.items ≡ players
+        → StandsAt R.holds b InOutcomes 0 0 tokens.old to.old
+        → MatchResult result
+        (λ outcomes. StandsAt R.holds b OutcomeNumbers b.heading.profiles.count outcomes tokens.new
+        to.new)
+        (λ f. Fails f b.whole) }
 {
     let mut outcomes: u32 = 0;
     while let Some(_) = tokens.opening() {
@@ -153,10 +147,10 @@ fn number<'a, R: Receive<'a>>(
     outcomes: u32,
     to: &mut R,
 ) -> Result<(), Fault>
-    ensures told { (untold : R) (told : Told) (due : ℕ) → 0 < due → R.holds untold to.old told
-        → GoesTelling (R.holds untold) (choosing told) result
-        (told_answer OutcomeNumbers due outcomes tokens.old told)
-        (told_answer OutcomeNumbers (due - 1) outcomes tokens.new) to.new }
+    ensures told { (b : Telling R) (due : ℕ) → b.version ≡ version.Outcomes → 0 < due
+        → GoesTo b result
+        (StandsAt R.holds b OutcomeNumbers due outcomes tokens.old to.old)
+        (StandsAt R.holds b OutcomeNumbers (due - 1) outcomes tokens.new to.new) }
 
     // Memory is refused only if the receiver had no room.
     ensures full { IfErr result (λ f. f.why ≡ Memory → R.numbers_full to.old) }
@@ -183,10 +177,9 @@ pub(super) fn numbers<'a, R: Receive<'a>>(
     outcomes: u32,
     to: &mut R,
 ) -> Result<(), Fault>
-    ensures { (untold : R) (told : Told) → R.holds untold to.old told
-        → GoesTelling (R.holds untold) (choosing told) result
-        (told_answer OutcomeNumbers due outcomes tokens.old told)
-        (told_answer OutcomeNumbers 0 outcomes tokens.new) to.new }
+    ensures { (b : Telling R) → b.version ≡ version.Outcomes → GoesTo b result
+        (StandsAt R.holds b OutcomeNumbers due outcomes tokens.old to.old)
+        (StandsAt R.holds b OutcomeNumbers 0 outcomes tokens.new to.new) }
 {
     while due > 0 {
         number(tokens, outcomes, to)?;

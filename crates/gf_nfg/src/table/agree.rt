@@ -15,7 +15,7 @@ use gf_token::Label;
 use std::alloc::{AllocError, Global};
 
 /// Whether the player at this place has the same strategies in both.
-#[tactic(auto, using(crate::proofs::lemmas::tables::Agreement::same_own_by_labels))]
+#[tactic(auto, using(crate::proofs::lemmas::tables::Agreement::same_by_labels))]
 fn same_own(a: &Names, b: &Names, at: usize) -> bool
     requires left { at < length a.now.players }
     requires right { at < length b.now.players }

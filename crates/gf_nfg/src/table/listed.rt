@@ -3,10 +3,10 @@
 ghost use Rattle.std.specs.Prelude.{◌≡◌, [], ℕ, List, IfOk, IfSome};
 ghost use Rattle.std.specs.List.{flat_map};
 ghost use Rattle.gf_fraction.specs.Ratio.{whole};
+ghost use Rattle.gf_nfg.specs.LimitPlace.{IsWithinLimit};
 ghost use Rattle.gf_nfg.specs.Table.{IsTable, rows};
+ghost use Rattle.gf_nfg.specs.TableText.{SpellsTable};
 ghost use Rattle.gf_nfg.specs.inner.ListedTable.{IsListing};
-ghost use Rattle.gf_nfg.specs.inner.Meaning.{table_of};
-ghost use Rattle.gf_nfg.specs.inner.ReaderState.{content_told};
 ghost use Rattle.gf_nfg.specs.inner.ToldTable.{HasToldTable};
 
 use crate::reader::receive::{Kept, Receive, Version};
@@ -144,8 +144,8 @@ impl ListedTable {
     ) -> Result<ListedTable, AllocError>
         requires { (bytes : List ℕ) × HasToldTable IsListing bytes heading listing }
         ensures { IfOk result (λ t. (bytes : List ℕ)
-            → (h : HasToldTable IsListing bytes heading.entry listing)
-            → t ≡ table_of (content_told h.told)) }
+            → HasToldTable IsListing bytes heading.entry listing
+            → SpellsTable bytes t × IsWithinLimit t) }
     {
         let Listing { whole, kept, .. } = listing;
         if kept.numbers.is_empty() {

@@ -1,9 +1,9 @@
 //! Everything of a table except its payoffs: its title, its comment, its players and their
 //! strategies.
 
-ghost use Rattle.std.specs.Prelude.{◌≡◌, ◌<◌, ◌∷◌, Some, IfOk, length, map, IsSomeAnd};
-ghost use Rattle.std.specs.Prelude.{option_and_then, option_map, slice_get};
+ghost use Rattle.std.specs.Prelude.{◌≡◌, ◌<◌, ◌∷◌, Some, IfOk, length, map, slice_get};
 ghost use Rattle.gf_token.specs.Label.{label_of};
+ghost use Rattle.gf_nfg.specs.TableParts.{own_of};
 
 use crate::table::labels::Labels;
 use crate::table::strategies::Strategies;
@@ -101,16 +101,15 @@ impl Names {
     /// How many strategies the player at this place has.
     pub(crate) fn strategies(&self, at: usize) -> usize
         requires { at < length self.now.players }
-        ensures { option_map length (slice_get self.now.strategies at) ≡ Some result }
+        ensures { result ≡ length (own_of self.now at) }
     {
         self.strategies.count(at)
     }
 
     /// The label of a strategy of the player at this place.
     pub(crate) fn strategy(&self, at: usize, strategy: usize) -> Label<'_>
-        requires { IsSomeAnd (slice_get self.now.strategies at) (λ own. strategy < length own) }
-        ensures { option_and_then (λ own. slice_get own strategy) (slice_get self.now.strategies at)
-            ≡ Some (label_of result) }
+        requires { strategy < length (own_of self.now at) }
+        ensures { slice_get (own_of self.now at) strategy ≡ Some (label_of result) }
     {
         self.strategies.label(at, strategy)
     }

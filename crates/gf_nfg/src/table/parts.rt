@@ -23,7 +23,7 @@ pub struct Parts<'a> {
 
 impl<'a> Parts<'a> {
     /// A row for each profile. The payoffs are not copied.
-    #[tactic(auto, using(crate::proofs::lemmas::tables::Meaning::has_rows))]
+    #[tactic(auto, using(crate::proofs::lemmas::tables::Meaning::rows_of_parts))]
     pub(crate) fn rows(self, alloc: Global) -> Result<Rows, AllocError>
         requires { IsComplete (content_of self) }
         ensures { IfOk result
@@ -41,6 +41,7 @@ impl<'a> Parts<'a> {
     }
 
     /// The table that the parts mean.
+    #[tactic(auto, using(crate::proofs::lemmas::tables::Rows::as_many_rows))]
     pub(crate) fn into_table(self, alloc: Global) -> Result<Table, AllocError>
         requires { (bytes : List ℕ) × MeansTable bytes (content_of self) }
         ensures { IfOk result (λ t. t ≡ table_of (content_of self.entry)) }

@@ -27,6 +27,7 @@ fn between(bytes: &[u8], start: usize, end: usize) -> &[u8]
 }
 
 /// The piece with this number, from 0, of bytes that are cut at these ends.
+#[tactic(auto, using(crate::proofs::lemmas::tables::Pieces::cut_at))]
 pub(crate) fn piece<'a>(bytes: &'a [u8], ends: &[usize], number: usize) -> &'a [u8]
     requires rises { RisesTo (length bytes.now) 0 ends.now }
     requires number { number < length ends.now }

@@ -1,10 +1,11 @@
 //! The place of a profile among all.
 
-ghost use Rattle.std.specs.Prelude.{◌≡◌, ◌<◌, ◌≤◌, length, map};
+ghost use Rattle.std.specs.Prelude.{◌≡◌, ◌<◌, ◌≤◌, MatchOption, length, map};
 ghost use Rattle.std.specs.List.{AllByRecursion};
 ghost use Rattle.gf_nfg.specs.Limit.{profile_limit};
+ghost use Rattle.gf_nfg.specs.ProfilePlaces.{IsProfile};
 ghost use Rattle.gf_nfg.specs.Profiles.{product};
-ghost use Rattle.gf_nfg.specs.TableParts.{place_of};
+ghost use Rattle.gf_nfg.specs.TableParts.{IsPlaced};
 
 use crate::table::names::Names;
 
@@ -14,7 +15,8 @@ pub(crate) fn place_of(names: &Names, profile: &[u32]) -> Option<u32>
     requires one_list_each { length names.now.strategies ≡ length names.now.players }
     requires some_strategy { AllByRecursion (λ own. 0 < length own) names.now.strategies }
     requires within { product (map length names.now.strategies) ≤ profile_limit }
-    ensures { result ≡ place_of (map length names.now.strategies) profile.now }
+    ensures { MatchOption result (¬ (IsProfile (map length names.now.strategies) profile.now))
+        (IsPlaced (map length names.now.strategies) profile.now) }
 {
     let players = names.players();
     if profile.len() != players {

@@ -1,8 +1,9 @@
 //! Rows of payoffs, one for each profile. Profiles may share them.
 
 ghost use Rattle.std.specs.Prelude.{◌≡◌, ◌+◌, ◌*◌, ◌<◌, ◌≤◌, ◌^◌, Some, IfOk, IfSome};
-ghost use Rattle.std.specs.Prelude.{length, map, slice_get, unwrap_or};
-ghost use Rattle.gf_nfg.specs.TableParts.{AreShared, HasRows, kept_row, numbers_of, row_of};
+ghost use Rattle.std.specs.Prelude.{MatchResult, length, slice_get, unwrap_or};
+ghost use Rattle.std.specs.List.{AllByRecursion, flat_map};
+ghost use Rattle.gf_nfg.specs.TableParts.{AreShared, HasRows, kept_row, kept_rows, no_pay};
 
 use gf_fraction::Fraction;
 use std::alloc::{AllocError, Global};
@@ -23,17 +24,16 @@ pub(crate) struct Rows {
 }
 
 impl Model for Rows {
-    ghost use Rattle.std.specs.Prelude.{List, map};
+    ghost use Rattle.std.specs.Prelude.{List};
     ghost use Rattle.gf_fraction.specs.Ratio.{Ratio};
-    ghost use Rattle.gf_nfg.specs.TableParts.{HasRows, kept_row, numbers_of};
+    ghost use Rattle.gf_nfg.specs.TableParts.{HasRows, kept_rows};
 
     ghost Value = { List (List Ratio) };
 
-    ghost view = { λ r. map (kept_row r.players r.payoffs.items r.zeros.items)
-        (numbers_of r.profiles r.choices.items) };
+    ghost view = { λ r.
+        kept_rows r.players r.profiles r.payoffs.items r.zeros.items r.choices.items };
 
-    ghost invariant = { λ r.
-        HasRows r.players r.profiles r.payoffs.items (numbers_of r.profiles r.choices.items) };
+    ghost invariant = { λ r. HasRows r.players r.profiles r.payoffs.items r.choices.items };
 }
 
 /// Rows with numbers, from 0, that profiles share.
@@ -97,9 +97,9 @@ impl Rows {
         payoffs: Vec<Fraction>,
         choices: Vec<u32>,
     ) -> Result<Rows, AllocError>
-        requires { HasRows players profiles payoffs.items (numbers_of profiles choices.items) }
+        requires { HasRows players profiles payoffs.items choices.items }
         ensures { IfOk result (λ rows. rows
-            ≡ map (row_of players payoffs.items) (numbers_of profiles choices.items)) }
+            ≡ kept_rows players profiles payoffs.items (no_pay players) choices.items) }
     {
         let count = if choices.is_empty() { 0 } else { players };
         let zeros = vec![in alloc; Fraction::zero(); count]?;
@@ -113,6 +113,7 @@ impl Rows {
     }
 
     /// How many profiles there are.
+    #[tactic(auto, using(crate::proofs::lemmas::tables::Rows::rows_counted))]
     pub(crate) fn len(&self) -> u32
         ensures { result ≡ length self.now }
     {
@@ -128,7 +129,20 @@ impl Rows {
         row_at(self.players, &self.payoffs, &self.zeros, number)
     }
 
+    /// The payoffs in the order of a file, if there are players and profiles do not share rows.
+    #[tactic(auto, using(crate::proofs::lemmas::tables::Rows::payoffs_in_turn))]
+    pub(crate) fn into_payoffs(self) -> Result<Vec<Fraction>, Rows>
+        ensures { MatchResult result (λ payoffs. (payoffs.items ≡ flat_map (λ row. row) self)
+            × AllByRecursion (λ row. 0 < length row) self) (λ rows. rows ≡ self) }
+    {
+        if self.players == 0 || !self.choices.is_empty() {
+            return Err(self);
+        }
+        Ok(self.payoffs)
+    }
+
     /// The rows and their numbers, if profiles may share them.
+    #[tactic(auto, using(crate::proofs::lemmas::tables::Rows::are_shared))]
     pub(crate) fn shared(&self) -> Option<Shared<'_>>
         ensures shared { IfSome result (λ s. AreShared self.now
             s.numbers.now s.players s.payoffs.now s.zeros.now s.rows) }

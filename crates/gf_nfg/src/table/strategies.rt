@@ -1,7 +1,7 @@
 //! The strategies of players, in memory of their own.
 
-ghost use Rattle.std.specs.Prelude.{◌≡◌, ◌<◌, ◌++◌, ◌∷◌, [], Some, length, map, IfOk, OnOk};
-ghost use Rattle.std.specs.Prelude.{IsSomeAnd, option_and_then, option_map, slice_get};
+ghost use Rattle.std.specs.Prelude.{◌≡◌, ◌<◌, ◌++◌, ◌∷◌, [], Some, get_or, length, map, IfOk};
+ghost use Rattle.std.specs.Prelude.{OnOk, slice_get};
 ghost use Rattle.std.specs.List.{AllByRecursion};
 ghost use Rattle.gf_token.specs.Label.{label_of};
 ghost use Rattle.gf_nfg.specs.Sentence.{counted_labels};
@@ -153,7 +153,7 @@ impl Strategies {
     #[tactic(auto, using(crate::proofs::lemmas::tables::Strategies::kept_lists))]
     pub(crate) fn count(&self, at: usize) -> usize
         requires { at < length self.now }
-        ensures { option_map length (slice_get self.now at) ≡ Some result }
+        ensures { result ≡ length (get_or self.now at []) }
     {
         let own = piece_at(0, &self.ends, at);
         own.end - own.start
@@ -161,9 +161,8 @@ impl Strategies {
 
     /// One of the player at this place.
     pub(crate) fn label(&self, at: usize, strategy: usize) -> Label<'_>
-        requires { IsSomeAnd (slice_get self.now at) (λ own. strategy < length own) }
-        ensures { option_and_then (λ own. slice_get own strategy) (slice_get self.now at)
-            ≡ Some (label_of result) }
+        requires { strategy < length (get_or self.now at []) }
+        ensures { slice_get (get_or self.now at []) strategy ≡ Some (label_of result) }
     {
         let own = piece_at(0, &self.ends, at);
         self.labels.label(own.start + strategy)

@@ -1,6 +1,6 @@
 //! The lines of payoffs of a canonical text, one for each profile.
 
-ghost use Rattle.std.specs.Prelude.{◌≡◌, ℕ, ◌+◌, ◌*◌, ◌<◌, ◌≤◌, ◌^◌, ◌++◌, IfOk};
+ghost use Rattle.std.specs.Prelude.{◌≡◌, ℕ, ◌+◌, ◌*◌, ◌<◌, ◌≤◌, ◌^◌, ◌++◌, ◌∷◌, IfOk};
 ghost use Rattle.std.specs.Prelude.{MatchOption, OnErr, OnOk, Some, [], drop, length, map};
 ghost use Rattle.std.specs.Prelude.{slice_get, vec_capacity, vec_len};
 ghost use Rattle.std.specs.List.{AllByRecursion};
@@ -31,6 +31,7 @@ fn write_others(payoffs: &[Fraction], out: &mut Vec<u8>) -> Result<(), AllocErro
 }
 
 /// Appends the payoffs at one profile, with a space between any two.
+#[tactic(auto, using(crate::proofs::lemmas::texts::Pieces::rows_spaced))]
 fn write_row(payoffs: &[Fraction], out: &mut Vec<u8>) -> Result<(), AllocError>
     ensures text { OnOk result (out.new.items ≡ out.old.items ++ row_text payoffs.now) }
     ensures kept { OnErr result (Keeps out.old.items out.new.items) }
@@ -43,6 +44,16 @@ fn write_row(payoffs: &[Fraction], out: &mut Vec<u8>) -> Result<(), AllocError>
             Ok(())
         }
     }
+}
+
+/// Appends the line of the payoffs at one profile.
+fn write_line(payoffs: &[Fraction], out: &mut Vec<u8>) -> Result<(), AllocError>
+    ensures text { OnOk result (out.new.items ≡ out.old.items ++ line_text payoffs.now) }
+    ensures kept { OnErr result (Keeps out.old.items out.new.items) }
+{
+    write_row(payoffs, out)?;
+    out.push(b'\n')?;
+    Ok(())
 }
 
 /// Lines, one after another, with the place where each ends.
@@ -74,7 +85,19 @@ impl Lines {
         }
     }
 
+    /// These, and the line of one more row.
+    #[tactic(auto, using(crate::proofs::lemmas::tables::Pieces::one_piece_more))]
+    fn with(self, row: &[Fraction]) -> Result<Lines, AllocError>
+        ensures { IfOk result (λ all. all ≡ self ++ line_text row.now ∷ []) }
+    {
+        let Lines { mut text, mut ends } = self;
+        write_line(row, &mut text)?;
+        ends.push(text.len())?;
+        Ok(Lines { text, ends })
+    }
+
     /// The line of each row that profiles share, made in the order of the rows in memory.
+    #[tactic(auto, using(crate::proofs::lemmas::texts::SharedLines::lines_more))]
     pub(crate) fn of_rows(alloc: Global, shared: Shared<'_>) -> Result<Lines, AllocError>
         requires { (number : ℕ) → number < shared.rows
             → number * shared.players ≤ length shared.payoffs.now }
@@ -82,17 +105,15 @@ impl Lines {
             (kept_row shared.entry.players shared.entry.payoffs.now shared.entry.zeros.now number))
             (numbers_from 0 shared.entry.rows)) }
     {
-        let mut text = Vec::new(alloc);
-        let mut ends = Vec::new(alloc);
+        let mut lines = Lines::none(alloc);
         for number in 0..shared.rows {
-            write_row(shared.row(number), &mut text)?;
-            text.push(b'\n')?;
-            ends.push(text.len())?;
+            lines = lines.with(shared.row(number))?;
         }
-        Ok(Lines { text, ends })
+        Ok(lines)
     }
 
     /// The line with this number, from 0.
+    #[tactic(auto, using(crate::proofs::lemmas::tables::Pieces::one_piece))]
     fn line(&self, number: usize) -> &[u8]
         requires { number < length self.now }
         ensures { slice_get self.now number ≡ Some result.now }
@@ -101,6 +122,7 @@ impl Lines {
     }
 
     /// How long the lines with these numbers are together, or `None` if that does not fit `usize`.
+    #[tactic(auto, using(crate::proofs::lemmas::texts::SharedLines::next_counted))]
     fn len_of(&self, numbers: &[u32]) -> Option<usize>
         requires { AllByRecursion (λ number. number < length self.now) numbers.now }
         ensures { MatchOption result (2 ^ 64 ≤ length (lines_with self.now numbers.now))
@@ -129,6 +151,7 @@ impl Lines {
 
     /// Appends the lines with these numbers, for which there is room, until there are this many
     /// bytes. Returns how many lines these are.
+    #[tactic(auto, using(crate::proofs::lemmas::texts::SharedLines::next_counted))]
     pub(crate) fn append_until(&self, bytes: usize, numbers: &[u32], out: &mut Vec<u8>) -> usize
         requires below { AllByRecursion (λ number. number < length self.now) numbers.now }
         requires room { vec_len out.old + length (lines_with self.now numbers.now)
@@ -190,8 +213,7 @@ pub(crate) fn write_rows(rows: &Rows, out: &mut Vec<u8>) -> Result<(), AllocErro
         _ => {}
     }
     for place in 0..rows.len() {
-        write_row(rows.row(place), out)?;
-        out.push(b'\n')?;
+        write_line(rows.row(place), out)?;
     }
     Ok(())
 }

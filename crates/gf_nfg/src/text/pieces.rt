@@ -10,7 +10,7 @@ use std::alloc::AllocError;
 use std::marker::Model;
 
 /// How many bytes a piece has, or up to a line more; the last one may have fewer.
-const PIECE: usize = 65_536;
+pub(crate) const PIECE: usize = 65_536;
 
 /// A text that is given piece by piece.
 #[derive(Drop)]

@@ -16,6 +16,7 @@ use gf_token::{Label, write_label};
 use std::alloc::AllocError;
 
 /// Appends the players' names in braces.
+#[tactic(auto, using(crate::proofs::lemmas::texts::Pieces::list_closed))]
 fn write_players(names: &Names, out: &mut Vec<u8>) -> Result<(), AllocError>
     ensures text { OnOk result
         (out.new.items ≡ out.old.items ++ list_text (map quoted names.now.players)) }
@@ -31,6 +32,7 @@ fn write_players(names: &Names, out: &mut Vec<u8>) -> Result<(), AllocError>
 }
 
 /// Appends the strategies of the player at this place in braces.
+#[tactic(auto, using(crate::proofs::lemmas::texts::Pieces::list_closed))]
 fn write_own(names: &Names, at: usize, out: &mut Vec<u8>) -> Result<(), AllocError>
     requires { at < length names.now.players }
     ensures text { OnOk result
@@ -47,6 +49,7 @@ fn write_own(names: &Names, at: usize, out: &mut Vec<u8>) -> Result<(), AllocErr
 }
 
 /// Appends the strategies of each player in braces, and all of them in braces.
+#[tactic(auto, using(crate::proofs::lemmas::texts::Pieces::list_closed))]
 fn write_strategies(names: &Names, out: &mut Vec<u8>) -> Result<(), AllocError>
     ensures text { OnOk result (out.new.items
         ≡ out.old.items
@@ -86,6 +89,7 @@ fn write_first_line(names: &Names, named: bool, out: &mut Vec<u8>) -> Result<(),
 }
 
 /// Appends everything before the payoffs; title and comment are empty unless it is `named`.
+#[tactic(auto, using(crate::proofs::lemmas::texts::Pieces::kept_behind))]
 pub(crate) fn write_heading(names: &Names, named: bool, out: &mut Vec<u8>) -> Result<(), AllocError>
     ensures text { OnOk result
         (out.new.items ≡ out.old.items ++ heading_text (names_by named names.now)) }
@@ -118,6 +122,7 @@ fn write_text(t: &Table, out: &mut Vec<u8>) -> Result<(), AllocError>
 /// # Errors
 ///
 /// `AllocError` if memory is refused; the vector's items are then as they were.
+#[tactic(auto, using(crate::proofs::lemmas::texts::OneTable::text_reads_back))]
 pub fn write_nfg(t: &Table, out: &mut Vec<u8>) -> Result<(), AllocError>
     ensures ok { OnOk result (out.new.items ≡ out.old.items ++ table_text t.now) }
     ensures reads_back { SpellsTable (table_text t.now) t.now }

@@ -1,6 +1,7 @@
 //! The files that a path names: a file itself, or, for a folder, the game files below it.
 
 use crate::asked::Input;
+use crate::texts::joined::joined;
 use std::alloc::{AllocError, Global};
 use std::collections::BTreeSet;
 use std::io::{BufRead, BufReader, ErrorKind, Read};
@@ -42,11 +43,8 @@ pub fn push_names<R: Read + Drop>(
 
 /// The path of a folder with a slash at its end.
 fn with_slash(alloc: Global, folder: &str) -> Result<String, AllocError> {
-    let mut path = String::from_str(alloc, folder)?;
-    if !folder.ends_with('/') {
-        path.push('/')?;
-    }
-    Ok(path)
+    let end = if folder.ends_with('/') { "" } else { "/" };
+    [folder, end].concat(alloc)
 }
 
 /// Adds what is in a folder, by name. Names that came before an error stay.
@@ -67,9 +65,7 @@ fn push_paths(
 ) -> Result<(), AllocError> {
     for name in names.iter().rev() {
         if name.as_slice() != b".".as_slice() && name.as_slice() != b"..".as_slice() {
-            let mut path = Vec::from_slice(alloc, folder.as_bytes())?;
-            path.extend_from_slice(name.as_slice())?;
-            waiting.push(path)?;
+            waiting.push(joined(alloc, &[folder.as_bytes(), name.as_slice()])?)?;
         }
     }
     Ok(())

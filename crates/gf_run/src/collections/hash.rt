@@ -1,7 +1,6 @@
 //! The hash of a file's canonical text, and the run that writes it.
 
 ghost use Rattle.std.specs.Prelude.{◌≡◌, ◌≢◌, ℕ, List, IfErr, IfOk, OnOk};
-ghost use Rattle.std.specs.String.{string_bytes};
 ghost use Rattle.gf_run.specs.HashText.{IsFaultOfFile, IsHashLine, IsHashOf, ReadsFileUntil};
 ghost use Rattle.gf_run.specs.HashText.{hash_line};
 ghost use Rattle.gf_run.specs.Input.{IsReadWhole};
@@ -9,8 +8,10 @@ ghost use Rattle.gf_run.specs.Output.{IsWriteFault, IsWritten};
 ghost use Rattle.gf_run.specs.Run.{Answers};
 
 use crate::fault::{RunFault, Which};
+use crate::jobs::answer::refused;
 use crate::streams::sink::{Sink, push_all};
 use crate::streams::source::{Source, load};
+use crate::texts::joined::joined;
 use gf_canon::{Names, canonical_text, sha256_of};
 use std::alloc::{AllocError, Global};
 
@@ -20,11 +21,10 @@ fn hash_of(alloc: Global, bytes: &[u8], names: Names) -> Result<[u8; 32], RunFau
     ensures refused { IfErr result (IsFaultOfFile bytes.now) }
     ensures before_writing { IfErr result (λ fault. fault ≢ RunFault.Write) }
 {
-    let text = canonical_text(alloc, bytes, names).map_err(|fault| RunFault::Refused {
-        which: Which::Only,
-        fault,
-    })?;
-    Ok(sha256_of(text))
+    match canonical_text(alloc, bytes, names) {
+        Ok(text) => Ok(sha256_of(text)),
+        Err(fault) => Err(refused(fault)),
+    }
 }
 
 /// Reads a file whole, and returns the hash of its canonical text, with names or without.
@@ -50,24 +50,11 @@ pub fn read_hash<R: Source>(
 
 /// The line of a hash: in hexadecimal, two spaces and the name of the file, as `sha256sum` writes
 /// it.
-fn hash_line(alloc: Global, name: &str, hash: [u8; 32]) -> Result<String, AllocError>
-    ensures { IfOk result (λ line. string_bytes line ≡ hash_line name.now hash) }
+fn hash_line(alloc: Global, name: &str, hash: [u8; 32]) -> Result<Vec<u8>, AllocError>
+    ensures { IfOk result (λ line. line.items ≡ hash_line name.now hash) }
 {
-    let mut line = hex::encode(alloc, hash)?;
-    line.push_str("  ")?;
-    line.push_str(name)?;
-    line.push_str("\n")?;
-    Ok(line)
-}
-
-/// The line of the hash of these bytes' canonical text.
-fn line_of(alloc: Global, name: &str, bytes: &[u8], names: Names) -> Result<String, RunFault>
-    ensures line { IfOk result (λ line. IsHashLine names name.now bytes.now (string_bytes line)) }
-    ensures refused { IfErr result (IsFaultOfFile bytes.now) }
-    ensures before_writing { IfErr result (λ fault. fault ≢ RunFault.Write) }
-{
-    let hash = hash_of(alloc, bytes, names)?;
-    Ok(hash_line(alloc, name, hash)?)
+    let digits = hex::encode(alloc, hash)?;
+    joined(alloc, &[digits.as_bytes(), b"  ", name.as_bytes(), b"\n"])
 }
 
 /// Writes the hash of the canonical text of the file that it reads, with names or without, and the
@@ -97,8 +84,8 @@ pub fn run_hash<R: Source, W: Sink>(
         (IsReadWhole R.remaining R.pull_gives input.old input.new)
         (IsWriteFault W.contents W.count W.push_gives output.old output.new) }
 {
-    let bytes = load(alloc, input, Which::Only)?;
-    let line = line_of(alloc, name, &bytes, names)?;
-    push_all(output, line.as_bytes())?;
+    let hash = read_hash(alloc, input, names)?;
+    let line = hash_line(alloc, name, hash)?;
+    push_all(output, line.as_slice())?;
     Ok(())
 }

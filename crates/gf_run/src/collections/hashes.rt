@@ -14,6 +14,7 @@ use crate::jobs::ending::tell;
 use crate::opening::inputs::Inputs;
 use crate::opening::read::open_input;
 use crate::streams::sink::{Sink, push_all};
+use crate::texts::joined::joined;
 use crate::texts::report::line_of;
 use gf_canon::Names;
 use std::alloc::{AllocError, Global};
@@ -33,10 +34,7 @@ pub(crate) fn name_of(input: &Input) -> &str
 fn named_line(alloc: Global, name: &str, fault: &RunFault) -> Result<Vec<u8>, AllocError>
     ensures { IfOk result (λ line. line.items ≡ named_line name.now fault.now) }
 {
-    let mut line = Vec::from_slice(alloc, name.as_bytes())?;
-    line.extend_from_slice(b": ")?;
-    line.extend_from_slice(line_of(fault).as_slice())?;
-    Ok(line)
+    joined(alloc, &[name.as_bytes(), b": ", line_of(fault).as_slice()])
 }
 
 /// Writes the fault of a file after its name, and returns its status.

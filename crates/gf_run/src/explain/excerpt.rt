@@ -1,6 +1,7 @@
 //! The line of a file that a fault is about, with marks under the place.
 
-use crate::explain::shown::{push_marks, push_shown};
+use crate::explain::place::Place;
+use crate::explain::shown::{Part, push_line};
 use gf_token::Span;
 use itoa::Buffer;
 use std::alloc::AllocError;
@@ -23,25 +24,15 @@ struct Excerpt<'a> {
     cut_after: bool,
 }
 
-/// The bytes since the last line feed.
-fn last_line(bytes: &[u8]) -> &[u8] {
-    match bytes.rsplit(|byte| *byte == b'\n').next() {
-        Some(line) => line,
-        None => bytes,
-    }
-}
-
 /// The bytes before the first line feed, without a carriage return before it.
 fn first_line(bytes: &[u8]) -> &[u8] {
-    let line = match bytes.split(|byte| *byte == b'\n').next() {
-        Some(line) => line,
-        None => bytes,
-    };
-    if line.len() < bytes.len() {
-        line.strip_suffix(b"\r").unwrap_or(line)
-    } else {
-        line
+    for end in 0..bytes.len() {
+        if bytes[end] == b'\n' {
+            let line = &bytes[..end];
+            return line.strip_suffix(b"\r").unwrap_or(line);
+        }
     }
+    bytes
 }
 
 /// What is shown of the line in which a place of this many bytes begins, given what comes before
@@ -65,38 +56,54 @@ pub fn push_excerpt(
     text: &mut String,
     bytes: &[u8],
     span: Span,
-    line: usize,
+    place: Place,
 ) -> Result<(), AllocError> {
     let (before, rest) = bytes.split_at(span.start.min(bytes.len()));
+    let line_start = (before.len() + 1).saturating_sub(place.column);
     let excerpt = cut(
-        last_line(before),
+        &before[line_start.min(before.len())..],
         first_line(rest),
         span.end.saturating_sub(span.start),
     );
     let mut buffer = Buffer::new();
-    let number = buffer.format(line);
-    push_line(text, number, &excerpt)?;
-    push_under(text, number, &excerpt)
+    push_lines(text, buffer.format(place.line).as_bytes(), &excerpt)
 }
 
-fn push_line(text: &mut String, number: &str, excerpt: &Excerpt<'_>) -> Result<(), AllocError> {
-    text.push_str("  ")?;
-    text.push_str(number)?;
-    text.push_str(if excerpt.cut_before { " | ..." } else { " | " })?;
-    push_shown(text, excerpt.before)?;
-    push_shown(text, excerpt.marked)?;
-    push_shown(text, excerpt.after)?;
-    text.push_str(if excerpt.cut_after { "...\n" } else { "\n" })
-}
-
-fn push_under(text: &mut String, number: &str, excerpt: &Excerpt<'_>) -> Result<(), AllocError> {
-    text.push_str("  ")?;
-    push_marks(text, number.as_bytes(), ' ')?;
-    text.push_str(if excerpt.cut_before { " |    " } else { " | " })?;
-    push_marks(text, excerpt.before, ' ')?;
-    if excerpt.marked.is_empty() {
-        text.push('^')?;
-    }
-    push_marks(text, excerpt.marked, '^')?;
-    text.push('\n')
+/// Appends what is shown of a line, after its number, and marks under the place.
+fn push_lines<'a>(
+    text: &mut String,
+    number: &'a [u8],
+    excerpt: &Excerpt<'a>,
+) -> Result<(), AllocError> {
+    let no_mark = excerpt.marked.is_empty();
+    push_line(
+        text,
+        &[
+            Part::Shown(b"  "),
+            Part::Shown(number),
+            Part::Shown(if excerpt.cut_before {
+                b" | ..."
+            } else {
+                b" | "
+            }),
+            Part::Shown(excerpt.before),
+            Part::Shown(excerpt.marked),
+            Part::Shown(excerpt.after),
+            Part::Shown(if excerpt.cut_after { b"..." } else { b"" }),
+        ],
+    )?;
+    push_line(
+        text,
+        &[
+            Part::Shown(b"  "),
+            Part::Marks(number, ' '),
+            Part::Shown(if excerpt.cut_before {
+                b" |    "
+            } else {
+                b" | "
+            }),
+            Part::Marks(excerpt.before, ' '),
+            Part::Marks(if no_mark { b"^" } else { excerpt.marked }, '^'),
+        ],
+    )
 }

@@ -1,7 +1,7 @@
 //! What is wrong with a file, in a sentence, and how to mend it. The sentences that name no token
 //! are those of library/gamefile.c.
 
-use crate::explain::shown::push_front;
+use crate::explain::shown::{Part, push_line};
 use gf_form::FormFault;
 use gf_token::{What, Why};
 use itoa::Buffer;
@@ -97,28 +97,36 @@ fn sentence_of(why: Why, found: &[u8]) -> Sentence {
     }
 }
 
-/// Appends a token as a sentence names it. At the end of the file there is none.
-fn push_token(text: &mut String, token: &[u8]) -> Result<(), AllocError> {
+/// What a sentence shows of a token, between what stands before and after that. At the end of the
+/// file there is no token.
+fn named(token: &[u8]) -> [&[u8]; 3] {
+    let front = &token[..MOST.min(token.len())];
+    let is_cut = MOST < token.len();
     if token.is_empty() {
-        return text.push_str("the end of the file");
+        [b"the end of the file", front, b""]
+    } else if token.starts_with(b"\"") {
+        [b"the text ", front, if is_cut { b"..." } else { b"" }]
+    } else {
+        [b"`", front, if is_cut { b"...`" } else { b"`" }]
     }
-    if token.starts_with(b"\"") {
-        text.push_str("the text ")?;
-        return push_front(text, token, MOST);
-    }
-    text.push('`')?;
-    push_front(text, token, MOST)?;
-    text.push('`')
 }
 
 /// Appends what is wrong at the token that was found.
 pub fn push_sentence(text: &mut String, why: Why, found: &[u8]) -> Result<(), AllocError> {
     match sentence_of(why, found) {
-        Sentence::Plain(words) => text.push_str(words),
+        Sentence::Plain(words) => push_line(text, &[Part::Shown(words.as_bytes())]),
         Sentence::Naming(before, after) => {
-            text.push_str(before)?;
-            push_token(text, found)?;
-            text.push_str(after)
+            let [opening, token, closing] = named(found);
+            push_line(
+                text,
+                &[
+                    Part::Shown(before.as_bytes()),
+                    Part::Shown(opening),
+                    Part::Shown(token),
+                    Part::Shown(closing),
+                    Part::Shown(after.as_bytes()),
+                ],
+            )
         }
     }
 }
@@ -127,15 +135,20 @@ pub fn push_sentence(text: &mut String, why: Why, found: &[u8]) -> Result<(), Al
 pub fn push_form(text: &mut String, fault: &FormFault) -> Result<(), AllocError> {
     match fault {
         FormFault::TooManyProfiles => {
-            text.push_str("the strategic form has more than 1,048,576 strategy profiles")
+            text.push_str("the strategic form has more than 1,048,576 strategy profiles\n")
         }
         FormFault::Overflow { profile } => {
             let mut buffer = Buffer::new();
-            text.push_str("the expected payoffs at profile ")?;
-            text.push_str(buffer.format(*profile))?;
-            text.push_str(" need numbers of more than 127 bits")
+            push_line(
+                text,
+                &[
+                    Part::Shown(b"the expected payoffs at profile "),
+                    Part::Shown(buffer.format(*profile).as_bytes()),
+                    Part::Shown(b" need numbers of more than 127 bits"),
+                ],
+            )
         }
-        FormFault::Memory => text.push_str("out of memory"),
+        FormFault::Memory => text.push_str("out of memory\n"),
     }
 }
 

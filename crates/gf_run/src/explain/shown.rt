@@ -2,41 +2,43 @@
 
 use std::alloc::AllocError;
 
-/// Appends bytes as text, with `?` in place of control characters and of what is not UTF-8.
-pub fn push_shown(text: &mut String, bytes: &[u8]) -> Result<(), AllocError> {
+/// A part of a line.
+#[derive(Clone, Copy)]
+pub enum Part<'a> {
+    /// These bytes as text, with `?` in place of control characters and of what is not UTF-8.
+    Shown(&'a [u8]),
+    /// This mark for each character that would be shown of these bytes.
+    Marks(&'a [u8], char),
+}
+
+fn shown(character: char) -> char {
+    if character.is_control() {
+        '?'
+    } else {
+        character
+    }
+}
+
+fn push_part(text: &mut String, part: Part<'_>) -> Result<(), AllocError> {
+    let (bytes, mark) = match part {
+        Part::Shown(bytes) => (bytes, None),
+        Part::Marks(bytes, mark) => (bytes, Some(mark)),
+    };
     for chunk in bytes.utf8_chunks() {
         for character in chunk.valid().chars() {
-            text.push(if character.is_control() {
-                '?'
-            } else {
-                character
-            })?;
+            text.push(mark.unwrap_or(shown(character)))?;
         }
         for _ in chunk.invalid() {
-            text.push('?')?;
+            text.push(mark.unwrap_or('?'))?;
         }
     }
     Ok(())
 }
 
-/// Appends a mark for each character that `push_shown` appends.
-pub fn push_marks(text: &mut String, bytes: &[u8], mark: char) -> Result<(), AllocError> {
-    for chunk in bytes.utf8_chunks() {
-        for _ in chunk.valid().chars() {
-            text.push(mark)?;
-        }
-        for _ in chunk.invalid() {
-            text.push(mark)?;
-        }
+/// Appends a line of these parts.
+pub fn push_line(text: &mut String, parts: &[Part<'_>]) -> Result<(), AllocError> {
+    for part in parts {
+        push_part(text, *part)?;
     }
-    Ok(())
-}
-
-/// Appends bytes as `push_shown` does, or only this many of them and `...`.
-pub fn push_front(text: &mut String, bytes: &[u8], most: usize) -> Result<(), AllocError> {
-    push_shown(text, &bytes[..most.min(bytes.len())])?;
-    if bytes.len() > most {
-        text.push_str("...")?;
-    }
-    Ok(())
+    text.push('\n')
 }

@@ -1,7 +1,7 @@
 //! The answer of a job, from the bytes of its inputs.
 
 ghost use Rattle.std.specs.Prelude.{◌≡◌, ◌≤◌, Bool, IfErr, IfOk, length};
-ghost use Rattle.gf_canon.specs.Judgement.{IsTextBy};
+ghost use Rattle.gf_canon.specs.NamesAside.{IsTextBy};
 ghost use Rattle.gf_run.specs.AnswerText.{bytes_of};
 ghost use Rattle.gf_run.specs.FaultStatus.{answer_status};
 ghost use Rattle.gf_run.specs.FileKinds.{IsKindLine, kind_in, kind_line};
@@ -17,8 +17,9 @@ use crate::jobs::table::form_text;
 use crate::opening::read::Texts;
 use crate::texts::comparison::{Compared, compare};
 use crate::texts::text::Text;
-use gf_canon::{Format, Names, TextPieces, canonical_text, check};
+use gf_canon::{Format, Names, canonical_text, check};
 use gf_form::Strategies;
+use gf_nfg::TextAndPayoffs;
 use gf_token::Fault;
 use std::alloc::Global;
 
@@ -32,7 +33,7 @@ pub struct Answer {
 }
 
 /// The refusal of the one input of a job.
-fn refused(fault: Fault) -> RunFault
+pub(crate) fn refused(fault: Fault) -> RunFault
     ensures { result ≡ RunFault.Refused Which.Only fault }
 {
     RunFault::Refused {
@@ -50,7 +51,7 @@ pub(crate) fn canon(alloc: Global, bytes: &[u8], names: Names) -> Result<Answer,
     match canonical_text(alloc, bytes, names) {
         Ok(text) => Ok(Answer {
             status: 0,
-            text: Text::Made(text),
+            text: Text::Made(TextAndPayoffs::of(alloc, text)),
         }),
         Err(fault) => Err(refused(fault)),
     }
@@ -132,7 +133,7 @@ pub(crate) fn table(alloc: Global, bytes: &[u8], reduced: bool) -> Result<Answer
     match form_text(alloc, bytes, strategies_of(reduced)) {
         Ok(text) => Ok(Answer {
             status: 0,
-            text: Text::Made(TextPieces::of(text)),
+            text: Text::Made(text),
         }),
         Err(fault) => Err(fault),
     }

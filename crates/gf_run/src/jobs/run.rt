@@ -1,7 +1,8 @@
 //! The runs over an input that is open: each reads it whole, judges it, and writes its answer.
 
 ghost use Rattle.std.specs.Prelude.{◌≡◌, ◌≢◌, IfErr, IfOk, OnOk};
-ghost use Rattle.gf_canon.specs.Judgement.{IsRefusedWith, IsTextBy};
+ghost use Rattle.gf_canon.specs.Judgement.{IsRefusedWith};
+ghost use Rattle.gf_canon.specs.NamesAside.{IsTextBy};
 ghost use Rattle.gf_run.specs.FileKinds.{IsKindLine};
 ghost use Rattle.gf_run.specs.FormText.{IsFormText, ReadsFormUntil};
 ghost use Rattle.gf_run.specs.Input.{IsReadWhole};

@@ -1,22 +1,21 @@
 //! The canonical text of a game as a table: of its strategic form, or of its reduced form.
 
-ghost use Rattle.std.specs.Prelude.{◌≡◌, ◌≤◌, IfErr, IfOk, length};
-ghost use Rattle.gf_nfg.specs.TableText.{table_text};
+ghost use Rattle.std.specs.Prelude.{◌≤◌, IfErr, IfOk, length};
 ghost use Rattle.gf_canon.specs.MeaningOf.{file_of};
-ghost use Rattle.gf_run.specs.FormText.{HasFewPlayers, IsFaultOfBytes, IsFormFault, IsFormOf};
-ghost use Rattle.gf_run.specs.FormText.{IsFormText};
+ghost use Rattle.gf_run.specs.FormText.{FileHasFewPlayers, IsFaultOfBytes, IsFormFault};
+ghost use Rattle.gf_run.specs.FormText.{IsFormText, IsTableOfFile};
 ghost use Rattle.gf_run.specs.Input.{limit};
 
 use crate::fault::{RunFault, Which};
 use gf_canon::{Meaning, read_file};
 use gf_form::{Strategies, form_by};
-use gf_nfg::{Table, write_nfg};
-use std::alloc::{AllocError, Global};
+use gf_nfg::{Table, TextAndPayoffs, text_of};
+use std::alloc::Global;
 
 /// The form of a tree by these strategies, or the table of a strategic file.
 fn table_of(alloc: Global, meaning: Meaning<'_>, strategies: Strategies) -> Result<Table, RunFault>
-    requires { HasFewPlayers (file_of meaning) }
-    ensures form { IfOk result (λ t. IsFormOf strategies (file_of meaning.entry) t) }
+    requires { FileHasFewPlayers (file_of meaning) }
+    ensures form { IfOk result (λ t. IsTableOfFile strategies (file_of meaning.entry) t) }
     ensures fault { IfErr result (IsFormFault strategies (file_of meaning.entry)) }
 {
     match meaning {
@@ -25,19 +24,14 @@ fn table_of(alloc: Global, meaning: Meaning<'_>, strategies: Strategies) -> Resu
     }
 }
 
-/// The canonical text of a table.
-fn text_of(alloc: Global, table: &Table) -> Result<Vec<u8>, AllocError>
-    ensures { IfOk result (λ text. text.items ≡ table_text table.now) }
-{
-    let mut text = Vec::new(alloc);
-    write_nfg(table, &mut text)?;
-    Ok(text)
-}
-
 /// The canonical text of the form of a tree by these strategies, or of a table.
-pub fn form_text(alloc: Global, bytes: &[u8], strategies: Strategies) -> Result<Vec<u8>, RunFault>
+pub fn form_text(
+    alloc: Global,
+    bytes: &[u8],
+    strategies: Strategies,
+) -> Result<TextAndPayoffs, RunFault>
     requires { length bytes.now ≤ limit }
-    ensures text { IfOk result (λ text. IsFormText strategies bytes.now text.items) }
+    ensures text { IfOk result (λ text. IsFormText strategies bytes.now text.rest) }
     ensures fault { IfErr result (IsFaultOfBytes strategies bytes.now) }
 {
     let meaning = match read_file(alloc, bytes) {
@@ -48,5 +42,5 @@ pub fn form_text(alloc: Global, bytes: &[u8], strategies: Strategies) -> Result<
         }
     };
     let table = table_of(alloc, meaning, strategies)?;
-    Ok(text_of(alloc, &table)?)
+    Ok(text_of(alloc, table)?)
 }

@@ -2,21 +2,21 @@
 
 ghost use Rattle.std.specs.Prelude.{◌≡◌, ◌↔◌, ℕ, IfErr, IfOk, IsTrue, List, OnOk, true};
 ghost use Rattle.gf_canon.specs.GameFile.{SameFile};
-ghost use Rattle.gf_canon.specs.Judgement.{MeansFile, SpellsWithin};
+ghost use Rattle.gf_canon.specs.CanonicalText.{SpellsWithin};
+ghost use Rattle.gf_canon.specs.Judgement.{MeansFile};
 ghost use Rattle.gf_canon.specs.MeaningOf.{file_of};
-ghost use Rattle.gf_canon.specs.Sameness.{AreRefusedWith};
 ghost use Rattle.gf_run.specs.AnswerText.{bytes_of};
 ghost use Rattle.gf_run.specs.JobRun.{IsAnswerBy};
 ghost use Rattle.gf_run.specs.RunOfTwo.{IsFaultOfFiles};
 ghost use Rattle.gf_run.specs.SameText.{IsAnswer, IsLineAndMap, answer_line};
 
-use crate::fault::RunFault;
+use crate::fault::{RunFault, Which};
 use crate::texts::renumbering::pair_line;
 use crate::texts::text::Text;
 use gf_canon::{
-    Meaning, Names, NumberPair, ReceivePairs, SameFault, TextPieces, pairs_between, read_file,
-    same_by,
+    Meaning, Names, NumberPair, ReceivePairs, TextPieces, pairs_between, read_file, same_by,
 };
+use gf_nfg::TextAndPayoffs;
 use std::alloc::{AllocError, Global};
 
 /// Whether two files are the same, and what is written about it.
@@ -76,17 +76,18 @@ impl ReceivePairs for PairLines {
 }
 
 /// The answer about two files that were read.
-fn compare_meanings(alloc: Global, a: &Meaning<'_>, b: &Meaning<'_>) -> Result<Compared, AllocError>
+fn compare_meanings(alloc: Global, a: &Meaning<'_>, b: &Meaning<'_>) -> Result<Compared, RunFault>
     ensures same { IfOk result (λ answer.
         IsTrue answer.same ↔ SameFile (file_of a.now) (file_of b.now)) }
     ensures text { IfOk result (λ answer.
         IsLineAndMap (file_of a.now) (file_of b.now) answer.same (bytes_of answer.text)) }
+    ensures memory { IfErr result (λ fault. fault ≡ RunFault.Memory) }
 {
     let mut lines = PairLines::new(alloc)?;
     if pairs_between(alloc, a, b, &mut lines)? {
         Ok(Compared {
             same: true,
-            text: Text::Made(TextPieces::of(lines.text)),
+            text: Text::Made(TextAndPayoffs::of(alloc, TextPieces::of(lines.text))),
         })
     } else {
         Ok(in_a_line(false))
@@ -94,19 +95,18 @@ fn compare_meanings(alloc: Global, a: &Meaning<'_>, b: &Meaning<'_>) -> Result<C
 }
 
 /// The answer about a file that was read, and the bytes of another.
-fn compare_with(alloc: Global, first: &Meaning<'_>, b: &[u8]) -> Result<Compared, SameFault>
+fn compare_with(alloc: Global, first: &Meaning<'_>, b: &[u8]) -> Result<Compared, RunFault>
     ensures answer { IfOk result (λ answer. (a : List ℕ) → SpellsWithin a (file_of first.now)
         → IsAnswer SameFile IsLineAndMap answer.same a b.now (bytes_of answer.text)) }
     ensures refused { IfErr result (λ fault. (a : List ℕ) → SpellsWithin a (file_of first.now)
-        → AreRefusedWith a b.now fault) }
+        → IsFaultOfFiles a b.now fault) }
 {
-    let second = match read_file(alloc, b) {
-        Ok(second) => second,
-        Err(fault) => return Err(SameFault::Second(fault)),
-    };
-    match compare_meanings(alloc, first, &second) {
-        Ok(answer) => Ok(answer),
-        Err(_) => Err(SameFault::Memory),
+    match read_file(alloc, b) {
+        Ok(second) => compare_meanings(alloc, first, &second),
+        Err(fault) => Err(RunFault::Refused {
+            which: Which::Second,
+            fault,
+        }),
     }
 }
 
@@ -114,14 +114,17 @@ fn compare_with(alloc: Global, first: &Meaning<'_>, b: &[u8]) -> Result<Compared
 /// carries the first to the second.
 ///
 /// Refused as by `same`.
-fn compare_with_map(alloc: Global, a: &[u8], b: &[u8]) -> Result<Compared, SameFault>
+fn compare_with_map(alloc: Global, a: &[u8], b: &[u8]) -> Result<Compared, RunFault>
     ensures answer { IfOk result (λ answer.
         IsAnswer SameFile IsLineAndMap answer.same a.now b.now (bytes_of answer.text)) }
-    ensures refused { IfErr result (AreRefusedWith a.now b.now) }
+    ensures refused { IfErr result (IsFaultOfFiles a.now b.now) }
 {
     match read_file(alloc, a) {
         Ok(first) => compare_with(alloc, &first, b),
-        Err(fault) => Err(SameFault::First(fault)),
+        Err(fault) => Err(RunFault::Refused {
+            which: Which::First,
+            fault,
+        }),
     }
 }
 
@@ -142,7 +145,7 @@ pub fn compare(
     ensures fault { IfErr result (IsFaultOfFiles a.now b.now) }
 {
     if map {
-        return Ok(compare_with_map(alloc, a, b)?);
+        return compare_with_map(alloc, a, b);
     }
     let same = same_by(alloc, a, b, names)?;
     Ok(in_a_line(same))

@@ -1,7 +1,7 @@
 //! What is written about a fault: its line on standard error.
 
 ghost use Rattle.std.specs.Prelude.{◌≡◌, ◌≤◌, length, OnOk, OnErr};
-ghost use Rattle.gf_run.specs.FaultLine.{fault_label, fault_line, label_of, short_line};
+ghost use Rattle.gf_run.specs.FaultLine.{fault_prefix, fault_line, prefix_of, short_line};
 ghost use Rattle.gf_run.specs.Output.{IsWriteFault, IsWritten};
 
 use crate::fault::{RunFault, Which, WriteFault};
@@ -11,7 +11,7 @@ use gf_form::FormFault;
 
 /// What a line about an input begins with.
 fn label(which: Which) -> &'static [u8]
-    ensures text { result.now ≡ label_of which }
+    ensures text { result.now ≡ prefix_of which }
     ensures short { length result.now ≤ 3 }
 {
     match which {
@@ -22,8 +22,8 @@ fn label(which: Which) -> &'static [u8]
 }
 
 /// What the line of a fault begins with.
-fn label_of(fault: &RunFault) -> &'static [u8]
-    ensures text { result.now ≡ fault_label fault.now }
+fn prefix_of(fault: &RunFault) -> &'static [u8]
+    ensures text { result.now ≡ fault_prefix fault.now }
     ensures short { length result.now ≤ 3 }
 {
     match fault {
@@ -65,7 +65,7 @@ pub(crate) fn line_of(fault: &RunFault) -> Line
     ensures { result ≡ fault_line fault.now }
 {
     let mut line = Line::new();
-    line.push(label_of(fault));
+    line.push(prefix_of(fault));
     line.push(short_line_of(fault).as_slice());
     line.push(b"\n");
     line

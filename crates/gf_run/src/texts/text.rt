@@ -6,7 +6,7 @@ ghost use Rattle.gf_run.specs.Output.{IsWriteFault, IsWritten};
 
 use crate::fault::WriteFault;
 use crate::streams::sink::{Sink, push_all};
-use gf_canon::TextPieces;
+use gf_nfg::TextAndPayoffs;
 
 /// A text that is written.
 #[derive(Drop)]
@@ -14,11 +14,11 @@ pub enum Text {
     /// A line that is always the same, and takes no memory.
     Line(&'static [u8]),
     /// A text that was made, or that is made piece by piece.
-    Made(TextPieces),
+    Made(TextAndPayoffs),
 }
 
 /// Writes a text piece by piece. If the writer fails, a prefix of it has been written.
-fn push_pieces<W: Sink>(output: &mut W, pieces: TextPieces) -> Result<(), WriteFault>
+fn push_pieces<W: Sink>(output: &mut W, pieces: TextAndPayoffs) -> Result<(), WriteFault>
     ensures all { OnOk result
         (IsWritten W.contents W.push_gives output.old output.new pieces.rest) }
     ensures part { OnErr result

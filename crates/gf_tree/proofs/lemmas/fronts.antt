@@ -9,4 +9,3 @@ pub mod Lists
 pub mod Nodes
 pub mod Payoffs
 pub mod Runs
-pub mod WholeNodes

@@ -1,7 +1,7 @@
 -- A game as it is kept.
 use Rattle.std.specs.Prelude.{◌≡◌, ℕ, List, length, map}
 use Rattle.gf_token.specs.Label.{label_of}
-use Rattle.gf_tree.specs.PrefixOrder.{Fills}
+use Rattle.gf_tree.specs.Fills.{Fills}
 use Rattle.gf_tree.specs.FiniteMap.{Described}
 use Rattle.gf_tree.specs.Spellable.{IsSpellable}
 use Rattle.gf_tree.specs.declared.game.kept.Stored.{Stored}

@@ -18,8 +18,8 @@ run_tokens q c [] = if may_end q c.due then Ok c else Err (due q c.due)
 run_tokens q c (t ∷ ts) = then_run (step q c t) (λ s. run_tokens s.position s.content ts)
 
 -- the game of what was read
-abbrev pub game_of : Content → Game
-game_of c = record {
+abbrev pub game_in : Content → Game
+game_in c = record {
   title = c.title;
   comment = c.comment;
   players = c.players;

@@ -1,6 +1,6 @@
 -- What a reader stands for, regardless of where it is in memory. It keeps nothing of its nodes: it
 -- stands for a machine that begins where the reader is, and has read none.
-use Rattle.std.specs.Prelude.{◌≡◌, ◌<◌, ◌≤◌, ◌^◌, ◌+◌, ◌*◌, ◌++◌, ℕ, List, max, [], ◌∷◌, length}
+use Rattle.std.specs.Prelude.{◌≡◌, ◌≤◌, ◌+◌, ◌-◌, ◌++◌, ℕ, List, max, [], ◌∷◌, length}
 use Rattle.std.specs.Prelude.{map, option_map, MatchResult, Result, Ok, Err}
 use Rattle.gf_token.specs.Label.{label_of}
 use Rattle.gf_token.specs.Positions.{at_position}
@@ -24,7 +24,7 @@ use Rattle.gf_tree.specs.inner.Machine.{with_node}
 use Rattle.gf_tree.specs.inner.Machine.Position.{Format, NodeDue}
 use Rattle.gf_tree.specs.declared.game.numbered_node.Numbering.TheVariants.{ByFirstUse}
 use Rattle.gf_tree.specs.inner.Passed.{HasPassed}
-use Rattle.gf_tree.specs.inner.ReadGame.{game_of}
+use Rattle.gf_tree.specs.inner.ReadGame.{game_in}
 use Rattle.gf_tree.specs.declared.reader.Reader.{Reader}
 
 abbrev pub content_of : Reader → Content
@@ -40,7 +40,7 @@ content_of r = record {
 
 -- the heading that was read
 abbrev pub heading_read : Reader → Heading
-heading_read r = heading_in (game_of (content_of r))
+heading_read r = heading_in (game_in (content_of r))
 
 -- with these nodes, which it was told
 abbrev pub content_with : Reader → List Kept → Content
@@ -79,6 +79,10 @@ pub record Grows {A : Type 0} (old new : List A) : Type 0 where
   pub more : List A
   pub parts : new ≡ old ++ more
 
+-- tokens were taken, and nothing else has changed
+abbrev pub ReadsTokens : Reader → Reader → Type 0
+ReadsTokens old new = (new ≡ record old { tokens = new.tokens }) × IsNoLonger old new
+
 -- a part of a set's description was read: nothing has changed but the tokens to come, and the
 -- description
 abbrev pub ReadsAction : Reader → Reader → Type 0
@@ -102,18 +106,14 @@ ReadsPayoff old new = (new ≡ record old {
   outcomes = record old.outcomes { pending = new.outcomes.pending };
 }) × IsNoLonger old new
 
--- if there were this many more tokens to come, all of them could be nodes with as many children as
--- a set can have actions
-abbrev pub HasRoom : ℕ → Reader → Type 0
-HasRoom more r = r.due + (length r.tokens.ahead + more) * 18446744073709551616 < 2 ^ 128
-
--- a node has begun: it is still due, and there is room for its children
-abbrev pub HasBegunNode : Reader → Type 0
-HasBegunNode r = (0 < r.due) × HasRoom 1 r
-
--- a node was read, and another one may begin
-abbrev pub ReadsNode : Reader → Reader → Type 0
-ReadsNode old new = HasRoom 0 new × IsNoLonger old new
+-- a part of the heading was read: nothing has changed but the tokens to come, and the heading
+abbrev pub ReadsHeading : Reader → Reader → Type 0
+ReadsHeading old new = (new ≡ record old {
+  tokens = new.tokens;
+  title = new.title;
+  comment = new.comment;
+  players = new.players;
+}) × IsNoLonger old new
 
 -- ---- nodes that were told
 
@@ -128,30 +128,32 @@ with_nodes nodes (Err fault) = Err fault
 abbrev pub behind : List (Entry Node) → Answer → Answer
 behind nodes a = record { input = a.input; machine = with_nodes nodes a.machine }
 
+-- the children of a node that was told are due in its place, if its set has this position
+abbrev pub with_children : Reader → ℕ → Reader
+with_children r set = record r { due = r.due - 1 + child_count r.sets.known set }
+
 -- This node was told, and the machine goes on as after it; nothing else has changed.
 pub record TellsNode {T : Type 0} (holds : T → T → Heading → List Told → Type 0) (old new : Reader)
     (from to : T) (node : Kept) : Type 0 where
   pub goes : (q : Position) → heard q (with_node (content_of old)
       (begun_with old.sets.known node.name node.set)
       (option_map (λ o. o.key) (at_position old.outcomes.known node.outcome))) old.tokens
-      ≡ behind (entry_with new.sets.known new.outcomes.known node ∷ []) (answer q new)
-  pub kept : new ≡ record old {
-    due = new.due;
-    told_sets = new.told_sets;
-    told_outcomes = new.told_outcomes;
-  }
+      ≡ behind (entry_with new.sets.known new.outcomes.known node ∷ [])
+      (answer q (with_children new node.set))
+  pub kept : new ≡ record old { told_sets = new.told_sets; told_outcomes = new.told_outcomes }
   pub told : (untold : T) (heading : Heading) (told : List Told) → holds untold from heading told
       → holds untold to heading (told ++ told_node ByFirstUse old.sets.known
       old.outcomes.known old.told_sets old.told_outcomes node ∷ [])
   pub told_sets : new.told_sets ≡ max old.told_sets node.set
   pub told_outcomes : new.told_outcomes ≡ max old.told_outcomes node.outcome
 
--- One more node was told, and the machine goes on after it.
-pub record Tells {T : Type 0} (holds : T → T → Heading → List Told → Type 0) (before : Answer)
-    (old new : Reader) (from to : T) : Type 0 where
+-- One more node was told, whose set has this position, and the machine goes on after it.
+pub record Tells {T : Type 0} (holds : T → T → Heading → List Told → Type 0) (set : ℕ)
+    (before : Answer) (old new : Reader) (from to : T) : Type 0 where
   pub node : Kept
-  pub goes : before
-      ≡ behind (entry_with new.sets.known new.outcomes.known node ∷ []) (answer NodeDue new)
+  pub of_set : node.set ≡ set
+  pub goes : before ≡ behind (entry_with new.sets.known new.outcomes.known node ∷ [])
+      (answer NodeDue (with_children new set))
   pub placed : IsAmong (length new.sets.known) (length new.outcomes.known) node
   pub told : (untold : T) (heading : Heading) (told : List Told) → holds untold from heading told
       → holds untold to heading (told ++ told_node ByFirstUse new.sets.known
@@ -160,6 +162,8 @@ pub record Tells {T : Type 0} (holds : T → T → Heading → List Told → Typ
   pub told_outcomes : new.told_outcomes ≡ max old.told_outcomes node.outcome
   pub sets : Grows old.sets.known new.sets.known
   pub outcomes : Grows old.outcomes.known new.outcomes.known
+  pub due : new.due ≡ old.due
+  pub shorter : IsNoLonger old new
 
 -- it was told these nodes, of which the first is the first one of the file
 pub record HasTold {T : Type 0} (holds : T → List Told → Type 0) (r : Reader) (to : T)
@@ -200,11 +204,11 @@ abbrev pub Goes : {A : Type 0} → Answer → Result A Fault → Answer → Type
 Goes before (Ok _) after = before ≡ after
 Goes before (Err f) after = Fails f before
 
--- the same for a call that tells a node
+-- the same for a call that tells a node, whose set has this position
 abbrev pub GoesTelling : {A T : Type 0} → (T → T → Heading → List Told → Type 0) → Result A Fault
-    → Answer → Reader → Reader → T → T → Type 0
-GoesTelling holds result before old new from to =
-    MatchResult result (λ _. Tells holds before old new from to) (λ f. Fails f before)
+    → (A → ℕ) → Answer → Reader → Reader → T → T → Type 0
+GoesTelling holds result set before old new from to =
+    MatchResult result (λ x. Tells holds (set x) before old new from to) (λ f. Fails f before)
 
 -- ---- whole files
 

@@ -1,17 +1,15 @@
 //! The nodes of a game as they are kept: one list in prefix order, each with the size of its
 //! subtree.
 
-ghost use Rattle.std.specs.Prelude.{◌≡◌, ◌^◌, ◌+◌, ◌<◌, ◌≤◌, ◌++◌, ◌∷◌, [], ℕ};
-ghost use Rattle.std.specs.Prelude.{IsTrue, OnErr, OnOk, drop, length, map, option_map};
+ghost use Rattle.std.specs.Prelude.{◌≡◌, ◌+◌, ◌<◌, ◌≤◌, [], ℕ, IsTrue, drop, length, map};
+ghost use Rattle.std.specs.Prelude.{option_map};
 ghost use Rattle.std.specs.List.{AllByRecursion};
 ghost use Rattle.std.specs.Slice.Iter.{iter_rest};
-ghost use Rattle.gf_token.specs.Label.{label_of};
 ghost use Rattle.gf_token.specs.Positions.{at_position};
 ghost use Rattle.gf_tree.specs.Tree.{Tree};
 ghost use Rattle.gf_tree.specs.PrefixOrder.{flatten};
 ghost use Rattle.gf_tree.specs.Game.{Node};
-ghost use Rattle.gf_tree.specs.KeptNodes.{AreAmong, child_count, child_counts};
-ghost use Rattle.gf_tree.specs.KeptNodes.{kept_of, sizes_of};
+ghost use Rattle.gf_tree.specs.KeptNodes.{AreAmong, child_count, child_counts, kept_of, sizes_of};
 ghost use Rattle.gf_tree.specs.NodeOf.{outcome_of, set_of_step};
 ghost use Rattle.gf_tree.specs.inner.Skipped.{Begin, skipped};
 ghost use Rattle.gf_tree.specs.inner.Steps.{is_step};

@@ -1,13 +1,10 @@
 //! Games as lists of nodes.
 
-ghost use Rattle.std.specs.Prelude.{◌≡◌, length, map};
-ghost use Rattle.gf_token.specs.Label.{label_of};
+ghost use Rattle.std.specs.Prelude.{◌≡◌};
 ghost use Rattle.gf_tree.specs.FileNodes.{file_nodes};
 ghost use Rattle.gf_tree.specs.FirstUse.{first_use_numbers};
 ghost use Rattle.gf_tree.specs.Game.{IsGame};
 ghost use Rattle.gf_tree.specs.inner.GameParts.{IsListed, game_with, parts_of};
-ghost use Rattle.gf_tree.specs.KeptNodes.{AreAmong, entries_with};
-ghost use Rattle.gf_tree.specs.PrefixOrder.{Fills};
 ghost use Rattle.gf_tree.specs.Renumbering.{renumbered};
 ghost use Rattle.gf_tree.specs.Spellable.{IsSpellable};
 ghost use Rattle.gf_tree.specs.Told.{heading_in, heading_of};

@@ -48,7 +48,7 @@ pub struct NumberedNode<'n, 'a> {
 
 impl<'n, 'a> NumberedNode<'n, 'a> {
     ghost use Rattle.gf_tree.specs.FileNodeOf.{file_node_of, outcome_use_of, set_use_of};
-    ghost use Rattle.gf_tree.specs.FileTree.{undescribed};
+    ghost use Rattle.gf_tree.specs.Undescribed.{undescribed};
     ghost use Rattle.gf_tree.specs.Told.{told_of, told_outcome, told_set};
 
     /// The use of its set, with the description or without it.

@@ -1,12 +1,12 @@
 //! The information sets that are known.
 
-ghost use Rattle.std.specs.Prelude.{◌≡◌, ◌≢◌, ◌+◌, ◌<◌, ◌==◌, ◌^◌, ◌++◌, ℕ, [], ◌∷◌, None, Some};
-ghost use Rattle.std.specs.Prelude.{nat_eq, map, length, get_or, slice_get, option_map, position};
-ghost use Rattle.std.specs.Prelude.{MatchOption, OnOk, OnErr, IfOk, if◌then◌else◌};
+ghost use Rattle.std.specs.Prelude.{◌≡◌, ◌≢◌, ◌+◌, ◌<◌, ◌^◌, ◌++◌, ℕ, [], ◌∷◌, None, Some, nat_eq};
+ghost use Rattle.std.specs.Prelude.{map, length, get_or, slice_get, option_map, position};
+ghost use Rattle.std.specs.Prelude.{MatchOption, OnOk, OnErr, IfOk};
 ghost use Rattle.std.specs.Map.{lookup};
 ghost use Rattle.gf_token.specs.Label.{label_of};
 ghost use Rattle.gf_token.specs.Positions.{at_position};
-ghost use Rattle.gf_tree.specs.Actions.{action_of, actions_of};
+ghost use Rattle.gf_tree.specs.Actions.{actions_of};
 ghost use Rattle.gf_tree.specs.Description.{same_set, set_of};
 ghost use Rattle.gf_tree.specs.inner.Stretches.{AreStretches};
 ghost use Rattle.gf_tree.specs.inner.StoredSets.{HoldActions, end_of};

@@ -1,17 +1,15 @@
 //! Descriptions that are repeated: they are compared with the first ones while they are read.
 
-ghost use Rattle.std.specs.Prelude.{◌≡◌, ◌≤◌, ◌∷◌, [], ℕ, List, length, OnOk};
+ghost use Rattle.std.specs.Prelude.{◌≤◌, ◌∷◌, [], ℕ, List, length, OnOk};
 ghost use Rattle.gf_fraction.specs.Ratio.{Ratio};
 ghost use Rattle.gf_token.specs.Label.{label_of};
 ghost use Rattle.gf_tree.specs.Actions.{action_of, actions_of};
-ghost use Rattle.gf_tree.specs.Description.{Action as spec_action, SetKey};
-ghost use Rattle.gf_tree.specs.Description.{outcome_with, set_with};
+ghost use Rattle.gf_tree.specs.Description.{Action as spec_action, SetKey, outcome_with, set_with};
 ghost use Rattle.gf_tree.specs.inner.Machine.{Begun, Content, begun};
 ghost use Rattle.gf_tree.specs.inner.Machine.Position.{KnownAction, KnownOutcomeName};
-ghost use Rattle.gf_tree.specs.inner.Machine.Position.{KnownOutcomeOpening};
-ghost use Rattle.gf_tree.specs.inner.Machine.Position.{KnownPayoff, KnownProbability};
-ghost use Rattle.gf_tree.specs.inner.Machine.Position.{KnownSetName, KnownSetOpening, NodeDue};
-ghost use Rattle.gf_tree.specs.inner.Machine.Position.{OutcomeNumber};
+ghost use Rattle.gf_tree.specs.inner.Machine.Position.{KnownOutcomeOpening, KnownPayoff};
+ghost use Rattle.gf_tree.specs.inner.Machine.Position.{KnownProbability, KnownSetName};
+ghost use Rattle.gf_tree.specs.inner.Machine.Position.{KnownSetOpening, NodeDue, OutcomeNumber};
 ghost use Rattle.gf_tree.specs.inner.ReaderState.{Goes, heard};
 
 use crate::game::action::Action;

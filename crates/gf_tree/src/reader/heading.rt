@@ -1,10 +1,10 @@
 //! The heading of an extensive file: its format, title and players, and the comment.
 
-ghost use Rattle.std.specs.Prelude.{◌≡◌, ◌∷◌, IfOk, OnOk};
+ghost use Rattle.std.specs.Prelude.{◌≡◌, IfOk, OnOk};
 ghost use Rattle.gf_token.specs.Remaining.{StandsBefore};
 ghost use Rattle.gf_tree.specs.inner.Machine.Position.{AfterPlayers, BeforePlayers, Format};
 ghost use Rattle.gf_tree.specs.inner.Machine.Position.{NodeDue};
-ghost use Rattle.gf_tree.specs.inner.ReaderState.{answer, Goes, IsNoLonger};
+ghost use Rattle.gf_tree.specs.inner.ReaderState.{answer, Goes, ReadsHeading};
 
 use super::Reader;
 use gf_token::{Fault, Span, What, Why};
@@ -13,9 +13,7 @@ impl<'a> Reader<'a> {
     /// Reads everything before the players.
     pub(super) fn heading(&mut self) -> Result<(), Fault>
         ensures machine { Goes (answer Format self.old) result (answer BeforePlayers self.new) }
-        ensures kept { OnOk result (self.new
-            ≡ record self.old { tokens = self.new.tokens; title = self.new.title }) }
-        ensures shorter { OnOk result (IsNoLonger self.old self.new) }
+        ensures read { OnOk result (ReadsHeading self.old self.new) }
     {
         self.tokens.word(b"EFG", What::Format)?;
         self.tokens.word(b"2", What::Version)?;
@@ -32,10 +30,8 @@ impl<'a> Reader<'a> {
     pub(super) fn players(&mut self) -> Result<Span, Fault>
         ensures machine { Goes (answer BeforePlayers self.old) result
             (answer AfterPlayers self.new) }
-        ensures kept { OnOk result (self.new
-            ≡ record self.old { tokens = self.new.tokens; players = self.new.players }) }
+        ensures read { OnOk result (ReadsHeading self.old self.new) }
         ensures place { IfOk result (λ brace. StandsBefore self.new.tokens brace) }
-        ensures shorter { OnOk result (IsNoLonger self.old self.new) }
     {
         let Some(_) = self.tokens.opening() else {
             return Err(self.tokens.refusal(Why::Expected(What::Opening)));
@@ -57,10 +53,8 @@ impl<'a> Reader<'a> {
         requires due { self.old.due ≡ 1 }
         requires place { StandsBefore self.old.tokens brace }
         ensures machine { answer AfterPlayers self.old ≡ answer NodeDue self.new }
-        ensures kept { self.new
-            ≡ record self.old { tokens = self.new.tokens; comment = self.new.comment } }
+        ensures read { ReadsHeading self.old self.new }
         ensures place { StandsBefore self.new.tokens result }
-        ensures shorter { IsNoLonger self.old self.new }
     {
         let Some(comment) = self.tokens.text() else {
             return brace;

@@ -1,32 +1,31 @@
 //! The nodes of an extensive file, in prefix order.
 
-ghost use Rattle.std.specs.Prelude.{◌≡◌, ◌<◌, ℕ, List, [], Ok, length, OnOk, MatchResult};
+ghost use Rattle.std.specs.Prelude.{◌≡◌, ◌<◌, ◌^◌, ℕ, List, [], Ok, length, OnOk, MatchResult};
 ghost use Rattle.gf_tree.specs.inner.Machine.Position.{ChanceName, NodeDue, PersonalName};
 ghost use Rattle.gf_tree.specs.inner.Machine.Position.{PlayerNumber, SetNumber, TerminalName};
-ghost use Rattle.gf_tree.specs.inner.ReaderState.{answer, content_of, Fails, Goes, GoesTelling};
-ghost use Rattle.gf_tree.specs.inner.ReaderState.{HasBegunNode, HasReadAll, HasRoom, IsNoLonger};
-ghost use Rattle.gf_tree.specs.inner.ReaderState.{ReadsNode, heading_read};
+ghost use Rattle.gf_tree.specs.inner.ReaderState.{answer, content_of, Fails, GoesTelling};
+ghost use Rattle.gf_tree.specs.inner.ReaderState.{HasReadAll, ReadsTokens, heading_read};
 
 use super::Reader;
+use crate::game::kept::child_count;
 use crate::reader::readings;
 use crate::reader::receive::Receive;
 use gf_token::{Fault, What, Why};
 
 impl<'a> Reader<'a> {
-    /// Reads a node of chance, after its letter.
+    /// Reads a node of chance, after its letter. Returns the position of its set.
     #[inline(always)]
-    fn chance_node<R: Receive<'a>>(&mut self, to: &mut R) -> Result<(), Fault>
-        requires begun { HasBegunNode self.old }
-        ensures machine { GoesTelling R.holds result (answer ChanceName self.old) self.old self.new
-            to.old to.new }
-        ensures read { OnOk result (ReadsNode self.old self.new) }
+    fn chance_node<R: Receive<'a>>(&mut self, to: &mut R) -> Result<u32, Fault>
+        ensures { GoesTelling R.holds result (λ set. set) (answer ChanceName self.old)
+            self.old self.new to.old to.new }
     {
         let Some(name) = self.tokens.text() else {
             return Err(self.tokens.refusal(Why::Expected(What::Text)));
         };
         let place = self.set(0)?;
         prove!((place as usize) < self.sets.len());
-        self.outcome(name.label, place + 1, to)
+        self.outcome(name.label, place + 1, to)?;
+        Ok(place + 1)
     }
 
     /// Reads the number of a player.
@@ -36,8 +35,7 @@ impl<'a> Reader<'a> {
             (λ player.
             answer (PlayerNumber node) self.old ≡ answer (SetNumber node player) self.new)
             (λ f. Fails f (answer (PlayerNumber node) self.old)) }
-        ensures kept { OnOk result (self.new ≡ record self.old { tokens = self.new.tokens }) }
-        ensures shorter { OnOk result (IsNoLonger self.old self.new) }
+        ensures read { OnOk result (ReadsTokens self.old self.new) }
     {
         let Some((word, index)) = self.tokens.index() else {
             return Err(self.tokens.refusal(Why::Expected(What::Index)));
@@ -51,14 +49,11 @@ impl<'a> Reader<'a> {
         Ok(number)
     }
 
-    /// Reads a node of a player, after its letter.
+    /// Reads a node of a player, after its letter. Returns the position of its set.
     #[inline(always)]
-    fn personal_node<R: Receive<'a>>(&mut self, to: &mut R) -> Result<(), Fault>
-        requires begun { HasBegunNode self.old }
-        ensures machine { GoesTelling R.holds result (answer PersonalName self.old) self.old
-            self.new
-            to.old to.new }
-        ensures read { OnOk result (ReadsNode self.old self.new) }
+    fn personal_node<R: Receive<'a>>(&mut self, to: &mut R) -> Result<u32, Fault>
+        ensures { GoesTelling R.holds result (λ set. set) (answer PersonalName self.old)
+            self.old self.new to.old to.new }
     {
         let Some(name) = self.tokens.text() else {
             return Err(self.tokens.refusal(Why::Expected(What::Text)));
@@ -66,32 +61,29 @@ impl<'a> Reader<'a> {
         let player = self.player()?;
         let place = self.set(player)?;
         prove!((place as usize) < self.sets.len());
-        self.outcome(name.label, place + 1, to)
+        self.outcome(name.label, place + 1, to)?;
+        Ok(place + 1)
     }
 
-    /// Reads a terminal node, after its letter.
+    /// Reads a terminal node, after its letter. Returns 0, since it has no set.
     #[inline(always)]
-    fn terminal_node<R: Receive<'a>>(&mut self, to: &mut R) -> Result<(), Fault>
-        requires begun { HasBegunNode self.old }
-        ensures machine { GoesTelling R.holds result (answer TerminalName self.old) self.old
-            self.new
-            to.old to.new }
-        ensures read { OnOk result (ReadsNode self.old self.new) }
+    fn terminal_node<R: Receive<'a>>(&mut self, to: &mut R) -> Result<u32, Fault>
+        ensures { GoesTelling R.holds result (λ set. set) (answer TerminalName self.old)
+            self.old self.new to.old to.new }
     {
         let Some(name) = self.tokens.text() else {
             return Err(self.tokens.refusal(Why::Expected(What::Text)));
         };
-        self.outcome(name.label, 0, to)
+        self.outcome(name.label, 0, to)?;
+        Ok(0)
     }
 
-    /// Reads a node, which is due.
+    /// Reads a node, which is due. Returns the position of its set, or 0 if it has none.
     #[inline(always)]
-    fn node<R: Receive<'a>>(&mut self, to: &mut R) -> Result<(), Fault>
-        requires due { 0 < self.old.due }
-        requires room { HasRoom 0 self.old }
-        ensures machine { GoesTelling R.holds result (answer NodeDue self.old) self.old self.new
-            to.old to.new }
-        ensures room { OnOk result (HasRoom 0 self.new) }
+    fn node<R: Receive<'a>>(&mut self, to: &mut R) -> Result<u32, Fault>
+        requires { 0 < self.old.due }
+        ensures machine { GoesTelling R.holds result (λ set. set) (answer NodeDue self.old)
+            self.old self.new to.old to.new }
         ensures shorter { OnOk result
             (length self.new.tokens.ahead < length self.old.tokens.ahead) }
     {
@@ -130,7 +122,8 @@ impl<'a> Reader<'a> {
 
     /// Reads the nodes, to the end, and tells each.
     pub(super) fn nodes<R: Receive<'a>>(&mut self, to: &mut R) -> Result<(), Fault>
-        requires room { HasRoom 0 self.old }
+        requires due { self.old.due ≡ 1 }
+        requires few { length self.old.tokens.ahead < 2 ^ 64 }
         requires untold { (self.old.told_sets ≡ 0) × (self.old.told_outcomes ≡ 0) }
         ensures machine { (untold : R) → R.holds untold to.old (heading_read self.old) []
             → MatchResult result
@@ -139,7 +132,9 @@ impl<'a> Reader<'a> {
             (λ f. Fails f (answer NodeDue self.old)) }
     {
         while self.due > 0 {
-            self.node(to)?;
+            let set = self.node(to)?;
+            let children = child_count(&self.sets, set);
+            self.due = self.due - 1 + children as u128;
         }
         self.finish()
     }

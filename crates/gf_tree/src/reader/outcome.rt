@@ -10,12 +10,12 @@ ghost use Rattle.gf_tree.specs.Description.{Outcome};
 ghost use Rattle.gf_tree.specs.FiniteMap.{description_at};
 ghost use Rattle.gf_tree.specs.inner.FoundSet.{FoundOutcome};
 ghost use Rattle.gf_tree.specs.Description.{outcome_with};
-ghost use Rattle.gf_tree.specs.inner.Machine.{Begun, behind_outcome, with_outcome};
+ghost use Rattle.gf_tree.specs.inner.Machine.{Begun, Content, behind_outcome, with_outcome};
 ghost use Rattle.gf_tree.specs.inner.Machine.Position.{KnownOutcomeName, NewOutcomeName};
 ghost use Rattle.gf_tree.specs.inner.Machine.Position.{NewPayoff, NodeDue, OutcomeNumber};
 ghost use Rattle.gf_tree.specs.inner.ReaderState.{answer, begun_with, content_of};
-ghost use Rattle.gf_tree.specs.inner.ReaderState.{Goes, GoesTelling, Grows, HasBegunNode};
-ghost use Rattle.gf_tree.specs.inner.ReaderState.{IsNoLonger, ReadsNode, ReadsPayoff, heard_from};
+ghost use Rattle.gf_tree.specs.inner.ReaderState.{Goes, GoesTelling, Grows, ReadsPayoff};
+ghost use Rattle.gf_tree.specs.inner.ReaderState.{ReadsTokens, heard, heard_from};
 
 use super::Reader;
 use crate::game::outcomes::Outcomes;
@@ -91,13 +91,11 @@ impl<'a> Reader<'a> {
     ) -> Result<(), Fault>
         requires absent { position (nat_eq number) (map (λ o. o.key) self.old.outcomes.known)
             ≡ None }
-        requires begun { HasBegunNode self.old }
         requires set { set ≤ length self.old.sets.known }
-        ensures machine { GoesTelling R.holds result (answer
+        ensures { GoesTelling R.holds result (λ _. set) (answer
             (NewPayoff (begun_with self.old.sets.known (label_of node.entry) set)
             number (outcome_with (label_of name.entry) self.old.outcomes.pending) 0) self.old)
             self.old self.new to.old to.new }
-        ensures read { OnOk result (ReadsNode self.old self.new) }
     {
         let Some(brace) = self.tokens.closing() else {
             return Err(self.tokens.refusal(Why::Expected(What::Closing)));
@@ -123,12 +121,10 @@ impl<'a> Reader<'a> {
     ) -> Result<(), Fault>
         requires absent { position (nat_eq number) (map (λ o. o.key) self.old.outcomes.known)
             ≡ None }
-        requires begun { HasBegunNode self.old }
         requires set { set ≤ length self.old.sets.known }
-        ensures machine { GoesTelling R.holds result (answer (NewOutcomeName
+        ensures { GoesTelling R.holds result (λ _. set) (answer (NewOutcomeName
             (begun_with self.old.sets.known (label_of node.entry) set) number)
             self.old) self.old self.new to.old to.new }
-        ensures read { OnOk result (ReadsNode self.old self.new) }
     {
         let Some(name) = self.tokens.text() else {
             return Err(self.tokens.refusal(Why::NotDescribed));
@@ -148,12 +144,12 @@ impl<'a> Reader<'a> {
     /// Reads the description of a known outcome, if there is one, after its node.
     fn outcome_again(&mut self, place: u32) -> Result<(), Fault>
         requires place { place < length self.old.outcomes.known }
-        ensures machine { (outcome : Outcome)
+        ensures machine { (c : Content) (outcome : Outcome)
             → option_map (λ o. o.description) (slice_get self.old.outcomes.known place)
             ≡ Some outcome
-            → Goes (answer (KnownOutcomeName outcome) self.old) result (answer NodeDue self.new) }
-        ensures kept { self.new ≡ record self.old { tokens = self.new.tokens } }
-        ensures shorter { OnOk result (IsNoLonger self.old self.new) }
+            → Goes (heard (KnownOutcomeName outcome) c self.old.tokens) result
+            (heard NodeDue c self.new.tokens) }
+        ensures read { OnOk result (ReadsTokens self.old self.new) }
     {
         let (name, payoffs) = (self.outcomes.name(place), self.outcomes.payoffs(place));
         same_outcome(&mut self.tokens, name, payoffs)
@@ -171,15 +167,13 @@ impl<'a> Reader<'a> {
         to: &mut R,
     ) -> Result<(), Fault>
         requires positive { 0 < number }
-        requires begun { HasBegunNode self.old }
         requires set { set ≤ length self.old.sets.known }
         requires stands { StandsBefore self.old.tokens stands }
-        ensures machine { GoesTelling R.holds result
+        ensures { GoesTelling R.holds result (λ _. set)
             (heard_from (behind_outcome (content_of self.old)
             (begun_with self.old.sets.known (label_of node.entry) set) number
             (description_at nat_eq self.old.outcomes.known number)) self.old.tokens)
             self.old self.new to.old to.new }
-        ensures read { OnOk result (ReadsNode self.old self.new) }
     {
         let Some(place) = known_outcome(&self.outcomes, number) else {
             self.new_outcome(node, set, number, to)?;
@@ -201,12 +195,10 @@ impl<'a> Reader<'a> {
         set: u32,
         to: &mut R,
     ) -> Result<(), Fault>
-        requires begun { HasBegunNode self.old }
         requires set { set ≤ length self.old.sets.known }
-        ensures machine { GoesTelling R.holds result (answer (OutcomeNumber
+        ensures { GoesTelling R.holds result (λ _. set) (answer (OutcomeNumber
             (begun_with self.old.sets.known (label_of node.entry) set)) self.old)
             self.old self.new to.old to.new }
-        ensures read { OnOk result (ReadsNode self.old self.new) }
     {
         let Some((word, index)) = self.tokens.index() else {
             return Err(self.tokens.refusal(Why::Expected(What::Index)));

@@ -1,7 +1,7 @@
 //! The information set of a node.
 
-ghost use Rattle.std.specs.Prelude.{◌≡◌, ◌+◌, ◌<◌, ◌∷◌, false, ℕ, List, None, map};
-ghost use Rattle.std.specs.Prelude.{length, position, IfOk, IfNone, IfSome, OnOk, MatchResult};
+ghost use Rattle.std.specs.Prelude.{◌≡◌, ◌+◌, ◌<◌, false, ℕ, List, None, map, length, position};
+ghost use Rattle.std.specs.Prelude.{IfOk, IfNone, IfSome, OnOk, MatchResult};
 ghost use Rattle.gf_fraction.specs.Ratio.{IsFraction};
 ghost use Rattle.gf_token.specs.Label.{label_of};
 ghost use Rattle.gf_token.specs.Remaining.{StandsBefore};
@@ -13,10 +13,10 @@ ghost use Rattle.gf_tree.specs.FiniteMap.{description_at};
 ghost use Rattle.gf_tree.specs.inner.FoundSet.{FoundSet};
 ghost use Rattle.gf_tree.specs.Description.{set_with};
 ghost use Rattle.gf_tree.specs.inner.Machine.{begun, behind_set, with_set};
-ghost use Rattle.gf_tree.specs.inner.Machine.Position.{NewAction, NewProbability};
-ghost use Rattle.gf_tree.specs.inner.Machine.Position.{NewSetName, OutcomeNumber, SetNumber};
-ghost use Rattle.gf_tree.specs.inner.ReaderState.{answer, begun_with, with_text, content_of};
-ghost use Rattle.gf_tree.specs.inner.ReaderState.{Fails, Grows, ReadsAction, ReadsSet, heard};
+ghost use Rattle.gf_tree.specs.inner.Machine.Position.{NewAction, NewProbability, NewSetName};
+ghost use Rattle.gf_tree.specs.inner.Machine.Position.{OutcomeNumber, SetNumber};
+ghost use Rattle.gf_tree.specs.inner.ReaderState.{answer, begun_with, with_text, content_of, Fails};
+ghost use Rattle.gf_tree.specs.inner.ReaderState.{Grows, ReadsAction, ReadsSet, heard};
 
 use super::Reader;
 use crate::game::action::Action;

@@ -5,11 +5,9 @@ ghost use Rattle.std.specs.Prelude.{MatchResult, OnOk};
 ghost use Rattle.gf_token.specs.Label.{label_of};
 ghost use Rattle.gf_token.specs.Remaining.{StandsBefore};
 ghost use Rattle.gf_tree.specs.inner.Machine.Position.{NodeDue};
-ghost use Rattle.gf_tree.specs.inner.ReaderState.{Fails, HasBegunNode, HasRoom, TellsNode, answer};
-ghost use Rattle.gf_tree.specs.inner.ReaderState.{heading_read};
+ghost use Rattle.gf_tree.specs.inner.ReaderState.{Fails, TellsNode, answer, heading_read};
 
 use super::Reader;
-use crate::game::kept::child_count;
 use crate::game::numbered_node::{NumberedNode, Numbering};
 use crate::reader::receive::{Receive, ToldHeading};
 use gf_token::{Fault, Label, Span, Why};
@@ -33,8 +31,7 @@ impl<'a> Reader<'a> {
         Ok(())
     }
 
-    /// Tells a node with the positions of its set and of its outcome, or 0 if it has none. Its
-    /// children are then due.
+    /// Tells a node with the positions of its set and of its outcome, or 0 if it has none.
     #[inline(always)]
     pub(super) fn tell<R: Receive<'a>>(
         &mut self,
@@ -43,17 +40,14 @@ impl<'a> Reader<'a> {
         outcome: u32,
         to: &mut R,
     ) -> Result<(), AllocError>
-        requires begun { HasBegunNode self.old }
         requires set { set ≤ length self.old.sets.known }
         requires outcome { outcome ≤ length self.old.outcomes.known }
-        ensures told { OnOk result (TellsNode R.holds self.old self.new to.old to.new (record {
+        ensures { OnOk result (TellsNode R.holds self.old self.new to.old to.new (record {
           name = label_of name.entry;
           set = set;
           outcome = outcome;
         })) }
-        ensures room { OnOk result (HasRoom 0 self.new) }
     {
-        let children = child_count(&self.sets, set);
         to.node(NumberedNode {
             numbering: Numbering::ByFirstUse,
             sets: &self.sets,
@@ -66,7 +60,6 @@ impl<'a> Reader<'a> {
         })?;
         self.told_sets = self.told_sets.max(set);
         self.told_outcomes = self.told_outcomes.max(outcome);
-        self.due = self.due - 1 + children as u128;
         Ok(())
     }
 }

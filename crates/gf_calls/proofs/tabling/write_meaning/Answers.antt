@@ -1,6 +1,6 @@
 use Rattle.std.proofs.Common.{refl, subst}
 use Rattle.gf_canon.specs.GameFile.GameFile.{strategic}
-use Rattle.gf_canon.specs.Judgement.{SpellsWithin}
+use Rattle.gf_canon.specs.CanonicalText.{SpellsWithin}
 use Rattle.gf_canon.specs.MeaningOf.{file_of}
 use Rattle.gf_canon.specs.declared.meaning.Meaning.{Meaning}
 use Rattle.gf_calls.proofs.TableAnswers.{made_answers}

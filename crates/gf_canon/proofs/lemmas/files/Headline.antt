@@ -3,8 +3,8 @@ use Rattle.gf_canon.proofs.Common.{◌≡◌, ℕ, List, refl, sym, subst, inl, 
 use Rattle.gf_canon.proofs.Common.{GameFile, SameFile, SpellsFile, canonical_file, canonical_text}
 use Rattle.gf_canon.proofs.Common.{extensive, strategic, IsCanonicalText, IsFileWithinLimit}
 use Rattle.gf_canon.proofs.Common.{IsRefused, IsRefusedWith, SpellsWithin, Kept}
-use Rattle.gf_canon.specs.MeanSame.{MeanSame}
-use Rattle.gf_canon.proofs.lemmas.files.Texts.{canonical_reads_back, file_twice, is_game_file}
+use Rattle.gf_canon.specs.CanonicalText.{MeanSame}
+use Rattle.gf_canon.proofs.lemmas.files.Texts.{canonical_reads_back, text_twice, is_game_file}
 use Rattle.gf_canon.proofs.lemmas.files.Texts.{spells_one_file}
 use Rattle.gf_canon.proofs.lemmas.files.Judged.{text_is}
 use Rattle.gf_canon.proofs.lemmas.texts.ByNames.{equal_texts_by}
@@ -52,7 +52,7 @@ own_text bytes text p = record {
         (canonical_reads_back bytes p.file p.spelled.spelled);
     within = limit_kept p.file p.spelled.within;
   };
-  is_text = cc (file_twice p.file (is_game_file bytes p.file p.spelled.spelled));
+  is_text = cc (text_twice p.file (is_game_file bytes p.file p.spelled.spelled));
 }
 
 -- ---- the same meaning
@@ -61,16 +61,10 @@ pub same_exactly : (a b : List ℕ) (x y : GameFile) → SpellsWithin a x → Sp
     → MeanSame a b ↔ SameFile x y
 same_exactly a b x y of_x of_y = (
   λ m. rw (
-    spells_one_file a x m.first of_x.spelled m.first_spelled.spelled,
-    spells_one_file b y m.second of_y.spelled m.second_spelled.spelled,
-  ) m.same,
-  λ same. record {
-    first = x;
-    second = y;
-    first_spelled = of_x;
-    second_spelled = of_y;
-    same = same;
-  },
+    spells_one_file a x m.0 of_x.spelled m.2.spelled,
+    spells_one_file b y m.1 of_y.spelled m.3.spelled,
+  ) m.4,
+  λ same. (x, y, of_x, of_y, same),
 )
 
 pub equal_exactly : (a b s t : List ℕ) → IsCanonicalText a s → IsCanonicalText b t

@@ -4,6 +4,7 @@ use Rattle.gf_canon.proofs.Common.{Game, IsGame, SpellsGame, IsSpellable, spells
 use Rattle.gf_canon.proofs.Common.{canonical_game, game_text, GameFile, IsGameFile, SpellsFile}
 use Rattle.gf_canon.proofs.Common.{SameFile, canonical_file, canonical_text, extensive, strategic}
 use Rattle.gf_canon.proofs.Common.{same_by_canonical, canonical_is_game, canonical_twice}
+use Rattle.gf_nfg.specs.TableText.{table_text}
 use Rattle.gf_nfg.proofs.lemmas.tables.Same.{same_is_equal}
 use Rattle.gf_nfg.proofs.lemmas.texts.OneTable.{text_reads_back as table_reads_back}
 use Rattle.gf_nfg.proofs.lemmas.tables.Spelled.{spelled_is_spellable as spelled_table}
@@ -29,6 +30,15 @@ same_by_canonical_file (extensive g) (strategic u) game table = (λ c. absurd c,
 same_by_canonical_file (strategic t) (extensive h) table game = (λ c. absurd c, λ e. cc)
 
 -- ---- texts
+
+-- by the numbers that it has
+abbrev pub file_text : GameFile → List ℕ
+file_text (extensive g) = game_text g
+file_text (strategic t) = table_text t
+
+of_canonical : (x : GameFile) → canonical_text x ≡ file_text (canonical_file x)
+of_canonical (extensive g) = refl
+of_canonical (strategic t) = refl
 
 pub equal_game_texts : (g h : Game) → IsGame g → IsSpellable g → IsGame h → IsSpellable h
     → (game_text g ≡ game_text h) ↔ (g ≡ h)
@@ -71,20 +81,27 @@ pub is_game_file : (bytes : List ℕ) (x : GameFile) → SpellsFile bytes x → 
 is_game_file bytes (extensive g) h = (spelled_game bytes g h).0
 is_game_file bytes (strategic t) h = (spelled_table bytes t h).0
 
-pub file_twice : (x : GameFile) → IsGameFile x
-    → canonical_file (canonical_file x) ≡ canonical_file x
-file_twice (extensive g) game = ap extensive (canonical_twice g game)
-file_twice (strategic t) table = refl
+pub text_twice : (x : GameFile) → IsGameFile x
+    → canonical_text (canonical_file x) ≡ canonical_text x
+text_twice (extensive g) game = ap game_text (canonical_twice g game)
+text_twice (strategic t) table = refl
 
 pub canonical_again : (bytes : List ℕ) (x y : GameFile)
     → SpellsFile bytes x → SpellsFile (canonical_text x) y → canonical_text y ≡ canonical_text x
 canonical_again bytes x y h k =
-    grind (arith, spells_one_file, canonical_reads_back, file_twice, is_game_file)
+    grind (arith, spells_one_file, canonical_reads_back, text_twice, is_game_file)
 
 pub equal_canonical_texts : (a b : List ℕ) (x y : GameFile) → SpellsFile a x → SpellsFile b y
     → (canonical_text x ≡ canonical_text y) ↔ SameFile x y
 equal_canonical_texts a b x y h k =
-    grind (arith, same_by_canonical_file, is_game_file, spells_one_file, canonical_reads_back)
+    grind (
+      arith,
+      same_by_canonical_file,
+      is_game_file,
+      spells_one_file,
+      canonical_reads_back,
+      of_canonical,
+    )
 
 -- ---- laws
 

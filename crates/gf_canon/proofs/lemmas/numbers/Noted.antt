@@ -4,10 +4,10 @@ use Rattle.gf_canon.proofs.Common.{◌≡◌, ℕ, zero, suc, Bool, cond, List, 
 use Rattle.gf_canon.proofs.Common.{Some, refl, sym, ap, subst, ◌∙◌, inl, inr, arith, ◌↔◌, IsSome}
 use Rattle.gf_canon.proofs.Common.{nat_eq, option_map, unwrap_or, filter_map, cons_option, BTreeMap}
 use Rattle.gf_canon.proofs.Common.{get, is_eq, nat_cmp, Decides-eqb, nat_tests, SetKey, same_set}
-use Rattle.gf_canon.proofs.Common.{set_of, Game, IsGame, Node, outcome_at, set_at, used_outcomes}
+use Rattle.gf_canon.proofs.Common.{set_of, Game, IsGame, Node, used_outcomes}
 use Rattle.gf_canon.proofs.Common.{used_sets, Entry, flatten, HasOutcome, HasSet, renumbered_node}
 use Rattle.gf_canon.proofs.Common.{renumbered_set, flatten_map, map_entry, map_twice, Agree}
-use Rattle.gf_canon.proofs.Common.{agreed_trees, outcome_number_positive, same_set_equality, Has}
+use Rattle.gf_canon.proofs.Common.{agreed_games, outcome_number_positive, same_set_equality, Has}
 use Rattle.gf_canon.proofs.Common.{IsEquality, contains, has, IsOnlyRenumbering, new_numbers}
 use Rattle.gf_canon.proofs.Common.{new_outcome_number, new_set_number, number_of_set, set_order}
 use Rattle.gf_canon.proofs.Common.{Carries, SameGame, only_outcomes, only_sets, ◌⊎◌}
@@ -97,7 +97,11 @@ module _ (r : numbers.Renumbering) (g : Game) {sets : SetKey → Option ℕ}
       → ((n : ℕ) → outcomes n ≡ None) → left ≡ map (λ e. e.node) (flatten g.tree)
       → others ≡ map (λ e. e.node) (flatten h.tree) → AreWalked r g sets outcomes left others
   walk_begins h c no_set no_outcome of_g of_h = record {
-    images = cc (c.tree, flatten_map (renumbered_node r) g.tree, nodes_of_image r (flatten g.tree));
+    images = cc (
+      ap (λ (k : Game). k.tree) c.image,
+      flatten_map (renumbered_node r) g.tree,
+      nodes_of_image r (flatten g.tree),
+    );
     sets_noted = rw (of_g, ← filter_of_nodes (λ n. n.set) (flatten g.tree))
         (none_noted (λ k. r.set k.player k.number) sets (used_sets g.tree) no_set);
     outcomes_noted = rw (of_g, ← filter_of_nodes (λ n. n.outcome) (flatten g.tree))
@@ -197,14 +201,7 @@ module _ (found : Renumbering) (g h : Game) (game : IsGame g) (r : numbers.Renum
   found_carries : Carries (new_numbers found) g h
   found_carries = record {
     renumbering = found_is_renumbering;
-    title = c.title;
-    comment = c.comment;
-    players = c.players;
-    tree = agreed_trees (new_numbers found) r g.tree agree ∙ c.tree;
-    sets = λ key i. c.sets key i
-        ∙ ap (set_at h) (sym (agree.sets key (has (used_sets g.tree) key i)));
-    outcomes = λ number i. c.outcomes number i
-        ∙ ap (outcome_at h) (sym (outcome_agrees number i));
+    image = agreed_games (new_numbers found) r g game agree ∙ c.image;
   }
 
   only_renumbering : IsOnlyRenumbering found g h

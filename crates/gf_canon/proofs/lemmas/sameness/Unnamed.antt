@@ -1,23 +1,24 @@
 -- Without its names a game is still a game, and games that are the same are also the same aside
 -- from names.
 use Rattle.gf_canon.proofs.Common.{InformationSet, arith, ◌≡◌, ℕ, Bool, List, [], ◌∷◌, length, map}
-use Rattle.gf_canon.proofs.Common.{Option, Some, refl, sym, subst, nat_eq, option_map, MatchOption}
-use Rattle.gf_canon.proofs.Common.{◌↔◌, AllByRecursion, filter_map, cons_option, IsLabel, Table}
-use Rattle.gf_canon.proofs.Common.{Entry, flatten, SetKey, same_set, Described, description_at}
-use Rattle.gf_canon.proofs.Common.{Node, Game, IsGame, HasChildren, used_sets, used_outcomes}
-use Rattle.gf_canon.proofs.Common.{set_at, outcome_at, IsSpellable, Renumbering, IsRenumbering}
-use Rattle.gf_canon.proofs.Common.{renumbered_set, renumbered_node, map_entry, flatten_map}
-use Rattle.gf_canon.proofs.Common.{map_twice, map_tree_twice, Carries, GameFile, SpellsFile}
-use Rattle.gf_canon.proofs.Common.{SameFile, canonical_text, file_text, extensive, strategic}
-use Rattle.gf_canon.proofs.Common.{unnamed_node, unnamed_set, unnamed_outcome, unnamed_game}
-use Rattle.gf_canon.proofs.Common.{unnamed_table, unnamed, SameAsideNames, all_images, all_weaker}
+use Rattle.gf_canon.proofs.Common.{Option, Some, refl, sym, ap, ◌∙◌, subst, nat_eq, option_map}
+use Rattle.gf_canon.proofs.Common.{MatchOption, ◌↔◌, AllByRecursion, filter_map, cons_option}
+use Rattle.gf_canon.proofs.Common.{IsLabel, Table, Entry, flatten, SetKey, same_set, Described}
+use Rattle.gf_canon.proofs.Common.{description_at, Node, Game, IsGame, HasChildren, used_sets}
+use Rattle.gf_canon.proofs.Common.{used_outcomes, set_at, outcome_at, IsSpellable, Renumbering}
+use Rattle.gf_canon.proofs.Common.{IsRenumbering, renumbered, renumbered_set, renumbered_node}
+use Rattle.gf_canon.proofs.Common.{map_entry, flatten_map, map_twice, map_tree_twice, Carries}
+use Rattle.gf_canon.proofs.Common.{GameFile, SpellsFile, SameFile, canonical_text, extensive}
+use Rattle.gf_canon.proofs.Common.{strategic, unnamed_node, unnamed_set, unnamed_outcome}
+use Rattle.gf_canon.proofs.Common.{unnamed_game, unnamed_table, unnamed, SameAsideNames, all_images}
+use Rattle.gf_canon.proofs.Common.{all_weaker}
 use Rattle.gf_nfg.specs.SameTable.{SamePlay}
 use Rattle.gf_nfg.proofs.lemmas.texts.OneTable.{text_reads_back as table_reads_back}
 use Rattle.gf_nfg.proofs.lemmas.tables.Spelled.{spelled_is_spellable as spelled_table}
 use Rattle.gf_tree.specs.Description.{Outcome}
 use Rattle.gf_tree.proofs.lemmas.games.Spelled.{spelled_is_spellable as spelled_game}
 use Rattle.gf_canon.proofs.lemmas.texts.ReadsBack.{text_reads_back}
-use Rattle.gf_canon.proofs.lemmas.files.Texts.{equal_canonical_texts}
+use Rattle.gf_canon.proofs.lemmas.files.Texts.{equal_canonical_texts, file_text}
 
 -- ---- the same keys
 
@@ -104,28 +105,37 @@ renumbering_still : (g : Game) (r : Renumbering) → IsRenumbering g r
 renumbering_still g r h =
     let sets = unnamed_sets g in let outcomes = unnamed_outcomes g in grind arith
 
+-- names and numbers can be changed in either order
+unnamed_renumbered : (r : Renumbering) (g : Game)
+    → renumbered r (unnamed_game g) ≡ unnamed_game (renumbered r g)
+unnamed_renumbered r g =
+    let set : Described SetKey InformationSet → Described SetKey InformationSet =
+    λ s. record { key = s.key; description = unnamed_set s.description } in
+    let new_set : Described SetKey InformationSet → Described SetKey InformationSet =
+    λ s. record { key = renumbered_set r s.key; description = s.description } in
+    let outcome : Described ℕ Outcome → Described ℕ Outcome =
+    λ o. record { key = o.key; description = unnamed_outcome o.description } in
+    let new_outcome : Described ℕ Outcome → Described ℕ Outcome =
+    λ o. record { key = r.outcome o.key; description = o.description } in
+    let tree = map_tree_twice (renumbered_node r) unnamed_node g.tree
+    ∙ sym (map_tree_twice unnamed_node (renumbered_node r) g.tree) in
+    let sets = map_twice new_set set g.sets ∙ sym (map_twice set new_set g.sets) in
+    let outcomes =
+    map_twice new_outcome outcome g.outcomes ∙ sym (map_twice outcome new_outcome g.outcomes) in
+    λ i. record {
+      title = [];
+      comment = [];
+      players = g.players;
+      tree = tree i;
+      sets = sets i;
+      outcomes = outcomes i;
+    }
+
 carries_aside : (r : Renumbering) (g h : Game) → Carries r g h
     → Carries r (unnamed_game g) (unnamed_game h)
 carries_aside r g h c = record {
   renumbering = renumbering_still g r c.renumbering;
-  title = refl;
-  comment = refl;
-  players = c.players;
-  tree = cc (
-    c.tree,
-    map_tree_twice (renumbered_node r) unnamed_node g.tree,
-    map_tree_twice unnamed_node (renumbered_node r) g.tree,
-  );
-  sets = λ key i. cc (
-    unnamed_set_at g key,
-    unnamed_set_at h (renumbered_set r key),
-    c.sets key (rw unnamed_sets at i),
-  );
-  outcomes = λ number i. cc (
-    unnamed_outcome_at g number,
-    unnamed_outcome_at h (r.outcome number),
-    c.outcomes number (rw unnamed_outcomes at i),
-  );
+  image = unnamed_renumbered r g ∙ ap unnamed_game c.image;
 }
 
 pub same_is_so_aside : (x y : GameFile) → SameFile x y → SameAsideNames x y

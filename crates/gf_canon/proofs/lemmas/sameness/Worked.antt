@@ -1,6 +1,7 @@
 -- Worked games: one with many numberings, and its text.
-use Rattle.gf_canon.proofs.Common.{◌≡◌, refl, arith, IsGame, Renumbering, first_use_numbers}
-use Rattle.gf_canon.proofs.Common.{Carries, SameGame, canonical_game, game_text, same_by_canonical}
+use Rattle.gf_canon.proofs.Common.{◌≡◌, ap, refl, arith, Game, IsGame, Renumbering}
+use Rattle.gf_canon.proofs.Common.{first_use_numbers, Carries, SameGame, canonical_game, game_text}
+use Rattle.gf_canon.proofs.Common.{same_by_canonical}
 use Rattle.gf_fraction.specs.NumberText.{number_text}
 use Rattle.std.specs.Fmt.{digits}
 use Rattle.gf_tree.specs.WorkedTrees.{five, five_file, bonus}
@@ -45,4 +46,6 @@ five_same = (same_by_canonical five (numbered_five 2 3 8 2) five_is_game copy_is
 
 pub five_new_numbers : (r : Renumbering) → Carries r five (numbered_five 2 3 8 2)
     → (r.set 0 9 ≡ 2) × (r.set 1 7 ≡ 3) × (r.set 1 3 ≡ 8) × (r.outcome 4 ≡ 2)
-five_new_numbers r c = grind arith
+five_new_numbers r c =
+    let tree = ap (λ (k : Game). k.tree) c.image in
+    grind arith

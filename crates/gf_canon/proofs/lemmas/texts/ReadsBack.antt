@@ -10,12 +10,13 @@ use Rattle.gf_canon.proofs.Common.{SpellsGame, IsSpellable, IsSpellableSet, IsSp
 use Rattle.gf_canon.proofs.Common.{each, found, same_set_equality, held, in_keys, node_behind}
 use Rattle.gf_canon.proofs.Common.{file_nodes, node_text, game_text}
 use Rattle.gf_token.specs.Grammar.{Each, braced}
-use Rattle.gf_nfg.proofs.lemmas.texts.Spelled.{Tells, Says, says_label, tells_line, tells_lines}
+use Rattle.gf_token.proofs.LaidOut.{AreSaid, Says, Tells, both, each_field, empty, fields, label}
+use Rattle.gf_token.proofs.LaidOut.{labels, lines, list, word}
 use Rattle.gf_tree.specs.Sentence.{IsNode, Sentence}
 use Rattle.gf_tree.proofs.lemmas.written.Nodes.{node_tokens, IsSetUse, IsOutcomeUse, IsWritable}
 use Rattle.gf_tree.proofs.lemmas.written.Nodes.{nodes_written}
 use Rattle.gf_canon.proofs.lemmas.texts.FileOf.{entries_behind, file_of_game, file_nodes_are}
-use Rattle.gf_canon.proofs.lemmas.texts.Pieces.{both, label, labels, line, list, said_node, word}
+use Rattle.gf_canon.proofs.lemmas.texts.Pieces.{said_node}
 
 -- ---- each node can be written
 
@@ -91,8 +92,9 @@ abbrev heading_tokens : Game → List Token
 heading_tokens g = Bare (codes "EFG") ∷ Bare (codes "2") ∷ Bare (codes "R") ∷ Text g.title
     ∷ braced (map Text g.players)
 
-said_heading : (g : Game) → IsSpellable g → Says (first_line g.title g.players) (heading_tokens g)
-said_heading g can = line (both (word (codes "EFG") (refl, (refl, (refl, tt))))
+said_heading : (g : Game) → IsSpellable g
+    → AreSaid (first_line g.title g.players ∷ []) (heading_tokens g)
+said_heading g can = fields (both (word (codes "EFG") (refl, (refl, (refl, tt))))
     (both (word (codes "2") (refl, tt)) (both (word (codes "R") (refl, tt))
     (both (label g.title can.title) (list (labels g.players can.players))))))
 
@@ -103,18 +105,13 @@ game_tokens g = heading_tokens g ++ ((Text g.comment ∷ []) ++ flat_map node_to
 
 tells_game : (g : Game) → IsGame g → IsSpellable g → Tells (game_text g) (game_tokens g)
 tells_game g game can =
-    let lines = map node_text (file_nodes g) in
-    let body = flat_map node_tokens (file_nodes g) in
-    tells_line (first_line g.title g.players) (quoted g.comment ∷ [] ∷ lines) (heading_tokens g)
-    (Text g.comment ∷ body) (said_heading g can)
-    (tells_line (quoted g.comment) ([] ∷ lines) (Text g.comment ∷ []) body
-    (says_label g.comment can.comment)
-    (tells_line [] lines [] body (λ rest others apart told. told)
-    (tells_lines node_text node_tokens (file_nodes g)
-    (all_nodes (λ n. Says (node_text n) (node_tokens n)) g (λ before e i.
-    said_node (length g.players) (node_behind g before e.node)
+    let IsSaid = λ (n : FileNode). Says (node_text n) (node_tokens n) in
+    let nodes = each_field IsSaid node_text node_tokens (λ n said. said) (file_nodes g)
+    (all_nodes IsSaid g (λ before e i. said_node (length g.players) (node_behind g before e.node)
     (each (λ (d : Entry Node). IsLabel d.node.name) (flatten g.tree) e can.nodes i)
-    (node_writable g game can before e i))))))
+    (node_writable g game can before e i))) in
+    lines (both (said_heading g can) (both (label g.comment can.comment)
+    (both empty nodes)))
 
 is_sentence : (g : Game) → IsGame g → IsSpellable g → (f : FileTree) → g.title ≡ f.title
     → g.comment ≡ f.comment → g.players ≡ f.players

@@ -1,12 +1,6 @@
-use Rattle.gf_form.proofs.lemmas.form.Forms.{one_strategic_form, strategic_form_exists}
-use Rattle.gf_form.proofs.lemmas.reduced.ReducedForms.{one_reduced_form, reduced_form_exists}
+use Rattle.gf_form.proofs.lemmas.form.Forms.{strategic_form_exists}
+use Rattle.gf_form.proofs.lemmas.reduced.ReducedForms.{reduced_form_exists}
 use Rattle.gf_form.proofs.laws.one_form.Goals as goal
-
-pub returns-clause-strategic : goal.returns-clause-strategic
-returns-clause-strategic c = one_strategic_form
-
-pub returns-clause-reduced : goal.returns-clause-reduced
-returns-clause-reduced c = one_reduced_form
 
 pub returns-clause-strategic_exists : goal.returns-clause-strategic_exists
 returns-clause-strategic_exists c = strategic_form_exists

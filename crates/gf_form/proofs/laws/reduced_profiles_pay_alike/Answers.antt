@@ -1,8 +1,5 @@
-use Rattle.gf_form.proofs.lemmas.reduced.Reducing.{reduced_pay, reduced_value}
+use Rattle.gf_form.proofs.lemmas.reduced.Reducing.{reduced_pay}
 use Rattle.gf_form.proofs.laws.reduced_profiles_pay_alike.Goals as goal
 
 pub returns-clause-payoffs : goal.returns-clause-payoffs
-returns-clause-payoffs c = λ g player p q hp hq e. reduced_pay g player p q hp hq e
-
-pub returns-clause-values : goal.returns-clause-values
-returns-clause-values c = reduced_value
+returns-clause-payoffs c = reduced_pay

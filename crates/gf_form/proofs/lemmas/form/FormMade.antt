@@ -2,11 +2,10 @@
 use Rattle.gf_form.proofs.Common.{◌≡◌, ℕ, ◌*◌, ◌<◌, ◌≤◌, List, ◌∷◌, length, map, sym, ap, ◌∙◌}
 use Rattle.gf_form.proofs.Common.{arith, AllByRecursion, AllZip, Ratio, IsFraction, profile_limit}
 use Rattle.gf_form.proofs.Common.{product, Table, IsTableOf, length-profiles, length-numbers_from}
-use Rattle.gf_form.proofs.Common.{Game, AreRowsAt, ArePayoffsAt, IsFormBy, players_of}
+use Rattle.gf_form.proofs.Common.{Game, AreRowsAt, ArePayoffsAt, IsFormWith, players_of}
 use Rattle.gf_form.specs.inner.rows.FitsTable.{FitsTable}
 use Rattle.gf_form.proofs.lemmas.strategies.CountedActions.{as_many_players}
-use Rattle.gf_form.proofs.lemmas.form.FormTables.{as_many, some_labels}
-use Rattle.gf_form.proofs.lemmas.form.Forms.{form_profiles}
+use Rattle.gf_form.proofs.lemmas.form.Forms.{as_many, some_labels, form_profiles}
 use Rattle.gf_form.proofs.lemmas.rows.RowsMade.{form_by_rows, rows_counted, rows_fractions}
 
 -- ---- rows of payoffs
@@ -47,6 +46,6 @@ module _ (labels : ℕ → List (List ℕ)) (R : List ℕ → List Ratio → Typ
   }
 
   pub form_made : (t : Table) → IsTableOf t g.title g.comment g.players all payoffs
-      → IsFormBy labels R g t
+      → IsFormWith labels R g t
   form_made t made =
       grind (arith, form_by_rows R labels g t payoffs each (grind arith) right)

@@ -1,13 +1,17 @@
--- Forms of a game: there is at most one, and one exists if there are payoffs at each profile.
+-- Forms of a game: there is at most one, one exists if there are payoffs at each profile, and each
+-- is a table.
 use Rattle.gf_form.proofs.Common.{◌≡◌, ℕ, List, [], ◌∷◌, length, map, arith, refl, sym, ap, subst}
 use Rattle.gf_form.proofs.Common.{inl, inr, ◌↔◌, AllByRecursion, AllZip, length-map, Ratio}
 use Rattle.gf_form.proofs.Common.{IsFraction, IsEqual, one_fraction, profiles, Table, SetKey, Game}
 use Rattle.gf_form.proofs.Common.{map_twice, Has, contains, has, each, mapped_from, payoff}
-use Rattle.gf_form.proofs.Common.{ArePayoffsAt, IsFormBy, IsStrategicForm, PaysFractions}
+use Rattle.gf_form.proofs.Common.{ArePayoffsAt, IsFormWith, IsStrategicForm, PaysFractions}
 use Rattle.gf_form.proofs.Common.{strategy_labels, choices_by, full_profiles, players_of}
-use Rattle.gf_form.proofs.Common.{strategies_at}
+use Rattle.gf_form.proofs.Common.{strategies_at, ◌<◌, ◌∙◌, IfOk-weaker, all_images, IsTable}
+use Rattle.gf_form.proofs.Common.{length-numbers_from, IsGame, all_of_each, AllZip-long}
 use Rattle.gf_nfg.specs.Table.{Entry}
 use Rattle.gf_form.specs.StrategicForm.{PaysFraction}
+use Rattle.gf_form.proofs.lemmas.strategies.CountedActions.{some_strategy}
+use Rattle.gf_form.proofs.lemmas.strategies.Lookups.{all_mapped}
 
 -- ---- forms by any labels
 
@@ -35,7 +39,7 @@ same_entries R es fs q one h k = absurd (grind arith)
 pub one_form_by : (labels : ℕ → List (List ℕ)) (R : List ℕ → List Ratio → Type 0) (g : Game)
     → ((profile : List ℕ)
     → Has (form_profiles labels g) profile → (a b : List Ratio) → R profile a → R profile b → a ≡ b)
-    → (t u : Table) → IsFormBy labels R g t → IsFormBy labels R g u → t ≡ u
+    → (t u : Table) → IsFormWith labels R g t → IsFormWith labels R g u → t ≡ u
 one_form_by labels R g one t u h k = grind (arith, same_entries)
 
 some_entries : (R : List ℕ → List Ratio → Type 0) (ps : List (List ℕ))
@@ -53,7 +57,7 @@ some_entries R (p ∷ ps) rows =
 -- a form exists exactly when there are right payoffs at each profile
 pub some_form_by : (labels : ℕ → List (List ℕ)) (R : List ℕ → List Ratio → Type 0) (g : Game)
     → ((p : List ℕ) → Has (form_profiles labels g) p → (row : List Ratio) × R p row)
-    → (t : Table) × IsFormBy labels R g t
+    → (t : Table) × IsFormWith labels R g t
 some_form_by labels R g rows =
     let es = some_entries R (form_profiles labels g) rows in (
       record {
@@ -67,7 +71,7 @@ some_form_by labels R g rows =
     )
 
 pub rows_of_form : (labels : ℕ → List (List ℕ))
-    (R : List ℕ → List Ratio → Type 0) (g : Game) (t : Table) → IsFormBy labels R g t
+    (R : List ℕ → List Ratio → Type 0) (g : Game) (t : Table) → IsFormWith labels R g t
     → (p : List ℕ) → Has (form_profiles labels g) p → (row : List Ratio) × R p row
 rows_of_form labels R g t form p i = grind (arith, mapped_from, each, length-map, map_twice)
 
@@ -129,3 +133,32 @@ strategic_form_exists g = (
       (pays profile
       (contains (full_profiles g) profile (subst (λ ps. Has ps profile) (all_profiles g) i)))),
 )
+
+pub as_many : {A B : Type 0} (R : A → B → Type 0) (xs : List A) (ys : List B) → AllZip R xs ys
+    → length xs ≡ length ys
+as_many R xs ys h = sym (AllZip-long R xs ys h)
+
+pub some_labels : (labels : ℕ → List (List ℕ)) → ((player : ℕ) → 0 < length (labels player))
+    → (players : List ℕ) → AllByRecursion (λ own. 0 < length own) (map labels players)
+some_labels labels some players = all_mapped (λ own. 0 < length own) labels players some
+
+module _ (labels : ℕ → List (List ℕ)) (R : List ℕ → List Ratio → Type 0) (g : Game) (t : Table)
+    (form : IsFormWith labels R g t) where
+  as_players : length (players_of g) ≡ length t.players
+  as_players = length-numbers_from 1 (length g.players) ∙ sym (ap length form.players)
+
+  -- a form is a table if each player has a strategy, and each entry a payoff for each player
+  pub table_by : ((player : ℕ) → 0 < length (labels player))
+      → ((e : Entry) → Has t.entries e → length e.payoffs ≡ length (players_of g)) → IsTable t
+  table_by some each_row =
+      grind (arith, length-map, as_players, some_strategy, some_labels, all_images, all_of_each)
+
+pub form_is_table : (g : Game) → IsGame g → (t : Table) → IsStrategicForm g t → IsTable t
+form_is_table g game t form =
+    table_by (strategy_labels g) (ArePayoffsAt g) g t form
+    (λ player. grind (arith, length-map, some_strategy))
+    (λ e i. as_many _ e.payoffs (players_of g)
+    (each (λ (d : Entry). ArePayoffsAt g d.profile d.payoffs) t.entries e form.payoffs i))
+
+-- what is passed on to the table
+pub ruleset table_steps = (length-map, IfOk-weaker)

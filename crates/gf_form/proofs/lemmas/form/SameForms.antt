@@ -1,31 +1,48 @@
 -- Games that are the same have the same payoffs, bottom-up values and forms, by pure and by reduced
 -- strategies, and none for the same reason.
-use Rattle.gf_form.proofs.Common.{◌≡◌, ℕ, List, ◌∷◌, Some, arith, map, refl, inl, inr, ◌↔◌}
-use Rattle.gf_form.proofs.Common.{if◌then◌else◌, AllZip, Ratio, IsFraction, IsEqual, all_weaker}
-use Rattle.gf_form.proofs.Common.{Table, flatten, SetKey, InformationSet, same_set, Described, Node}
-use Rattle.gf_form.proofs.Common.{Game, IsGame, used_sets, set_at, outcome_at, Renumbering}
-use Rattle.gf_form.proofs.Common.{IsRenumbering, renumbered_set, renumbered_node, renumbered}
-use Rattle.gf_form.proofs.Common.{player_sets, player_keys, same_set_equality, Has, all_of_each}
-use Rattle.gf_form.proofs.Common.{filter_of_map, map_twice, same_tests, held, sets_apart, SameGame}
-use Rattle.gf_form.proofs.Common.{same_back, carried_is_renumbered, strategies, players_of}
-use Rattle.gf_form.proofs.Common.{choice_at, choices_by, strategies_at, payoff, IsValue, ArePayoffs}
-use Rattle.gf_form.proofs.Common.{IsStrategicForm, length, ap, subst, ◌∙◌, positions, ArePayoffsAt}
-use Rattle.gf_form.proofs.Common.{strategy_label, map_same, HasTooManyProfiles, HasValues}
-use Rattle.gf_form.proofs.Common.{IsFirstWithout, full_profiles, Bool, true, false, [], Option}
-use Rattle.gf_form.proofs.Common.{None, ◌==◌, ◌&&◌, ◌||◌, not, option_map, zip, AllByRecursion}
-use Rattle.gf_form.proofs.Common.{Contains, list_any, option_map_or, pointwise, first_uses, Step}
-use Rattle.gf_form.proofs.Common.{plays, AreReducedPayoffsAt, comes_to, IsReducedForm, is_relevant}
-use Rattle.gf_form.proofs.Common.{reduced, reduced_at, reduced_by, reduced_profiles}
-use Rattle.gf_form.proofs.Common.{reduced_strategies, same_choice, HasReducedValues}
-use Rattle.gf_form.proofs.Common.{ReducedOverflowsAt}
+use Rattle.gf_form.proofs.Common.{◌≡◌, same_set, SameGame, map_same, HasValues, profiles, pointwise}
+use Rattle.gf_form.proofs.Common.{ℕ, carried_is_renumbered, HasTooManyProfiles, AreReducedPayoffsAt}
+use Rattle.gf_form.proofs.Common.{List, Some, refl, Node, Game, held, Bool, true, None, ◌==◌, ◌&&◌}
+use Rattle.gf_form.proofs.Common.{◌∷◌, SetKey, IsGame, set_at, payoff, length, false, Option, plays}
+use Rattle.gf_form.proofs.Common.{arith, if◌then◌else◌, IsRenumbering, filter_of_map, strategies_at}
+use Rattle.gf_form.proofs.Common.{map, sym, inl, inr, ◌↔◌, Has, ◌∙◌, zip, ◌<◌, [], ◌||◌, not, Step}
+use Rattle.gf_form.proofs.Common.{AllZip, same_set_equality, reduced_strategies, ReducedOverflowsAt}
+use Rattle.gf_form.proofs.Common.{Ratio, profile_limit, full_profiles, option_map_or, IsReducedForm}
+use Rattle.gf_form.proofs.Common.{IsFraction, ap, outcome_at, strategy_at, is_relevant, same_choice}
+use Rattle.gf_form.proofs.Common.{IsEqual, flatten, IsValue, Contains, list_any, comes_to, reduced}
+use Rattle.gf_form.proofs.Common.{subst, renumbered, same_tests, sets_apart, strategies, players_of}
+use Rattle.gf_form.proofs.Common.{Table, choices_by, IsFormWith, option_map, first_uses, reduced_at}
+use Rattle.gf_form.proofs.Common.{InformationSet, renumbered_set, IsStrategicForm, strategy_labels}
+use Rattle.gf_form.proofs.Common.{Described, used_sets, map_twice, choice_at, positions, reduced_by}
+use Rattle.gf_form.proofs.Common.{Renumbering, player_sets, player_keys, all_of_each, reduced_label}
+use Rattle.gf_form.proofs.Common.{renumbered_node, ArePayoffsAt, reduced_profiles, HasReducedValues}
+use Rattle.gf_form.proofs.Common.{strategy_label, IsFirstWithout, AllByRecursion, reduced_labels}
+use Rattle.std.proofs.Math.Path.{subst₂, transport, transport⁻¹}
 use Rattle.gf_tree.specs.PrefixOrder.{Entry}
 use Rattle.gf_tree.proofs.lemmas.games.Carried.{entry_used}
 use Rattle.gf_tree.proofs.lemmas.games.Renumbered.{set_at_image, outcome_at_image}
-use Rattle.gf_form.proofs.lemmas.form.Forms.{same_row}
-use Rattle.gf_form.proofs.lemmas.values.Alike.{IsAlike, AreAlike, same_payoff, same_value, OnPlay}
+use Rattle.gf_form.proofs.lemmas.values.Alike.{IsAlike, AreAlike, same_payoff, value_alike, OnPlay}
 use Rattle.gf_form.proofs.lemmas.values.Alike.{OnSteps, carried_step, on_plays, plays_carried}
 use Rattle.gf_form.proofs.lemmas.strategies.KnownSets.{own_set}
-use Rattle.gf_form.specs.Refusal.{HasBottomUpValue, OverflowsAt}
+use Rattle.gf_form.specs.Refusal.{OverflowsAt}
+
+any_carried : {X Y : Type 0} (f : X → Y) (p : Y → Bool) (q : X → Bool) (P : X → Type 0)
+    → ((x : X) → P x → p (f x) ≡ q x) → (xs : List X) → AllByRecursion P xs
+    → list_any p (map f xs) ≡ list_any q xs
+any_carried f p q P same [] h = refl
+any_carried f p q P same (x ∷ xs) h =
+    λ i. same x h.0 i || any_carried f p q P same xs h.1 i
+
+-- types that are equal hold alike
+alike_types : {A B : Type 0} → A ≡ B → B ↔ A
+alike_types p = (transport⁻¹ p, transport p)
+
+-- a form of a game is one of another that has the same title, comment and players
+form_again : (labels : ℕ → List (List ℕ)) (R : List ℕ → List Ratio → Type 0) (g h : Game)
+    (t : Table) → g.title ≡ h.title → g.comment ≡ h.comment → g.players ≡ h.players
+    → IsFormWith labels R g t → IsFormWith labels R h t
+form_again labels R g h t title comment players form =
+    grind (arith, positions, profiles, strategies)
 
 -- what a strategy chooses at a set, by the new numbers
 choice_carried : (f : SetKey → SetKey) (keys : List SetKey) (strategy : List ℕ) (key : SetKey)
@@ -104,130 +121,64 @@ module _ (g : Game) (r : Renumbering) (game : IsGame g) (is : IsRenumbering g r)
       (λ e. IsAlike g h (choices_by g all) (choices_by h all) player (renumbered_node r) e.node)
       (flatten g.tree) (node_alike all player)
 
-  payoff_carried : (all : List (List ℕ)) (player : ℕ)
+  pub payoff_carried : (all : List (List ℕ)) (player : ℕ)
       → payoff h (choices_by h all) player ≡ payoff g (choices_by g all) player
   payoff_carried all player = same_payoff g h (choices_by g all) (choices_by h all) player
       (renumbered_node r) refl (alike all player)
 
   value_carried : (all : List (List ℕ)) (player : ℕ) (value : Ratio)
-      → IsValue g (choices_by g all) player g.tree value
       → IsValue h (choices_by h all) player h.tree value
-  value_carried all player value = same_value g h (choices_by g all) (choices_by h all) player
-      (renumbered_node r) value refl (alike all player)
+      ≡ IsValue g (choices_by g all) player g.tree value
+  value_carried all player value =
+      value_alike g h (choices_by g all) (choices_by h all) player (renumbered_node r) g.tree value
+      (alike all player)
 
   -- ---- the form
 
   pub strategies_carried : (player : ℕ) → strategies h player ≡ strategies g player
   strategies_carried player = grind (arith, sets_carried, map_twice)
 
-  strategies_at_carried : (profile : List ℕ) → strategies_at h profile ≡ strategies_at g profile
+  pub strategies_at_carried : (profile : List ℕ) → strategies_at h profile ≡ strategies_at g profile
   strategies_at_carried profile = grind (arith, strategies_carried)
 
--- ---- games that are the same
+  profiles_carried : full_profiles h ≡ full_profiles g
+  profiles_carried =
+      λ i. profiles (map (λ player. length (strategies_carried player i)) (players_of g))
 
-pub same_payoffs : (g h : Game) → IsGame g → IsGame h → SameGame g h → (all : List (List ℕ))
-    (player : ℕ) → payoff g (choices_by g all) player ≡ payoff h (choices_by h all) player
-same_payoffs g h game game' same all player = grind (arith, carried_is_renumbered, payoff_carried)
+  paid_carried : (profile : List ℕ) (player : ℕ)
+      → payoff h (choices_by h (strategies_at h profile)) player
+      ≡ payoff g (choices_by g (strategies_at g profile)) player
+  paid_carried profile player =
+      ap (λ all. payoff h (choices_by h all) player) (strategies_at_carried profile)
+      ∙ payoff_carried (strategies_at g profile) player
 
-value_on : (g h : Game) → IsGame g → IsGame h → SameGame g h → (all : List (List ℕ))
-    (player : ℕ) (value : Ratio) → IsValue g (choices_by g all) player g.tree value
-    → IsValue h (choices_by h all) player h.tree value
-value_on g h game game' same all player value v =
-    grind (arith, carried_is_renumbered, value_carried)
+  right_carried : ArePayoffsAt h ≡ ArePayoffsAt g
+  right_carried = λ i profile payoffs. AllZip
+      (λ paid player. IsFraction paid × IsEqual paid (paid_carried profile player i)) payoffs
+      (players_of g)
 
-pub same_strategies : (g h : Game) → IsGame g → IsGame h → SameGame g h → (player : ℕ)
-    → strategies g player ≡ strategies h player
-same_strategies g h game game' same player =
-    grind (arith, carried_is_renumbered, strategies_carried)
+  value_at_carried : (profile : List ℕ) (player : ℕ) (value : Ratio)
+      → IsValue h (choices_by h (strategies_at h profile)) player h.tree value
+      ≡ IsValue g (choices_by g (strategies_at g profile)) player g.tree value
+  value_at_carried profile player value =
+      grind (arith, choices_by, strategies_at, strategies_at_carried, value_carried)
 
-pub same_strategies_at : (g h : Game) → IsGame g → IsGame h → SameGame g h → (profile : List ℕ)
-    → strategies_at g profile ≡ strategies_at h profile
-same_strategies_at g h game game' same profile =
-    grind (arith, carried_is_renumbered, strategies_at_carried)
+  values_carried : HasValues h ≡ HasValues g
+  values_carried = λ i profile. AllByRecursion
+      (λ player. (value : Ratio) × value_at_carried profile player value i) (players_of g)
 
-pub players_too : (g h : Game) → SameGame g h → players_of g ≡ players_of h
-players_too g h same = ap (λ players. positions (length players)) same.1.players
+  overflow_carried : (position : ℕ) → OverflowsAt h position ≡ OverflowsAt g position
+  overflow_carried position = λ i. IsFirstWithout (values_carried i) (profiles_carried i) position
 
--- payoffs that are right at a profile are right there in both
-pub right_too : (g h : Game) → IsGame g → IsGame h → SameGame g h → (profile : List ℕ)
-    (payoffs : List Ratio) → ArePayoffsAt g profile payoffs → ArePayoffsAt h profile payoffs
-right_too g h game game' same profile payoffs right =
-    subst (λ all. ArePayoffs h (choices_by h all) payoffs)
-    (same_strategies_at g h game game' same profile)
-    (subst (λ players. AllZip (λ paid player.
-    IsFraction paid × IsEqual paid (payoff h (choices_by h (strategies_at g profile)) player))
-    payoffs players) (players_too g h same)
-    (same_row g h (choices_by g (strategies_at g profile)) (choices_by h (strategies_at g profile))
-    payoffs (players_of g) (same_payoffs g h game game' same (strategies_at g profile)) right))
+  form_carried : (labels others : ℕ → List (List ℕ)) (R S : List ℕ → List Ratio → Type 0)
+      → others ≡ labels → S ≡ R → (t : Table) → IsFormWith labels R g t ↔ IsFormWith others S h t
+  form_carried labels others R S e f t = grind (arith, form_again, subst₂)
 
-form_on : (g h : Game) → IsGame g → IsGame h → SameGame g h → (t : Table) → IsStrategicForm g t
-    → IsStrategicForm h t
-form_on g h game game' same t form = record {
-  title = form.title ∙ same.1.title;
-  comment = form.comment ∙ same.1.comment;
-  players = form.players ∙ same.1.players;
-  strategies = form.strategies
-      ∙ (λ i. map (λ player. map strategy_label (same_strategies g h game game' same player i))
-      (players_too g h same i));
-  profiles = form.profiles;
-  payoffs = all_weaker (λ e. ArePayoffsAt g e.profile e.payoffs)
-      (λ e. ArePayoffsAt h e.profile e.payoffs)
-      (λ e right. right_too g h game game' same e.profile e.payoffs right) t.entries form.payoffs;
-}
+  strategic_carried : (t : Table) → IsStrategicForm g t ↔ IsStrategicForm h t
+  strategic_carried = form_carried (strategy_labels g) (strategy_labels h) (ArePayoffsAt g)
+      (ArePayoffsAt h) (λ i player. map strategy_label (strategies_carried player i)) right_carried
 
-pub same_values : (g h : Game) → IsGame g → IsGame h → SameGame g h → (all : List (List ℕ))
-    (player : ℕ) (value : Ratio) → IsValue g (choices_by g all) player g.tree value
-    ↔ IsValue h (choices_by h all) player h.tree value
-same_values g h game game' same all player value = grind (arith, value_on, same_back)
-
-pub same_forms : (g h : Game) → IsGame g → IsGame h → SameGame g h → (t : Table)
-    → IsStrategicForm g t ↔ IsStrategicForm h t
-same_forms g h game game' same t = grind (arith, form_on, same_back)
-
-module _ (g h : Game) (game : IsGame g) (game' : IsGame h) (same : SameGame g h) where
-  pub same_profiles : full_profiles g ≡ full_profiles h
-  same_profiles = grind (arith, map_same, same_strategies)
-
-  value_too : (profile : List ℕ) (player : ℕ) → HasBottomUpValue g profile player
-      → HasBottomUpValue h profile player
-  value_too profile player has = grind (arith, same_strategies_at, same_values)
-
-  pub values_too : (profile : List ℕ) → HasValues g profile → HasValues h profile
-  values_too profile all = grind (arith, all_weaker, value_too, players_too)
-
--- the same position is the first, if the same holds for the same profiles
-pub first_too : (P Q : List ℕ → Type 0) (ps qs : List (List ℕ)) (position : ℕ) → ps ≡ qs
-    → ((profile : List ℕ) → P profile → Q profile) → ((profile : List ℕ) → Q profile → P profile)
-    → IsFirstWithout P ps position → IsFirstWithout Q qs position
-first_too P Q ps qs position same to from o = grind arith
-
-overflow_on : (g h : Game) → IsGame g → IsGame h → SameGame g h → (position : ℕ)
-    → OverflowsAt g position → OverflowsAt h position
-overflow_on g h game game' same position =
-    first_too (HasValues g) (HasValues h) (full_profiles g) (full_profiles h) position
-    (same_profiles g h game game' same) (values_too g h game game' same)
-    (values_too h g game' game (same_back g h game same))
-
-pub same_overflow : (g h : Game) → IsGame g → IsGame h → SameGame g h → (position : ℕ)
-    → OverflowsAt g position ↔ OverflowsAt h position
-same_overflow g h game game' same position = grind (arith, overflow_on, same_back)
-
-pub same_count : (g h : Game) → IsGame g → IsGame h → SameGame g h
-    → HasTooManyProfiles g ↔ HasTooManyProfiles h
-same_count g h game game' same = grind (arith, same_profiles g h game game' same)
-
-any_carried : {X Y : Type 0} (f : X → Y) (p : Y → Bool) (q : X → Bool) (P : X → Type 0)
-    → ((x : X) → P x → p (f x) ≡ q x) → (xs : List X) → AllByRecursion P xs
-    → list_any p (map f xs) ≡ list_any q xs
-any_carried f p q P same [] h = refl
-any_carried f p q P same (x ∷ xs) h =
-    λ i. same x h.0 i || any_carried f p q P same xs h.1 i
-
--- ---- relevant sets
-
-module _ (g : Game) (r : Renumbering) (game : IsGame g) (is : IsRenumbering g r) (player : ℕ) where
-  abbrev other : Game
-  other = renumbered r g
+  -- ---- relevant sets
 
   -- its set is one of the game's
   abbrev HasUsed : Node → Type 0
@@ -238,12 +189,12 @@ module _ (g : Game) (r : Renumbering) (game : IsGame g) (is : IsRenumbering g r)
       (all_of_each (λ (e : Entry Node). HasUsed e.node) (flatten g.tree)
       (λ e i key at. held (λ (n : Node). n.set) (flatten g.tree) e key i at))
 
-  module _ (strategy : List ℕ) where
+  module _ (player : ℕ) (strategy : List ℕ) where
     abbrev c : SetKey → ℕ
     c key = choice_at (player_keys g player) strategy key
 
     abbrev d : SetKey → ℕ
-    d key = choice_at (player_keys other player) strategy key
+    d key = choice_at (player_keys h player) strategy key
 
     meets_carried : (key : SetKey) → Has (used_sets g.tree) key → (o : Option SetKey)
         → ((k : SetKey) → o ≡ Some k → Has (used_sets g.tree) k)
@@ -273,94 +224,112 @@ module _ (g : Game) (r : Renumbering) (game : IsGame g) (is : IsRenumbering g r)
         && comes_carried key used steps all.1 i)
 
     relevant_carried : (key : SetKey) → Has (used_sets g.tree) key
-        → is_relevant other d (renumbered_set r key) ≡ is_relevant g c key
+        → is_relevant h d (renumbered_set r key) ≡ is_relevant g c key
     relevant_carried key used = grind (arith, all_used, any_carried, comes_carried, plays_carried)
 
     -- ---- reduced strategies
 
     shown_carried : (key : SetKey) → Has (player_keys g player) key
-        → (if is_relevant other d (renumbered_set r key)
+        → (if is_relevant h d (renumbered_set r key)
         then Some (d (renumbered_set r key)) else None)
         ≡ (if is_relevant g c key then Some (c key) else None)
     shown_carried key i = grind (arith, key_used, relevant_carried, strategy_carried)
 
-    reduced_carried : reduced other player strategy ≡ reduced g player strategy
+    pub reduced_carried : reduced h player strategy ≡ reduced g player strategy
     reduced_carried =
-        let shown_by = λ (key : SetKey). if is_relevant other d key then Some (d key) else None in
-        ap (map shown_by) (keys_carried g r game is player)
+        let shown_by = λ (key : SetKey). if is_relevant h d key then Some (d key) else None in
+        ap (map shown_by) (keys_carried player)
         ∙ map_twice shown_by (renumbered_set r) (player_keys g player)
         ∙ map_same (λ key. shown_by (renumbered_set r key))
         (λ key. if is_relevant g c key then Some (c key) else None) (player_keys g player)
         shown_carried
 
-  reduced_strategies_carried : reduced_strategies other player ≡ reduced_strategies g player
-  reduced_strategies_carried =
+  pub reduced_strategies_carried : (player : ℕ)
+      → reduced_strategies h player ≡ reduced_strategies g player
+  reduced_strategies_carried player =
       ap (first_uses (pointwise same_choice))
-      (ap (map (reduced other player)) (strategies_carried g r game is player)
-      ∙ map_same (reduced other player) (reduced g player) (strategies g player)
-      (λ strategy i. reduced_carried strategy))
+      (ap (map (reduced h player)) (strategies_carried player)
+      ∙ map_same (reduced h player) (reduced g player) (strategies g player)
+      (λ strategy i. reduced_carried player strategy))
+
+  pub reduced_by_carried : (profile : List ℕ) → reduced_by h profile ≡ reduced_by g profile
+  reduced_by_carried profile = λ i. map (λ p. reduced_carried p.0 p.1 i)
+      (zip (players_of g) (strategies_at_carried profile i))
+
+  reduced_at_carried : (profile : List ℕ) → reduced_at h profile ≡ reduced_at g profile
+  reduced_at_carried profile = λ i. map (λ p. strategy_at (reduced_strategies_carried p.0 i) p.1)
+      (zip (players_of g) profile)
+
+  reduced_right_carried : AreReducedPayoffsAt h ≡ AreReducedPayoffsAt g
+  reduced_right_carried = λ i profile payoffs. (full : List ℕ) → Contains (profiles_carried i) full
+      → reduced_by_carried full i ≡ reduced_at_carried profile i → right_carried i full payoffs
+
+  reduced_values_carried : HasReducedValues h ≡ HasReducedValues g
+  reduced_values_carried = λ i profile. (full : List ℕ) → Contains (profiles_carried i) full
+      → reduced_by_carried full i ≡ reduced_at_carried profile i → values_carried i full
+
+  reduced_overflow_carried : (position : ℕ)
+      → ReducedOverflowsAt h position ≡ ReducedOverflowsAt g position
+  reduced_overflow_carried position =
+      grind (arith, players_of, profiles, reduced_strategies_carried, reduced_values_carried)
+
+  reduced_form_carried : (t : Table) → IsReducedForm g t ↔ IsReducedForm h t
+  reduced_form_carried = form_carried (reduced_labels g) (reduced_labels h) (AreReducedPayoffsAt g)
+      (AreReducedPayoffsAt h)
+      (λ i player. map reduced_label (reduced_strategies_carried player i)) reduced_right_carried
 
 -- ---- games that are the same
 
 module _ (g h : Game) (game : IsGame g) (game' : IsGame h) (same : SameGame g h) where
-  pub same_reduced : (player : ℕ) (strategy : List ℕ)
-      → reduced g player strategy ≡ reduced h player strategy
-  same_reduced player strategy = grind (arith, carried_is_renumbered, reduced_carried)
+  -- what holds of a game by new numbers
+  over : (P : Game → Type 0) → P (renumbered same.0 g) → P h
+  over P = subst P (carried_is_renumbered same.0 g h game game' same.1)
 
-  pub same_reduced_strategies : (player : ℕ)
-      → reduced_strategies g player ≡ reduced_strategies h player
-  same_reduced_strategies player = grind (arith, carried_is_renumbered, reduced_strategies_carried)
+  pub same_values : (all : List (List ℕ)) (player : ℕ) (value : Ratio)
+      → IsValue g (choices_by g all) player g.tree value
+      ↔ IsValue h (choices_by h all) player h.tree value
+  same_values all player value =
+      over (λ x. IsValue g (choices_by g all) player g.tree value
+      ↔ IsValue x (choices_by x all) player x.tree value)
+      (alike_types (value_carried g same.0 game same.1.renumbering all player value))
 
-  pub same_reduced_by : (profile : List ℕ) → reduced_by g profile ≡ reduced_by h profile
-  same_reduced_by profile = λ i. map (λ p. same_reduced p.0 p.1 i)
-      (zip (players_too g h same i) (same_strategies_at g h game game' same profile i))
+  pub same_forms : (t : Table) → IsStrategicForm g t ↔ IsStrategicForm h t
+  same_forms t = over (λ x. IsStrategicForm g t ↔ IsStrategicForm x t)
+      (strategic_carried g same.0 game same.1.renumbering t)
 
-  same_reduced_at : (profile : List ℕ) → reduced_at g profile ≡ reduced_at h profile
-  same_reduced_at profile = grind (arith, players_too, same_reduced_strategies)
+  pub same_count : HasTooManyProfiles g ↔ HasTooManyProfiles h
+  same_count = over (λ x. HasTooManyProfiles g ↔ HasTooManyProfiles x)
+      (alike_types (ap (λ ps. profile_limit < length ps)
+      (profiles_carried g same.0 game same.1.renumbering)))
 
-  same_reduced_profiles : reduced_profiles g ≡ reduced_profiles h
-  same_reduced_profiles = grind (arith, players_too, same_reduced_strategies)
+  pub same_overflow : (position : ℕ) → OverflowsAt g position ↔ OverflowsAt h position
+  same_overflow position = over (λ x. OverflowsAt g position ↔ OverflowsAt x position)
+      (alike_types (overflow_carried g same.0 game same.1.renumbering position))
 
-  -- what holds at the full profiles that reduce to a profile
-  at_full : (profile full : List ℕ) → Contains (full_profiles h) full
-      → reduced_by h full ≡ reduced_at h profile
-      → Contains (full_profiles g) full × (reduced_by g full ≡ reduced_at g profile)
-  at_full profile full there e = grind (arith, same_profiles, same_reduced_at, same_reduced_by)
+  pub same_reduced_forms : (t : Table) → IsReducedForm g t ↔ IsReducedForm h t
+  same_reduced_forms t = over (λ x. IsReducedForm g t ↔ IsReducedForm x t)
+      (reduced_form_carried g same.0 game same.1.renumbering t)
 
-  reduced_values_too : (profile : List ℕ) → HasReducedValues g profile → HasReducedValues h profile
-  reduced_values_too profile values full there e =
-      let at = at_full profile full there e in
-      values_too g h game game' same full (values full at.0 at.1)
+  pub same_reduced_overflow : (position : ℕ)
+      → ReducedOverflowsAt g position ↔ ReducedOverflowsAt h position
+  same_reduced_overflow position =
+      over (λ x. ReducedOverflowsAt g position ↔ ReducedOverflowsAt x position)
+      (alike_types (reduced_overflow_carried g same.0 game same.1.renumbering position))
 
-  reduced_payoffs_too : (profile : List ℕ) (payoffs : List Ratio)
-      → AreReducedPayoffsAt g profile payoffs → AreReducedPayoffsAt h profile payoffs
-  reduced_payoffs_too profile payoffs right full there e =
-      let at = at_full profile full there e in
-      right_too g h game game' same full payoffs (right full at.0 at.1)
+pub ruleset same_by_pure = (
+  carried_is_renumbered,
+  payoff_carried,
+  strategies_carried,
+  strategies_at_carried,
+  same_values,
+  same_count,
+  same_overflow,
+)
 
-  reduced_form_on : (t : Table) → IsReducedForm g t → IsReducedForm h t
-  reduced_form_on t form = record {
-    title = form.title ∙ same.1.title;
-    comment = form.comment ∙ same.1.comment;
-    players = form.players ∙ same.1.players;
-    strategies = grind (arith, players_too, same_reduced_strategies);
-    profiles = form.profiles;
-    payoffs = all_weaker (λ e. AreReducedPayoffsAt g e.profile e.payoffs)
-        (λ e. AreReducedPayoffsAt h e.profile e.payoffs)
-        (λ e right. reduced_payoffs_too e.profile e.payoffs right) t.entries form.payoffs;
-  }
-
-pub same_reduced_forms : (g h : Game) → IsGame g → IsGame h → SameGame g h → (t : Table)
-    → IsReducedForm g t ↔ IsReducedForm h t
-same_reduced_forms g h game game' same t = grind (arith, reduced_form_on, same_back)
-
-reduced_overflow_on : (g h : Game) → IsGame g → IsGame h → SameGame g h → (position : ℕ)
-    → ReducedOverflowsAt g position → ReducedOverflowsAt h position
-reduced_overflow_on g h game game' same position =
-    first_too (HasReducedValues g) (HasReducedValues h) (reduced_profiles g) (reduced_profiles h)
-    position (same_reduced_profiles g h game game' same) (reduced_values_too g h game game' same)
-    (reduced_values_too h g game' game (same_back g h game same))
-
-pub same_reduced_overflow : (g h : Game) → IsGame g → IsGame h → SameGame g h → (position : ℕ)
-    → ReducedOverflowsAt g position ↔ ReducedOverflowsAt h position
-same_reduced_overflow g h game game' same position = grind (arith, reduced_overflow_on, same_back)
+pub ruleset same_by_reduced = (
+  carried_is_renumbered,
+  reduced_carried,
+  reduced_strategies_carried,
+  reduced_by_carried,
+  same_reduced_overflow,
+)

@@ -1,14 +1,13 @@
 -- Worked games, which files can hold: their plays and payoffs, and what is left out of their
 -- strategies.
-use Rattle.gf_form.proofs.Common.{◌≡◌, ℕ, List, [], ◌∷◌, ◌++◌, length, refl, codes, AllByRecursion}
-use Rattle.gf_form.proofs.Common.{Game, IsGame, IsSpellable, balancing, contradicted, ending}
-use Rattle.gf_form.proofs.Common.{overflowing, unlikely, pos, ◌+◌, ◌-◌, ◌*◌, ◌^◌, ◌<◌, true, false}
-use Rattle.gf_form.proofs.Common.{Option, None, map, get_or, ap, arith, nat_eq, nat_lt, unwrap_or}
-use Rattle.gf_form.proofs.Common.{◌*ℤ◌, Contains, eqb-false, Ratio, IsFraction, whole, IsEqual}
-use Rattle.gf_form.proofs.Common.{lowest_of-fraction, whole_fraction, choices_by, strategies_at}
-use Rattle.gf_form.proofs.Common.{full_profiles, plays, payoff, IsValue, ArePayoffs, value}
-use Rattle.gf_form.proofs.Common.{IsStrategicForm, reduced_at, reduced_by, reduced_label}
-use Rattle.gf_form.proofs.Common.{reduced_strategies, IsReducedForm}
+use Rattle.gf_form.proofs.Common.{◌≡◌, AllByRecursion, whole_fraction, strategies_at, full_profiles}
+use Rattle.gf_form.proofs.Common.{ℕ, length, IsGame, ending, Option, get_or, nat_eq, nat_lt, payoff}
+use Rattle.gf_form.proofs.Common.{List, overflowing, IsFraction, choices_by, ArePayoffs, reduced_at}
+use Rattle.gf_form.proofs.Common.{[], balancing, unwrap_or, eqb-false, IsEqual, IsValue, reduced_by}
+use Rattle.gf_form.proofs.Common.{◌∷◌, pos, ◌+◌, ◌-◌, ◌*◌, ◌^◌, ◌<◌, true, None, map, ap, ◌*ℤ◌}
+use Rattle.gf_form.proofs.Common.{◌++◌, refl, codes, Game, false, arith, Ratio, whole, plays, value}
+use Rattle.gf_form.proofs.Common.{IsSpellable, contradicted, Contains, reduced_label, IsReducedForm}
+use Rattle.gf_form.proofs.Common.{unlikely, lowest_of-fraction, IsStrategicForm, reduced_strategies}
 use Rattle.std.specs.Fmt.{digits}
 use Rattle.gf_fraction.specs.Computed.{gcd_within, lowest_of, number_of, sum_of, product_of}
 use Rattle.gf_token.specs.Indices.{index_of}
@@ -210,3 +209,12 @@ pub contradicted_strategies : map reduced_label (reduced_strategies contradicted
     ≡ codes "1-*" ∷ codes "2-*" ∷ []
 unfolding digits
 contradicted_strategies = refl
+
+pub ruleset worked_tables = (worked_games, form_of_bonus, form_of_ending, reduced_of_ending)
+
+pub ruleset worked_values = (unlikely_payoff, no_value_either, balanced_payoff, no_balanced_value)
+
+pub ruleset worked_strategies = (plays_of_bonus, both_strategies, contradicted_strategies)
+
+pub ruleset worked_forms =
+    (worked_tables, greatest_payoff, no_value, worked_values, worked_strategies)

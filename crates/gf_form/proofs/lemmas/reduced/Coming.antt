@@ -1,21 +1,21 @@
 -- A set is relevant exactly when the choices come to it in the tree. So all sets are relevant of a
 -- player with one strategy, who has one action at each.
-use Rattle.gf_form.proofs.Common.{◌≡◌, ℕ, ◌+◌, ◌<◌, Bool, true, false, List, [], ◌∷◌, Option, Some}
-use Rattle.gf_form.proofs.Common.{None, MatchOption, length, map, refl, ap, arith, subst, ◌||◌}
-use Rattle.gf_form.proofs.Common.{◌&&◌, option_map, AllByRecursion, list_any, option_map_or}
-use Rattle.gf_form.proofs.Common.{list_any-append, all_parts, Tree, Trees, count, branch, none}
-use Rattle.gf_form.proofs.Common.{more, InformationSet, SetKey, same_set, Node, Game, IsGame}
-use Rattle.gf_form.proofs.Common.{HasChildren, set_at, flatten, flatten_all, has_map, tree_comes}
-use Rattle.gf_form.proofs.Common.{trees_come, Play, from_node, plays, plays_from, comes_to}
-use Rattle.gf_form.proofs.Common.{is_own_choice, is_relevant, zero, suc, ◌*◌, ◌≤◌, cond, get_or}
-use Rattle.gf_form.proofs.Common.{sym, ◌∙◌, codes, decimal, filter, find, unwrap_or, Contains}
-use Rattle.gf_form.proofs.Common.{join_with_byte, get_or_default, length-map, none-some, product}
-use Rattle.gf_form.proofs.Common.{Described, description_at, player_keys, player_sets, was_used}
-use Rattle.gf_form.proofs.Common.{map_same, map_twice, same_set_equality, Has, AreFirstsOf, reduced}
-use Rattle.gf_form.proofs.Common.{reduced_label, reduced_labels, reduced_strategies, chooses_first}
-use Rattle.gf_form.proofs.Common.{is_first, relevant_sets, shown, action_counts, all_choices}
-use Rattle.gf_form.proofs.Common.{choice_at, strategies, strategy_label}
+use Rattle.gf_form.proofs.Common.{◌≡◌, option_map_or, is_own_choice, reduced_labels, strategy_label}
+use Rattle.gf_form.proofs.Common.{ℕ, AllByRecursion, InformationSet, join_with_byte, get_or_default}
+use Rattle.gf_form.proofs.Common.{◌+◌, ◌<◌, ◌∷◌, map, Game, Play, zero, suc, ◌*◌, ◌≤◌, sym, ◌∙◌}
+use Rattle.gf_form.proofs.Common.{Bool, ap, arith, subst, Trees, count, plays, get_or, codes, shown}
+use Rattle.gf_form.proofs.Common.{true, List, Some, None, refl, ◌||◌, ◌&&◌, Tree, none, more, Node}
+use Rattle.gf_form.proofs.Common.{false, trees_come, plays_from, length-map, first_uses, strategies}
+use Rattle.gf_form.proofs.Common.{[], option_map, tree_comes, AreFirstsOf, same_choice, all_choices}
+use Rattle.gf_form.proofs.Common.{Option, same_set, has_map, comes_to, Contains, was_used, map_same}
+use Rattle.gf_form.proofs.Common.{MatchOption, flatten, reduced_label, relevant_sets, action_counts}
+use Rattle.gf_form.proofs.Common.{length, branch, SetKey, IsGame, set_at, decimal, product, reduced}
+use Rattle.gf_form.proofs.Common.{list_any, from_node, Described, map_twice, pointwise, choice_at}
+use Rattle.gf_form.proofs.Common.{list_any-append, all_parts, same_set_equality, reduced_strategies}
+use Rattle.gf_form.proofs.Common.{HasChildren, flatten_all, is_relevant, player_keys, player_sets}
+use Rattle.gf_form.proofs.Common.{Has}
 use Rattle.std.proofs.Math.Bool.{and-or_distrib_left}
+use Rattle.gf_form.proofs.lemmas.rows.GameDigits.{among}
 use Rattle.gf_form.proofs.lemmas.strategies.KnownSets.{set_is, own_set}
 use Rattle.gf_form.proofs.lemmas.reduced.Reducing.{first_play, any_has}
 use Rattle.std.specs.List.{filter_map}
@@ -23,7 +23,6 @@ use Rattle.gf_tree.specs.PrefixOrder.{Entry}
 use Rattle.gf_form.proofs.lemmas.strategies.Choices.{length-all_choices}
 use Rattle.gf_form.proofs.lemmas.strategies.Chosen.{among_his, his_actions}
 use Rattle.gf_form.proofs.lemmas.reduced.FirstStrategies.{flags_fit, reduced_shown_at}
-use Rattle.gf_form.proofs.lemmas.reduced.FirstStrategies.{reduced_strategies_are}
 
 module _ (g : Game) (game : IsGame g) (choices : SetKey → ℕ) (key : SetKey) where
   -- some of these plays comes to the set so
@@ -57,37 +56,31 @@ module _ (g : Game) (game : IsGame g) (choices : SetKey → ℕ) (key : SetKey) 
   any_below n k (p ∷ ps) other =
       grind (arith, and-or_distrib_left, any_below n k ps other)
 
+  pub leaf_comes : (o : Option SetKey) → MatchOption o (count {N = Node} none ≡ 0)
+      (λ key. option_map (λ set. length set.actions) (set_at g key) ≡ Some (count {N = Node} none))
+      → false ≡ option_map_or (λ own. same_set key own || false) o false
+  leaf_comes None c = refl
+  leaf_comes (Some own) c =
+      absurd (omega (arith, some_child own none (set_at g own) refl c))
+
+  node_comes_by : (n : Node) (t : Tree Node) (ts : Trees Node) (o : Option SetKey) → n.set ≡ o
+      → MatchOption o (count (more t ts) ≡ 0)
+      (λ key. option_map (λ set. length set.actions) (set_at g key) ≡ Some (count (more t ts)))
+      → (is_here n ≡ false
+      → come (plays_from n 1 (more t ts)) ≡ trees_come choices key n 1 (more t ts))
+      → come (plays_from n 1 (more t ts))
+      ≡ option_map_or (λ own. same_set key own || trees_come choices key n 1 (more t ts)) o false
+  node_comes_by n t ts None at c below = absurd (omega (arith, c))
+  node_comes_by n t ts (Some own) at c below =
+      let here : is_here n ≡ same_set key own = ap (λ o. option_map_or (same_set key) o false) at in
+      grind (arith, list_any-append, any_here)
+
   mutual
     comes_in : (t : Tree Node) → AllByRecursion (HasChildren g) (flatten t)
         → come (plays t) ≡ tree_comes choices key t
-    comes_in (branch n ts) children =
-        at_set n.set refl children.0 (λ other. come_in ts n 1 children.1 other)
-      where
-        IsBelow : Trees Node → Type 0
-        IsBelow ts = is_here n ≡ false → come (plays_from n 1 ts) ≡ trees_come choices key n 1 ts
-
-        no_child : (ts : Trees Node) → count ts ≡ 0
-            → come (plays (branch n ts)) ≡ false
-        no_child none e = refl
-        no_child (more t ts) e = absurd (omega arith)
-
-        some_children : (ts : Trees Node) → 0 < count ts → IsBelow ts → (b : Bool) → is_here n ≡ b
-            → come (plays (branch n ts))
-            ≡ (b || trees_come choices key n 1 ts)
-        some_children none some below b e = absurd (omega arith)
-        some_children (more t ts) some below true here =
-            grind (arith, list_any-append, any_here)
-        some_children (more t ts) some below false other = below other
-
-        at_set : (o : Option SetKey) → n.set ≡ o → MatchOption o (count ts ≡ 0)
-            (λ key. option_map (λ set. length set.actions) (set_at g key) ≡ Some (count ts))
-            → IsBelow ts
-            → come (plays (branch n ts))
-            ≡ option_map_or (λ own. same_set key own || trees_come choices key n 1 ts) o false
-        at_set None at c below = no_child ts c
-        at_set (Some own) at c below =
-            some_children ts (some_child own ts (set_at g own) refl c) below (same_set key own)
-            (ap (λ o. option_map_or (same_set key) o false) at)
+    comes_in (branch n none) children = leaf_comes n.set children.0
+    comes_in (branch n (more t ts)) children =
+        node_comes_by n t ts n.set refl children.0 (come_in (more t ts) n 1 children.1)
 
     come_in : (ts : Trees Node) (n : Node) (k : ℕ) → AllByRecursion (HasChildren g) (flatten_all ts)
         → is_here n ≡ false
@@ -111,22 +104,12 @@ both_one (suc zero) b e = grind arith
 both_one (suc (suc a)) zero e = grind arith
 both_one (suc (suc a)) (suc b) e = grind arith
 
-one_action : (key : SetKey) (ss : List (Described SetKey InformationSet)) (set : InformationSet)
-    → product (map (λ s. length s.description.actions) ss) ≡ 1
-    → description_at same_set ss key ≡ Some set → length set.actions ≡ 1
-one_action key [] set h is = absurd (none-some set is)
-one_action key (s ∷ ss) set h is =
-    let parts = both_one (length s.description.actions)
-    (product (map (λ s. length s.description.actions) ss)) h in
-    by (same_set s.key key) parts.0 (one_action key ss set parts.1) is
-  where
-    by : (b : Bool) → length s.description.actions ≡ 1
-        → (description_at same_set ss key ≡ Some set → length set.actions ≡ 1)
-        → option_map (λ e. e.description) (cond b (Some s) (find (λ e. same_set e.key key) ss))
-        ≡ Some set
-        → length set.actions ≡ 1
-    by true one others is = sym (ap (λ o. length (unwrap_or o s.description).actions) is) ∙ one
-    by false one others is = others is
+all_one : (counts : List ℕ) (i : ℕ) → product counts ≡ 1 → i < length counts
+    → get_or counts i 0 ≡ 1
+all_one (n ∷ counts) zero h less = (both_one n (product counts) h).0
+all_one (n ∷ counts) (suc i) h less =
+    all_one counts i (both_one n (product counts) h).1 (omega (arith, less))
+all_one [] i h less = absurd (omega (arith, less))
 
 -- ---- the nodes of a set
 
@@ -204,10 +187,6 @@ all_shown (x ∷ xs) (a ∷ s) e = cc (all_shown xs s (omega (arith, e)))
 all_shown [] [] e = refl
 all_shown xs s e = grind arith
 
-all_chosen : {A : Type 0} (xs : List A) (s : List ℕ) → chooses_first (map (λ x. true) xs) s ≡ true
-all_chosen (x ∷ xs) (a ∷ s) = all_chosen xs s
-all_chosen xs s = grind arith
-
 one_alone : {A : Type 0} (xs : List A) (d : A) → length xs ≡ 1 → xs ≡ get_or xs 0 d ∷ []
 one_alone (x ∷ []) d e = refl
 one_alone xs d e = absurd (omega (arith, e))
@@ -232,8 +211,15 @@ module _ (g : Game) (game : IsGame g) (player : ℕ)
       relevant_is g game choices key
       ∙ comes_where g choices key (λ own set same known.
       let owner : player ≡ own.player = sym (same ∙ his) in
-      let actions = one_action own (player_sets g own.player) set
-      (subst (λ p. product (action_counts g p) ≡ 1) owner one) (among_his g own ∙ known) in
+      let place = among (player_sets g own.player) own set (among_his g own ∙ known) in
+      let actions = sym place.count ∙ all_one (action_counts g own.player) place.place
+      (subst (λ p. product (action_counts g p) ≡ 1) owner one)
+      (omega (
+        arith,
+        place.within,
+        length-map (player_sets g own.player)
+            (λ s. length s.description.actions),
+      )) in
       let choice = his_actions g game only own set
       (subst (λ p. Contains (strategies g p) only) owner only_there) known in (
         actions,
@@ -258,13 +244,8 @@ module _ (g : Game) (game : IsGame g) (player : ℕ)
 
   only_reduced : reduced_strategies g player ≡ reduced g player only ∷ []
   only_reduced =
-      let first : is_first g player only ≡ true =
-      ap (λ (flags : List Bool). chooses_first flags only) all_flags
-      ∙ all_chosen (player_keys g player) only in
-      reduced_strategies_are g game player
-      ∙ ap (λ (all : List (List ℕ)). map (reduced g player) (filter (is_first g player) all))
+      ap (λ (all : List (List ℕ)). first_uses (pointwise same_choice) (map (reduced g player) all))
       (one_alone (strategies g player) [] counted)
-      ∙ ap (λ b. map (reduced g player) (cond b (only ∷ []) [])) first
 
   pub only_first : AreFirstsOf g (0 ∷ []) player
   only_first = (sym only_reduced, (omega (arith, counted), tt))

@@ -1,164 +1,81 @@
 -- The first of the strategies that reduce to the same one: it has the first action wherever no
 -- choice matters.
-use Rattle.gf_form.proofs.Common.{◌≡◌, ℕ, zero, suc, ◌+◌, ◌<◌, ◌≤◌, Bool, true, false, List, []}
-use Rattle.gf_form.proofs.Common.{◌∷◌, ◌++◌, Some, None, length, map, get_or, drop, refl, sym, ap}
-use Rattle.gf_form.proofs.Common.{subst, ◌∙◌, append_assoc, arith, inl, inr, filter, if◌then◌else◌}
-use Rattle.gf_form.proofs.Common.{list_any, pointwise, eqb-true, false≢true, false_from_ne_true}
-use Rattle.gf_form.proofs.Common.{length-map, map-append, filter-append, AllZip-long, numbers_from}
-use Rattle.gf_form.proofs.Common.{product, SetKey, same_set, first_uses, player_keys, Game, IsGame}
-use Rattle.gf_form.proofs.Common.{AreDistinct, in_left, in_right, map_same, same_set_equality, Has}
-use Rattle.gf_form.proofs.Common.{each, has, has_map, mapped_from, is_relevant, reduced}
-use Rattle.gf_form.proofs.Common.{reduced_strategies, same_choice, chooses_first, is_first}
-use Rattle.gf_form.proofs.Common.{relevant_sets, shown, action_counts, all_choices, choice_at}
-use Rattle.gf_form.proofs.Common.{strategies}
-use Rattle.std.proofs.Common.{append-nil}
+use Rattle.gf_form.proofs.Common.{◌≡◌, ℕ, zero, suc, ◌+◌, ◌-◌, ◌*◌, ◌<◌, ◌≤◌, Bool, true, false}
+use Rattle.gf_form.proofs.Common.{Option, List, [], ◌∷◌, ◌++◌, Some, None, length, map, get_or, set}
+use Rattle.gf_form.proofs.Common.{take, AreInTurn, refl, sym, ap, subst, ◌∙◌, arith, if◌then◌else◌}
+use Rattle.gf_form.proofs.Common.{list_any, pointwise, false_from_ne_true, length-map, map-append}
+use Rattle.gf_form.proofs.Common.{AllZip-long, product, SetKey, same_set, first_uses, player_keys}
+use Rattle.gf_form.proofs.Common.{Game, IsGame, AreDistinct, map_same, same_set_equality, Has, has}
+use Rattle.gf_form.proofs.Common.{contains, has_map, mapped_from, is_relevant, reduced, filter, not}
+use Rattle.gf_form.proofs.Common.{reduced_strategies, same_choice, relevant_sets, shown, add-one}
+use Rattle.gf_form.proofs.Common.{action_counts, choice_at, strategies, take-suc, AllByRecursion}
+use Rattle.gf_form.proofs.Common.{all_both, AreFoundTo, IsFirst, numbered, is_relevant_at}
+use Rattle.gf_form.proofs.Common.{mul-le-mul_right, get_or-take, get_or_default, length-take-le}
 use Rattle.gf_tree.proofs.lemmas.stores.KnownKeys.{known_more, more_known, used_before}
-use Rattle.gf_tree.proofs.lemmas.games.Uses.{IsEquality}
-use Rattle.gf_form.proofs.lemmas.strategies.Choices.{IsChoice, are_choices, every_choice, place}
-use Rattle.gf_form.proofs.lemmas.strategies.Choices.{places_are}
-use Rattle.gf_form.proofs.lemmas.values.Following.{in_either}
+use Rattle.gf_form.proofs.lemmas.strategies.Choices.{IsChoice, are_choices, at_its_place, place}
+use Rattle.gf_form.proofs.lemmas.strategies.Choices.{place_at}
 use Rattle.gf_form.proofs.lemmas.strategies.KnownSets.{own_set}
 use Rattle.gf_form.proofs.lemmas.reduced.ReducedForms.{choices_equality}
 use Rattle.gf_form.proofs.lemmas.reduced.Reducing.{any_has, relevance_same}
 use Rattle.gf_form.proofs.lemmas.strategies.StrategiesByNumber.{all_at}
 use Rattle.gf_form.proofs.lemmas.reduced.Surveys.{keys_distinct}
 
--- ---- the first of those that have one image
+-- ---- first uses
 
-module _ {A B : Type 0} (same : B → B → Bool) (tells : IsEquality same) (f : A → B)
-    (is_first : A → Bool) (rank : A → ℕ) (all : List A)
-    (one : (x : A) → Has all x
-    → (y : A) × Has all y × (is_first y ≡ true) × (f y ≡ f x) × (rank y ≤ rank x))
-    (only : (x y : A) → Has all x → Has all y → is_first x ≡ true → is_first y ≡ true → f x ≡ f y
-    → x ≡ y) where
-  ranked : (xs : List A) (k m : ℕ) (x : A) → map rank xs ≡ numbers_from k m → Has xs x → k ≤ rank x
-  ranked [] k m x e i = absurd i
-  ranked (y ∷ xs) k zero x e i = absurd cc
-  ranked (y ∷ xs) k (suc m) x e (inl q) = grind arith
-  ranked (y ∷ xs) k (suc m) x e (inr i) = omega (arith, ranked xs (k + 1) m x (ap (drop 1) e) i)
+fewer_filtered : {A : Type 0} (test : A → Bool) (xs : List A)
+    → length (filter test xs) ≤ length xs
+fewer_filtered test [] = omega arith
+fewer_filtered test (x ∷ xs) = grind (arith, fewer_filtered test xs)
 
-  -- one more
-  grown : (before rest : List A) (y : A) → before ++ y ∷ rest ≡ all
-      → ((x : A) → Has before x → rank x < rank y) → ((x : A) → Has rest x → rank y < rank x)
-      → first_uses same (map f before) ≡ map f (filter is_first before)
-      → first_uses same (map f (before ++ y ∷ [])) ≡ map f (filter is_first (before ++ y ∷ []))
-  grown before rest y is below above h =
-      ap (first_uses same) (map-append f before (y ∷ []))
-      ∙ known_more same tells (map f before) (f y)
-      ∙ by (is_first y) refl
-      ∙ sym (ap (map f) (filter-append is_first before (y ∷ []))
-      ∙ map-append f (filter is_first before) (filter is_first (y ∷ [])))
-    where
-      in_all : (x : A) → Has (before ++ y ∷ rest) x → Has all x
-      in_all x i = subst (λ xs. Has xs x) is i
-
-      there : Has all y
-      there = in_all y (in_right before (y ∷ rest) y (inl refl))
-
-      used : is_first y ≡ false → list_any (same (f y)) (map f before) ≡ true
-      used later =
-          let z = one y there in
-          elim (in_either before (y ∷ rest) z.0 (subst (λ xs. Has xs z.0) (sym is) z.1)) [
-            | inl i ↦
-                any_has (same (f y)) (map f before) (f z.0) (has_map f before z.0 i)
-                ((tells (f y) (f z.0)).1 (sym z.3))
-            | inr i ↦ absurd (not_behind z.0 z.2 z.4 i)
-          ]
-        where
-          not_behind : (z : A) → is_first z ≡ true → rank z ≤ rank y → Has (y ∷ rest) z → ⊥
-          not_behind z first least (inl q) = false≢true (sym later ∙ ap is_first q ∙ first)
-          not_behind z first least (inr i) = omega (arith, least, above z i)
-
-      unused : is_first y ≡ true → list_any (same (f y)) (map f before) ≡ false
-      unused first = false_from_ne_true (list_any (same (f y)) (map f before)) (λ t.
-          let m = mapped_from f before (f y) (used_before same tells (map f before) (f y) t) in
-          let z = one m.0 (in_all m.0 (in_left before (y ∷ rest) m.0 m.1)) in
-          let again : z.0 ≡ y = only z.0 y z.1 there z.2 first (z.3 ∙ m.2) in
-          omega (arith, z.4, below m.0 m.1, ap rank again))
-
-      by : (b : Bool) → is_first y ≡ b
-          → more_known same tells (list_any (same (f y)) (map f before))
-          (first_uses same (map f before)) (f y)
-          ≡ map f (filter is_first before) ++ map f (filter is_first (y ∷ []))
-      by true e = rw (unused e, e, h) refl
-      by false e = rw (used e, e, h) (sym (append-nil (map f (filter is_first before))))
-
-  first_images : (before rest : List A) (k m : ℕ) → before ++ rest ≡ all
-      → map rank rest ≡ numbers_from k m → ((x : A) → Has before x → rank x < k)
-      → first_uses same (map f before) ≡ map f (filter is_first before)
-      → first_uses same (map f all) ≡ map f (filter is_first all)
-  first_images before [] k m is ranks below h =
-      subst (λ xs. first_uses same (map f xs) ≡ map f (filter is_first xs))
-      (sym (append-nil before) ∙ is) h
-  first_images before (y ∷ rest) k zero is ranks below h = absurd cc
-  first_images before (y ∷ rest) k (suc m) is ranks below h =
-      let first : rank y ≡ k = ap (λ l. get_or l 0 0) ranks in
-      let others : map rank rest ≡ numbers_from (k + 1) m = ap (drop 1) ranks in
-      cc (first_images (before ++ y ∷ []) rest (k + 1) m (append_assoc before (y ∷ []) rest ∙ is)
-      others (λ x i. elim (in_either before (y ∷ []) x i) [
-        | inl j ↦ omega (arith, below x j)
-        | inr
-            (inl q) ↦ omega (arith, ap rank q, first)
-        | inr (inr j) ↦ absurd j
-      ]) (grown before rest y is
-      (λ x i. omega (arith, below x i, first)) (λ x i. omega (
-        arith,
-        ranked rest (k + 1) m x others
-            i,
-        first,
-      )) h))
-
-  pub first_of_each : (n : ℕ) → map rank all ≡ numbers_from 0 n
-      → first_uses same (map f all) ≡ map f (filter is_first all)
-  first_of_each n ranks = first_images [] all 0 n refl ranks (λ x i. absurd i) refl
+fewer_uses : {K : Type 0} (same : K → K → Bool) (ks : List K)
+    → length (first_uses same ks) ≤ length ks
+fewer_uses same [] = omega arith
+fewer_uses same (k ∷ ks) =
+    omega (arith, fewer_uses same ks, fewer_filtered (λ j. not (same k j)) (first_uses same ks))
 
 -- ---- strategies by flags
 
--- the first action where the flag is not set
-abbrev first_of : List Bool → List ℕ → List ℕ
-first_of (flag ∷ flags) (action ∷ strategy) =
-    (if flag then action else 1) ∷ first_of flags strategy
-first_of _ _ = []
+-- the first action at one more set
+first_there : (counts s : List ℕ) (q : ℕ) → IsChoice counts s → q < length s
+    → ¬ (get_or s q 0 ≡ 1)
+    → IsChoice counts (set s q 1) × (place counts (set s q 1) < place counts s)
+first_there (count ∷ counts) (a ∷ s) zero h less other =
+    let some = (at_its_place counts s h.1).0 in
+    let up : 1 * product counts ≤ (a - 1) * product counts =
+    mul-le-mul_right (product counts) (omega (arith, h.0.0, other)) in
+    (((omega arith, omega (arith, h.0.0, h.0.1)), h.1), omega (arith, up, some))
+first_there (count ∷ counts) (a ∷ s) (suc q) h less other =
+    let later = first_there counts s q h.1 (omega (arith, less)) other in
+    ((h.0, later.0), omega (arith, later.1))
+first_there [] [] q h less other = absurd (omega (arith, less))
+first_there counts s q h less other = absurd h
 
-shown_first : (flags : List Bool) (s : List ℕ) → shown flags (first_of flags s) ≡ shown flags s
-shown_first (flag ∷ flags) (a ∷ s) = grind (arith, shown_first flags s)
-shown_first [] s = refl
-shown_first (flag ∷ flags) [] = refl
+-- changes no choice at a set that is relevant, if that one is not
+choice_kept : (relevant : SetKey → Bool) (keys : List SetKey) (s : List ℕ) (q : ℕ) (key : SetKey)
+    → q < length keys → get_or (map relevant keys) q false ≡ false → relevant key ≡ true
+    → choice_at keys s key ≡ choice_at keys (set s q 1) key
+choice_kept relevant (k ∷ keys) (a ∷ s) zero key less flag h =
+    grind (arith, same_set_equality)
+choice_kept relevant (k ∷ keys) (a ∷ s) (suc q) key less flag h =
+    grind (arith, choice_kept relevant keys s q key)
+choice_kept relevant keys s q key less flag h = grind arith
 
-first_chooses : (flags : List Bool) (s : List ℕ)
-    → chooses_first flags (first_of flags s) ≡ true
-first_chooses (flag ∷ flags) (a ∷ s) = grind (arith, first_chooses flags s)
-first_chooses [] s = refl
-first_chooses (flag ∷ flags) [] = refl
-
-first_choice : (counts : List ℕ) (flags : List Bool) (s : List ℕ) → length flags ≡ length counts
-    → IsChoice counts s
-    → IsChoice counts (first_of flags s) × (place counts (first_of flags s) ≤ place counts s)
-first_choice (n ∷ counts) (flag ∷ flags) (a ∷ s) e h =
-    grind (arith, first_choice counts flags s (omega (arith, e)) h.1)
-first_choice [] [] [] e h = (tt, omega arith)
-first_choice counts flags s e h = grind arith
-
--- two such strategies that are shown alike are one
-one_shown : (counts : List ℕ) (fs gs : List Bool) (s t : List ℕ) → length fs ≡ length counts
+-- a strategy with the first action where the flag is not set comes before others that are shown
+-- alike
+place_upto : (counts : List ℕ) (fs gs : List Bool) (s t : List ℕ) → length fs ≡ length counts
     → length gs ≡ length counts → IsChoice counts s → IsChoice counts t
-    → chooses_first fs s ≡ true → chooses_first gs t ≡ true → shown fs s ≡ shown gs t → s ≡ t
-one_shown (n ∷ counts) (f ∷ fs) (g ∷ gs) (a ∷ s) (b ∷ t) ef eg hs ht cs ct e =
-    grind (
-      arith,
-      eqb-true,
-      one_shown counts fs gs s t (omega (arith, ef)) (omega (arith, eg)) hs.1 ht.1,
-    )
-one_shown [] fs gs [] [] ef eg hs ht cs ct e = refl
-one_shown counts fs gs s t ef eg hs ht cs ct e = grind arith
-
--- ---- flags by keys
-
-choice_first : (relevant : SetKey → Bool) (keys : List SetKey) (s : List ℕ) (key : SetKey)
-    → relevant key ≡ true
-    → choice_at keys (first_of (map relevant keys) s) key ≡ choice_at keys s key
-choice_first relevant (k ∷ keys) (a ∷ s) key h = grind (arith, choice_first relevant keys s key h)
-choice_first relevant keys s key h = grind arith
+    → ((k : ℕ) → k < length fs → get_or fs k false ≡ false → get_or s k 0 ≡ 1)
+    → shown fs s ≡ shown gs t → place counts s ≤ place counts t
+place_upto (n ∷ counts) (f ∷ fs) (g ∷ gs) (a ∷ s) (b ∷ t) ef eg hs ht first e =
+    let here = first 0 (omega arith) in
+    let upto : a ≤ b = grind arith in
+    let up : (a - 1) * product counts ≤ (b - 1) * product counts =
+    mul-le-mul_right (product counts) (omega (arith, upto)) in
+    let later = place_upto counts fs gs s t (omega (arith, ef)) (omega (arith, eg)) hs.1 ht.1
+    (λ k less. first (suc k) (omega (arith, less))) (grind arith) in
+    omega (arith, up, later)
+place_upto [] fs gs [] [] ef eg hs ht first e = omega arith
+place_upto counts fs gs s t ef eg hs ht first e = grind arith
 
 -- what is shown, by keys
 shown_by : (relevant : SetKey → Bool) (keys : List SetKey) (s : List ℕ) → AreDistinct keys
@@ -187,11 +104,6 @@ pub choice_length : (counts s : List ℕ) → IsChoice counts s → length s ≡
 choice_length counts s h =
     sym (AllZip-long (λ action count. (1 ≤ action) × (action ≤ count)) s counts h)
 
-pub filter_fewer : {A : Type 0} (test : A → Bool) (xs : List A)
-    → length (filter test xs) ≤ length xs
-filter_fewer test [] = omega arith
-filter_fewer test (x ∷ xs) = grind (arith, filter_fewer test xs)
-
 module _ (g : Game) (game : IsGame g) (player : ℕ) where
   abbrev keys : List SetKey
   keys = player_keys g player
@@ -199,78 +111,173 @@ module _ (g : Game) (game : IsGame g) (player : ℕ) where
   abbrev counts : List ℕ
   counts = action_counts g player
 
+  abbrev all : List (List ℕ)
+  all = strategies g player
+
   keys_counted : length keys ≡ length counts
   keys_counted = grind (arith, length-map)
 
   flags_counted : (s : List ℕ) → length (relevant_sets g player s) ≡ length counts
   flags_counted s = length-map keys (is_relevant g (choice_at keys s)) ∙ keys_counted
 
-  pub reduced_shown : (s : List ℕ) → IsChoice counts s
-      → reduced g player s ≡ shown (relevant_sets g player s) s
-  reduced_shown s h =
-      shown_by (is_relevant g (choice_at keys s)) keys s (keys_distinct g game player)
-      (keys_counted ∙ sym (choice_length counts s h))
+  -- no more than all strategies
+  pub fewer_reduced : length (reduced_strategies g player) ≤ length all
+  fewer_reduced = grind (arith, fewer_uses, length-map)
 
-  is_choice : (s : List ℕ) → Has (strategies g player) s → IsChoice counts s
-  is_choice s i = each (IsChoice counts) (all_choices counts) s (are_choices counts) i
+  module _ (n : ℕ) (less : n < length all) where
+    abbrev s : List ℕ
+    s = numbered g player n
 
-  -- each strategy has one that reduces alike, and comes no later
-  one_first : (s : List ℕ) → Has (strategies g player) s
-      → (t : List ℕ) × Has (strategies g player) t × (is_first g player t ≡ true)
-      × (reduced g player t ≡ reduced g player s) × (place counts t ≤ place counts s)
-  one_first s i =
-      let relevant = is_relevant g (choice_at keys s) in
-      let flags = relevant_sets g player s in
-      let t = first_of flags s in
-      let choice = is_choice s i in
-      let first = first_choice counts flags s (flags_counted s) choice in
-      grind (
-        arith,
-        choice_first,
-        every_choice,
-        first_chooses,
-        has,
-        map_same,
-        own_set,
-        reduced_shown,
-        relevance_same,
-        shown_first,
+    is_choice : IsChoice counts s
+    is_choice = all_at (IsChoice counts) all n [] (are_choices counts) less
+
+    -- the strategy with a number, from 0, has an action for each flag
+    pub flags_fit : length (relevant_sets g player s) ≡ length s
+    flags_fit = flags_counted s ∙ sym (choice_length counts s is_choice)
+
+    -- and what it reduces to
+    pub reduced_shown_at : reduced g player s ≡ shown (relevant_sets g player s) s
+    reduced_shown_at =
+        shown_by (is_relevant g (choice_at keys s)) keys s (keys_distinct g game player)
+        (keys_counted ∙ sym (choice_length counts s is_choice))
+
+  -- an earlier strategy reduces alike
+  abbrev pub IsRepeated : ℕ → Type 0
+  IsRepeated n = (m : ℕ) × (m < n)
+      × (reduced g player (numbered g player m) ≡ reduced g player (numbered g player n))
+
+  -- as one does if there is another action at a set that is not relevant
+  pub repeated : (n q : ℕ) → n < length all → q < length counts
+      → is_relevant_at g player n q ≡ false → ¬ (get_or (numbered g player n) q 0 ≡ 1)
+      → IsRepeated n
+  repeated n q less among flag other =
+      let own = numbered g player n in
+      let choice = is_choice n less in
+      let first = first_there counts own q choice
+      (omega (arith, among, choice_length counts own choice)) other in
+      let at = at_its_place counts (set own q 1) first.0 in
+      let same = choice_kept (is_relevant g (choice_at keys own)) keys own q in
+      let relevant = relevance_same g player (choice_at keys own) (choice_at keys (set own q 1))
+      (λ key r. same key (omega (arith, among, keys_counted)) flag r) in (
+        place counts (set own q 1),
+        omega (arith, first.1, place_at counts n less),
+        ap (reduced g player) at.1
+            ∙ sym (map_same
+            (λ key. if is_relevant g (choice_at keys own) key then Some (choice_at keys own key)
+            else None)
+            (λ key. if is_relevant g (choice_at keys (set own q 1)) key
+            then Some (choice_at keys (set own q 1) key) else None)
+            keys
+            (λ key i. let r = relevant key (own_set g player key i).3 in
+            let e = same key (omega (arith, among, keys_counted)) flag in grind arith)),
       )
 
-  only_first : (s t : List ℕ) → Has (strategies g player) s → Has (strategies g player) t
-      → is_first g player s ≡ true → is_first g player t ≡ true
-      → reduced g player s ≡ reduced g player t → s ≡ t
-  only_first s t i j hs ht e =
-      one_shown counts (relevant_sets g player s) (relevant_sets g player t) s t (flags_counted s)
-      (flags_counted t) (is_choice s i) (is_choice t j) hs ht
-      (sym (reduced_shown s (is_choice s i)) ∙ e ∙ reduced_shown t (is_choice t j))
+  -- none does if it is a first one
+  not_repeated : (n m : ℕ) → n < length all → m < length all → IsFirst g player n
+      → reduced g player (numbered g player m) ≡ reduced g player (numbered g player n) → n ≤ m
+  not_repeated n m within less first e =
+      let before = place_upto counts (relevant_sets g player (numbered g player n))
+      (relevant_sets g player (numbered g player m)) (numbered g player n) (numbered g player m)
+      (flags_counted (numbered g player n)) (flags_counted (numbered g player m))
+      (is_choice n within) (is_choice m less)
+      (λ k inside. first k (omega (
+        arith,
+        inside,
+        flags_counted (numbered g player n),
+        keys_counted,
+      )))
+      (sym (reduced_shown_at n within) ∙ sym e ∙ reduced_shown_at m less) in
+      omega (arith, before, place_at counts n within, place_at counts m less)
 
-  pub reduced_strategies_are : reduced_strategies g player
-      ≡ map (reduced g player) (filter (is_first g player) (strategies g player))
-  reduced_strategies_are =
-      first_of_each (pointwise same_choice) choices_equality (reduced g player)
-      (is_first g player) (place counts) (strategies g player) one_first only_first (product counts)
-      (places_are counts)
+  -- ---- first strategies so far
 
-  -- no more than all strategies
-  pub fewer_reduced : length (reduced_strategies g player) ≤ length (strategies g player)
-  fewer_reduced = grind (arith, filter_fewer, length-map, reduced_strategies_are)
+  in_turn_more : (numbers : List ℕ) (i : ℕ) → AllByRecursion (λ n. n < i) numbers
+      → AreInTurn numbers → AreInTurn (numbers ++ i ∷ [])
+  in_turn_more [] i within h = (tt, tt)
+  in_turn_more (n ∷ numbers) i within h = (
+    all_both (λ m. n < m) numbers (i ∷ []) h.0 (within.0, tt),
+    in_turn_more numbers i within.1 h.1,
+  )
 
-  -- what the strategy with a number, from 0, reduces to
-  pub reduced_shown_at : (number : ℕ) → number < length (strategies g player)
-      → reduced g player (get_or (strategies g player) number [])
-      ≡ shown (relevant_sets g player (get_or (strategies g player) number []))
-      (get_or (strategies g player) number [])
-  reduced_shown_at number less =
-      reduced_shown (get_or (strategies g player) number [])
-      (all_at (IsChoice counts) (strategies g player) number [] (are_choices counts) less)
+  wider : (i : ℕ) (numbers : List ℕ) → AllByRecursion (λ number. number < i) numbers
+      → AllByRecursion (λ number. number < i + 1) numbers
+  wider i [] h = tt
+  wider i (n ∷ numbers) h = (omega (arith, h.0), wider i numbers h.1)
 
-  -- the strategy with a number, from 0, has an action for each flag
-  pub flags_fit : (number : ℕ) → number < length (strategies g player)
-      → length (relevant_sets g player (get_or (strategies g player) number []))
-      ≡ length (get_or (strategies g player) number [])
-  flags_fit number less =
-      let s = get_or (strategies g player) number [] in
-      flags_counted s
-      ∙ sym (choice_length counts s (all_at (IsChoice counts) (strategies g player) number []
-      (are_choices counts) less))
+  abbrev images : ℕ → List (List (Option ℕ))
+  images i = map (reduced g player) (take i all)
+
+  one_more : (i : ℕ) → i < length all → (b : Bool)
+      → list_any (pointwise same_choice (reduced g player (numbered g player i))) (images i) ≡ b
+      → first_uses (pointwise same_choice) (images (i + 1))
+      ≡ more_known (pointwise same_choice) choices_equality b
+      (first_uses (pointwise same_choice) (images i)) (reduced g player (numbered g player i))
+  one_more i less b used =
+      ap (λ (n : ℕ). first_uses (pointwise same_choice) (images n)) (add-one i)
+      ∙ ap (λ (xs : List (List ℕ)). first_uses (pointwise same_choice) (map (reduced g player) xs))
+      (take-suc all i [] less)
+      ∙ ap (first_uses (pointwise same_choice))
+      (map-append (reduced g player) (take i all) (numbered g player i ∷ []))
+      ∙ known_more (pointwise same_choice) choices_equality (images i)
+      (reduced g player (numbered g player i))
+      ∙ ap (λ b. more_known (pointwise same_choice) choices_equality b
+      (first_uses (pointwise same_choice) (images i)) (reduced g player (numbered g player i))) used
+
+  pub first_left : (numbers : List ℕ) (i : ℕ) → i < length all → AreFoundTo g player numbers i
+      → IsRepeated i → AreFoundTo g player numbers (i + 1)
+  first_left numbers i less h again = record {
+    are = h.are ∙ sym (one_more i less true
+        (any_has (pointwise same_choice (reduced g player (numbered g player i))) (images i)
+        (reduced g player (numbered g player again.0))
+        (has_map (reduced g player) (take i all) (numbered g player again.0)
+        (has (take i all) (numbered g player again.0) (
+          again.0,
+          omega (arith, again.1, less, length-take-le i all (omega (arith, less))),
+          grind (arith, get_or-take, get_or_default, again.1),
+        )))
+        ((choices_equality _ _).1 (sym again.2))));
+    within = wider i numbers h.within;
+    ordered = h.ordered;
+  }
+
+  pub first_kept : (numbers next : List ℕ) (i : ℕ) → i < length all
+      → AreFoundTo g player numbers i → IsFirst g player i → next ≡ numbers ++ i ∷ []
+      → AreFoundTo g player next (i + 1)
+  first_kept numbers next i less h first is = record {
+    are = ap (map (λ n. reduced g player (numbered g player n))) is
+        ∙ map-append (λ n. reduced g player (numbered g player n)) numbers (i ∷ [])
+        ∙ ap (λ (rs : List (List (Option ℕ))). rs ++ reduced g player (numbered g player i) ∷ [])
+        h.are
+        ∙ sym (one_more i less false (false_from_ne_true _ unused));
+    within = grind (arith, all_both, wider, h.within);
+    ordered = rw is (in_turn_more numbers i h.within h.ordered);
+  }
+    where
+      unused : ¬ (list_any (pointwise same_choice (reduced g player (numbered g player i)))
+          (images i) ≡ true)
+      unused used =
+          let m = mapped_from (reduced g player) (take i all)
+          (reduced g player (numbered g player i))
+          (used_before (pointwise same_choice) choices_equality (images i)
+          (reduced g player (numbered g player i)) used) in
+          let at = contains (take i all) m.0 m.1 in
+          let early : at.0 < i =
+          omega (arith, at.1, length-take-le i all (omega (arith, less))) in
+          let is_there : numbered g player at.0 ≡ m.0 =
+          grind (arith, get_or-take, get_or_default, at.2) in
+          let upto = not_repeated i at.0 less (omega (arith, early, less)) first
+          (ap (reduced g player) is_there ∙ m.2) in
+          omega (arith, upto, early)
+
+  -- strategies that reduce like earlier ones are left out
+  pub passed_by : (numbers : List ℕ) (i m : ℕ) → AreFoundTo g player numbers i
+      → i + m ≤ length all → ((n : ℕ) → i ≤ n → n < i + m → IsRepeated n)
+      → AreFoundTo g player numbers (i + m)
+  passed_by numbers i zero h within again = grind arith
+  passed_by numbers i (suc m) h within again =
+      let next : i + m + 1 ≡ i + suc m = omega arith in
+      subst (AreFoundTo g player numbers) next
+      (first_left numbers (i + m) (omega (arith, within))
+      (passed_by numbers i m h (omega (arith, within))
+      (λ n from to. again n from (omega (arith, to))))
+      (again (i + m) (omega arith) (omega arith)))

@@ -1,28 +1,27 @@
 -- The profiles of the first strategies that reduce to each reduced strategy are those of the
 -- reduced form, in its order.
-use Rattle.gf_form.proofs.Common.{◌≡◌, ℕ, ◌+◌, ◌-◌, ◌<◌, ◌≤◌, List, [], ◌∷◌, Option}
-use Rattle.gf_form.proofs.Common.{AreProfileNumbers, AreBelow, ArePicked, IsPicked, full_at}
-use Rattle.gf_form.proofs.Common.{numbered_profiles, get_or_default, AllZip-long, ◌↔◌, length, map}
-use Rattle.gf_form.proofs.Common.{get_or, take, refl, sym, ap, subst, ◌∙◌, ◌++◌, add-one, arith}
-use Rattle.gf_form.proofs.Common.{zip, AllByRecursion, AllZip, Contains, mul-le-mul, take-suc}
-use Rattle.gf_form.proofs.Common.{get_or-map, length-map, unwrap_or-slice_get, IsFraction, Ratio}
-use Rattle.gf_form.proofs.Common.{all_weaker, profile_limit, IsProfile, product, profiles, Table}
-use Rattle.gf_form.proofs.Common.{length-profiles, get_or-numbers_from, length-numbers_from, Game}
-use Rattle.gf_form.proofs.Common.{IsGame, AreFirstsOf, IsPaidAt, AreRowsAt, AreReducedPayoffsAt}
-use Rattle.gf_form.proofs.Common.{IsReducedForm, reduced, reduced_at, reduced_by, reduced_labels}
-use Rattle.gf_form.proofs.Common.{reduced_profiles, reduced_strategies, HasReducedValues, HasValues}
-use Rattle.gf_form.proofs.Common.{IsFirstWithout, ReducedOverflowsAt, ArePayoffsAt, IsFormBy}
-use Rattle.gf_form.proofs.Common.{full_profiles, players_of, strategies, strategy_at}
+use Rattle.gf_form.proofs.Common.{◌≡◌, profile_limit, IsReducedForm, reduced_labels, IsFirstWithout}
+use Rattle.gf_form.proofs.Common.{ℕ, ◌+◌, ◌-◌, ◌<◌, ◌≤◌, ◌∷◌, ◌↔◌, map, sym, ◌∙◌, ◌++◌, zip, Game}
+use Rattle.gf_form.proofs.Common.{List, AreReducedPayoffsAt, reduced_strategies, ReducedOverflowsAt}
+use Rattle.gf_form.proofs.Common.{[], unwrap_or-slice_get, get_or-numbers_from, length-numbers_from}
+use Rattle.gf_form.proofs.Common.{Option, length, get_or, refl, arith, AllZip, Ratio, Table, IsGame}
+use Rattle.gf_form.proofs.Common.{AreProfileNumbers, ArePicked, numbered_profiles, reduced_profiles}
+use Rattle.gf_form.proofs.Common.{AreBelow, IsPicked, ap, Contains, IsProfile, AreRowsAt, HasValues}
+use Rattle.gf_form.proofs.Common.{full_at, add-one, take-suc, product, profiles, IsPaidAt, reduced}
+use Rattle.gf_form.proofs.Common.{get_or_default, AllByRecursion, length-profiles, HasReducedValues}
+use Rattle.gf_form.proofs.Common.{AllZip-long, mul-le-mul, AreFirstsOf, ArePayoffsAt, full_profiles}
+use Rattle.gf_form.proofs.Common.{take, get_or-map, length-map, IsFraction, all_weaker, strategy_at}
+use Rattle.gf_form.proofs.Common.{subst, reduced_at, reduced_by, IsFormWith, players_of, strategies}
+use Rattle.gf_form.proofs.Common.{choices_by, strategies_at, IsValue}
 use Rattle.gf_nfg.specs.Table.{Entry}
 use Rattle.gf_form.specs.inner.reduced.Firsts.{AreFirsts}
 use Rattle.gf_form.proofs.lemmas.strategies.CountedActions.{strategy_counts}
 use Rattle.gf_form.proofs.lemmas.reduced.FirstStrategies.{fewer_reduced}
 use Rattle.gf_form.proofs.lemmas.form.FormMade.{full_row, row_fractions}
-use Rattle.gf_form.proofs.lemmas.form.Forms.{form_profiles}
 use Rattle.gf_form.proofs.lemmas.strategies.Lookups.{all_alike, all_right, first_alike}
 use Rattle.gf_form.proofs.lemmas.strategies.Lookups.{strategy_before, zip_weaker}
 use Rattle.gf_nfg.proofs.lemmas.tables.Profiles.{are_profiles}
-use Rattle.gf_form.proofs.lemmas.reduced.ReducedForms.{counts_are, same_row, some_reduced_strategy}
+use Rattle.gf_form.proofs.lemmas.reduced.ReducedForms.{same_row, some_reduced_strategy}
 use Rattle.gf_form.proofs.lemmas.reduced.Reducing.{reduced_value}
 use Rattle.gf_form.proofs.lemmas.rows.RowsMade.{zip_more}
 
@@ -35,6 +34,7 @@ are_below g (player ∷ players) (own ∷ firsts) h = (h.0.1, are_below g player
 are_below g [] [] h = tt
 are_below g players firsts h = grind arith
 
+-- there are as many as reduced strategies
 counted_of : (g : Game) (players : List ℕ) (firsts : List (List ℕ))
     → AllZip (AreFirstsOf g) firsts players
     → map length firsts ≡ map (λ player. length (reduced_strategies g player)) players
@@ -42,11 +42,6 @@ counted_of g (player ∷ players) (own ∷ firsts) h =
     grind (arith, length-map, counted_of g players firsts h.1)
 counted_of g [] [] h = refl
 counted_of g players firsts h = grind arith
-
--- there are as many as reduced strategies
-pub firsts_counted : (g : Game) (firsts : List (List ℕ)) → AreFirsts g firsts
-    → map length firsts ≡ map (λ player. length (reduced_strategies g player)) (players_of g)
-firsts_counted g firsts h = counted_of g (players_of g) firsts h
 
 fewer_of : (g : Game) → IsGame g → (players : List ℕ)
     → product (map (λ player. length (reduced_strategies g player)) players)
@@ -104,9 +99,15 @@ record Reduces (g : Game) (profile : List ℕ) (number : ℕ) : Type 0 where
   there : Contains (full_profiles g) (get_or (full_profiles g) number [])
   is : reduced_by g (get_or (full_profiles g) number []) ≡ reduced_at g profile
 
+-- the player has a bottom-up value at the profile
+abbrev HasValueAt : Game → List ℕ → ℕ → Type 0
+HasValueAt g profile player =
+    (value : Ratio) × IsValue g (choices_by g (strategies_at g profile)) player g.tree value
+
 values_too : (g : Game) (p q : List ℕ) → Contains (full_profiles g) p
     → Contains (full_profiles g) q → reduced_by g p ≡ reduced_by g q → HasValues g p → HasValues g q
-values_too g p q hp hq e values = grind (arith, all_weaker, reduced_value)
+values_too g p q hp hq e values = all_weaker (HasValueAt g p) (HasValueAt g q)
+    (λ player h. (h.0, (reduced_value g player p q h.0 hp hq e).0 h.1)) (players_of g) values
 
 -- the profiles with these numbers, in place of those that they reduce to
 paid_over : (g : Game) (ps : List (List ℕ)) (numbers : List ℕ) (rows : List (List Ratio))
@@ -151,7 +152,7 @@ module _ (g : Game) (firsts : List (List ℕ)) (numbers : List ℕ)
   all_reduce : AllZip (Reduces g) (reduced_profiles g) numbers
   all_reduce =
       subst (λ (ps : List (List ℕ)). AllZip (Reduces g) ps numbers)
-      (ap profiles (firsts_counted g firsts theirs.are))
+      (ap profiles (counted_of g (players_of g) firsts theirs.are))
       (zip_weaker (IsProfile (map length firsts)) (IsPicked (strategy_counts g) firsts) (Reduces g)
       (λ profile number valid one.
       let within : number < length (full_profiles g) =
@@ -183,11 +184,7 @@ module _ (g : Game) (firsts : List (List ℕ)) (numbers : List ℕ)
   pub reduced_rows : (payoffs : List Ratio)
       → AreRowsAt (ArePayoffsAt g) (numbered_profiles g numbers) payoffs
       → AreRowsAt (IsPaidAt g) (reduced_profiles g) payoffs
-  reduced_rows payoffs h = record {
-    rows = h.rows;
-    joined = h.joined;
-    right = paid_over g (reduced_profiles g) numbers h.rows all_reduce h.right;
-  }
+  reduced_rows payoffs h = grind (arith, paid_over, all_reduce)
 
   their_values : AllZip (λ full profile. HasValues g full ↔ HasReducedValues g profile)
       (numbered_profiles g numbers) (reduced_profiles g)
@@ -206,9 +203,6 @@ module _ (g : Game) (firsts : List (List ℕ)) (numbers : List ℕ)
 
 -- ---- the form
 
-pub reduced_form_profiles : (g : Game) → form_profiles (reduced_labels g) g ≡ reduced_profiles g
-reduced_form_profiles g = ap profiles (counts_are g (players_of g))
-
 pub some_reduced_label : (g : Game) → IsGame g → (player : ℕ)
     → 0 < length (reduced_labels g player)
 some_reduced_label g game player = grind (arith, length-map, some_reduced_strategy)
@@ -221,7 +215,7 @@ pub paid_fractions : (g : Game) (profile : List ℕ) (row : List Ratio) → IsPa
     → AllByRecursion IsFraction row
 paid_fractions g profile row h = row_fractions g h.full row h.paid
 
-pub reduced_made : (g : Game) (t : Table) → IsFormBy (reduced_labels g) (IsPaidAt g) g t
+pub reduced_made : (g : Game) (t : Table) → IsFormWith (reduced_labels g) (IsPaidAt g) g t
     → IsReducedForm g t
 reduced_made g t form = record {
   title = form.title;

@@ -1,18 +1,15 @@
 -- What is left of a player's visits after a choice, visit by visit, and which sets can be met.
-use Rattle.gf_form.proofs.Common.{◌≡◌, ℕ, ◌+◌, ◌-◌, ◌*◌, ◌<◌, ◌≤◌, ◌⊎◌, inl, inr, Bool, true, false}
-use Rattle.gf_form.proofs.Common.{List, [], ◌∷◌, ◌++◌, Some, None, length, get_or, set, take, drop}
-use Rattle.gf_form.proofs.Common.{ap, sym, ◌∙◌, arith, ◌||◌, list_any, IsPermutation, option_map_or}
-use Rattle.gf_form.proofs.Common.{or-false, take-length, cases_Bool, cases_lt, or_left, or_right}
-use Rattle.gf_form.proofs.Common.{get_or-set_at, get_or-set_other, get_or-take, get_or_default}
-use Rattle.gf_form.proofs.Common.{length-drop, length-set, length-take, take-append-drop}
-use Rattle.gf_form.proofs.Common.{All-from_recursion, recursion_from_All, list_any-append}
-use Rattle.gf_form.proofs.Common.{All-permutation, list_any-IsPermutation, all_both, meets}
-use Rattle.gf_form.proofs.Common.{ArePositive, IsChosen, is_left, left_of, AreWithin, is_met}
-use Rattle.gf_form.proofs.Common.{is_met_on, Level, Visit, suc, ◌==◌, take_more, can_be_met}
+use Rattle.gf_form.proofs.Common.{◌≡◌, ℕ, ◌+◌, ◌*◌, ◌<◌, ◌≤◌, inl, inr, Bool, true, false, List, []}
+use Rattle.gf_form.proofs.Common.{◌∷◌, ◌++◌, Some, None, length, get_or, set, take, drop, ap, sym}
+use Rattle.gf_form.proofs.Common.{◌∙◌, arith, ◌||◌, list_any, IsPermutation, option_map_or}
+use Rattle.gf_form.proofs.Common.{or-false, take-length, cases_lt, get_or-set_at, get_or-set_other}
+use Rattle.gf_form.proofs.Common.{get_or-take, get_or_default, length-drop, length-set, length-take}
+use Rattle.gf_form.proofs.Common.{take-append-drop, list_any-append, list_any-IsPermutation, meets}
+use Rattle.gf_form.proofs.Common.{ArePositive, IsChosen, is_left, left_of, is_met_on, Level, Visit}
+use Rattle.gf_form.proofs.Common.{◌==◌, can_be_met, ne_eqb, false_from_ne_true}
 use Rattle.std.proofs.lemmas.List.{get_or-drop}
 use Rattle.std.proofs.lemmas.List.Folds.{Any-from_list_any, list_any_at, list_any_more}
-use Rattle.gf_form.proofs.lemmas.strategies.StrategiesByNumber.{all_at}
-use Rattle.gf_form.specs.inner.reduced.Levels.{AddsLeft, HasSets, HaveBelow}
+use Rattle.gf_form.specs.inner.reduced.Levels.{AddsLeft, HaveBelow}
 use Rattle.std.proofs.Math.Bool.{or-true}
 
 -- no demands are met
@@ -26,85 +23,78 @@ meets_left : (step action demands : ℕ) (steps choices : List ℕ)
     ≡ option_map_or (meets steps choices) (left_of step action demands) false
 meets_left step action demands steps choices = grind arith
 
+flag_on : (flags : List Bool) (at place : ℕ) → at < length flags
+    → get_or (set flags at true) place false ≡ (get_or flags place false || at == place)
+flag_on flags at place inside = grind (arith, get_or-set_at, get_or-set_other, or-true, or-false)
+
 abbrev pub no_visit : Visit
 no_visit = record { demands = 0; set = 0 }
-
-pub at_visit : (visits : List Visit) (sets i : ℕ) → AreWithin sets visits → i < length visits
-    → (1 ≤ (get_or visits i no_visit).set) × ((get_or visits i no_visit).set ≤ sets)
-at_visit visits sets i within less =
-    all_at (λ (v : Visit). (1 ≤ v.set) × (v.set ≤ sets)) visits i no_visit within less
 
 -- the level after what is left of the first i visits has been added
 pub record AddedTo (step action : ℕ) (visits : List Visit) (before : Level) (i : ℕ)
     (after : Level) : Type 0
   where
-    pub sets : HasSets (length before.known.items) after
+    pub counted : length after.known.items ≡ length before.known.items
     pub adds : AddsLeft step action (take i visits) before after
 
 module _ (step action : ℕ) (visits : List Visit) (start : Level) (i : ℕ)
-    (less : i < length visits) (within : AreWithin (length start.known.items) visits) where
+    (less : i < length visits) where
   abbrev here : Visit
   here = get_or visits i no_visit
 
-  at : (1 ≤ here.set) × (here.set ≤ length start.known.items)
-  at = at_visit visits (length start.known.items) i within less
-
-  met_more : (position : ℕ) (steps choices : List ℕ)
-      → is_met position steps choices (take (i + 1) visits)
-      ≡ (is_met position steps choices (take i visits)
-      || is_met_on position steps choices here)
-  met_more position steps choices =
-      list_any_more (is_met_on position steps choices) visits i no_visit less
-
   module _ (left : Level) (before : AddedTo step action visits start i left) where
     -- what one more visit adds
-    more : (next : Level) → HasSets (length start.known.items) next
-        → ((position : ℕ) (steps choices : List ℕ) → 1 ≤ position → ArePositive steps
-        → is_left position steps choices next ≡ (is_left position steps choices left
-        || is_met_on position (step ∷ steps) (action ∷ choices) here))
+    more : (next : Level) → length next.known.items ≡ length start.known.items
+        → ((place : ℕ) (steps choices : List ℕ) → place < length start.known.items
+        → ArePositive steps → is_left place steps choices next ≡ (is_left place steps choices left
+        || is_met_on place (step ∷ steps) (action ∷ choices) here))
         → AddedTo step action visits start (i + 1) next
-    more next sets adds = record {
-      sets = sets;
-      adds = λ position steps choices above positive.
+    more next counted adds = record {
+      counted = counted;
+      adds = λ place steps choices inside positive.
           grind (
             arith,
-            adds position steps choices above positive,
-            before.adds position steps choices above positive,
-            met_more position (step ∷ steps) (action ∷ choices),
+            adds place steps choices inside positive,
+            before.adds place steps choices inside positive,
+            list_any_more (is_met_on place (step ∷ steps) (action ∷ choices)) visits i no_visit
+                less,
           );
     }
 
+    -- it is to no set of the level
+    pub other_passed : length left.known.items ≤ here.set
+        → AddedTo step action visits start (i + 1) left
+    other_passed past =
+        more left before.counted (λ place steps choices inside positive.
+        let other : (here.set == place) ≡ false =
+        ne_eqb here.set place (λ e. omega (arith, e, past, inside, before.counted)) in
+        grind (arith, or-false))
+
     -- it is to a set that is known to be met
-    pub known_passed : (flag : Bool) → flag ≡ get_or left.known.items (here.set - 1) flag
-        → flag ≡ true → AddedTo step action visits start (i + 1) left
-    known_passed flag is known =
-        let there = get_or_default left.known.items (here.set - 1) false flag
-        (omega (arith, at.0, at.1, before.sets.counted)) in
-        let above = at.0 in
-        more left before.sets (λ position steps choices some positive. grind arith)
+    pub known_passed : (flag : Bool) → here.set < length left.known.items
+        → flag ≡ get_or left.known.items here.set flag → flag ≡ true
+        → AddedTo step action visits start (i + 1) left
+    known_passed flag within is known =
+        let there = get_or_default left.known.items here.set false flag within in
+        more left before.counted (λ place steps choices inside positive. grind arith)
 
     -- it demands another action
     pub none_left : left_of step action here.demands ≡ None
         → AddedTo step action visits start (i + 1) left
-    none_left none = more left before.sets (λ position steps choices some positive.
+    none_left none = more left before.counted (λ place steps choices inside positive.
         grind (arith, meets_left step action here.demands steps choices, or-false))
 
     -- nothing more is demanded
-    pub made_known : (next : Level) → left_of step action here.demands ≡ Some 0
-        → next.known.items ≡ set left.known.items (here.set - 1) true
+    pub made_known : (next : Level) → here.set < length left.known.items
+        → left_of step action here.demands ≡ Some 0
+        → next.known.items ≡ set left.known.items here.set true
         → next.visits.items ≡ left.visits.items → AddedTo step action visits start (i + 1) next
-    made_known next left_is known visits_are =
-        let above = at.0 in
-        let below = at.1 in
-        more next (record {
-          counted = grind (arith, length-set, before.sets.counted);
-          within = rw visits_are before.sets.within;
-        }) (λ position steps choices some positive.
+    made_known next within left_is known_is visits_are =
+        more next (grind (arith, length-set, before.counted))
+        (λ place steps choices inside positive.
         grind (
           arith,
-          get_or-set_at left.known.items (here.set - 1) (position - 1) true false,
-          get_or-set_other left.known.items (here.set - 1) (position - 1) true false,
-          before.sets.counted,
+          flag_on left.known.items here.set place within,
           meets_left step action here.demands steps choices,
           meets_none steps choices positive,
         ))
@@ -117,16 +107,8 @@ module _ (step action : ℕ) (visits : List Visit) (start : Level) (i : ℕ)
         ++ record { demands = demands; set = here.set } ∷ []
         → AddedTo step action visits start (i + 1) next
     one_left next demands left_is known visits_are =
-        let above = at.0 in
-        let below = at.1 in
-        more next (record {
-          counted = ap length known ∙ before.sets.counted;
-          within = grind (arith, all_both, before.sets.within);
-        }) (λ position steps choices some positive.
+        more next (ap length known ∙ before.counted) (λ place steps choices inside positive.
         grind (arith, list_any-append, meets_left step action here.demands steps choices))
-      where
-        one : Visit
-        one = record { demands = demands; set = here.set }
 
 pub all_added : (step action : ℕ) (visits : List Visit) (before : Level) (i : ℕ) (after : Level)
     → AddedTo step action visits before i after → i ≡ length visits
@@ -135,15 +117,7 @@ all_added step action visits before i after added end =
     rw (end, take-length) at added.adds
 
 -- what the steps of the code need
-pub ruleset left_steps = (known_passed, none_left, all_added)
-
--- visits in another order are to the same sets
-pub within_permuted : (sets : ℕ) (visits ordered : List Visit) → IsPermutation visits ordered
-    → AreWithin sets visits → AreWithin sets ordered
-within_permuted sets visits ordered same within =
-    recursion_from_All (λ (v : Visit). (1 ≤ v.set) × (v.set ≤ sets)) ordered
-    (All-permutation (λ (v : Visit). (1 ≤ v.set) × (v.set ≤ sets)) visits ordered same
-    (All-from_recursion (λ (v : Visit). (1 ≤ v.set) × (v.set ≤ sets)) visits within))
+pub ruleset left_steps = (other_passed, known_passed, none_left, all_added)
 
 -- ---- the visits that count at an action
 
@@ -151,89 +125,72 @@ any_in_two : (p : Visit → Bool) (visits : List Visit) (n : ℕ)
     → list_any p visits ≡ (list_any p (take n visits) || list_any p (drop n visits))
 any_in_two p visits n = ap (list_any p) (sym (take-append-drop n visits)) ∙ list_any-append p _ _
 
-any_in_parts : (p : Visit → Bool) (visits : List Visit) (free start count : ℕ)
-    → ((v : Visit) (k : ℕ) → k < length visits → get_or visits k v ≡ v → p v ≡ true
-    → (k < free) ⊎ ((start ≤ k) × (k < start + count)))
-    → list_any p visits
-    ≡ (list_any p (take free visits) || list_any p (take count (drop start visits)))
-any_in_parts p visits free start count places = by (cases_Bool (list_any p visits))
-  where
-    first : List Visit
-    first = take free visits
-
-    second : List Visit
-    second = take count (drop start visits)
-
-    by : (list_any p visits ≡ true) ⊎ (list_any p visits ≡ false)
-        → list_any p visits ≡ (list_any p first || list_any p second)
-    by (inr none) =
-        grind (
-          arith,
-          any_in_two p visits free,
-          any_in_two p visits start,
-          any_in_two p (drop start visits) count,
-        )
-    by (inl some) =
-        let found = Any-from_list_any p visits some in
-        some ∙ sym (there found.0 found.1 found.2 found.3 found.4
-        (places found.1 found.0 found.2 found.3 found.4))
-      where
-        there : (k : ℕ) (v : Visit) → k < length visits → get_or visits k v ≡ v → p v ≡ true
-            → (k < free) ⊎ ((start ≤ k) × (k < start + count))
-            → (list_any p first || list_any p second) ≡ true
-        there k v less same passes (inl early) =
-            or_left _ _ (list_any_at p first k v (grind (arith, length-take))
-            (ap p (get_or-take free visits k v early ∙ same) ∙ passes))
-        there k v less same passes (inr late) =
-            or_right _ _ (list_any_at p second (k - start) v
-            (grind (arith, length-take, length-drop)) (ap p (grind (
-              arith,
-              get_or-take count (drop start visits) (k - start) v,
-              get_or-drop start visits (k - start) v,
-            )) ∙ passes))
-
 -- they stand in two parts of visits in order
 module _ (step action : ℕ) (visits rest : List Visit) (free start count : ℕ)
     (free_is : HaveBelow visits step free) (start_is : HaveBelow visits (action * step) start)
     (rest_is : rest ≡ drop start visits)
     (count_is : HaveBelow rest (action * step + step) count) where
-  met_in_parts : (position : ℕ) (steps choices : List ℕ)
-      → is_met position (step ∷ steps) (action ∷ choices) visits
-      ≡ (is_met position (step ∷ steps) (action ∷ choices) (take free visits)
-      || is_met position (step ∷ steps) (action ∷ choices) (take count rest))
-  met_in_parts position steps choices =
-      rw rest_is (any_in_parts (is_met_on position (step ∷ steps) (action ∷ choices)) visits free
-      start count (λ v k less same met. by v k less same met
-      (cases_lt k free) (cases_lt k start) (cases_lt k (start + count))))
-    where
-      by : (v : Visit) (k : ℕ) → k < length visits → get_or visits k v ≡ v
-          → is_met_on position (step ∷ steps) (action ∷ choices) v ≡ true
-          → (k < free) ⊎ (free ≤ k) → (k < start) ⊎ (start ≤ k)
-          → (k < start + count) ⊎ (start + count ≤ k)
-          → (k < free) ⊎ ((start ≤ k) × (k < start + count))
-      by v k less same met (inl early) _ _ = inl early
-      by v k less same met (inr late) (inr from) (inl to) = inr (from, to)
-      by v k less same met (inr late) (inl before) _ =
-          absurd (grind (arith, free_is.above k v late less, start_is.below k v before))
-      by v k less same met (inr late) (inr from) (inr past) =
-          absurd (grind (
-            arith,
-            free_is.above k v late less,
-            count_is.above (k - start) v (omega (arith, past, from))
-                (grind (arith, rest_is, length-drop)),
-            get_or-drop start visits (k - start) v,
-          ))
+  module _ (place : ℕ) (steps choices : List ℕ) where
+    abbrev counts : Visit → Bool
+    counts v = is_met_on place (step ∷ steps) (action ∷ choices) v
+
+    -- one that demands less than the action demands nothing there
+    free_before : list_any counts (take start visits) ≡ true
+        → list_any counts (take free visits) ≡ true
+    free_before some =
+        let found = Any-from_list_any counts (take start visits) some in
+        let k = found.0 in
+        let v = found.1 in
+        let early : k < start = grind (arith, length-take, found.2) in
+        let same : get_or visits k v ≡ v =
+        sym (get_or-take start visits k v early) ∙ found.3 in
+        let inside : k < length visits = omega (arith, early, start_is.bound) in
+        elim (cases_lt k free) [
+          | inl first ↦
+              list_any_at counts (take free visits) k v (grind (arith, length-take))
+              (ap counts (get_or-take free visits k v first ∙ same) ∙ found.4)
+          | inr late ↦
+              absurd (grind (
+                arith,
+                free_is.above k v late inside,
+                start_is.below k v early,
+                found.4,
+              ))
+        ]
+
+    -- and none demands more
+    none_behind : list_any counts (drop count rest) ≡ false
+    none_behind = false_from_ne_true _ (λ some.
+        let found = Any-from_list_any counts (drop count rest) some in
+        let k = found.0 in
+        let v = found.1 in
+        let inside : count + k < length rest = grind (arith, length-drop, found.2) in
+        let same : get_or rest (count + k) v ≡ v = sym (get_or-drop count rest k v) ∙ found.3 in
+        grind (arith, count_is.above (count + k) v (omega arith) inside, found.4))
+
+    met_in_parts : list_any counts visits
+        ≡ (list_any counts (take free visits) || list_any counts (take count rest))
+    met_in_parts =
+        grind (
+          arith,
+          any_in_two counts visits free,
+          any_in_two counts visits start,
+          any_in_two counts rest count,
+          none_behind,
+          free_before,
+        )
 
   pub parts_added : (before between after : Level)
+      → length between.known.items ≡ length before.known.items
       → AddsLeft step action (take free visits) before between
       → AddsLeft step action (take count rest) between after
       → AddsLeft step action visits before after
-  parts_added before between after first second position steps choices above positive =
+  parts_added before between after counted first second place steps choices inside positive =
       grind (
         arith,
-        first position steps choices above positive,
-        second position steps choices above positive,
-        met_in_parts position steps choices,
+        first place steps choices inside positive,
+        second place steps choices (omega (arith, inside, counted)) positive,
+        met_in_parts place steps choices,
       )
 
 -- what is left of all visits of a level, in order again
@@ -242,50 +199,59 @@ pub chosen_by : (step action : ℕ) (from begun added left : Level) → begun.vi
     → AddsLeft step action from.visits.items begun added
     → left.known.items ≡ added.known.items
     → IsPermutation added.visits.items left.visits.items → IsChosen step action from left
-chosen_by step action from begun added left none known adds same order position steps choices above
+chosen_by step action from begun added left none known adds same order place steps choices inside
     positive =
     grind (
       arith,
-      adds position steps choices above positive,
-      list_any-IsPermutation (is_met_on position steps choices) added.visits.items
+      adds place steps choices (omega (arith, inside, ap length known)) positive,
+      list_any-IsPermutation (is_met_on place steps choices) added.visits.items
           left.visits.items order,
     )
 
-flag_on : (flags : List Bool) (at place : ℕ) → at < length flags
-    → get_or (set flags at true) place false ≡ (get_or flags place false || suc at == suc place)
-flag_on flags at place inside = grind (arith, get_or-set_at, get_or-set_other, or-true, or-false)
-
 abbrev is_to : ℕ → Visit → Bool
-is_to position v = v.set == position
+is_to place v = v.set == place
 
 -- the marks after the first i visits
 pub record MarkedTo (level : Level) (i : ℕ) (met : List Bool) : Type 0 where
   pub counted : length met ≡ length level.known.items
-  pub marked : (place : ℕ) → get_or met place false ≡ (get_or level.known.items place false
-      || list_any (is_to (suc place)) (take i level.visits.items))
+  pub marked : (place : ℕ) → place < length level.known.items
+      → get_or met place false ≡ (get_or level.known.items place false
+      || list_any (is_to place) (take i level.visits.items))
 
-pub marked_more : (level : Level) (i : ℕ) (met next : List Bool) → MarkedTo level i met
-    → i < length level.visits.items → 1 ≤ (get_or level.visits.items i no_visit).set
-    → (get_or level.visits.items i no_visit).set ≤ length level.known.items
-    → next ≡ set met ((get_or level.visits.items i no_visit).set - 1) true
-    → MarkedTo level (i + 1) next
-marked_more level i met next before less above within is = record {
-  counted = grind (arith, length-set, before.counted);
-  marked = λ place.
-      grind (
-        arith,
-        flag_on met (here.set - 1) place (omega (arith, above, within, before.counted)),
-        before.marked place,
-        take_more level.visits.items i no_visit less,
-        list_any-append,
-      );
-}
-  where
-    here : Visit
-    here = get_or level.visits.items i no_visit
+module _ (level : Level) (i : ℕ) (met : List Bool) (before : MarkedTo level i met) where
+  pub marked_more : (next : List Bool) → i < length level.visits.items
+      → (get_or level.visits.items i no_visit).set < length met
+      → next ≡ set met (get_or level.visits.items i no_visit).set true
+      → MarkedTo level (i + 1) next
+  marked_more next less within is = record {
+    counted = grind (arith, length-set, before.counted);
+    marked = λ place inside.
+        grind (
+          arith,
+          flag_on met (get_or level.visits.items i no_visit).set place within,
+          before.marked place inside,
+          list_any_more (is_to place) level.visits.items i no_visit less,
+        );
+  }
 
-pub all_marked : (level : Level) (i : ℕ) (met : List Bool) → MarkedTo level i met
-    → i ≡ length level.visits.items → (place : ℕ)
-    → get_or met place false ≡ can_be_met (suc place) level
-all_marked level i met m end place =
-    grind (arith, m.marked, take-length)
+  -- a visit to no set of the level
+  pub marked_past : i < length level.visits.items
+      → length met ≤ (get_or level.visits.items i no_visit).set → MarkedTo level (i + 1) met
+  marked_past less past = record {
+    counted = before.counted;
+    marked = λ place inside.
+        let other : is_to place (get_or level.visits.items i no_visit) ≡ false =
+        ne_eqb _ place (λ e. omega (arith, e, past, inside, before.counted)) in
+        grind (
+          arith,
+          or-false,
+          before.marked place inside,
+          list_any_more (is_to place) level.visits.items i no_visit less,
+        );
+  }
+
+  pub all_marked : i ≡ length level.visits.items → (place : ℕ) → place < length level.known.items
+      → get_or met place false ≡ can_be_met place level
+  all_marked end place inside = grind (arith, before.marked place inside, take-length)
+
+pub ruleset mark_steps = (marked_more, marked_past, all_marked)

@@ -7,26 +7,25 @@ use Rattle.gf_form.proofs.Common.{profiles, Table, every_profile, Game, is_used,
 use Rattle.gf_form.proofs.Common.{map_twice, Has, contains, has, has_map, mapped_from}
 use Rattle.gf_form.proofs.Common.{AreReducedPayoffsAt, IsReducedForm, reduced, reduced_at}
 use Rattle.gf_form.proofs.Common.{reduced_by, reduced_labels, reduced_strategies, same_choice}
-use Rattle.gf_form.proofs.Common.{ArePayoffsAt, PaysFractions, choices_by, full_profiles}
-use Rattle.gf_form.proofs.Common.{players_of, strategies, strategies_at, strategy_at, ◌<◌, Bool}
-use Rattle.gf_form.proofs.Common.{IsTable, first_uses, IsGame, each, reduced_label, ◌-◌}
+use Rattle.gf_form.proofs.Common.{reduced_profiles, ArePayoffsAt, PaysFractions, choices_by}
+use Rattle.gf_form.proofs.Common.{full_profiles, players_of, strategies, strategies_at, strategy_at}
+use Rattle.gf_form.proofs.Common.{◌<◌, Bool, IsTable, first_uses, IsGame, each, reduced_label, ◌-◌}
 use Rattle.std.proofs.lemmas.Slice.Eq.{slice_eq-Decides}
 use Rattle.gf_form.proofs.lemmas.strategies.Chosen.{strategy_there}
 use Rattle.gf_form.proofs.lemmas.strategies.Lookups.{strategy_before}
 use Rattle.gf_form.proofs.lemmas.form.Forms.{form_profiles, of_row, one_form_by, one_row, row_of}
-use Rattle.gf_form.proofs.lemmas.form.Forms.{rows_of_form, same_row as same_pays, some_form_by}
+use Rattle.gf_form.proofs.lemmas.form.Forms.{one_strategic_form, rows_of_form}
+use Rattle.gf_form.proofs.lemmas.form.Forms.{same_row as same_pays, some_form_by, as_many, table_by}
 use Rattle.gf_form.proofs.lemmas.reduced.Reducing.{reduced_pay}
 use Rattle.gf_nfg.specs.Table.{Entry}
-use Rattle.gf_form.proofs.lemmas.form.FormTables.{as_many, table_by}
 use Rattle.gf_form.proofs.lemmas.strategies.CountedActions.{some_strategy}
 
 -- ---- positions
 
 -- what stands in a list has a position
-position_in : {A : Type 0} (xs : List (List A)) (x : List A) → Has xs x
+position_in : {A : Type 0} (xs : List (List A)) (x : List A) → Contains xs x
     → (s : ℕ) × (1 ≤ s) × (s ≤ length xs) × (strategy_at xs s ≡ x)
-position_in xs x h =
-    let at = contains xs x h in
+position_in xs x at =
     let back : at.0 + 1 - 1 ≡ at.0 = omega arith in (
       at.0 + 1,
       omega arith,
@@ -50,27 +49,37 @@ module _ (g : Game) where
   ReducesTo player k s = reduced g player (strategy_at (strategies g player) k)
       ≡ strategy_at (reduced_strategies g player) s
 
+  -- a reduced strategy is what a strategy reduces to
+  pub each_comes : (player : ℕ) (strategy : List (Option ℕ))
+      → Contains (reduced_strategies g player) strategy
+      ↔ ((full : List ℕ) × Contains (strategies g player) full
+      × (reduced g player full ≡ strategy))
+  each_comes player strategy = (
+    λ h.
+        let there = has (reduced_strategies g player) strategy h in
+        grind (arith, contains, mapped_from, was_used),
+    λ from. contains (reduced_strategies g player) strategy (is_used (pointwise same_choice)
+        choices_equality (map (reduced g player) (strategies g player)) strategy
+        (subst (Has (map (reduced g player) (strategies g player))) from.2
+        (has_map (reduced g player) (strategies g player) from.0
+        (has (strategies g player) from.0 from.1)))),
+  )
+
   full_of : (player s : ℕ) → 1 ≤ s → s ≤ length (reduced_strategies g player)
       → (k : ℕ) × (1 ≤ k) × (k ≤ length (strategies g player)) × ReducesTo player k s
   full_of player s above within =
-      let there = was_used (pointwise same_choice) (map (reduced g player) (strategies g player))
-      (strategy_at (reduced_strategies g player) s)
-      (has _ _ (strategy_there (reduced_strategies g player) s above within)) in
-      let one = mapped_from (reduced g player) (strategies g player)
-      (strategy_at (reduced_strategies g player) s) there in
-      let k = position_in (strategies g player) one.0 one.1 in
-      (k.0, k.1, k.2, ap (reduced g player) k.3 ∙ one.2)
+      let from = (each_comes player (strategy_at (reduced_strategies g player) s)).0
+      (strategy_there (reduced_strategies g player) s above within) in
+      let k = position_in (strategies g player) from.0 from.1 in
+      (k.0, k.1, k.2, ap (reduced g player) k.3 ∙ from.2)
 
   reduced_of : (player k : ℕ) → 1 ≤ k → k ≤ length (strategies g player)
       → (s : ℕ) × (1 ≤ s) × (s ≤ length (reduced_strategies g player)) × ReducesTo player k s
   reduced_of player k above within =
       let strategy = strategy_at (strategies g player) k in
-      let there =
-      is_used (pointwise same_choice) choices_equality
-      (map (reduced g player) (strategies g player)) (reduced g player strategy)
-      (has_map (reduced g player) (strategies g player) strategy
-      (has _ _ (strategy_there (strategies g player) k above within))) in
-      let s = position_in (reduced_strategies g player) (reduced g player strategy) there in
+      let s = position_in (reduced_strategies g player) (reduced g player strategy)
+      ((each_comes player (reduced g player strategy)).1
+      (strategy, strategy_there (strategies g player) k above within, refl)) in
       (s.0, s.1, s.2, sym s.3)
 
   -- ---- and so for profiles
@@ -106,40 +115,37 @@ module _ (g : Game) where
   reduced_of_all [] [] h = ([], tt, refl)
   reduced_of_all players full h = absurd h
 
-  pub counts_are : (players : List ℕ)
-      → map length (map (reduced_labels g) players) ≡ reduced_counts players
-  counts_are players = grind (arith, length-map, map_same, map_twice)
+  pub reduced_form_profiles : form_profiles (reduced_labels g) g ≡ reduced_profiles g
+  reduced_form_profiles = grind (arith, length-map, map_same, map_twice)
+
+  listed : (profile : List ℕ) → Has (form_profiles (reduced_labels g) g) profile
+      → Contains (reduced_profiles g) profile
+  listed profile i = grind (arith, contains, reduced_form_profiles)
 
   -- a full profile that reduces to a profile of the reduced form
-  pub some_full : (profile : List ℕ) → Has (form_profiles (reduced_labels g) g) profile
+  pub some_full : (profile : List ℕ) → Contains (reduced_profiles g) profile
       → (full : List ℕ) × Contains (full_profiles g) full
       × (reduced_by g full ≡ reduced_at g profile)
   some_full profile i =
-      let there = contains (form_profiles (reduced_labels g) g) profile i in
-      let is : IsProfile (reduced_counts (players_of g)) profile =
-      subst (λ counts. IsProfile counts profile) (counts_are (players_of g))
-      ((every_profile (map length (map (reduced_labels g) (players_of g))) profile).0 there) in
-      let one = full_of_all (players_of g) profile is in
+      let one = full_of_all (players_of g) profile
+      ((every_profile (reduced_counts (players_of g)) profile).0 i) in
       (one.0, (every_profile (full_counts (players_of g)) one.0).1 one.1, one.2)
 
   -- and the one to which a full profile reduces
   pub some_reduced : (full : List ℕ) → Contains (full_profiles g) full
-      → (profile : List ℕ) × Has (form_profiles (reduced_labels g) g) profile
+      → (profile : List ℕ) × Contains (reduced_profiles g) profile
       × (reduced_by g full ≡ reduced_at g profile)
   some_reduced full i =
-      let one =
-      reduced_of_all (players_of g) full ((every_profile (full_counts (players_of g)) full).0 i) in
-      let counts = map length (map (reduced_labels g) (players_of g)) in
-      let is : IsProfile counts one.0 =
-      subst (λ counts. IsProfile counts one.0) (sym (counts_are (players_of g))) one.1 in
-      (one.0, has (profiles counts) one.0 ((every_profile counts one.0).1 is), one.2)
+      let one = reduced_of_all (players_of g) full
+      ((every_profile (full_counts (players_of g)) full).0 i) in
+      (one.0, (every_profile (reduced_counts (players_of g)) one.0).1 one.1, one.2)
 
   -- ---- the form
 
   pub one_reduced_form : (t u : Table) → IsReducedForm g t → IsReducedForm g u → t ≡ u
   one_reduced_form =
       one_form_by (reduced_labels g) (AreReducedPayoffsAt g) g (λ profile i a b h k.
-      let one = some_full profile i in
+      let one = some_full profile (listed profile i) in
       one_row g (choices_by g (strategies_at g one.0)) a b (players_of g) (h one.0 one.1 one.2)
       (k one.0 one.1 one.2))
 
@@ -156,10 +162,12 @@ module _ (g : Game) where
     λ form full i.
         let one = some_reduced full i in
         let row =
-        rows_of_form (reduced_labels g) (AreReducedPayoffsAt g) g form.0 form.1 one.0 one.1 in
+        rows_of_form (reduced_labels g) (AreReducedPayoffsAt g) g form.0 form.1 one.0
+        (subst (λ (ps : List (List ℕ)). Has ps one.0) (sym reduced_form_profiles)
+        (has (reduced_profiles g) one.0 one.1)) in
         of_row g (choices_by g (strategies_at g full)) row.0 (players_of g) (row.1 full i one.2),
     λ pays. some_form_by (reduced_labels g) (AreReducedPayoffsAt g) g (λ profile i.
-        let one = some_full profile i in
+        let one = some_full profile (listed profile i) in
         let row =
         row_of g (choices_by g (strategies_at g one.0)) (players_of g) (pays one.0 one.1) in
         (row.0, λ full j e. same_row one.0 full one.1 j (one.2 ∙ sym e) row.0 row.1)),
@@ -175,14 +183,13 @@ pub some_reduced_strategy : (g : Game) → IsGame g → (player : ℕ)
 some_reduced_strategy g game player = grind (arith, length-map, some_first, some_strategy)
 
 module _ (g : Game) (game : IsGame g) (t : Table) (form : IsReducedForm g t) where
-  listed : map (λ e. e.profile) t.entries ≡ form_profiles (reduced_labels g) g
-  listed = form.profiles ∙ ap (λ s. profiles (map length s)) form.strategies
+  profiles_are : map (λ e. e.profile) t.entries ≡ form_profiles (reduced_labels g) g
+  profiles_are = form.profiles ∙ ap (λ s. profiles (map length s)) form.strategies
 
   one_each : (e : Entry) → Has t.entries e → length e.payoffs ≡ length (players_of g)
   one_each e i =
-      let there =
-      subst (λ ps. Has ps e.profile) listed (has_map (λ (d : Entry). d.profile) t.entries e i) in
-      let full = some_full g e.profile there in
+      let full = some_full g e.profile (listed g e.profile (subst (λ ps. Has ps e.profile)
+      profiles_are (has_map (λ (d : Entry). d.profile) t.entries e i))) in
       let right =
       each (λ (d : Entry). AreReducedPayoffsAt g d.profile d.payoffs) t.entries e form.payoffs i in
       as_many _ e.payoffs (players_of g) (right full.0 full.1 full.2)
@@ -193,3 +200,5 @@ module _ (g : Game) (game : IsGame g) (t : Table) (form : IsReducedForm g t) whe
       (λ player. subst (λ n. 0 < n) (sym (length-map (reduced_strategies g player) reduced_label))
       (some_reduced_strategy g game player))
       one_each
+
+pub ruleset at_most_one_form = (one_strategic_form, one_reduced_form)

@@ -1,22 +1,21 @@
--- The reduced strategies of a player: what his strategies reduce to, each once, with labels that
--- differ; and the profiles of the reduced form, to each of which some full profile reduces.
+-- The reduced strategies of a player, each once, with labels that differ; and the profiles of the
+-- reduced form, each once.
 use Rattle.gf_form.proofs.Common.{◌≡◌, ℕ, zero, suc, ◌-◌, ◌^◌, ◌<◌, Bool, List, [], ◌∷◌, Option}
 use Rattle.gf_form.proofs.Common.{Some, None, MatchOption, length, map, get_or, drop, refl, sym, ap}
-use Rattle.gf_form.proofs.Common.{subst, ◌∙◌, arith, inl, inr, ◌↔◌, ⊤, codes, decimal}
-use Rattle.gf_form.proofs.Common.{if◌then◌else◌, zip, AllByRecursion, Contains, pointwise}
-use Rattle.gf_form.proofs.Common.{decimal_injective, length-map, IsProfile, every_profile, SetKey}
-use Rattle.gf_form.proofs.Common.{player_keys, Game, AreDistinct, first_uses_distinct, is_used}
-use Rattle.gf_form.proofs.Common.{was_used, Has, contains, has, has_map, mapped_from, choice_text}
-use Rattle.gf_form.proofs.Common.{is_relevant, reduced, reduced_at, reduced_by, reduced_label}
-use Rattle.gf_form.proofs.Common.{reduced_profiles, reduced_strategies, same_choice, action_counts}
-use Rattle.gf_form.proofs.Common.{choice_at, full_profiles, players_of, strategies, strategy_at}
+use Rattle.gf_form.proofs.Common.{subst, ◌∙◌, arith, inl, inr, ⊤, codes, decimal, if◌then◌else◌}
+use Rattle.gf_form.proofs.Common.{zip, AllByRecursion, Contains, pointwise, decimal_injective}
+use Rattle.gf_form.proofs.Common.{length-map, IsProfile, every_profile, SetKey, player_keys, Game}
+use Rattle.gf_form.proofs.Common.{AreDistinct, first_uses_distinct, Has, contains, choice_text}
+use Rattle.gf_form.proofs.Common.{is_relevant, reduced, reduced_at, reduced_label, reduced_profiles}
+use Rattle.gf_form.proofs.Common.{reduced_strategies, same_choice, action_counts, choice_at}
+use Rattle.gf_form.proofs.Common.{players_of, strategies, strategy_at}
 use Rattle.gf_form.proofs.lemmas.strategies.Choices.{every_choice}
-use Rattle.gf_form.proofs.lemmas.reduced.FirstsPicked.{reduced_form_profiles}
 use Rattle.gf_form.proofs.lemmas.strategies.StrategyLabels.{AreDigits, AreUndashed, digits_of}
 use Rattle.gf_form.proofs.lemmas.strategies.StrategyLabels.{same_joined, undashed_number, AreSmall}
 use Rattle.gf_form.proofs.lemmas.strategies.StrategyLabels.{small_choice}
 use Rattle.gf_form.proofs.lemmas.strategies.Lookups.{strategy_before}
-use Rattle.gf_form.proofs.lemmas.reduced.ReducedForms.{choices_equality, some_full, some_reduced}
+use Rattle.gf_form.proofs.lemmas.reduced.ReducedForms.{choices_equality, each_comes, some_full}
+use Rattle.gf_form.proofs.lemmas.reduced.ReducedForms.{some_reduced}
 
 -- ---- places
 
@@ -70,24 +69,6 @@ module _ (g : Game) (player : ℕ) where
   abbrev all : List (List (Option ℕ))
   all = reduced_strategies g player
 
-  -- what a strategy reduces to
-  abbrev IsReducedTo : List (Option ℕ) → Type 0
-  IsReducedTo strategy =
-      (full : List ℕ) × Contains (strategies g player) full × (reduced g player full ≡ strategy)
-
-  comes_from : (strategy : List (Option ℕ)) → Has all strategy → IsReducedTo strategy
-  comes_from strategy h = grind (arith, contains, mapped_from, was_used)
-
-  pub each_comes : (strategy : List (Option ℕ)) → Contains all strategy ↔ IsReducedTo strategy
-  each_comes strategy = (
-    λ h. comes_from strategy (has all strategy h),
-    λ from. contains all strategy (is_used (pointwise same_choice) choices_equality
-        (map (reduced g player) (strategies g player)) strategy
-        (subst (Has (map (reduced g player) (strategies g player))) from.2
-        (has_map (reduced g player) (strategies g player) from.0
-        (has (strategies g player) from.0 from.1)))),
-  )
-
   pub each_once : (i j : ℕ) → i < length all → j < length all → get_or all i [] ≡ get_or all j []
       → i ≡ j
   each_once i j hi hj e = one_place all i j []
@@ -102,7 +83,7 @@ module _ (g : Game) (player : ℕ) where
       → AllByRecursion IsSmallChoice strategy
       × (length strategy ≡ length (player_keys g player))
   small_strategy small strategy h =
-      let from = comes_from strategy h in
+      let from = (each_comes g player strategy).0 (contains all strategy h) in
       let keys = player_keys g player in
       let choice = choice_at keys from.0 in
       let few = small_choice (action_counts g player) from.0 small
@@ -154,21 +135,4 @@ module _ (g : Game) where
       ((every_profile (counts (players_of g)) p).0 hp)
       ((every_profile (counts (players_of g)) q).0 hq) e
 
-  -- a full profile, or one of the reduced form, that the other reduces to
-  pub each_reduced_to : (profile : List ℕ) → Contains (reduced_profiles g) profile
-      → (full : List ℕ) × Contains (full_profiles g) full
-      × (reduced_by g full ≡ reduced_at g profile)
-  each_reduced_to profile h =
-      some_full g profile (subst (λ (ps : List (List ℕ)). Has ps profile)
-      (sym (reduced_form_profiles g)) (has (reduced_profiles g) profile h))
-
-  pub all_reduced_to : (full : List ℕ) → Contains (full_profiles g) full
-      → (profile : List ℕ) × Contains (reduced_profiles g) profile
-      × (reduced_by g full ≡ reduced_at g profile)
-  all_reduced_to full h =
-      let one = some_reduced g full h in (
-        one.0,
-        contains (reduced_profiles g) one.0
-            (subst (λ (ps : List (List ℕ)). Has ps one.0) (reduced_form_profiles g) one.1),
-        one.2,
-      )
+pub ruleset each_profile = (some_full, some_reduced, one_profile)

@@ -1,21 +1,20 @@
 -- Strategies that reduce to the same one agree with the same plays, and full profiles that do have
 -- the same payoffs and bottom-up values.
-use Rattle.gf_form.proofs.Common.{arith, ◌≡◌, ℕ, Bool, true, false, List, [], ◌∷◌, Option, Some}
-use Rattle.gf_form.proofs.Common.{None, map, get_or, drop, refl, sym, ap, ◌∙◌, subst, inl, inr, ◌⊎◌}
-use Rattle.gf_form.proofs.Common.{◌||◌, ◌&&◌, if◌then◌else◌, Contains, list_all, list_any}
-use Rattle.gf_form.proofs.Common.{option_map_or, and_parts, or_left, or_right, SetKey, same_set}
-use Rattle.gf_form.proofs.Common.{Game, player_keys, same_set_equality, Has, has, choice_at, Step}
-use Rattle.gf_form.proofs.Common.{Play, plays, is_own_choice, agrees, comes_to, is_relevant}
-use Rattle.gf_form.proofs.Common.{reduced, zero, suc, ◌+◌, ◌-◌, ◌<◌, length, ◌==◌, not, zip, filter}
-use Rattle.gf_form.proofs.Common.{and_from, eqb-false, eq-eqb, times, total, numbers_from}
-use Rattle.gf_form.proofs.Common.{length-numbers_from, contains, choices_by, players_of, strategies}
-use Rattle.gf_form.proofs.Common.{strategies_at, strategy_at, full_profiles, is_chosen, follows}
-use Rattle.gf_form.proofs.Common.{payoff, play_probability, play_payoff, reduced_by, ◌++◌}
-use Rattle.gf_form.proofs.Common.{MatchOption, append_assoc, ◌↔◌, MatchBool, Ratio, zero_ratio}
-use Rattle.gf_form.proofs.Common.{Tree, Trees, branch, none, more, Node, in_left, in_right, has_map}
-use Rattle.gf_form.proofs.Common.{IsChanceValue, IsMoveValue, IsTerminalValue, IsValue}
-use Rattle.gf_form.proofs.Common.{IsChildValue, from_node, plays_from}
-use Rattle.gf_form.proofs.lemmas.form.FormTables.{as_many}
+use Rattle.gf_form.proofs.Common.{arith, list_all, list_any, or_right, same_set, comes_to, in_right}
+use Rattle.gf_form.proofs.Common.{◌≡◌, if◌then◌else◌, option_map_or, is_own_choice, IsTerminalValue}
+use Rattle.gf_form.proofs.Common.{ℕ, ap, inr, Has, has, suc, ◌+◌, ◌-◌, ◌<◌, not, zip, ◌↔◌}
+use Rattle.gf_form.proofs.Common.{Bool, SetKey, agrees, reduced, follows, in_left, has_map, IsValue}
+use Rattle.gf_form.proofs.Common.{true, List, Some, None, map, drop, refl, ◌||◌, Game, Ratio, Trees}
+use Rattle.gf_form.proofs.Common.{false, subst, plays, length, filter, times, total, payoff, branch}
+use Rattle.gf_form.proofs.Common.{[], sym, ◌∙◌, inl, Step, Play, zero, ◌==◌, Tree, none, more, Node}
+use Rattle.gf_form.proofs.Common.{◌∷◌, choices_by, players_of, strategies, MatchOption, IsMoveValue}
+use Rattle.gf_form.proofs.Common.{Option, numbers_from, strategies_at, full_profiles, IsChanceValue}
+use Rattle.gf_form.proofs.Common.{get_or, and_parts, reduced_by, zero_ratio, plays_from, cases_Bool}
+use Rattle.gf_form.proofs.Common.{Contains, choice_at, eqb-false, is_chosen, MatchBool, from_node}
+use Rattle.gf_form.proofs.Common.{or_left, same_set_equality, length-numbers_from, play_probability}
+use Rattle.gf_form.proofs.Common.{player_keys, is_relevant, strategy_at, play_payoff, IsChildValue}
+use Rattle.gf_tree.proofs.lemmas.stores.KnownKeys.{used_before}
+use Rattle.gf_form.proofs.lemmas.form.Forms.{as_many}
 use Rattle.gf_form.proofs.lemmas.strategies.Lookups.{strategy_before}
 use Rattle.gf_form.proofs.lemmas.strategies.Chosen.{profile_strategies}
 
@@ -45,23 +44,11 @@ mapped_alike f h (y ∷ ys) x e (inl q) = subst (λ z. f z ≡ h z) q (ap (λ l.
 mapped_alike f h (y ∷ ys) x e (inr i) = mapped_alike f h ys x (ap (drop 1) e) i
 
 -- a set that is not one of these has no choice
-in_or_none : (keys : List SetKey) (key : SetKey)
-    → Has keys key ⊎ ((strategy : List ℕ) → choice_at keys strategy key ≡ 0)
-in_or_none [] key = inr (λ strategy. refl)
-in_or_none (k ∷ keys) key = by_test (same_set k key) refl (in_or_none keys key)
-  where
-    none_here : (b : Bool) → same_set k key ≡ false
-        → ((strategy : List ℕ) → choice_at keys strategy key ≡ 0) → (strategy : List ℕ)
-        → choice_at (k ∷ keys) strategy key ≡ 0
-    none_here b e others [] = refl
-    none_here b e others (action ∷ strategy) = grind arith
-
-    by_test : (b : Bool) → same_set k key ≡ b
-        → Has keys key ⊎ ((strategy : List ℕ) → choice_at keys strategy key ≡ 0)
-        → Has (k ∷ keys) key ⊎ ((strategy : List ℕ) → choice_at (k ∷ keys) strategy key ≡ 0)
-    by_test true e others = inl (inl ((same_set_equality k key).0 e))
-    by_test false e (inl i) = inl (inr i)
-    by_test false e (inr others) = inr (none_here false e others)
+none_chosen : (keys : List SetKey) (strategy : List ℕ) (key : SetKey)
+    → list_any (same_set key) keys ≡ false → choice_at keys strategy key ≡ 0
+none_chosen (k ∷ keys) (action ∷ strategy) key h =
+    grind (arith, same_set_equality, none_chosen keys strategy key)
+none_chosen keys strategy key h = grind arith
 
 module _ (g : Game) (player : ℕ) where
   abbrev pub chosen : List ℕ → SetKey → ℕ
@@ -70,50 +57,54 @@ module _ (g : Game) (player : ℕ) where
   pub same_where_relevant : (s t : List ℕ) → reduced g player s ≡ reduced g player t
       → (key : SetKey) → is_relevant g (chosen s) key ≡ true → chosen s key ≡ chosen t key
   same_where_relevant s t e key relevant =
-      elim (in_or_none (player_keys g player) key) [
-        | inl i ↦ grind (arith, mapped_alike, shown_alike)
-        | inr z ↦ z s ∙ sym (z t)
+      elim (cases_Bool (list_any (same_set key) (player_keys g player))) [
+        | inl i ↦
+            let there = used_before same_set same_set_equality (player_keys g player) key i in
+            grind (arith, mapped_alike, shown_alike)
+        | inr other ↦
+            none_chosen (player_keys g player) s key other
+            ∙ sym (none_chosen (player_keys g player) t key other)
       ]
 
   -- ---- along a play
 
-  module _ (c d : SetKey → ℕ)
-      (same : (key : SetKey) → is_relevant g c key ≡ true → c key ≡ d key) where
-    -- what the rest of a play comes to is relevant
-    abbrev IsRelevantBelow : List Step → Type 0
-    IsRelevantBelow rest = (key : SetKey) → key.player ≡ player → comes_to c key rest ≡ true
-        → is_relevant g c key ≡ true
+  module _ (c d : SetKey → ℕ) where
+    -- equal at his sets to which these choices come
+    abbrev AreEqualOn : List Step → Type 0
+    AreEqualOn steps = (key : SetKey) → key.player ≡ player → comes_to c key steps ≡ true
+        → c key ≡ d key
 
-    -- after a move that he chooses, the rest is relevant too
-    relevant_on : (s : Step) (rest : List Step) → IsRelevantBelow (s ∷ rest)
-        → is_own_choice c player s ≡ true → IsRelevantBelow rest
-    relevant_on s rest relevant h key own come = grind arith
+    own_same : (s : Step) (rest : List Step) → AreEqualOn (s ∷ rest)
+        → (o : Option SetKey) → s.node.set ≡ o
+        → option_map_or (λ key. not (key.player == player) || c key == s.taken) o true
+        ≡ option_map_or (λ key. not (key.player == player) || d key == s.taken) o true
+    own_same s rest equal None at = refl
+    own_same s rest equal (Some key) at = grind (arith, equal key, same_set_equality)
 
-    comes_same : (key : SetKey) → key.player ≡ player → (rest : List Step) → IsRelevantBelow rest
+    equal_on : (s : Step) (rest : List Step) → AreEqualOn (s ∷ rest)
+        → is_own_choice c player s ≡ true → AreEqualOn rest
+    equal_on s rest equal h key own come = grind (arith, equal key)
+
+    comes_same : (key : SetKey) → key.player ≡ player → (rest : List Step) → AreEqualOn rest
         → comes_to c key rest ≡ comes_to d key rest
-    comes_same key own [] relevant = refl
-    comes_same key own (s ∷ rest) relevant =
-        ap (λ b. option_map_or (same_set key) s.node.set false || b)
-        (by (is_own_choice c player s) refl (λ below. comes_same key own rest below))
-      where
-        his : (e : SetKey → ℕ) → is_own_choice e key.player s ≡ is_own_choice e player s
-        his e = ap (λ p. is_own_choice e p s) own
+    comes_same key own [] equal = refl
+    comes_same key own (s ∷ rest) equal =
+        let same = own_same s rest equal s.node.set refl in
+        elim (cases_Bool (is_own_choice c player s)) [
+          | inl his ↦
+              let later = comes_same key own rest (equal_on s rest equal his) in grind arith
+          | inr other ↦ grind arith
+        ]
 
-        by : (b : Bool) → is_own_choice c player s ≡ b
-            → (IsRelevantBelow rest → comes_to c key rest ≡ comes_to d key rest)
-            → (is_own_choice c key.player s && comes_to c key rest)
-            ≡ (is_own_choice d key.player s && comes_to d key rest)
-        by true e others = grind arith
-        by false e others = grind arith
-
-    rest_agrees : (rest : List Step)
-        → IsRelevantBelow rest → list_all (is_own_choice c player) rest ≡ true
+    rest_agrees : (rest : List Step) → AreEqualOn rest
+        → list_all (is_own_choice c player) rest ≡ true
         → list_all (is_own_choice d player) rest ≡ true
-    rest_agrees [] relevant h = refl
-    rest_agrees (s ∷ rest) relevant h =
+    rest_agrees [] equal h = refl
+    rest_agrees (s ∷ rest) equal h =
         let both =
         and_parts (is_own_choice c player s) (list_all (is_own_choice c player) rest) h in
-        grind (arith, rest_agrees rest (relevant_on s rest relevant both.0) both.1)
+        let same = own_same s rest equal s.node.set refl in
+        grind (arith, rest_agrees rest (equal_on s rest equal both.0) both.1)
 
     any_same : (p q : Play → Bool) (ps : List Play) → ((x : Play) → Has ps x → p x ≡ q x)
         → list_any p ps ≡ list_any q ps
@@ -121,18 +112,14 @@ module _ (g : Game) (player : ℕ) where
     any_same p q (x ∷ ps) h = λ i. h x (inl refl) i || any_same p q ps (λ y j. h y (inr j)) i
 
     -- choices that are equal at the sets that are relevant under some have the same relevant sets
-    pub relevance_same : (key : SetKey) → key.player ≡ player
-        → is_relevant g c key ≡ is_relevant g d key
-    relevance_same key own =
-        any_same (λ play. comes_to c key play.steps) (λ play. comes_to d key play.steps)
-        (plays g.tree)
-        (λ play i. comes_same key own play.steps (λ k his come.
-        any_has (λ p. comes_to c k p.steps) (plays g.tree) play i come))
+    pub relevance_same : ((key : SetKey) → is_relevant g c key ≡ true → c key ≡ d key)
+        → (key : SetKey) → key.player ≡ player → is_relevant g c key ≡ is_relevant g d key
+    relevance_same same key own = grind (arith, any_same, comes_same, any_has)
 
   agrees_too : (s t : List ℕ) (play : Play) → reduced g player s ≡ reduced g player t
       → Has (plays g.tree) play → agrees (chosen s) player play ≡ true
       → agrees (chosen t) player play ≡ true
-  agrees_too s t play e i h = grind (arith, any_has, rest_agrees, same_where_relevant)
+  agrees_too s t play e i h = grind (arith, rest_agrees, same_where_relevant, any_has)
 
   pub reduced_agree : (s t : List ℕ) (play : Play) → reduced g player s ≡ reduced g player t
       → Contains (plays g.tree) play → agrees (choice_at (player_keys g player) s) player play
@@ -142,52 +129,35 @@ module _ (g : Game) (player : ℕ) where
       (agrees_too s t play e (has (plays g.tree) play i))
       (agrees_too t s play (sym e) (has (plays g.tree) play i))
 
--- ---- choices of all players are those of each
+-- ---- choices of all players that are equal at the sets to which the first ones come
 
-chosen_of_own : (c : SetKey → ℕ) (o : Option SetKey) (k : ℕ)
-    → ((p : ℕ) → 0 < p → option_map_or (λ key. not (key.player == p) || c key == k) o true ≡ true)
+pub own_chosen : (c : SetKey → ℕ) (p : ℕ) (o : Option SetKey) (k : ℕ) → 0 < p
     → option_map_or (λ key. key.player == 0 || c key == k) o true ≡ true
-chosen_of_own c None k h = refl
-chosen_of_own c (Some key) k h = by_owner (key.player == 0) refl
-  where
-    by_owner : (b : Bool) → (key.player == 0) ≡ b → (key.player == 0 || c key == k) ≡ true
-    by_owner true e = grind arith
-    by_owner false e =
-        let mine = h key.player (omega (arith, eqb-false key.player 0 e)) in
-        grind (arith, eq-eqb)
+    → option_map_or (λ key. not (key.player == p) || c key == k) o true ≡ true
+own_chosen c p None k above h = refl
+own_chosen c p (Some key) k above h = grind arith
 
-pub all_own : (c : SetKey → ℕ) (p : ℕ) (steps : List Step)
-    → 0 < p → list_all (is_chosen c) steps ≡ true → list_all (is_own_choice c p) steps ≡ true
-all_own c p [] above h = refl
-all_own c p (s ∷ steps) above h =
-    let both = and_parts (is_chosen c s) (list_all (is_chosen c) steps) h in
-    grind (arith, all_own c p steps above both.1)
+module _ (c d : SetKey → ℕ) where
+  abbrev AreEqualFor : List Step → Type 0
+  AreEqualFor steps = (key : SetKey) → 0 < key.player → comes_to c key steps ≡ true → c key ≡ d key
 
-all_chosen : (c : SetKey → ℕ) (steps : List Step)
-    → ((p : ℕ) → 0 < p → list_all (is_own_choice c p) steps ≡ true)
-    → list_all (is_chosen c) steps ≡ true
-all_chosen c [] h = refl
-all_chosen c (s ∷ steps) h =
-    let both = λ (p : ℕ) (above : 0 < p).
-    and_parts (is_own_choice c p s) (list_all (is_own_choice c p) steps) (h p above) in
-    and_from _ _ (chosen_of_own c s.node.set s.taken (λ p above. (both p above).0))
-    (all_chosen c steps (λ p above. (both p above).1))
+  equal_later : (s : Step) (rest : List Step) → AreEqualFor (s ∷ rest) → is_chosen c s ≡ true
+      → AreEqualFor rest
+  equal_later s rest equal h key above come = grind (arith, own_chosen)
 
--- what a player chooses is by his own strategy
-module _ (g : Game) (all : List (List ℕ)) (p : ℕ) where
-  abbrev pub his : SetKey → ℕ
-  his key = choice_at (player_keys g p) (strategy_at all p) key
+  chosen_too : (s : Step) (rest : List Step) → AreEqualFor (s ∷ rest) → (o : Option SetKey)
+      → s.node.set ≡ o → option_map_or (λ key. key.player == 0 || c key == s.taken) o true ≡ true
+      → option_map_or (λ key. key.player == 0 || d key == s.taken) o true ≡ true
+  chosen_too s rest equal None at h = refl
+  chosen_too s rest equal (Some key) at h = grind (arith, equal key, same_set_equality)
 
-  his_step : (o : Option SetKey) (k : ℕ)
-      → option_map_or (λ key. not (key.player == p) || choices_by g all key == k) o true
-      ≡ option_map_or (λ key. not (key.player == p) || his key == k) o true
-  his_step None k = refl
-  his_step (Some key) k = grind arith
-
-  pub his_steps : (steps : List Step)
-      → list_all (is_own_choice (choices_by g all) p) steps ≡ list_all (is_own_choice his p) steps
-  his_steps [] = refl
-  his_steps (s ∷ steps) = λ i. his_step s.node.set s.taken i && his_steps steps i
+  follow_too : (steps : List Step) → AreEqualFor steps → list_all (is_chosen c) steps ≡ true
+      → list_all (is_chosen d) steps ≡ true
+  follow_too [] equal h = refl
+  follow_too (s ∷ steps) equal h =
+      let both = and_parts (is_chosen c s) (list_all (is_chosen c) steps) h in
+      let first = chosen_too s steps equal s.node.set refl both.0 in
+      grind (arith, follow_too steps (equal_later s steps equal both.0) both.1)
 
 -- ---- profiles that reduce to the same one
 
@@ -196,14 +166,26 @@ module _ (g : Game) where
   AreReducedAlike all others =
       (p : ℕ) → 0 < p → reduced g p (strategy_at all p) ≡ reduced g p (strategy_at others p)
 
-  follows_too : (all others : List (List ℕ)) → AreReducedAlike all others
-      → (play : Play) → Has (plays g.tree) play → follows (choices_by g all) play ≡ true
-      → follows (choices_by g others) play ≡ true
-  follows_too all others alike play i h =
-      all_chosen (choices_by g others) play.steps
-      (λ p above. his_steps g others p play.steps ∙ sym (reduced_agree g p (strategy_at all p)
-      (strategy_at others p) play (alike p above) (contains (plays g.tree) play i))
-      ∙ sym (his_steps g all p play.steps) ∙ all_own (choices_by g all) p play.steps above h)
+  -- what a player chooses is by his own strategy
+  his_step : (all : List (List ℕ)) (p : ℕ) (o : Option SetKey) (k : ℕ)
+      → option_map_or (λ key. not (key.player == p) || choices_by g all key == k) o true
+      ≡ option_map_or (λ key. not (key.player == p) || chosen g p (strategy_at all p) key == k) o
+      true
+  his_step all p None k = refl
+  his_step all p (Some key) k = grind arith
+
+  his_comes : (all : List (List ℕ)) (key : SetKey) (steps : List Step)
+      → comes_to (choices_by g all) key steps
+      ≡ comes_to (chosen g key.player (strategy_at all key.player)) key steps
+  his_comes all key [] = refl
+  his_comes all key (s ∷ steps) =
+      let own = his_step all key.player s.node.set s.taken in
+      grind (arith, his_comes all key steps)
+
+  equal_for : (all others : List (List ℕ)) → AreReducedAlike all others → (play : Play)
+      → Has (plays g.tree) play → AreEqualFor (choices_by g all) (choices_by g others) play.steps
+  equal_for all others alike play i key above come =
+      grind (arith, same_where_relevant, any_has, his_comes)
 
   filter_same : (p q : Play → Bool) (ps : List Play) → ((x : Play) → Has ps x → p x ≡ q x)
       → filter p ps ≡ filter q ps
@@ -214,7 +196,13 @@ module _ (g : Game) where
   same_plays : (all others : List (List ℕ)) → AreReducedAlike all others
       → filter (follows (choices_by g all)) (plays g.tree)
       ≡ filter (follows (choices_by g others)) (plays g.tree)
-  same_plays all others alike = grind (arith, filter_same, follows_too, same_answer)
+  same_plays all others alike =
+      filter_same (follows (choices_by g all)) (follows (choices_by g others)) (plays g.tree)
+      (λ play i. same_answer _ _
+      (follow_too (choices_by g all) (choices_by g others) play.steps
+      (equal_for all others alike play i))
+      (follow_too (choices_by g others) (choices_by g all) play.steps
+      (equal_for others all (λ p above. sym (alike p above)) play i)))
 
   -- what the players' strategies reduce to
   abbrev reduce_all : List ℕ → List (List ℕ) → List (List (Option ℕ))
@@ -256,13 +244,7 @@ module _ (g : Game) where
       (λ ps. total (map (λ play. times (play_probability g play) (play_payoff g player play)) ps))
       (same_plays (strategies_at g p) (strategies_at g q) (reduced_alike p q hp hq e))
 
--- ---- lists and plays
-
-all_last : (test : Step → Bool) (before : List Step) (s : Step)
-    → list_all test before ≡ true → test s ≡ true → list_all test (before ++ s ∷ []) ≡ true
-all_last test [] s h e = and_from (test s) true e refl
-all_last test (b ∷ before) s h e =
-    grind (arith, all_last test before s)
+-- ---- bottom-up values
 
 -- every tree has a play
 pub first_play : (t : Tree Node) → (p : Play) × Has (plays t) p
@@ -274,23 +256,9 @@ first_play (branch n (more t ts)) =
           (from_node n 1 p.0) (has_map (from_node n 1) (plays t) p.0 p.1),
     )
 
--- these steps, and then the play
-abbrev joined : List Step → Play → Play
-joined before p = record { steps = before ++ p.steps; leaf = p.leaf }
-
--- ---- values by choices that are equal at the sets that come
-
--- equal at each set to which these choices come
-abbrev AgreeWhereChosen : Game → (SetKey → ℕ) → (SetKey → ℕ) → Type 0
-AgreeWhereChosen g c d = (before rest : List Step) (n : Node) (k : ℕ) (leaf : Node) (key : SetKey)
-    → Has (plays g.tree)
-    (record { steps = before ++ record { node = n; taken = k } ∷ rest; leaf = leaf })
-    → list_all (is_chosen c) before ≡ true → n.set ≡ Some key → 0 < key.player → c key ≡ d key
-
-module _ (g : Game) (c d : SetKey → ℕ) (player : ℕ) (agree : AgreeWhereChosen g c d) where
-  -- the plays of a tree go on from these steps
-  abbrev GoOn : List Step → List Play → Type 0
-  GoOn before ps = (p : Play) → Has ps p → Has (plays g.tree) (joined before p)
+module _ (g : Game) (c d : SetKey → ℕ) (player : ℕ) where
+  abbrev AreEqualIn : List Play → Type 0
+  AreEqualIn ps = (p : Play) → Has ps p → AreEqualFor c d p.steps
 
   abbrev IsChosen : Node → ℕ → Type 0
   IsChosen n k = is_chosen c (record { node = n; taken = k }) ≡ true
@@ -310,130 +278,100 @@ module _ (g : Game) (c d : SetKey → ℕ) (player : ℕ) (agree : AgreeWhereCho
   ChildToo n ts = (position : ℕ) (value : Ratio) → IsChosen n position
       → IsChildValue g c player position ts value → IsChildValue g d player position ts value
 
-  -- a node with a child stands on a play
-  choice_too : (n : Node) (ts : Trees Node) (before : List Step)
-      (key : SetKey) (position : ℕ) (value : Ratio)
-      → GoOn before (plays (branch n ts)) → list_all (is_chosen c) before ≡ true
-      → n.set ≡ Some key → 0 < key.player → IsChildValue g c player position ts value
-      → c key ≡ d key
-  choice_too n none before key position value on chosen at above v = absurd v
-  choice_too n (more t ts) before key position value on chosen at above v =
-      let p = first_play t in
-      let there = on (from_node n 1 p.0) (in_left (map (from_node n 1) (plays t))
-      (plays_from n 2 ts) (from_node n 1 p.0) (has_map (from_node n 1) (plays t) p.0 p.1)) in
-      agree before p.0.steps n 1 p.0.leaf key there chosen at above
+  -- the plays through the first of these children, and through the others
+  through : (n : Node) (k : ℕ) (t : Tree Node) (ts : Trees Node) (p : Play) → Has (plays t) p
+      → Has (plays_from n k (more t ts)) (from_node n k p)
+  through n k t ts p i =
+      in_left (map (from_node n k) (plays t)) (plays_from n (k + 1) ts) (from_node n k p)
+      (has_map (from_node n k) (plays t) p i)
 
-  below_too : (n : Node) (ts : Trees Node) (before : List Step) (key : SetKey) (below : Ratio)
-      → GoOn before (plays (branch n ts)) → list_all (is_chosen c) before ≡ true → n.set ≡ Some key
-      → ChanceToo n ts → ChildToo n ts → (b : Bool) → (key.player == 0) ≡ b
+  equal_here : (n : Node) (k : ℕ) (t : Tree Node) (ts : Trees Node) (key : SetKey)
+      → AreEqualIn (plays_from n k (more t ts)) → n.set ≡ Some key → 0 < key.player
+      → c key ≡ d key
+  equal_here n k t ts key equal at above =
+      let p = first_play t in
+      equal (from_node n k p.0) (through n k t ts p.0 p.1) key above
+      (grind (arith, same_set_equality))
+
+  equal_first : (n : Node) (k : ℕ) (t : Tree Node) (ts : Trees Node)
+      → AreEqualIn (plays_from n k (more t ts)) → IsChosen n k → AreEqualIn (plays t)
+  equal_first n k t ts equal chosen p i =
+      equal_later c d (record { node = n; taken = k }) p.steps
+      (equal (from_node n k p) (through n k t ts p i)) chosen
+
+  equal_others : (n : Node) (k : ℕ) (t : Tree Node) (ts : Trees Node)
+      → AreEqualIn (plays_from n k (more t ts)) → AreEqualIn (plays_from n (k + 1) ts)
+  equal_others n k t ts equal p i =
+      equal p (in_right (map (from_node n k) (plays t)) (plays_from n (k + 1) ts) p i)
+
+  below_too : (n : Node) (ts : Trees Node) (key : SetKey) (below : Ratio) → n.set ≡ Some key
+      → (0 < key.player → c key ≡ d key) → ChanceToo n ts → ChildToo n ts → (b : Bool)
+      → (key.player == 0) ≡ b
       → MatchBool b (IsChanceValue g c player n 1 zero_ratio ts below)
       (IsChildValue g c player (c key) ts below)
       → MatchBool b (IsChanceValue g d player n 1 zero_ratio ts below)
       (IsChildValue g d player (d key) ts below)
-  below_too n ts before key below on chosen at chance child true e v = grind arith
-  below_too n ts before key below on chosen at chance child false e v =
+  below_too n ts key below at equal chance child true e v = grind arith
+  below_too n ts key below at equal chance child false e v =
       let personal = eqb-false key.player 0 e in
-      let same =
-      choice_too n ts before key (c key) below on chosen at (omega (arith, personal)) v in
+      let same = equal (omega (arith, personal)) in
       grind arith
 
-  node_too : (n : Node) (ts : Trees Node) (value : Ratio) (before : List Step)
-      → GoOn before (plays (branch n ts)) → list_all (is_chosen c) before ≡ true → ChanceToo n ts
-      → ChildToo n ts
-      → (o : Option SetKey) → n.set ≡ o → ValueAt c n ts value o → ValueAt d n ts value o
-  node_too n ts value before on chosen chance child None at v = v
-  node_too n ts value before on chosen chance child (Some key) at v = grind (arith, below_too)
-
-  from_first : (n : Node) (k : ℕ) (t : Tree Node) (ts : Trees Node) (before : List Step)
-      → GoOn before (plays_from n k (more t ts))
-      → GoOn (before ++ record { node = n; taken = k } ∷ []) (plays t)
-  from_first n k t ts before on p i =
-      let there = on (from_node n k p) (in_left (map (from_node n k) (plays t))
-      (plays_from n (k + 1) ts) (from_node n k p) (has_map (from_node n k) (plays t) p i)) in
-      subst (λ steps. Has (plays g.tree) (record { steps = steps; leaf = p.leaf }))
-      (sym (append_assoc before (record { node = n; taken = k } ∷ []) p.steps)) there
-
-  from_others : (n : Node) (k : ℕ) (t : Tree Node) (ts : Trees Node) (before : List Step)
-      → GoOn before (plays_from n k (more t ts)) → GoOn before (plays_from n (k + 1) ts)
-  from_others n k t ts before on p i = grind (arith, in_right)
-
-  all_of : (n : Node) (ts : Trees Node) (before : List Step) → GoOn before (plays (branch n ts))
-      → GoOn before (plays_from n 1 ts)
-  all_of n none before on p i = absurd i
-  all_of n (more t ts) before on p i = on p i
+  node_too : (n : Node) (t : Tree Node) (ts : Trees Node) (value : Ratio)
+      → AreEqualIn (plays_from n 1 (more t ts)) → ChanceToo n (more t ts) → ChildToo n (more t ts)
+      → (o : Option SetKey) → n.set ≡ o → ValueAt c n (more t ts) value o
+      → ValueAt d n (more t ts) value o
+  node_too n t ts value equal chance child None at v = v
+  node_too n t ts value equal chance child (Some key) at v = (
+    v.0,
+    below_too n (more t ts) key v.0 at (equal_here n 1 t ts key equal at) chance child
+        (key.player == 0) refl v.1,
+    v.2,
+  )
 
   mutual
-    value_too : (t : Tree Node) (value : Ratio) (before : List Step)
-        → GoOn before (plays t) → list_all (is_chosen c) before ≡ true → IsValue g c player t value
+    value_too : (t : Tree Node) (value : Ratio) → AreEqualIn (plays t) → IsValue g c player t value
         → IsValue g d player t value
-    value_too (branch n ts) value before on chosen v =
-        node_too n ts value before on chosen
-        (λ below every is.
-        chance_too ts n 1 zero_ratio below before (all_of n ts before on) chosen every is)
-        (λ position below there is. child_too ts n 1 position position below before
-        (all_of n ts before on) chosen there (omega arith) is)
+    value_too (branch n none) value equal v = v
+    value_too (branch n (more t ts)) value equal v =
+        node_too n t ts value equal
+        (λ below every is. chance_too (more t ts) n 1 zero_ratio below equal every is)
+        (λ position below there is.
+        child_too (more t ts) n 1 position position below equal there (omega arith) is)
         n.set refl v
 
-    chance_too : (ts : Trees Node) (n : Node) (k : ℕ) (sum value : Ratio) (before : List Step)
-        → GoOn before (plays_from n k ts) → list_all (is_chosen c) before ≡ true
-        → ((j : ℕ) → IsChosen n j)
+    chance_too : (ts : Trees Node) (n : Node) (k : ℕ) (sum value : Ratio)
+        → AreEqualIn (plays_from n k ts) → ((j : ℕ) → IsChosen n j)
         → IsChanceValue g c player n k sum ts value → IsChanceValue g d player n k sum ts value
-    chance_too none n k sum value before on chosen every v = v
-    chance_too (more t ts) n k sum value before on chosen every v =
-        let step : Step = record { node = n; taken = k } in (
-          v.0,
-          v.1,
-          v.2,
-          value_too t v.0 (before ++ step ∷ []) (from_first n k t ts before on)
-              (all_last (is_chosen c) before step chosen (every k)) v.3,
-          v.4,
-          v.5,
-          chance_too ts n (k + 1) v.2 value before (from_others n k t ts before on) chosen every
-              v.6,
-        )
+    chance_too none n k sum value equal every v = v
+    chance_too (more t ts) n k sum value equal every v = (
+      v.0,
+      v.1,
+      v.2,
+      value_too t v.0 (equal_first n k t ts equal (every k)) v.3,
+      v.4,
+      v.5,
+      chance_too ts n (k + 1) v.2 value (equal_others n k t ts equal) every v.6,
+    )
 
     -- the child at this position is taken, which is the one of these at that position
-    child_too : (ts : Trees Node) (n : Node) (k taken position : ℕ)
-        (value : Ratio) (before : List Step)
-        → GoOn before (plays_from n k ts) → list_all (is_chosen c) before ≡ true → IsChosen n taken
-        → suc taken ≡ position + k → IsChildValue g c player position ts value
-        → IsChildValue g d player position ts value
-    child_too (more t ts) n k taken (suc zero) value before on chosen there e v =
-        let step : Step = record { node = n; taken = k } in
+    child_too : (ts : Trees Node) (n : Node) (k taken position : ℕ) (value : Ratio)
+        → AreEqualIn (plays_from n k ts) → IsChosen n taken → suc taken ≡ position + k
+        → IsChildValue g c player position ts value → IsChildValue g d player position ts value
+    child_too (more t ts) n k taken (suc zero) value equal there e v =
         let same : taken ≡ k = omega (arith, e) in
-        value_too t value (before ++ step ∷ []) (from_first n k t ts before on)
-        (all_last (is_chosen c) before step chosen (subst (λ j. IsChosen n j) same there)) v
-    child_too (more t ts) n k taken (suc (suc position)) value before on chosen there e v =
-        child_too ts n (k + 1) taken (suc position) value before (from_others n k t ts before on)
-        chosen there (omega (arith, e)) v
-    child_too ts n k taken position value before on chosen there e v = absurd v
+        value_too t value (equal_first n k t ts equal (subst (λ j. IsChosen n j) same there)) v
+    child_too (more t ts) n k taken (suc (suc position)) value equal there e v =
+        child_too ts n (k + 1) taken (suc position) value (equal_others n k t ts equal) there
+        (omega (arith, e)) v
+    child_too ts n k taken position value equal there e v = absurd v
 
--- ---- profiles that reduce to the same one
-
-comes_here : (choices : SetKey → ℕ) (key : SetKey) (n : Node) (k : ℕ) (rest before : List Step)
-    → n.set ≡ Some key → list_all (is_own_choice choices key.player) before ≡ true
-    → comes_to choices key (before ++ record { node = n; taken = k } ∷ rest) ≡ true
-comes_here choices key n k rest [] at h = grind arith
-comes_here choices key n k rest (s ∷ before) at h =
-    grind (arith, comes_here choices key n k rest before)
-
-module _ (g : Game) (all others : List (List ℕ)) (alike : AreReducedAlike g all others) where
-  agree_where_chosen : AgreeWhereChosen g (choices_by g all) (choices_by g others)
-  agree_where_chosen before rest n k leaf key there chosen at above =
-      let own : list_all (is_own_choice (his g all key.player) key.player) before ≡ true =
-      sym (his_steps g all key.player before)
-      ∙ all_own (choices_by g all) key.player before above chosen in
-      let play : Play =
-      record { steps = before ++ record { node = n; taken = k } ∷ rest; leaf = leaf } in
-      let relevant = any_has (λ p. comes_to (his g all key.player) key p.steps) (plays g.tree) play
-      there (comes_here (his g all key.player) key n k rest before at own) in
-      grind (arith, same_where_relevant)
-
-  pub alike_value : (player : ℕ) (value : Ratio) → IsValue g (choices_by g all) player g.tree value
-      → IsValue g (choices_by g others) player g.tree value
-  alike_value player value v =
-      value_too g (choices_by g all) (choices_by g others) player agree_where_chosen g.tree value []
-      (λ p i. i) refl v
+alike_value : (g : Game) (all others : List (List ℕ)) → AreReducedAlike g all others
+    → (player : ℕ) (value : Ratio) → IsValue g (choices_by g all) player g.tree value
+    → IsValue g (choices_by g others) player g.tree value
+alike_value g all others alike player value v =
+    value_too g (choices_by g all) (choices_by g others) player g.tree value
+    (equal_for g all others alike) v
 
 pub reduced_value : (g : Game) (player : ℕ) (p q : List ℕ) (value : Ratio)
     → Contains (full_profiles g) p → Contains (full_profiles g) q → reduced_by g p ≡ reduced_by g q

@@ -1,22 +1,21 @@
 -- The labels of first strategies, one after another, as they are come to choice by choice, and the
 -- text of each.
-use Rattle.gf_form.proofs.Common.{◌≡◌, ℕ, suc, ◌+◌, ◌-◌, ◌*◌, ◌/◌, ◌<◌, Bool, true, ◌≤◌, false}
-use Rattle.gf_form.proofs.Common.{List, [], ◌∷◌, ◌++◌, length, get_or, set, refl, sym, ap, subst}
-use Rattle.gf_form.proofs.Common.{◌∙◌, arith, ◌==◌, eqb-true, eqb-false, get_or-set_at}
-use Rattle.gf_form.proofs.Common.{get_or-set_other, length-set, length-append, take_more}
-use Rattle.gf_form.proofs.Common.{map-append, Game, IsGame, player_keys, reduced, reduced_label}
-use Rattle.gf_form.proofs.Common.{strategies, IsLevel, IsChosen, can_be_met, relevant_sets, shown}
-use Rattle.gf_form.proofs.Common.{AreInTurn, AreLabelledTo, AllByRecursion, IsElsewhere, IsKept}
-use Rattle.gf_form.proofs.Common.{IsLast, IsNextBelow, IsWritten, numbered, OwnDigit, Level, zero}
-use Rattle.gf_form.proofs.Common.{◌^◌, Option, Some, None, take, append_assoc, add-one}
-use Rattle.gf_form.proofs.Common.{if◌then◌else◌, take-append_seam, append-nil, all_both, IsPlain}
-use Rattle.gf_form.proofs.Common.{choice_text}
+use Rattle.gf_form.proofs.Common.{◌≡◌, map-append, strategies, can_be_met, IsNextBelow, choice_text}
+use Rattle.gf_form.proofs.Common.{ℕ, length, get_or, subst, IsGame, IsKept, IsLast, Option, IsPlain}
+use Rattle.gf_form.proofs.Common.{suc, ◌+◌, ◌-◌, ◌*◌, ◌/◌, ◌<◌, ◌≤◌, ◌∷◌, zero, Some, None, take}
+use Rattle.gf_form.proofs.Common.{Bool, true, List, [], ◌++◌, refl, arith, ◌==◌, Game, shown, Level}
+use Rattle.gf_form.proofs.Common.{false, length-append, reduced_label, relevant_sets, AreLabelledTo}
+use Rattle.gf_form.proofs.Common.{set, sym, ap, ◌∙◌, ◌^◌}
+use Rattle.gf_form.proofs.Common.{eqb-true, eqb-false, take_more, AreInTurn, IsWritten, append-nil}
+use Rattle.gf_form.proofs.Common.{get_or-set_at, get_or-set_other, AllByRecursion, take-append_seam}
+use Rattle.gf_form.proofs.Common.{length-set, player_keys, IsElsewhere, append_assoc, if◌then◌else◌}
+use Rattle.gf_form.proofs.Common.{reduced, IsLevel, IsChosen, numbered, OwnDigit, add-one, all_both}
 use Rattle.std.proofs.lemmas.List.{ext_get_or}
 use Rattle.gf_form.proofs.lemmas.strategies.CountedActions.{sets_counted, take_past}
 use Rattle.gf_form.proofs.lemmas.reduced.FirstStrategies.{flags_fit, reduced_shown_at}
 use Rattle.gf_form.proofs.lemmas.reduced.Searches.{left_all, long, chosen_there, next_choices}
 use Rattle.gf_form.proofs.lemmas.reduced.Searches.{next_end, next_told}
-use Rattle.gf_form.proofs.lemmas.strategies.StrategiesByNumber.{all_taken, plain_label}
+use Rattle.gf_form.proofs.lemmas.strategies.StrategiesByNumber.{all_at, all_taken, plain_label}
 use Rattle.gf_form.proofs.lemmas.strategies.StrategiesByNumber.{plain_number}
 
 -- ---- at a digit
@@ -60,13 +59,7 @@ module _ {g : Game} {player number count : ℕ} {d : OwnDigit} {faster : List Ow
   -- the choices before the digit stay as they are
   pub kept_more : (new : List ℕ) → IsKept faster (set now d.place (before + 1)) new
       → IsKept (d ∷ faster) strategy new
-  kept_more new same = record {
-    wide = same.wide ∙ wide;
-    same = λ place elsewhere.
-        same.same place elsewhere.1
-        ∙ get_or-set_other now d.place place (before + 1) 0 (λ q. elsewhere.0 (sym q))
-        ∙ kept.same place elsewhere;
-  }
+  kept_more new same = grind (arith, wide, get_or-set_other)
 
 -- ---- no digit left
 
@@ -88,17 +81,25 @@ last_written g game player strategy level number count below =
             (λ place among. below.chosen number place from to among tt);
         met = λ place among.
             below.told.tells number place from to (omega (arith, among, sets))
-            ∙ left_all (suc place) level;
+            ∙ left_all place level;
       },
       one,
     )
 
 -- ---- one label more
 
+in_turn_at : (numbers : List ℕ) (k : ℕ) → AreInTurn numbers → suc k < length numbers
+    → get_or numbers k 0 < get_or numbers (suc k) 0
+in_turn_at (n ∷ numbers) zero h less =
+    all_at (λ m. n < m) numbers 0 0 h.0 (omega (arith, less))
+in_turn_at (n ∷ numbers) (suc k) h less = in_turn_at numbers k h.1 (omega (arith, less))
+in_turn_at [] k h less = absurd (omega (arith, less))
+
 module _ (g : Game) (game : IsGame g) (player : ℕ) (strategy : List ℕ) (level : Level)
     (number : ℕ) (last : IsLast g player strategy level number) where
   pub label_is : (met : List Bool) → length met ≡ length level.known.items
-      → ((place : ℕ) → get_or met place false ≡ can_be_met (suc place) level)
+      → ((place : ℕ) → place < length level.known.items
+      → get_or met place false ≡ can_be_met place level)
       → reduced_label (shown met strategy)
       ≡ reduced_label (reduced g player (numbered g player number))
   label_is met counted marks =
@@ -106,12 +107,13 @@ module _ (g : Game) (game : IsGame g) (player : ℕ) (strategy : List ℕ) (leve
       ∙ ap reduced_label (sym (reduced_shown_at g game player number last.within))
     where
       wide : length met ≡ length strategy
-      wide = counted ∙ last.levelled.has.counted
+      wide = counted ∙ last.levelled.counted
 
       flags : met ≡ relevant_sets g player (numbered g player number)
       flags = ext_get_or false met (relevant_sets g player (numbered g player number))
           (wide ∙ ap length last.is ∙ sym (flags_fit g game player number last.within))
-          (λ place among. marks place ∙ sym (last.met place (omega (arith, among, wide))))
+          (λ place among. marks place (omega (arith, among, counted))
+          ∙ sym (last.met place (omega (arith, among, wide))))
 
 pub one_label_more : (g : Game) (player : ℕ) (numbers : List ℕ) (labels next : List (List ℕ))
     (label : List ℕ) (number : ℕ) → AreInTurn numbers → IsNextBelow numbers labels (number + 1)
@@ -129,7 +131,7 @@ one_label_more g player numbers labels next label number in_turn due labelled la
         take_more numbers (length labels) 0 due.0,
         map-append,
       );
-      next = λ less. grind (arith, more, is, in_turn (length labels));
+      next = λ less. grind (arith, more, is, in_turn_at numbers (length labels) in_turn);
     }
   where
     more : length next ≡ length labels + 1

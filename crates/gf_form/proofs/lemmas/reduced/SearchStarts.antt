@@ -1,20 +1,18 @@
 -- The digits of one player's sets, and his visits to these; a search for first strategies, and that
 -- for their labels, before the first choice; and what the player has at the end.
-use Rattle.gf_form.proofs.Common.{◌≡◌, ℕ, zero, suc, ◌+◌, ◌*◌, ◌^◌, ◌<◌, ◌≤◌, List, [], ◌∷◌, ◌++◌}
-use Rattle.gf_form.proofs.Common.{length, drop, get_or, arith, append_assoc, mul-le-mul, product}
-use Rattle.gf_form.proofs.Common.{steps_behind, width, ArePositive, digits_from, OwnDigit, ◌-◌}
-use Rattle.gf_form.proofs.Common.{Bool, true, refl, false, take, ◌==◌, sym, ◌∙◌, ap}
-use Rattle.gf_form.proofs.Common.{list_any-append, or-false, all_both, eqb-true, eqb-false, ne_eqb}
-use Rattle.gf_form.proofs.Common.{AreOwn, digit_at, is_met_on, Visit, ◌⊎◌, map, subst, inl, inr}
-use Rattle.gf_form.proofs.Common.{◌||◌, filter, AllByRecursion, cases_lt, IsPermutation}
-use Rattle.gf_form.proofs.Common.{list_any-IsPermutation, get_or-map, steps_to, slice_get-get_or}
-use Rattle.gf_form.proofs.Common.{drop-drop, steps_of, choices_at, picked, SetKey, player_keys}
-use Rattle.gf_form.proofs.Common.{Game, IsGame, is_relevant, reduced, reduced_label, reduced_labels}
-use Rattle.gf_form.proofs.Common.{action_counts, all_choices, choice_at, strategies, AreFirstsOf}
-use Rattle.gf_form.proofs.Common.{IsLevel, is_left, FindRelevance, AreFoundTo, AreLabelledTo}
-use Rattle.gf_form.proofs.Common.{HaveChoices, IsElsewhere, IsFine, IsSearched, IsWritten}
-use Rattle.gf_form.proofs.Common.{is_relevant_at, numbered, is_first, is_met, actions_of}
-use Rattle.gf_form.proofs.Common.{mul-le-mul_right, Level, map_twice}
+use Rattle.gf_form.proofs.Common.{◌≡◌, AreOwn, subst, picked, SetKey, IsGame, IsFine, is_met, Level}
+use Rattle.gf_form.proofs.Common.{ℕ, ◌+◌, ◌*◌, ◌^◌, ◌<◌, ◌≤◌, [], ◌∷◌, sym, ◌∙◌, ap, map}
+use Rattle.gf_form.proofs.Common.{zero, length, get_or, ne_eqb, reduced, IsLevel, is_left, numbered}
+use Rattle.gf_form.proofs.Common.{suc, List, ◌++◌, drop, Bool, true, refl, take, ◌==◌, ◌||◌, Game}
+use Rattle.gf_form.proofs.Common.{arith, list_any-IsPermutation, slice_get-get_or, mul-le-mul_right}
+use Rattle.gf_form.proofs.Common.{append_assoc, steps_behind, ArePositive, digits_from, player_keys}
+use Rattle.gf_form.proofs.Common.{mul-le-mul, false, get_or-map, choices_at, strategies, AreFoundTo}
+use Rattle.gf_form.proofs.Common.{product, eqb-false, is_met_on, IsSearched, actions_of, first_uses}
+use Rattle.gf_form.proofs.Common.{width, IsPermutation, action_counts, FindRelevance, AreLabelledTo}
+use Rattle.gf_form.proofs.Common.{OwnDigit, drop-drop, choice_at, IsWritten, pointwise, map_twice}
+use Rattle.gf_form.proofs.Common.{list_any-append, AllByRecursion, reduced_labels, is_relevant_at}
+use Rattle.gf_form.proofs.Common.{or-false, eqb-true, digit_at, Visit, cases_lt, steps_to, steps_of}
+use Rattle.gf_form.proofs.Common.{is_relevant, AreFirstsOf, HaveChoices, IsElsewhere, same_choice}
 use Rattle.gf_form.proofs.lemmas.rows.DigitPlaces.{steps_long, width_positive}
 use Rattle.gf_form.proofs.lemmas.rows.DigitsMade.{next_is}
 use Rattle.std.proofs.lemmas.List.Folds.{list_any_more}
@@ -27,7 +25,7 @@ use Rattle.gf_form.proofs.lemmas.strategies.Choices.{length-all_choices}
 use Rattle.gf_form.proofs.lemmas.strategies.CountedActions.{actions_positive, sets_counted}
 use Rattle.gf_form.proofs.lemmas.strategies.CountedActions.{take_past}
 use Rattle.gf_form.proofs.lemmas.strategies.StrategiesByNumber.{all_at}
-use Rattle.gf_form.proofs.lemmas.reduced.FirstStrategies.{choice_length, reduced_strategies_are}
+use Rattle.gf_form.proofs.lemmas.reduced.FirstStrategies.{choice_length}
 
 -- with more than one action, one more is at most the square
 width_square : (counts : List ℕ) → ArePositive counts
@@ -51,9 +49,7 @@ width_square (suc (suc n) ∷ counts) h =
 
 pub width_fits : (counts : List ℕ) → ArePositive counts → product counts < 2 ^ 32
     → width counts < 2 ^ 64
-width_fits counts h few =
-    let le : product counts ≤ 4294967295 = omega (arith, few) in
-    omega (arith, width_square counts h, mul-le-mul le le)
+width_fits counts h few = grind (arith, width_square, mul-le-mul)
 
 -- the step of the first set
 step_first : (n : ℕ) (later : List ℕ) → 1 < n
@@ -120,53 +116,41 @@ module _ (digits : List OwnDigit) (counts : List ℕ) (are : digits ≡ digits_f
   here = get_or visits i no_visit
 
   -- to a set without a digit
-  pub passed : 1 ≤ here.set
-      → ((k : ℕ) → k < length digits → ¬ ((digit_at digits k).place ≡ here.set - 1))
+  pub passed : ((k : ℕ) → k < length digits → ¬ ((digit_at digits k).place ≡ here.set))
       → AreOwn digits (take (i + 1) visits) own
-  passed some elsewhere = record {
-    within = before.within;
-    same = λ j steps choices inside.
-        let other : (here.set == suc (digit_at digits j).place) ≡ false =
-        ne_eqb _ _ (λ e. elsewhere j inside (omega (arith, e))) in
-        grind (
-          arith,
-          before.same j steps choices inside,
-          list_any_more (is_met_on (suc (digit_at digits j).place) steps choices) visits i no_visit
-              less,
-          or-false,
-          other,
-        );
-  }
+  passed elsewhere j steps choices inside =
+      let other : (here.set == (digit_at digits j).place) ≡ false =
+      ne_eqb _ _ (λ e. elsewhere j inside (sym e)) in
+      grind (
+        arith,
+        before j steps choices inside,
+        list_any_more (is_met_on (digit_at digits j).place steps choices) visits i no_visit less,
+        or-false,
+      )
 
   -- to the set of a digit
-  pub added : (k : ℕ) (next : List Visit) → 1 ≤ here.set → k < length digits
-      → (digit_at digits k).place ≡ here.set - 1
-      → next ≡ own ++ record { demands = here.demands; set = k + 1 } ∷ []
+  pub added : (k : ℕ) (next : List Visit) → k < length digits
+      → (digit_at digits k).place ≡ here.set
+      → next ≡ own ++ record { demands = here.demands; set = k } ∷ []
       → AreOwn digits (take (i + 1) visits) next
-  added k next some there place_is next_is = record {
-    within = grind (arith, all_both, before.within);
-    same = λ j steps choices inside.
-        grind (
-          arith,
-          before.same j steps choices inside,
-          list_any_more (is_met_on (suc (digit_at digits j).place) steps choices) visits i no_visit
-              less,
-          list_any-append,
-          or-false,
-          same_set j inside (j == k) refl,
-        );
-  }
+  added k next there place_is next_is j steps choices inside =
+      grind (
+        arith,
+        before j steps choices inside,
+        list_any_more (is_met_on (digit_at digits j).place steps choices) visits i no_visit less,
+        list_any-append,
+        or-false,
+        same_set (j == k) refl,
+      )
     where
-      same_set : (j : ℕ) → j < length digits → (b : Bool) → (j == k) ≡ b
-          → (k + 1 == suc j) ≡ (here.set == suc (digit_at digits j).place)
-      same_set j inside true e = grind (arith, eqb-true)
-      same_set j inside false e =
+      same_set : (b : Bool) → (j == k) ≡ b → (k == j) ≡ (here.set == (digit_at digits j).place)
+      same_set true e = grind (arith, eqb-true)
+      same_set false e =
           let other : ¬ (j ≡ k) = eqb-false j k e in
           let apart : ¬ ((digit_at digits j).place ≡ (digit_at digits k).place) =
           λ q. other (one_digit 0 counts j k (rw are at inside) (rw are at there) (rw are at q)) in
-          ne_eqb (k + 1) (suc j) (λ q. other (omega (arith, q)))
-          ∙ sym (ne_eqb here.set (suc (digit_at digits j).place)
-          (λ q. apart (omega (arith, q, place_is))))
+          ne_eqb k j (λ q. other (sym q))
+          ∙ sym (ne_eqb here.set (digit_at digits j).place (λ q. apart (sym (place_is ∙ q))))
 
 -- ---- what the digits are together
 
@@ -264,48 +248,44 @@ module _ (g : Game) (game : IsGame g) (player : ℕ) (digits : List OwnDigit)
   pub all_choices_had : whole ≡ product counts → whole < 2 ^ 32
       → HaveChoices g player digits 0 whole
   all_choices_had whole_is few =
-      let positive = actions_positive g game player in
-      let long = length-all_choices counts in record {
-        fine = rw are (digits_fine 0 counts positive
-            (width_fits counts positive (omega (arith, few, whole_is))));
-        counted = whole_is ∙ sym (product_picked counts positive) ∙ ap product (sym actions_are);
-        end = omega (arith, whole_is, long);
-        few = omega (arith, few, whole_is, long);
-        chosen = λ k n is less.
-            let same : n ≡ k = omega (arith, is) in
-            let within : k < product counts = omega (arith, less, whole_is) in
-            rw same (choices_are k within ∙ sym (picked_at counts k positive within)
-            ∙ ap (λ (actions : List ℕ). get_or (all_choices actions) k []) (sym actions_are));
-      }
+      grind (
+        arith,
+        actions_positive,
+        length-all_choices,
+        digits_fine,
+        width_fits,
+        product_picked,
+        actions_are,
+        choices_are,
+        picked_at,
+      )
 
   module _ (choices : HaveChoices g player digits 0 whole) where
     pub whole_counted : whole ≡ product counts
-    whole_counted =
-        choices.counted ∙ ap product actions_are
-        ∙ product_picked counts (actions_positive g game player)
+    whole_counted = grind (arith, actions_are, product_picked, actions_positive)
 
     module _ (visits : List Visit) (find : FindRelevance g player visits) (level : Level)
         (unknown : (place : ℕ) → get_or level.known.items place false ≡ false) where
       -- A set is relevant if some visit to it comes about. The level has these visits, to other
-      -- positions.
+      -- places.
       told_by : (own : List Visit) → IsPermutation own level.visits.items → (n place q : ℕ)
           → n < 0 + whole → place < length keys
-          → is_met (suc q) (steps_to digits) (choices_at g player digits n) own
-          ≡ is_met (suc place) (steps_to digits) (choices_at g player digits n) visits
+          → is_met q (steps_to digits) (choices_at g player digits n) own
+          ≡ is_met place (steps_to digits) (choices_at g player digits n) visits
           → is_relevant_at g player n place
-          ≡ is_left (suc q) (steps_to digits) (choices_at g player digits n) level
+          ≡ is_left q (steps_to digits) (choices_at g player digits n) level
       told_by own order n place q to among same =
           let within : n < product counts = omega (arith, to, whole_counted) in
           let steps_are : steps_to digits ≡ steps_of (picked counts counts) =
           rw are (steps_from 0 counts) in
           get_or-map (is_relevant g (choice_at keys (numbered g player n))) keys place no_key false
           among
-          ∙ find.relevant (numbered g player n) (suc place) (get_or keys place no_key)
+          ∙ find.relevant (numbered g player n) place (get_or keys place no_key)
           (choice_at_number counts n within) (slice_get-get_or keys place no_key among)
-          ∙ (λ i. is_met (suc place) (sym steps_are i) (sym (choices_are n within) i) visits)
+          ∙ (λ i. is_met place (sym steps_are i) (sym (choices_are n within) i) visits)
           ∙ sym same
-          ∙ (λ i. sym (unknown (suc q - 1)) i || list_any-IsPermutation
-          (is_met_on (suc q) (steps_to digits) (choices_at g player digits n)) own
+          ∙ (λ i. sym (unknown q) i || list_any-IsPermutation
+          (is_met_on q (steps_to digits) (choices_at g player digits n)) own
           level.visits.items order i)
 
       pub searched_all : (own : List Visit) → AreOwn digits visits own
@@ -322,7 +302,7 @@ module _ (g : Game) (game : IsGame g) (player : ℕ) (digits : List OwnDigit)
               let inside = place_inside g game player digits are j among in
               let relevant = told_by own order n (digit_at digits j).place j to
               (omega (arith, inside, sets_counted g player))
-              (own_are.same j (steps_to digits) (choices_at g player digits n) among) in
+              (own_are j (steps_to digits) (choices_at g player digits n) among) in
               grind (arith, nat_tests, relevant);
         };
       }
@@ -350,11 +330,7 @@ module _ (g : Game) (game : IsGame g) (player : ℕ) (digits : List OwnDigit)
 
 pub none_found_yet : (g : Game) (player : ℕ) (numbers : List ℕ) → numbers ≡ []
     → AreFoundTo g player numbers 0
-none_found_yet g player numbers none = rw none (record {
-  are = refl;
-  within = tt;
-  ordered = λ k less. absurd (omega (arith, less));
-})
+none_found_yet g player numbers none = grind arith
 
 pub none_labelled_yet : (g : Game) (player : ℕ) (numbers : List ℕ) (labels : List (List ℕ))
     (number : ℕ) → labels ≡ []
@@ -376,28 +352,13 @@ module _ (g : Game) (game : IsGame g) (player : ℕ) (numbers : List ℕ) (whole
 
   pub firsts_are : AreFirstsOf g numbers player
   firsts_are = (
-    sym (map_twice (reduced g player) (numbered g player) numbers)
-        ∙ ap (map (reduced g player)) (found.are
-        ∙ ap (filter (is_first g player)) (take_past whole each_of (omega (arith, past))))
-        ∙ sym (reduced_strategies_are g game player),
+    found.are
+        ∙ ap (λ (all : List (List ℕ)). first_uses (pointwise same_choice)
+        (map (reduced g player) all)) (take_past whole each_of (omega (arith, past))),
     subst (λ (n : ℕ). AllByRecursion (λ number. number < n) numbers) past found.within,
   )
 
   -- each of the numbers has a label
   pub labels_are : (labels : List (List ℕ)) → AreLabelledTo g player numbers labels whole
       → labels ≡ reduced_labels g player
-  labels_are labels labelled = by (cases_lt (length labels) (length numbers))
-    where
-      by : (length labels < length numbers) ⊎ (length numbers ≤ length labels)
-          → labels ≡ reduced_labels g player
-      by (inl less) = absurd (omega (
-        arith,
-        labelled.next less,
-        all_at (λ number. number < whole) numbers (length labels) 0 found.within less,
-      ))
-      by (inr enough) =
-          labelled.are
-          ∙ ap (map (λ n. reduced_label (reduced g player (numbered g player n))))
-          (take_past (length labels) numbers enough)
-          ∙ sym (map_twice reduced_label (λ n. reduced g player (numbered g player n)) numbers)
-          ∙ ap (map reduced_label) firsts_are.0
+  labels_are labels labelled = grind (arith, cases_lt, all_at, take_past, map_twice, firsts_are)

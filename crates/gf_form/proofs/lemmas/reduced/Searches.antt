@@ -1,22 +1,18 @@
 -- A search for first strategies, choice by choice: what is below the choices so far, and what it
 -- finds where it goes no further.
-use Rattle.gf_form.proofs.Common.{◌≡◌, ℕ, zero, suc, ◌+◌, ◌<◌, ◌≤◌, Bool, true, false, List, []}
-use Rattle.gf_form.proofs.Common.{◌∷◌, ◌++◌, ◌⊎◌, inl, inr, length, get_or, take, refl, ap, sym}
-use Rattle.gf_form.proofs.Common.{subst, ◌∙◌, add-one, arith, ◌==◌, ◌||◌, filter, AllByRecursion}
-use Rattle.gf_form.proofs.Common.{take-suc, and_from, and_parts, eq-eqb, append-nil, map-append}
-use Rattle.gf_form.proofs.Common.{filter-append, all_both, chooses_first, cases_lt, length-append}
-use Rattle.gf_form.proofs.Common.{get_or_append_left, HaveNumbers, ◌-◌, ◌*◌, ◌/◌, ◌^◌, drop, ◌&&◌}
-use Rattle.gf_form.proofs.Common.{drop-drop, length-drop, div-lt_iff_lt-mul, mul-div_cancel_left}
-use Rattle.gf_form.proofs.Common.{mul-le-mul_right, product, Game, all_choices, IsFine, steps_to}
-use Rattle.gf_form.proofs.Common.{IsChosen, ArePositive, IsLevel, is_left, OwnDigit, choices_at}
-use Rattle.gf_form.proofs.Common.{Level, HaveChoices, IsChosenAt, IsSearched, IsToldBy, actions_of}
-use Rattle.gf_form.proofs.Common.{digit_at, is_relevant_at, is_settled, numbered, if◌then◌else◌}
-use Rattle.gf_form.proofs.Common.{list_any, is_first, false_from_ne_true, length-map, player_keys}
-use Rattle.gf_form.proofs.Common.{IsGame, action_counts, choice_at, strategies, is_relevant}
-use Rattle.gf_form.proofs.Common.{can_be_met, digits_from, AreFoundTo, AreFirstBelow, relevant_sets}
-use Rattle.gf_form.proofs.Common.{is_met, Visit}
-use Rattle.std.proofs.lemmas.List.{get_or_push, get_or-drop}
-use Rattle.gf_form.proofs.lemmas.strategies.StrategiesByNumber.{all_at, choices_next, choices_row}
+use Rattle.gf_form.proofs.Common.{◌≡◌, AllByRecursion, is_relevant_at, if◌then◌else◌, action_counts}
+use Rattle.gf_form.proofs.Common.{ℕ, suc, ◌+◌, ◌<◌, ◌≤◌, ◌∷◌, ◌⊎◌, inl, inr, sym, drop, ◌&&◌, Game}
+use Rattle.gf_form.proofs.Common.{zero, Bool, true, List, refl, ap, arith, ◌==◌, ◌||◌, Level, Visit}
+use Rattle.gf_form.proofs.Common.{false, IsSearched, actions_of, is_settled, length-map, strategies}
+use Rattle.gf_form.proofs.Common.{[], choices_at, IsChosenAt, player_keys, is_relevant, digits_from}
+use Rattle.gf_form.proofs.Common.{length, get_or, IsFine, IsLevel, is_left, IsFirst, IsGame, is_met}
+use Rattle.gf_form.proofs.Common.{subst, IsChosen, OwnDigit, IsToldBy, digit_at, numbered, list_any}
+use Rattle.gf_form.proofs.Common.{◌∙◌, ◌-◌, ◌*◌, ◌/◌, ◌^◌}
+use Rattle.gf_form.proofs.Common.{cases_lt, drop-drop, steps_to, choice_at, can_be_met, AreFoundTo}
+use Rattle.gf_form.proofs.Common.{length-drop, all_choices, ArePositive, HaveChoices, AreFirstBelow}
+use Rattle.gf_form.proofs.Common.{div-lt_iff_lt-mul, mul-div_cancel_left, mul-le-mul_right, product}
+use Rattle.std.proofs.lemmas.List.{get_or-drop}
+use Rattle.gf_form.proofs.lemmas.strategies.StrategiesByNumber.{choices_next, choices_row}
 use Rattle.gf_form.proofs.lemmas.strategies.StrategiesByNumber.{positive_parts}
 use Rattle.std.specs.Prelude.{nat_lt}
 use Rattle.std.proofs.lemmas.Bool.Decides.{nat_tests}
@@ -24,88 +20,8 @@ use Rattle.gf_form.proofs.lemmas.rows.DigitChoices.{choice_at_number}
 use Rattle.gf_form.proofs.lemmas.strategies.ActionCounts.{choice_at as action_within}
 use Rattle.gf_form.proofs.lemmas.strategies.Choices.{length-all_choices}
 use Rattle.gf_form.proofs.lemmas.strategies.CountedActions.{sets_counted}
-use Rattle.gf_form.proofs.lemmas.reduced.FirstStrategies.{flags_fit}
-
--- ---- by flags
-
--- the first action is chosen if it is chosen wherever the flag is not set
-pub chooses_all : (flags : List Bool) (s : List ℕ)
-    → ((k : ℕ) → k < length s → get_or flags k false ≡ false → get_or s k 0 ≡ 1)
-    → chooses_first flags s ≡ true
-chooses_all [] s h = refl
-chooses_all (flag ∷ flags) [] h = refl
-chooses_all (true ∷ flags) (a ∷ s) h =
-    chooses_all flags s (λ k less. h (suc k) (omega (arith, less)))
-chooses_all (false ∷ flags) (a ∷ s) h =
-    and_from (a == 1) (chooses_first flags s) (eq-eqb a 1 (h 0 (omega arith) refl))
-    (chooses_all flags s (λ k less. h (suc k) (omega (arith, less))))
-
-pub first_where : (flags : List Bool) (s : List ℕ) (k : ℕ) → length s ≡ length flags
-    → chooses_first flags s ≡ true → k < length flags → get_or flags k false ≡ false
-    → get_or s k 0 ≡ 1
-first_where [] s k es h less f = absurd (omega (arith, less))
-first_where (flag ∷ flags) [] k es h less f = absurd (omega (arith, es))
-first_where (flag ∷ flags) (a ∷ s) zero es h less f = grind arith
-first_where (flag ∷ flags) (a ∷ s) (suc k) es h less f =
-    first_where flags s k (omega (arith, es))
-    (and_parts (flag || a == 1) (chooses_first flags s) h).1 (omega (arith, less)) f
-
--- ---- numbers
-
-module _ {A : Type 0} (test : A → Bool) (all : List A) (d : A) (i : ℕ) (less : i < length all) where
-  next_item : filter test (take (i + 1) all)
-      ≡ filter test (take i all) ++ filter test (get_or all i d ∷ [])
-  next_item = ap (λ (n : ℕ). filter test (take n all)) (add-one i)
-      ∙ ap (filter test) (take-suc all i d less)
-      ∙ filter-append test (take i all) (get_or all i d ∷ [])
-
-  wider : (numbers : List ℕ) → AllByRecursion (λ number. number < i) numbers
-      → AllByRecursion (λ number. number < i + 1) numbers
-  wider [] h = tt
-  wider (n ∷ numbers) h = (omega (arith, h.0), wider numbers h.1)
-
-  pub first_kept : (numbers next : List ℕ) → HaveNumbers test all d numbers i
-      → test (get_or all i d) ≡ true → next ≡ numbers ++ i ∷ []
-      → HaveNumbers test all d next (i + 1)
-  first_kept numbers next h passes is = record {
-    are = grind (arith, map-append, next_item, h.are);
-    within = grind (arith, all_both, wider, h.within);
-    ordered = λ k before. in_turn k (cases_lt (suc k) (length numbers)) before;
-  }
-    where
-      in_turn : (k : ℕ) → (suc k < length numbers) ⊎ (length numbers ≤ suc k)
-          → suc k < length next → get_or next k 0 < get_or next (suc k) 0
-      in_turn k (inl early) before =
-          grind (arith, get_or_append_left, h.ordered k early)
-      in_turn k (inr late) before =
-          let at : suc k ≡ length numbers =
-          omega (arith, late, before, ap length is, length-append numbers (i ∷ [])) in
-          omega (
-            arith,
-            ap (λ ns. get_or ns (suc k) 0) is,
-            get_or_push numbers i 0 (suc k) (sym at),
-            ap (λ ns. get_or ns k 0) is,
-            get_or_append_left numbers (i ∷ []) 0 k (omega (arith, at)),
-            all_at (λ number. number < i) numbers k 0 h.within (omega (arith, at)),
-          )
-
-  pub first_left : (numbers : List ℕ) → HaveNumbers test all d numbers i
-      → test (get_or all i d) ≡ false → HaveNumbers test all d numbers (i + 1)
-  first_left numbers h fails = grind (arith, append-nil, next_item, wider)
-
--- items that do not pass are left out
-pub passed_by : {A : Type 0} (test : A → Bool) (all : List A) (d : A) (numbers : List ℕ) (i m : ℕ)
-    → HaveNumbers test all d numbers i → i + m ≤ length all
-    → ((k : ℕ) → k < m → test (get_or all (i + k) d) ≡ false)
-    → HaveNumbers test all d numbers (i + m)
-passed_by test all d numbers i zero h within fails = grind arith
-passed_by test all d numbers i (suc m) h within fails =
-    let next : i + m + 1 ≡ i + suc m = omega arith in
-    subst (HaveNumbers test all d numbers) next
-    (first_left test all d (i + m) (omega (arith, within)) numbers
-    (passed_by test all d numbers i m h (omega (arith, within))
-    (λ k less. fails k (omega (arith, less))))
-    (fails m (omega arith)))
+use Rattle.gf_form.proofs.lemmas.reduced.FirstStrategies.{IsRepeated, flags_fit, passed_by}
+use Rattle.gf_form.proofs.lemmas.reduced.FirstStrategies.{repeated}
 
 -- after those with the first action at the first digit, another one is chosen there
 other_action : (n : ℕ) (counts : List ℕ) (k : ℕ) → product counts ≤ k → k < n * product counts
@@ -131,9 +47,7 @@ module _ {g : Game} {player number count : ℕ} {d : OwnDigit} {faster : List Ow
   some_actions = h.fine.0.actions
 
   each_is : each ≡ product (actions_of faster)
-  each_is =
-      ap (λ (n : ℕ). n / d.actions) h.counted
-      ∙ mul-div_cancel_left (product (actions_of faster)) some_actions
+  each_is = grind (arith, mul-div_cancel_left, some_actions)
 
   rows_are : d.actions * each ≡ count
   rows_are = rw each_is (sym h.counted)
@@ -156,9 +70,7 @@ module _ {g : Game} {player number count : ℕ} {d : OwnDigit} {faster : List Ow
 
   module _ (before : ℕ) (less : before < d.actions) where
     row_end : before * each + each ≤ count
-    row_end =
-        let le : suc before ≤ d.actions = omega (arith, less) in
-        omega (arith, rows_are, mul-le-mul_right each le)
+    row_end = grind (arith, rows_are, mul-le-mul_right)
 
     pub next_end : number + before * each + each ≤ number + count
     next_end = omega (arith, row_end)
@@ -194,38 +106,21 @@ module _ {g : Game} {player number count : ℕ} {d : OwnDigit} {faster : List Ow
         (told : IsToldBy g player (d ∷ faster) flag places level number count)
         (levelled : IsLevel places left) where
       told_there : (n place : ℕ) → number + before * each ≤ n → n < number + before * each + each
-          → place < places → flag n place ≡ is_left (suc place) (d.step ∷ steps_to faster)
+          → place < places → flag n place ≡ is_left place (d.step ∷ steps_to faster)
           ((before + 1) ∷ choices_at g player faster n) level
-      told_there n place from to among =
-          told.tells n place (omega (arith, from)) (omega (arith, to, next_end)) among
-          ∙ ap (λ (a : ℕ). is_left (suc place) (d.step ∷ steps_to faster)
-          (a ∷ choices_at g player faster n) level) (chosen_there n from to)
+      told_there n place from to among = grind (arith, next_end, chosen_there)
 
       pub next_told : IsChosen d.step (before + 1) level left
           → IsToldBy g player faster flag places left (number + before * each) each
-      next_told is_chosen = record {
-        levelled = levelled;
-        tells = λ n place from to among.
-            told_there n place from to among
-            ∙ sym (is_chosen (suc place) (steps_to faster) (choices_at g player faster n)
-            (omega arith) (steps_positive faster h.fine.1));
-      }
+      next_told is_chosen = grind (arith, told_there, steps_positive)
 
       -- with other flags, which are set at one more place, if the first action is chosen
       pub next_told_at : (other : ℕ) (next : ℕ → ℕ → Bool)
           → IsChosenAt other d.step (before + 1) level left
           → ((n place : ℕ) → number + before * each ≤ n → n < number + before * each + each
-          → next n place ≡ (flag n place || (before + 1 == 1 && suc place == suc other)))
+          → next n place ≡ (flag n place || (before + 1 == 1 && place == other)))
           → IsToldBy g player faster next places left (number + before * each) each
-      next_told_at other next is_chosen more = record {
-        levelled = levelled;
-        tells = λ n place from to among.
-            more n place from to
-            ∙ ap (λ b. b || (before + 1 == 1 && suc place == suc other))
-            (told_there n place from to among)
-            ∙ sym (is_chosen (suc place) (steps_to faster) (choices_at g player faster n)
-            (omega arith) (steps_positive faster h.fine.1));
-      }
+      next_told_at other next is_chosen more = grind (arith, told_there, steps_positive)
 
 -- ---- the digit at a depth
 
@@ -253,7 +148,7 @@ no_digits (d ∷ digits) e = absurd (omega (arith, e))
 
 settled_more : (r : Bool) (a j depth before : ℕ) → (j ≡ depth → a ≡ before + 1)
     → (r || (nat_lt j (depth + 1) && a == 1))
-    ≡ ((r || (nat_lt j depth && a == 1)) || (before + 1 == 1 && suc j == suc depth))
+    ≡ ((r || (nat_lt j depth && a == 1)) || (before + 1 == 1 && j == depth))
 settled_more r a j depth before same = grind (arith, nat_tests)
 
 pub next_searched : {g : Game} {player number count depth : ℕ} {all faster : List OwnDigit}
@@ -281,28 +176,26 @@ next_searched {g} {player} {number} {count} {depth} {all} {faster} {level} {d} b
 
 -- ---- sets that can be met
 
-unmet_by : (position : ℕ) (steps choices : List ℕ) (visits : List Visit)
-    → list_any (λ (v : Visit). v.set == position) visits ≡ false
-    → is_met position steps choices visits ≡ false
-unmet_by position steps choices [] e = refl
-unmet_by position steps choices (v ∷ visits) e =
-    grind (arith, unmet_by position steps choices visits)
+unmet_by : (place : ℕ) (steps choices : List ℕ) (visits : List Visit)
+    → list_any (λ (v : Visit). v.set == place) visits ≡ false
+    → is_met place steps choices visits ≡ false
+unmet_by place steps choices [] e = refl
+unmet_by place steps choices (v ∷ visits) e =
+    grind (arith, unmet_by place steps choices visits)
 
-unmet_left : (position : ℕ) (steps choices : List ℕ) (level : Level)
-    → can_be_met position level ≡ false → is_left position steps choices level ≡ false
-unmet_left position steps choices level e = grind (arith, unmet_by)
+unmet_left : (place : ℕ) (steps choices : List ℕ) (level : Level)
+    → can_be_met place level ≡ false → is_left place steps choices level ≡ false
+unmet_left place steps choices level e = grind (arith, unmet_by)
 
 -- with no digit left, each visit comes about
-met_all : (position : ℕ) (visits : List Visit) → is_met position [] [] visits
-    ≡ list_any (λ (v : Visit). v.set == position) visits
-met_all position [] = refl
-met_all position (v ∷ visits) = grind (arith, met_all position visits)
+met_all : (place : ℕ) (visits : List Visit) → is_met place [] [] visits
+    ≡ list_any (λ (v : Visit). v.set == place) visits
+met_all place [] = refl
+met_all place (v ∷ visits) = grind (arith, met_all place visits)
 
-pub left_all : (position : ℕ) (level : Level)
-    → is_left position [] [] level ≡ can_be_met position level
-left_all position level =
-    ap (λ b. get_or level.known.items (position - 1) false || b)
-    (met_all position level.visits.items)
+pub left_all : (place : ℕ) (level : Level) → is_left place [] [] level ≡ can_be_met place level
+left_all place level =
+    ap (λ b. get_or level.known.items place false || b) (met_all place level.visits.items)
 
 -- ---- digits
 
@@ -355,18 +248,7 @@ module _ (g : Game) (game : IsGame g) (player : ℕ) where
   pub alone : (n q : ℕ) → n < length all → q < length counts → get_or counts q 0 ≤ 1
       → get_or (numbered g player n) q 0 ≡ 1
   alone n q within among one =
-      let bounds = action_within (numbered g player n) counts q
-      (choice_at_number counts n (omega (arith, within, length-all_choices counts)))
-      (omega (arith, long n within, among)) in
-      omega (arith, bounds.0, bounds.1, one)
-
-  not_first : (n q : ℕ) → n < length all → q < length counts
-      → is_relevant_at g player n q ≡ false → ¬ (get_or (numbered g player n) q 0 ≡ 1)
-      → is_first g player (numbered g player n) ≡ false
-  not_first n q within among flag other = false_from_ne_true _ (λ first.
-      other (first_where (relevant_sets g player (numbered g player n)) (numbered g player n) q
-      (sym (flags_fit g game player n within)) first
-      (omega (arith, among, long n within, flags_fit g game player n within)) flag))
+      grind (arith, action_within, choice_at_number, length-all_choices, long)
 
   module _ (digits : List OwnDigit) (are : digits ≡ digits_from 0 counts) where
     pub place_inside : (j : ℕ) → j < length digits → (digit_at digits j).place < length counts
@@ -375,25 +257,20 @@ module _ (g : Game) (game : IsGame g) (player : ℕ) where
 
     settled_first : (depth n : ℕ) → n < length all
         → ((j : ℕ) → j < length digits → is_settled g player digits depth n j ≡ true)
-        → is_first g player (numbered g player n) ≡ true
-    settled_first depth n within settled =
-        chooses_all (relevant_sets g player (numbered g player n)) (numbered g player n)
-        (λ q less unset. by q (omega (arith, less, long n within)) unset
-        (cases_lt 1 (get_or counts q 0)))
+        → IsFirst g player n
+    settled_first depth n within settled q less unset = by (cases_lt 1 (get_or counts q 0))
       where
-        by : (q : ℕ) → q < length counts → is_relevant_at g player n q ≡ false
-            → (1 < get_or counts q 0) ⊎ (get_or counts q 0 ≤ 1)
+        by : (1 < get_or counts q 0) ⊎ (get_or counts q 0 ≤ 1)
             → get_or (numbered g player n) q 0 ≡ 1
-        by q less unset (inr one) = alone n q within less one
-        by q less unset (inl several) =
+        by (inr one) = alone n q within less one
+        by (inl several) =
             let d = rw (sym are) at (digit_there 0 counts q less several) in
             grind (arith, settled d.0 d.1, d.2, unset)
 
     unsettled : (depth n j : ℕ) → n < length all → j < length digits
-        → is_settled g player digits depth n j ≡ false → j < depth
-        → is_first g player (numbered g player n) ≡ false
+        → is_settled g player digits depth n j ≡ false → j < depth → IsRepeated g game player n
     unsettled depth n j within less flag early =
-        not_first n (digit_at digits j).place within (place_inside j less)
+        repeated g game player n (digit_at digits j).place within (place_inside j less)
         (grind (arith, flag)) (grind (arith, nat_tests, flag))
 
     module _ (left : List OwnDigit) (level : Level) (depth number count : ℕ)
@@ -407,26 +284,26 @@ module _ (g : Game) (game : IsGame g) (player : ℕ) where
       known_firsts known n from to =
           settled_first depth n (within_all n to)
           (λ j early. below.told.tells n j from to early
-          ∙ grind (arith, known j, below.told.levelled.has.counted))
+          ∙ grind (arith, known j, below.told.levelled.counted))
 
       module _ (met : List Bool)
-          (marks : (place : ℕ) → get_or met place false ≡ can_be_met (suc place) level) where
+          (marks : (place : ℕ) → place < length level.known.items
+          → get_or met place false ≡ can_be_met place level) where
         unmet_flag : (n j : ℕ) → number ≤ n → n < number + count → j < length digits
             → get_or met j false ≡ false → is_settled g player digits depth n j ≡ false
         unmet_flag n j from to among unmet =
             below.told.tells n j from to among
-            ∙ unmet_left (suc j) _ _ level (sym (marks j) ∙ unmet)
+            ∙ unmet_left j _ _ level
+            (sym (marks j (omega (arith, among, below.told.levelled.counted))) ∙ unmet)
 
         -- none is found if a set cannot be met at which a digit is chosen
         pub none_found : (j : ℕ) → j < depth → get_or met j false ≡ false → (numbers : List ℕ)
             → AreFoundTo g player numbers number → AreFoundTo g player numbers (number + count)
         none_found j early unmet numbers found =
             let among : j < length digits = omega (arith, early, below.deep) in
-            passed_by (is_first g player) all [] numbers number count found below.choices.end
-            (λ k less.
-            let to : number + k < number + count = omega (arith, less) in
-            unsettled depth (number + k) j (within_all (number + k) to) among
-            (unmet_flag (number + k) j (omega arith) to among unmet) early)
+            passed_by g game player numbers number count found below.choices.end
+            (λ n from to. unsettled depth n j (within_all n to) among
+            (unmet_flag n j from to among unmet) early)
 
         -- if no digit is left, and all sets are met, the only one is found
         pub last_firsts : left ≡ [] → ((k : ℕ) → k < depth → get_or met k false ≡ true)
@@ -437,14 +314,17 @@ module _ (g : Game) (game : IsGame g) (player : ℕ) where
             settled_first depth n (within_all n to)
             (λ j early. below.told.tells n j from to early
             ∙ ap (λ (ds : List OwnDigit).
-            is_left (suc j) (steps_to ds) (choices_at g player ds n) level) none
-            ∙ left_all (suc j) level ∙ sym (marks j) ∙ all_met j (omega (arith, early, end)))
+            is_left j (steps_to ds) (choices_at g player ds n) level) none
+            ∙ left_all j level
+            ∙ sym (marks j (omega (arith, early, below.told.levelled.counted)))
+            ∙ all_met j (omega (arith, early, end)))
 
     -- all are found if only the first action was tried at a digit whose set cannot be met
     pub all_found : (d : OwnDigit) (faster : List OwnDigit) (level : Level)
         (depth number count tried : ℕ)
         → IsSearched g player digits (d ∷ faster) level depth number count → (met : List Bool)
-        → ((place : ℕ) → get_or met place false ≡ can_be_met (suc place) level)
+        → ((place : ℕ) → place < length level.known.items
+        → get_or met place false ≡ can_be_met place level)
         → tried ≡ (if get_or met depth false then d.actions else 1)
         → (numbers : List ℕ)
         → AreFoundTo g player numbers (number + tried * (count / d.actions))
@@ -466,18 +346,16 @@ module _ (g : Game) (game : IsGame g) (player : ℕ) where
             let some = some_actions below.choices in
             let end : number + row + (count - row) ≡ number + count =
             omega (arith, all_rows below.choices, some, mul-le-mul_right row some) in
-            rw end at (passed_by (is_first g player) all [] numbers (number + row) (count - row)
+            rw end at (passed_by g game player numbers (number + row) (count - row)
             (rw one at (rw (tried_is, e) at found)) (omega (arith, end, below.choices.end))
-            (λ k less.
-            let n = number + row + k in
-            let from : number + row ≤ n = omega arith in
-            let below_end : n < number + count = omega (arith, less, end) in
-            let within : n < length all = omega (arith, below_end, below.choices.end) in
+            (λ n from to.
+            let before_end : n < number + count = omega (arith, to, end) in
+            let within : n < length all = omega (arith, before_end, below.choices.end) in
             let flag = unmet_flag (d ∷ faster) level depth number count below met marks n depth
-            (omega (arith, from)) below_end here.deep e in
+            (omega (arith, from)) before_end here.deep e in
             let at : (digit_at digits depth).place ≡ d.place =
             ap (λ (d : OwnDigit). d.place) here.is in
-            not_first n d.place within
+            repeated g game player n d.place within
             (subst (λ (q : ℕ). q < length counts) at (place_inside depth here.deep))
             (grind (arith, flag, at))
-            (moved below.choices n from below_end)))
+            (moved below.choices n from before_end)))

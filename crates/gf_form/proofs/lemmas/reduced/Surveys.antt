@@ -1,16 +1,16 @@
 -- A player's sets and the positions of their keys; and a survey of a tree, with what it has yet to
 -- find while it goes into branches.
-use Rattle.gf_form.proofs.Common.{◌≡◌, ℕ, zero, suc, ◌≤◌, List, ◌∷◌, Some, length, arith, ◌==◌}
-use Rattle.gf_form.proofs.Common.{get_or-numbers_from, positions, unwrap_or-slice_get, at_position}
-use Rattle.gf_form.proofs.Common.{SetKey, same_set, AreDistinct, has_at, same_set_equality, Has}
-use Rattle.gf_form.proofs.Common.{choice_at, ◌+◌, ◌*◌, ◌%◌, ◌^◌, Bool, true, false, [], ◌++◌}
-use Rattle.gf_form.proofs.Common.{Option, None, refl, ap, Vec, Global, ◌||◌, if◌then◌else◌}
-use Rattle.gf_form.proofs.Common.{unwrap_or, eqb-false, eqb-true, list_any, list_any-append}
-use Rattle.gf_form.proofs.Common.{length-append, branches_given, branches_left, game_of_branches}
-use Rattle.gf_form.proofs.Common.{player_keys, Game, IsGame, Node, flatten, flatten_all}
-use Rattle.gf_form.proofs.Common.{child_trees, list_of, root_node, Tree, Trees, branch, none, more}
-use Rattle.gf_form.proofs.Common.{FindsMore, sizes, survey_size, own_step, own_visit, visits_at}
-use Rattle.gf_form.proofs.Common.{visits_below, demanded, Open, Owner, Survey, Visit}
+use Rattle.gf_form.proofs.Common.{◌≡◌, ℕ, zero, suc, List, ◌∷◌, Some, length, arith, ◌==◌}
+use Rattle.gf_form.proofs.Common.{get_or-numbers_from, numbers_from, unwrap_or-slice_get, ◌-◌}
+use Rattle.gf_form.proofs.Common.{at_position, slice_get, get_or, ◌∙◌, SetKey, same_set}
+use Rattle.gf_form.proofs.Common.{AreDistinct, has_at, same_set_equality, choice_at, ◌+◌, ◌*◌, ◌%◌}
+use Rattle.gf_form.proofs.Common.{◌^◌, Bool, true, false, [], ◌++◌, Option, None, refl, ap, Vec}
+use Rattle.gf_form.proofs.Common.{Global, ◌||◌, if◌then◌else◌, eqb-false, eqb-true, list_any}
+use Rattle.gf_form.proofs.Common.{list_any-append, length-append, branches_given, branches_left}
+use Rattle.gf_form.proofs.Common.{game_of_branches, player_keys, Game, IsGame, Node, flatten}
+use Rattle.gf_form.proofs.Common.{flatten_all, child_trees, list_of, root_node, Tree, Trees, branch}
+use Rattle.gf_form.proofs.Common.{none, more, FindsMore, sizes, survey_size, own_step, own_visit}
+use Rattle.gf_form.proofs.Common.{visits_at, visits_below, demanded, Open, Owner, Survey, Visit}
 use Rattle.gf_form.proofs.Common.{first_uses_distinct, sets_by_first_use, subst, sym, used_sets}
 use Rattle.std.proofs.lemmas.Option.{slice_get_within}
 use Rattle.gf_form.proofs.lemmas.values.Walks.{choice_there}
@@ -22,36 +22,37 @@ use Rattle.gf_form.proofs.lemmas.rows.PathsTold.{length-list_of}
 
 -- ---- positions
 
-pub key_there : {A : Type 0} (xs : List A) (position : ℕ) (x : A) → at_position xs position ≡ Some x
-    → Has xs x
-key_there xs zero x h = absurd cc
-key_there xs (suc k) x h = has_at xs k x h
+-- the place of a position
+pub place_there : {A : Type 0} (xs : List A) (position : ℕ) (x : A)
+    → at_position xs position ≡ Some x → slice_get xs (position - 1) ≡ Some x
+place_there xs zero x h = absurd cc
+place_there xs (suc k) x h =
+    let same : suc k - 1 ≡ k = omega arith in ap (slice_get xs) same ∙ h
 
--- what stands at two positions stands there twice
-one_position : (keys : List SetKey) (i j : ℕ) (key : SetKey) → AreDistinct keys
-    → at_position keys i ≡ Some key → at_position keys j ≡ Some key → i ≡ j
-one_position (k ∷ keys) (suc i) (suc j) key d hi hj =
-    grind (arith, has_at, one_position keys i j key d.1)
-one_position keys i j key d hi hj = grind arith
+-- what stands at two places stands there twice
+one_place : (keys : List SetKey) (i j : ℕ) (key : SetKey) → AreDistinct keys
+    → slice_get keys i ≡ Some key → slice_get keys j ≡ Some key → i ≡ j
+one_place (k ∷ keys) (suc i) (suc j) key d hi hj =
+    grind (arith, one_place keys i j key d.1)
+one_place keys i j key d hi hj = grind (arith, has_at)
 
-pub same_position : (keys : List SetKey) (i j : ℕ) (own key : SetKey) → AreDistinct keys
-    → at_position keys i ≡ Some own → at_position keys j ≡ Some key → same_set key own ≡ (i == j)
-same_position keys i j own key d hi hj = grind (arith, one_position, same_set_equality)
+pub same_place : (keys : List SetKey) (i j : ℕ) (own key : SetKey) → AreDistinct keys
+    → slice_get keys i ≡ Some own → slice_get keys j ≡ Some key → same_set key own ≡ (i == j)
+same_place keys i j own key d hi hj = grind (arith, one_place, same_set_equality)
 
-pub position_within : {A : Type 0} (xs : List A) (position : ℕ) (x : A)
-    → at_position xs position ≡ Some x → (1 ≤ position) × (position ≤ length xs)
-position_within xs position x h = grind (arith, slice_get_within)
+-- what is said of a key stands at its place
+pub said_there : (keys : List SetKey) (xs : List ℕ) (place : ℕ) (key : SetKey) → AreDistinct keys
+    → slice_get keys place ≡ Some key → choice_at keys xs key ≡ get_or xs place 0
+said_there keys xs place key distinct there =
+    choice_there keys xs (suc place) key distinct there ∙ unwrap_or-slice_get xs place 0
 
--- the position of a key, as what is said of it in a list of positions
-pub number_is : (keys : List SetKey) (position : ℕ) (key : SetKey) → AreDistinct keys
-    → at_position keys position ≡ Some key
-    → choice_at keys (positions (length keys)) key ≡ position
-number_is keys zero key distinct there = absurd cc
-number_is keys (suc k) key distinct there =
-    let said = choice_there keys (positions (length keys)) (suc k) key distinct there in
-    let within = position_within keys (suc k) key there in
-    let number = get_or-numbers_from 1 (length keys) k 0 (omega (arith, within.1)) in
-    grind (arith, unwrap_or-slice_get)
+-- so in a list of places it is that one
+pub number_is : (keys : List SetKey) (place : ℕ) (key : SetKey) → AreDistinct keys
+    → slice_get keys place ≡ Some key
+    → choice_at keys (numbers_from 0 (length keys)) key ≡ place
+number_is keys place key distinct there =
+    let within = slice_get_within keys place key there in
+    grind (arith, said_there, get_or-numbers_from 0 (length keys) place 0)
 
 -- ---- a player's keys
 
@@ -81,13 +82,7 @@ module _ (same : Visit → Visit → Bool) (equal : (v w : Visit) → same v w �
   once_from : (v : Visit) (vs : List Visit)
       → list_any test (dedup_from same v vs) ≡ list_any test (v ∷ vs)
   once_from v [] = refl
-  once_from v (w ∷ vs) = by (same w v) refl (once_from v vs) (once_from w vs)
-    where
-      by : (b : Bool) → same w v ≡ b → list_any test (dedup_from same v vs) ≡ list_any test (v ∷ vs)
-          → list_any test (dedup_from same w vs) ≡ list_any test (w ∷ vs)
-          → list_any test (dedup_from same v (w ∷ vs)) ≡ list_any test (v ∷ w ∷ vs)
-      by true e here there = let is = equal w v e in grind arith
-      by false e here there = grind arith
+  once_from v (w ∷ vs) = grind (arith, equal w v, once_from v vs, once_from w vs)
 
   pub each_once : (vs : List Visit) → list_any test (dedup same vs) ≡ list_any test vs
   each_once [] = refl
@@ -103,10 +98,10 @@ first_visits own g h demands step taken action k ts rest e f i j = rw (e, f, i, 
 
 pub entered : (g : Game) → IsGame g → (own : Owner) (old new : Survey) (t : Tree Node)
     (key : SetKey) (set : ℕ) (o : Open) → (root_node t).set ≡ Some key
-    → at_position (player_keys g key.player) set ≡ Some key
+    → slice_get (player_keys g key.player) set ≡ Some key
     → (key.player ≡ own.player
     → (new.visits.items ≡ old.visits.items ++ record { demands = o.demands; set = set } ∷ [])
-    × (o.step ≡ unwrap_or (at_position own.steps.now set) 0))
+    × (o.step ≡ get_or own.steps.now set 0))
     → (¬ (key.player ≡ own.player) → (new.visits.items ≡ old.visits.items) × (o.step ≡ 0))
     → new.nodes.items ≡ old.nodes.items ++ o ∷ [] → game_of_branches o.rest ≡ g
     → branches_left o.rest ≡ child_trees t → branches_given o.rest ≡ 0
@@ -131,7 +126,7 @@ entered g game own old new t key set o at there his other opened same_game left 
     by true e =
         let is = eqb-true key.player own.player e in
         let distinct = keys_distinct g game key.player in
-        let step = choice_there (player_keys g key.player) own.steps.now set key distinct there in
+        let step = said_there (player_keys g key.player) own.steps.now set key distinct there in
         let number = number_is (player_keys g key.player) set key distinct there in
         let now = his is in
         all (grind arith) (grind (arith, list_any-append))

@@ -1,11 +1,10 @@
 -- Demands by their digits, the slowest first: which digit a demand has at a set, what another
 -- action there changes, and which choices meet it.
-use Rattle.gf_form.proofs.Common.{◌≡◌, ℕ, zero, suc, ◌+◌, ◌*◌, ◌/◌, ◌<◌, ◌≤◌, Bool, true, List, []}
-use Rattle.gf_form.proofs.Common.{◌∷◌, length, get_or, set, map, arith, refl, ap, subst, inl, inr}
-use Rattle.gf_form.proofs.Common.{◌==◌, ◌&&◌, ◌||◌, ⊤, ◌∣◌, and_parts, cases_lt, eq-eqb, lt-ltb}
-use Rattle.gf_form.proofs.Common.{ne_eqb, div-mul_cancel, dvd-mul_left, mod-eq_of_lt}
-use Rattle.gf_form.proofs.Common.{mul-le-mul_right, mul_above, product, meets, spans, steps_of}
-use Rattle.gf_form.proofs.Common.{demanded}
+use Rattle.gf_form.proofs.Common.{◌≡◌, div-mul_cancel, dvd-mul_left, mod-eq_of_lt, mul-le-mul_right}
+use Rattle.gf_form.proofs.Common.{ℕ, ◌<◌, ◌≤◌, ◌∷◌, set, map, ap, inl, inr, ⊤, ◌∣◌}
+use Rattle.gf_form.proofs.Common.{zero, and_parts, cases_lt, mul_above, product, steps_of, demanded}
+use Rattle.gf_form.proofs.Common.{suc, ◌+◌, ◌*◌, ◌/◌, true, List, [], refl, ◌==◌, ◌&&◌, ◌||◌, spans}
+use Rattle.gf_form.proofs.Common.{Bool, length, get_or, arith, subst, eq-eqb, lt-ltb, ne_eqb, meets}
 use Rattle.std.proofs.lemmas.Bool.{le-leb, le-ltb, lt-leb}
 use Rattle.std.proofs.lemmas.Nat.{div-mul-add}
 use Rattle.std.proofs.Math.Nat.{add-mul-mod_self_right, dvd-mul_left_of_dvd, mul-add-div}

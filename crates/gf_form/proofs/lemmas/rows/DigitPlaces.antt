@@ -1,9 +1,8 @@
 -- The places of the digits of all players' sets, and their steps.
-use Rattle.gf_form.proofs.Common.{◌≡◌, ℕ, zero, suc, ◌+◌, ◌*◌, ◌<◌, ◌≤◌, List, [], ◌∷◌, ◌++◌}
-use Rattle.gf_form.proofs.Common.{length, map, get_or, refl, append_assoc, arith, AllZip, mul_assoc}
-use Rattle.gf_form.proofs.Common.{mul_comm, map-append, mul_above, product, spans, steps_of}
-use Rattle.gf_form.proofs.Common.{all_steps, at_digits, picked, steps_behind, width, IsDigitOf}
-use Rattle.gf_form.proofs.Common.{ArePositive}
+use Rattle.gf_form.proofs.Common.{◌≡◌, length, get_or, arith, AllZip, product, spans, picked, width}
+use Rattle.gf_form.proofs.Common.{ℕ, append_assoc, mul_assoc, map-append, steps_behind, ArePositive}
+use Rattle.gf_form.proofs.Common.{zero, suc, ◌+◌, ◌*◌, ◌<◌, ◌≤◌, List, [], ◌∷◌, ◌++◌, map, refl}
+use Rattle.gf_form.proofs.Common.{mul_comm, mul_above, steps_of, all_steps, at_digits, IsDigitOf}
 use Rattle.std.proofs.Common.{length-append}
 use Rattle.gf_form.proofs.lemmas.strategies.CountedActions.{product_positive}
 

@@ -1,14 +1,13 @@
 -- What is made from the numbers of actions are the digits of the game.
-use Rattle.gf_form.proofs.Common.{◌≡◌, ℕ, suc, ◌-◌, ◌<◌, ◌≤◌, ◌^◌, Bool, true, false, cond, List}
-use Rattle.gf_form.proofs.Common.{[], ◌∷◌, ◌++◌, Some, length, map, get_or, refl, sym, ap, subst}
-use Rattle.gf_form.proofs.Common.{◌∙◌, arith, option_map, slice_get, find, append-nil}
-use Rattle.gf_form.proofs.Common.{get_or_default, length-map, none-some, AllZip-long, product}
-use Rattle.gf_form.proofs.Common.{length-profiles, SetKey, InformationSet, same_set, Described}
-use Rattle.gf_form.proofs.Common.{description_at, player_sets, Game, IsGame, set_at, spans}
-use Rattle.gf_form.proofs.Common.{steps_of, all_steps, at_digits, width, HasDigits, digit_actions}
-use Rattle.gf_form.proofs.Common.{AreDigits, IsDigitOf, action_counts, all_choices, choice_at}
-use Rattle.gf_form.proofs.Common.{choices_by, full_profiles, players_of, strategies, strategies_at}
-use Rattle.gf_form.proofs.Common.{Digits}
+use Rattle.gf_form.proofs.Common.{◌≡◌, suc, ◌-◌, ◌<◌, ◌≤◌, cond, List, ◌++◌, Some, refl, find, Game}
+use Rattle.gf_form.proofs.Common.{ℕ, Bool, true, subst, arith, IsGame, set_at, spans, width, Digits}
+use Rattle.gf_form.proofs.Common.{◌^◌, ◌∷◌, map, sym, ap, ◌∙◌}
+use Rattle.gf_form.proofs.Common.{false, digit_actions, action_counts, full_profiles, strategies_at}
+use Rattle.gf_form.proofs.Common.{[], option_map, append-nil, AllZip-long, player_sets, all_choices}
+use Rattle.gf_form.proofs.Common.{length, slice_get, length-map, choices_by, players_of, strategies}
+use Rattle.gf_form.proofs.Common.{get_or, product, SetKey, same_set, steps_of, IsDigitOf, choice_at}
+use Rattle.gf_form.proofs.Common.{get_or_default, length-profiles, InformationSet, description_at}
+use Rattle.gf_form.proofs.Common.{none-some, Described, all_steps, at_digits, HasDigits, AreDigits}
 use Rattle.gf_form.specs.inner.rows.GameDigits.{digit_steps}
 use Rattle.std.proofs.lemmas.List.Elements.{AllZip-get_or}
 use Rattle.gf_form.proofs.lemmas.strategies.Choices.{IsChoice, length-all_choices}

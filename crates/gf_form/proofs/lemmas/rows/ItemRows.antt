@@ -1,8 +1,8 @@
 -- Rows that are made item by item.
-use Rattle.gf_form.proofs.Common.{◌≡◌, ℕ, suc, ◌+◌, ◌<◌, ◌≤◌, ◌⊎◌, inl, inr, List, [], ◌∷◌, ◌++◌}
-use Rattle.gf_form.proofs.Common.{get_or, length, arith, cases_lt, false, true, length-append}
-use Rattle.gf_form.proofs.Common.{AllByRecursion, get_or-append_seam, get_or_append_left}
-use Rattle.gf_form.proofs.Common.{append-nil}
+use Rattle.gf_form.proofs.Common.{◌≡◌, get_or-append_seam, get_or_append_left, fits_signed_from_abs}
+use Rattle.gf_form.proofs.Common.{ℕ, cases_lt, length-append, AllByRecursion, append-nil, to_z-of_z}
+use Rattle.gf_form.proofs.Common.{suc, ◌+◌, ◌<◌, ◌≤◌, ◌⊎◌, inl, inr, [], ◌∷◌, to_z, w128}
+use Rattle.gf_form.proofs.Common.{List, ◌++◌, get_or, length, arith, false, true, ℤ, of_z, IsWithin}
 use Rattle.std.proofs.lemmas.List.{append_assoc}
 use Rattle.gf_form.specs.inner.rows.ItemRows.{HasRow}
 
@@ -30,6 +30,10 @@ pub all_by_place : {A : Type 0} (P : A → Type 0) (xs : List A)
 all_by_place P [] each = tt
 all_by_place P (x ∷ xs) each =
     (each 0 x (omega arith), all_by_place P xs (λ k d less. each (suc k) d (omega (arith, less))))
+
+-- a number within bounds is kept by its type
+pub in_bits : (z : ℤ) → IsWithin z → to_z w128 (of_z w128 z) ≡ z
+in_bits z small = to_z-of_z w128 z (fits_signed_from_abs w128 z small)
 
 -- what is said of numbers that fit, where they do not
 pub unknown : {A : Type 0} → false ≡ true → A

@@ -1,14 +1,13 @@
 -- The terms of nodes say what the nodes add.
-use Rattle.gf_form.proofs.Common.{◌≡◌, ℕ, ℤ, pos, suc, ◌+◌, ◌*◌, ◌/◌, ◌<◌, ◌≤◌, ◌*ℤ◌, Bool, true}
-use Rattle.gf_form.proofs.Common.{List, [], ◌∷◌, ◌++◌, ap, sym, subst, ◌∙◌, arith, get_or, length}
-use Rattle.gf_form.proofs.Common.{take, ◌∣◌, dvd-mul_right, mul-le-mul_right, mul-div_cancel}
-use Rattle.gf_form.proofs.Common.{pos_of_dvd_of_pos, unsigned_abs-mul, dvd_trans, all_both}
-use Rattle.gf_form.proofs.Common.{all_parts, *ℤ_assoc, Ratio, Game, meets, Entry, IsExactAt}
-use Rattle.gf_form.proofs.Common.{number_at, AreOrdered, EndsBelow, IsShaped, entries, AreTermsOf}
-use Rattle.gf_form.proofs.Common.{ArePaid, Terms, met_bounds, ◌-◌, ◌+ℤ◌, false, refl, drop}
-use Rattle.gf_form.proofs.Common.{AllByRecursion, zero-*ℤ, add-*ℤ, sum_of_shares, IsNonDecreasingBy}
-use Rattle.gf_form.proofs.Common.{get_or_default, IsExact, IsExactIfMet, over, pay_at, share}
-use Rattle.gf_form.proofs.Common.{share_bound, Reached}
+use Rattle.gf_form.proofs.Common.{◌≡◌, pos, suc, ◌+◌, ◌*◌, ◌/◌, take, Game, ◌+ℤ◌, refl, drop, over}
+use Rattle.gf_form.proofs.Common.{ℕ, arith, get_or, length, Ratio, add-*ℤ, IsExact, pay_at, Reached}
+use Rattle.gf_form.proofs.Common.{ℤ, ◌<◌, ◌≤◌, [], ◌∷◌, ap, sym, ◌∙◌, ◌∣◌, ◌-◌}
+use Rattle.gf_form.proofs.Common.{◌*ℤ◌, Bool, true, List, ◌++◌, meets, Entry, Terms, false, share}
+use Rattle.gf_form.proofs.Common.{subst, *ℤ_assoc, number_at, EndsBelow, IsShaped, ArePaid, zero-*ℤ}
+use Rattle.gf_form.proofs.Common.{dvd-mul_right, all_both, sum_of_shares, IsExactIfMet, share_bound}
+use Rattle.gf_form.proofs.Common.{mul-le-mul_right, pos_of_dvd_of_pos, dvd_trans, IsNonDecreasingBy}
+use Rattle.gf_form.proofs.Common.{mul-div_cancel, unsigned_abs-mul, AllByRecursion, get_or_default}
+use Rattle.gf_form.proofs.Common.{all_parts, IsExactAt, AreOrdered, entries, AreTermsOf, met_bounds}
 use Rattle.std.proofs.Math.Seq.{take-nil}
 use Rattle.gf_form.specs.inner.rows.ListedNodes.{HasShares, IsTermMore, Tells}
 use Rattle.gf_form.proofs.lemmas.rows.Merges.{all_in, below_more, ordered_more}

@@ -1,12 +1,11 @@
 -- Two ranges of terms while they are merged by the code.
-use Rattle.gf_form.proofs.Common.{◌≡◌, ℕ, zero, suc, ◌+◌, ◌-◌, ◌*◌, ◌<◌, ◌≤◌, List, [], ◌∷◌, ◌++◌}
-use Rattle.gf_form.proofs.Common.{length, get_or, take, drop, map, ap, sym, subst, ◌∙◌, arith}
-use Rattle.gf_form.proofs.Common.{add-one, inl, inr, AllByRecursion, IsNonDecreasing}
-use Rattle.gf_form.proofs.Common.{mul-le-mul_right, drop-cons, get_or-append_seam, drop-drop}
-use Rattle.gf_form.proofs.Common.{get_or_default, length-append, take-append-drop}
-use Rattle.gf_form.proofs.Common.{IsNonDecreasingBy-push, AreAlike, AreChosen, AreMerged}
-use Rattle.gf_form.proofs.Common.{AreOrdered, EndsBelow, Entry, HasSum, IsShaped, entries, entry_at}
-use Rattle.gf_form.proofs.Common.{lowered, no_entry, part, Chosen, Terms}
+use Rattle.gf_form.proofs.Common.{◌≡◌, mul-le-mul_right, get_or-append_seam, IsNonDecreasingBy-push}
+use Rattle.gf_form.proofs.Common.{ℕ, ◌<◌, ◌≤◌, [], ◌∷◌, map, ap, sym, ◌∙◌, inl, inr}
+use Rattle.gf_form.proofs.Common.{zero, ◌+◌, ◌-◌, ◌*◌, List, ◌++◌, take, drop, Entry, part, Terms}
+use Rattle.gf_form.proofs.Common.{suc, AreAlike, AreMerged, EndsBelow, IsShaped, entry_at, no_entry}
+use Rattle.gf_form.proofs.Common.{length, get_or, arith, add-one, HasSum, entries, lowered, Chosen}
+use Rattle.gf_form.proofs.Common.{subst, drop-cons, drop-drop, length-append, AreChosen, AreOrdered}
+use Rattle.gf_form.proofs.Common.{AllByRecursion, IsNonDecreasing, get_or_default, take-append-drop}
 use Rattle.std.proofs.lemmas.List.{take_rest}
 use Rattle.std.proofs.lemmas.List.Sorted.{IsNonDecreasingBy-short}
 use Rattle.gf_form.specs.inner.rows.Entries.{CountsBelow}
@@ -166,7 +165,7 @@ ordered_more ds new d is ordered below =
 pub lowered_none : (e : Entry) → lowered 0 e ≡ e
 lowered_none e = grind arith
 
-module _ (from : Terms) (step action lowest free_end own_end free own : ℕ) (to after : Terms)
+module _ {from : Terms} {step action lowest free_end own_end free own : ℕ} {to after : Terms}
     (sorted : AreOrdered from)
     (before : Merges from step action lowest free_end own_end free own to)
     (alike : AreAlike after to) (shaped : IsShaped after) where

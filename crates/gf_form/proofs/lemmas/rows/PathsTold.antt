@@ -1,14 +1,13 @@
 -- The nodes that choices can reach, given by a walk through branches.
-use Rattle.gf_form.proofs.Common.{arith, ◌≡◌, ℕ, zero, suc, ◌+◌, List, [], ◌∷◌, ◌++◌, length}
-use Rattle.gf_form.proofs.Common.{Option, Some, None, refl, sym, ap, append_assoc, ◌==◌}
-use Rattle.gf_form.proofs.Common.{if◌then◌else◌, eqb-true, eq-eqb, false_from_ne_true, Ratio}
-use Rattle.gf_form.proofs.Common.{at_position, Tree, Trees, count, branch, none, more, SetKey, Game}
-use Rattle.gf_form.proofs.Common.{Node, child_trees, list_of, root_node, by_action, by_any}
-use Rattle.gf_form.proofs.Common.{by_choice, by_lot, demanded, over_set, reached, choices_by}
-use Rattle.gf_form.proofs.Common.{chances_at, Path, Reached}
+use Rattle.gf_form.proofs.Common.{arith, [], eq-eqb, Ratio, Trees, branch, SetKey, reached, Reached}
+use Rattle.gf_form.proofs.Common.{◌≡◌, append_assoc, if◌then◌else◌, false_from_ne_true, at_position}
+use Rattle.gf_form.proofs.Common.{ℕ, ◌+◌, ◌∷◌, sym, ap, none, more, Game, Node, Path}
+use Rattle.gf_form.proofs.Common.{zero, suc, List, ◌++◌, Some, None, refl, ◌==◌, Tree, count, drawn}
+use Rattle.gf_form.proofs.Common.{length, child_trees, root_node, by_action, choices_by, chances_at}
+use Rattle.gf_form.proofs.Common.{Option, eqb-true, list_of, by_choice, by_each, demanded, over_set}
 use Rattle.gf_form.proofs.lemmas.values.Walks.{choice_is}
 use Rattle.gf_tree.specs.declared.game.branch.Branch.{Branch}
-use Rattle.gf_form.specs.inner.rows.PathsLeft.{any_nodes, below, lot_nodes, next_nodes, open_nodes}
+use Rattle.gf_form.specs.inner.rows.PathsLeft.{below, each_nodes, next_nodes, open_nodes}
 use Rattle.gf_form.specs.inner.rows.PathsLeft.{nodes_beneath, option_nodes, taken}
 use Rattle.gf_form.specs.declared.rows.paths.Open.{Open}
 
@@ -19,15 +18,10 @@ length-list_of none = refl
 length-list_of (more t ts) = ap suc (length-list_of ts)
 
 module _ (g : Game) (steps : SetKey → ℕ) (path : Path) where
-  lot_list : (ts : Trees Node) (chances : ℕ → Ratio) (k : ℕ)
-      → by_lot g steps path chances k ts ≡ lot_nodes g steps path chances k (list_of ts)
-  lot_list none chances k = refl
-  lot_list (more t ts) chances k = cc (lot_list ts chances (k + 1))
-
-  any_list : (ts : Trees Node) (step k : ℕ)
-      → by_any g steps path step k ts ≡ any_nodes g steps path step k (list_of ts)
-  any_list none step k = refl
-  any_list (more t ts) step k = cc (any_list ts step (k + 1))
+  each_list : (paths : ℕ → Path) (ts : Trees Node) (k : ℕ)
+      → by_each g steps paths k ts ≡ each_nodes g steps paths k (list_of ts)
+  each_list paths none k = refl
+  each_list paths (more t ts) k = cc (each_list paths ts (k + 1))
 
   action_list : (ts : Trees Node) (position : ℕ)
       → by_action g steps path position ts
@@ -44,21 +38,22 @@ module _ (g : Game) (steps : SetKey → ℕ) (path : Path) where
 
   pub lot_beneath : (t : Tree Node) (key : SetKey) → (root_node t).set ≡ Some key → key.player ≡ 0
       → nodes_beneath g steps path t
-      ≡ lot_nodes g steps path (chances_at g (root_node t)) 1 (child_trees t)
-  lot_beneath (branch n ts) key is chance = grind (arith, over_some, eq-eqb, lot_list)
+      ≡ each_nodes g steps (drawn path (chances_at g (root_node t))) 1 (child_trees t)
+  lot_beneath (branch n ts) key is chance = grind (arith, over_some, eq-eqb, each_list)
 
   -- the nodes below a player's node, if this action is taken
   abbrev pub below_by : ℕ → ℕ → List (Tree Node) → List Reached
   below_by step action ts =
-      if action == 0 then any_nodes g steps path step 1 ts
+      if action == 0 then each_nodes g steps (by_choice path step) 1 ts
       else option_nodes g steps path (at_position ts action)
 
   by_taken : (ts : Trees Node) (step actions : ℕ) → actions ≡ count ts
       → (if step == 0 then by_action g steps path 1 ts
-      else if demanded path.demands step (count ts) == 0 then by_any g steps path step 1 ts
+      else if demanded path.demands step (count ts) == 0
+      then by_each g steps (by_choice path step) 1 ts
       else by_action g steps path (demanded path.demands step (count ts)) ts)
       ≡ below_by step (taken path step actions) (list_of ts)
-  by_taken ts step actions is = grind (arith, any_list, action_list)
+  by_taken ts step actions is = grind (arith, each_list, action_list)
 
   pub choice_beneath : (t : Tree Node) (key : SetKey) (step : ℕ) → (root_node t).set ≡ Some key
       → ¬ (key.player ≡ 0) → steps key ≡ step
@@ -79,23 +74,17 @@ below_last all (p ∷ os) o rs = below_last all os o (open_nodes all p ++ rs)
 pub next_chosen : (all : List (List ℕ)) (g g' h : Game) (path : Path) (step k k' : ℕ)
     (ts ts' : List (Tree Node)) (t : Tree Node) (behind : List Reached)
     → ts ≡ t ∷ ts' → g' ≡ g → h ≡ g → k' ≡ k + 1
-    → any_nodes g (choices_by g all) path step (k + 1) ts ++ behind
+    → each_nodes g (choices_by g all) (by_choice path step) (k + 1) ts ++ behind
     ≡ reached h (choices_by h all) (by_choice path step k') t
-    ++ (any_nodes g' (choices_by g' all) path step (k' + 1) ts' ++ behind)
+    ++ (each_nodes g' (choices_by g' all) (by_choice path step) (k' + 1) ts' ++ behind)
 next_chosen all g g' h path step k k' ts ts' t behind e f i j =
     rw (e, f, i, j) (simp append_assoc)
 
-pub first_drawn : (all : List (List ℕ)) (g g' : Game) (chances : ℕ → Ratio) (path : Path) (k : ℕ)
+pub first_of_all : (all : List (List ℕ)) (g g' : Game) (paths : ℕ → Path) (k : ℕ)
     (ts ts' : List (Tree Node)) → g' ≡ g → ts' ≡ ts → k ≡ 0
-    → lot_nodes g (choices_by g all) path chances 1 ts
-    ≡ lot_nodes g' (choices_by g' all) path chances (k + 1) ts'
-first_drawn all g g' chances path k ts ts' e f h = rw (e, f, h) refl
-
-pub first_chosen : (all : List (List ℕ)) (g g' : Game) (path : Path) (step k : ℕ)
-    (ts ts' : List (Tree Node)) → g' ≡ g → ts' ≡ ts → k ≡ 0
-    → any_nodes g (choices_by g all) path step 1 ts
-    ≡ any_nodes g' (choices_by g' all) path step (k + 1) ts'
-first_chosen all g g' path step k ts ts' e f h = rw (e, f, h) refl
+    → each_nodes g (choices_by g all) paths 1 ts
+    ≡ each_nodes g' (choices_by g' all) paths (k + 1) ts'
+first_of_all all g g' paths k ts ts' e f h = rw (e, f, h) refl
 
 pub last_pushed : (all : List (List ℕ)) (next : Option (Branch × Path)) (os items : List Open)
     (o : Open) → next ≡ None → items ≡ os ++ o ∷ []
@@ -106,8 +95,7 @@ pub ruleset path_steps = (
   append_assoc,
   next_chosen,
   below_last,
-  first_drawn,
-  first_chosen,
+  first_of_all,
   last_pushed,
   lot_beneath,
   choice_beneath,

@@ -1,13 +1,12 @@
 -- Terms that fit together over one denominator, and those of them that add something.
-use Rattle.gf_form.proofs.Common.{◌≡◌, ℕ, ℤ, pos, ◌+◌, ◌*◌, ◌/◌, ◌<◌, ◌≤◌, ◌^◌, ◌+ℤ◌, ◌*ℤ◌, Bool}
-use Rattle.gf_form.proofs.Common.{true, List, [], ◌∷◌, ◌++◌, length, take, drop, ap, sym, subst}
-use Rattle.gf_form.proofs.Common.{◌∙◌, arith, refl, if◌then◌else◌, ◌∣◌, AllByRecursion, zero-*ℤ}
-use Rattle.gf_form.proofs.Common.{div-mul_cancel, take-length, take-suc, dvd_refl, all_both}
-use Rattle.gf_form.proofs.Common.{all_parts, *ℤ-cancel_right, *ℤ_assoc, add-*ℤ, Game, meets}
-use Rattle.gf_form.proofs.Common.{AreAlike, AreExactAt, AreOrdered, EndsBelow, Entry, IsShaped}
-use Rattle.gf_form.proofs.Common.{entries, entries_of, entry_at, heads, heads_of, lowered}
-use Rattle.gf_form.proofs.Common.{number_at, size_of_entries, sum_of_entries, SettlesAt, Head}
-use Rattle.gf_form.proofs.Common.{Scaled, Terms}
+use Rattle.gf_form.proofs.Common.{◌≡◌, pos, ◌+◌, ◌*◌, ◌/◌, ◌<◌, ◌≤◌, take, drop, refl, Game, Head}
+use Rattle.gf_form.proofs.Common.{ℕ, ℤ, ◌^◌, [], ◌∷◌, ap, sym, ◌∙◌, ◌∣◌}
+use Rattle.gf_form.proofs.Common.{◌+ℤ◌, length, zero-*ℤ, add-*ℤ, entries, heads_of, lowered, Scaled}
+use Rattle.gf_form.proofs.Common.{◌*ℤ◌, Bool, true, List, ◌++◌, arith, meets, Entry, heads, Terms}
+use Rattle.gf_form.proofs.Common.{subst, dvd_refl, all_both, *ℤ_assoc, AreAlike, IsShaped, entry_at}
+use Rattle.gf_form.proofs.Common.{if◌then◌else◌, take-length, all_parts, AreExactAt, sum_of_entries}
+use Rattle.gf_form.proofs.Common.{AllByRecursion, div-mul_cancel, *ℤ-cancel_right, size_of_entries}
+use Rattle.gf_form.proofs.Common.{take-suc, AreOrdered, EndsBelow, entries_of, number_at, SettlesAt}
 use Rattle.gf_fraction.proofs.Integers.{*ℤ_right_comm}
 use Rattle.gf_form.specs.inner.rows.Paying.{FitOver, IsOver, Kept, SettleAsWell, sizes_of}
 use Rattle.gf_form.proofs.lemmas.rows.FlatRows.{demands_more, entry_demands, heads_count, itself}

@@ -1,27 +1,26 @@
 -- The value of a tree is the sum of the shares of the nodes that choices reach.
-use Rattle.gf_form.proofs.Common.{◌≡◌, ℕ, ℤ, zero, suc, pos, ◌+◌, ◌*◌, ◌/◌, ◌^◌, ◌<◌, ◌≤◌, Bool}
-use Rattle.gf_form.proofs.Common.{true, false, List, ◌∷◌, ◌++◌, Option, Some, None, MatchOption}
-use Rattle.gf_form.proofs.Common.{length, get_or, set, refl, ap, subst, ◌∙◌, arith, inr, ◌==◌, ◌&&◌}
-use Rattle.gf_form.proofs.Common.{unsigned_abs, option_map, if◌then◌else◌, AllByRecursion, and_from}
-use Rattle.gf_form.proofs.Common.{eq-eqb, eqb-false, eqb-true, ne_eqb, all_parts, HasValue}
-use Rattle.gf_form.proofs.Common.{IsFraction, Ratio, zero_ratio, Tree, Trees, count, branch, none}
-use Rattle.gf_form.proofs.Common.{more, flatten, flatten_all, SetKey, Game, HasChildren, IsGame}
-use Rattle.gf_form.proofs.Common.{Node, set_at, IsSpellable, meets, steps_of, payoff_at}
-use Rattle.gf_form.proofs.Common.{paid_at_node, below_set, by_action, by_any, by_chance, by_choice}
-use Rattle.gf_form.proofs.Common.{by_lot, is_sum_at, over_set, reached, root_path, AreDigits}
-use Rattle.gf_form.proofs.Common.{FitsAt, IsExactIfMet, met_bounds, sum_of_shares, chance_value}
-use Rattle.gf_form.proofs.Common.{chances_at, child_value, value, plus_of, times_of, value_over}
-use Rattle.gf_form.proofs.Common.{Path, Reached, IsDigitOf}
+use Rattle.gf_form.proofs.Common.{◌≡◌, zero, Bool, true, List, ◌++◌, Some, None, refl, drawn, value}
+use Rattle.gf_form.proofs.Common.{ℕ, IsFraction, flatten_all, HasChildren, IsSpellable, child_value}
+use Rattle.gf_form.proofs.Common.{ℤ, and_from, eqb-true, is_sum_at, root_path, AreDigits, IsDigitOf}
+use Rattle.gf_form.proofs.Common.{suc, pos, ◌+◌, ap, ◌==◌, ◌&&◌, Tree, none, more, Game, Node, Path}
+use Rattle.gf_form.proofs.Common.{◌*◌, ◌/◌, ◌^◌, ◌<◌, ◌≤◌, ◌∷◌, set, sym, ◌∙◌, inr}
+use Rattle.gf_form.proofs.Common.{false, unsigned_abs, if◌then◌else◌, AllByRecursion, sum_of_shares}
+use Rattle.gf_form.proofs.Common.{Option, eqb-false, zero_ratio, met_bounds, chances_at, value_over}
+use Rattle.gf_form.proofs.Common.{MatchOption, option_map, paid_at_node, IsExactIfMet, chance_value}
+use Rattle.gf_form.proofs.Common.{length, get_or, eq-eqb, ne_eqb, branch, SetKey, plus_of, Reached}
+use Rattle.gf_form.proofs.Common.{subst, arith, Ratio, Trees, count, IsGame, set_at, meets, FitsAt}
+use Rattle.gf_form.proofs.Common.{all_parts, payoff_at, below_set, by_action, by_chance, by_choice}
+use Rattle.gf_form.proofs.Common.{HasValue, flatten, steps_of, by_each, over_set, reached, times_of}
 use Rattle.gf_form.specs.inner.rows.ReachedNodes.{has_room, is_sum}
-use Rattle.gf_form.proofs.lemmas.values.ChanceSigns.{chance_size}
+use Rattle.gf_form.proofs.lemmas.values.Denominators.{chance_size, payoff_fraction}
+use Rattle.gf_form.proofs.lemmas.values.Denominators.{probability_fraction}
 use Rattle.gf_form.proofs.lemmas.rows.DemandDigits.{met, no_demands, none_met, none_pack}
 use Rattle.gf_form.proofs.lemmas.rows.DemandDigits.{none_within}
 use Rattle.gf_form.proofs.lemmas.rows.IdlePaths.{idle_weightless, unpaid_move, weightless}
-use Rattle.gf_form.proofs.lemmas.values.Denominators.{payoff_fraction, probability_fraction}
-use Rattle.gf_form.proofs.lemmas.values.ProgramRuns.{paid_is}
+use Rattle.gf_form.proofs.lemmas.values.Stacks.{paid_is}
 use Rattle.gf_form.proofs.lemmas.rows.ShareSums.{bounds_append}
-use Rattle.gf_form.proofs.lemmas.rows.UnmetShares.{HasDigits, below_by, any_unmet, chosen_digits}
-use Rattle.gf_form.proofs.lemmas.rows.UnmetShares.{meets_digits, met_with, set_there, unmet}
+use Rattle.gf_form.proofs.lemmas.rows.UnmetShares.{HasDigits, below_by, chosen_digits, meets_digits}
+use Rattle.gf_form.proofs.lemmas.rows.UnmetShares.{IsUnmet, all_unmet, met_with, set_there, unmet}
 use Rattle.gf_form.proofs.lemmas.rows.ValuedNodes.{IsAdded, IsPart, IsValued, child_added}
 use Rattle.gf_form.proofs.lemmas.rows.ValuedNodes.{from_nothing, idle_leaf, idle_move, leaf_valued}
 use Rattle.gf_form.proofs.lemmas.rows.ValuedNodes.{move_valued, no_child, none_added, valued_before}
@@ -57,7 +56,7 @@ module _ (g : Game) (game : IsGame g) (spellable : IsSpellable g) (steps choose 
 
   demands_met : (path : Path) (ds : List ℕ) → IsMet path ds
       → meets (steps_of actions) choices path.demands ≡ true
-  demands_met path ds is = cc (meets_digits g steps choose actions choices digits path ds is.has)
+  demands_met path ds is = cc (meets_digits digits path ds is.has)
 
   parts : (xs ys : List Reached) → AreExact (xs ++ ys) → AreExact xs × AreExact ys
   parts xs ys h =
@@ -82,16 +81,17 @@ module _ (g : Game) (game : IsGame g) (spellable : IsSpellable g) (steps choose 
       → IsMet path ds → option_map (λ set. length set.actions) (set_at g key) ≡ Some (count ts)
       → (key.player ≡ 0
       → IfFits (chance_value g choose player (chances_at g n) 1 (Some zero_ratio) ts) path
-      (by_lot g steps path (chances_at g n) 1 ts))
+      (by_each g steps (drawn path (chances_at g n)) 1 ts))
       → ((position : ℕ) → 1 ≤ position → position ≤ count ts
       → IfFits (child_value g choose player position ts) path
       (by_action g steps path position ts))
       → ((step choice : ℕ) (d : IsDigitOf actions choices step (count ts) choice)
       → get_or ds d.place 0 ≡ 0 → 1 ≤ choice → choice ≤ count ts
-      → IfFits (child_value g choose player choice ts) path (by_any g steps path step 1 ts))
+      → IfFits (child_value g choose player choice ts) path
+      (by_each g steps (by_choice path step) 1 ts))
       → IfFits (value_below n ts key) path (below_set g steps path n ts key)
   below_valued n ts path ds key is h lot action any =
-      below_by g steps choose actions choices digits (IfFits (value_below n ts key) path) n ts path
+      below_by digits (IfFits (value_below n ts key) path) n ts path
       ds key is.has h (λ chance. rw (eq-eqb key.player 0 chance) (lot chance))
       (λ personal position same. let c = chosen personal in
       rw (ne_eqb key.player 0 personal, same is.met) (action (choose key) c.0 c.1))
@@ -113,10 +113,9 @@ module _ (g : Game) (game : IsGame g) (spellable : IsSpellable g) (steps choose 
       (record { path = path; outcome = paid_at_node g n } ∷ over_set o
       (below_set g steps path n ts))
   awake_valued n ts path ds is some below None at exact limit =
-      leaf_valued g player den den_above den_within (steps_of actions) choices
-      (record { path = path; outcome = paid_at_node g n }) (payoff_at g player n)
-      (paid_is g player n) (own_fraction n) (exact.0 (demands_met path ds is))
-      (demands_met path ds is)
+      leaf_valued _ _ _ _ _ _ _ (record { path = path; outcome = paid_at_node g n })
+      (payoff_at g player n) (paid_is g player n) (own_fraction n)
+      (exact.0 (demands_met path ds is)) (demands_met path ds is)
   awake_valued n ts path ds is some below (Some key) at exact limit =
       grind (arith, move_valued, paid_is, own_fraction, demands_met)
 
@@ -179,25 +178,37 @@ module _ (g : Game) (game : IsGame g) (spellable : IsSpellable g) (steps choose 
           let unlikely = eqb-true (unsigned_abs c.num) 0 is in
           let lists = bounds_append g player den (steps_of actions) choices xs ys in
           let on = by_chance path c in
-          none_added g player den den_above den_within (steps_of actions) choices c fc
-          (sign ∙ ap pos unlikely) sum f value on.weight on.bound on.den xs child
-          (weightless path c unlikely) total start path.weight path.bound path.den ys
-          (later sum start f starts (omega (arith, limit, lists)))
+          none_added _ _ _ _ _ _ _ c fc (sign ∙ ap pos unlikely) sum f value on.weight on.bound
+          on.den xs child (weightless path c unlikely) total start path.weight path.bound path.den
+          ys (later sum start f starts (omega (arith, limit, lists)))
       by false is =
           let above = eqb-false (unsigned_abs c.num) 0 is in
-          child_added g player den den_above den_within (steps_of actions) choices c fc
-          (omega (arith, above)) sign sum start f path.weight path.bound path.den starts some value
-          xs ys (valued_known g player den den_above den_within (steps_of actions) choices
-          (has_room path c) value (path.weight * unsigned_abs c.num)
+          child_added _ _ _ _ _ _ _ c fc (omega (arith, above)) sign sum start f path.weight
+          path.bound path.den starts some value xs ys
+          (valued_known _ _ _ _ _ _ _ (has_room path c) value (path.weight * unsigned_abs c.num)
           (path.bound * unsigned_abs c.num) (path.den * c.den) xs child) limit total later
 
-  -- another action than the one that is chosen
+  -- an action is demanded where any would do: the one that is chosen, or another
+  chosen_met : (path : Path) (ds : List ℕ) (step m choice : ℕ) → IsMet path ds
+      → (d : IsDigitOf actions choices step m choice) → get_or ds d.place 0 ≡ 0 → 1 ≤ choice
+      → choice ≤ m → IsMet (by_choice path step choice) (set ds d.place choice)
+  chosen_met path ds step m choice is d free some fits = record {
+    has = chosen_digits actions choices ds path step m choice choice digits.within is.has d free
+        fits;
+    met = met_with digits ds step m choice choice is.has.1 d free some
+        ∙ and_from (met choices ds) (choice == choice) is.met (eq-eqb choice choice refl);
+    weightless = is.weightless;
+  }
+
   not_chosen : (path : Path) (ds : List ℕ) (step m choice j : ℕ) → IsMet path ds
       → (d : IsDigitOf actions choices step m choice) → get_or ds d.place 0 ≡ 0 → 1 ≤ j
-      → ¬ (j ≡ choice) → met choices (set ds d.place j) ≡ false
-  not_chosen path ds step m choice j is d free some other =
-      met_with g steps choose actions choices digits ds step m choice j is.has.1 d free some
-      ∙ (λ i. is.met i && ne_eqb j choice other i)
+      → j ≤ m → ¬ (j ≡ choice) → IsUnmet digits (by_choice path step j)
+  not_chosen path ds step m choice j is d free some fits other = (
+    set ds d.place j,
+    chosen_digits actions choices ds path step m choice j digits.within is.has d free fits,
+    met_with digits ds step m choice j is.has.1 d free some
+        ∙ (λ i. is.met i && ne_eqb j choice other i),
+  )
 
   -- ---- the tree
 
@@ -212,14 +223,16 @@ module _ (g : Game) (game : IsGame g) (spellable : IsSpellable g) (steps choose 
         (λ key. option_map (λ set. length set.actions) (set_at g key) ≡ Some (count ts))) at
         children.0)
         (λ chance exact limit.
-        from_nothing g player den den_above den_within (steps_of actions) choices _ p.weight
-        p.bound p.den _
+        from_nothing _ _ _ _ _ _ _ _ p.weight p.bound p.den _
         (lot_valued ts n key 1 zero_ratio (pos 0) p ds at chance children.1 met (some chance)
         zero_fraction (inr (refl, refl)) exact (omega (arith, limit))))
         (λ position first fits. action_valued ts position p ds first fits children.1 met)
         (λ step choice d free first fits.
-        any_valued ts 1 choice p ds step (count ts) choice first fits (omega arith) (omega arith)
-        (omega arith) d free children.1 met))
+        any_valued ts 1 choice choice (by_choice p step) (set ds d.place choice) first fits
+        (omega arith) (chosen_met p ds step (count ts) choice met d free first fits)
+        (λ j some less other.
+        not_chosen p ds step (count ts) choice j met d free some (omega (arith, less)) other)
+        children.1))
         n.set refl (path.bound == 0) refl (is_sum g n) refl
 
     lot_valued : (ts : Trees Node) (n : Node) (key : SetKey) (k : ℕ) (sum : Ratio) (start : ℤ)
@@ -227,11 +240,11 @@ module _ (g : Game) (game : IsGame g) (spellable : IsSpellable g) (steps choose 
         → n.set ≡ Some key → key.player ≡ 0 → AllByRecursion (HasChildren g) (flatten_all ts)
         → IsMet path ds → 1 ≤ path.bound → IsFraction sum
         → IsPart den den_above den_within path.den sum start
-        → AreExact (by_lot g steps path (chances_at g n) k ts)
-        → unsigned_abs start * path.bound + bounds (by_lot g steps path (chances_at g n) k ts)
-        < 2 ^ 127
+        → AreExact (by_each g steps (drawn path (chances_at g n)) k ts)
+        → unsigned_abs start * path.bound
+        + bounds (by_each g steps (drawn path (chances_at g n)) k ts) < 2 ^ 127
         → Added (chance_value g choose player (chances_at g n) k (Some sum) ts) start path
-        (by_lot g steps path (chances_at g n) k ts)
+        (by_each g steps (drawn path (chances_at g n)) k ts)
     lot_valued none n key k sum start path ds at chance children is some f starts exact limit =
         grind (arith, no_child)
     lot_valued (more t ts) n key k sum start path ds at chance children is some f starts exact
@@ -239,7 +252,7 @@ module _ (g : Game) (game : IsGame g) (spellable : IsSpellable g) (steps choose 
         let c = chances_at g n k in
         let on = by_chance path c in
         let xs = reached g steps on t in
-        let ys = by_lot g steps path (chances_at g n) (k + 1) ts in
+        let ys = by_each g steps (drawn path (chances_at g n)) (k + 1) ts in
         let both = all_parts (HasChildren g) (flatten t) (flatten_all ts) children in
         let exacts = parts xs ys exact in
         let lists = bounds_append g player den (steps_of actions) choices xs ys in
@@ -267,55 +280,45 @@ module _ (g : Game) (game : IsGame g) (spellable : IsSpellable g) (steps choose 
         action_valued ts (suc position) path ds (omega arith) (omega (arith, fits))
         (all_parts (HasChildren g) (flatten t) (flatten_all ts) children).1 is exact limit
 
-    -- of children, the first of which has position k, the one that is chosen
-    any_valued : (ts : Trees Node) (k position : ℕ) (path : Path) (ds : List ℕ) (step m choice : ℕ)
-        → 1 ≤ position → position ≤ count ts → choice + 1 ≡ k + position
-        → 1 ≤ k → k + count ts ≤ m + 1 → (d : IsDigitOf actions choices step m choice)
-        → get_or ds d.place 0 ≡ 0 → AllByRecursion (HasChildren g) (flatten_all ts) → IsMet path ds
-        → IfFits (child_value g choose player position ts) path (by_any g steps path step k ts)
-    any_valued none k position path ds step m choice some fits at above all d free children is
-        exact limit = absurd (omega arith)
-    any_valued (more t ts) k zero path ds step m choice some fits at above all d free children is
-        exact limit = absurd (omega arith)
-    any_valued (more t ts) k (suc zero) path ds step m choice some fits at above all d free
-        children is exact limit =
-        let xs = reached g steps (by_choice path step k) t in
-        let ys = by_any g steps path step (k + 1) ts in
+    -- of children, the first of which has position k, the one to which alone the path is met
+    any_valued : (ts : Trees Node) (k position own : ℕ) (paths : ℕ → Path) (ds : List ℕ)
+        → 1 ≤ position → position ≤ count ts → own + 1 ≡ k + position → IsMet (paths own) ds
+        → ((j : ℕ) → k ≤ j → j < k + count ts → ¬ (j ≡ own)
+        → IsUnmet digits (paths j))
+        → AllByRecursion (HasChildren g) (flatten_all ts)
+        → IfFits (child_value g choose player position ts) (paths own) (by_each g steps paths k ts)
+    any_valued none k position own paths ds some fits at is others children exact limit =
+        absurd (omega arith)
+    any_valued (more t ts) k zero own paths ds some fits at is others children exact limit =
+        absurd (omega arith)
+    any_valued (more t ts) k (suc zero) own paths ds some fits at is others children exact limit =
+        let xs = reached g steps (paths k) t in
+        let ys = by_each g steps paths (k + 1) ts in
         let both = all_parts (HasChildren g) (flatten t) (flatten_all ts) children in
         let exacts = parts xs ys exact in
         let lists = bounds_append g player den (steps_of actions) choices xs ys in
-        let same : k ≡ choice = omega (arith, at) in
-        let with = met_with g steps choose actions choices digits ds step m choice k is.has.1 d free
-        above in
-        let child = valued t (by_choice path step k) (set ds d.place k) both.0 (record {
-          has = chosen_digits actions choices ds path step m choice k digits.within is.has d free
-              (omega (arith, all));
-          met = with ∙ and_from (met choices ds) (k == choice) is.met (eq-eqb k choice same);
-          weightless = is.weightless;
-        }) exacts.0 (omega (arith, limit, lists)) in
-        valued_before g player den den_above den_within (steps_of actions) choices _ path.weight
-        path.bound path.den xs ys child
-        (any_unmet g steps choose actions choices digits player den ts (k + 1) path ds step m choice
-        both.1 is.has d free (omega arith) (omega (arith, all))
-        (λ j from. not_chosen path ds step m choice j is d free (omega (arith, from))
+        let same : own ≡ k = omega (arith, at) in
+        let child = valued t (paths k) ds both.0 (subst (λ j. IsMet (paths j) ds) same is) exacts.0
+        (omega (arith, limit, lists)) in
+        valued_before _ _ _ _ _ _ _ _ _ _ _ xs ys
+        (subst (λ j. Valued (value g choose player t) (paths j) xs) (sym same) child)
+        (all_unmet digits player den ts paths (k + 1) both.1
+        (λ j from to. others j (omega (arith, from)) (omega (arith, to))
         (λ e. omega (arith, from, e, same))))
-    any_valued (more t ts) k (suc (suc position)) path ds step m choice some fits at above all d
-        free children is exact limit =
-        let xs = reached g steps (by_choice path step k) t in
-        let ys = by_any g steps path step (k + 1) ts in
+    any_valued (more t ts) k (suc (suc position)) own paths ds some fits at is others children
+        exact limit =
+        let xs = reached g steps (paths k) t in
+        let ys = by_each g steps paths (k + 1) ts in
         let both = all_parts (HasChildren g) (flatten t) (flatten_all ts) children in
         let exacts = parts xs ys exact in
         let lists = bounds_append g player den (steps_of actions) choices xs ys in
-        valued_behind g player den den_above den_within (steps_of actions) choices _ path.weight
-        path.bound path.den xs ys
-        (unmet g steps choose actions choices digits player den t (by_choice path step k)
-        (set ds d.place k) both.0
-        (chosen_digits actions choices ds path step m choice k digits.within is.has d free
-        (omega (arith, all)))
-        (not_chosen path ds step m choice k is d free above (λ e. omega (arith, e, at))))
-        (any_valued ts (k + 1) (suc position) path ds step m choice (omega arith)
-        (omega (arith, fits)) (omega (arith, at)) (omega arith) (omega (arith, all)) d free
-        both.1 is exacts.1 (omega (arith, limit, lists)))
+        valued_behind _ _ _ _ _ _ _ _ _ _ _ xs ys
+        (unmet digits player den t (paths k) both.0
+        (others k (omega arith) (omega arith) (λ e. omega (arith, e, at))))
+        (any_valued ts (k + 1) (suc position) own paths ds (omega arith) (omega (arith, fits))
+        (omega (arith, at)) is
+        (λ j from to. others j (omega (arith, from)) (omega (arith, to)))
+        both.1 exacts.1 (omega (arith, limit, lists)))
 
 -- the player counts from 1
 pub reached_value : (g : Game) → IsGame g → IsSpellable g → (steps choose : SetKey → ℕ)

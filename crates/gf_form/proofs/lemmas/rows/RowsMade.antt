@@ -1,17 +1,15 @@
 -- Rows of payoffs at profiles in turn, and the table that they make.
-use Rattle.gf_form.proofs.Common.{◌≡◌, ℕ, ◌+◌, ◌*◌, ◌<◌, List, [], ◌∷◌, ◌++◌, length, map, get_or}
-use Rattle.gf_form.proofs.Common.{take, refl, sym, ap, subst, ◌∙◌, add-one, arith, zero, suc, Some}
-use Rattle.gf_form.proofs.Common.{slice_get, slice_get-get_or, AllByRecursion, AllZip, flat_map}
-use Rattle.gf_form.proofs.Common.{take-append_seam, take-suc, flat_map-append, append-nil}
-use Rattle.gf_form.proofs.Common.{length-append, length-map, Ratio, IsFraction, all_both, Table}
-use Rattle.gf_form.proofs.Common.{IsTableOf, Game, at_position, AreRowsAt, IsFirstWithout, IsFormBy}
-use Rattle.gf_form.proofs.Common.{players_of}
+use Rattle.gf_form.proofs.Common.{◌≡◌, ℕ, ◌+◌, ◌*◌, ◌<◌, [], ◌∷◌, map, sym, ap, ◌∙◌, suc, Game}
+use Rattle.gf_form.proofs.Common.{List, add-one, flat_map, take-suc, all_both, IsTableOf, AreRowsAt}
+use Rattle.gf_form.proofs.Common.{◌++◌, take, refl, subst, arith, zero, Some, AllZip, Ratio, Table}
+use Rattle.gf_form.proofs.Common.{length, AllByRecursion, append-nil, length-append, IsFirstWithout}
+use Rattle.gf_form.proofs.Common.{get_or, slice_get, length-map, IsFraction, IsFormWith, players_of}
+use Rattle.gf_form.proofs.Common.{slice_get-get_or, take-append_seam, flat_map-append, at_position}
 use Rattle.std.proofs.Math.Nat.{suc-mul}
 use Rattle.std.proofs.lemmas.List.{append_cancel_left}
 use Rattle.gf_fraction.proofs.AllElements.{all_joined}
 use Rattle.gf_nfg.specs.Table.{rows}
-use Rattle.gf_form.proofs.lemmas.form.FormTables.{as_many}
-use Rattle.gf_form.proofs.lemmas.form.Forms.{form_profiles}
+use Rattle.gf_form.proofs.lemmas.form.Forms.{as_many, form_profiles}
 
 pub zip_more : {A B : Type 0} (R : A → B → Type 0) (xs : List A) (ys : List B) (x : A) (y : B)
     → AllZip R xs ys → R x y → AllZip R (xs ++ x ∷ []) (ys ++ y ∷ [])
@@ -102,7 +100,7 @@ module _ (R : List ℕ → List Ratio → Type 0) where
   pub form_by_rows : (labels : ℕ → List (List ℕ)) (g : Game) (t : Table) (payoffs : List Ratio)
       → ((p : List ℕ) (row : List Ratio) → R p row → length row ≡ length g.players)
       → IsTableOf t g.title g.comment g.players (map labels (players_of g)) payoffs
-      → AreRowsAt R (form_profiles labels g) payoffs → IsFormBy labels R g t
+      → AreRowsAt R (form_profiles labels g) payoffs → IsFormWith labels R g t
   form_by_rows labels g t payoffs each made h =
       let n = length g.players in
       let ps = form_profiles labels g in

@@ -1,9 +1,8 @@
 -- What is left of terms once an action is chosen, and the profiles that it settles.
-use Rattle.gf_form.proofs.Common.{◌≡◌, ℕ, ◌+◌, ◌-◌, ◌*◌, ◌/◌, ◌<◌, ◌≤◌, ◌^◌, ◌⊎◌, inl, inr, List}
-use Rattle.gf_form.proofs.Common.{[], ◌∷◌, get_or, ap, subst, ◌∙◌, arith, mul-div_cancel}
-use Rattle.gf_form.proofs.Common.{mul-le-mul_right, cases_lt, product, Game, spans, AreMerged}
-use Rattle.gf_form.proofs.Common.{Entry, entries, SettleRows, Settles, SettlesAt, Asked, Run}
-use Rattle.gf_form.proofs.Common.{all_choices, Terms}
+use Rattle.gf_form.proofs.Common.{◌≡◌, ◌+◌, ◌-◌, ◌*◌, List, arith, Game, spans, Entry, Asked, Terms}
+use Rattle.gf_form.proofs.Common.{ℕ, ◌/◌, ◌<◌, ◌≤◌, ◌^◌, ◌⊎◌, inl, inr, [], ◌∷◌, ap, ◌∙◌, Run}
+use Rattle.gf_form.proofs.Common.{get_or, mul-div_cancel, mul-le-mul_right, SettleRows, all_choices}
+use Rattle.gf_form.proofs.Common.{subst, cases_lt, product, AreMerged, entries, Settles, SettlesAt}
 use Rattle.gf_form.proofs.lemmas.strategies.StrategiesByNumber.{choices_row, positive_parts}
 
 -- ---- profiles at which the choice at the slowest digit is the same
@@ -43,54 +42,55 @@ settled_behind g n ns terms left least number b first before less is from to mer
 }
 
 -- the first of these profiles, and those with the same choice at the slowest digit
-module _ (asked : Asked) (n : ℕ) (ns : List ℕ) (terms : Terms) (run : Run)
+module _ (asked : Asked) {n : ℕ} {ns : List ℕ} {terms : Terms} (run : Run)
     (some : run.from < run.to) (count : run.count ≡ n * product ns)
-    (settles : SettleRows asked (n ∷ ns) terms run) where
-  abbrev number : ℕ → ℕ
-  number i = get_or asked.numbers.now i 0
+    (settles : SettleRows asked (n ∷ ns) terms run) {stride : ℕ}
+    (stride_is : stride ≡ run.count / n)
+  where
+    abbrev number : ℕ → ℕ
+    number i = get_or asked.numbers.now i 0
 
-  here : SettlesAt asked.game.now (n ∷ ns) terms run.first (number run.from)
-  here = settles run.from (omega arith) some
+    here : SettlesAt asked.game.now (n ∷ ns) terms run.first (number run.from)
+    here = settles run.from (omega arith) some
 
-  pub stride_is : run.count / n ≡ product ns
-  stride_is =
-      let parts = positive_parts n (product ns) (number run.from - run.first) here.to in
-      let turned : run.count ≡ product ns * n = omega (arith, count) in
-      ap (λ (c : ℕ). c / n) turned ∙ mul-div_cancel (product ns) parts.0
+    pub stride_product : stride ≡ product ns
+    stride_product =
+        let parts = positive_parts n (product ns) (number run.from - run.first) here.to in
+        let turned : run.count ≡ product ns * n = omega (arith, count) in
+        stride_is ∙ ap (λ (c : ℕ). c / n) turned ∙ mul-div_cancel (product ns) parts.0
 
-  pub some_stride : 0 < run.count / n
-  some_stride = grind (arith, positive_parts, stride_is)
+    pub some_stride : 0 < stride
+    some_stride = grind (arith, positive_parts, stride_product)
 
-  abbrev before : ℕ
-  before = (number run.from - run.first) / (run.count / n)
+    module _ {before : ℕ} (before_is : before ≡ (number run.from - run.first) / stride) where
+      abbrev first : ℕ
+      first = run.first + before * stride
 
-  abbrev first : ℕ
-  first = run.first + before * (run.count / n)
+      choice : IsChoiceOf n stride (number run.from) before first
+      choice = grind (arith, stride_product, choice_of)
 
-  choice : IsChoiceOf n (product ns) (number run.from) before first
-  choice = grind (arith, stride_is, choice_of)
+      pub step_within : (step : ℕ) → (n + 1) * step < 2 ^ 64
+          → (before + 1) * step + step < 2 ^ 64
+      step_within step bound =
+          let less = choice.less in
+          let most : (before + 2) * step ≤ (n + 1) * step =
+          mul-le-mul_right step (omega (arith, less)) in
+          omega (arith, most, bound)
 
-  pub step_within : (step : ℕ) → (n + 1) * step < 2 ^ 64 → (before + 1) * step + step < 2 ^ 64
-  step_within step bound =
-      let less = choice.less in
-      let most : (before + 2) * step ≤ (n + 1) * step =
-      mul-le-mul_right step (omega (arith, less)) in
-      omega (arith, most, bound)
-
-  pub settled_next : (step to : ℕ) (left : Terms) → step ≡ product (spans ns)
-      → AreMerged step (before + 1) (entries terms) (entries left) → to ≤ run.to
-      → ((i : ℕ) → run.from + 1 ≤ i → i < to
-      → (first ≤ number i) × (number i < first + run.count / n))
-      → (i : ℕ) → run.from ≤ i → i < to → SettlesAt asked.game.now ns left first (number i)
-  settled_next step to left is merged most alike i more less =
-      let range = at (cases_lt run.from i) in
-      settled_behind asked.game.now n ns terms left run.first (number i) before first
-      (settles i more (omega (arith, less, most))) choice.less
-      (ap (λ (s : ℕ). run.first + before * s) stride_is) range.0
-      (omega (arith, range.0, range.1, stride_is))
-      (subst (λ (s : ℕ). AreMerged s (before + 1) (entries terms) (entries left)) is merged)
-    where
-      at : (run.from < i) ⊎ (i ≤ run.from)
-          → (first ≤ number i) × (number i < first + run.count / n)
-      at (inl h) = alike i (omega (arith, h)) less
-      at (inr h) = grind (arith, stride_is)
+      pub settled_next : (step to : ℕ) (left : Terms) → step ≡ product (spans ns)
+          → AreMerged step (before + 1) (entries terms) (entries left) → to ≤ run.to
+          → ((i : ℕ) → run.from + 1 ≤ i → i < to
+          → (first ≤ number i) × (number i < first + stride))
+          → (i : ℕ) → run.from ≤ i → i < to → SettlesAt asked.game.now ns left first (number i)
+      settled_next step to left is merged most alike i more less =
+          let range = at (cases_lt run.from i) in
+          settled_behind asked.game.now n ns terms left run.first (number i) before first
+          (settles i more (omega (arith, less, most))) choice.less
+          (ap (λ (s : ℕ). run.first + before * s) stride_product) range.0
+          (omega (arith, range.0, range.1, stride_product))
+          (subst (λ (s : ℕ). AreMerged s (before + 1) (entries terms) (entries left)) is merged)
+        where
+          at : (run.from < i) ⊎ (i ≤ run.from)
+              → (first ≤ number i) × (number i < first + stride)
+          at (inl h) = alike i (omega (arith, h)) less
+          at (inr h) = grind (arith, choice)

@@ -4,10 +4,10 @@ use Rattle.gf_form.proofs.Common.{◌≡◌, ℕ, zero, suc, pos, ◌+◌, ◌^�
 use Rattle.gf_form.proofs.Common.{List, ◌++◌, Option, Some, None, MatchOption, length, get_or, set}
 use Rattle.gf_form.proofs.Common.{refl, ap, sym, ◌∙◌, arith, ℤ, ◌==◌, ◌&&◌, option_map}
 use Rattle.gf_form.proofs.Common.{if◌then◌else◌, AllByRecursion, eqb-false, eqb-true, mod-eq_of_lt}
-use Rattle.gf_form.proofs.Common.{all_parts, Ratio, Tree, Trees, count, branch, none, more, flatten}
+use Rattle.gf_form.proofs.Common.{all_parts, Tree, Trees, count, branch, none, more, flatten}
 use Rattle.gf_form.proofs.Common.{flatten_all, InformationSet, SetKey, Game, HasChildren, Node}
 use Rattle.gf_form.proofs.Common.{set_at, product, meets, spans, steps_of, below_set, by_action}
-use Rattle.gf_form.proofs.Common.{by_any, by_chance, by_choice, by_lot, demanded, over_set, reached}
+use Rattle.gf_form.proofs.Common.{by_choice, by_each, demanded, drawn, over_set, reached}
 use Rattle.gf_form.proofs.Common.{AreDigits, IsDigitOf, sum_of_shares, chances_at, Path, Reached}
 use Rattle.gf_form.specs.inner.rows.ReachedNodes.{met_node}
 use Rattle.gf_form.proofs.lemmas.rows.DemandDigits.{AreWithin, digit_is, meets_is, met, met_set}
@@ -37,7 +37,7 @@ pub chosen_digits : (actions choices ds : List ℕ) (path : Path) (step count ch
 chosen_digits actions choices ds path step count choice k small has d free le =
     grind (arith, set_within, pack, set_pack, mod-eq_of_lt, pack_below)
 
-module _ (g : Game) (steps choose : SetKey → ℕ) (actions choices : List ℕ)
+module _ {g : Game} {steps choose : SetKey → ℕ} {actions choices : List ℕ}
     (digits : AreDigits g steps choose actions choices) where
   -- the digit of a set of several actions
   pub digit_of : (key : SetKey) (m : ℕ) → ¬ (key.player ≡ 0) → ¬ (steps key ≡ 0)
@@ -59,18 +59,18 @@ module _ (g : Game) (steps choose : SetKey → ℕ) (actions choices : List ℕ)
   pub below_by : (P : List Reached → Type 0) (n : Node) (ts : Trees Node) (path : Path)
       (ds : List ℕ) (key : SetKey) → HasDigits actions path ds
       → option_map (λ set. length set.actions) (set_at g key) ≡ Some (count ts)
-      → (key.player ≡ 0 → P (by_lot g steps path (chances_at g n) 1 ts))
+      → (key.player ≡ 0 → P (by_each g steps (drawn path (chances_at g n)) 1 ts))
       → (¬ (key.player ≡ 0) → (position : ℕ) → (met choices ds ≡ true → position ≡ choose key)
       → P (by_action g steps path position ts))
       → (¬ (key.player ≡ 0)
       → (d : IsDigitOf actions choices (steps key) (count ts) (choose key))
-      → get_or ds d.place 0 ≡ 0 → P (by_any g steps path (steps key) 1 ts))
+      → get_or ds d.place 0 ≡ 0 → P (by_each g steps (by_choice path (steps key)) 1 ts))
       → P (below_set g steps path n ts key)
   below_by P n ts path ds key has h lot action any = by_player (key.player == 0) refl
     where
       by_demand : ¬ (key.player ≡ 0) → ¬ (steps key ≡ 0) → (b : Bool)
           → (demanded path.demands (steps key) (count ts) == 0) ≡ b
-          → P (if b then by_any g steps path (steps key) 1 ts
+          → P (if b then by_each g steps (by_choice path (steps key)) 1 ts
           else by_action g steps path (demanded path.demands (steps key) (count ts)) ts)
       by_demand personal several true is =
           let d = digit_of key (count ts) personal several h in
@@ -90,7 +90,7 @@ module _ (g : Game) (steps choose : SetKey → ℕ) (actions choices : List ℕ)
       by_digit : ¬ (key.player ≡ 0) → (b : Bool) → (steps key == 0) ≡ b
           → P (if b then by_action g steps path 1 ts
           else if demanded path.demands (steps key) (count ts) == 0
-          then by_any g steps path (steps key) 1 ts
+          then by_each g steps (by_choice path (steps key)) 1 ts
           else by_action g steps path (demanded path.demands (steps key) (count ts)) ts)
       by_digit personal true is =
           let only : 1 ≡ choose key = grind (arith, set_there, eqb-true) in
@@ -100,13 +100,27 @@ module _ (g : Game) (steps choose : SetKey → ℕ) (actions choices : List ℕ)
           (demanded path.demands (steps key) (count ts) == 0) refl
 
       by_player : (b : Bool) → (key.player == 0) ≡ b
-          → P (if b then by_lot g steps path (chances_at g n) 1 ts
+          → P (if b then by_each g steps (drawn path (chances_at g n)) 1 ts
           else if steps key == 0 then by_action g steps path 1 ts
           else if demanded path.demands (steps key) (count ts) == 0
-          then by_any g steps path (steps key) 1 ts
+          then by_each g steps (by_choice path (steps key)) 1 ts
           else by_action g steps path (demanded path.demands (steps key) (count ts)) ts)
       by_player true is = lot (eqb-true key.player 0 is)
       by_player false is = by_digit (eqb-false key.player 0 is) (steps key == 0) refl
+
+  -- the choices do not meet the path's demands
+  abbrev pub IsUnmet : Path → Type 0
+  IsUnmet path = (ds : List ℕ) × HasDigits actions path ds × (met choices ds ≡ false)
+
+  -- an action more is demanded where any would do
+  unmet_still : (path : Path) (ds : List ℕ) (step m choice k : ℕ) → HasDigits actions path ds
+      → met choices ds ≡ false → (d : IsDigitOf actions choices step m choice)
+      → get_or ds d.place 0 ≡ 0 → 1 ≤ k → k ≤ m → IsUnmet (by_choice path step k)
+  unmet_still path ds step m choice k has missed d free some fits = (
+    set ds d.place k,
+    chosen_digits actions choices ds path step m choice k digits.within has d free fits,
+    met_with ds step m choice k has.1 d free some ∙ ap (λ b. b && k == choice) missed,
+  )
 
   module _ (player den : ℕ) where
     abbrev shares : List Reached → ℤ
@@ -119,75 +133,53 @@ module _ (g : Game) (steps choose : SetKey → ℕ) (actions choices : List ℕ)
     both_nothing xs ys hx hy = cc (shares_append g player den (steps_of actions) choices xs ys)
 
     nothing_below : (n : Node) (ts : Trees Node) (path : Path) (ds : List ℕ)
-        → HasDigits actions path ds
-        → ((chances : ℕ → Ratio) → AddsNothing (by_lot g steps path chances 1 ts))
+        → HasDigits actions path ds → met choices ds ≡ false
+        → ((paths : ℕ → Path) → ((j : ℕ) → 1 ≤ j → j < 1 + count ts → IsUnmet (paths j))
+        → AddsNothing (by_each g steps paths 1 ts))
         → ((position : ℕ) → AddsNothing (by_action g steps path position ts))
-        → ((step choice : ℕ) (d : IsDigitOf actions choices step (count ts) choice)
-        → get_or ds d.place 0 ≡ 0 → AddsNothing (by_any g steps path step 1 ts))
         → (o : Option SetKey) → MatchOption o (count ts ≡ 0)
         (λ key. option_map (λ set. length set.actions) (set_at g key) ≡ Some (count ts))
         → AddsNothing (over_set o (below_set g steps path n ts))
-    nothing_below n ts path ds has lot action any None h = refl
-    nothing_below n ts path ds has lot action any (Some key) h =
-        below_by AddsNothing n ts path ds key has h (λ _. lot (chances_at g n))
-        (λ _ position _. action position) (λ _. any (steps key) (choose key))
+    nothing_below n ts path ds has missed each action None h = refl
+    nothing_below n ts path ds has missed each action (Some key) h =
+        below_by AddsNothing n ts path ds key has h
+        (λ _. each (drawn path (chances_at g n)) (λ j some less. (ds, has, missed)))
+        (λ _ position _. action position)
+        (λ _ d free. each (by_choice path (steps key))
+        (λ j some less.
+        unmet_still path ds (steps key) (count ts) (choose key) j has missed d free some
+        (omega (arith, less))))
 
     mutual
-      pub unmet : (t : Tree Node) (path : Path) (ds : List ℕ)
-          → AllByRecursion (HasChildren g) (flatten t) → HasDigits actions path ds
-          → met choices ds ≡ false → AddsNothing (reached g steps path t)
-      unmet (branch n ts) path ds children has missed =
-          let met = met_node g path n in
-          unmet_first g player den (steps_of actions) choices met _
-          (meets_digits path ds has ∙ missed)
-          ∙ nothing_below n ts met.path ds has
-          (λ chances. lot_unmet ts chances 1 met.path ds children.1 has missed)
-          (λ position. action_unmet ts position met.path ds children.1 has missed)
-          (λ step choice d free.
-          any_unmet ts 1 met.path ds step (count ts) choice children.1 has d free (omega arith)
-          (omega arith)
-          (λ j from.
-          met_with ds step (count ts) choice j has.1 d free from
-          ∙ ap (λ b. b && j == choice) missed))
-          n.set children.0
+      pub unmet : (t : Tree Node) (path : Path) → AllByRecursion (HasChildren g) (flatten t)
+          → IsUnmet path → AddsNothing (reached g steps path t)
+      unmet (branch n ts) path children h =
+          let on = met_node g path n in
+          unmet_first g player den (steps_of actions) choices on _
+          (meets_digits path h.0 h.1 ∙ h.2)
+          ∙ nothing_below n ts on.path h.0 h.1 h.2
+          (λ paths each. all_unmet ts paths 1 children.1 each)
+          (λ position. action_unmet ts position on.path children.1 h) n.set children.0
 
-      lot_unmet : (ts : Trees Node) (chances : ℕ → Ratio) (k : ℕ) (path : Path) (ds : List ℕ)
-          → AllByRecursion (HasChildren g) (flatten_all ts) → HasDigits actions path ds
-          → met choices ds ≡ false → AddsNothing (by_lot g steps path chances k ts)
-      lot_unmet none chances k path ds children has missed = refl
-      lot_unmet (more t ts) chances k path ds children has missed =
+      pub all_unmet : (ts : Trees Node) (paths : ℕ → Path) (k : ℕ)
+          → AllByRecursion (HasChildren g) (flatten_all ts)
+          → ((j : ℕ) → k ≤ j → j < k + count ts → IsUnmet (paths j))
+          → AddsNothing (by_each g steps paths k ts)
+      all_unmet none paths k children h = refl
+      all_unmet (more t ts) paths k children h =
           let both = all_parts (HasChildren g) (flatten t) (flatten_all ts) children in
-          both_nothing (reached g steps (by_chance path (chances k)) t)
-          (by_lot g steps path chances (k + 1) ts)
-          (unmet t (by_chance path (chances k)) ds both.0 has missed)
-          (lot_unmet ts chances (k + 1) path ds both.1 has missed)
+          both_nothing (reached g steps (paths k) t) (by_each g steps paths (k + 1) ts)
+          (unmet t (paths k) both.0 (h k (omega arith) (omega arith)))
+          (all_unmet ts paths (k + 1) both.1
+          (λ j from to. h j (omega (arith, from)) (omega (arith, to))))
 
-      action_unmet : (ts : Trees Node) (position : ℕ) (path : Path) (ds : List ℕ)
-          → AllByRecursion (HasChildren g) (flatten_all ts) → HasDigits actions path ds
-          → met choices ds ≡ false → AddsNothing (by_action g steps path position ts)
-      action_unmet none position path ds children has missed = refl
-      action_unmet (more t ts) zero path ds children has missed = refl
-      action_unmet (more t ts) (suc zero) path ds children has missed =
-          unmet t path ds (all_parts (HasChildren g) (flatten t) (flatten_all ts) children).0 has
-          missed
-      action_unmet (more t ts) (suc (suc position)) path ds children has missed =
-          action_unmet ts (suc position) path ds
-          (all_parts (HasChildren g) (flatten t) (flatten_all ts) children).1 has missed
-
-      -- if none of these actions is chosen
-      pub any_unmet : (ts : Trees Node) (k : ℕ) (path : Path) (ds : List ℕ) (step m choice : ℕ)
-          → AllByRecursion (HasChildren g) (flatten_all ts) → HasDigits actions path ds
-          → (d : IsDigitOf actions choices step m choice) → get_or ds d.place 0 ≡ 0 → 1 ≤ k
-          → k + count ts ≤ m + 1 → ((j : ℕ) → k ≤ j → met choices (set ds d.place j) ≡ false)
-          → AddsNothing (by_any g steps path step k ts)
-      any_unmet none k path ds step m choice children has d free some fits missed = refl
-      any_unmet (more t ts) k path ds step m choice children has d free some fits missed =
-          let both = all_parts (HasChildren g) (flatten t) (flatten_all ts) children in
-          both_nothing (reached g steps (by_choice path step k) t)
-          (by_any g steps path step (k + 1) ts)
-          (unmet t (by_choice path step k) (set ds d.place k) both.0
-          (chosen_digits actions choices ds path step m choice k digits.within has d free
-          (omega (arith, fits)))
-          (missed k (omega arith)))
-          (any_unmet ts (k + 1) path ds step m choice both.1 has d free (omega arith)
-          (omega (arith, fits)) (λ j from. missed j (omega (arith, from))))
+      action_unmet : (ts : Trees Node) (position : ℕ) (path : Path)
+          → AllByRecursion (HasChildren g) (flatten_all ts) → IsUnmet path
+          → AddsNothing (by_action g steps path position ts)
+      action_unmet none position path children h = refl
+      action_unmet (more t ts) zero path children h = refl
+      action_unmet (more t ts) (suc zero) path children h =
+          unmet t path (all_parts (HasChildren g) (flatten t) (flatten_all ts) children).0 h
+      action_unmet (more t ts) (suc (suc position)) path children h =
+          action_unmet ts (suc position) path
+          (all_parts (HasChildren g) (flatten t) (flatten_all ts) children).1 h

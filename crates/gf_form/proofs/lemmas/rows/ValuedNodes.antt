@@ -1,14 +1,13 @@
 -- A value over the common denominator, with the shares that it is the sum of: at a leaf, at a move,
 -- and as the children of a chance move are added.
-use Rattle.gf_form.proofs.Common.{◌≡◌, ◌⊎◌, inl, inr, ℕ, ℤ, pos, ◌+◌, ◌*◌, ◌/◌, ◌^◌, ◌<◌, ◌≤◌, Bool}
-use Rattle.gf_form.proofs.Common.{true, false, List, [], ◌∷◌, ◌++◌, Option, Some, arith, refl, ap}
-use Rattle.gf_form.proofs.Common.{sym, subst, ◌∙◌, Decides, ◌∣◌, ◌+ℤ◌, ◌*ℤ◌, ◌&&◌, nat_eq}
-use Rattle.gf_form.proofs.Common.{unsigned_abs, if◌then◌else◌, unsigned_abs-mul, *ℤ_comm, *ℤ-zero}
-use Rattle.gf_form.proofs.Common.{zero-*ℤ, +ℤ_assoc, +ℤ_idl, dvd-mul_right, mul-le-mul_right}
-use Rattle.gf_form.proofs.Common.{dvd_trans, HasValue, IsFraction, IsWithin, Ratio, zero_ratio}
-use Rattle.gf_form.proofs.Common.{product_of, Decides-ratio, *ℤ_assoc, add-*ℤ, Game, meets, IsExact}
-use Rattle.gf_form.proofs.Common.{met_bounds, over, pay_at, share, share_bound, sum_of_shares}
-use Rattle.gf_form.proofs.Common.{plus_of, times_of, Reached}
+use Rattle.gf_form.proofs.Common.{◌≡◌, ◌⊎◌, inl, inr, pos, Some, refl, ◌+ℤ◌, ◌*ℤ◌, ◌&&◌, Game, over}
+use Rattle.gf_form.proofs.Common.{ℕ, ℤ, ◌+◌, ◌*◌, ◌/◌, ◌^◌, ◌<◌, ◌≤◌, [], ◌∷◌, ap, sym, ◌∙◌, ◌∣◌}
+use Rattle.gf_form.proofs.Common.{Bool, true, List, ◌++◌, arith, subst, Ratio, meets, pay_at, share}
+use Rattle.gf_form.proofs.Common.{false, nat_eq, zero-*ℤ, +ℤ_idl, add-*ℤ, IsExact, plus_of, Reached}
+use Rattle.gf_form.proofs.Common.{Option, dvd_trans, IsFraction, zero_ratio, product_of, met_bounds}
+use Rattle.gf_form.proofs.Common.{Decides, *ℤ_comm, *ℤ-zero, HasValue, IsWithin, *ℤ_assoc, times_of}
+use Rattle.gf_form.proofs.Common.{unsigned_abs, +ℤ_assoc, Decides-ratio, share_bound, sum_of_shares}
+use Rattle.gf_form.proofs.Common.{if◌then◌else◌, unsigned_abs-mul, dvd-mul_right, mul-le-mul_right}
 use Rattle.std.specs.Ordering.{int_eq}
 use Rattle.std.proofs.Math.IntN.{+ℤ_comm}
 use Rattle.std.proofs.Math.Nat.{eq-zero_of_zero-dvd, le-mul_of_pos_right}
@@ -18,8 +17,8 @@ use Rattle.gf_form.proofs.lemmas.rows.OverOneDenominator.{quotient_le, quotient_
 use Rattle.gf_form.proofs.lemmas.rows.OverOneDenominator.{sum_over, sum_size}
 use Rattle.gf_form.proofs.lemmas.rows.ShareSums.{bound_first, bounds_append, met_first}
 use Rattle.gf_form.proofs.lemmas.rows.ShareSums.{shares_append}
-use Rattle.gf_form.proofs.lemmas.values.ValuesComputed.{zero_fraction}
-use Rattle.gf_form.proofs.lemmas.values.Zeros.{none_times, plus_zero, times_zero, zero_plus}
+use Rattle.gf_form.proofs.lemmas.values.ValuesComputed.{zero_fraction, none_times, plus_zero}
+use Rattle.gf_form.proofs.lemmas.values.ValuesComputed.{times_zero, zero_plus}
 
 -- ---- integers
 

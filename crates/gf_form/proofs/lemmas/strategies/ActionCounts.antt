@@ -1,12 +1,11 @@
 -- How many actions there are at a player's set, by its position among his.
-use Rattle.gf_form.proofs.Common.{◌≡◌, ℕ, zero, suc, ◌+◌, ◌<◌, ◌≤◌, List, [], length, map, Option}
-use Rattle.gf_form.proofs.Common.{Some, None, get_or, refl, sym, subst, ◌∙◌, arith, ◌==◌}
-use Rattle.gf_form.proofs.Common.{option_map, slice_get, AllZip-long, length-numbers_from}
-use Rattle.gf_form.proofs.Common.{length-map, slice_get-map, at_position, SetKey, InformationSet}
-use Rattle.gf_form.proofs.Common.{same_set, set_of, Described, player_keys, player_sets, Game}
-use Rattle.gf_form.proofs.Common.{IsGame, set_at, used_sets, AreDistinct, first_uses_distinct}
-use Rattle.gf_form.proofs.Common.{of_filter, same_set_equality, AreStrategies, action_counts}
-use Rattle.gf_form.proofs.Common.{players_of, has_at}
+use Rattle.gf_form.proofs.Common.{◌≡◌, Some, None, refl, subst, arith, ◌==◌, IsGame, set_at, has_at}
+use Rattle.gf_form.proofs.Common.{ℕ, Option, get_or, SetKey, same_set, set_of, used_sets, of_filter}
+use Rattle.gf_form.proofs.Common.{zero, length-numbers_from, first_uses_distinct, same_set_equality}
+use Rattle.gf_form.proofs.Common.{suc, ◌+◌, ◌<◌, ◌≤◌, [], map, sym, ◌∙◌, Game}
+use Rattle.gf_form.proofs.Common.{List, slice_get-map, InformationSet, AreStrategies, action_counts}
+use Rattle.gf_form.proofs.Common.{length, option_map, slice_get, length-map, Described, players_of}
+use Rattle.gf_form.proofs.Common.{AllZip-long, at_position, player_keys, player_sets, AreDistinct}
 use Rattle.gf_tree.proofs.lemmas.games.Lookups.{entry_at}
 use Rattle.gf_form.proofs.lemmas.strategies.Choices.{IsChoice}
 use Rattle.gf_form.proofs.lemmas.strategies.Lookups.{zip_at, zip_by_places, zip_counted}

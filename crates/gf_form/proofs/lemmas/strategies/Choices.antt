@@ -1,12 +1,11 @@
 -- All choices at sets with this many actions each: every one is in the list, once and at its place.
 use Rattle.gf_form.proofs.Common.{◌≡◌, ℕ, zero, suc, ◌+◌, ◌-◌, ◌*◌, ◌/◌, ◌%◌, ◌<◌, ◌≤◌, List, []}
-use Rattle.gf_form.proofs.Common.{◌∷◌, get_or_default, length, map, get_or, refl, sym, ◌∙◌, arith}
-use Rattle.gf_form.proofs.Common.{◌↔◌, AllByRecursion, AllZip, Contains, flat_map, length-append}
+use Rattle.gf_form.proofs.Common.{◌∷◌, get_or_default, length, map, get_or, refl, ◌∙◌, arith, ◌↔◌}
+use Rattle.gf_form.proofs.Common.{AllByRecursion, AllZip, Contains, flat_map, length-append}
 use Rattle.gf_form.proofs.Common.{length-map, get_or-map, get_or_append_left, recursion_from_All}
-use Rattle.gf_form.proofs.Common.{numbers_from, product, length-numbers_from, get_or-numbers_from}
-use Rattle.gf_form.proofs.Common.{all_choices, div-add-mod, mod-lt, div-lt_iff_lt-mul}
-use Rattle.gf_form.proofs.Common.{mul-le-mul_right, All-from_recursion}
-use Rattle.std.proofs.lemmas.List.{get_or-append-add, same_lists}
+use Rattle.gf_form.proofs.Common.{numbers_from, product, all_choices, div-add-mod, mod-lt}
+use Rattle.gf_form.proofs.Common.{div-lt_iff_lt-mul, mul-le-mul_right, All-from_recursion}
+use Rattle.std.proofs.lemmas.List.{get_or-append-add}
 use Rattle.std.proofs.lemmas.List.Elements.{All-contains, All-from_get_or}
 
 -- the choices that begin with one of this many actions
@@ -108,18 +107,6 @@ are_choices counts =
     recursion_from_All (IsChoice counts) (all_choices counts) (All-from_get_or (IsChoice counts)
     (all_choices counts) []
     (λ i h. (choice_there counts i (omega (arith, h, length-all_choices counts))).0))
-
-pub places_are : (counts : List ℕ)
-    → map (place counts) (all_choices counts) ≡ numbers_from 0 (product counts)
-places_are counts =
-    same_lists _ _ (grind (arith, length-map, length-numbers_from, length-all_choices))
-    (λ k d h.
-    let less : k < length (all_choices counts) =
-    omega (arith, h, length-map (all_choices counts) (place counts)) in
-    let zeroth : 0 + k ≡ k = omega arith in
-    get_or-map (place counts) (all_choices counts) k [] d less ∙ place_at counts k less
-    ∙ sym (get_or-numbers_from 0 (product counts) k d
-    (omega (arith, less, length-all_choices counts)) ∙ zeroth))
 
 -- no choice stands twice
 pub choices_distinct : (counts : List ℕ) (i j : ℕ) (d : List ℕ)

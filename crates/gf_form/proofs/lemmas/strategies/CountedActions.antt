@@ -7,10 +7,9 @@ use Rattle.gf_form.proofs.Common.{length-map, unwrap_or-slice_get, mul_above, at
 use Rattle.gf_form.proofs.Common.{profile_limit, product, length-profiles, get_or-numbers_from}
 use Rattle.gf_form.proofs.Common.{length-numbers_from, SetKey, InformationSet, IsSet, Described}
 use Rattle.gf_form.proofs.Common.{player_keys, Game, IsGame, action_counts, players_of, strategies}
-use Rattle.gf_form.proofs.Common.{HasTooManyProfiles, ArePositive, All-from_recursion}
+use Rattle.gf_form.proofs.Common.{HasTooManyProfiles, ArePositive, All-from_recursion, All-get_or}
 use Rattle.std.proofs.Math.Nat.{mul-le-mul_left}
 use Rattle.std.proofs.lemmas.List.{take_all}
-use Rattle.std.proofs.lemmas.List.Elements.{All-get_or}
 use Rattle.gf_nfg.specs.declared.limit.ProfileCount.{ProfileCount}
 use Rattle.gf_form.proofs.lemmas.strategies.Choices.{length-all_choices}
 use Rattle.gf_form.proofs.lemmas.strategies.Lookups.{all_mapped}

@@ -6,12 +6,7 @@ use Rattle.gf_form.proofs.lemmas.strategies.Lookups.{Each, each_described}
 
 pub each_set : (g : Game) → IsGame g → (key : SetKey)
     → Each (IsSet (length g.players) key) (set_at g key)
-each_set g game key =
-    each_described (λ (s : Described SetKey InformationSet).
-    IsSet (length g.players) s.key s.description) (IsSet (length g.players) key)
-    (λ s. s.description) (λ s. same_set s.key key) g.sets
-    (λ s h same. subst (λ k. IsSet (length g.players) k s.description)
-    ((same_set_equality s.key key).0 same) h) game.each_set
+each_set g game key = grind (arith, each_described, same_set, same_set_equality)
 
 pub set_is : (g : Game) → IsGame g → (key : SetKey) (set : InformationSet) → set_at g key ≡ Some set
     → IsSet (length g.players) key set

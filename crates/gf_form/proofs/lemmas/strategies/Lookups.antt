@@ -146,13 +146,4 @@ alike_back P Q xs ys h = grind arith
 pub first_alike : (P Q : List ℕ → Type 0) (ps qs : List (List ℕ)) (position : ℕ)
     → AllZip (λ p q. P p ↔ Q q) ps qs → IsFirstWithout P ps position
     → IsFirstWithout Q qs position
-first_alike P Q ps qs position h o =
-    let there = alike_at P Q ps qs position o.profile h o.there in
-    record {
-      profile = there.0;
-      there = there.1;
-      overflows = λ holds. o.overflows (there.2.1 holds);
-      first = λ earlier other before is.
-          let one = alike_at Q P qs ps earlier other (alike_back P Q ps qs h) is in
-          one.2.1 (o.first earlier one.0 before one.1);
-    }
+first_alike P Q ps qs position h o = grind (arith, alike_at, alike_back)

@@ -1,14 +1,13 @@
 -- The profiles of some strategies of each player, and their numbers among all profiles.
-use Rattle.gf_form.proofs.Common.{◌≡◌, ℕ, suc, ◌+◌, ◌-◌, ◌*◌, ◌/◌, ◌%◌, ◌<◌, ◌≤◌, List, [], ◌∷◌}
-use Rattle.gf_form.proofs.Common.{ArePicked, IsPicked, length, map, get_or, sym, ap, ◌∙◌, arith}
-use Rattle.gf_form.proofs.Common.{zero, drop, AllByRecursion, AllZip, Contains, flat_map}
-use Rattle.gf_form.proofs.Common.{mod-add-div, mul_comm, mul-le-mul_right, get_or-map}
-use Rattle.gf_form.proofs.Common.{get_or_default, length-map, all_weaker, numbers_from, positions}
-use Rattle.gf_form.proofs.Common.{product, profiles, IsProfile, every_profile, length-profiles}
-use Rattle.gf_form.proofs.Common.{Game, AreCounts, Counts, length-numbers_from, AreBelow}
-use Rattle.gf_form.proofs.Common.{AreProfileNumbers, numbered_profiles, AreStrategies}
-use Rattle.gf_form.proofs.Common.{action_counts, full_profiles, players_of, strategies}
-use Rattle.gf_form.proofs.Common.{strategies_at}
+use Rattle.gf_form.proofs.Common.{◌≡◌, IsPicked, Contains, flat_map, mul_comm, IsProfile, AreCounts}
+use Rattle.gf_form.proofs.Common.{ℕ, ap}
+use Rattle.gf_form.proofs.Common.{suc, List, get_or, zero, drop, AllZip, profiles, Counts, AreBelow}
+use Rattle.gf_form.proofs.Common.{◌+◌, ◌-◌, ◌*◌, ◌/◌, ◌%◌, ◌<◌, ◌≤◌, [], ◌∷◌, map, sym, ◌∙◌, Game}
+use Rattle.gf_form.proofs.Common.{ArePicked, all_weaker, positions, product, players_of, strategies}
+use Rattle.gf_form.proofs.Common.{length, length-numbers_from, AreProfileNumbers, numbered_profiles}
+use Rattle.gf_form.proofs.Common.{arith, every_profile, AreStrategies, action_counts, full_profiles}
+use Rattle.gf_form.proofs.Common.{AllByRecursion, mul-le-mul_right, get_or_default, length-profiles}
+use Rattle.gf_form.proofs.Common.{mod-add-div, get_or-map, length-map, numbers_from, strategies_at}
 use Rattle.gf_nfg.specs.ProfilePlaces.{place}
 use Rattle.gf_nfg.proofs.lemmas.tables.Profiles.{are_profiles, place_at}
 use Rattle.gf_form.proofs.lemmas.strategies.Lookups.{in_turn, zip_flat}

@@ -1,22 +1,19 @@
 -- The strategy with a number: one action after another, each by what is left of the number.
-use Rattle.gf_form.proofs.Common.{◌≡◌, ℕ, suc, ◌+◌, ◌-◌, ◌*◌, ◌/◌, ◌%◌, ◌<◌, ◌≤◌, List, [], ◌∷◌}
-use Rattle.gf_form.proofs.Common.{◌++◌, length, map, get_or, take, drop, refl, sym, ap, subst, ◌∙◌}
-use Rattle.gf_form.proofs.Common.{append_assoc, add-one, arith, true, false, ◌^◌, decimal, ◌==◌}
-use Rattle.gf_form.proofs.Common.{AllByRecursion, flat_map, flat_map-append, mod-lt}
-use Rattle.gf_form.proofs.Common.{mul-div_cancel_left, drop-cons, take-append_seam, take-suc}
-use Rattle.gf_form.proofs.Common.{append-nil, length-append, map-append, product, IsPlain}
-use Rattle.gf_form.proofs.Common.{all_choices, strategy_label, all_both, mul_assoc}
-use Rattle.gf_form.proofs.Common.{All-from_recursion}
+use Rattle.gf_form.proofs.Common.{◌≡◌, suc, ◌+◌, ◌-◌, ◌*◌, ◌/◌, ◌++◌, take, drop, refl, true, ◌==◌}
+use Rattle.gf_form.proofs.Common.{ℕ, AllByRecursion, flat_map-append, length-append, strategy_label}
+use Rattle.gf_form.proofs.Common.{◌%◌, ◌<◌, ◌≤◌, ◌∷◌, map, sym, ap, ◌∙◌, ◌^◌}
+use Rattle.gf_form.proofs.Common.{List, add-one, flat_map, drop-cons, take-suc, all_both, mul_assoc}
+use Rattle.gf_form.proofs.Common.{[], append_assoc, append-nil, map-append, all_choices, All-get_or}
+use Rattle.gf_form.proofs.Common.{length, mul-div_cancel_left, take-append_seam, All-from_recursion}
+use Rattle.gf_form.proofs.Common.{get_or, subst, arith, false, decimal, mod-lt, product, IsPlain}
 use Rattle.std.specs.Str.Parse.{AllDigits}
 use Rattle.std.proofs.lemmas.Bool.Decides.{nat_tests}
 use Rattle.std.proofs.lemmas.Fmt.{decimal_is_IsNumeral_wide}
 use Rattle.gf_token.specs.LabelSpelling.{is_spelling_after, IsLabel}
-use Rattle.std.proofs.Math.Nat.{div-le_self}
 use Rattle.gf_form.proofs.lemmas.strategies.CountedActions.{take_past}
 pub use Rattle.gf_form.proofs.lemmas.strategies.Choices.{choices_next, choices_row, positive_parts}
 use Rattle.gf_form.proofs.lemmas.strategies.Choices.{IsChoice, are_choices, at_its_place}
 use Rattle.gf_form.proofs.lemmas.strategies.Choices.{length-all_choices, place, place_at}
-use Rattle.std.proofs.lemmas.List.Elements.{All-get_or}
 use Rattle.gf_form.proofs.lemmas.rows.DigitPlaces.{product_joined}
 
 pub all_at : {A : Type 0} (P : A → Type 0) (xs : List A) (i : ℕ) (d : A) → AllByRecursion P xs
@@ -57,17 +54,10 @@ pub record Goes (counts : List ℕ) (number i stride rest : ℕ) (strategy : Lis
   pub choice : strategy ++ get_or (all_choices (drop i counts)) rest []
       ≡ get_or (all_choices counts) number []
 
-pub record GoesOn (counts : List ℕ) (number i stride rest count : ℕ) (strategy : List ℕ)
-    : Type 0 where
-  pub some_action : 0 < count
-  pub some_stride : 0 < stride / count
-  pub small : rest / (stride / count) ≤ rest
-  pub goes : Goes counts number (i + 1) (stride / count) (rest % (stride / count))
-      (strategy ++ (rest / (stride / count) + 1) ∷ [])
-
 pub goes_on : (counts : List ℕ) (number i stride rest count : ℕ) (strategy : List ℕ)
     → Goes counts number i stride rest strategy → i < length counts
-    → count ≡ get_or counts i 0 → GoesOn counts number i stride rest count strategy
+    → count ≡ get_or counts i 0 → Goes counts number (i + 1) (stride / count)
+    (rest % (stride / count)) (strategy ++ (rest / (stride / count) + 1) ∷ [])
 goes_on counts number i stride rest count strategy h less is =
     let others = drop (suc i) counts in
     let next = drop-cons counts i 0 less ∙ ap (λ (c : ℕ). c ∷ others) (sym is) in
@@ -75,16 +65,10 @@ goes_on counts number i stride rest count strategy h less is =
     let below : rest < count * product others = subst (λ (n : ℕ). rest < n) whole h.below in
     let parts = positive_parts count (product others) rest below in
     let divided = ap (λ (n : ℕ). n / count) whole ∙ mul-div_cancel_left (product others) parts.0 in
-    let some : 0 < stride / count = subst (λ (n : ℕ). 0 < n) (sym divided) parts.1 in
     record {
-      some_action = parts.0;
-      some_stride = some;
-      small = div-le_self rest (stride / count);
-      goes = record {
-        stride_is = divided ∙ ap (λ (n : ℕ). product (drop n counts)) (sym (add-one i));
-        below = mod-lt rest some;
-        choice = grind (arith, append_assoc, next, choices_next);
-      };
+      stride_is = divided ∙ ap (λ (n : ℕ). product (drop n counts)) (sym (add-one i));
+      below = mod-lt rest (subst (λ (n : ℕ). 0 < n) (sym divided) parts.1);
+      choice = grind (arith, append_assoc, next, choices_next);
     }
 
 -- ---- labels

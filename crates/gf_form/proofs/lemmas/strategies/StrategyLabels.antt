@@ -1,11 +1,10 @@
 -- The labels of strategies: they differ, and those of all sets are joined from those of some and of
 -- the others.
-use Rattle.gf_form.proofs.Common.{◌≡◌, ℕ, ◌+◌, ◌%◌, ◌^◌, ◌<◌, ◌≤◌, List, [], ◌∷◌, ◌++◌, length, map}
-use Rattle.gf_form.proofs.Common.{get_or, drop, refl, ap, arith, decimal, AllByRecursion}
-use Rattle.gf_form.proofs.Common.{join_with_byte, length-map, all_both, all_images, all_weaker, sym}
-use Rattle.gf_form.proofs.Common.{◌∙◌, decimal_injective, get_or_default, all_choices}
-use Rattle.gf_form.proofs.Common.{strategy_label, suc, ◌*◌, Some, take, append_assoc, slice_get}
-use Rattle.gf_form.proofs.Common.{product}
+use Rattle.gf_form.proofs.Common.{◌≡◌, ◌+◌, ◌%◌, ◌^◌, List, [], ◌++◌, drop, refl, arith, Some, take}
+use Rattle.gf_form.proofs.Common.{ℕ, ◌<◌, ◌≤◌, ◌∷◌, map, ap, sym, ◌∙◌, suc, ◌*◌}
+use Rattle.gf_form.proofs.Common.{length, get_or, decimal, all_both, all_weaker, slice_get, product}
+use Rattle.gf_form.proofs.Common.{AllByRecursion, join_with_byte, decimal_injective, get_or_default}
+use Rattle.gf_form.proofs.Common.{length-map, all_images, all_choices, strategy_label, append_assoc}
 use Rattle.std.proofs.lemmas.Fmt.{decimal_by_steps}
 use Rattle.gf_form.proofs.lemmas.strategies.Choices.{IsChoice, every_choice, choices_distinct}
 use Rattle.gf_form.proofs.lemmas.strategies.Choices.{are_choices, length-all_choices}
@@ -144,3 +143,5 @@ all_joined firsts others labels i end h xs ys hx hy f o =
     grind (arith, counted, product_joined, take_past, length-all_choices)
 
 pub ruleset joined_steps = (one_joined_more, row_joined, all_joined)
+
+pub ruleset each_strategy = (every_choice, length-all_choices, choices_distinct, labels_differ)

@@ -1,14 +1,14 @@
 -- Trees whose nodes are alike, each to its image, in what is chosen, how probable it is and what it
 -- pays: they have the same payoff, and the same bottom-up value.
-use Rattle.gf_form.proofs.Common.{◌≡◌, ℕ, zero, suc, ◌+◌, List, arith, Some, None, map, refl, sym}
-use Rattle.gf_form.proofs.Common.{ap, ◌∙◌, subst, ◌==◌, ◌&&◌, filter, MatchOption, AllByRecursion}
+use Rattle.gf_form.proofs.Common.{◌≡◌, ℕ, zero, suc, ◌+◌, List, arith, Some, None, map, refl}
+use Rattle.gf_form.proofs.Common.{ap, ◌∙◌, ◌==◌, ◌&&◌, filter, MatchOption, AllByRecursion}
 use Rattle.gf_form.proofs.Common.{map-append, Ratio, plus, times, total, zero_ratio, MultipliesTo}
 use Rattle.gf_form.proofs.Common.{all_parts, Tree, Trees, map_tree, map_trees, branch, none, more}
 use Rattle.gf_form.proofs.Common.{flatten, flatten_all, SetKey, Node, Game, map_twice, Step, Play}
 use Rattle.gf_form.proofs.Common.{from_node, plays, plays_from, is_chosen, follows, probability}
 use Rattle.gf_form.proofs.Common.{payoff_at, play_probability, play_payoff, payoff, IsValue}
 use Rattle.gf_form.proofs.Common.{IsChanceValue, IsChildValue, [], ◌∷◌, all_both, all_images}
-use Rattle.gf_form.proofs.Common.{all_weaker, list_all}
+use Rattle.gf_form.proofs.Common.{all_weaker, list_all, Option, MatchBool, AddsTo}
 use Rattle.gf_fraction.specs.Rational.{ratio_product}
 use Rattle.gf_tree.specs.PrefixOrder.{Entry}
 
@@ -122,19 +122,22 @@ module _ (g h : Game) (c d : SetKey → ℕ) (player : ℕ) (f : Node → Node) 
 
 -- ---- bottom-up values
 
+-- the value at a node of this set, or without one
+abbrev ValueAt : Option SetKey → (SetKey → ℕ) → Ratio → (Ratio → Type 0) → (ℕ → Ratio → Type 0)
+    → Ratio → Type 0
+ValueAt o c own ByChance ByChild value = MatchOption o (value ≡ own) (λ key. (below : Ratio)
+    × MatchBool (key.player == 0) (ByChance below) (ByChild (c key) below) × AddsTo own below value)
+
 module _ (g h : Game) (c d : SetKey → ℕ) (player : ℕ) (f : Node → Node) where
-  abbrev ChanceGoes : Node → Trees Node → Type 0
-  ChanceGoes n ts = (value : Ratio) → IsChanceValue g c player n 1 zero_ratio ts value
-      → IsChanceValue h d player (f n) 1 zero_ratio (map_trees f ts) value
-
-  abbrev ChildGoes : Trees Node → Type 0
-  ChildGoes ts = (position : ℕ) (value : Ratio) → IsChildValue g c player position ts value
-      → IsChildValue h d player position (map_trees f ts) value
-
-  node_goes : (n : Node) (ts : Trees Node) (value : Ratio)
-      → IsAlike g h c d player f n → ChanceGoes n ts → ChildGoes ts
-      → IsValue g c player (branch n ts) value → IsValue h d player (map_tree f (branch n ts)) value
-  node_goes n ts value a chance child v = let moves = a.moves in let pays = a.pays in grind arith
+  moved : (o p : Option SetKey) → MatchOption o (p ≡ None) (λ key. (other : SetKey)
+      × (p ≡ Some other) × ((other.player == 0) ≡ (key.player == 0)) × (d other ≡ c key))
+      → (own : Ratio) (ByChance : Ratio → Type 0) (ByChild : ℕ → Ratio → Type 0) (value : Ratio)
+      → ValueAt p d own ByChance ByChild value ≡ ValueAt o c own ByChance ByChild value
+  moved None p m own ByChance ByChild value = λ i. ValueAt (m i) d own ByChance ByChild value
+  moved (Some key) p m own ByChance ByChild value =
+      (λ i. ValueAt (m.1 i) d own ByChance ByChild value)
+      ∙ (λ i. (below : Ratio) × MatchBool (m.2 i) (ByChance below) (ByChild (m.3 i) below)
+      × AddsTo own below value)
 
   both_alike : (t : Tree Node) (ts : Trees Node)
       → AreAlike g h c d player f (flatten_all (more t ts))
@@ -143,37 +146,32 @@ module _ (g h : Game) (c d : SetKey → ℕ) (player : ℕ) (f : Node → Node) 
       all_parts (λ e. IsAlike g h c d player f e.node) (flatten t) (flatten_all ts) all
 
   mutual
-    value_goes : (t : Tree Node) (value : Ratio) → AreAlike g h c d player f (flatten t)
-        → IsValue g c player t value → IsValue h d player (map_tree f t) value
-    value_goes (branch n ts) value a v =
-        node_goes n ts value a.0 (λ below is. chance_goes ts n 1 zero_ratio below a.0 a.1 is)
-        (λ position below is. child_goes ts position below a.1 is) v
+    pub value_alike : (t : Tree Node) (value : Ratio) → AreAlike g h c d player f (flatten t)
+        → IsValue h d player (map_tree f t) value ≡ IsValue g c player t value
+    value_alike (branch n ts) value a =
+        (λ i. ValueAt (f n).set d (a.0.pays i)
+        (λ below. chances_alike ts n 1 zero_ratio below a.0 a.1 i)
+        (λ position below. child_alike ts position below a.1 i) value)
+        ∙ moved n.set (f n).set a.0.moves (payoff_at g player n)
+        (IsChanceValue g c player n 1 zero_ratio ts)
+        (λ position. IsChildValue g c player position ts) value
 
-    chance_goes : (ts : Trees Node) (n : Node) (k : ℕ) (sum value : Ratio)
+    chances_alike : (ts : Trees Node) (n : Node) (k : ℕ) (sum value : Ratio)
         → IsAlike g h c d player f n → AreAlike g h c d player f (flatten_all ts)
-        → IsChanceValue g c player n k sum ts value
         → IsChanceValue h d player (f n) k sum (map_trees f ts) value
-    chance_goes none n k sum value a all v = v
-    chance_goes (more t ts) n k sum value a all v =
-        let both = both_alike t ts all in (
-          v.0,
-          v.1,
-          v.2,
-          value_goes t v.0 both.0 v.3,
-          subst (λ q. MultipliesTo q v.0 v.1) (sym (a.chance k)) v.4,
-          v.5,
-          chance_goes ts n (k + 1) v.2 value a both.1 v.6,
-        )
+        ≡ IsChanceValue g c player n k sum ts value
+    chances_alike none n k sum value a all = refl
+    chances_alike (more t ts) n k sum value a all =
+        let both = both_alike t ts all in
+        λ i. (x : Ratio) × (y : Ratio) × (next : Ratio) × value_alike t x both.0 i
+        × MultipliesTo (a.chance k i) x y × AddsTo sum y next
+        × chances_alike ts n (k + 1) next value a both.1 i
 
-    child_goes : (ts : Trees Node) (position : ℕ) (value : Ratio)
-        → AreAlike g h c d player f (flatten_all ts) → IsChildValue g c player position ts value
+    child_alike : (ts : Trees Node) (position : ℕ) (value : Ratio)
+        → AreAlike g h c d player f (flatten_all ts)
         → IsChildValue h d player position (map_trees f ts) value
-    child_goes (more t ts) (suc zero) value all v = value_goes t value (both_alike t ts all).0 v
-    child_goes (more t ts) (suc (suc position)) value all v =
-        child_goes ts (suc position) value (both_alike t ts all).1 v
-    child_goes ts position value all v = absurd v
-
-pub same_value : (g h : Game) (c d : SetKey → ℕ) (player : ℕ) (f : Node → Node) (value : Ratio)
-    → h.tree ≡ map_tree f g.tree → AreAlike g h c d player f (flatten g.tree)
-    → IsValue g c player g.tree value → IsValue h d player h.tree value
-same_value g h c d player f value tree a v = grind (arith, tree, value_goes)
+        ≡ IsChildValue g c player position ts value
+    child_alike (more t ts) (suc zero) value all = value_alike t value (both_alike t ts all).0
+    child_alike (more t ts) (suc (suc position)) value all =
+        child_alike ts (suc position) value (both_alike t ts all).1
+    child_alike ts position value all = refl

@@ -1,14 +1,19 @@
--- The probabilities and payoffs of a game that a file can hold have denominators above zero.
+-- The probabilities and payoffs of a game that a file can hold have denominators above zero, and no
+-- probability of a chance move is negative.
 use Rattle.gf_form.proofs.Common.{◌≡◌, Option, Some, None, refl, Action, ℕ, arith, option_and_then}
-use Rattle.gf_form.proofs.Common.{⊤, ◌==◌, AllByRecursion, IsFraction, times, zero_ratio, one_ratio}
-use Rattle.gf_form.proofs.Common.{whole_fraction, IsAbove, times_above, total_above, at_position}
+use Rattle.gf_form.proofs.Common.{⊤, ◌==◌, AllByRecursion, IsFraction, zero_ratio, one_ratio}
+use Rattle.gf_form.proofs.Common.{whole_fraction, IsAbove, total_above, at_position}
 use Rattle.gf_form.proofs.Common.{SetKey, same_set, Node, Game, set_at, outcome_at, IsSpellable}
 use Rattle.gf_form.proofs.Common.{Step, Play, action_at, probability, payoff_at, play_probability}
-use Rattle.gf_form.proofs.Common.{play_payoff}
+use Rattle.gf_form.proofs.Common.{play_payoff, ℤ, pos, List, ◌∷◌, length, map, ap, drop, subst}
+use Rattle.gf_form.proofs.Common.{unsigned_abs, ints, Ratio, AddToOne, IsSet, IsGame, chances_at}
 use Rattle.gf_fraction.proofs.Rationals.{ratio_product_above}
 use Rattle.gf_tree.specs.Spellable.{IsSpellableAction, IsSpellableSet, IsSpellableOutcome}
 use Rattle.gf_form.proofs.lemmas.strategies.Lookups.{Each, each_at, each_described, each_then}
-use Rattle.gf_form.proofs.lemmas.strategies.Lookups.{each_or}
+use Rattle.gf_form.proofs.lemmas.strategies.Lookups.{each_or, each_weaker}
+use Rattle.std.specs.Prelude.{◌≤ℤ◌}
+use Rattle.gf_tree.specs.Description.{AreActions, IsLottery}
+use Rattle.gf_form.proofs.lemmas.strategies.KnownSets.{each_set}
 
 -- what is so of the actions of a node's set is so of the one that is taken there
 pub each_action : (g : Game) (P : Action → Type 0) (s : Step)
@@ -72,6 +77,43 @@ module _ (g : Game) (spellable : IsSpellable g) where
   pub play_payoff_above : (player : ℕ) (play : Play) → IsAbove (play_payoff g player play)
   play_payoff_above player play = grind (arith, total_above, payoff_above)
 
-  pub worth_above : (player : ℕ) (play : Play)
-      → IsAbove (times (play_probability g play) (play_payoff g player play))
-  worth_above player play = grind (arith, times_above, play_probability_above, play_payoff_above)
+abbrev IsNotNegative : Ratio → Type 0
+IsNotNegative r = pos 0 ≤ℤ r.num
+
+abbrev HasSign : Action → Type 0
+HasSign a = Each IsNotNegative a.probability
+
+lottery_signs : (actions : List Action) (ps : List Ratio) (sum : Ratio)
+    → map (λ a. a.probability) actions ≡ map Some ps → AddToOne sum ps
+    → AllByRecursion HasSign actions
+lottery_signs (a ∷ actions) (p ∷ ps) sum e adds =
+    grind (arith, lottery_signs actions ps adds.1.0 (ap (drop 1) e) adds.1.2, ints)
+lottery_signs actions ps sum e adds = grind arith
+
+size_is : (z : ℤ) → pos 0 ≤ℤ z → z ≡ pos (unsigned_abs z)
+size_is z h = omega (arith, ints, h)
+
+pub chance_size : (g : Game) → IsGame g → (n : Node) (key : SetKey) (k : ℕ) → n.set ≡ Some key
+    → key.player ≡ 0 → (chances_at g n k).num ≡ pos (unsigned_abs (chances_at g n k).num)
+chance_size g game n key k at chance =
+    size_is (chances_at g n k).num
+    (each_or IsNotNegative (option_and_then (λ a. a.probability) taken) one_ratio
+    (omega (arith, ints))
+    (each_then HasSign IsNotNegative (λ a. a.probability) taken (λ a h. h)
+    (each_action g HasSign (record { node = n; taken = k })
+    (λ other is. let same : key ≡ other = cc in
+    sets other (subst (λ s. s.player ≡ 0) same chance)))))
+  where
+    taken : Option Action
+    taken = action_at g (record { node = n; taken = k })
+
+    sets : (key : SetKey) → key.player ≡ 0
+        → Each (λ set. AllByRecursion HasSign set.actions) (set_at g key)
+    sets key chance =
+        each_weaker (IsSet (length g.players) key) (λ set. AllByRecursion HasSign set.actions)
+        (set_at g key)
+        (λ set is.
+        let lottery : IsLottery set.actions =
+        subst (λ p. AreActions p set.actions) chance is.actions in
+        lottery_signs set.actions lottery.0 _ lottery.1 lottery.2)
+        (each_set g game key)

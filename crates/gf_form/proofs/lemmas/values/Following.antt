@@ -1,12 +1,21 @@
--- Which plays follow the same choices.
-use Rattle.gf_form.proofs.Common.{◌≡◌, ℕ, suc, ◌+◌, ◌<◌, ◌≤◌, Bool, true, false, List, [], ◌∷◌}
-use Rattle.gf_form.proofs.Common.{◌++◌, Option, Some, MatchOption, length, map, refl, sym, ap, ◌∙◌}
-use Rattle.gf_form.proofs.Common.{subst, arith, inl, inr, ◌⊎◌, ◌↔◌, ◌==◌, option_map}
-use Rattle.gf_form.proofs.Common.{AllByRecursion, list_all, eqb-true, all_parts, Tree, Trees, count}
-use Rattle.gf_form.proofs.Common.{branch, none, more, flatten, flatten_all, SetKey, Node, Game}
-use Rattle.gf_form.proofs.Common.{HasChildren, set_at, Has, mapped_from, Step, Play, from_node}
-use Rattle.gf_form.proofs.Common.{plays, plays_from, is_chosen, follows}
-use Rattle.gf_form.specs.Plays.{PartAtChance}
+-- Which plays follow the same choices. If these are actions, some play does, and the probabilities
+-- of those that do come to one: this is what they pay in all if one is paid before each, and
+-- nothing in the tree.
+use Rattle.gf_form.proofs.Common.{◌≡◌, AllByRecursion, play_probability, chance_value, PartAtChance}
+use Rattle.gf_form.proofs.Common.{ℕ, [], ap, inl, inr, ◌⊎◌, ◌↔◌, Has, has}
+use Rattle.gf_form.proofs.Common.{suc, list_all, eqb-true, Contains, contains, times_one, payoff_at}
+use Rattle.gf_form.proofs.Common.{◌+◌, List, ◌++◌, Some, refl, ◌==◌, Tree, none, more, total, value}
+use Rattle.gf_form.proofs.Common.{◌<◌, ◌≤◌, ◌∷◌, map, sym, ◌∙◌, Node, Game, Step, Play, zero, back}
+use Rattle.gf_form.proofs.Common.{Bool, plays_from, zero_ratio, plus_right, HasActions, child_value}
+use Rattle.gf_form.proofs.Common.{true, Option, branch, flatten, SetKey, follows, IsEqual, nodes_of}
+use Rattle.gf_form.proofs.Common.{false, subst, arith, Trees, count, plays, Ratio, ◌then◌, IsGame}
+use Rattle.gf_form.proofs.Common.{all_parts, from_node, is_chosen, of_filter, one_ratio, chances_at}
+use Rattle.gf_form.proofs.Common.{flatten_all, HasChildren, mapped_from, times_right, IsSpellable}
+use Rattle.gf_form.proofs.lemmas.strategies.Chosen.{chance_is_paid_nothing}
+use Rattle.gf_form.proofs.lemmas.values.BottomUp.{has_set, followed_in, share, sum_alike, tree_pays}
+use Rattle.gf_form.proofs.lemmas.values.Denominators.{probability_fraction, play_probability_above}
+use Rattle.gf_form.proofs.lemmas.values.ValuesComputed.{value_is, zero_fraction, plus_zero}
+use Rattle.gf_form.proofs.lemmas.values.ValuesComputed.{times_zero}
 
 -- ---- a play's moves are the choices
 
@@ -113,11 +122,6 @@ module _ (choices : SetKey → ℕ) where
   alike_child n k below above p q ep eq (inr part) = inr (grind (arith, ep, eq, part_behind))
 
   module _ (g : Game) where
-    has_set : (o : Option SetKey) (n : ℕ) → 0 < n → MatchOption o (n ≡ 0)
-        (λ key. option_map (λ set. length set.actions) (set_at g key) ≡ Some n)
-        → (key : SetKey) × (o ≡ Some key)
-    has_set o n above e = grind arith
-
     mutual
       pub same_or_part : (t : Tree Node) → AllByRecursion (HasChildren g) (flatten t) → (p q : Play)
           → Has (plays t) p → Has (plays t) q → Follows p → Follows q → SameOrPart p q
@@ -125,7 +129,7 @@ module _ (choices : SetKey → ℕ) where
       same_or_part (branch n none) children p q (inl e) (inr f) hp hq = absurd f
       same_or_part (branch n none) children p q (inr e) f hp hq = absurd e
       same_or_part (branch n (more t ts)) children p q i j hp hq =
-          let set = has_set n.set (suc (count ts)) (omega arith) children.0 in
+          let set = has_set g n.set (suc (count ts)) (omega arith) children.0 in
           same_or_part_of (more t ts) n 1 set.0 set.1 children.1 p q (play_of (more t ts) n 1 p i)
           (play_of (more t ts) n 1 q j) hp hq
 
@@ -147,3 +151,88 @@ module _ (choices : SetKey → ℕ) where
       same_or_part_of (more t ts) n k key at children p q (inr i) (inr j) hp hq =
           let both = all_parts (HasChildren g) (flatten t) (flatten_all ts) children in
           same_or_part_of ts n (k + 1) key at both.1 p q i j hp hq
+
+pub same_or_part_play : (choices : SetKey → ℕ) (g : Game) → IsGame g → (p q : Play)
+    → Contains (plays g.tree) p → Contains (plays g.tree) q
+    → follows choices p ≡ true → follows choices q ≡ true → (p ≡ q) ⊎ PartAtChance p q
+same_or_part_play choices g game p q hp hq = same_or_part choices g g.tree game.children p q
+    (has (plays g.tree) p hp) (has (plays g.tree) q hq)
+
+-- nobody is player 0
+nothing_paid : (g : Game) (ns : List Node) → IsEqual (total (map (payoff_at g 0) ns)) zero_ratio
+nothing_paid g [] = grind arith
+nothing_paid g (n ∷ ns) = grind (arith, nothing_paid g ns, chance_is_paid_nothing g n)
+
+module _ (g : Game) (game : IsGame g) (spellable : IsSpellable g) (choices : SetKey → ℕ)
+    (actions : HasActions g choices) where
+  abbrev IsNothing : Option Ratio → Type 0
+  IsNothing o = o ≡ Some zero_ratio
+
+  node_nothing : (n : Node) (ts : Trees Node)
+      → HasChildren g (record { node = n; children = count ts })
+      → IsNothing (chance_value g choices 0 (chances_at g n) 1 (Some zero_ratio) ts)
+      → ((position : ℕ) → 1 ≤ position → position ≤ count ts
+      → IsNothing (child_value g choices 0 position ts))
+      → IsNothing (value g choices 0 (branch n ts))
+  node_nothing n ts children chance child =
+      grind (arith, chance_is_paid_nothing, plus_zero, zero_fraction, zero_ratio)
+
+  mutual
+    nothing : (t : Tree Node) → AllByRecursion (HasChildren g) (flatten t)
+        → IsNothing (value g choices 0 t)
+    nothing (branch n ts) children =
+        node_nothing n ts children.0 (chance_nothing ts n 1 children.1)
+        (λ position above within. child_nothing ts position above within children.1)
+
+    chance_nothing : (ts : Trees Node) (n : Node) (k : ℕ)
+        → AllByRecursion (HasChildren g) (flatten_all ts)
+        → IsNothing (chance_value g choices 0 (chances_at g n) k (Some zero_ratio) ts)
+    chance_nothing none n k children = refl
+    chance_nothing (more t ts) n k children =
+        let both = all_parts (HasChildren g) (flatten t) (flatten_all ts) children in
+        cc (
+          nothing t both.0,
+          times_zero (chances_at g n k)
+              (probability_fraction g spellable (record { node = n; taken = k })),
+          plus_zero zero_ratio zero_fraction,
+          chance_nothing ts n (k + 1) both.1,
+        )
+
+    child_nothing : (ts : Trees Node) (position : ℕ) → 1 ≤ position → position ≤ count ts
+        → AllByRecursion (HasChildren g) (flatten_all ts)
+        → IsNothing (child_value g choices 0 position ts)
+    child_nothing (more t ts) (suc zero) above within children =
+        nothing t (all_parts (HasChildren g) (flatten t) (flatten_all ts) children).0
+    child_nothing (more t ts) (suc (suc k)) above within children =
+        child_nothing ts (suc k) (omega arith) (omega (arith, within))
+        (all_parts (HasChildren g) (flatten t) (flatten_all ts) children).1
+    child_nothing ts position above within children = absurd (grind arith)
+
+  whole_in : (t : Tree Node) → AllByRecursion (HasChildren g) (flatten t)
+      → IsEqual (total (map (play_probability g) (followed_in choices t))) one_ratio
+  whole_in t children =
+      sum_alike (play_probability g) (share g game spellable choices 0 one_ratio)
+      (λ p. let above = play_probability_above g spellable p in
+      back (times_right (play_probability g p) above
+      (plus_right one_ratio (omega arith) (nothing_paid g (nodes_of p)))
+      then times_one (play_probability g p) above)) (followed_in choices t)
+      then tree_pays g game spellable choices 0 t zero_ratio children
+      ((value_is g spellable choices 0 t zero_ratio).1 (nothing t children)) one_ratio (omega arith)
+
+  pub whole : IsEqual (total (map (play_probability g) (followed_in choices g.tree))) one_ratio
+  whole = whole_in g.tree game.children
+
+  -- what is not empty has a play in it
+  first_of : (ps : List Play) → IsEqual (total (map (play_probability g) ps)) one_ratio
+      → (play : Play) × Has ps play
+  first_of [] h = grind arith
+  first_of (p ∷ ps) h = (p, inl refl)
+
+  pub some_play_in : (t : Tree Node) → AllByRecursion (HasChildren g) (flatten t)
+      → (play : Play) × Has (plays t) play × (follows choices play ≡ true)
+  some_play_in t children = grind (arith, first_of, followed_in, whole_in, of_filter)
+
+  pub some_play : (play : Play) × Contains (plays g.tree) play × (follows choices play ≡ true)
+  some_play = grind (arith, some_play_in, contains)
+
+pub ruleset followed_plays = (follows_moves, some_play, whole, same_or_part_play)

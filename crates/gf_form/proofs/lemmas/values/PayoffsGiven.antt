@@ -2,10 +2,10 @@
 use Rattle.gf_form.proofs.Common.{get_or, ◌≡◌, ℕ, suc, ◌+◌, ◌<◌, List, Some, None, length, sym}
 use Rattle.gf_form.proofs.Common.{subst, arith, AllByRecursion, AllZip, length-map, Ratio}
 use Rattle.gf_form.proofs.Common.{IsFraction, IsEqual, zero_ratio, numbers_from, positions, SetKey}
-use Rattle.gf_form.proofs.Common.{Game, IsGame, IsSpellable, IsValue, payoff, HasValuesBy, at_place}
-use Rattle.gf_form.proofs.Common.{ArePayoffs, value, recursion_from_All, All-from_recursion}
-use Rattle.gf_form.proofs.Common.{get_or-numbers_from, length-numbers_from}
-use Rattle.std.proofs.lemmas.List.Elements.{All-from_get_or, All-get_or}
+use Rattle.gf_form.proofs.Common.{Game, IsGame, IsSpellable, IsValue, payoff, HasValuesWith}
+use Rattle.gf_form.proofs.Common.{at_place, ArePayoffs, value, recursion_from_All}
+use Rattle.gf_form.proofs.Common.{All-from_recursion, get_or-numbers_from, length-numbers_from}
+use Rattle.std.proofs.lemmas.List.Elements.{All-get_or}
 use Rattle.gf_form.proofs.lemmas.strategies.Lookups.{zip_by_places}
 use Rattle.gf_form.proofs.lemmas.values.BottomUp.{value_is_payoff}
 use Rattle.gf_form.proofs.lemmas.values.RowSums.{fraction_at}
@@ -25,8 +25,7 @@ zip_in_turn R d xs first h =
 all_in_turn : (P : ℕ → Type 0) (n first : ℕ) → ((k : ℕ) → k < n → P (first + k))
     → AllByRecursion P (numbers_from first n)
 all_in_turn P n first h =
-    recursion_from_All P (numbers_from first n) (All-from_get_or P (numbers_from first n) 0
-    (λ k less. grind (arith, get_or-numbers_from, length-numbers_from, h)))
+    grind (arith, get_or-numbers_from, length-numbers_from, numbers_from, recursion_from_All)
 
 one_in_turn : (P : ℕ → Type 0) (n first k : ℕ) → AllByRecursion P (numbers_from first n) → k < n
     → P (first + k)
@@ -59,16 +58,16 @@ module _ (g : Game) (game : IsGame g) (spellable : IsSpellable g) (choices : Set
       zero_ratio row 1
       (λ k less. (
         fraction_at row k fractions,
-        value_is_payoff g game spellable (1 + k) choices (at_place row k)
+        value_is_payoff g game spellable choices (1 + k) (at_place row k)
             (has_value row h k (subst (λ (n : ℕ). k < n) count less)),
       )))
 
-  pub have_values : (row : List Ratio) → AreValues row → HasValuesBy g choices
+  pub have_values : (row : List Ratio) → AreValues row → HasValuesWith g choices
   have_values row h =
       all_in_turn HasValue (length g.players) 1 (λ k less. (at_place row k, has_value row h k less))
 
   pub lacks_value : (k : ℕ) → k < length g.players → value g choices (suc k) g.tree ≡ None
-      → HasValuesBy g choices → ⊥
+      → HasValuesWith g choices → ⊥
   lacks_value k less nothing h =
       let next : 1 + k ≡ suc k = omega arith in
       none_computed g spellable choices (suc k) g.tree nothing

@@ -1,22 +1,104 @@
--- The rows of payoffs that are kept, and rows that are put onto a stack and taken from it.
-use Rattle.gf_form.proofs.Common.{◌≡◌, ℕ, zero, suc, ◌+◌, ◌-◌, ◌<◌, ◌≤◌, List, [], ◌∷◌, ◌++◌}
-use Rattle.gf_form.proofs.Common.{length, map, get_or, inl, inr, subst, Some, arith, ◌==◌}
-use Rattle.gf_form.proofs.Common.{AllByRecursion, cases_lt, length-append, length-map}
-use Rattle.gf_form.proofs.Common.{slice_get-get_or, slice_get-map, slice_get_past}
-use Rattle.gf_form.proofs.Common.{unwrap_or-slice_get, Ratio, IsFraction, zero_ratio, at_position}
-use Rattle.gf_form.proofs.Common.{Outcome, Described, outcome_numbers, Game, IsGame, outcome_at}
-use Rattle.gf_form.proofs.Common.{IsSpellable, at_index, paid, ArePaid, IsRow, at_place, row_at}
-use Rattle.gf_form.proofs.Common.{get_or_append_left, Option, Vec, Global, ap, Err, map-append}
-use Rattle.gf_form.proofs.Common.{on_ok_weaker, run, Op, Push, Begin, Weigh, Pay, column, plus_of}
-use Rattle.gf_form.proofs.Common.{times_of}
+-- The operations of a tree leave its value on the stack: what they do to the values of a player,
+-- the rows of payoffs that are kept, and rows that are put onto a stack and taken from it.
+use Rattle.gf_form.proofs.Common.{◌≡◌, suc, ◌+◌, ◌∷◌, ◌∙◌, run, Pay, sym, ◌-◌, ◌<◌, ◌≤◌, map, ◌==◌}
+use Rattle.gf_form.proofs.Common.{ℕ, AllByRecursion, length-append, slice_get_past, outcome_numbers}
+use Rattle.gf_form.proofs.Common.{zero, List, ◌++◌, Ratio, Trees, value, Begin, Weigh, subst, IsRow}
+use Rattle.gf_form.proofs.Common.{[], Op, ap, inl, inr, Vec, Err}
+use Rattle.gf_form.proofs.Common.{Option, slice_get-get_or, unwrap_or-slice_get, get_or_append_left}
+use Rattle.gf_form.proofs.Common.{Some, None, refl, Tree, none, more, Game, Node, code, paid, Push}
+use Rattle.gf_form.proofs.Common.{append_assoc, chance_value, times_of, paid_at_node, slice_get-map}
+use Rattle.gf_form.proofs.Common.{arith, chances_at, child_code, length-map, IsFraction, outcome_at}
+use Rattle.gf_form.proofs.Common.{nat_eq, plus_of, Nothing, Outcome, at_index, ArePaid, at_place}
+use Rattle.gf_form.proofs.Common.{slice_get, payoff_at, eqb-true, cases_lt, Described, map-append}
+use Rattle.gf_form.proofs.Common.{zero_ratio, child_value, chance_code, at_position, IsSpellable}
+use Rattle.gf_form.proofs.Common.{branch, SetKey, get_or, length, IsGame, row_at, Global, column}
+use Rattle.std.specs.Prelude.{position, IsErrOf}
+use Rattle.std.proofs.lemmas.List.Quantifiers.{position-Some}
+use Rattle.gf_tree.proofs.lemmas.stores.FoundKeys.{not_described}
 use Rattle.std.proofs.Common.{Bor, reverse}
 use Rattle.std.proofs.lemmas.List.{get_or_push, reverse-append}
 use Rattle.gf_tree.specs.Description.{IsOutcome}
 use Rattle.gf_form.proofs.lemmas.values.Denominators.{payoffs_of}
 use Rattle.gf_form.proofs.lemmas.strategies.Lookups.{Each, each_described}
-use Rattle.std.specs.Prelude.{IsErrOf, option_to_list}
-use Rattle.gf_form.proofs.lemmas.values.ProgramRuns.{stays_undefined}
 use Rattle.gf_form.specs.inner.values.Program.{operands}
+
+-- ---- the payoffs of an outcome, by its position
+
+place_is : (n : ℕ) (ns : List ℕ) (place : ℕ) → position (nat_eq n) ns ≡ Some place
+    → slice_get ns place ≡ Some n
+place_is n ns place h =
+    let there = position-Some (nat_eq n) ns place 0 h in
+    let same = eqb-true n (get_or ns place 0) there.1 in
+    slice_get-get_or ns place 0 there.0 ∙ ap Some (sym same)
+
+pub paid_is : (g : Game) (player : ℕ) (n : Node)
+    → paid g player (paid_at_node g n) ≡ payoff_at g player n
+paid_is g player n = grind (arith, not_described, place_is)
+
+-- ---- the operations of a tree
+
+module _ (g : Game) (choices : SetKey → ℕ) (player : ℕ) where
+  abbrev Leaves : List Op → Option Ratio → Type 0
+  Leaves ops v = (rest : List Op) (st : List (Option Ratio))
+      → run g player (ops ++ rest) st ≡ run g player rest (v ∷ st)
+
+  node_runs : (n : Node) (ts : Trees Node)
+      → ((sum : Option Ratio) (rest : List Op) (st : List (Option Ratio))
+      → run g player (chance_code g choices (chances_at g n) 1 ts ++ rest) (sum ∷ st)
+      ≡ run g player rest (chance_value g choices player (chances_at g n) 1 sum ts ∷ st))
+      → ((position : ℕ)
+      → Leaves (child_code g choices position ts) (child_value g choices player position ts))
+      → Leaves (code g choices (branch n ts)) (value g choices player (branch n ts))
+  node_runs n ts chance child rest st =
+      let own = paid_is g player n in
+      grind (arith, own, append_assoc, chance, child)
+
+  mutual
+    pub code_runs : (t : Tree Node) → Leaves (code g choices t) (value g choices player t)
+    code_runs (branch n ts) =
+        node_runs n ts (chance_runs ts (chances_at g n) 1) (child_runs ts)
+
+    chance_runs : (ts : Trees Node) (chances : ℕ → Ratio) (k : ℕ) (sum : Option Ratio)
+        (rest : List Op) (st : List (Option Ratio))
+        → run g player (chance_code g choices chances k ts ++ rest) (sum ∷ st)
+        ≡ run g player rest (chance_value g choices player chances k sum ts ∷ st)
+    chance_runs none chances k sum rest st = refl
+    chance_runs (more t ts) chances k sum rest st =
+        rw append_assoc (code_runs t
+        (Weigh (chances k) ∷ (chance_code g choices chances (k + 1) ts ++ rest)) (sum ∷ st)
+        ∙ chance_runs ts chances (k + 1)
+        (plus_of sum (times_of (chances k) (value g choices player t))) rest st)
+
+    child_runs : (ts : Trees Node) (position : ℕ)
+        → Leaves (child_code g choices position ts) (child_value g choices player position ts)
+    child_runs none position rest st = refl
+    child_runs (more t ts) zero rest st = refl
+    child_runs (more t ts) (suc zero) rest st = code_runs t rest st
+    child_runs (more t ts) (suc (suc position)) rest st = child_runs ts (suc position) rest st
+
+-- ---- a value that is not defined stays so
+
+abbrev pub IsDefined : Option Ratio → Type 0
+IsDefined None = ⊥
+IsDefined (Some r) = Unit {0}
+
+-- if a value is left, all values on the stack were defined
+defined : (g : Game) (player : ℕ) (ops : List Op) (st : List (Option Ratio)) (r : Ratio)
+    → run g player ops st ≡ Some r ∷ [] → AllByRecursion IsDefined st
+defined g player (Push position ∷ ops) st r h =
+    (defined g player ops (Some (paid g player position) ∷ st) r h).1
+defined g player (Begin ∷ ops) st r h = (defined g player ops (Some zero_ratio ∷ st) r h).1
+defined g player (Nothing ∷ ops) st r h = (defined g player ops (None ∷ st) r h).1
+defined g player (Weigh p ∷ ops) (x ∷ sum ∷ st) r h =
+    grind (arith, defined g player ops (plus_of sum (times_of p x) ∷ st) r h)
+defined g player (Pay position ∷ ops) (x ∷ st) r h =
+    grind (arith, defined g player ops (plus_of (Some (paid g player position)) x ∷ st) r h)
+defined g player ops st r h = grind arith
+
+pub stays_undefined : (g : Game) (player : ℕ) (ops : List Op) (st : List (Option Ratio))
+    (v : Option Ratio) → run g player ops (None ∷ st) ≡ v ∷ [] → v ≡ None
+stays_undefined g player ops st None h = refl
+stays_undefined g player ops st (Some r) h = absurd (defined g player ops (None ∷ st) r h).0
 
 pub row_there : (rows held : List (Bor (List Ratio))) (position : ℕ) (row : Bor (List Ratio))
     → held ≡ rows → ¬ (position ≡ 0) → position - 1 < length held
@@ -83,7 +165,7 @@ one_row g rows row count are is = record {
       | inl less ↦
           let kept = are.each (suc k) (omega (arith, less)) in
           let counted = are.counted in grind (arith, unwrap_or-slice_get, get_or_append_left)
-      | inr more ↦ let counted = are.counted in grind (arith, unwrap_or-slice_get, get_or_push)
+      | inr beyond ↦ let counted = are.counted in grind (arith, unwrap_or-slice_get, get_or_push)
     ]
 
 pub all_rows : (g : Game) (rows : List (List Ratio)) → ArePaidTo g rows (length (outcome_numbers g))
@@ -98,16 +180,7 @@ rows_in held = reverse (map (λ row. row.items) held)
 
 pub pushed : (old new : List (Vec Ratio Global)) (row : Vec Ratio Global) → new ≡ old ++ row ∷ []
     → rows_in new ≡ row.items ∷ rows_in old
-pushed old new row e =
-    cc (
-      map-append (λ (row : Vec Ratio Global). row.items) old (row ∷ []),
-      reverse-append (map (λ (row : Vec Ratio Global). row.items) old) (row.items ∷ []),
-    )
-
-pub popped : (old rest : List (Vec Ratio Global)) (o : Option (Vec Ratio Global))
-    (row : Vec Ratio Global) → old ≡ rest ++ option_to_list o → o ≡ Some row
-    → rows_in old ≡ row.items ∷ rows_in rest
-popped old rest o row e f = pushed rest old row cc
+pushed old new row e = grind (arith, map-append, reverse-append)
 
 pub below_players : (players k : ℕ) (row : List Ratio) → k < length row → IsRow players row
     → k < players
@@ -149,4 +222,5 @@ begin_runs g k ops old new n = grind (arith, empty_at)
 pub same_fault : {T U E : Type 0} (x y : E) → IsErrOf {T = T} (Err x) y → IsErrOf {T = U} (Err x) y
 same_fault x y h = let same : x ≡ y = cc in ap Err same
 
-pub ruleset step_runs = (on_ok_weaker, push_runs, begin_runs, stays_undefined)
+pub ruleset step_runs =
+    (push_runs, begin_runs, weigh_runs, pay_runs, below_players, stays_undefined)

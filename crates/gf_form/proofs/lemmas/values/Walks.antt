@@ -1,16 +1,15 @@
 -- The operations of a tree, given by a walk through its branches.
-use Rattle.gf_form.proofs.Common.{◌≡◌, ℕ, zero, suc, ◌+◌, ◌-◌, ◌<◌, List, [], ◌∷◌, ◌++◌, length}
-use Rattle.gf_form.proofs.Common.{map, slice_get, Option, Some, None, MatchOption, option_map, refl}
-use Rattle.gf_form.proofs.Common.{append_assoc, arith, ◌≤◌, get_or, Vec, Global, option_and_then}
-use Rattle.gf_form.proofs.Common.{unwrap_or, eq-eqb, false_from_ne_true, length-append, length-map}
-use Rattle.gf_form.proofs.Common.{slice_get-get_or, slice_get-map, slice_get_past, at_index, Ratio}
-use Rattle.gf_form.proofs.Common.{one_ratio, at_position, Tree, Trees, branch, none, more, Action}
-use Rattle.gf_form.proofs.Common.{SetKey, player_keys, Game, IsGame, Node, set_at, flatten}
-use Rattle.gf_form.proofs.Common.{flatten_all, child_trees, list_of, root_node, AreDistinct}
-use Rattle.gf_form.proofs.Common.{first_uses_distinct, sets_by_first_use, same_set_equality}
-use Rattle.gf_form.proofs.Common.{chance_code, child_code, code, paid_at_node, choice_at}
-use Rattle.gf_form.proofs.Common.{choices_by, strategy_at, chances_at, Op, Begin, Nothing, Pay}
-use Rattle.gf_form.proofs.Common.{has_at}
+use Rattle.gf_form.proofs.Common.{◌≡◌, List, ◌++◌, Some, None, Trees, IsGame, set_at, Begin, has_at}
+use Rattle.gf_form.proofs.Common.{ℕ, length, Option, get_or, Global, eq-eqb, branch, Action, SetKey}
+use Rattle.gf_form.proofs.Common.{zero, at_index, one_ratio, list_of, root_node, choice_at, Nothing}
+use Rattle.gf_form.proofs.Common.{suc, ◌+◌, ◌-◌, ◌<◌, ◌∷◌, refl, Tree, none, more, Game, Node, code}
+use Rattle.gf_form.proofs.Common.{[], option_map, length-map, AreDistinct, chance_code, strategy_at}
+use Rattle.gf_form.proofs.Common.{map, ◌≤◌, Vec, Op, Pay}
+use Rattle.gf_form.proofs.Common.{slice_get, unwrap_or, flatten, child_code, choices_by, chances_at}
+use Rattle.gf_form.proofs.Common.{MatchOption, option_and_then, slice_get-get_or, same_set_equality}
+use Rattle.gf_form.proofs.Common.{append_assoc, length-append, slice_get-map, slice_get_past, Ratio}
+use Rattle.gf_form.proofs.Common.{arith, false_from_ne_true, first_uses_distinct, sets_by_first_use}
+use Rattle.gf_form.proofs.Common.{at_position, player_keys, flatten_all, child_trees, paid_at_node}
 use Rattle.gf_tree.specs.Actions.{action_of, actions_of}
 use Rattle.gf_tree.specs.declared.game.action.Action.{Action as Held}
 use Rattle.gf_form.specs.inner.values.CodeLeft.{list_code, open_code, opened, option_code}
@@ -142,6 +141,8 @@ child_smaller (branch n ts) child position h = grind (arith, listed_smaller)
 -- ---- what the steps of the code need
 
 pub ruleset choice_steps = (no_list, item_there, nothing_there)
+
+pub ruleset open_steps = (append_assoc, opened_last)
 
 pub ruleset walk_steps = (opened_last, followed, not_followed, child_smaller)
 

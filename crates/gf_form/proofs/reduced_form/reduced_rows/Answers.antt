@@ -1,6 +1,5 @@
-use Rattle.gf_form.proofs.Common.{◌∙◌, ◌<◌, ℕ, List, Vec, Global, ap, arith, AllZip-long, map}
-use Rattle.gf_form.proofs.Common.{subst, sym, length-map, IfOk-weaker, on_ok_weaker, product}
-use Rattle.gf_form.proofs.Common.{length-profiles, players_of}
+use Rattle.gf_form.proofs.Common.{ℕ, List, Vec, Global, arith, AllZip-long, map, length-map}
+use Rattle.gf_form.proofs.Common.{IfOk-weaker, on_ok_weaker, length-profiles}
 use Rattle.gf_form.proofs.lemmas.strategies.CountedActions.{product_positive, strategies_positive}
 use Rattle.gf_form.proofs.lemmas.strategies.CountedActions.{strategy_counts}
 use Rattle.gf_form.proofs.lemmas.reduced.FirstsPicked.{AreTheirs, are_below, few_numbers}
@@ -23,10 +22,7 @@ theirs c = record {
 }
 
 pub profile_numbers-requires-clause-below : goal.profile_numbers-requires-clause-below
-profile_numbers-requires-clause-below c =
-    let g = c.args.game.now in
-    rw (c.deref.ensures.value, c.requires.counts.strategies)
-    (are_below g (players_of g) (lists c.args.firsts.now) c.requires.firsts)
+profile_numbers-requires-clause-below c = grind (arith, are_below)
 
 pub profile_numbers-requires-clause-as_many : goal.profile_numbers-requires-clause-as_many
 profile_numbers-requires-clause-as_many c =
@@ -34,40 +30,22 @@ profile_numbers-requires-clause-as_many c =
 
 pub profile_numbers-requires-clause-some : goal.profile_numbers-requires-clause-some
 profile_numbers-requires-clause-some c =
-    let g = c.args.game.now in
-    subst (λ (counts : List ℕ). 0 < product counts)
-    (sym (c.deref.ensures.value ∙ c.requires.counts.strategies))
-    (product_positive (strategy_counts g)
-    (strategies_positive g c.requires.counts.is_game))
+    grind (arith, product_positive, strategy_counts, strategies_positive)
 
 pub profile_numbers-requires-clause-few : goal.profile_numbers-requires-clause-few
-profile_numbers-requires-clause-few c =
-    omega (
-      arith,
-      ap product (c.deref.ensures.value ∙ c.requires.counts.strategies),
-      length-profiles (strategy_counts c.args.game.now),
-      c.requires.counts.within,
-    )
+profile_numbers-requires-clause-few c = grind (arith, length-profiles, strategy_counts)
 
 pub profile_rows-requires-clause-numbers : goal.profile_rows-requires-clause-numbers
-profile_rows-requires-clause-numbers c =
-    their_numbers _ _ _ (theirs (goal.at.profile_rows-requires-clause-numbers c).After-deref-2)
+profile_rows-requires-clause-numbers c = grind (arith, their_numbers)
 
 pub profile_rows-requires-clause-few : goal.profile_rows-requires-clause-few
-profile_rows-requires-clause-few c =
-    few_numbers _ _ _ (theirs (goal.at.profile_rows-requires-clause-few c).After-deref-2)
+profile_rows-requires-clause-few c = grind (arith, few_numbers)
 
 pub returns-clause-rows : goal.returns-clause-rows
-returns-clause-rows c =
-    let h = theirs (goal.at.returns-clause-rows c).After-deref-2 in
-    IfOk-weaker c.profile_rows.result _ _ (λ rows right. reduced_rows _ _ _ h rows.items right)
-    c.profile_rows.ensures.rows
+returns-clause-rows c = grind (arith, IfOk-weaker, reduced_rows)
 
 pub returns-clause-values : goal.returns-clause-values
-returns-clause-values c =
-    let h = theirs (goal.at.returns-clause-values c).After-deref-2 in
-    on_ok_weaker c.profile_rows.result (λ values. reduced_values _ _ _ h values)
-    c.profile_rows.ensures.values
+returns-clause-values c = grind (arith, on_ok_weaker, reduced_values)
 
 pub returns-clause-overflow : goal.returns-clause-overflow
 returns-clause-overflow c position is =

@@ -1,21 +1,15 @@
 use Rattle.gf_form.proofs.Common.{◌≡◌, Some, arith, length, zero_ratio, plus_of}
-use Rattle.gf_form.proofs.lemmas.values.RowSums.{all_added, is_paid, not_paid, nothing_paid}
-use Rattle.gf_form.proofs.lemmas.values.RowSums.{one_added}
-use Rattle.gf_form.proofs.lemmas.values.ValuesComputed.{zero_fraction}
-use Rattle.gf_form.proofs.lemmas.values.Zeros.{plus_zero}
+use Rattle.gf_form.proofs.lemmas.values.RowSums.{all_added, one_added, place_is, nothing_paid}
+use Rattle.gf_form.proofs.lemmas.values.ValuesComputed.{zero_fraction, plus_zero}
 use Rattle.gf_form.proofs.rows.pay.Goals as goal
 
 pub returns-then-is_empty-clause-added : goal.returns-then-is_empty-clause-added
 returns-then-is_empty-clause-added c = grind (arith, nothing_paid)
 
-pub returns-in_default-clause-overflow : goal.returns-in_default-clause-overflow
-returns-in_default-clause-overflow c _ =
-    (c.loop-i.i, c.loop-i-test.true, grind (arith, not_paid zero_ratio, zero_fraction))
-
 pub loop-i-preserved : goal.loop-i-preserved
 loop-i-preserved c =
     one_added (λ s x. plus_of (Some x) (Some s)) _ _ _ c.loop-i.i _ c.loop-i.invariant
-    c.loop-i-test.true (grind (arith, is_paid, zero_fraction)) c.in-Ok.ensures.sum.0
+    c.loop-i-test.true (grind (arith, place_is)) c.in-Some.ensures.fraction
 
 pub returns-clause-added : goal.returns-clause-added
 returns-clause-added c =

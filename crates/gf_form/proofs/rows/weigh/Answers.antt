@@ -1,11 +1,11 @@
 use Rattle.gf_form.proofs.Common.{◌≡◌, Some, arith, length, plus_of, times_of}
-use Rattle.gf_form.proofs.lemmas.values.RowSums.{all_added, one_added, weighed, zeros_weighed}
+use Rattle.gf_form.proofs.lemmas.values.RowSums.{all_added, one_added, place_is, zeros_weighed}
 use Rattle.gf_form.proofs.rows.weigh.Goals as goal
 
 pub loop-i-preserved : goal.loop-i-preserved
 loop-i-preserved c =
     one_added (λ s x. plus_of (Some s) (times_of c.args.chance (Some x))) _ _ _ c.loop-i.i _
-    c.loop-i.invariant c.loop-i-test.true (grind (arith, weighed)) c.in-Ok-add.ensures.sum.0
+    c.loop-i.invariant c.loop-i-test.true (grind (arith, place_is)) c.in-Some.ensures.fraction
 
 pub returns-clause-added : goal.returns-clause-added
 returns-clause-added c =

@@ -1,11 +1,11 @@
 -- What is left of a player's visits after choices at the slower digits.
-use Rattle.std.specs.Prelude.{◌≡◌, ◌≤◌, ◌<◌, ◌-◌, ◌*◌, ◌+◌, ◌==◌, ◌&&◌, ◌||◌, ℕ, suc, Bool, false}
+use Rattle.std.specs.Prelude.{◌≡◌, ◌≤◌, ◌<◌, ◌-◌, ◌*◌, ◌+◌, ◌==◌, ◌&&◌, ◌||◌, ℕ, Bool, false}
 use Rattle.std.specs.Prelude.{List}
 use Rattle.std.specs.Prelude.{◌∷◌, Option, Some, None, get_or, length, nat_le, nat_lt}
 use Rattle.std.specs.Prelude.{if◌then◌else◌}
 use Rattle.std.specs.List.{AllByRecursion, list_any}
 use Rattle.std.specs.List.Sorted.{IsNonDecreasingBy}
-use Rattle.gf_form.specs.inner.reduced.Visits.{AreWithin, is_met}
+use Rattle.gf_form.specs.inner.reduced.Visits.{is_met}
 use Rattle.gf_form.specs.declared.reduced.level.Level.{Level}
 use Rattle.gf_form.specs.declared.reduced.visits.Visit.{Visit}
 
@@ -18,19 +18,14 @@ left_of step action demands =
     then Some (demands - action * step)
     else None
 
--- the set at this position is known to be met, or is by these choices at the digits that are left
+-- the set at this place is known to be met, or is by these choices at the digits that are left
 abbrev pub is_left : ℕ → List ℕ → List ℕ → Level → Bool
-is_left position steps choices l =
-    get_or l.known.items (position - 1) false || is_met position steps choices l.visits.items
+is_left place steps choices l =
+    get_or l.known.items place false || is_met place steps choices l.visits.items
 
--- the visits are to sets of which it is said whether they are known
-pub record HasSets (sets : ℕ) (l : Level) : Type 0 where
-  pub counted : length l.known.items ≡ sets
-  pub within : AreWithin sets l.visits.items
-
--- and stand in order of their demands
+-- it is said of so many sets whether they are known, and visits stand in order of their demands
 pub record IsLevel (sets : ℕ) (l : Level) : Type 0 where
-  pub has : HasSets sets l
+  pub counted : length l.known.items ≡ sets
   pub ordered : IsNonDecreasingBy (λ v. v.demands) l.visits.items
 
 abbrev pub ArePositive : List ℕ → Type 0
@@ -45,25 +40,25 @@ pub record HaveBelow (visits : List Visit) (number count : ℕ) : Type 0 where
 
 -- the second level has in addition what is left of these visits if this action is chosen
 abbrev pub AddsLeft : ℕ → ℕ → List Visit → Level → Level → Type 0
-AddsLeft step action visits before after = (position : ℕ) (steps choices : List ℕ) → 1 ≤ position
-    → ArePositive steps → is_left position steps choices after
-    ≡ (is_left position steps choices before
-    || is_met position (step ∷ steps) (action ∷ choices) visits)
+AddsLeft step action visits before after = (place : ℕ) (steps choices : List ℕ)
+    → place < length before.known.items → ArePositive steps → is_left place steps choices after
+    ≡ (is_left place steps choices before
+    || is_met place (step ∷ steps) (action ∷ choices) visits)
 
 -- the second level is what is left of the first if this action is chosen
 abbrev pub IsChosen : ℕ → ℕ → Level → Level → Type 0
-IsChosen step action from left = (position : ℕ) (steps choices : List ℕ) → 1 ≤ position
-    → ArePositive steps → is_left position steps choices left
-    ≡ is_left position (step ∷ steps) (action ∷ choices) from
+IsChosen step action from left = (place : ℕ) (steps choices : List ℕ)
+    → place < length from.known.items → ArePositive steps → is_left place steps choices left
+    ≡ is_left place (step ∷ steps) (action ∷ choices) from
 
--- the same, but the set at a place, from 0, need not be met if the action is the first one
+-- the same, but the set at one place need not be met if the action is the first one
 abbrev pub IsChosenAt : ℕ → ℕ → ℕ → Level → Level → Type 0
-IsChosenAt place step action from left = (position : ℕ) (steps choices : List ℕ) → 1 ≤ position
-    → ArePositive steps → is_left position steps choices left
-    ≡ (is_left position (step ∷ steps) (action ∷ choices) from
-    || (action == 1 && position == suc place))
+IsChosenAt spared step action from left = (place : ℕ) (steps choices : List ℕ)
+    → place < length from.known.items → ArePositive steps → is_left place steps choices left
+    ≡ (is_left place (step ∷ steps) (action ∷ choices) from
+    || (action == 1 && place == spared))
 
--- the set at this position is known to be met, or there is a visit to it
+-- the set at this place is known to be met, or there is a visit to it
 abbrev pub can_be_met : ℕ → Level → Bool
-can_be_met position l = get_or l.known.items (position - 1) false
-    || list_any (λ v. v.set == position) l.visits.items
+can_be_met place l = get_or l.known.items place false
+    || list_any (λ v. v.set == place) l.visits.items

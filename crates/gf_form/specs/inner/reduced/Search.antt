@@ -1,16 +1,18 @@
 -- A search for the first strategies of a player, digit by digit, and another one for their labels.
-use Rattle.std.specs.Prelude.{◌≡◌, ◌≤◌, ◌<◌, ◌+◌, ◌*◌, ◌^◌, ◌==◌, ◌&&◌, ◌||◌, ℕ, suc, Bool, false}
-use Rattle.std.specs.Prelude.{true, List, [], drop, filter, get_or, length, map, nat_lt, take}
+use Rattle.std.specs.Prelude.{◌≡◌, ◌≤◌, ◌<◌, ◌+◌, ◌*◌, ◌^◌, ◌==◌, ◌&&◌, ◌||◌, ℕ, Bool, false}
+use Rattle.std.specs.Prelude.{List, [], ◌∷◌, ⊤, drop, get_or, length, map, nat_lt, take}
 use Rattle.std.specs.List.{AllByRecursion}
 use Rattle.gf_nfg.specs.Profiles.{product}
+use Rattle.std.specs.Cmp.Lexicographic.{pointwise}
+use Rattle.gf_tree.specs.FiniteMap.{first_uses}
 use Rattle.gf_tree.specs.FirstUse.{player_keys}
 use Rattle.gf_tree.specs.Game.{Game}
-use Rattle.gf_form.specs.Reduced.{reduced, reduced_label}
+use Rattle.gf_form.specs.Reduced.{reduced, reduced_label, same_choice}
 use Rattle.gf_form.specs.Strategies.{action_counts, all_choices, strategies}
 use Rattle.gf_form.specs.inner.reduced.Levels.{IsLevel, can_be_met, is_left}
 use Rattle.gf_form.specs.inner.reduced.OwnDigits.{digits_from}
-use Rattle.gf_form.specs.inner.reduced.Shown.{is_first, relevant_sets}
-use Rattle.gf_form.specs.inner.reduced.Visits.{AreWithin, is_met}
+use Rattle.gf_form.specs.inner.reduced.Shown.{relevant_sets}
+use Rattle.gf_form.specs.inner.reduced.Visits.{is_met}
 use Rattle.gf_form.specs.declared.reduced.digits.OwnDigit.{OwnDigit}
 use Rattle.gf_form.specs.declared.reduced.level.Level.{Level}
 use Rattle.gf_form.specs.declared.reduced.visits.Visit.{Visit}
@@ -38,12 +40,10 @@ pub record IsFine (d : OwnDigit) : Type 0 where
 abbrev pub IsElsewhere : ℕ → List OwnDigit → Type 0
 IsElsewhere place digits = AllByRecursion (λ d. ¬ (d.place ≡ place)) digits
 
--- those of these visits that are to sets with a digit, each to the position of the digit, from 1
-pub record AreOwn (digits : List OwnDigit) (visits own : List Visit) : Type 0 where
-  pub within : AreWithin (length digits) own
-  pub same : (k : ℕ) (steps choices : List ℕ) → k < length digits
-      → is_met (suc k) steps choices own
-      ≡ is_met (suc (digit_at digits k).place) steps choices visits
+-- those of these visits that are to sets with a digit, each to the place of the digit
+abbrev pub AreOwn : List OwnDigit → List Visit → List Visit → Type 0
+AreOwn digits visits own = (k : ℕ) (steps choices : List ℕ) → k < length digits
+    → is_met k steps choices own ≡ is_met (digit_at digits k).place steps choices visits
 
 -- ---- strategies by their numbers, from 0
 
@@ -78,14 +78,14 @@ pub record IsToldBy (g : Game) (player : ℕ) (digits : List OwnDigit) (flag : �
   where
     pub levelled : IsLevel places level
     pub tells : (n place : ℕ) → number ≤ n → n < number + count → place < places
-        → flag n place ≡ is_left (suc place) (steps_to digits) (choices_at g player digits n) level
+        → flag n place ≡ is_left place (steps_to digits) (choices_at g player digits n) level
 
 -- ---- first strategies
 
--- each number is more than the one before it
+-- each number is less than those behind it
 abbrev pub AreInTurn : List ℕ → Type 0
-AreInTurn numbers = (k : ℕ) → suc k < length numbers
-    → get_or numbers k 0 < get_or numbers (suc k) 0
+AreInTurn [] = ⊤
+AreInTurn (n ∷ numbers) = AllByRecursion (λ m. n < m) numbers × AreInTurn numbers
 
 -- The set of the digit at a place is relevant, or the digit is one of the first ones, as many as
 -- the depth says, and has the first action.
@@ -106,23 +106,24 @@ pub record IsSearched (g : Game) (player : ℕ) (all digits : List OwnDigit) (le
     pub told : IsToldBy g player digits (is_settled g player all depth) (length all) level number
         count
 
+-- the strategy with a number has the first action at each set that is not relevant under it: of
+-- those that reduce to the same one, it is the first
+abbrev pub IsFirst : Game → ℕ → ℕ → Type 0
+IsFirst g player number = (place : ℕ) → place < length (action_counts g player)
+    → is_relevant_at g player number place ≡ false → get_or (numbered g player number) place 0 ≡ 1
+
 -- all strategies with these numbers are first ones
 abbrev pub AreFirstBelow : Game → ℕ → ℕ → ℕ → Type 0
 AreFirstBelow g player number count =
-    (n : ℕ) → number ≤ n → n < number + count → is_first g player (numbered g player n) ≡ true
+    (n : ℕ) → number ≤ n → n < number + count → IsFirst g player n
 
--- the numbers of those of the first i items that pass the test, in turn
-pub record HaveNumbers {A : Type 0} (test : A → Bool) (all : List A) (d : A) (numbers : List ℕ)
-    (i : ℕ) : Type 0
-  where
-    pub are : map (λ number. get_or all number d) numbers ≡ filter test (take i all)
-    pub within : AllByRecursion (λ number. number < i) numbers
-    pub ordered : AreInTurn numbers
-
--- those of the first strategies among those before this number
-abbrev pub AreFoundTo : Game → ℕ → List ℕ → ℕ → Type 0
-AreFoundTo g player numbers number =
-    HaveNumbers (is_first g player) (strategies g player) [] numbers number
+-- the first strategies that reduce to what those before a number do, in turn
+pub record AreFoundTo (g : Game) (player : ℕ) (numbers : List ℕ) (number : ℕ) : Type 0 where
+  pub are : map (λ n. reduced g player (numbered g player n)) numbers
+      ≡ first_uses (pointwise same_choice)
+      (map (reduced g player) (take number (strategies g player)))
+  pub within : AllByRecursion (λ n. n < number) numbers
+  pub ordered : AreInTurn numbers
 
 -- ---- labels
 
@@ -146,7 +147,7 @@ pub record IsLast (g : Game) (player : ℕ) (strategy : List ℕ) (level : Level
     pub within : number < length (strategies g player)
     pub is : strategy ≡ numbered g player number
     pub met : (place : ℕ) → place < length strategy
-        → is_relevant_at g player number place ≡ can_be_met (suc place) level
+        → is_relevant_at g player number place ≡ can_be_met place level
 
 -- a strategy with other choices at these digits alone
 pub record IsKept (digits : List OwnDigit) (old new : List ℕ) : Type 0 where

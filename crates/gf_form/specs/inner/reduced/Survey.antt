@@ -3,7 +3,7 @@ use Rattle.std.specs.Prelude.{◌≡◌, ◌+◌, ◌*◌, ◌%◌, ◌^◌, ◌
 use Rattle.std.specs.Prelude.{length, if◌then◌else◌}
 use Rattle.std.specs.List.{list_any}
 use Rattle.std.specs.Option.{option_map_or}
-use Rattle.gf_nfg.specs.Profiles.{positions}
+use Rattle.gf_nfg.specs.Profiles.{numbers_from}
 use Rattle.gf_tree.specs.BranchesLeft.{branches_given, branches_left, game_of_branches}
 use Rattle.gf_tree.specs.Description.{SetKey}
 use Rattle.gf_tree.specs.FirstUse.{player_keys}
@@ -31,7 +31,7 @@ abbrev pub own_visit : Game → Owner → ℕ → SetKey → List Visit
 own_visit g own demands key =
     let keys = player_keys g own.player in
     if key.player == own.player
-    then record { demands = demands; set = choice_at keys (positions (length keys)) key } ∷ []
+    then record { demands = demands; set = choice_at keys (numbers_from 0 (length keys)) key } ∷ []
     else []
 
 abbrev mutual

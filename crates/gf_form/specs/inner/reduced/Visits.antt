@@ -1,22 +1,18 @@
 -- The visits of a player to his sets, and which of them come about by his own choices.
 use Rattle.std.specs.Prelude.{◌≤◌, ◌==◌, ◌&&◌, ℕ, Bool, List}
-use Rattle.std.specs.List.{AllByRecursion, AllZip, list_any}
+use Rattle.std.specs.List.{AllZip, list_any}
 use Rattle.gf_form.specs.inner.rows.Demands.{meets}
 use Rattle.gf_form.specs.declared.reduced.visits.Visit.{Visit}
-
--- each is to one of this many sets
-abbrev pub AreWithin : ℕ → List Visit → Type 0
-AreWithin sets visits = AllByRecursion (λ v. (1 ≤ v.set) × (v.set ≤ sets)) visits
 
 -- one of this many actions at each set
 abbrev pub AreActions : List ℕ → List ℕ → Type 0
 AreActions counts strategy =
     AllZip (λ action count. (1 ≤ action) × (action ≤ count)) strategy counts
 
--- a visit to the set at this position that comes about by these choices at the digits
+-- a visit to the set at this place, from 0, that comes about by these choices at the digits
 abbrev pub is_met_on : ℕ → List ℕ → List ℕ → Visit → Bool
-is_met_on position steps choices v = v.set == position && meets steps choices v.demands
+is_met_on place steps choices v = v.set == place && meets steps choices v.demands
 
 -- some visit to this set comes about
 abbrev pub is_met : ℕ → List ℕ → List ℕ → List Visit → Bool
-is_met position steps choices visits = list_any (is_met_on position steps choices) visits
+is_met place steps choices visits = list_any (is_met_on place steps choices) visits

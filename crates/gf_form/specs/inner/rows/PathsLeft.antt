@@ -1,7 +1,6 @@
 -- What is left of the nodes that choices can reach while a walk gives them.
 use Rattle.std.specs.Prelude.{ℕ, suc, ◌+◌, ◌==◌, List, [], ◌∷◌, ◌++◌, length, map, Option, Some}
 use Rattle.std.specs.Prelude.{None, if◌then◌else◌}
-use Rattle.gf_fraction.specs.Ratio.{Ratio}
 use Rattle.gf_token.specs.Positions.{at_position}
 use Rattle.gf_tree.specs.Branches.{game_of, tree_of}
 use Rattle.gf_tree.specs.BranchesLeft.{branches_given, branches_left, game_of_branches}
@@ -12,7 +11,7 @@ use Rattle.gf_tree.specs.Tree.{Tree}
 use Rattle.gf_tree.specs.Tree.Tree.{branch}
 use Rattle.gf_tree.specs.declared.game.branch.Branch.{Branch}
 use Rattle.gf_form.specs.inner.values.CodeLeft.{branch_chances}
-use Rattle.gf_form.specs.inner.rows.ReachedNodes.{below_set, by_chance, by_choice, demanded}
+use Rattle.gf_form.specs.inner.rows.ReachedNodes.{below_set, by_choice, demanded, drawn}
 use Rattle.gf_form.specs.inner.rows.ReachedNodes.{over_set, reached}
 use Rattle.gf_form.specs.Strategies.{choices_by}
 use Rattle.gf_form.specs.declared.rows.paths.Open.{Open}
@@ -29,18 +28,11 @@ branch_nodes all path b = reached (game_of b) (choices_by (game_of b) all) path 
 abbrev pub nodes_beneath : Game → (SetKey → ℕ) → Path → Tree Node → List Reached
 nodes_beneath g steps path (branch n ts) = over_set n.set (below_set g steps path n ts)
 
--- those of these children of a node of chance; the first one has position k
-abbrev pub lot_nodes : Game → (SetKey → ℕ) → Path → (ℕ → Ratio) → ℕ → List (Tree Node)
-    → List Reached
-lot_nodes g steps path chances k [] = []
-lot_nodes g steps path chances k (t ∷ ts) =
-    reached g steps (by_chance path (chances k)) t ++ lot_nodes g steps path chances (k + 1) ts
-
--- those of these children of a player's node; the first one has position k
-abbrev pub any_nodes : Game → (SetKey → ℕ) → Path → ℕ → ℕ → List (Tree Node) → List Reached
-any_nodes g steps path step k [] = []
-any_nodes g steps path step k (t ∷ ts) =
-    reached g steps (by_choice path step k) t ++ any_nodes g steps path step (k + 1) ts
+-- those of these children, by the path to each; the first one has position k
+abbrev pub each_nodes : Game → (SetKey → ℕ) → (ℕ → Path) → ℕ → List (Tree Node) → List Reached
+each_nodes g steps paths k [] = []
+each_nodes g steps paths k (t ∷ ts) =
+    reached g steps (paths k) t ++ each_nodes g steps paths (k + 1) ts
 
 -- those of this tree, if there is one
 abbrev pub option_nodes : Game → (SetKey → ℕ) → Path → Option (Tree Node) → List Reached
@@ -56,18 +48,19 @@ taken path step actions = if step == 0 then 1 else demanded path.demands step ac
 abbrev pub nodes_by : List (List ℕ) → Branch → Path → ℕ → ℕ → List Reached
 nodes_by all b path step action =
     if action == 0
-    then any_nodes (game_of b) (choices_by (game_of b) all) path step 1 (child_trees (tree_of b))
+    then each_nodes (game_of b) (choices_by (game_of b) all) (by_choice path step) 1
+    (child_trees (tree_of b))
     else option_nodes (game_of b) (choices_by (game_of b) all) path
     (at_position (child_trees (tree_of b)) action)
 
 -- those below the children that are left at an open node
 abbrev pub open_nodes : List (List ℕ) → Open → List Reached
 open_nodes all (Chance node rest path) =
-    lot_nodes (game_of_branches rest) (choices_by (game_of_branches rest) all) path
-    (branch_chances node) (branches_given rest + 1) (branches_left rest)
+    each_nodes (game_of_branches rest) (choices_by (game_of_branches rest) all)
+    (drawn path (branch_chances node)) (branches_given rest + 1) (branches_left rest)
 open_nodes all (Choice rest path step) =
-    any_nodes (game_of_branches rest) (choices_by (game_of_branches rest) all) path step
-    (branches_given rest + 1) (branches_left rest)
+    each_nodes (game_of_branches rest) (choices_by (game_of_branches rest) all)
+    (by_choice path step) (branches_given rest + 1) (branches_left rest)
 
 -- among the open nodes, the last one comes first
 abbrev pub below : List (List ℕ) → List Open → List Reached → List Reached

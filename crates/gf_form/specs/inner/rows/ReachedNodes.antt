@@ -88,28 +88,27 @@ abbrev pub over_set : Option SetKey → (SetKey → List Reached) → List Reach
 over_set None below = []
 over_set (Some key) below = below key
 
+-- the paths to the children of a node of chance, by their positions
+abbrev pub drawn : Path → (ℕ → Ratio) → ℕ → Path
+drawn path chances k = by_chance path (chances k)
+
 abbrev mutual
   -- Each set has the step of its digit, or 0 if it has only one action.
   pub reached : Game → (SetKey → ℕ) → Path → Tree Node → List Reached
   reached g steps path (branch n ts) =
       met_node g path n ∷ over_set n.set
-      (λ key. if key.player == 0 then by_lot g steps (onward g path n) (chances_at g n) 1 ts
+      (λ key. if key.player == 0
+      then by_each g steps (drawn (onward g path n) (chances_at g n)) 1 ts
       else if steps key == 0 then by_action g steps (onward g path n) 1 ts
       else if demanded path.demands (steps key) (count ts) == 0
-      then by_any g steps (onward g path n) (steps key) 1 ts
+      then by_each g steps (by_choice (onward g path n) (steps key)) 1 ts
       else by_action g steps (onward g path n) (demanded path.demands (steps key) (count ts)) ts)
 
-  -- below these children of a node of chance; the first one has position k
-  pub by_lot : Game → (SetKey → ℕ) → Path → (ℕ → Ratio) → ℕ → Trees Node → List Reached
-  by_lot g steps path chances k none = []
-  by_lot g steps path chances k (more t ts) =
-      reached g steps (by_chance path (chances k)) t ++ by_lot g steps path chances (k + 1) ts
-
-  -- below these children of a player's node; the first one has position k
-  pub by_any : Game → (SetKey → ℕ) → Path → ℕ → ℕ → Trees Node → List Reached
-  by_any g steps path step k none = []
-  by_any g steps path step k (more t ts) =
-      reached g steps (by_choice path step k) t ++ by_any g steps path step (k + 1) ts
+  -- below these children, by the path to each; the first one has position k
+  pub by_each : Game → (SetKey → ℕ) → (ℕ → Path) → ℕ → Trees Node → List Reached
+  by_each g steps paths k none = []
+  by_each g steps paths k (more t ts) =
+      reached g steps (paths k) t ++ by_each g steps paths (k + 1) ts
 
   -- below the child at this position, from 1
   pub by_action : Game → (SetKey → ℕ) → Path → ℕ → Trees Node → List Reached
@@ -122,8 +121,8 @@ abbrev mutual
 -- those below a node of this set, where the path goes on so
 abbrev pub below_set : Game → (SetKey → ℕ) → Path → Node → Trees Node → SetKey → List Reached
 below_set g steps path n ts key =
-    if key.player == 0 then by_lot g steps path (chances_at g n) 1 ts
+    if key.player == 0 then by_each g steps (drawn path (chances_at g n)) 1 ts
     else if steps key == 0 then by_action g steps path 1 ts
     else if demanded path.demands (steps key) (count ts) == 0
-    then by_any g steps path (steps key) 1 ts
+    then by_each g steps (by_choice path (steps key)) 1 ts
     else by_action g steps path (demanded path.demands (steps key) (count ts)) ts

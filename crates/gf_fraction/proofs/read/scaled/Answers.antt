@@ -1,8 +1,7 @@
 use Rattle.std.proofs.Common.{arith}
 use Rattle.std.proofs.lemmas.Int.{ints}
-use Rattle.gf_fraction.proofs.LowestDecimals.{scaled_from_lowest}
 use Rattle.gf_fraction.proofs.LowestTerms.{mul_pos_left}
-use Rattle.gf_fraction.proofs.PowersOfTen.{pow_above_zero}
+use Rattle.gf_fraction.proofs.PowersOfTen.{pow_above_zero, scaled_from_lowest}
 use Rattle.gf_fraction.proofs.read.scaled.Goals as goal
 
 pub of_words-requires-clause-den_above_zero : goal.of_words-requires-clause-den_above_zero

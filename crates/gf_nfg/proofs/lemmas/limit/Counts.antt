@@ -1,23 +1,21 @@
 -- If counts pass the limit, so do the profiles of all files with them; and the limit place is where
 -- all files that begin with the tokens through it are above the limit.
 use Rattle.gf_nfg.proofs.Common.{all_images, all_mapped, all_parts, profile_limit, BeginsPastLimit}
-use Rattle.gf_nfg.proofs.Common.{IsBareOrClosing, IsLimitByFiles, StaysWithinLimit, GivesCounts}
-use Rattle.gf_nfg.proofs.Common.{IsLimitPlace, product, IsCount, IsLabelList, Sentence, IsTable}
-use Rattle.gf_nfg.proofs.Common.{Table, Content, State, at, start, step, p, Each, braced, tokens_of}
-use Rattle.gf_nfg.proofs.Common.{Bare, Closing, Opening, Token, Span, List, Ok, [], ap}
-use Rattle.gf_nfg.proofs.Common.{append_assoc, arith, drop, inl, inr, length, length-append}
-use Rattle.gf_nfg.proofs.Common.{length-take, map, refl, subst, suc, sym, take, zero, ℕ, ◌*◌, ◌++◌}
-use Rattle.gf_nfg.proofs.Common.{◌+◌, ◌-◌, ◌<◌, ◌∙◌, ◌∷◌, ◌≡◌, ◌≤◌, mul-one, mul_assoc}
-use Rattle.gf_nfg.proofs.Common.{take-append_seam, cases_lt, length-map, take-append-drop, take-map}
-use Rattle.gf_nfg.proofs.Common.{take-take, AllByRecursion, codes, ◌↔◌, ◌⊎◌}
+use Rattle.gf_nfg.proofs.Common.{IsBareOrClosing, IsLimitByFiles, StaysWithinLimit, GivesCounts, at}
+use Rattle.gf_nfg.proofs.Common.{IsLimitPlace, product, IsCount, IsLabelList, Sentence, IsTable, p}
+use Rattle.gf_nfg.proofs.Common.{Table, Content, State, start, step, Each, tokens_of, Bare, Closing}
+use Rattle.gf_nfg.proofs.Common.{Opening, Token, Span, List, Ok, [], ap, append_assoc, arith, drop}
+use Rattle.gf_nfg.proofs.Common.{inl, inr, length, length-append, length-take, map, refl, subst, ℕ}
+use Rattle.gf_nfg.proofs.Common.{suc, sym, take, zero, ◌++◌, ◌-◌, ◌<◌, ◌∙◌, ◌∷◌, ◌≡◌, ◌≤◌}
+use Rattle.gf_nfg.proofs.Common.{take_all, take-append_seam, cases_lt, length-map, take-append-drop}
+use Rattle.gf_nfg.proofs.Common.{take-map, take-take, codes, ◌↔◌, ◌⊎◌}
 use Rattle.gf_nfg.proofs.lemmas.places.Led.{begins, last_count, makes_more, products, read_past}
 use Rattle.gf_nfg.proofs.lemmas.places.Led.{stays_within}
 use Rattle.gf_nfg.proofs.lemmas.runs.Sentence.{kind_of}
 use Rattle.gf_nfg.proofs.lemmas.runs.Strategies.{Kind, Strategies, all_groups, all_in, and_more}
-use Rattle.gf_nfg.proofs.lemmas.runs.Strategies.{and_more_is, behind, each_parts, groups_walk}
-use Rattle.gf_nfg.proofs.lemmas.runs.Strategies.{heading, heading_leads, heading_line, next}
-use Rattle.gf_nfg.proofs.lemmas.runs.Strategies.{with_group}
-use Rattle.gf_nfg.proofs.lemmas.runs.Walks.{Leads, leads_more, leads_on, walk, walk_split}
+use Rattle.gf_nfg.proofs.lemmas.runs.Strategies.{and_more_is, behind, each_parts, groups_walk, next}
+use Rattle.gf_nfg.proofs.lemmas.runs.Strategies.{heading, heading_leads, heading_line, with_group}
+use Rattle.gf_nfg.proofs.lemmas.runs.Common.{Leads, leads_more, leads_on, walk_split}
 use Rattle.gf_nfg.proofs.lemmas.tables.Profiles.{length-profiles}
 
 -- the product passes the limit with the last of these counts, and with none before
@@ -29,61 +27,39 @@ pub record PassesAtLast (counts : List ℕ) : Type 0 where
 pub entries_counted : (t : Table) → IsTable t → length t.entries ≡ product (map length t.strategies)
 entries_counted t h = grind (arith, length-map, length-profiles)
 
--- this many profiles, and the first of these counts with which they are too many
-crossed : (ns : List ℕ) (base : ℕ) → base ≤ profile_limit → profile_limit < base * product ns
-    → (k : ℕ) × (profile_limit < base * product (take (suc k) ns))
-    × ((j : ℕ) → j ≤ k → base * product (take j ns) ≤ profile_limit)
-crossed [] base within over = let one = mul-one base in absurd (omega (arith, one, within, over))
-crossed (n ∷ ns) base within over = elim (cases_lt profile_limit (base * n)) [
-  | inl more ↦ (0, let one = mul-one n in rw one more, at_none)
+-- where a number passes the limit, it first passes it somewhere
+first_past : (f : ℕ → ℕ) (n : ℕ) → f 0 ≤ profile_limit → profile_limit < f n
+    → (k : ℕ) × (profile_limit < f (suc k)) × ((j : ℕ) → j ≤ k → f j ≤ profile_limit)
+first_past f zero within over = absurd (omega (arith, within, over))
+first_past f (suc n) within over = elim (cases_lt profile_limit (f 1)) [
+  | inl more ↦ (0, more, λ j none. grind (arith, within))
   | inr less ↦
-      let assoc = mul_assoc base n (product ns) in
-      let h = crossed ns (base * n) less (omega (arith, assoc, over)) in
-      (suc h.0, rw (← mul_assoc base n (product (take (suc h.0) ns))) h.1, at_more h.0 h.2)
+      let h = first_past (λ j. f (suc j)) n less over in (suc h.0, h.1, later h.0 h.2)
 ]
   where
-    at_none : (j : ℕ) → j ≤ 0 → base * product (take j (n ∷ ns)) ≤ profile_limit
-    at_none zero h = let one = mul-one base in omega (arith, one, within)
-    at_none (suc j) h = absurd (omega arith)
-
-    at_more : (k : ℕ) → ((j : ℕ) → j ≤ k → base * n * product (take j ns) ≤ profile_limit)
-        → (j : ℕ) → j ≤ suc k → base * product (take j (n ∷ ns)) ≤ profile_limit
-    at_more k h zero less = at_none zero (omega arith)
-    at_more k h (suc j) less =
-        let assoc = mul_assoc base n (product (take j ns)) in
-        let most = h j (omega (arith, less)) in
-        omega (arith, assoc, most)
+    later : (k : ℕ) → ((j : ℕ) → j ≤ k → f (suc j) ≤ profile_limit)
+        → (j : ℕ) → j ≤ suc k → f j ≤ profile_limit
+    later k h zero less = within
+    later k h (suc j) less = h j (omega (arith, less))
 
 -- the first counts whose product passes the limit
 pub past : (counts : List ℕ) → profile_limit < product counts
     → (k : ℕ) × PassesAtLast (take k counts)
 past counts over =
-    let c = crossed counts 1 (omega arith) (omega (arith, over)) in
-    let passes = c.1 in (
-      suc c.0,
-      record {
-        passes = omega (arith, passes);
-        nowhere_before = λ j less.
-            let short = length-take (suc c.0) counts in
-            let most = c.2 j (omega (arith, less, short)) in
-            let same : product (take j (take (suc c.0) counts)) ≡ product (take j counts) =
-            grind (arith, take-take) in
-            omega (arith, most, same);
-      },
-    )
+    let c = first_past (λ k. product (take k counts)) (length counts) (omega arith)
+    (rw (take_all (length counts) counts (omega arith)) over) in
+    let short = length-take (suc c.0) counts in
+    let nowhere : (j : ℕ) → j < length (take (suc c.0) counts)
+    → product (take j (take (suc c.0) counts)) ≤ profile_limit =
+    λ j less. let most = c.2 j (omega (arith, less, short)) in grind (arith, take-take) in
+    (suc c.0, record { passes = c.1; nowhere_before = nowhere })
 
 -- ---- lists by their last items
 
-pub record Last {A : Type 0} (xs : List A) : Type 0 where
-  pub front : List A
-  pub last : A
-  pub parts : xs ≡ front ++ last ∷ []
-
-pub last_of : {A : Type 0} (x : A) (xs : List A) → Last (x ∷ xs)
-last_of x [] = record { front = []; last = x; parts = refl }
-last_of x (y ∷ ys) =
-    let h = last_of y ys in
-    record { front = x ∷ h.front; last = h.last; parts = (λ i. x ∷ h.parts i) }
+last_of : {A : Type 0} (x : A) (xs : List A)
+    → (front : List A) × (last : A) × (x ∷ xs ≡ front ++ last ∷ [])
+last_of x [] = ([], x, refl)
+last_of x (y ∷ ys) = let h = last_of y ys in (x ∷ h.0, h.1, cc h.2)
 
 -- a token that comes after some tokens stands in others too, before their end
 abbrev pub StandsIn : List Token → Token → List Token → Type 0
@@ -148,9 +124,6 @@ some_behind : (k : Kind) (strategies : Strategies)
 some_behind k [] over = absurd (omega arith)
 some_behind k (labels ∷ strategies) over = refl
 
-single : (s after : State) (t : Token) → walk s (t ∷ []) ≡ Ok after → step s t ≡ Ok after
-single s after t e = grind arith
-
 passes_given : (ts : List Token) (t : Token) (counts : List ℕ) → GivesCounts (ts ++ t ∷ []) counts
     → PassesAtLast counts → Passes ts t
 passes_given ts t counts g h =
@@ -162,43 +135,38 @@ passes_given ts t counts g h =
     let after : State = at (behind k.0 g.strategies p.FirstStrategies) due 0 0 d in
     let first = g.first_players in
     let passes = h.passes in
-    let many : length counts ≡ length g.strategies =
-    ap length g.are_counts ∙ length-map g.strategies length in
+    let size = length-map g.strategies length in
     let more = and_more_is g.strategies due in
-    let all : and_more g.strategies due ≡ length g.players = omega (arith, more, many, first) in
-    let opened = leads_more line Opening _ (at p.FirstStrategies (length g.players) 0 0 c)
-    (heading_leads g.letter g.title g.players g.is_letter) refl in
+    let all : and_more g.strategies due ≡ length g.players =
+    omega (arith, more, size, first, ap length g.are_counts) in
+    let begun = heading_leads g.letter g.title g.players g.is_letter in
+    let opened : Leads (line ++ Opening ∷ [])
+    (at p.FirstStrategies (and_more g.strategies due) 0 0 c) =
+    rw all (leads_more line Opening _ _ begun refl) in
     let walks = groups_walk k.0 g.strategies g.inner p.FirstStrategies (inl refl) due c k.1
-    (all_mapped (λ (n : ℕ). 0 < n) length g.strategies
-    (subst (λ ns. AllByRecursion (λ (n : ℕ). 0 < n) ns) g.are_counts g.some_strategy)) in
-    let led : Leads (ts ++ t ∷ []) after = subst (λ (us : List Token). Leads us after)
-    (append_assoc line (Opening ∷ []) g.inner ∙ sym g.parts)
-    (leads_on (line ++ Opening ∷ []) g.inner _ after opened
-    (subst (λ n. walk (at p.FirstStrategies n 0 0 c) g.inner ≡ Ok after) all walks)) in
+    (all_mapped (λ (n : ℕ). 0 < n) length g.strategies (rw (← g.are_counts) g.some_strategy)) in
+    let whole = leads_on (line ++ Opening ∷ []) g.inner _ after opened walks in
+    let led : Leads (ts ++ t ∷ []) after =
+    cc (g.parts, append_assoc line (Opening ∷ []) g.inner, whole) in
     let m = walk_split ts (t ∷ []) start after led in
-    let steps = single m.0 after t m.2 in
-    let over : profile_limit < product (map length g.strategies) =
-    subst (λ ns. profile_limit < product ns) g.are_counts passes in
+    let steps : step m.0 t ≡ Ok after = grind (arith, m.2) in
     let counted : d.counts ≡ counts =
     ap (λ (e : Content). e.counts) (all_groups k.0 g.strategies c) ∙ sym g.are_counts in
-    let l = last_count m.0 after t k.0 (some_behind k.0 g.strategies over) steps in
-    let whole : counts ≡ m.0.content.counts ++ l.0 ∷ [] = sym counted ∙ l.1 in
-    let before = length m.0.content.counts in
-    let size : length counts ≡ before + 1 =
-    ap length whole ∙ length-append m.0.content.counts (l.0 ∷ []) in
-    let seam : product (take before counts) ≡ product m.0.content.counts =
-    ap product (ap (take before) whole ∙ take-append_seam m.0.content.counts (l.0 ∷ [])) in
-    let below = h.nowhere_before before (omega (arith, size)) in
+    let stands = some_behind k.0 g.strategies (rw (← g.are_counts) passes) in
+    let l = last_count m.0 after t k.0 stands steps in
+    let parts : counts ≡ m.0.content.counts ++ l.0 ∷ [] = sym counted ∙ l.1 in
+    let longer = length-append m.0.content.counts (l.0 ∷ []) in
+    let seam = take-append_seam m.0.content.counts (l.0 ∷ []) in
+    let below = h.nowhere_before (length m.0.content.counts) in
     let mid = products ts start m.0 m.1 refl in
-    let total : d.profiles ≡ product counts =
-    products (ts ++ t ∷ []) start after led refl ∙ ap product counted in
+    let total = products (ts ++ t ∷ []) start after led refl in
     record {
       mid = m.0;
       after = after;
       leads = m.1;
       steps = steps;
-      within = omega (arith, mid, seam, below);
-      over = omega (arith, total, passes);
+      within = grind (arith, parts, longer, seam, below, mid);
+      over = grind (arith, total, counted, passes);
     }
 
 pub limit_by_last : (ts : List Token) (t : Token) (counts : List ℕ)
@@ -207,26 +175,15 @@ limit_by_last ts t counts g h = limit_token ts t (passes_given ts t counts g h)
 
 -- ---- a file above the limit has counts that pass it
 
--- the first of some tokens through which the product of the counts passes the limit
-record Found (tokens : List Token) : Type 0 where
-  front : List Token
-  last : Token
-  rest : List Token
-  counts : List ℕ
-  parts : tokens ≡ front ++ last ∷ rest
-  gives : GivesCounts (front ++ last ∷ []) counts
-  passes : PassesAtLast counts
-
 group_parts : (xs ys : Strategies) (ts : List Token) → AreGroups ts (xs ++ ys)
     → (front : List Token) × (rest : List Token) × (ts ≡ front ++ rest) × AreGroups front xs
 group_parts xs ys ts h = grind (arith, each_parts)
 
-braced_parts : (front rest others : List Token)
-    → braced (front ++ rest) ++ others ≡ (Opening ∷ front) ++ (rest ++ Closing ∷ others)
-braced_parts front rest others = grind (arith, append_assoc)
-
+-- the first of its tokens through which the product of the counts passes the limit
 found : (tokens : List Token) (t : Table) → Sentence tokens t → profile_limit < length t.entries
-    → Found tokens
+    → (front : List Token) × (last : Token) × (rest : List Token) × (counts : List ℕ)
+    × (tokens ≡ front ++ last ∷ rest) × GivesCounts (front ++ last ∷ []) counts
+    × PassesAtLast counts
 found tokens t s over =
     let table = s.is_table in
     let size = entries_counted t table in
@@ -241,51 +198,41 @@ found tokens t s over =
     let line = heading_line s.letter t.title t.players in
     let through = line ++ Opening ∷ i.0 in
     let whole : tokens ≡ through ++ behind =
-    s.parts ∙ ap (λ ts. line ++ (ts ++ others)) (s.is_strategies.1 ∙ ap braced i.2)
-    ∙ ap (λ ts. line ++ ts) (braced_parts i.0 i.1 others)
-    ∙ sym (append_assoc line (Opening ∷ i.0) behind) in
+    grind (arith, append_assoc, s.parts, s.is_strategies.1, i.2) in
     let l = last_of (Bare (codes "NFG")) (drop 1 through) in
-    record {
-      front = l.front;
-      last = l.last;
-      rest = behind;
-      counts = take c.0 ns;
-      parts = whole ∙ ap (λ ts. ts ++ behind) l.parts ∙ append_assoc l.front (l.last ∷ []) behind;
-      gives = record {
-        letter = s.letter;
-        title = t.title;
-        players = t.players;
-        inner = i.0;
-        strategies = first;
-        parts = sym l.parts;
-        is_letter = s.is_letter;
-        is_inner = i.3;
-        are_counts = take-map length c.0 t.strategies;
-        some_strategy = (all_parts (λ (n : ℕ). 0 < n) (take c.0 ns) (drop c.0 ns)
-            (rw (take-append-drop c.0 ns)
-            (all_images (λ (n : ℕ). 0 < n) length t.strategies table.some_strategy))).0;
-        first_players = grind (arith, length-map, length, length-take);
-      };
-      passes = c.1;
-    }
+    let some = all_images (λ (n : ℕ). 0 < n) length t.strategies table.some_strategy in
+    let gives : GivesCounts (l.0 ++ l.1 ∷ []) (take c.0 ns) = record {
+      letter = s.letter;
+      title = t.title;
+      players = t.players;
+      inner = i.0;
+      strategies = first;
+      parts = sym l.2;
+      is_letter = s.is_letter;
+      is_inner = i.3;
+      are_counts = take-map length c.0 t.strategies;
+      some_strategy = (all_parts (λ (n : ℕ). 0 < n) (take c.0 ns) (drop c.0 ns)
+          (rw (take-append-drop c.0 ns) some)).0;
+      first_players = grind (arith, length-map, length, length-take);
+    } in
+    let parts = whole ∙ ap (λ ts. ts ++ behind) l.2 ∙ append_assoc l.0 (l.1 ∷ []) behind in
+    (l.0, l.1, behind, take c.0 ns, parts, gives, c.1)
 
 -- ---- there is one such token
 
 none_before : (xs : List Token) (x : Token) (us : List Token)
     → IsLimitToken xs x → StaysWithinLimit us → ¬ (StandsIn xs x us)
 none_before xs x us h stays stands =
-    let w = stays xs stands.0 x stands.1 h.grows in
-    let over = h.past.past w.0 w.1 w.2 in
-    omega (arith, over)
+    let w = stays xs stands.0 x stands.1 h.grows in let over = h.past.past w.0 in grind arith
 
 one_limit_token : (xs : List Token) (x : Token) (ys us : List Token) (u : Token) (vs : List Token)
     → xs ++ x ∷ ys ≡ us ++ u ∷ vs → IsLimitToken xs x → IsLimitToken us u
     → xs ++ x ∷ [] ≡ us ++ u ∷ []
-one_limit_token xs x ys us u vs e h k = elim (parted xs x ys us u vs e) [
-  | inl same ↦ (λ i. same.0 i ++ same.1 i ∷ [])
-  | inr (inl stands) ↦ absurd (none_before xs x us h k.first stands)
-  | inr (inr stands) ↦ absurd (none_before us u xs k h.first stands)
-]
+one_limit_token xs x ys us u vs e h k =
+    let p = parted xs x ys us u vs e in
+    let first = none_before xs x us h k.first in
+    let second = none_before us u xs k h.first in
+    grind arith
 
 -- ---- the law
 
@@ -295,23 +242,17 @@ place_by_files bytes span h =
     let ts = tokens_of h.before in
     let t = h.lexeme.token in
     let b = h.past.begins in
-    let file = b.1 in
-    let over = h.past.past b.0 file.0 file.1 in
-    let f = found ((ts ++ t ∷ []) ++ b.0) file.0 file.1 over in
-    let whole = sym f.parts ∙ append_assoc ts (t ∷ []) b.0 in
-    let here : IsLimitToken ts t = record { grows = h.grows; past = h.past; first = h.first } in
-    let there = limit_by_last f.front f.last f.counts f.gives f.passes in
-    let tokens = one_limit_token f.front f.last f.rest ts t b.0 whole there here in
+    let f = found ((ts ++ t ∷ []) ++ b.0) b.1.0 b.1.1 (h.past.past b.0 b.1.0 b.1.1) in
+    let there = limit_by_last f.0 f.1 f.3 f.5 f.6 in
+    let same = sym f.4 ∙ append_assoc ts (t ∷ []) b.0 in
+    let tokens = one_limit_token f.0 f.1 f.2 ts t b.0 same there (grind arith) in
     grind arith
 
 files_at_place : (bytes : List ℕ) (span : Span) → IsLimitPlace bytes span
     → IsLimitByFiles bytes span
-files_at_place bytes span h = grind (
-  arith,
-  limit_by_last (tokens_of h.before) h.lexeme.token h.counts h.gives (grind arith),
-  PassesAtLast,
-  past,
-)
+files_at_place bytes span h =
+    let last = limit_by_last (tokens_of h.before) h.lexeme.token h.counts h.gives (grind arith) in
+    grind (arith, PassesAtLast, past)
 
 pub limit_by_files : (bytes : List ℕ) (span : Span)
     → IsLimitPlace bytes span ↔ IsLimitByFiles bytes span

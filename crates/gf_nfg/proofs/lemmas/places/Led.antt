@@ -1,19 +1,17 @@
 -- What may follow tokens that lead the machine somewhere, and what the tokens of an input have led
 -- it to. No token makes the number of profiles smaller, so above their limit they stay there.
-use Rattle.gf_nfg.proofs.Common.{profile_limit, BeginsWithinLimit, IsBareOrClosing}
-use Rattle.gf_nfg.proofs.Common.{StaysWithinLimit, product, IsStrategicFile, Sentence, Table}
-use Rattle.gf_nfg.proofs.Common.{SpellsTable, is_past, Content, State, finish, run, settled, start}
-use Rattle.gf_nfg.proofs.Common.{step, ◌>>=◌, table_of, p, Position, same_tokens, Begins, MayFollow}
-use Rattle.gf_nfg.proofs.Common.{tokens_of, Lexeme, Token, Spells, Why, Err, List, Ok, Result, []}
-use Rattle.gf_nfg.proofs.Common.{ap, append-nil, append_assoc, arith, false, length, refl, subst}
-use Rattle.gf_nfg.proofs.Common.{sym, true, ℕ, ◌*◌, ◌++◌, ◌<◌, ◌∙◌, ◌∷◌, ◌≡◌, ◌≤◌, mul_assoc}
-use Rattle.gf_nfg.proofs.Common.{map-append}
+use Rattle.gf_nfg.proofs.Common.{profile_limit, BeginsWithinLimit, IsBareOrClosing, product, Table}
+use Rattle.gf_nfg.proofs.Common.{StaysWithinLimit, IsStrategicFile, Sentence, SpellsTable, is_past}
+use Rattle.gf_nfg.proofs.Common.{Content, State, finish, run, settled, start, step, ◌>>=◌, table_of}
+use Rattle.gf_nfg.proofs.Common.{p, Position, same_tokens, Begins, MayFollow, tokens_of, Lexeme, Ok}
+use Rattle.gf_nfg.proofs.Common.{Token, Spells, Why, Err, List, Result, [], ap, append-nil, arith}
+use Rattle.gf_nfg.proofs.Common.{append_assoc, false, length, refl, subst, sym, true, ℕ, ◌*◌, ◌++◌}
+use Rattle.gf_nfg.proofs.Common.{◌<◌, ◌∙◌, ◌∷◌, ◌≡◌, ◌≤◌, mul_assoc, map-append, is_ok}
 use Rattle.gf_nfg.proofs.lemmas.runs.Ends.{IsSettled, ends, settled_ends}
 use Rattle.gf_nfg.proofs.lemmas.runs.Sentence.{Read, one_table, sentence_again, sentence_found}
 use Rattle.gf_nfg.proofs.lemmas.runs.Strategies.{Kind, next}
-use Rattle.gf_nfg.proofs.lemmas.runs.Strategies.Kind.{ByCounts, ByLists}
-use Rattle.gf_nfg.proofs.lemmas.runs.Walks.{Leads, leads_more, leads_run, then_ok, walk, walk_run}
-use Rattle.gf_nfg.proofs.lemmas.runs.Walks.{walk_split}
+use Rattle.gf_nfg.proofs.lemmas.runs.Common.{Leads, leads_more, leads_run, then_ok, walk, walk_run}
+use Rattle.gf_nfg.proofs.lemmas.runs.Common.{walk_split}
 use Rattle.gf_nfg.proofs.lemmas.tables.Meaning.{length-entries}
 
 -- ---- what may follow
@@ -27,34 +25,34 @@ pub follows : (ts : List Token) (t : Token) (s after : State) → Leads ts s →
     → MayFollow IsStrategicFile ts t
 follows ts t s after h e = begins (ts ++ t ∷ []) after (leads_more ts t s after h e)
 
+not_ok : (o : Result State Why) (f : State → Result Content Why) (r : Content)
+    → is_ok o ≡ false → (o >>= f) ≡ Ok r → ⊥
+not_ok o f r e h = grind arith
+
 -- if the machine refuses some tokens, no file begins with them
-pub stops : (ts us : List Token) (s : State) (why : Why) → Leads ts s → walk s us ≡ Err why
+pub stops : (ts us : List Token) (s : State) → Leads ts s → is_ok (walk s us) ≡ false
     → ¬ (Begins IsStrategicFile (ts ++ us))
-stops ts us s why h e = λ b.
+stops ts us s h e = λ b.
     let p = sentence_again ((ts ++ us) ++ b.0) b.1.0 b.1.1 in
-    let ok : run start ((ts ++ us) ++ b.0) ≡ Ok p.content = p.read in
-    let err : run start ((ts ++ us) ++ b.0) ≡ Err why = ap (run start) (append_assoc ts us b.0)
-    ∙ leads_run ts (us ++ b.0) s h ∙ walk_run us b.0 s
-    ∙ ap (λ o. o >>= λ after. run after b.0) e in
-    absurd cc
+    not_ok (walk s us) (λ after. run after b.0) p.content e (sym (walk_run us b.0 s)
+    ∙ sym (leads_run ts (us ++ b.0) s h) ∙ ap (run start) (sym (append_assoc ts us b.0)) ∙ p.read)
 
 pub refused : (ts : List Token) (t : Token) (s : State) (why : Why) → Leads ts s
     → step s t ≡ Err why → ¬ (MayFollow IsStrategicFile ts t)
-refused ts t s why h e = stops ts (t ∷ []) s why h (rw e refl)
+refused ts t s why h e = stops ts (t ∷ []) s h (rw e refl)
+
+-- what all tokens are answered
+whole_run : (ts : List Token) (s : State) → Leads ts s → run start ts ≡ finish s
+whole_run ts s h = grind (arith, append-nil, leads_run ts [])
 
 pub is_file : (ts : List Token) (s : State) (r : Content) → Leads ts s → finish s ≡ Ok r
     → Sentence ts (table_of r)
-is_file ts s r h e =
-    (sentence_found ts r (ap (run start) (sym (append-nil ts)) ∙ leads_run ts [] s h ∙ e)).sentence
+is_file ts s r h e = (sentence_found ts r (whole_run ts s h ∙ e)).sentence
 
 pub no_file : (ts : List Token) (s : State) (why : Why) → Leads ts s → finish s ≡ Err why
     → ¬ (IsStrategicFile ts)
 no_file ts s why h e = λ file.
-    let p = sentence_again ts file.0 file.1 in
-    let ok : run start ts ≡ Ok p.content = p.read in
-    let err : run start ts ≡ Err why =
-    ap (run start) (sym (append-nil ts)) ∙ leads_run ts [] s h ∙ e in
-    absurd cc
+    let p = sentence_again ts file.0 file.1 in grind (arith, append-nil, leads_run ts [])
 
 -- ---- the tokens of an input
 
@@ -87,8 +85,7 @@ pub read_whole : (bytes : List ℕ) (s : State) (r : Content) → Led bytes [] s
 read_whole bytes s r h e = (
   h.seen,
   subst (Spells 0 bytes) (append-nil h.seen) h.spelled,
-  sentence_found (tokens_of h.seen) r (ap (run start) (sym (append-nil (tokens_of h.seen)))
-      ∙ leads_run (tokens_of h.seen) [] s h.leads ∙ e),
+  sentence_found (tokens_of h.seen) r (whole_run (tokens_of h.seen) s h.leads ∙ e),
 )
 
 -- and so one table at most
@@ -129,16 +126,10 @@ IsGrown s (Err why) = Unit {0}
 grown : (s : State) (t : Token) → IsGrown s (step s t)
 grown s t = grind arith
 
-count_at : (k : Kind) (c d : Content) → IsGrownAt (next k) c d
-    → (n : ℕ) × (d.counts ≡ c.counts ++ n ∷ [])
-count_at ByCounts c d h = (h.0, h.1)
-count_at ByLists c d h = (h.0, h.1)
-
 -- the last count of those that were read
 pub last_count : (s after : State) (t : Token) (k : Kind) → after.position ≡ next k
     → step s t ≡ Ok after → (n : ℕ) × (after.content.counts ≡ s.content.counts ++ n ∷ [])
-last_count s after t k q e = count_at k s.content after.content (subst
-    (λ (x : Position). IsGrownAt x s.content after.content) q (subst (IsGrown s) e (grown s t)))
+last_count s after t k q e = let h = subst (IsGrown s) e (grown s t) in grind arith
 
 product_snoc : (ns : List ℕ) (n : ℕ) → product (ns ++ n ∷ []) ≡ product ns * n
 product_snoc [] n = omega arith
@@ -146,9 +137,7 @@ product_snoc (m ∷ ns) n = grind (arith, mul_assoc, product_snoc ns n)
 
 product_at : (q : Position) (c d : Content) → IsGrownAt q c d → c.profiles ≡ product c.counts
     → d.profiles ≡ product d.counts
-product_at p.Counts c d h e = grind (arith, product_snoc)
-product_at p.BeforeList c d h e = grind (arith, product_snoc)
-product_at q c d h e = grind arith
+product_at q c d h e = grind (arith, product_snoc)
 
 -- their number is the product of the counts
 pub products : (ts : List Token) (s after : State) → walk s ts ≡ Ok after
@@ -173,15 +162,6 @@ settles : (s after : State) (t : Token) → step s t ≡ Ok after → IsBareOrCl
     → IsSettled after.position
 settles s after t e h = grind arith
 
--- a run that ends well has read no fewer profiles than there were
-
-pub run_grows : (ts : List Token) (s : State) (r : Content) → run s ts ≡ Ok r
-    → s.content.profiles ≤ r.profiles
-run_grows [] s r e = grind arith
-run_grows (t ∷ ts) s r e =
-    let h = then_ok (step s t) (λ x. run x ts) r e in
-    omega (arith, step_grows s h.0 t h.1, run_grows ts h.0 r h.2)
-
 -- ---- above the limit
 
 -- a walk makes them no fewer
@@ -191,6 +171,14 @@ walk_grows [] s after e = grind arith
 walk_grows (t ∷ ts) s after e =
     let h = then_ok (step s t) (λ x. walk x ts) after e in
     omega (arith, step_grows s h.0 t h.1, walk_grows ts h.0 after h.2)
+
+-- nor does a run that ends well
+run_grows : (ts : List Token) (s : State) (r : Content) → run s ts ≡ Ok r
+    → s.content.profiles ≤ r.profiles
+run_grows ts s r e =
+    let h = then_ok (walk s ts) finish r (cc (e, walk_run ts [] s, append-nil ts)) in
+    let less = walk_grows ts s h.0 h.1 in
+    grind arith
 
 -- a file has the profiles that were read
 size_read : (ts : List Token) (r : Content) → run start ts ≡ Ok r
@@ -202,8 +190,7 @@ pub read_past : (ts : List Token) (s : State) → Leads ts s → (more : List To
 read_past ts s h more t sentence =
     let p = sentence_again (ts ++ more) t sentence in
     let grown = run_grows more s p.content (sym (leads_run ts more s h) ∙ p.read) in
-    let size : length t.entries ≡ p.content.profiles = grind (arith, size_read) in
-    omega (arith, grown, size)
+    grind (arith, size_read)
 
 begins_within : (ts : List Token) (s : State)
     → Leads ts s → IsSettled s.position → s.content.profiles ≤ profile_limit → BeginsWithinLimit ts
@@ -217,9 +204,7 @@ begins_within ts s h settled within =
 pub stays_within : (ts : List Token) (s : State) → Leads ts s → s.content.profiles ≤ profile_limit
     → StaysWithinLimit ts
 stays_within ts s h within front back token parts is =
-    let a =
-    walk_split front (token ∷ back) start s (subst (λ (x : List Token). Leads x s) parts h) in
+    let a = walk_split front (token ∷ back) start s (cc (h, parts)) in
     let b = then_ok (step a.0 token) (λ x. walk x back) s a.2 in
     let grown = walk_grows back b.0 s b.2 in
-    begins_within (front ++ token ∷ []) b.0 (leads_more front token a.0 b.0 a.1 b.1)
-    (settles a.0 b.0 token b.1 is) (omega (arith, grown, within))
+    grind (arith, begins_within, leads_more front token a.0 b.0 a.1 b.1, settles)

@@ -4,7 +4,7 @@ use Rattle.gf_nfg.proofs.Common.{number_again, number_is, number_is_computed, sa
 use Rattle.gf_nfg.proofs.Common.{gcd_within, lowest_of, number_of, HasNumberFault, Reads, Ratio}
 use Rattle.gf_nfg.proofs.Common.{NumberFault, Count, Format, Letter, OutcomeNumber, Payoff, Version}
 use Rattle.gf_nfg.proofs.Common.{IsDue, Role, RoleIsDue, Suits, Applies, IsReason, IsStrategicFile}
-use Rattle.gf_nfg.proofs.Common.{Content, State, at, chosen, counted, due_at, ended, finish, paid}
+use Rattle.gf_nfg.proofs.Common.{Content, State, chosen, counted, due_at, ended, finish, paid}
 use Rattle.gf_nfg.proofs.Common.{step, step_at, to, table_of, p, Position, count_again, count_is}
 use Rattle.gf_nfg.proofs.Common.{index_again, index_is, code_of, IsIndex, count_of, index_of}
 use Rattle.gf_nfg.proofs.Common.{why_of, Begins, MayFollow, Bare, Broken, Closing, Comma, Opening}
@@ -13,12 +13,11 @@ use Rattle.gf_nfg.proofs.Common.{UnknownOutcome, Unterminated, ZeroDenominator, 
 use Rattle.gf_nfg.proofs.Common.{List, None, Ok, Option, Result, Some, [], ap, arith, false, inl}
 use Rattle.gf_nfg.proofs.Common.{inr, length, map, nat_eq, refl, subst, suc, sym, true, zero, ℕ}
 use Rattle.gf_nfg.proofs.Common.{◌++◌, ◌-◌, ◌<◌, ◌∷◌, ◌≡◌, ◌≤◌, nat_tests, false_from_ne_true}
-use Rattle.gf_nfg.proofs.Common.{pointwise, codes, if◌then◌else◌, not, ◌==◌, ◌||◌, ◌↔◌, ◌⊎◌}
+use Rattle.gf_nfg.proofs.Common.{is_ok, pointwise, codes, if◌then◌else◌, not, ◌==◌, ◌||◌, ◌↔◌, ◌⊎◌}
 use Rattle.gf_nfg.proofs.lemmas.places.Led.{begins, follows, is_file, refused, stops}
-use Rattle.gf_nfg.proofs.lemmas.runs.Common.{same_bytes}
+use Rattle.gf_nfg.proofs.lemmas.runs.Common.{same_bytes, Leads, leads_on, walk}
 use Rattle.gf_nfg.proofs.lemmas.runs.Ends.{zero_is_index, zero_is_number, zero_number, zero_text}
 use Rattle.gf_nfg.proofs.lemmas.runs.Strategies.{labels_walk}
-use Rattle.gf_nfg.proofs.lemmas.runs.Walks.{Leads, leads_on, walk}
 use Rattle.gf_token.specs.declared.fault.What.TheVariants as what
 use Rattle.gf_fraction.specs.declared.fraction.NumberFault.TheVariants as number
 
@@ -75,9 +74,6 @@ Refuses unfilled row _ why = why ≡ Expected row.expected
 abbrev pub Answers : Bool → Row → Token → Result State Why → Type 0
 Answers unfilled row token (Ok after) = Accepts row token
 Answers unfilled row token (Err why) = ¬ (Accepts row token) × Refuses unfilled row token why
-
-pub no : ¬ (false ≡ true)
-no e = absurd cc
 
 -- ---- what bare tokens are answered
 
@@ -182,15 +178,12 @@ pub answers : (q : Position) (s : State) (t : Token)
 answers p.Format s (Bare b) = grind (arith, same_bytes, same_word)
 answers p.Version s (Bare b) = grind (arith, same_bytes, same_word)
 answers p.Letter s (Bare b) = grind (arith, same_bytes, letter_again)
-answers p.FirstStrategies s (Bare b) = grind (arith, counted_by first_row s b (count_of b) refl)
-answers p.Counts s (Bare b) = grind (arith, counted_by first_row s b (count_of b) refl)
-answers p.AfterStrategies s (Bare b) = grind (arith, paid_by a_body p.FlatPayoffs s b _ refl)
-answers p.AfterComment s (Bare b) = grind (arith, paid_by a_body p.FlatPayoffs s b _ refl)
-answers p.FlatPayoffs s (Bare b) = grind (arith, paid_by a_body p.FlatPayoffs s b _ refl)
-answers p.BracedPayoff s (Bare b) = grind (arith, paid_by a_body p.AfterBracedPayoff s b _ refl)
-answers p.AfterBracedPayoff s (Bare b) =
-    grind (arith, paid_by a_body p.AfterBracedPayoff s b _ refl)
 answers p.OutcomeNumbers s (Bare b) = grind (arith, chosen_by first_row s b (index_of b) refl)
+answers q s (Bare b) =
+    let counted = counted_by first_row s b (count_of b) refl in
+    let flat = paid_by a_body p.FlatPayoffs s b (number_of b) refl in
+    let braced = paid_by a_body p.AfterBracedPayoff s b (number_of b) refl in
+    grind arith
 answers q s t = grind arith
 
 -- ---- what is due
@@ -237,25 +230,15 @@ pub labels_follow : (q : Position) (s : State) → unfilled q s ≡ true → (la
     → (after : State) × (walk (to q s) (map Text labels) ≡ Ok after)
 labels_follow p.InList s e labels =
     (_, labels_walk labels s.due s.list_start s.outcomes s.content)
-labels_follow _ s e labels = absurd (no e)
+labels_follow _ s e labels = absurd cc
 
 abbrev pub two_texts : List Token
 two_texts = Text [] ∷ Text [] ∷ []
 
-some_or_unfilled : (n : ℕ) → has_some n ≡ false → not (has_some n) ≡ false → ⊥
-some_or_unfilled n e f = grind arith
-
 -- otherwise, no two texts may follow
 pub no_texts_follow : (q : Position) (s : State) → (row_at q s).closing ≡ false
-    → unfilled q s ≡ false → (why : Why) × (walk (to q s) two_texts ≡ Err why)
-no_texts_follow p.Title s e f = (Expected what.Opening, refl)
-no_texts_follow p.InPlayers s e f = absurd cc
-no_texts_follow p.InList s e f = absurd (some_or_unfilled (listed_in s) e f)
-no_texts_follow p.AfterStrategies s e f = grind (arith, broken_refused (to p.AfterComment s))
-no_texts_follow p.OutcomeName s e f =
-    let c = s.content in
-    grind (arith, broken_refused (at p.BracedPayoff (length c.players) s.list_start s.outcomes c))
-no_texts_follow q s e f = let b = broken_refused (to q s) in (b.0, rw b.1 refl)
+    → unfilled q s ≡ false → is_ok (walk (to q s) two_texts) ≡ false
+no_texts_follow q s e f = grind arith
 
 -- ---- what may follow
 
@@ -271,9 +254,7 @@ module _ (ts : List Token) (s : State) (h : Leads ts s) where
       grind (arith, a, b, d)
 
   role_is_due : (role : Role) → (row_of s).bare ≡ Some role → RoleIsDue ts role
-  role_is_due role e = λ bytes. subst
-      (λ (o : Option Role). MayFollow IsStrategicFile ts (Bare bytes) ↔ AcceptsBare o bytes) e
-      (may_follow (Bare bytes))
+  role_is_due role e = λ bytes. let a = may_follow (Bare bytes) in grind arith
 
   named_is_due : (expected : What) → Names (row_of s) expected
       → due_at s.position s.due ≡ unless_end expected → IsDue ts expected
@@ -384,14 +365,6 @@ module _ (ts : List Token) where
 
 -- ---- the reason at a token
 
-differs : (bytes word : List ℕ)
-    → pointwise nat_eq bytes word ≡ false → pointwise nat_eq word word ≡ true → ¬ (bytes ≡ word)
-differs bytes word differ same e = grind arith
-
-no_letter : (bytes : List ℕ) → ¬ (bytes ≡ codes "R") → ¬ (bytes ≡ codes "D")
-    → ¬ (Suits Letter bytes)
-no_letter bytes r d h = grind arith
-
 -- a token of a text that has an end
 abbrev pub IsWhole : Token → Type 0
 IsWhole Broken = ⊥
@@ -420,13 +393,6 @@ module _ (ts after : List Token) (s : State) (h : Leads ts s) where
   bare_reason : (b : List ℕ) (why : Why) (o : Option Role) → (row_of s).bare ≡ o
       → ¬ (AcceptsBare o b) → RefusesBare o (row_of s).expected b why
       → IsReason why ts (Bare b ∷ after)
-  bare_reason b why None e n r = word_reason b why None e no no r
-  bare_reason b why (Some Format) e n r = word_reason b why (Some Format) e
-      (differs zero_text (codes "NFG") refl refl) (differs two_text (codes "NFG") refl refl) r
-  bare_reason b why (Some Version) e n r = word_reason b why (Some Version) e
-      (differs zero_text (codes "1") refl refl) (differs two_text (codes "1") refl refl) r
-  bare_reason b why (Some Letter) e n r =
-      search (arith, word_reason, no_letter, zero_text, differs)
   bare_reason b why (Some Count) e n r =
       let due = role_is_due ts s h Count e in
       let none = λ (other : RoleIsDue ts Payoff). no_count ts Payoff zero_suits_payoff other due in
@@ -434,20 +400,16 @@ module _ (ts after : List Token) (s : State) (h : Leads ts s) where
   bare_reason b why (Some Payoff) e n r =
       let due = role_is_due ts s h Payoff e in
       let lowest = lowest_number ts b r.0 due r.2 in
-      rw r.1 (number_reason r.0 due r.2 lowest)
-    where
-      number_reason : (fault : NumberFault) → RoleIsDue ts Payoff → HasNumberFault b fault
-          → Lowest ts (why_of fault) (Bare b) → IsReason (why_of fault) ts (Bare b ∷ after)
-      number_reason fault due k lowest = grind arith
+      grind (arith, r)
   bare_reason b why (Some (OutcomeNumber outcomes)) e n (inl r) =
       let due = role_is_due ts s h (OutcomeNumber outcomes) e in
-      subst (λ (x : Why). IsReason x ts (Bare b ∷ after)) (sym r.0) (
-        inr (outcomes, (due, r.1)),
-        lowest_index ts b (λ payoff. not_payoff_and_outcome ts outcomes payoff due),
-      )
+      let lowest = lowest_index ts b (λ payoff. not_payoff_and_outcome ts outcomes payoff due) in
+      rw r.0 (inr (outcomes, (due, r.1)), lowest)
   bare_reason b why (Some (OutcomeNumber outcomes)) e n (inr r) =
       let due = role_is_due ts s h (OutcomeNumber outcomes) e in
       rw r.0 ((outcomes, (due, r.1)), lowest_outcome ts b outcomes r.1.0 due r.1.1)
+  bare_reason b why o e n r =
+      word_reason b why o e (λ z. grind arith) (λ t. grind arith) r
 
   closing_reason : (why : Why) (empty : Bool) → unfilled s.position s ≡ empty
       → ¬ ((row_of s).closing ≡ true) → RefusesClosing empty (row_of s).expected why
@@ -459,8 +421,8 @@ module _ (ts after : List Token) (s : State) (h : Leads ts s) where
       begins (ts ++ map Text labels) w.0 (leads_on ts (map Text labels) s w.0 h w.1) in
       grind (arith, may_follow ts s h Closing, lowest_entry ts)
   closing_reason why false e n r =
-      let w = no_texts_follow s.position s (false_from_ne_true (row_of s).closing n) e in
-      expected_reason Closing why r (none_of_closing ts (stops ts two_texts s w.0 h w.1))
+      expected_reason Closing why r (none_of_closing ts (stops ts two_texts s h
+      (no_texts_follow s.position s (false_from_ne_true (row_of s).closing n) e)))
 
   refused_reason : (t : Token) (why : Why) → IsWhole t → ¬ (Accepts (row_of s) t)
       → Refuses (unfilled s.position s) (row_of s) t why → IsReason why ts (t ∷ after)
@@ -482,8 +444,7 @@ module _ (ts after : List Token) (s : State) (h : Leads ts s) where
 
   pub end_reason : (named : What) → finish s ≡ Err (Expected named)
       → IsReason (Expected named) ts []
-  end_reason named e = (
-    subst (IsDue ts) (end_names s.content (row_of s).expected named
-        (rw (← (named_at s.position s).1) e)) (expected_is_due ts s h),
-    λ why g. g,
-  )
+  end_reason named e =
+      let n = named_at s.position s in
+      let due = expected_is_due ts s h in
+      grind (arith, end_names s.content (row_of s).expected named)

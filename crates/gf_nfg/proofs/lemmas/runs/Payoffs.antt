@@ -2,19 +2,19 @@
 -- the rows that they are.
 use Rattle.gf_nfg.proofs.Common.{number_again, number_is, number_of, Ratio, NumberFault}
 use Rattle.gf_nfg.proofs.Common.{IsOutcomeInBraces, IsOutcomeNumber, IsPayoff, Pays, row_of}
-use Rattle.gf_nfg.proofs.Common.{Content, State, at, chosen, next_outcome, paid, run, with_choices}
-use Rattle.gf_nfg.proofs.Common.{with_payoffs, ◌>>=◌, p, Position, index_again, index_is, Each}
-use Rattle.gf_nfg.proofs.Common.{IsPayoffInBraces, braced, IsIndex, index_of, Bare, Closing, Comma}
-use Rattle.gf_nfg.proofs.Common.{Opening, Text, Token, Bool, List, Ok, Option, Result, Some, [], ap}
-use Rattle.gf_nfg.proofs.Common.{append_assoc, arith, drop, false, inr, length, length-append}
-use Rattle.gf_nfg.proofs.Common.{length-drop, map, min, refl, subst, suc, sym, take, true, zero, ℕ}
-use Rattle.gf_nfg.proofs.Common.{◌*◌, ◌++◌, ◌+◌, ◌-◌, ◌<◌, ◌^◌, ◌∙◌, ◌∷◌, ◌≡◌, ◌≤◌, mul-suc}
-use Rattle.gf_nfg.proofs.Common.{take-append-drop, slice_get_within, AllByRecursion, ◌⊎◌}
-use Rattle.gf_nfg.proofs.lemmas.runs.Common.{not_zero, ok_is, ok_why, pred_suc, with_more_choices}
+use Rattle.gf_nfg.proofs.Common.{rows_of, Content, State, at, chosen, next_outcome, paid, run}
+use Rattle.gf_nfg.proofs.Common.{with_choices, with_payoffs, ◌>>=◌, p, Position, index_again}
+use Rattle.gf_nfg.proofs.Common.{index_is, Each, IsPayoffInBraces, braced, IsIndex, index_of, Bare}
+use Rattle.gf_nfg.proofs.Common.{Closing, Comma, Opening, Text, Token, Bool, List, Ok, Option}
+use Rattle.gf_nfg.proofs.Common.{Result, Some, [], ap, append_assoc, arith, drop, false, inr}
+use Rattle.gf_nfg.proofs.Common.{length, length-append, length-drop, map, min, refl, suc, sym, take}
+use Rattle.gf_nfg.proofs.Common.{true, zero, ℕ, ◌*◌, ◌++◌, ◌+◌, ◌-◌, ◌<◌, ◌^◌, ◌∙◌, ◌∷◌, ◌≡◌, ◌≤◌}
+use Rattle.gf_nfg.proofs.Common.{mul-suc, take-append-drop, slice_get_within, AllByRecursion, ◌⊎◌}
+use Rattle.gf_token.proofs.Grammar.{each_both}
+use Rattle.gf_nfg.proofs.lemmas.runs.Common.{not_zero, ok_is, pred_suc, with_more_choices}
 use Rattle.gf_nfg.proofs.lemmas.runs.Common.{with_more_payoffs, with_no_choices, with_no_payoffs}
 use Rattle.gf_nfg.proofs.lemmas.runs.Strategies.{First, all_in, each_parts, groups_found}
 use Rattle.gf_nfg.proofs.lemmas.tables.Lists.{get-joined, joined}
-use Rattle.gf_nfg.proofs.lemmas.tables.Rows.{rows_of}
 
 -- a payoff that was read
 paid_found : (q : Position) (s : State) (o : Result Ratio NumberFault) (ts : List Token)
@@ -33,28 +33,18 @@ pub flat_found : (ts : List Token) (due : ℕ) (c r : Content)
 flat_found (Bare b ∷ ts) (suc due) c r e =
     let s : State = at p.FlatPayoffs (suc due) 0 0 c in
     let h = paid_found p.FlatPayoffs s (number_of b) ts r (rw not_zero at e) in
-    let k = flat_found ts due (with_payoffs c (h.0 ∷ [])) r (rw pred_suc at h.2) in (
-      h.0 ∷ k.0,
-      (Bare b ∷ [], ts, refl, (b, refl, number_is b h.0 h.1), k.1),
-      ap suc k.2,
-      k.3 ∙ with_more_payoffs c (h.0 ∷ []) k.0,
-    )
+    let k = flat_found ts due (with_payoffs c (h.0 ∷ [])) r (rw pred_suc at h.2) in
+    let more = with_more_payoffs c (h.0 ∷ []) k.0 in
+    let one : IsPayoff (Bare b ∷ []) h.0 = (b, refl, number_is b h.0 h.1) in
+    (h.0 ∷ k.0, (Bare b ∷ [], ts, refl, one, k.1), ap suc k.2, k.3 ∙ more)
 flat_found ts due c r e = grind (arith, ok_is, with_no_payoffs)
-
-flat_step : (b : List ℕ) (due : ℕ) (n : Ratio) (c : Content) (ts : List Token) → number_of b ≡ Ok n
-    → run (at p.FlatPayoffs (suc due) 0 0 c) (Bare b ∷ ts) ≡ run
-    (at p.FlatPayoffs due 0 0 (with_payoffs c (n ∷ []))) ts
-flat_step b due n c ts e = rw (not_zero, e, pred_suc) refl
 
 pub flat_again : (numbers : List Ratio) (ts : List Token) (c : Content) → Each IsPayoff ts numbers
     → run (at p.FlatPayoffs (length numbers) 0 0 c) ts ≡ Ok (with_payoffs c numbers)
-flat_again [] ts c h = rw h (ap ok_why (sym (with_no_payoffs c)))
+flat_again [] ts c h = grind (arith, with_no_payoffs)
 flat_again (n ∷ numbers) ts c h =
-    let b = h.3.0 in
-    let e : ts ≡ Bare b ∷ h.1 = h.2 ∙ ap (λ (x : List Token). x ++ h.1) h.3.1 in
-    rw e (flat_step b (length numbers) n c h.1 (number_again b n h.3.2)
-    ∙ flat_again numbers h.1 (with_payoffs c (n ∷ [])) h.4
-    ∙ ap ok_why (with_more_payoffs c (n ∷ []) numbers))
+    let more = flat_again numbers h.1 (with_payoffs c (n ∷ [])) h.4 in
+    grind (arith, number_again h.3.0 n h.3.2, with_more_payoffs)
 
 -- ---- in braces
 
@@ -109,36 +99,16 @@ braces_found ts due outcomes c r e =
     let k = brace_found h.1 outcomes (all_in with_one c h.2) r h.6 in
     grind (arith, run, next_outcome, all_payoffs)
 
-braced_step : (may : Bool) (b : List ℕ) (due outcomes : ℕ) (n : Ratio) (c : Content)
-    (ts : List Token) → number_of b ≡ Ok n
-    → run (at (braced_at may) (suc due) 0 outcomes c) (Bare b ∷ ts) ≡ run (at p.AfterBracedPayoff
-    due 0 outcomes (with_payoffs c (n ∷ []))) ts
-braced_step may b due outcomes n c ts e = grind arith
-
-comma_step : (comma ts : List Token) (due outcomes : ℕ) (c : Content) (o : Result Content _)
-    → (comma ≡ []) ⊎ (comma ≡ Comma ∷ [])
-    → ((may : Bool) → run (at (braced_at may) due 0 outcomes c) ts ≡ o)
-    → run (at p.AfterBracedPayoff due 0 outcomes c) (comma ++ ts) ≡ o
-comma_step comma ts due outcomes c o e h = grind (arith, h true, h false)
-
 pub braces_again : (numbers : List Ratio) (inner rest : List Token) (outcomes : ℕ) (c : Content)
     → Each IsPayoffInBraces inner numbers → (may : Bool)
     → run (at (braced_at may) (length numbers) 0 outcomes c) (inner ++ Closing ∷ rest) ≡ run (at
     p.InOutcomes 0 0 (next_outcome outcomes) (with_payoffs c numbers)) rest
 braces_again [] inner rest outcomes c h may = grind (arith, with_no_payoffs)
 braces_again (n ∷ numbers) inner rest outcomes c h may =
-    let b = h.3.0 in
-    let comma = h.3.1 in
-    let after = h.1 ++ Closing ∷ rest in
-    let d = with_payoffs c (n ∷ []) in
-    cc (
-      append_assoc comma h.1 (Closing ∷ rest),
-      braced_step may b (length numbers) outcomes n c
-          (comma ++ after) (number_again b n h.3.3),
-      comma_step comma after (length numbers) outcomes d _
-          h.3.4 (braces_again numbers h.1 rest outcomes d h.4),
-      with_more_payoffs c (n ∷ []) numbers,
-    )
+    let more = braces_again numbers h.1 rest outcomes (with_payoffs c (n ∷ [])) h.4 in
+    let plain = more false in
+    let after_comma = more true in
+    grind (arith, append_assoc, number_again h.3.0 n h.3.3, with_more_payoffs)
 
 -- ---- outcomes
 
@@ -158,7 +128,7 @@ Outcomes ts before c r = (list : List Token) × (numbers : List Token)
     (with_payoffs c (joined outcomes))) numbers ≡ Ok r)
 
 -- in more steps than there are tokens
-outcomes_in : (steps : ℕ) (ts : List Token) (before : ℕ) (c r : Content) → length ts < steps
+pub outcomes_in : (steps : ℕ) (ts : List Token) (before : ℕ) (c r : Content) → length ts < steps
     → run (at p.InOutcomes 0 0 (greatest before) c) ts ≡ Ok r → Outcomes ts before c r
 outcomes_in zero ts before c r less e = absurd (omega arith)
 outcomes_in (suc steps) (Closing ∷ ts) before c r less e =
@@ -166,25 +136,18 @@ outcomes_in (suc steps) (Closing ∷ ts) before c r less e =
     ([], ts, [], refl, refl, cc (with_no_payoffs c))
 outcomes_in (suc steps) (Opening ∷ Text name ∷ ts) before c r less e =
     let b = braces_found ts (length c.players) (greatest before) c r e in
-    let d : Content = with_payoffs c b.0 in
-    let f : run (at p.InOutcomes 0 0 (greatest (before + 1)) d) b.2 ≡ Ok r =
-    cc (greatest_next before) in
     let size = ap length b.3 ∙ length-append b.1 (Closing ∷ b.2) in
-    let h = outcomes_in steps b.2 (before + 1) d r (omega (arith, less, size)) f in
+    let h = outcomes_in steps b.2 (before + 1) (with_payoffs c b.0) r (omega (arith, less, size))
+    (cc (greatest_next before, b.6)) in
     let more : greatest ((before + 1) + length h.2) ≡ greatest (before + length (b.0 ∷ h.2)) =
-    omega arith in (
-      braced (Text name ∷ b.1) ++ h.0,
-      h.1,
-      b.0 ∷ h.2,
-      grind (arith, append_assoc),
-      (braced (Text name ∷ b.1), h.0, refl, (name, b.1, refl, b.4, b.5), h.4),
-      cc (with_more_payoffs c b.0 (joined h.2)),
-    )
+    omega arith in
+    let group = braced (Text name ∷ b.1) in
+    let all = with_more_payoffs c b.0 (joined h.2) in
+    let one : IsOutcomeInBraces (length c.players) group b.0 = (name, b.1, refl, b.4, b.5) in
+    let parts : Opening ∷ Text name ∷ ts ≡ (group ++ h.0) ++ Closing ∷ h.1 =
+    grind (arith, append_assoc) in
+    (group ++ h.0, h.1, b.0 ∷ h.2, parts, (group, h.0, refl, one, h.4), cc all)
 outcomes_in (suc steps) _ before c r less e = absurd cc
-
-pub outcomes_found : (ts : List Token) (c r : Content)
-    → run (at p.InOutcomes 0 0 0 c) ts ≡ Ok r → Outcomes ts 0 c r
-outcomes_found ts c r e = outcomes_in (length ts + 1) ts 0 c r (omega arith) e
 
 outcomes_more : (outcomes : List (List Ratio)) (list rest : List Token) (before : ℕ) (c : Content)
     → Each (IsOutcomeInBraces (length c.players)) list outcomes
@@ -192,18 +155,10 @@ outcomes_more : (outcomes : List (List Ratio)) (list rest : List Token) (before 
     p.OutcomeNumbers c.profiles 0 (greatest (before + length outcomes))
     (with_payoffs c (joined outcomes))) rest
 outcomes_more [] list rest before c h = grind (arith, with_no_payoffs)
-outcomes_more (payoffs ∷ outcomes) list rest before c h = grind (
-  arith,
-  h.3.0,
-  h.3.1,
-  h.1 ++ Closing ∷ rest,
-  braces_again payoffs (h.3.1) (h.1 ++ Closing ∷ rest) (greatest before) c h.3.3 false,
-  greatest_next before,
-  outcomes_more outcomes h.1 rest (before + 1) (with_payoffs c payoffs) h.4,
-  with_more_payoffs c payoffs (joined outcomes),
-  append_assoc,
-  joined,
-)
+outcomes_more (payoffs ∷ outcomes) list rest before c h =
+    let ends = braces_again payoffs h.3.1 (h.1 ++ Closing ∷ rest) (greatest before) c h.3.3 false in
+    let more = outcomes_more outcomes h.1 rest (before + 1) (with_payoffs c payoffs) h.4 in
+    grind (arith, h.3.0, greatest_next before, with_more_payoffs, append_assoc, joined)
 
 pub outcomes_again : (outcomes : List (List Ratio)) (list rest : List Token) (c : Content)
     → Each (IsOutcomeInBraces (length c.players)) list outcomes
@@ -247,22 +202,13 @@ choices_found (Bare b ∷ ts) (suc due) outcomes c r e =
     }
 choices_found ts due outcomes c r e = grind (arith, ok_is, with_no_choices)
 
-choice_step : (b : List ℕ) (due outcomes k : ℕ) (c : Content) (ts : List Token)
-    → index_of b ≡ Some k → k ≤ outcomes
-    → run (at p.OutcomeNumbers (suc due) 0 outcomes c) (Bare b ∷ ts)
-    ≡ run (at p.OutcomeNumbers due 0 outcomes (with_choices c (k ∷ []))) ts
-choice_step b due outcomes k c ts e known = grind arith
-
 pub choices_again : (choices : List ℕ) (ts : List Token) (outcomes : ℕ) (c : Content)
     → Each IsChoice ts choices → AllByRecursion (λ k. k ≤ outcomes) choices
     → run (at p.OutcomeNumbers (length choices) 0 outcomes c) ts ≡ Ok (with_choices c choices)
-choices_again [] ts outcomes c h known = rw h (ap ok_why (sym (with_no_choices c)))
+choices_again [] ts outcomes c h known = grind (arith, with_no_choices)
 choices_again (k ∷ choices) ts outcomes c h known =
-    let b = h.3.0 in
-    let e : ts ≡ Bare b ∷ h.1 = h.2 ∙ ap (λ (x : List Token). x ++ h.1) h.3.1 in
-    rw e (choice_step b (length choices) outcomes k c h.1 (index_again b k h.3.2) known.0
-    ∙ choices_again choices h.1 outcomes (with_choices c (k ∷ [])) h.4 known.1
-    ∙ ap ok_why (with_more_choices c k choices))
+    let more = choices_again choices h.1 outcomes (with_choices c (k ∷ [])) h.4 known.1 in
+    grind (arith, index_again h.3.0 k h.3.2, with_more_choices)
 
 -- ---- the rows of both bodies
 
@@ -272,26 +218,19 @@ choices_again (k ∷ choices) ts outcomes c h known =
 pub rows_each : (size n : ℕ) (numbers : List Ratio) (tokens : List Token)
     → length numbers ≡ size * n → Each IsPayoff tokens numbers
     → Each (Each IsPayoff) tokens (rows_of size n numbers)
-rows_each size zero [] tokens e h = h
-rows_each size zero (x ∷ numbers) tokens e h = absurd (omega arith)
 rows_each size (suc n) numbers tokens e h =
     let s = each_parts IsPayoff (take size numbers) (drop size numbers) tokens
-    (subst (λ xs. Each IsPayoff tokens xs) (sym (take-append-drop size numbers)) h) in
-    let rest : length (drop size numbers) ≡ size * n = grind (arith, length-drop, mul-suc) in
-    (s.0, s.1, s.2, s.3, rows_each size n (drop size numbers) s.1 rest s.4)
-
-Each-append : {A : Type 0} (P : List Token → A → Type 0)
-    (xs ys : List A) (first others : List Token)
-    → Each P first xs → Each P others ys → Each P (first ++ others) (xs ++ ys)
-Each-append P (x ∷ xs) ys first others h k =
-    grind (arith, append_assoc, Each-append P xs ys h.1 others h.4 k)
-Each-append P xs ys first others h k = grind arith
+    (rw take-append-drop h) in
+    let rest = rows_each size n (drop size numbers) s.1 (grind (arith, length-drop, mul-suc)) s.4 in
+    (s.0, s.1, s.2, s.3, rest)
+rows_each size zero [] tokens e h = h
+rows_each size zero numbers tokens e h = absurd (grind arith)
 
 pub rows_joined : (rs : List (List Ratio)) (tokens : List Token) → Each (Each IsPayoff) tokens rs
     → Each IsPayoff tokens (joined rs)
 rows_joined [] tokens h = h
-rows_joined (row ∷ rs) tokens h = subst (λ ts. Each IsPayoff ts (row ++ joined rs)) (sym h.2)
-    (Each-append IsPayoff row (joined rs) h.0 h.1 h.3 (rows_joined rs h.1 h.4))
+rows_joined (row ∷ rs) tokens h =
+    rw h.2 (each_both IsPayoff row (joined rs) h.0 h.1 h.3 (rows_joined rs h.1 h.4))
 
 -- ---- the outcome version
 
@@ -303,17 +242,18 @@ outcomes_full players (row ∷ outcomes) list h = (h.3.4, outcomes_full players 
 
 module _ (players : ℕ) (outcomes : List (List Ratio))
     (full : AllByRecursion (λ row. length row ≡ players) outcomes) where
-  pays : (k : ℕ) → k ≤ greatest (length outcomes)
-      → Pays players outcomes k (row_of players (joined outcomes) k)
-  pays k h = grind (arith, get-joined)
-
   pub choices_pay : (choices : List ℕ) (tokens : List Token) → Each IsChoice tokens choices
       → AllByRecursion (λ k. k ≤ greatest (length outcomes)) choices
       → Each (IsOutcomeNumber players outcomes) tokens
       (map (row_of players (joined outcomes)) choices)
   choices_pay [] tokens h known = h
-  choices_pay (k ∷ choices) tokens h known =
-      (h.0, h.1, h.2, (h.3.0, k, h.3.1, h.3.2, pays k known.0), choices_pay choices h.1 h.4 known.1)
+  choices_pay (k ∷ choices) tokens h known = (
+    h.0,
+    h.1,
+    h.2,
+    (h.3.0, k, h.3.1, h.3.2, grind (arith, get-joined)),
+    choices_pay choices h.1 h.4 known.1,
+  )
 
   -- an outcome's number that pays a row, as it is read
   pub record Chosen (tokens : List Token) (rs : List (List Ratio)) : Type 0 where

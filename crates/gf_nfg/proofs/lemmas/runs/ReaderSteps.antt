@@ -1,10 +1,10 @@
 -- What the methods of the reader rest on: answers carried back, and steps with a test of what is
 -- due.
-use Rattle.gf_nfg.proofs.Common.{Reader, Heading, Answer, Fails, Goes, heard, read_on, then_on}
-use Rattle.gf_nfg.proofs.Common.{within, Content, State, at, settled, p, HasToldAll, body_answer}
-use Rattle.gf_nfg.proofs.Common.{content_in, content_told, labels_of, told_answer, Told, Remaining}
-use Rattle.gf_nfg.proofs.Common.{Closing, Opening, Text, Lexeme, lexeme, Fault, Span, Label, Err}
-use Rattle.gf_nfg.proofs.Common.{List, Ok, Result, [], ap, arith, length, refl, subst, sym, ℕ, ◌*◌}
+use Rattle.gf_nfg.proofs.Common.{StandsAt, Telling, Reader, Heading, Answer, Fails, Goes, heard, at}
+use Rattle.gf_nfg.proofs.Common.{read_on, then_on, within, Content, State, settled, p, HasToldAll}
+use Rattle.gf_nfg.proofs.Common.{body_answer, content_in, content_told, labels_of, Told, Remaining}
+use Rattle.gf_nfg.proofs.Common.{Closing, Opening, Text, Lexeme, lexeme, Fault, Span, Label, Err, ℕ}
+use Rattle.gf_nfg.proofs.Common.{List, Ok, Result, [], ap, arith, length, refl, subst, sym, ◌*◌}
 use Rattle.gf_nfg.proofs.Common.{◌-◌, ◌<◌, ◌∙◌, ◌∷◌, ◌≡◌, length-map, MatchResult}
 use Rattle.gf_nfg.specs.declared.reader.receive.Version.{Version}
 use Rattle.gf_nfg.proofs.lemmas.places.Judged.{carried, wants_memory}
@@ -55,12 +55,12 @@ list_closes due before n c t new s some is next input = grind arith
 -- ---- outcomes
 
 -- after the name of an outcome, a payoff is due for each player
-pub outcome_named : (told : Told) (outcomes players : ℕ) (t new : Remaining) (start end : ℕ)
-    (label : List ℕ) → t.ahead ≡ lexeme start end (Text label) ∷ new.ahead → new.input ≡ t.input
-    → length (content_told told).players ≡ players
-    → told_answer p.OutcomeName 0 outcomes t told ≡ told_answer p.BracedPayoff players outcomes new
-    told
-outcome_named told outcomes players t new start end label next input size = grind arith
+pub outcome_named : {T : Type 0} {holds : T → T → Told → Type 0} {b : Telling T} {to : T}
+    {outcomes players start end : ℕ} {t new : Remaining} {label : List ℕ}
+    → StandsAt holds b p.OutcomeName 0 outcomes t to → length b.heading.players.items ≡ players
+    → t.ahead ≡ lexeme start end (Text label) ∷ new.ahead → new.input ≡ t.input
+    → StandsAt holds b p.BracedPayoff players outcomes new to
+outcome_named h size next input = grind (arith, length-map)
 
 -- ---- after the last of the strategies
 
@@ -109,9 +109,6 @@ all_told holds (Ok x) t same unnumbered holding goes whole = record {
   holding = holding;
 }
 all_told holds (Err f) t same unnumbered holding goes fails = carried fails goes
-
-pub no_payoffs : {numbers : List ℕ} → version.Outcomes ≡ version.Payoffs → numbers ≡ []
-no_payoffs e = absurd cc
 
 pub ruleset body_told = (body_begins, wants_memory)
 

@@ -1,18 +1,16 @@
 -- A run of the machine that succeeds has read a sentence, and each sentence is read.
-use Rattle.gf_nfg.proofs.Common.{◌≡◌, ℕ, ◌+◌, ◌*◌, ◌<◌, ◌≤◌, arith, List, [], ◌∷◌, ◌++◌, length}
-use Rattle.gf_nfg.proofs.Common.{map, Ok, refl, sym, subst, ◌∙◌, append_assoc, inl, inr, ◌⊎◌, Token}
-use Rattle.gf_nfg.proofs.Common.{Opening, AllByRecursion, Closing, Text, Bare, Each, braced}
-use Rattle.gf_nfg.proofs.Common.{IsComment, Ratio, IsPayoff, IsPayoffBody, IsOutcomeBody, Content}
-use Rattle.gf_nfg.proofs.Common.{Position, at, run, with_comment, HasPayoffs, row_of, rows_by, p}
-use Rattle.gf_nfg.proofs.Common.{ap, sum, length-map, all_images, product, Table, IsTable, rows}
-use Rattle.gf_nfg.proofs.Common.{Sentence, IsCount, IsLabelList, counted_labels, start}
-use Rattle.gf_nfg.proofs.Common.{strategies_of, table_of, HasLabels, IsComplete}
+use Rattle.gf_nfg.proofs.Common.{◌≡◌, arith, length, subst, Token, braced, row_of, IsTable, IsCount}
+use Rattle.gf_nfg.proofs.Common.{ℕ, ◌≤◌, [], ◌∷◌, Ok, map, sym, ◌∙◌, inl, inr, ◌⊎◌, at, p, run, sum}
+use Rattle.gf_nfg.proofs.Common.{◌+◌, ◌*◌, ◌<◌, ◌++◌, refl, Text, Each, Ratio, Table, rows, start}
+use Rattle.gf_nfg.proofs.Common.{List, AllByRecursion, IsOutcomeBody, counted_labels, strategies_of}
+use Rattle.gf_nfg.proofs.Common.{append_assoc, IsPayoffBody, with_comment, HasPayoffs, IsLabelList}
+use Rattle.gf_nfg.proofs.Common.{Opening, IsComment, all_weaker, length-map, all_images, IsComplete}
+use Rattle.gf_nfg.proofs.Common.{Closing, Content, rows_by, product, Sentence, table_of, HasLabels}
 use Rattle.gf_nfg.proofs.lemmas.tables.Lists.{joined, length-joined_rows, length-counted_labels}
-use Rattle.gf_nfg.proofs.lemmas.tables.Lists.{length-joined, product_above_zero}
-use Rattle.gf_nfg.proofs.lemmas.tables.Meaning.{rows_again, is_table, rows-table_of}
-use Rattle.gf_nfg.proofs.lemmas.tables.Meaning.{strategies_of-joined}
-use Rattle.gf_nfg.proofs.lemmas.tables.Rows.{rows_numbered, entries_again}
-use Rattle.gf_nfg.proofs.lemmas.runs.Payoffs.{flat_found, flat_again, greatest, outcomes_found}
+use Rattle.gf_nfg.proofs.lemmas.tables.Lists.{length-joined, product_above_zero, rows_again}
+use Rattle.gf_nfg.proofs.lemmas.tables.Meaning.{is_table, rows-table_of, strategies_of-joined}
+use Rattle.gf_nfg.proofs.lemmas.tables.Rows.{entries_again}
+use Rattle.gf_nfg.proofs.lemmas.runs.Payoffs.{flat_found, flat_again, greatest, outcomes_in}
 use Rattle.gf_nfg.proofs.lemmas.runs.Payoffs.{outcomes_again, choices_found, choices_again}
 use Rattle.gf_nfg.proofs.lemmas.runs.Payoffs.{rows_each, rows_joined, outcomes_full, choices_pay}
 use Rattle.gf_nfg.proofs.lemmas.runs.Payoffs.{choices_chosen}
@@ -21,9 +19,7 @@ use Rattle.gf_nfg.proofs.lemmas.runs.Strategies.{labels_in, strategies_again, st
 use Rattle.gf_nfg.proofs.lemmas.runs.Strategies.{with_counts, heading, heading_found, heading_leads}
 use Rattle.gf_nfg.proofs.lemmas.runs.Strategies.{heading_line}
 use Rattle.gf_nfg.proofs.lemmas.tables.Profiles.{length-profiles}
-use Rattle.gf_nfg.proofs.lemmas.runs.Common.{ok_why, ok_is}
-use Rattle.gf_nfg.proofs.lemmas.runs.Walks.{leads_run}
-use Rattle.gf_nfg.proofs.lemmas.runs.Strategies.Kind.{ByCounts, ByLists}
+use Rattle.gf_nfg.proofs.lemmas.runs.Common.{leads_run}
 
 -- with the body
 abbrev pub filled : Content → List Ratio → List ℕ → Content
@@ -52,42 +48,26 @@ flat_body : (ts : List Token) (c r : Content)
     → Body ts c r
 flat_body ts c r e =
     let h = flat_found ts (length c.players * c.profiles) (filled c [] []) r e in
-    record {
-      payoffs = h.0;
-      choices = [];
-      got = h.3;
-      has_rows = h.2;
-      is_body = inl (subst (IsPayoffBody ts) (sym (rows_numbered (length c.players) c.profiles h.0))
-          (rows_each (length c.players) c.profiles h.0 ts h.2 h.1));
-    }
-
-has_chosen : (c : Content) (outcomes : ℕ) (choices : List ℕ) → 0 < length choices
-    → length c.payoffs ≡ length c.players * outcomes → length choices ≡ c.profiles
-    → AllByRecursion (λ k. k ≤ outcomes) choices → HasPayoffs c choices
-has_chosen c outcomes choices some fits count known = grind arith
-
-known_all : (n : ℕ) (choices : List ℕ) → AllByRecursion (λ k. k ≤ greatest n) choices
-    → AllByRecursion (λ k. k ≤ n) choices
-known_all n [] h = tt
-known_all n (k ∷ choices) h = (let small = h.0 in omega (arith, small), known_all n choices h.1)
+    let each = rows_each (length c.players) c.profiles h.0 ts h.2 h.1 in
+    record { payoffs = h.0; choices = []; got = h.3; has_rows = h.2; is_body = grind arith }
 
 outcome_body : (ts : List Token) (c r : Content) → 0 < c.profiles
     → run (at p.InOutcomes 0 0 0 (filled c [] [])) ts ≡ Ok r → Body (Opening ∷ ts) c r
 outcome_body ts c r above e =
-    let h = outcomes_found ts (filled c [] []) r e in
+    let h = outcomes_in (length ts + 1) ts 0 (filled c [] []) r (omega arith) e in
     let none : 0 + length h.2 ≡ length h.2 = omega arith in
     let k = choices_found h.1 c.profiles (greatest (length h.2))
     (filled c (joined h.2) []) r (cc h.5) in
     let some : 0 < length k.choices = omega (arith, k.count, above) in
     let full = outcomes_full (length c.players) h.2 h.0 h.4 in
-    let d : Content = filled c (joined h.2) k.choices in
+    let size = length-joined_rows (length c.players) h.2 full in
+    let known = all_weaker (λ n. n ≤ greatest (length h.2)) (λ n. n ≤ length h.2)
+    (λ n small. omega (arith, small)) k.choices k.known in
     record {
       payoffs = joined h.2;
       choices = k.choices;
       got = k.got;
-      has_rows = has_chosen d (length h.2) k.choices some
-          (length-joined_rows (length c.players) h.2 full) k.count
-          (known_all (length h.2) k.choices k.known);
+      has_rows = grind arith;
       is_body = grind (arith, append_assoc, rows_chosen, choices_pay);
     }
 
@@ -111,33 +91,25 @@ comment_found ts c r above e =
 
 -- ---- each body is read
 
--- from here a body is read to these payoffs and choices
-abbrev GoesFrom : Position → List Token → Content → List Ratio → List ℕ → Type 0
-GoesFrom q body c payoffs choices =
-    run (at q (length c.players * c.profiles) 0 0 (filled c [] [])) body
-    ≡ Ok (filled c payoffs choices)
+-- what is read where only payoffs are due is read where outcomes may come
+outcomes_may_come : (ts : List Token) (due : ℕ) (c r : Content)
+    → run (at p.FlatPayoffs due 0 0 c) ts ≡ Ok r → run (at p.AfterComment due 0 0 c) ts ≡ Ok r
+outcomes_may_come (Opening ∷ ts) due c r e = absurd (grind arith)
+outcomes_may_come ts due c r e = e
 
--- a body is read to these rows, if there is a comment before it or not
+-- and that is read where a comment may come
+comment_may_come : (ts : List Token) (due : ℕ) (c r : Content)
+    → run (at p.AfterComment due 0 0 c) ts ≡ Ok r → run (at p.AfterStrategies due 0 0 c) ts ≡ Ok r
+comment_may_come (Text said ∷ ts) due c r e = absurd (grind arith)
+comment_may_come ts due c r e = e
+
+-- a body is read to these rows
 pub record Kept (body : List Token) (c : Content) (rs : List (List Ratio)) : Type 0 where
   pub payoffs : List Ratio
   pub choices : List ℕ
   pub means : rows_by (filled c payoffs choices) choices ≡ rs
-  pub behind_strategies : GoesFrom p.AfterStrategies body c payoffs choices
-  pub behind_comment : GoesFrom p.AfterComment body c payoffs choices
-
--- payoffs begin with a bare token, if there are any
-payoffs_begin : (t : Token) (ts : List Token) (numbers : List Ratio)
-    → Each IsPayoff (t ∷ ts) numbers → (b : List ℕ) × (t ≡ Bare b)
-payoffs_begin t ts [] h = absurd cc
-payoffs_begin t ts (n ∷ numbers) h = grind arith
-
-flat_behind : (ts : List Token) (due : ℕ) (c : Content) (numbers : List Ratio)
-    → Each IsPayoff ts numbers
-    → (run (at p.AfterStrategies due 0 0 c) ts ≡ run (at p.FlatPayoffs due 0 0 c) ts)
-    × (run (at p.AfterComment due 0 0 c) ts ≡ run (at p.FlatPayoffs due 0 0 c) ts)
-flat_behind [] due c numbers h = (refl, refl)
-flat_behind (Bare b ∷ ts) due c numbers h = (refl, refl)
-flat_behind (t ∷ ts) due c numbers h = absurd (grind (arith, payoffs_begin))
+  pub goes_on : run (at p.AfterComment (length c.players * c.profiles) 0 0 (filled c [] [])) body
+      ≡ Ok (filled c payoffs choices)
 
 pub body_again : (body : List Token) (c : Content) (rs : List (List Ratio)) → 0 < c.profiles
     → AllByRecursion (λ row. length row ≡ length c.players) rs → length rs ≡ c.profiles
@@ -145,15 +117,14 @@ pub body_again : (body : List Token) (c : Content) (rs : List (List Ratio)) → 
 body_again body c rs above full count (inl each) =
     let all = rows_joined rs body each in
     let size = length-joined_rows (length c.players) rs full in
-    let goes : GoesFrom p.FlatPayoffs body c (joined rs) [] =
+    let goes : run (at p.FlatPayoffs (length c.players * c.profiles) 0 0 (filled c [] [])) body
+    ≡ Ok (filled c (joined rs) []) =
     cc (size, count, flat_again (joined rs) body (filled c [] []) all) in
-    let b = flat_behind body (length c.players * c.profiles) (filled c [] []) (joined rs) all in
     record {
       payoffs = joined rs;
       choices = [];
       means = cc (rows_again (length c.players) rs full);
-      behind_strategies = b.0 ∙ goes;
-      behind_comment = b.1 ∙ goes;
+      goes_on = outcomes_may_come body _ _ _ goes;
     }
 body_again body c rs above full count (inr b) =
     let paid = outcomes_full (length c.players) b.outcomes b.list b.listed in
@@ -161,19 +132,16 @@ body_again body c rs above full count (inr b) =
     let some : 0 < length o.choices = omega (arith, o.count, count, above) in
     let d : Content = filled c (joined b.outcomes) [] in
     let goes : run (at p.InOutcomes 0 0 0 (filled c [] [])) ((b.list ++ Closing ∷ []) ++ b.numbers)
-    ≡ Ok (filled c (joined b.outcomes) o.choices) = cc (
-      append_assoc b.list (Closing ∷ []) b.numbers,
-      outcomes_again b.outcomes b.list b.numbers (filled c [] []) b.listed,
-      o.count,
-      count,
-      choices_again o.choices b.numbers (greatest (length b.outcomes)) d o.each o.known,
-    ) in
+    ≡ Ok (filled c (joined b.outcomes) o.choices) =
+    let list = outcomes_again b.outcomes b.list b.numbers (filled c [] []) b.listed in
+    let numbers = choices_again o.choices b.numbers (greatest (length b.outcomes)) d o.each
+    o.known in
+    cc (append_assoc b.list (Closing ∷ []) b.numbers, list, o.count, count, numbers) in
     record {
       payoffs = joined b.outcomes;
       choices = o.choices;
       means = rows_chosen (filled c (joined b.outcomes) o.choices) o.choices some ∙ o.rows;
-      behind_strategies = rw b.parts goes;
-      behind_comment = rw b.parts goes;
+      goes_on = rw b.parts goes;
     }
 
 -- ---- the strategies
@@ -197,9 +165,9 @@ counts_mean (labels ∷ strategies) inner h =
 strategies_mean : (k : Kind) (strategies : Strategies) (inner : List Token)
     → Each (IsGroup k) inner strategies → AllSome strategies
     → strategies_of (map length strategies) (labels_in k strategies) ≡ strategies
-strategies_mean ByCounts strategies inner h some = counts_mean strategies inner h
-strategies_mean ByLists strategies inner h some =
-    strategies_of-joined strategies (all_images (λ n. 0 < n) length strategies some)
+strategies_mean k strategies inner h some =
+    let all = all_images (λ n. 0 < n) length strategies some in
+    grind (arith, counts_mean, strategies_of-joined)
 
 labels_fit : (counts : List ℕ) (labels : List (List ℕ)) → length labels ≡ sum counts
     → HasLabels counts labels
@@ -213,9 +181,7 @@ labels_kept k strategies = grind (arith, labels_fit, joined, length-joined)
 some_profiles : (strategies : Strategies) → AllSome strategies
     → 0 < 1 * product (map length strategies)
 some_profiles strategies some =
-    let above = product_above_zero (map length strategies)
-    (all_images (λ n. 0 < n) length strategies some) in
-    omega (arith, above)
+    grind (arith, product_above_zero, all_images (λ n. 0 < n) length strategies some)
 
 -- ---- what was read
 
@@ -287,7 +253,10 @@ behind_comment : (comment body : List Token) (said : List ℕ) (c : Content)
     (rs : List (List Ratio)) → IsComment comment said → (k : Kept body (with_comment c said) rs)
     → c ≡ filled (with_comment c []) [] []
     → run (ended c) (comment ++ body) ≡ Ok (filled (with_comment c said) k.payoffs k.choices)
-behind_comment comment body said c rs h k e = grind arith
+behind_comment comment body said c rs h k e =
+    let plain = comment_may_come body (length c.players * c.profiles)
+    (filled (with_comment c said) [] []) _ k.goes_on in
+    grind arith
 
 pub sentence_again : (ts : List Token) (t : Table) → Sentence ts t → Parts ts t
 sentence_again ts t s =
@@ -298,19 +267,15 @@ sentence_again ts t s =
     let b = body_again s.body (with_comment c t.comment) (rows t)
     (some_profiles t.strategies h.some_strategy) h.one_payoff_each (rows_count t h) s.is_body in
     let rest = s.comment ++ s.body in
+    let leads = leads_run (heading_line s.letter t.title t.players) (braced inner ++ rest) _
+    (heading_leads s.letter t.title t.players s.is_letter) in
+    let lists = strategies_again k.0 t.strategies inner rest (heading t.title t.players) k.1
+    h.some_strategy in
+    let seam = append_assoc inner (Closing ∷ []) rest in
+    let behind = behind_comment s.comment s.body t.comment c (rows t) s.is_comment b refl in
     record {
       content = kept t k.0 b.payoffs b.choices;
-      read = cc (
-        s.parts,
-        s.is_strategies.1,
-        leads_run (heading_line s.letter t.title t.players) (braced inner ++ rest) _
-            (heading_leads s.letter t.title t.players s.is_letter),
-        append_assoc inner (Closing ∷ []) rest,
-        h.one_list_each,
-        strategies_again k.0 t.strategies inner rest (heading t.title t.players) k.1
-            h.some_strategy,
-        behind_comment s.comment s.body t.comment c (rows t) s.is_comment b refl,
-      );
+      read = cc (s.parts, s.is_strategies.1, leads, seam, h.one_list_each, lists, behind);
       means = table_again t k.0 b.payoffs b.choices h
           (strategies_mean k.0 t.strategies inner k.1 h.some_strategy) b.means;
     }
@@ -320,5 +285,4 @@ pub one_table : (ts : List Token) (t u : Table) → Sentence ts t → Sentence t
 one_table ts t u a b =
     let x = sentence_again ts t a in
     let y = sentence_again ts u b in
-    let same : ok_why x.content ≡ ok_why y.content = sym x.read ∙ y.read in
-    sym x.means ∙ ap table_of (ok_is x.content y.content same) ∙ y.means
+    cc (x.read, y.read, x.means, y.means)

@@ -1,16 +1,16 @@
 -- Runs over the heading, and over the strategies: a count for each player, or a list of labels for
 -- each.
 use Rattle.gf_nfg.proofs.Common.{product, IsCount, IsLabelList, counted_labels, Content, State, at}
-use Rattle.gf_nfg.proofs.Common.{counted, listed, nothing, opened, run, start, step, with_count}
+use Rattle.gf_nfg.proofs.Common.{counted, listed, nothing, opened, run, start, with_count}
 use Rattle.gf_nfg.proofs.Common.{with_labels, with_players, with_title, ◌>>=◌, p, Position}
 use Rattle.gf_nfg.proofs.Common.{count_again, count_is, Each, braced, count_of, Bare, Closing}
 use Rattle.gf_nfg.proofs.Common.{Opening, Text, Token, List, Ok, Option, Some, [], ap, append-nil}
 use Rattle.gf_nfg.proofs.Common.{append_assoc, arith, inl, inr, length, length-append, map, refl}
-use Rattle.gf_nfg.proofs.Common.{subst, suc, sym, zero, ℕ, ◌*◌, ◌++◌, ◌+◌, ◌-◌, ◌<◌, ◌∙◌, ◌∷◌, ◌≡◌}
+use Rattle.gf_nfg.proofs.Common.{suc, zero, ℕ, ◌*◌, ◌++◌, ◌+◌, ◌-◌, ◌<◌, ◌∙◌, ◌∷◌, ◌≡◌}
 use Rattle.gf_nfg.proofs.Common.{mul-one, mul_assoc, AllByRecursion, codes, ◌⊎◌}
 use Rattle.gf_nfg.proofs.lemmas.runs.Common.{not_zero, pred_suc, same_bytes, with_more_labels}
 use Rattle.gf_nfg.proofs.lemmas.runs.Common.{with_more_players, with_no_labels, with_no_players}
-use Rattle.gf_nfg.proofs.lemmas.runs.Walks.{Leads, leads_more, leads_on, walk, walk_run, walk_then}
+use Rattle.gf_nfg.proofs.lemmas.runs.Common.{Leads, walk, walk_run, walk_then}
 use Rattle.gf_nfg.proofs.lemmas.tables.Lists.{joined, length-counted_labels}
 
 -- ---- groups of tokens, one for each of some items
@@ -65,15 +65,9 @@ module _ {A : Type 0} (P : List Token → A → Type 0) (state : ℕ → Content
   groups_found one ts zero c r e = ([], ts, [], refl, refl, refl, e)
   groups_found one ts (suc due) c r e =
       let f = one ts due c r e in
-      let h = groups_found one f.1 due (add c f.2) r f.5 in (
-        f.0 ++ h.0,
-        h.1,
-        f.2 ∷ h.2,
-        cc (f.3, h.3, append_assoc f.0 h.0 h.1),
-        (f.0, h.0, refl, f.4, h.4),
-        ap suc h.5,
-        h.6,
-      )
+      let h = groups_found one f.1 due (add c f.2) r f.5 in
+      let parts : ts ≡ (f.0 ++ h.0) ++ h.1 = cc (f.3, h.3, append_assoc f.0 h.0 h.1) in
+      (f.0 ++ h.0, h.1, f.2 ∷ h.2, parts, (f.0, h.0, refl, f.4, h.4), ap suc h.5, h.6)
 
 -- ---- the heading
 
@@ -93,13 +87,7 @@ players_found : (ts : List Token) (c r : Content) → run (at p.InPlayers 0 0 0 
 players_found (Text label ∷ ts) c r e =
     let h = players_found ts (with_players c (label ∷ [])) r e in
     grind (arith, run, with_more_players)
-players_found (Closing ∷ ts) c r e = (
-  [],
-  ts,
-  refl,
-  subst (λ (d : Content). run (at p.BeforeStrategies (length d.players) 0 0 d) ts ≡ Ok r)
-      (sym (with_no_players c)) e,
-)
+players_found (Closing ∷ ts) c r e = ([], ts, refl, cc (with_no_players c))
 players_found _ c r e = absurd cc
 
 -- of this title and these players
@@ -129,14 +117,6 @@ abbrev pub heading_line : List ℕ → List ℕ → List (List ℕ) → List Tok
 heading_line letter title players =
     Bare (codes "NFG") ∷ Bare (codes "1") ∷ Bare letter ∷ Text title ∷ braced (map Text players)
 
-abbrev title_line : List ℕ → List ℕ → List Token
-title_line letter title =
-    Bare (codes "NFG") ∷ Bare (codes "1") ∷ Bare letter ∷ Text title ∷ Opening ∷ []
-
-title_leads : (letter title : List ℕ) → (letter ≡ codes "R") ⊎ (letter ≡ codes "D")
-    → Leads (title_line letter title) (at p.InPlayers 0 0 0 (with_title nothing title))
-title_leads letter title h = grind arith
-
 players_walk : (players : List (List ℕ)) (c : Content)
     → walk (at p.InPlayers 0 0 0 c) (map Text players)
     ≡ Ok (at p.InPlayers 0 0 0 (with_players c players))
@@ -148,11 +128,10 @@ pub heading_leads : (letter title : List ℕ) (players : List (List ℕ))
     → (letter ≡ codes "R") ⊎ (letter ≡ codes "D") → Leads (heading_line letter title players)
     (at p.BeforeStrategies (length players) 0 0 (heading title players))
 heading_leads letter title players h =
-    let line = title_line letter title in
-    let texts = map Text players in
-    let walks = players_walk players (with_title nothing title) in
-    leads_more (line ++ texts) Closing _ _
-    (leads_on line texts _ _ (title_leads letter title h) walks) refl
+    let c : Content = with_title nothing title in
+    let walks = walk_then (map Text players) (Closing ∷ []) (at p.InPlayers 0 0 0 c) _ _
+    (players_walk players c) refl in
+    grind arith
 
 -- ---- the strategies
 
@@ -201,18 +180,9 @@ pub all_groups : (k : Kind) (strategies : Strategies) (c : Content)
     → all_in (with_group k) c strategies
     ≡ with_counts c (map length strategies) (labels_in k strategies)
 all_groups k [] c = grind (arith, append-nil, mul-one)
-all_groups k (labels ∷ strategies) c = grind (
-  arith,
-  append_assoc,
-  append-nil,
-  mul_assoc,
-  joined,
-  all_groups k strategies (with_group k c labels),
-)
-
-pub grows_by : (k : Kind) (c : Content) (labels : List (List ℕ))
-    → (with_group k c labels).profiles ≡ c.profiles * length labels
-grows_by k c labels = grind arith
+all_groups k (labels ∷ strategies) c =
+    let more = all_groups k strategies (with_group k c labels) in
+    grind (arith, append_assoc, append-nil, mul_assoc, joined)
 
 -- after the closing brace: a payoff is due for each player at each profile
 abbrev pub ended : Content → State
@@ -238,17 +208,11 @@ counted_found s o ts r e = grind arith
 one_count : (ts : List Token) (due : ℕ) (c r : Content)
     → run (at p.Counts (suc due) 0 0 c) ts ≡ Ok r → OneOf ByCounts ts due c r
 one_count (Bare b ∷ ts) due c r e =
-    let s : State = at p.Counts (suc due) 0 0 c in
-    let h = counted_found s (count_of b) ts r (rw not_zero at e) in
+    let h = counted_found (at p.Counts (suc due) 0 0 c) (count_of b) ts r (rw not_zero at e) in
     let k = count_is b h.0 h.1 in
-    let n = length-counted_labels h.0 in (
-      Bare b ∷ [],
-      ts,
-      counted_labels h.0,
-      refl,
-      ((b, h.0, refl, k.1, refl), omega (arith, n, k.0)),
-      cc (n, pred_suc due),
-    )
+    let n = length-counted_labels h.0 in
+    let is : IsCount (Bare b ∷ []) (counted_labels h.0) = (b, h.0, refl, k.1, refl) in
+    (Bare b ∷ [], ts, counted_labels h.0, refl, (is, omega (arith, n, k.0)), cc (n, pred_suc due))
 one_count _ due c r e = absurd (grind arith)
 
 -- Text* Closing
@@ -276,8 +240,7 @@ one_list (Opening ∷ ts) due c r e =
     let h = labels_found ts due (length c.labels) c r (rw pred_suc at f) in
     let s : State = at p.InList due (length c.labels) 0 (with_labels c h.0) in
     let k = listed_found s (length h.0) h.1 r (rw behind_front at h.3) in
-    let parts = append_assoc (map Text h.0) (Closing ∷ []) h.1 in
-    (braced (map Text h.0), h.1, h.0, cc (h.2, parts), (refl, k.0), k.1)
+    (braced (map Text h.0), h.1, h.0, grind (arith, append_assoc), (refl, k.0), k.1)
 one_list _ due c r e = absurd (grind arith)
 
 -- what the strategies still due and the closing brace read
@@ -315,11 +278,9 @@ read_by ByLists ts due c r e = of_groups ByLists ts due c r (groups_found (IsSom
 
 pub strategies_found : (ts : List Token) (due : ℕ) (c r : Content)
     → run (at p.BeforeStrategies due 0 0 c) ts ≡ Ok r → Read ts due c r
-strategies_found (Opening ∷ t ∷ ts) zero c r e = read_by ByCounts (t ∷ ts) zero c r e
-strategies_found (Opening ∷ Bare b ∷ ts) (suc due) c r e =
-    read_by ByCounts (Bare b ∷ ts) (suc due) c r (rw not_zero (rw not_zero at e))
-strategies_found (Opening ∷ Opening ∷ ts) (suc due) c r e =
-    read_by ByLists (Opening ∷ ts) (suc due) c r (rw not_zero (rw not_zero at e))
+strategies_found (Opening ∷ Opening ∷ ts) due c r e =
+    read_by ByLists (Opening ∷ ts) due c r (grind arith)
+strategies_found (Opening ∷ ts) due c r e = read_by ByCounts ts due c r (grind arith)
 strategies_found _ due c r e = absurd (grind arith)
 
 -- ---- where strategies lead
@@ -329,39 +290,26 @@ pub labels_walk : (labels : List (List ℕ)) (due from outcomes : ℕ) (c : Cont
     ≡ Ok (at p.InList due from outcomes (with_labels c labels))
 labels_walk [] due from outcomes c = cc (with_no_labels c)
 labels_walk (label ∷ labels) due from outcomes c =
-    labels_walk labels due from outcomes (with_labels c (label ∷ []))
-    ∙ ap (λ d. Ok (at p.InList due from outcomes d)) (with_more_labels c (label ∷ []) labels)
+    let more = labels_walk labels due from outcomes (with_labels c (label ∷ [])) in
+    grind (arith, with_more_labels)
 
 pub list_closed : (s : State) (n : ℕ) → 0 < n
     → listed s n ≡ Ok (at p.BeforeList s.due 0 s.outcomes (with_count s.content n))
 list_closed s n some = grind arith
-
-count_step : (q : Position) → Takes ByCounts q → (b : List ℕ) (n due : ℕ) (c : Content)
-    → count_of b ≡ Some n
-    → step (at q (suc due) 0 0 c) (Bare b) ≡ Ok (at p.Counts due 0 0 (with_count c n))
-count_step q takes b n due c h = grind arith
-
-open_step : (q : Position) → Takes ByLists q → (due : ℕ) (c : Content)
-    → step (at q (suc due) 0 0 c) Opening ≡ Ok (at p.InList due (length c.labels) 0 c)
-open_step q takes due c = grind arith
 
 group_walk : (k : Kind) (q : Position) → Takes k q → (due : ℕ) (c : Content) (group : List Token)
     (labels : List (List ℕ)) → IsGroup k group labels → 0 < length labels
     → walk (at q (suc due) 0 0 c) group ≡ Ok (due_at k due (with_group k c labels))
 group_walk ByCounts q takes due c group labels h some =
     let same : length labels ≡ h.1 = ap length h.4 ∙ length-counted_labels h.1 in
-    let read = count_again h.0 h.1 (omega (arith, some, same)) h.3 ∙ ap Some (sym same) in
-    let one : walk (at q (suc due) 0 0 c) (Bare h.0 ∷ [])
-    ≡ Ok (due_at ByCounts due (with_group ByCounts c labels)) =
-    rw (count_step q takes h.0 (length labels) due c read) refl in
-    ap (walk (at q (suc due) 0 0 c)) h.2 ∙ one
+    let read = count_again h.0 h.1 (omega (arith, some, same)) h.3 in
+    grind arith
 group_walk ByLists q takes due c group labels h some =
     let mid : State = at p.InList due (length c.labels) 0 (with_labels c labels) in
-    ap (walk (at q (suc due) 0 0 c)) h
-    ∙ walk_then (Opening ∷ map Text labels) (Closing ∷ []) (at q (suc due) 0 0 c) mid
-    (due_at ByLists due (with_group ByLists c labels))
-    (rw (open_step q takes due c) (labels_walk labels due (length c.labels) 0 c))
-    (rw (behind_front c.labels labels) (rw (list_closed mid (length labels) some) refl))
+    let texts = labels_walk labels due (length c.labels) 0 c in
+    let closed = list_closed mid (length labels) some in
+    let whole = walk_then (Opening ∷ map Text labels) (Closing ∷ []) (at q (suc due) 0 0 c) mid in
+    grind (arith, behind_front c.labels labels)
 
 -- where groups of some players lead
 abbrev pub behind : Kind → Strategies → Position → Position
@@ -369,8 +317,7 @@ behind k [] q = q
 behind k (labels ∷ strategies) q = next k
 
 behind_next : (k : Kind) (strategies : Strategies) → behind k strategies (next k) ≡ next k
-behind_next k [] = refl
-behind_next k (labels ∷ strategies) = refl
+behind_next k strategies = grind arith
 
 -- there this many more are due
 pub groups_walk : (k : Kind) (strategies : Strategies) (inner : List Token) (q : Position)
@@ -379,21 +326,15 @@ pub groups_walk : (k : Kind) (strategies : Strategies) (inner : List Token) (q :
     ≡ Ok (at (behind k strategies q) due 0 0 (all_in (with_group k) c strategies))
 groups_walk k [] inner q takes due c h some = ap (walk (at q due 0 0 c)) h
 groups_walk k (labels ∷ strategies) inner q takes due c h some =
-    let left = and_more strategies due in
-    let s : State = at q (suc left) 0 0 c in
+    let first = group_walk k q takes (and_more strategies due) c h.0 labels h.3 some.0 in
     let d = with_group k c labels in
-    let w = groups_walk k strategies h.1 (next k) (inr refl) due d h.4 some.1
-    ∙ ap (λ (x : Position). Ok (at x due 0 0 (all_in (with_group k) d strategies)))
-    (behind_next k strategies) in
-    ap (walk s) h.2 ∙ walk_then h.0 h.1 s (due_at k left d) _
-    (group_walk k q takes left c h.0 labels h.3 some.0) w
+    let more = groups_walk k strategies h.1 (next k) (inr refl) due d h.4 some.1 in
+    grind (arith, walk_then, behind_next)
 
 closed : (k : Kind) (strategies : Strategies) (rest : List Token) (c : Content)
     → run (at (behind k strategies p.FirstStrategies) 0 0 0 c) (Closing ∷ rest)
     ≡ run (ended c) rest
-closed k [] rest c = refl
-closed ByCounts (labels ∷ strategies) rest c = refl
-closed ByLists (labels ∷ strategies) rest c = refl
+closed k strategies rest c = grind arith
 
 pub strategies_again : (k : Kind) (strategies : Strategies) (inner rest : List Token) (c : Content)
     → Each (IsGroup k) inner strategies → AllSome strategies

@@ -8,7 +8,7 @@ use Rattle.gf_nfg.proofs.Common.{get_or_from_slice_get, slice_get_within}
 use Rattle.std.specs.Bool.{Decides}
 use Rattle.std.specs.Ordering.{int_eq}
 use Rattle.gf_nfg.proofs.lemmas.tables.Rows.{entries_again}
-use Rattle.gf_nfg.proofs.lemmas.texts.Pieces.{own_strategy, own_there}
+use Rattle.gf_nfg.proofs.lemmas.tables.Strategies.{own_there}
 
 -- one more place
 pub same_more : {A : Type 0} (xs ys : List A) (k : ℕ) (x y : A) → slice_get xs k ≡ Some x
@@ -41,7 +41,5 @@ same_entries t u h g s r = grind (arith, joined)
 pub ruleset same_by_labels = (same_labels, same_more)
 
 pub ruleset same_by_payoffs = (slice_eq-Decides, Decides-ratio)
-
-pub ruleset same_own_by_labels = (same_by_labels, own_strategy)
 
 pub ruleset same_by_own = (same_all, same_more, own_there)

@@ -1,11 +1,10 @@
 -- Places in classes that are merged, and the rows at them.
 use Rattle.gf_nfg.proofs.Common.{◌≡◌, ◌≢◌, ℕ, ◌+◌, ◌-◌, ◌<◌, ◌≤◌, List, length, get_or, set, take}
-use Rattle.gf_nfg.proofs.Common.{Some, slice_get, refl, ◌∙◌, arith}
-use Rattle.gf_nfg.proofs.Common.{if◌then◌else◌, max, min, nat_lt, range_with_len, cases_eq}
-use Rattle.gf_nfg.proofs.Common.{cases_lt, lt-ltb, get_or-set_at, get_or_default_zero}
-use Rattle.gf_nfg.proofs.Common.{get_or-set_other, get_or_past, length-set, slice_get-get_or}
-use Rattle.gf_nfg.proofs.Common.{slice_get-map, Ratio, all_at, LeadBack, ShareRows, AreShared}
-use Rattle.gf_nfg.proofs.Common.{kept_row}
+use Rattle.gf_nfg.proofs.Common.{Some, slice_get, refl, ◌∙◌, arith, if◌then◌else◌, max, min, nat_lt}
+use Rattle.gf_nfg.proofs.Common.{range_with_len, cases_eq, cases_lt, lt-ltb, get_or-set_at}
+use Rattle.gf_nfg.proofs.Common.{get_or_default_zero, get_or-set_other, get_or_past, length-set}
+use Rattle.gf_nfg.proofs.Common.{slice_get-get_or, slice_get-map, Ratio, all_at, LeadBack}
+use Rattle.gf_nfg.proofs.Common.{ShareRows, AreShared, kept_row}
 use Rattle.std.proofs.lemmas.List.FromFn.{get_or-range_with_len, length-range_with_len}
 use Rattle.gf_nfg.proofs.lemmas.tables.Agreement.{same_more}
 

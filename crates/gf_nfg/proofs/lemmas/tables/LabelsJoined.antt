@@ -1,12 +1,11 @@
 -- Labels that are put together: one after another, or joined to one.
-use Rattle.gf_nfg.proofs.Common.{◌≡◌, ℕ, ◌+◌, ◌-◌, ◌<◌, true, List, [], ◌∷◌, ◌++◌, map, length}
-use Rattle.gf_nfg.proofs.Common.{subst, ap, ◌∙◌, Some, slice_get, take, drop, get_or, refl, sym}
-use Rattle.gf_nfg.proofs.Common.{arith, append_assoc, Result, Ok, Err, OnOk, is_ok, sum}
-use Rattle.gf_nfg.proofs.Common.{AllByRecursion, join_with_byte, and_from, and_parts, append-nil}
-use Rattle.gf_nfg.proofs.Common.{take-append-drop, length-drop, length-map, length-take, map_push}
-use Rattle.gf_nfg.proofs.Common.{take_more, get_or_from_slice_get, slice_get_within, all_parts}
-use Rattle.gf_nfg.proofs.Common.{label_of, IsLabel, is_spelling_after, Label, AreSpellings, RisesTo}
-use Rattle.gf_nfg.proofs.Common.{pieces, at_drop_more}
+use Rattle.gf_nfg.proofs.Common.{◌≡◌, ℕ, ◌+◌, ◌-◌, ◌<◌, ◌∷◌, map, ◌∙◌, sym, Ok, Err, OnOk, sum}
+use Rattle.gf_nfg.proofs.Common.{true, get_or, Result, map_push, label_of, IsLabel, RisesTo, pieces}
+use Rattle.gf_nfg.proofs.Common.{List, ◌++◌, subst, ap, Some, take, drop, refl, arith, is_ok, Label}
+use Rattle.gf_nfg.proofs.Common.{[], append_assoc, AllByRecursion, join_with_byte, slice_get_within}
+use Rattle.gf_nfg.proofs.Common.{length, take-append-drop, get_or_from_slice_get, is_spelling_after}
+use Rattle.gf_nfg.proofs.Common.{slice_get, and_from, and_parts, length-map, take_more, all_parts}
+use Rattle.gf_nfg.proofs.Common.{append-nil, length-drop, length-take, AreSpellings, at_drop_more}
 use Rattle.gf_nfg.specs.TableParts.{dashed}
 use Rattle.gf_nfg.proofs.lemmas.tables.Lists.{sum-cons}
 use Rattle.gf_nfg.proofs.lemmas.tables.Pieces.{rises_within}

@@ -1,21 +1,20 @@
 -- Tables that are only compared: what is kept of their payoffs, and that it means the table; and a
 -- file that was told whole is the same as a table exactly when no difference was found.
-use Rattle.gf_nfg.proofs.Common.{◌≡◌, ℕ, ◌<◌, List, [], ◌∷◌, length, map, sym, ap, arith, subst}
-use Rattle.gf_nfg.proofs.Common.{◌∙◌, mul_comm, Ratio, positions, product, IsTable, Table, rows}
-use Rattle.gf_nfg.proofs.Common.{Names, row_of, table_with, Content, IsComplete, names_in, rows_by}
-use Rattle.gf_nfg.proofs.Common.{table_of, content_in, content_of, content_told, HasToldTable}
-use Rattle.gf_nfg.proofs.Common.{Payoffs, Heading, Bool, true, ◌==◌, ◌++◌, append-nil}
-use Rattle.gf_nfg.proofs.Common.{◌+◌, Some, drop, slice_get, ◌↔◌, IsTrue, length-map}
-use Rattle.gf_nfg.proofs.Common.{IsCompared, SameTable, named_by, names_by}
+use Rattle.gf_nfg.proofs.Common.{◌≡◌, ℕ, ◌<◌, ◌+◌, List, [], ◌∷◌, ◌++◌, length, sym, ap, ◌∙◌}
+use Rattle.gf_nfg.proofs.Common.{subst, arith, mul_comm, Ratio, IsTable, Table, rows, Some}
+use Rattle.gf_nfg.proofs.Common.{Names, table_with, Content, IsComplete, names_in}
+use Rattle.gf_nfg.proofs.Common.{table_of, content_in, content_of, content_with, HasToldTable}
+use Rattle.gf_nfg.proofs.Common.{Payoffs, Heading, Bool, true, ◌==◌, append-nil, drop, slice_get}
+use Rattle.gf_nfg.proofs.Common.{◌↔◌, IsTrue, length-map, IsCompared, SameTable, named_by, names_by}
+use Rattle.gf_nfg.proofs.Common.{IsWithinLimit, MeansTable, SpellsTable}
 use Rattle.gf_nfg.specs.inner.ListedTable.{IsListed, IsListing, listed}
 use Rattle.gf_nfg.specs.declared.table.listed.Body.{Body}
 use Rattle.gf_nfg.specs.declared.table.listed.Body.TheVariants.{InTurn}
 use Rattle.gf_nfg.specs.declared.table.listed.Listing.{Listing}
 use Rattle.gf_nfg.specs.declared.comparison.Comparison.{Comparison}
-use Rattle.gf_nfg.proofs.lemmas.tables.Lists.{joined}
+use Rattle.gf_nfg.proofs.lemmas.tables.Lists.{joined, rows_again, rows_in_turn}
 use Rattle.gf_nfg.proofs.lemmas.tables.Meaning.{is_table, profiles_counted, rows-table_of}
-use Rattle.gf_nfg.proofs.lemmas.tables.Meaning.{rows_again}
-use Rattle.gf_nfg.proofs.lemmas.tables.Rows.{entries_again, entries_counted, rows_in_turn}
+use Rattle.gf_nfg.proofs.lemmas.tables.Rows.{entries_again, entries_counted}
 use Rattle.gf_nfg.proofs.lemmas.tables.Same.{names_in as own_names, same_is_equal}
 use Rattle.gf_nfg.proofs.lemmas.texts.Pieces.{drop_from}
 
@@ -35,7 +34,7 @@ payoffs_told c h none = grind (arith, rows-table_of, rows_in_turn, mul_comm)
 module _ (bytes : List ℕ) (heading : Heading) (l : Listing)
     (h : HasToldTable IsListing bytes heading l) where
   abbrev told : Content
-  told = content_told h.told
+  told = content_with heading h.payoffs h.numbers
 
   abbrev body : Names → Body
   body names = InTurn names l.whole l.kept.payoffs
@@ -43,33 +42,32 @@ module _ (bytes : List ℕ) (heading : Heading) (l : Listing)
   none_chosen : l.kept.numbers.items ≡ [] → told.choices ≡ []
   none_chosen none = sym h.holding.numbers_are ∙ none
 
-  pub in_turn_told : (names : Names) → names ≡ names_in (content_in heading)
+  in_turn_told : (names : Names) → names ≡ names_in (content_in heading)
       → l.kept.numbers.items ≡ [] → listed (body names) ≡ table_of told
-  in_turn_told names is none =
-      let names_are : names ≡ names_in told =
-      is ∙ ap (λ (x : Heading). names_in (content_in x)) (sym h.same) in
-      let count : product (map length names.strategies) ≡ told.profiles =
-      ap (λ (n : Names). product (map length n.strategies)) names_are
-      ∙ sym (profiles_counted told h.complete) in
-      let rows_are =
-      (λ i. map (row_of (length (names_are i).players) (h.holding.payoffs_are i))
-      (positions (count i)))
-      ∙ ap (rows_by told) (sym (none_chosen none)) in
-      (λ i. table_with (names_are i) (rows_are i))
+  in_turn_told names is none = grind (arith, profiles_counted told h.means.complete)
 
   pub in_turn_listed : (names : Names) → names ≡ names_in (content_in heading)
       → l.kept.numbers.items ≡ [] → IsListed (body names)
   in_turn_listed names is none =
       let same = in_turn_told names is none in
       record {
-        is_table = subst IsTable (sym same) (is_table told h.complete);
+        is_table = subst IsTable (sym same) (is_table told h.means.complete);
         full = ap (λ (t : Table). joined (rows t)) same
-            ∙ payoffs_told told h.complete (none_chosen none) ∙ sym h.holding.payoffs_are;
+            ∙ payoffs_told told h.means.complete (none_chosen none) ∙ sym h.holding.payoffs_are;
       }
 
+  pub in_turn_means : (names : Names) → names ≡ names_in (content_in heading)
+      → l.kept.numbers.items ≡ []
+      → SpellsTable bytes (listed (body names)) × IsWithinLimit (listed (body names))
+  in_turn_means names is none =
+      subst (λ t. SpellsTable bytes t × IsWithinLimit t) (sym (in_turn_told names is none))
+      (h.means.spelled, h.means.within)
+
   pub parts_told : ¬ (l.kept.numbers.items ≡ [])
-      → told ≡ content_of (record { heading = heading; kept = l.kept })
-  parts_told some = grind arith
+      → MeansTable bytes (content_of (record { heading = heading; kept = l.kept }))
+  parts_told some =
+      let same : told ≡ content_of (record { heading = heading; kept = l.kept }) = grind arith in
+      subst (MeansTable bytes) same h.means
 
 -- ---- the same table by its names and rows
 
@@ -108,6 +106,8 @@ module _ (named : Bool) (t u : Table) (ht : IsTable t) (hu : IsTable u) where
       ↔ (SameNames × (joined (rows t) ≡ joined (rows u)))
   same_in_turn = grind (arith, same_by_rows, rows_parted)
 
+pub ruleset same_listed = (same_by_rows, same_in_turn)
+
 -- ---- a table and what was told
 
 -- with any payoffs after these it is all exactly when no difference was found, and they are what is
@@ -118,42 +118,33 @@ Compares all same left told =
 
 module _ (t : Table) (bytes : List ℕ) (heading : Heading) (c : Comparison)
     (h : HasToldTable (IsCompared (joined (rows t))) bytes heading c) where
-  abbrev other : Table
-  other = table_of (content_told h.told)
+  abbrev pub other : Content
+  other = content_with heading h.payoffs h.numbers
 
   payoffs_compared : c.version ≡ Payoffs
-      → (IsTrue c.same × (c.left ≡ [])) ↔ (joined (rows t) ≡ joined (rows other))
+      → (IsTrue c.same × (c.left ≡ [])) ↔ (joined (rows t) ≡ joined (rows (table_of other)))
   payoffs_compared version =
-      let x = h.holding in
-      let told_version = sym x.version_is ∙ version in
-      let compared : Compares (joined (rows t)) c.same c.left h.told.payoffs = grind arith in
-      let payoffs = payoffs_told (content_told h.told) h.complete (h.unnumbered told_version) in (
-        λ yes. (compared []).1 yes ∙ append-nil h.told.payoffs ∙ sym payoffs,
-        λ same. (compared []).0 (same ∙ payoffs ∙ sym (append-nil h.told.payoffs)),
-      )
+      let told_version = sym h.holding.version_is ∙ version in
+      let compared : Compares (joined (rows t)) c.same c.left h.payoffs = grind arith in
+      let payoffs = payoffs_told other h.means.complete (h.unnumbered told_version) in
+      let end = compared [] in
+      grind (arith, append-nil)
 
   pub told_compared : (named : Bool) (m n : Names) → IsTable t → m ≡ own_names t
       → n ≡ names_in (content_in heading) → c.version ≡ Payoffs
-      → SameTable (named_by named t) (named_by named other)
+      → SameTable (named_by named t) (named_by named (table_of other))
       ↔ ((names_by named m ≡ names_by named n) × (IsTrue c.same × (c.left ≡ [])))
-  told_compared named m n ht mine theirs version =
-      let names : n ≡ own_names other =
-      theirs ∙ ap (λ (x : Heading). names_in (content_in x)) (sym h.same) in
+  told_compared named m n ht mine theirs version = rw (mine, theirs) (
       let payoffs = payoffs_compared version in
-      let same = same_in_turn named t other ht (is_table (content_told h.told) h.complete) in (
-        λ is. (
-          ap (names_by named) mine ∙ (same.0 is).0 ∙ ap (names_by named) (sym names),
-          payoffs.1 (same.0 is).1,
-        ),
-        λ are. same.1 (
-          ap (names_by named) (sym mine) ∙ are.0 ∙ ap (names_by named) names,
-          payoffs.0 are.1,
-        ),
+      let same = same_in_turn named t (table_of other) ht (is_table other h.means.complete) in
+      grind arith
       )
 
   pub parts_kept : ¬ (c.version ≡ Payoffs)
-      → content_told h.told ≡ content_of (record { heading = heading; kept = c.kept })
-  parts_kept not = let x = h.holding in grind arith
+      → MeansTable bytes (content_of (record { heading = heading; kept = c.kept }))
+  parts_kept not =
+      let same : other ≡ content_of (record { heading = heading; kept = c.kept }) = grind arith in
+      subst (MeansTable bytes) same h.means
 
 -- the row at the next place
 pub next_row : (rs : List (List Ratio)) (row next all : List Ratio) (place : ℕ) → length row ≡ 0

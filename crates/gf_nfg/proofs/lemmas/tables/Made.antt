@@ -1,18 +1,15 @@
 -- A table that is made from labels and fractions.
-use Rattle.gf_nfg.proofs.Common.{◌≡◌, ℕ, ◌*◌, ◌/◌, ◌<◌, ◌≤◌, List, [], ◌∷◌, length, map, refl, sym}
-use Rattle.gf_nfg.proofs.Common.{ap, ◌∙◌, arith, Option, SomeIff, Vec, unwrap_or, vec_len}
-use Rattle.gf_nfg.proofs.Common.{AllByRecursion, AllZip, length-map, label_of, Label, Ratio}
-use Rattle.gf_nfg.proofs.Common.{IsFraction, all_both, all_joined, all_lists, profile_limit}
-use Rattle.gf_nfg.proofs.Common.{positions, product, IsTableOf, AreParts, numbers_of, HasRows}
-use Rattle.gf_nfg.proofs.Common.{AreSpellings, IsHeld, IsTable, Names, rows, row_of, table_with}
+use Rattle.gf_nfg.proofs.Common.{◌≡◌, ℕ, ◌*◌, ◌/◌, ◌<◌, ◌≤◌, List, [], ◌∷◌, length, map, refl, ap}
+use Rattle.gf_nfg.proofs.Common.{◌∙◌, arith, Vec, mul-div_cancel, rows_of, AllByRecursion, AllZip}
+use Rattle.gf_nfg.proofs.Common.{length-map, label_of, Label, Ratio, IsFraction, all_both}
+use Rattle.gf_nfg.proofs.Common.{all_joined, all_lists, profile_limit, product, IsTableOf, AreParts}
+use Rattle.gf_nfg.proofs.Common.{AreSpellings, IsHeld, IsTable, Names, rows, table_with}
 use Rattle.gf_nfg.proofs.lemmas.tables.LabelsJoined.{labels_spelled}
-use Rattle.gf_nfg.proofs.lemmas.tables.Lists.{joined}
-use Rattle.gf_nfg.proofs.lemmas.tables.NumbersInTurn.{length-numbers_from}
-use Rattle.gf_nfg.proofs.lemmas.tables.Rows.{counts_of_lists, entries_counted, full_rows, is_table}
-use Rattle.gf_nfg.proofs.lemmas.tables.Rows.{positions_have_rows, profiles_counted, rows-table_with}
-use Rattle.gf_nfg.proofs.lemmas.tables.Rows.{rows_in_turn, some_in_lists}
+use Rattle.gf_nfg.proofs.lemmas.tables.Lists.{full_in_turn, joined, length-rows_of, no_counts}
+use Rattle.gf_nfg.proofs.lemmas.tables.Lists.{rows_in_turn}
+use Rattle.gf_nfg.proofs.lemmas.tables.Rows.{entries_counted, is_table, rows-table_with}
 
-lists_spelled : {Z : Type 0} (lists : List (Vec Label Z)) → AllByRecursion
+pub lists_spelled : {Z : Type 0} (lists : List (Vec Label Z)) → AllByRecursion
     (λ own. AreSpellings own) (map (λ own. map label_of own.items) lists)
 lists_spelled [] = tt
 lists_spelled (own ∷ lists) = (labels_spelled own.items, lists_spelled lists)
@@ -43,39 +40,15 @@ pub parts_of_labels : (title comment : Label) (players : List Label)
 parts_of_labels title comment players strategies payoffs one some few fractions full spelled =
     search (arith, length-map, all_both, labels_spelled, all_joined)
 
-pub parts_of_lists : {Z : Type 0} (title comment : Label) (players : List Label)
-    (lists : List (Vec Label Z)) (payoffs : List Ratio)
-    → length lists ≡ length players → AllByRecursion (λ own. 0 < vec_len own) lists
-    → product (map vec_len lists) ≤ profile_limit → AllByRecursion IsFraction payoffs
-    → length payoffs ≡ product (map vec_len lists) * length players
-    → AreParts (names_with title comment players (map (λ own. map label_of own.items) lists))
-    payoffs
-parts_of_lists title comment players lists payoffs one some few fractions full =
-    let counts = counts_of_lists label_of lists in
-    grind (
-      arith,
-      parts_of_labels,
-      map,
-      label_of,
-      length-map,
-      some_in_lists,
-      ℕ,
-      product,
-      profile_limit,
-      length,
-      lists_spelled,
-    )
-
 -- ---- the table
 
 -- names, and rows of these payoffs, one for each profile
 module _ (names : Names) (payoffs : List Ratio) (p : AreParts names payoffs) where
   abbrev pub made_rows : List (List Ratio)
-  made_rows = map (row_of (length names.players) payoffs)
-      (positions (product (map length names.strategies)))
+  made_rows = rows_of (length names.players) (product (map length names.strategies)) payoffs
 
   counted : length made_rows ≡ product (map length names.strategies)
-  counted = grind (arith, length-map, length-numbers_from)
+  counted = length-rows_of (length names.players) _ payoffs
 
   rows_are : rows (table_with names made_rows) ≡ made_rows
   rows_are = rows-table_with names made_rows counted
@@ -85,8 +58,7 @@ module _ (names : Names) (payoffs : List Ratio) (p : AreParts names payoffs) whe
 
   table_made : IsTable (table_with names made_rows)
   table_made = is_table names made_rows counted p.one_list_each p.some_strategy
-      (full_rows (length names.players) payoffs _
-      (positions_have_rows (length names.players) _ payoffs p.one_row_each).rows_kept)
+      (full_in_turn (length names.players) _ payoffs p.one_row_each)
 
   pub made_held : IsHeld names made_rows
   made_held = record {
@@ -111,18 +83,19 @@ module _ (names : Names) (payoffs : List Ratio) (p : AreParts names payoffs) whe
     is_table = table_made;
   }
 
-  module _ (players size count : ℕ) (quotient : Option ℕ) (e : players ≡ length names.players)
-      (f : size ≡ length payoffs) (is : SomeIff quotient (0 < players) (size / players))
-      (n : count ≡ unwrap_or quotient 1) where
-    pub made_count : count ≡ product (map length names.strategies)
-    made_count = grind (arith, profiles_counted, length-map)
+pub ruleset made_in_turn = (made_held, made_is)
 
-    pub have_rows : HasRows players count payoffs (positions count)
-    have_rows = positions_have_rows players count payoffs
-        (p.one_row_each ∙ (λ i. sym made_count i * sym e i))
+-- without players there is one profile
+pub one_profile : (names : Names) (payoffs : List Ratio) → AreParts names payoffs
+    → length names.players ≡ 0 → product (map length names.strategies) ≡ 1
+one_profile names payoffs p none = no_counts (map length names.strategies)
+    (length-map names.strategies length ∙ p.one_list_each ∙ none)
 
-    pub rows_made : (choices : List ℕ) (qs : List (List Ratio)) → choices ≡ []
-        → qs ≡ map (row_of players payoffs) (numbers_of count choices) → qs ≡ made_rows
-    rows_made choices qs none are = let same = made_count in grind arith
+pub profiles_counted : (names : Names) (payoffs : List Ratio) → AreParts names payoffs
+    → 0 < length names.players
+    → length payoffs / length names.players ≡ product (map length names.strategies)
+profiles_counted names payoffs p some = grind (arith, p.one_row_each, mul-div_cancel)
+
+pub ruleset counted_profiles = (one_profile, profiles_counted)
 
 pub ruleset made_of_labels = (names_with, parts_of_labels)

@@ -1,12 +1,11 @@
 -- What was read in full means a table, and a table can be recovered from its parts.
 use Rattle.gf_nfg.proofs.Common.{◌≡◌, ℕ, ◌*◌, ◌<◌, ◌≤◌, List, [], ◌∷◌, length, map, drop, refl, sym}
 use Rattle.gf_nfg.proofs.Common.{◌∙◌, arith, length-take, length-drop, sum, AllByRecursion}
-use Rattle.gf_nfg.proofs.Common.{mul_comm, mul-le-mul_right, length-map, Ratio, all_mapped}
-use Rattle.gf_nfg.proofs.Common.{positions, product, profile_limit, IsWithinLimit, IsSpellable}
-use Rattle.gf_nfg.proofs.Common.{IsTable, rows, Names, groups, numbers_of, row_of, IsHeld, HasRows}
-use Rattle.gf_nfg.proofs.Common.{Content, names_in, strategies_of, rows_by, table_of, HasPayoffs}
-use Rattle.gf_nfg.proofs.Common.{HasLabels, IsComplete, drop_at, take_at, all_weaker}
-use Rattle.gf_nfg.proofs.Common.{◌+◌, ◌/◌, AreShared, pos, replicate, whole}
+use Rattle.gf_nfg.proofs.Common.{mul_comm, mul-le-mul_right, length-map, Ratio, all_mapped, product}
+use Rattle.gf_nfg.proofs.Common.{profile_limit, IsWithinLimit, IsSpellable, no_pay, IsTable, rows}
+use Rattle.gf_nfg.proofs.Common.{Names, groups, IsHeld, HasRows, Content, names_in, strategies_of}
+use Rattle.gf_nfg.proofs.Common.{rows_by, table_of, HasPayoffs, HasLabels, IsComplete, all_weaker}
+use Rattle.gf_nfg.proofs.Common.{◌+◌, ◌/◌, AreShared}
 use Rattle.gf_nfg.proofs.lemmas.tables.Lists.{joined, sum-cons, counts_back, groups-joined}
 use Rattle.gf_nfg.proofs.lemmas.tables.Rows as kept
 
@@ -37,41 +36,27 @@ strategies_of-joined lists h = grind arith
 
 -- ---- rows
 
--- rows one after another are parted again
-rows_of-joined : (players : ℕ) (rs : List (List Ratio))
-    → AllByRecursion (λ row. length row ≡ players) rs
-    → kept.rows_of players (length rs) (joined rs) ≡ rs
-rows_of-joined players [] h = refl
-rows_of-joined players (row ∷ rs) h =
-    grind (arith, joined, drop_at, take_at, rows_of-joined players rs h.1)
-
-pub rows_again : (players : ℕ) (rs : List (List Ratio))
-    → AllByRecursion (λ row. length row ≡ players) rs
-    → map (row_of players (joined rs)) (positions (length rs)) ≡ rs
-rows_again players rs h =
-    kept.rows_numbered players (length rs) (joined rs) ∙ rows_of-joined players rs h
-
 pub has_rows : (c : Content) (choices : List ℕ) → HasPayoffs c choices
-    → HasRows (length c.players) c.profiles c.payoffs (numbers_of c.profiles choices)
-has_rows c [] h = kept.positions_have_rows (length c.players) c.profiles c.payoffs
-    (h ∙ mul_comm (length c.players) c.profiles)
-has_rows c (k ∷ choices) h = record {
-  one_number_each = h.2;
-  rows_kept = all_weaker (λ n. n ≤ h.0) (λ n. n * length c.players ≤ length c.payoffs)
+    → HasRows (length c.players) c.profiles c.payoffs choices
+has_rows c [] h = h ∙ mul_comm (length c.players) c.profiles
+has_rows c (k ∷ choices) h = (
+  h.2,
+  all_weaker (λ n. n ≤ h.0) (λ n. n * length c.players ≤ length c.payoffs)
       (λ n less. grind (arith, mul-le-mul_right (length c.players) less, mul_comm)) (k ∷ choices)
-      h.3;
-}
+      h.3,
+)
+
+pub ruleset rows_of_parts = (has_rows, length-map)
 
 -- a number of an outcome is read for each profile
 pub outcomes_shared : (c : Content) (players size : ℕ) (zeros : List Ratio) → HasPayoffs c c.choices
     → length c.players ≡ players → size ≡ length c.payoffs → 0 < players → 0 < length c.choices
-    → zeros ≡ replicate players (whole (pos 0))
+    → zeros ≡ no_pay players
     → AreShared (rows_by c c.choices) c.choices players c.payoffs zeros (size / players + 1)
 outcomes_shared c players size zeros h p s some chosen z =
     rw (z, s, sym p)
-    (kept.are_shared (length c.players) c.profiles c.payoffs
-    (replicate (length c.players) (whole (pos 0))) c.choices (rows_by c c.choices)
-    (has_rows c c.choices h) refl (omega (arith, p, some)) chosen)
+    (kept.are_shared (length c.players) c.profiles c.payoffs (no_pay (length c.players)) c.choices
+    (rows_by c c.choices) (has_rows c c.choices h) refl (omega (arith, p, some)) chosen)
 
 -- ---- the table
 
@@ -80,7 +65,8 @@ module _ (c : Content) (h : IsComplete c) where
   rs = rows_by c c.choices
 
   rows_counted : length rs ≡ c.profiles
-  rows_counted = grind (arith, length-map, has_rows)
+  rows_counted = kept.rows_counted (length c.players) c.profiles c.payoffs _ c.choices
+      (has_rows c c.choices h.has_rows)
 
   pub profiles_counted : c.profiles ≡ product (map length (names_in c).strategies)
   profiles_counted = grind (arith, counts-strategies_of)
@@ -95,7 +81,8 @@ module _ (c : Content) (h : IsComplete c) where
   is_table = kept.is_table (names_in c) rs one_row_each
       (grind (arith, counts-strategies_of, length-map))
       (grind (arith, counts-strategies_of, all_mapped))
-      (kept.full_rows (length c.players) c.payoffs _ (has_rows c c.choices h.has_rows).rows_kept)
+      (kept.full_rows (length c.players) c.profiles c.payoffs c.choices
+      (has_rows c c.choices h.has_rows))
 
   pub length-entries : length (table_of c).entries ≡ c.profiles
   length-entries = kept.entries_counted (table_of c) is_table ∙ sym profiles_counted

@@ -79,4 +79,6 @@ within_ends ends bytes labels at v h = grind (arith, length-pieces)
 
 pub ruleset as_many_pieces = (length-pieces)
 
+pub ruleset cut_at = (drop, end_within, piece_at, start_before_end, take)
+
 pub ruleset one_piece = (within_ends, all_at)

@@ -1,26 +1,15 @@
 -- The places of profiles.
-use Rattle.gf_nfg.proofs.Common.{◌≡◌, ℕ, zero, suc, ◌+◌, ◌-◌, ◌*◌, ◌<◌, ◌≤◌, nat_eq, nat_lt, List}
-use Rattle.gf_nfg.proofs.Common.{[], ◌∷◌, length, map, drop, get_or, Option, Some, None, slice_get}
-use Rattle.gf_nfg.proofs.Common.{option_map, refl, sym, ap, ◌∙◌, arith, inl, inr, ◌⊎◌}
-use Rattle.gf_nfg.proofs.Common.{option_and_then, AllByRecursion, pointwise, drop_more}
-use Rattle.gf_nfg.proofs.Common.{slice_get-map, slice_get_within, get_or_from_slice_get}
-use Rattle.gf_nfg.proofs.Common.{Decides-eqb, nat_tests, slice_eq-Decides, mul_comm}
-use Rattle.gf_nfg.proofs.Common.{mul-le-mul_right, Ratio, all_images, profile_limit, IsProfile}
-use Rattle.gf_nfg.proofs.Common.{place, product, profiles, Table, IsTable, rows, payoffs_at, Names}
-use Rattle.gf_nfg.proofs.Common.{entries_of, IsHeld, place_of, table_with, cases_Bool, length-map}
+use Rattle.gf_nfg.proofs.Common.{◌≡◌, ℕ, zero, suc, ◌+◌, ◌-◌, ◌*◌, ◌<◌, ◌≤◌, nat_eq, List, [], ◌∷◌}
+use Rattle.gf_nfg.proofs.Common.{length, map, drop, get_or, None, slice_get, refl, sym, ap, ◌∙◌}
+use Rattle.gf_nfg.proofs.Common.{arith, ◌⊎◌, AllByRecursion, pointwise, drop_more, Decides-eqb}
+use Rattle.gf_nfg.proofs.Common.{slice_eq-Decides, mul_comm, mul-le-mul_right, Ratio, all_images}
+use Rattle.gf_nfg.proofs.Common.{profile_limit, IsProfile, place, product, profiles, Table, IsTable}
+use Rattle.gf_nfg.proofs.Common.{rows, payoffs_at, Names, entries_of, IsHeld, IsPlaced, own_of}
+use Rattle.gf_nfg.proofs.Common.{table_with, length-map, get_or-map}
+use Rattle.std.proofs.lemmas.List.Elements.{AllZip-get_or, length_all_zip}
 use Rattle.gf_nfg.proofs.lemmas.tables.Profiles.{every_profile, length-profiles}
 use Rattle.gf_nfg.proofs.lemmas.tables.Profiles.{place_at as stands_at}
 use Rattle.gf_nfg.proofs.lemmas.tables.Rows.{entries_again, entries_counted}
-
--- a profile has a place, and nothing else has one
-abbrev IsPlacedIn : List ℕ → List ℕ → Type 0
-IsPlacedIn counts profile =
-    (IsProfile counts profile × (place_of counts profile ≡ Some (place counts profile)))
-    ⊎ (¬ (IsProfile counts profile) × (place_of counts profile ≡ None))
-
-placed : (counts profile : List ℕ) → IsPlacedIn counts profile
-placed (n ∷ counts) (suc k ∷ ss) = grind (arith, cases_Bool, mul_comm, placed counts ss)
-placed counts profile = grind arith
 
 -- the payoffs of the first entry with a profile, at this place
 found_at : (profile : List ℕ) (ps : List (List ℕ)) (rs : List (List Ratio)) (k : ℕ)
@@ -45,67 +34,42 @@ none_at profile (p ∷ ps) (r ∷ rs) none =
     grind (arith, slice_eq-Decides Decides-eqb p profile (pointwise nat_eq p profile) refl)
 none_at profile ps rs none = grind arith
 
-payoffs_placed : (counts profile : List ℕ) (rs : List (List Ratio))
-    → length (profiles counts) ≡ length rs → IsPlacedIn counts profile
-    → payoffs_at profile (entries_of (profiles counts) rs)
-    ≡ option_and_then (λ k. slice_get rs k) (place_of counts profile)
-payoffs_placed counts profile rs e (inl h) =
-    let c = (every_profile counts profile).1 h.0 in
-    let here = sym (stands_at counts c.0 profile c.1) ∙ ap (place counts) c.2 in
-    let first : (i : ℕ) → i < c.0 → ¬ (get_or (profiles counts) i profile ≡ profile) =
-    λ i less same.
-    let there = stands_at counts i profile (omega (arith, less, c.1)) in
-    let is = ap (place counts) same in
-    omega (arith, less, here, there, is) in
-    rw h.1 (found_at profile (profiles counts) rs c.0 e c.1 c.2 first ∙ ap (slice_get rs) here)
-payoffs_placed counts profile rs e (inr h) =
-    rw h.1 (none_at profile (profiles counts) rs
-    (λ i less same. h.0 ((every_profile counts profile).0 (i, less, same))))
+-- a profile stands at its place alone
+place_found : (counts profile : List ℕ) (k i : ℕ) → IsPlaced counts profile k
+    → i < length (profiles counts) → get_or (profiles counts) i profile ≡ profile → i ≡ k
+place_found counts profile k i h less same = grind (arith, stands_at counts i profile less)
+
+payoffs_placed : (counts profile : List ℕ) (rs : List (List Ratio)) (k : ℕ)
+    → length (profiles counts) ≡ length rs → IsPlaced counts profile k
+    → payoffs_at profile (entries_of (profiles counts) rs) ≡ slice_get rs k
+payoffs_placed counts profile rs k e h =
+    let c = (every_profile counts profile).1 h.is_profile in
+    let here = place_found counts profile k c.0 h c.1 c.2 in
+    found_at profile (profiles counts) rs c.0 e c.1 c.2
+    (λ i less same. let there = place_found counts profile k i h (omega (arith, less, c.1)) same in
+    omega (arith, less, here, there)) ∙ ap (slice_get rs) here
+
+pub place_below : (counts profile : List ℕ) (k : ℕ) → IsPlaced counts profile k
+    → k < product counts
+place_below counts profile k h =
+    let c = (every_profile counts profile).1 h.is_profile in
+    let here = place_found counts profile k c.0 h c.1 c.2 in
+    omega (arith, c.1, here, length-profiles counts)
 
 -- ---- the code's steps, from the last player to the first
 
-place_at : (counts profile : List ℕ) (at : ℕ) → at < length counts → at < length profile
-    → place_of (drop at counts) (drop at profile) ≡ place_of
-    (get_or counts at 0 ∷ drop (at + 1) counts) (get_or profile at 0 ∷ drop (at + 1) profile)
-place_at counts profile at h l = rw (drop_more counts at 0 h, drop_more profile at 0 l) refl
+pub as_many : (counts profile : List ℕ) → IsProfile counts profile
+    → length profile ≡ length counts
+as_many counts profile h = length_all_zip (λ s count. (1 ≤ s) × (s ≤ count)) profile counts h
 
-pub place_more : (counts profile : List ℕ) (at count strategy place : ℕ) → at < length counts
-    → at < length profile → count ≡ get_or counts at 0 → strategy ≡ get_or profile at 0
-    → 0 < strategy → strategy ≤ count
-    → place_of (drop (at + 1) counts) (drop (at + 1) profile) ≡ Some place
-    → place_of (drop at counts) (drop at profile) ≡ Some (place * count + (strategy - 1))
-place_more counts profile at count strategy place h l c s above within found =
-    grind (arith, place_at)
-
-pub place_none : (counts profile : List ℕ) (at count strategy : ℕ) → at < length counts
-    → at < length profile → count ≡ get_or counts at 0 → strategy ≡ get_or profile at 0
-    → (strategy ≡ 0) ⊎ (count < strategy) → place_of (drop at counts) (drop at profile) ≡ None
-place_none counts profile at count strategy h h2 h3 h4 h5 = grind (arith, place_at)
-
-pub none_before : (counts profile : List ℕ) (at : ℕ) → at ≤ length counts → at ≤ length profile
-    → place_of (drop at counts) (drop at profile) ≡ None → place_of counts profile ≡ None
-none_before (n ∷ counts) (suc k ∷ profile) (suc at) h l none =
-    grind (arith, cases_Bool, none_before counts profile)
-none_before counts profile at h l none = grind arith
-
-pub none_by_length : (counts profile : List ℕ) → (length counts ≡ length profile → ⊥)
-    → place_of counts profile ≡ None
-none_by_length (n ∷ counts) (suc k ∷ ss) h =
-    grind (arith, cases_Bool, none_by_length counts ss (λ e. h (ap suc e)))
-none_by_length counts profile h = grind arith
-
-place_below_by : (n k product : ℕ) (o : Option ℕ) (place : ℕ)
-    → k < n → ((m : ℕ) → o ≡ Some m → m < product) → option_map (λ m. m * n + k) o ≡ Some place
-    → place < n * product
-place_below_by n k product o place h h2 h3 = grind arith
-
-pub place_below : (counts profile : List ℕ) (place : ℕ) → place_of counts profile ≡ Some place
-    → place < product counts
-place_below (n ∷ counts) (suc k ∷ ss) place h =
-    let rest = place_below counts ss in
-    let by = place_below_by n k (product counts) (place_of counts ss) place in
-    grind (arith, cases_Bool, nat_tests)
-place_below counts profile place h = grind arith
+place_more : (counts profile : List ℕ) (at count k : ℕ) → at < length counts → at < length profile
+    → count ≡ get_or counts at 0 → 0 < get_or profile at 0 → get_or profile at 0 ≤ count
+    → IsPlaced (drop (at + 1) counts) (drop (at + 1) profile) k
+    → IsPlaced (drop at counts) (drop at profile) (k * count + (get_or profile at 0 - 1))
+place_more counts profile at count k h l c above within placed =
+    let first = drop_more counts at 0 h in
+    let second = drop_more profile at 0 l in
+    grind (arith, mul_comm)
 
 pub product_drop : (counts : List ℕ) (at : ℕ) → AllByRecursion (λ n. 0 < n) counts
     → product (drop at counts) ≤ product counts
@@ -121,9 +85,8 @@ pub record AtPlayer (names : Names) (profile : List ℕ) (at place count : ℕ) 
   pub within : product (map length names.strategies) ≤ profile_limit
   pub one_number_each : length profile ≡ length names.players
   pub player : at < length names.players
-  pub found : place_of (drop (at + 1) (map length names.strategies)) (drop (at + 1) profile)
-      ≡ Some place
-  pub count_is : option_map length (slice_get names.strategies at) ≡ Some count
+  pub found : IsPlaced (drop (at + 1) (map length names.strategies)) (drop (at + 1) profile) place
+  pub count_is : count ≡ length (own_of names at)
 
 -- the player before this place
 pub player_before : {names : Names} {profile : List ℕ} {at place count : ℕ}
@@ -131,36 +94,32 @@ pub player_before : {names : Names} {profile : List ℕ} {at place count : ℕ}
     → AllByRecursion (λ own. 0 < length own) names.strategies
     → product (map length names.strategies) ≤ profile_limit
     → length profile ≡ length names.players → 0 < at → at ≤ length names.players
-    → place_of (drop at (map length names.strategies)) (drop at profile) ≡ Some place
-    → option_map length (slice_get names.strategies (at - 1)) ≡ Some count
-    → AtPlayer names profile (at - 1) place count
+    → IsPlaced (drop at (map length names.strategies)) (drop at profile) place
+    → count ≡ length (own_of names (at - 1)) → AtPlayer names profile (at - 1) place count
 player_before {names} {profile} {at} one some few full above within found is = grind arith
 
 at_count : {names : Names} {profile : List ℕ} {at place count : ℕ}
     → AtPlayer names profile at place count → (at < length (map length names.strategies))
     × (count ≡ get_or (map length names.strategies) at 0)
-at_count {names} {profile} {at} {place} {count} a =
-    let here : slice_get (map length names.strategies) at ≡ Some count =
-    grind (arith, slice_get-map) in
-    grind (arith, slice_get_within, get_or_from_slice_get)
+at_count {names} {profile} {at} {place} {count} a = grind (arith, length-map, get_or-map)
 
 pub strategy_out : {names : Names} {profile : List ℕ} {at place count : ℕ}
     → AtPlayer names profile at place count
-    → (get_or profile at 0 ≡ 0) ⊎ (count < get_or profile at 0)
-    → place_of (map length names.strategies) profile ≡ None
-strategy_out {names} {profile} {at} {place} {count} a out = grind (
-  arith,
-  at_count a,
-  none_before (map length names.strategies) profile,
-  place_none (map length names.strategies) profile,
-)
+    → (get_or profile at 0 ≡ 0) ⊎ (¬ (get_or profile at 0 ≡ 0) × (count < get_or profile at 0))
+    → ¬ (IsProfile (map length names.strategies) profile)
+strategy_out {names} {profile} {at} a out = λ h.
+    let fits = AllZip-get_or (λ s count. (1 ≤ s) × (s ≤ count)) profile
+    (map length names.strategies) at 0 0 h (omega (arith, a.player, a.one_number_each)) in
+    let size = (at_count a).1 in
+    omega (arith, fits, size, out)
 
 pub strategy_in : {names : Names} {profile : List ℕ} {at place count : ℕ}
     → AtPlayer names profile at place count → 0 < get_or profile at 0 → get_or profile at 0 ≤ count
-    → place_of (drop at (map length names.strategies)) (drop at profile)
-    ≡ Some (place * count + (get_or profile at 0 - 1))
+    → IsPlaced (drop at (map length names.strategies)) (drop at profile)
+    (place * count + (get_or profile at 0 - 1))
 strategy_in {names} {profile} {at} {place} {count} a above within =
-    grind (arith, at_count a, place_more (map length names.strategies) profile)
+    place_more (map length names.strategies) profile at count place (at_count a).0
+    (omega (arith, a.player, a.one_number_each)) (at_count a).1 above within a.found
 
 pub strategy_fits : {names : Names} {profile : List ℕ} {at place count : ℕ}
     → AtPlayer names profile at place count → 0 < get_or profile at 0 → get_or profile at 0 ≤ count
@@ -172,27 +131,35 @@ strategy_fits {names} {profile} {at} a above within =
     (all_images (λ n. 0 < n) length names.strategies a.some_strategy) in
     omega (arith, below, whole, a.within)
 
-pub payoffs_found : (t : Table) (profile : List ℕ) → IsTable t
-    → payoffs_at profile t.entries
-    ≡ option_and_then (λ k. slice_get (rows t) k) (place_of (map length t.strategies) profile)
-payoffs_found t profile h =
-    let counts = map length t.strategies in
-    let sizes : length (profiles counts) ≡ length (rows t) = length-profiles counts
-    ∙ sym (entries_counted t h) ∙ sym (length-map t.entries (λ e. e.payoffs)) in
-    cc (
-      payoffs_placed counts profile (rows t) sizes (placed counts profile),
-      entries_again t.entries,
-      h.one_entry_each,
-    )
+-- ---- the payoffs of a table at a profile
+
+module _ (t : Table) (profile : List ℕ) (h : IsTable t) where
+  abbrev counts : List ℕ
+  counts = map length t.strategies
+
+  entries : entries_of (profiles counts) (rows t) ≡ t.entries
+  entries = ap (λ ps. entries_of ps (rows t)) (sym h.one_entry_each) ∙ entries_again t.entries
+
+  sizes : length (profiles counts) ≡ length (rows t)
+  sizes = length-profiles counts
+      ∙ sym (entries_counted t h) ∙ sym (length-map t.entries (λ e. e.payoffs))
+
+  pub payoffs_found : (k : ℕ) → IsPlaced counts profile k
+      → payoffs_at profile t.entries ≡ slice_get (rows t) k
+  payoffs_found k placed =
+      ap (payoffs_at profile) (sym entries) ∙ payoffs_placed counts profile (rows t) k sizes placed
+
+  pub no_payoffs : ¬ (IsProfile counts profile) → payoffs_at profile t.entries ≡ None
+  no_payoffs not =
+      ap (payoffs_at profile) (sym entries) ∙ none_at profile (profiles counts) (rows t)
+      (λ i less same. not ((every_profile counts profile).0 (i, less, same)))
 
 pub place_there : (names : Names) (rs : List (List Ratio)) (profile : List ℕ) (place : ℕ)
-    → IsHeld names rs → place_of (map length names.strategies) profile ≡ Some place
-    → place < length rs
+    → IsHeld names rs → IsPlaced (map length names.strategies) profile place → place < length rs
 place_there names rs profile place h found =
-    let counted = entries_counted (table_with names rs) h.is_table in
-    let sizes = length-map (table_with names rs).entries (λ e. e.payoffs) in
-    let below = place_below (map length names.strategies) profile place found in
-    omega (arith, below, counted, sizes, ap length h.rows_are)
+    grind (arith, entries_counted (table_with names rs) h.is_table, length-map, place_below)
 
 pub ruleset places_found =
-    (length-map, none_by_length, place_below, player_before, strategy_in, strategy_fits)
+    (as_many, length-map, place_below, player_before, strategy_in, strategy_fits)
+
+pub ruleset payoffs_at_place = (no_payoffs, payoffs_found)

@@ -5,9 +5,8 @@ use Rattle.gf_nfg.proofs.Common.{length-append, ◌↔◌, AllByRecursion, Conta
 use Rattle.gf_nfg.proofs.Common.{flat_map-append, length-map, map-append, get_or-map, all_both}
 use Rattle.gf_nfg.proofs.Common.{numbers_from, positions, profiles, product, IsProfile, place}
 use Rattle.std.proofs.lemmas.List.Elements.{All-contains, All-from_recursion}
-use Rattle.gf_nfg.proofs.lemmas.tables.NumbersInTurn.{numbers_joined, length-numbers_from}
-use Rattle.gf_nfg.proofs.lemmas.tables.NumbersInTurn.{get_or-numbers_from, IsIn, number_in}
-use Rattle.gf_nfg.proofs.lemmas.tables.NumbersInTurn.{contains_in}
+use Rattle.gf_nfg.proofs.lemmas.tables.NumbersInTurn.{numbers_joined, IsIn, number_in, contains_in}
+use Rattle.gf_nfg.proofs.lemmas.tables.NumbersInTurn.{length-numbers_from, get_or-numbers_from}
 
 -- a profile for each strategy of the first player, with these of the others
 abbrev firsts : ℕ → List ℕ → List (List ℕ)

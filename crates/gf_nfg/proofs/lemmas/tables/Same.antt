@@ -1,6 +1,6 @@
 -- Tables that are the same are equal.
-use Rattle.gf_nfg.proofs.Common.{◌≡◌, ℕ, ◌<◌, List, [], length, map, get_or, sym, ap, ◌∙◌}
-use Rattle.gf_nfg.proofs.Common.{arith, ◌↔◌, Bool, IsTrue, Contains, length-map, get_or-map}
+use Rattle.gf_nfg.proofs.Common.{◌≡◌, ℕ, ◌<◌, List, [], length, map, get_or, sym, ap, ◌∙◌, arith}
+use Rattle.gf_nfg.proofs.Common.{◌↔◌, Bool, IsTrue, Contains, length-map, get_or-map}
 use Rattle.gf_nfg.proofs.Common.{get_or_default, same_lists, Ratio, profiles, Entry, Table, IsTable}
 use Rattle.gf_nfg.proofs.Common.{rows, Names, SamePlay, SameTable}
 use Rattle.gf_nfg.proofs.lemmas.tables.Agreement as agrees

@@ -1,12 +1,11 @@
 -- What a file means is a table that a file can hold.
-use Rattle.gf_nfg.proofs.Common.{ℕ, zero, suc, pos, ◌+◌, ◌^◌, ◌<◌, List, [], ◌∷◌, ◌++◌, length, map}
-use Rattle.gf_nfg.proofs.Common.{replicate, ap, subst, ◌∙◌, arith, inl, inr, ◌⊎◌, decimal}
-use Rattle.gf_nfg.proofs.Common.{AllByRecursion, flat_map, IsLabel, Token, Closing, Text, IsSpelled}
-use Rattle.gf_nfg.proofs.Common.{Each, braced, IsPayoffInBraces, Ratio, IsFraction, whole, all_at}
-use Rattle.gf_nfg.proofs.Common.{all_parts, all_both, all_joined, all_mapped, numbers_from, Table}
-use Rattle.gf_nfg.proofs.Common.{IsTable, IsSpellable, rows, IsCount, IsLabelList}
-use Rattle.gf_nfg.proofs.Common.{IsOutcomeInBraces, Pays, IsPayoffBody, IsOutcomeBody, Sentence}
-use Rattle.gf_nfg.proofs.Common.{SpellsTable}
+use Rattle.gf_nfg.proofs.Common.{ℕ, ◌^◌, ◌<◌, ◌∷◌, map, ap, ◌∙◌, inl, inr, ◌⊎◌}
+use Rattle.gf_nfg.proofs.Common.{zero, suc, pos, ◌+◌, List, [], ◌++◌, Text, Each, Table, rows, Pays}
+use Rattle.gf_nfg.proofs.Common.{length, subst, arith, Token, braced, Ratio, whole, all_at, IsCount}
+use Rattle.gf_nfg.proofs.Common.{replicate, flat_map, IsSpelled, IsFraction, all_joined, all_mapped}
+use Rattle.gf_nfg.proofs.Common.{decimal, IsLabel, Closing, all_parts, all_both, IsTable, Sentence}
+use Rattle.gf_nfg.proofs.Common.{AllByRecursion, IsPayoffInBraces, IsOutcomeInBraces, IsOutcomeBody}
+use Rattle.gf_nfg.proofs.Common.{numbers_from, IsSpellable, IsLabelList, IsPayoffBody, SpellsTable}
 use Rattle.gf_token.proofs.SpelledTokens.{AllSpelled, all_spelled, braced_spelled, comment_spelled}
 use Rattle.gf_fraction.proofs.WholeNumbers.{whole_fraction}
 use Rattle.gf_nfg.proofs.lemmas.tables.LabelsCounted.{decimal_label}

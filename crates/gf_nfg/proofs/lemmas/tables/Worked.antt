@@ -1,10 +1,9 @@
 -- Worked tables, each computed: the machine of the reader reads their files to them; and their
 -- texts.
-use Rattle.gf_nfg.proofs.Common.{◌≡◌, ℕ, List, map, Result, Ok, Err, refl, arith, Token, Gap, Why}
-use Rattle.gf_nfg.proofs.Common.{found, Content, run, start, table_of, Table, table_text}
-use Rattle.gf_nfg.proofs.Common.{SpellsTable, selten, selten_by_counts, selten_by_outcomes}
-use Rattle.gf_nfg.proofs.Common.{selten_text, no_players, no_players_text, gcd_within, lowest_of}
-use Rattle.gf_nfg.proofs.Common.{number_of, index_of}
+use Rattle.gf_nfg.proofs.Common.{◌≡◌, ℕ, map, Ok, Err, refl, Gap, Why, found, run, start, Table}
+use Rattle.gf_nfg.proofs.Common.{List, arith, Token, Content, table_of, selten, number_of, index_of}
+use Rattle.gf_nfg.proofs.Common.{Result, table_text, selten_text, no_players, gcd_within, lowest_of}
+use Rattle.gf_nfg.proofs.Common.{SpellsTable, selten_by_counts, selten_by_outcomes, no_players_text}
 use Rattle.std.specs.Fmt.{digits}
 use Rattle.gf_fraction.specs.NumberText.{number_text}
 use Rattle.gf_token.specs.inner.Lexing.{lex}

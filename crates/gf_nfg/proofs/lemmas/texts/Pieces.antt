@@ -1,11 +1,9 @@
 -- Canonical text, piece by piece.
-use Rattle.gf_nfg.proofs.Common.{◌≡◌, ℕ, zero, suc, ◌+◌, ◌<◌, ◌≤◌, List, [], ◌∷◌, ◌++◌, length, map}
-use Rattle.gf_nfg.proofs.Common.{drop, get_or, Some, slice_get, option_map, refl, sym, ap}
-use Rattle.gf_nfg.proofs.Common.{append_assoc, arith, length-take, codes, option_and_then, Err, Ok}
-use Rattle.gf_nfg.proofs.Common.{OnErr, Result, at_drop_more, append-nil, drop_all, take-append-le}
-use Rattle.gf_nfg.proofs.Common.{take-append-drop, take_all, slice_get-get_or, unwrap_or-slice_get}
-use Rattle.gf_nfg.proofs.Common.{Ratio, Names, own_of, list_text, spaced, lines_text, Keeps}
-use Rattle.gf_nfg.proofs.Common.{others_text, row_text}
+use Rattle.gf_nfg.proofs.Common.{◌≡◌, ℕ, suc, ◌+◌, ◌<◌, ◌≤◌, [], ◌∷◌, map, refl, sym, ap, Err, Ok}
+use Rattle.gf_nfg.proofs.Common.{zero, append_assoc, at_drop_more, take-append-le, take-append-drop}
+use Rattle.gf_nfg.proofs.Common.{List, ◌++◌, drop, Some, codes, OnErr, Result, Ratio, spaced, Keeps}
+use Rattle.gf_nfg.proofs.Common.{length, get_or, drop_all, take_all, line_text, list_text, row_text}
+use Rattle.gf_nfg.proofs.Common.{slice_get, arith, length-take, append-nil, lines_text, others_text}
 use Rattle.gf_fraction.specs.NumberText.{number_text}
 
 -- each item and a space, and the closing brace
@@ -86,34 +84,13 @@ pub others_more : (payoffs : List Ratio) (i : ℕ) (d : Ratio) → i < length pa
     ≡ 32 ∷ (number_text (get_or payoffs i d) ++ payoffs_rest (drop (i + 1) payoffs))
 others_more payoffs i d h = at_drop_more payoffs_rest payoffs i d h
 
-pub row_written : (payoffs others : List Ratio) (first : Ratio) (old out1 out2 : List ℕ)
-    → payoffs ≡ first ∷ others → out1 ≡ old ++ number_text first
-    → out2 ≡ out1 ++ others_text (map number_text others) → out2 ≡ old ++ row_text payoffs
-row_written payoffs others first old out1 out2 e f g = grind (arith, append_assoc, spaced_is)
+pub ruleset rows_spaced = (append_assoc, spaced_is)
 
 -- the lines of the rows still to come
 abbrev pub lines_rest : List (List Ratio) → ℕ → List ℕ
 lines_rest rs at = lines_text (map row_text (drop at rs))
 
-pub line_written : (rs : List (List Ratio)) (at : ℕ)
-    (row : List Ratio) (out out1 out2 total : List ℕ)
-    → slice_get rs at ≡ Some row → out1 ≡ out ++ row_text row → out2 ≡ out1 ++ 10 ∷ []
-    → out ++ lines_rest rs at ≡ total → out2 ++ lines_rest rs (at + 1) ≡ total
-line_written rs at row out out1 out2 total here e1 e2 h = grind (arith, append_assoc, drop_from)
-
--- ---- a player's own strategies
-
-pub own_some : (names : Names) (at : ℕ) (n : ℕ)
-    → option_map length (slice_get names.strategies at) ≡ Some n
-    → (slice_get names.strategies at ≡ Some (own_of names at)) × (length (own_of names at) ≡ n)
-own_some names at n h = grind arith
-
-pub own_there : (names : Names) (at : ℕ) → at < length names.strategies
-    → slice_get names.strategies at ≡ Some (own_of names at)
-own_there names at h = grind (arith, slice_get-get_or, unwrap_or-slice_get)
-
-pub own_strategy : (names : Names) (at n strategy : ℕ) (label : List ℕ)
-    → option_map length (slice_get names.strategies at) ≡ Some n
-    → option_and_then (λ own. slice_get own strategy) (slice_get names.strategies at) ≡ Some label
-    → slice_get (own_of names at) strategy ≡ Some label
-own_strategy names at n strategy label h e = grind arith
+pub line_written : (rs : List (List Ratio)) (at : ℕ) (row : List Ratio) (out out1 total : List ℕ)
+    → slice_get rs at ≡ Some row → out1 ≡ out ++ line_text row
+    → out ++ lines_rest rs at ≡ total → out1 ++ lines_rest rs (at + 1) ≡ total
+line_written rs at row out out1 total here e h = grind (arith, append_assoc, drop_from)

@@ -1,52 +1,33 @@
 -- Lines of rows that profiles share.
-use Rattle.gf_nfg.proofs.Common.{◌≡◌, ℕ, ◌+◌, ◌<◌, List, [], ◌∷◌, ◌++◌, length, map}
-use Rattle.gf_nfg.proofs.Common.{drop, get_or, Some, slice_get, append_assoc, refl, sym, ap, ◌∙◌}
-use Rattle.gf_nfg.proofs.Common.{arith, length-append, AllByRecursion, drop_more}
-use Rattle.gf_nfg.proofs.Common.{get_or-map, length-map, map-append, get_or_from_slice_get, Ratio}
-use Rattle.gf_nfg.proofs.Common.{numbers_from, line_text, lines_with, row_text, RisesTo, pieces}
-use Rattle.gf_nfg.proofs.Common.{lines_text, AreShared, kept_row, subst}
+use Rattle.gf_nfg.proofs.Common.{◌≡◌, ℕ, ◌+◌, ◌<◌, List, [], ◌∷◌, ◌++◌, length, map, drop, get_or}
+use Rattle.gf_nfg.proofs.Common.{Some, slice_get, append_assoc, refl, sym, ap, ◌∙◌, arith}
+use Rattle.gf_nfg.proofs.Common.{length-append, AllByRecursion, drop_more, get_or-map, length-map}
+use Rattle.gf_nfg.proofs.Common.{map-append, get_or_from_slice_get, Ratio, numbers_from, line_text}
+use Rattle.gf_nfg.proofs.Common.{lines_with, row_text, lines_text, AreShared, kept_row, subst}
 use Rattle.gf_nfg.proofs.lemmas.tables.NumbersInTurn.{get_or-numbers_from, length-numbers_from}
 use Rattle.gf_nfg.proofs.lemmas.tables.NumbersInTurn.{numbers_joined}
-use Rattle.gf_nfg.proofs.lemmas.tables.Pieces.{pieces-push, rises-push}
 
 -- ---- the lines
 
--- the lines of the rows below this number are made
-pub record AreMade (row : ℕ → List Ratio) (text ends : List ℕ) (number : ℕ) : Type 0 where
-  pub rises : RisesTo (length text) 0 ends
-  pub lines : pieces 0 ends text ≡ map (λ n. line_text (row n)) (numbers_from 0 number)
-
--- the line of one more row
-line_more : (row : ℕ → List Ratio) (text ends : List ℕ) (number : ℕ) → AreMade row text ends number
-    → AreMade row (text ++ line_text (row number))
-    (ends ++ length (text ++ line_text (row number)) ∷ []) (number + 1)
-line_more row text ends number m =
-    let more = line_text (row number) in
-    let size : length (text ++ more) ≡ length text + length more = length-append text more in
-    let from : 0 + number ≡ number = omega arith in
-    let next : numbers_from 0 (number + 1) ≡ numbers_from 0 number ++ number ∷ [] =
-    cc (numbers_joined 0 number 1) in
-    record {
-      rises = rw size (rises-push 0 ends (length text) (length more) m.rises);
-      lines = rw (size, next) (pieces-push 0 ends text more m.rises
-          ∙ ap (λ (ls : List (List ℕ)). ls ++ more ∷ []) m.lines
-          ∙ sym (map-append (λ n. line_text (row n)) (numbers_from 0 number) (number ∷ [])));
-    }
-
-pub line_made : (row : ℕ → List Ratio) (text text1 text2 ends ends' : List ℕ) (number end : ℕ)
-    (r : List Ratio) → r ≡ row number → text1 ≡ text ++ row_text r → text2 ≡ text1 ++ 10 ∷ []
-    → end ≡ length text2 → ends' ≡ ends ++ end ∷ [] → AreMade row text ends number
-    → AreMade row text2 ends' (number + 1)
-line_made row text text1 text2 ends ends' number end r is e1 e2 here e3 m =
-    grind (arith, append_assoc text (row_text r) (10 ∷ []), line_more row text ends number m)
+-- that of one more row
+pub lines_more : {A : Type 0} (f : ℕ → A) (number : ℕ)
+    → map f (numbers_from 0 (number + 1)) ≡ map f (numbers_from 0 number) ++ f number ∷ []
+lines_more f number = grind (arith, map-append, numbers_joined 0 number 1)
 
 -- ---- chosen lines
 
 -- of lines that are chosen, that of the next number and the rest
-pub chosen_next : (lines : List (List ℕ)) (numbers : List ℕ) (at : ℕ) (line : List ℕ)
+chosen_next : (lines : List (List ℕ)) (numbers : List ℕ) (at : ℕ) (line : List ℕ)
     → at < length numbers → slice_get lines (get_or numbers at 0) ≡ Some line
     → lines_with lines (drop at numbers) ≡ line ++ lines_with lines (drop (at + 1) numbers)
 chosen_next lines numbers at line h found = grind (arith, get_or_from_slice_get, drop_more)
+
+pub next_counted : (lines : List (List ℕ)) (numbers : List ℕ) (at : ℕ) (line : List ℕ)
+    → at < length numbers → slice_get lines (get_or numbers at 0) ≡ Some line
+    → length (lines_with lines (drop at numbers))
+    ≡ length line + length (lines_with lines (drop (at + 1) numbers))
+next_counted lines numbers at line h found =
+    ap length (chosen_next lines numbers at line h found) ∙ length-append line _
 
 -- that of the next number is appended
 pub line_appended : (lines : List (List ℕ)) (numbers : List ℕ) (at : ℕ)
@@ -67,10 +48,15 @@ line_there row bound number h =
     get_or-map (λ n. line_text (row n)) (numbers_from 0 bound) number 0 [] within
     ∙ ap (λ n. line_text (row n)) (get_or-numbers_from 0 bound number 0 h ∙ from)
 
-pub lines_counted : (row : ℕ → List Ratio) (bound : ℕ) (lines : List (List ℕ))
-    → lines ≡ map (λ n. line_text (row n)) (numbers_from 0 bound) → length lines ≡ bound
-lines_counted row bound lines are =
-    cc (length-map (numbers_from 0 bound) (λ n. line_text (row n)), length-numbers_from 0 bound)
+-- each of these numbers is that of a line
+pub numbers_within : (row : ℕ → List Ratio) (bound : ℕ) (lines : List (List ℕ)) (numbers : List ℕ)
+    → lines ≡ map (λ n. line_text (row n)) (numbers_from 0 bound)
+    → AllByRecursion (λ number. number < bound) numbers
+    → AllByRecursion (λ number. number < length lines) numbers
+numbers_within row bound lines numbers are below =
+    let size : bound ≡ length lines =
+    cc (length-map (numbers_from 0 bound) (λ n. line_text (row n)), length-numbers_from 0 bound) in
+    subst (λ (n : ℕ). AllByRecursion (λ number. number < n) numbers) size below
 
 -- the lines of all profiles
 pub lines_chosen : (row : ℕ → List Ratio) (bound : ℕ) (numbers : List ℕ)
@@ -86,10 +72,6 @@ module _ (rows : List (List Ratio)) (numbers : List ℕ) (players : ℕ) (payoff
     (bound : ℕ) (lines : List (List ℕ)) (h : AreShared rows numbers players payoffs zeros bound)
     (are : lines ≡ map (λ n. line_text (kept_row players payoffs zeros n)) (numbers_from 0 bound))
   where
-    pub numbers_within : AllByRecursion (λ number. number < length lines) numbers
-    numbers_within = subst (λ (n : ℕ). AllByRecursion (λ number. number < n) numbers)
-        (sym (lines_counted (kept_row players payoffs zeros) bound lines are)) h.below
-
     pub shared_lines : lines_with lines numbers ≡ lines_text (map row_text rows)
     shared_lines =
         ap (λ (ls : List (List ℕ)). lines_with ls numbers) are

@@ -9,21 +9,23 @@ use Rattle.gf_tree.proofs.Common.{EndsInNode, IsExtensiveFile, IsNewOutcome, IsD
 use Rattle.gf_tree.proofs.Common.{IsInformationSet, Role, FileFront, IsNoNumber, Row, a_letter}
 use Rattle.gf_tree.proofs.Common.{a_word, an_outcome, or_comma, or_name, this_number, What}
 use Rattle.gf_tree.proofs.Common.{BadIndex, OutcomeIsDue, PayoffIsDue, PlayerIsDue}
-use Rattle.gf_tree.proofs.Common.{ProbabilityIsDue, SetIsDue, IsSetKnown, OnlySuitedFollow, Suits}
-use Rattle.gf_tree.proofs.Common.{what_of, BehindPayoff, BehindSet, ToPayoff, a_payoff, a_player}
-use Rattle.gf_tree.proofs.Common.{a_probability, a_set}
+use Rattle.gf_tree.proofs.Common.{ProbabilityIsDue, SetIsDue, MayFollow, OnlySuitedFollow, Suits}
+use Rattle.gf_tree.proofs.Common.{a_first_name, what_of, BehindPayoff, BehindSet, ToPayoff}
+use Rattle.gf_tree.proofs.Common.{a_payoff, a_player, a_probability, a_set}
 use Rattle.gf_tree.specs.DueRoles.{IsToldByRole}
 use Rattle.gf_tree.proofs.lemmas.fronts.CutPlaces.{payoff_place}
 use Rattle.gf_tree.proofs.lemmas.fronts.Lists.{to_probability}
 use Rattle.gf_tree.proofs.lemmas.due.Actions.{known_probability, new_probability}
 use Rattle.gf_tree.proofs.lemmas.due.Heading.{format, letter, version}
-use Rattle.gf_tree.proofs.lemmas.due.Nodes.{Parts, known_set, parts, player, set_number_due}
+use Rattle.gf_tree.proofs.lemmas.due.Nodes.{Parts, known_set, new_set, parts, player}
+use Rattle.gf_tree.proofs.lemmas.due.Nodes.{set_number_due}
 use Rattle.gf_tree.proofs.lemmas.due.Outcomes.{outcome_number_due}
 use Rattle.gf_tree.proofs.lemmas.due.Payoffs.{new_payoff, after_known_payoff, after_new_payoff}
 use Rattle.gf_tree.proofs.lemmas.due.Payoffs.{known_payoff}
-use Rattle.gf_tree.proofs.lemmas.due.Rows.{Stands}
+use Rattle.gf_tree.proofs.lemmas.due.Rows.{Stands, accepted}
 use Rattle.gf_tree.proofs.lemmas.due.Suited.{node_only, one_name}
-use Rattle.gf_tree.proofs.lemmas.fronts.Codes.{begins_payoffs, begins_probability, known_outcome}
+use Rattle.gf_tree.proofs.lemmas.fronts.Codes.{begins_number, begins_payoffs, begins_probability}
+use Rattle.gf_tree.proofs.lemmas.fronts.Codes.{known_outcome}
 use Rattle.gf_tree.proofs.lemmas.fronts.Payoffs.{AtKnownPayoff, in_payoffs}
 use Rattle.gf_tree.proofs.lemmas.stores.ListedSums.{adds_up}
 use Rattle.gf_tree.proofs.lemmas.Once.{none_or_some}
@@ -53,12 +55,11 @@ front_of before begins ends = record { before = before; begins = begins; ends = 
 
 -- ---- an index
 
-pub asks_player : (before : List Token) (count : ℕ) → Begins IsExtensiveFile before
-    → (h : PlayerIsDue before count)
+pub asks_player : (before : List Token) → Begins IsExtensiveFile before → (h : PlayerIsDue before)
     → Asks before what.Index (a_player (length h.0.players)).other_bare
-asks_player before count begins h = record {
+asks_player before begins h = record {
   row = a_player (length h.0.players);
-  stands = player (front_of before begins h.0) h.2;
+  stands = player (front_of before begins h.0) h.1;
   role = Role.PlayerNumber (length h.0.players);
   named = refl;
   same = λ x. (λ s. s, λ s. s);
@@ -103,20 +104,31 @@ behind_set_number front u h e =
     )
 
 outcome_by : (f : FileFront) (set : Option (Use SetKey InformationSet))
-    → ToOutcomeNumber f.front set → IsSetKnown f.nodes set → AsksIndex f.before
-outcome_by f None h known = outcome_at f (None, h, tt)
-outcome_by f (Some u) h (inl d) = outcome_at f (Some u, h, d)
-outcome_by f (Some u) h (inr k) = by u.description refl
+    → ToOutcomeNumber f.front set → MayFollow IsExtensiveFile f.before (Bare (codes "0"))
+    → AsksIndex f.before
+outcome_by f None h may = outcome_at f (None, h, tt)
+outcome_by f (Some u) h may = by u.description refl
   where
-    by : (o : Option InformationSet) → u.description ≡ o → AsksIndex f.before
-    by None e = record {
-      row = or_name k.0.name an_outcome;
-      stands = known_set f u.key k.0 (behind_set_number f.front u h e) k.1;
+    behind : (number : BehindSetNumber f.front u.key) (s : Parts f) (o : Option InformationSet)
+        → description_at same_set s.content.sets u.key ≡ o → AsksIndex f.before
+    behind number s None e =
+        let new = new_set f u.key number (λ d knows. none_or_some
+        (description_at same_set s.content.sets u.key) d e ((s.sets u.key d).0 knows)) in
+        absurd ((accepted f.before a_first_name new (Bare (codes "0") ∷ [])).0 may)
+    behind number s (Some d) e = record {
+      row = or_name d.name an_outcome;
+      stands = known_set f u.key d number ((s.sets u.key d).1 e);
       role = Role.OutcomeNumber;
       named = refl;
       same = λ x. (λ s. s, λ s. s);
       refused = λ b why q. q;
     }
+
+    by : (o : Option InformationSet) → u.description ≡ o → AsksIndex f.before
+    by None e =
+        let number = behind_set_number f.front u h e in
+        let s = parts f (begins_number f.front u.key number) in
+        behind number s (description_at same_set s.content.sets u.key) refl
     by (Some d) e = outcome_at f (Some u, h, (d, e))
 
 pub asks_outcome : (before : List Token) → Begins IsExtensiveFile before → OutcomeIsDue before
@@ -125,7 +137,7 @@ asks_outcome before begins h = outcome_by (front_of before begins h.0) h.1 h.2 h
 
 index_due : (before : List Token) → Begins IsExtensiveFile before → IsDue before what.Index
     → HasRole before what.Index
-index_due before begins (inl h) = role_of before what.Index _ (asks_player before h.0 begins h.1)
+index_due before begins (inl h) = role_of before what.Index _ (asks_player before begins h)
 index_due before begins (inr (inl h)) = role_of before what.Index _ (asks_set before begins h)
 index_due before begins (inr (inr h)) = role_of before what.Index _ (asks_outcome before begins h)
 

@@ -5,7 +5,7 @@ use Rattle.gf_tree.proofs.Common.{Ok, Err, refl, sym, subst, ◌∙◌, arith, T
 use Rattle.gf_tree.proofs.Common.{IsAccepted, Why, IsExtensiveFile, run_tokens, then_run, Content}
 use Rattle.gf_tree.proofs.Common.{Position, State, at, nothing, step, Format, Row, Unterminated}
 use Rattle.gf_tree.proofs.Common.{due, may_end, node_or_end, Accepts, Refuses}
-use Rattle.gf_tree.specs.Rows.{RefusesFor, Takes}
+use Rattle.gf_tree.specs.Rows.{RefusesFor, AcceptsToken}
 use Rattle.gf_tree.proofs.lemmas.runs.Places.{Leads, follows, is_file, is_read, no_file}
 use Rattle.gf_tree.proofs.lemmas.runs.Places.{not_follows, walk, walk_run}
 use Rattle.gf_tree.proofs.lemmas.runs.Stops.{StopsAt, not_accepted}
@@ -14,8 +14,8 @@ use Rattle.gf_tree.proofs.lemmas.runs.Tokens.{Reads, run_on}
 -- ---- what the machine answers, by a row
 
 abbrev pub Answers : Row → Token → Result State Why → Type 0
-Answers row token (Ok after) = Takes row token
-Answers row token (Err why) = ¬ (Takes row token) × RefusesFor row token why
+Answers row token (Ok after) = AcceptsToken row token
+Answers row token (Err why) = ¬ (AcceptsToken row token) × RefusesFor row token why
 
 abbrev pub Law : Position → Content → Row → Type 0
 Law q c row = (token : Token) → Answers row token (step q c token)

@@ -72,6 +72,13 @@ point_no_index : index_of (codes "1.0") ≡ None
 unfolding index_of
 point_no_index = refl
 
+zero_is_read : index_of (codes "0") ≡ Some 0
+unfolding index_of
+zero_is_read = refl
+
+pub zero_is : IsIndex (codes "0") 0
+zero_is = index_is (codes "0") 0 zero_is_read
+
 one_is_read : index_of (codes "1") ≡ Some 1
 unfolding index_of
 one_is_read = refl

@@ -2,24 +2,21 @@
 -- in them, expects in the braces of a known set what is left of it, and refuses a player if there
 -- are none.
 use Rattle.gf_tree.proofs.Common.{◌≡◌, ℕ, ◌≤◌, List, [], ◌∷◌, ◌++◌, length, Option, Some, None}
-use Rattle.gf_tree.proofs.Common.{Result, Err, refl, sym, ap, ◌∙◌, nat_eq, inl, inr, append_assoc}
-use Rattle.gf_tree.proofs.Common.{subst, filter_map, codes, Decides-eqb, Token, Opening, Text, Bare}
-use Rattle.gf_tree.proofs.Common.{Why, Expected, UnknownPlayer, InformationSet, IsOutcome, Outcome}
-use Rattle.gf_tree.proofs.Common.{SetKey, same_set, set_of, Action, description_at, run_tokens}
-use Rattle.gf_tree.proofs.Common.{then_run, BehindOutcomeNumber, BehindSetNumber, EndsInNode}
-use Rattle.gf_tree.proofs.Common.{InActions, InPayoffs, KnowsOutcome, KnowsSet, Content, nothing}
-use Rattle.gf_tree.proofs.Common.{Begun, after_node, begun, personal_node, Format, NodeDue}
-use Rattle.gf_tree.proofs.Common.{KnownAction, code_of, NodeIsDue, NobodyMoves, ToProbability}
+use Rattle.gf_tree.proofs.Common.{Result, Err, refl, sym, ap, ◌∙◌, nat_eq, inl, inr, filter_map}
+use Rattle.gf_tree.proofs.Common.{Decides-eqb, Token, Opening, Text, Bare, Why, Expected}
+use Rattle.gf_tree.proofs.Common.{InformationSet, IsOutcome, Outcome, SetKey, same_set, set_of}
+use Rattle.gf_tree.proofs.Common.{Action, description_at, run_tokens, BehindOutcomeNumber}
+use Rattle.gf_tree.proofs.Common.{BehindSetNumber, EndsInNode, InActions, InPayoffs, KnowsOutcome}
+use Rattle.gf_tree.proofs.Common.{KnowsSet, Content, nothing, Begun, begun, Format, NodeDue}
+use Rattle.gf_tree.proofs.Common.{KnownAction, code_of, ToProbability}
 use Rattle.gf_tree.proofs.lemmas.fronts.Nodes.{learned_at, parted}
-use Rattle.gf_tree.proofs.lemmas.runs.Tokens.{Reads, run_on}
+use Rattle.gf_tree.proofs.lemmas.runs.Tokens.{Reads}
 use Rattle.gf_tree.proofs.lemmas.Once.{none_or_some, one_some}
 use Rattle.gf_tree.proofs.lemmas.fronts.Runs.{GoesOn, in_actions}
 use Rattle.gf_tree.proofs.lemmas.fronts.Groups.{NoText}
 use Rattle.gf_tree.proofs.lemmas.runs.Learned.{found_has}
 use Rattle.gf_tree.proofs.lemmas.runs.Results.{AreOutcomes}
-use Rattle.gf_tree.proofs.lemmas.runs.Files.{due_by}
 use Rattle.gf_tree.proofs.lemmas.games.TreesOnce.{same_set_equality}
-use Rattle.gf_tree.proofs.lemmas.runs.Places.{is_read}
 
 -- some tokens that begin with these are read
 pub record ReadsOn (before : List Token) : Type 0 where
@@ -121,31 +118,6 @@ pub known_outcome : (c : Content) (n : ℕ) (outcome : Outcome)
     → description_at nat_eq c.outcomes n ≡ Some outcome → IsOutcome (length c.players) n outcome
 known_outcome c n outcome are known =
     found_has nat_eq Decides-eqb (IsOutcome (length c.players)) c.outcomes n outcome are known
-
--- ---- an unknown player
-
--- if there is none
-pub no_player : (before : List Token) (t : List ℕ) → NobodyMoves before → NodeIsDue before
-    → t ≡ codes "p" → run_tokens Format nothing (before ++ Bare t ∷ []) ≡ refused UnknownPlayer
-no_player before t h file is =
-    let none = λ (us : List Token). ap (λ (ts : List Token). ts ++ us) h.2 in
-    let plain = λ (b : List ℕ) (us : List Token).
-    subst NoText (sym (none (Bare b ∷ us))) (λ l others e. absurd cc) in
-    let r = is_read ((before ++ Bare (codes "t") ∷ []) ++ file.0) file.1 in
-    let more = Bare (codes "t") ∷ file.0 in
-    let text : Reads Format nothing (before ++ more) r.0 =
-    cc (append_assoc before (Bare (codes "t") ∷ []) file.0) in
-    let p = parted before more h.0 r.0 (plain (codes "t") file.0) text in
-    let c = p.content in
-    let answers = λ (b : List ℕ) (us : List Token). p.answers (Bare b ∷ us) (plain b us)
-    ∙ ap (run_tokens NodeDue c) (none (Bare b ∷ us)) in
-    let due = (due_by (codes "t") file.0 c.due c r.0 refl p.are_sets p.are_outcomes
-    (sym (answers (codes "t") file.0) ∙ text)).1 in
-    ap (λ (x : List ℕ). run_tokens Format nothing (before ++ Bare x ∷ [])) is
-    ∙ answers (codes "p") []
-    ∙ ap (λ (d : ℕ). then_run (after_node c d (codes "p")) (run_on [])) due.1
-    ∙ ap (λ (ps : List (List ℕ)). then_run (personal_node c ps) (run_on []))
-    (p.same_players ∙ h.1)
 
 -- ---- a known set
 

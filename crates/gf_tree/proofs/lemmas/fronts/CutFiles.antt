@@ -7,7 +7,7 @@ use Rattle.gf_tree.proofs.Common.{braced, IsComment, Begins, Opening, Closing, T
 use Rattle.gf_tree.proofs.Common.{AreConsistent, Describes, InformationSet, IsOutcome, IsSet}
 use Rattle.gf_tree.proofs.Common.{Outcome, SetKey, set_of, Use, FileNode, FileTree, outcome_uses}
 use Rattle.gf_tree.proofs.Common.{set_uses, BehindSetNumber, IsExtensiveFile, Entry, flatten}
-use Rattle.gf_tree.proofs.Common.{FileFront, IsDescription, IsInformationSet, IsMover, IsNode}
+use Rattle.gf_tree.proofs.Common.{FileFront, IsDescription, IsInformationSet, SpellsMover, IsNode}
 use Rattle.gf_tree.proofs.Common.{IsPositive, IsResult, IsStep, filter_map-append, BehindPlayers}
 use Rattle.gf_tree.proofs.Common.{IsBeforeRow, IsInHeading, IsInNode}
 use Rattle.gf_tree.specs.RowPlaces.{InPlayers}
@@ -47,7 +47,7 @@ module _ (f : FileFront) (letter name : List ℕ) (more result : List Token)
       (letter, name, step, refl, is) e parts is_result outcome_here
 
   module _ (player n : ℕ) (mover : List Token) (number : List ℕ)
-      (moves : IsMover letter mover player) (positive : IsPositive number n) where
+      (moves : SpellsMover letter mover player) (positive : IsPositive number n) where
     abbrev behind : List Token
     behind = Bare letter ∷ Text name ∷ (mover ++ Bare number ∷ [])
 
@@ -142,7 +142,7 @@ module _ (f : FileFront) (letter name : List ℕ) (more result : List Token)
 
   -- from the name of the node on
   moved : (player n : ℕ) (ts mover description : List Token) (number : List ℕ)
-      (o : Option InformationSet) → IsMover letter mover player → IsPositive number n
+      (o : Option InformationSet) → SpellsMover letter mover player → IsPositive number n
       → IsDescription (IsInformationSet player) description o
       → f.front ≡ Bare letter ∷ Text name ∷ ts
       → ts ++ more ≡ mover ++ Bare number ∷ (description ++ result)

@@ -5,29 +5,28 @@ use Rattle.gf_tree.proofs.Common.{ints, Token, Lexeme, Closing, Text, Bare, Brok
 use Rattle.gf_tree.proofs.Common.{tokens_of, Begins, Fault, Why, Expected, UnknownPlayer, Mismatch}
 use Rattle.gf_tree.proofs.Common.{NegativeProbability, IsRefusal, or_name, this_number, Row}
 use Rattle.gf_tree.proofs.Common.{IsNoNumber, a_first_name, a_node, an_end, an_outcome, or_comma}
-use Rattle.gf_tree.proofs.Common.{run_tokens, then_run, FileFront, State, nothing, run, Format}
-use Rattle.gf_tree.proofs.Common.{Ratio, whole, IsNumber, NumberFault, number_again, Action}
-use Rattle.gf_tree.proofs.Common.{InformationSet, SetKey, set_of, set_with, InActions}
-use Rattle.gf_tree.proofs.Common.{IsExtensiveFile, KnowsSet, EndsInNode, code_of, why_of}
-use Rattle.gf_tree.proofs.Common.{Unterminated, BadIndex, SumAboveOne, SumBelowOne, SumOverflow}
-use Rattle.gf_tree.proofs.Common.{NoEntry, this_label, a_new_action, a_new_branch, Refuses}
-use Rattle.gf_tree.proofs.Common.{no_label, Holds, IsReason, DiffersFromOutcome, DiffersFromSet}
-use Rattle.gf_tree.proofs.Common.{EndsInFirstUse, IsNoText, IsWrongBehind, ListsActions, SumFits}
-use Rattle.gf_tree.proofs.Common.{HasNumberFault, answer_is}
+use Rattle.gf_tree.proofs.Common.{FileFront, State, nothing, run, Format, Ratio, whole, IsNumber}
+use Rattle.gf_tree.proofs.Common.{NumberFault, number_again, Action, InformationSet, SetKey, set_of}
+use Rattle.gf_tree.proofs.Common.{set_with, InActions, IsExtensiveFile, KnowsSet, EndsInNode}
+use Rattle.gf_tree.proofs.Common.{code_of, why_of, Unterminated, BadIndex, SumAboveOne, SumBelowOne}
+use Rattle.gf_tree.proofs.Common.{SumOverflow, NoEntry, this_label, a_new_action, a_new_branch}
+use Rattle.gf_tree.proofs.Common.{Refuses, no_label, Holds, IsReason, DiffersFromOutcome}
+use Rattle.gf_tree.proofs.Common.{DiffersFromSet, EndsInFirstUse, IsNoText, IsWrongBehind}
+use Rattle.gf_tree.proofs.Common.{ListsActions, SumFits, HasNumberFault, answer_is, codes, What}
 use Rattle.gf_token.specs.declared.fault.Why.TheVariants.{NotANumber, ZeroDenominator}
 use Rattle.gf_token.specs.declared.fault.Why.TheVariants.{NumberTooLarge, NotDescribed}
 use Rattle.gf_tree.specs.Rows.{Obeys}
 use Rattle.gf_tree.specs.Reason.{StaysBelowOne, IsBadIndex, IsMismatch, IsWrongProbability}
 use Rattle.gf_tree.specs.Reason.{IsFaultyNumber, IsUnknownPlayer}
 use Rattle.gf_tree.proofs.lemmas.due.Rows.{Stands, accepted, answers_at, leads, refused_by}
-use Rattle.gf_tree.proofs.lemmas.fronts.Codes.{IsUpTo, no_player, known_left}
+use Rattle.gf_tree.proofs.lemmas.due.Suited.{node_only}
+use Rattle.gf_tree.proofs.lemmas.fronts.Codes.{IsUpTo, known_left}
 use Rattle.gf_tree.proofs.lemmas.reasons.Nodes.{reasoned}
-use Rattle.gf_tree.proofs.lemmas.reasons.Rows.{Own}
-use Rattle.gf_tree.proofs.lemmas.runs.Tokens.{run_on}
+use Rattle.gf_tree.proofs.lemmas.reasons.Rows.{Own, RefusesBy}
 use Rattle.gf_tree.proofs.lemmas.fronts.CutPlaces.{payoff_place}
 use Rattle.gf_tree.proofs.lemmas.due.ByShapes.{front_of, asks_number, asks_outcome, asks_player}
 use Rattle.gf_tree.proofs.lemmas.due.ByShapes.{asks_set}
-use Rattle.gf_tree.proofs.lemmas.runs.Places.{Leads, begins, walk_run}
+use Rattle.gf_tree.proofs.lemmas.runs.Places.{Leads, begins}
 use Rattle.gf_tree.proofs.lemmas.runs.Stops.{StopsAt, not_accepted, stopped}
 use Rattle.gf_fraction.specs.Computed.{number_of}
 use Rattle.gf_tree.proofs.lemmas.due.Actions.{a_share, known_action, known_share, new_action}
@@ -35,7 +34,7 @@ use Rattle.gf_tree.proofs.lemmas.due.Actions.{new_branch, new_share, no_action_l
 use Rattle.gf_tree.proofs.lemmas.due.Nodes.{known_set, new_set, reads_on}
 use Rattle.gf_tree.proofs.lemmas.due.Outcomes.{known_outcome, new_outcome}
 use Rattle.gf_tree.proofs.lemmas.due.Payoffs.{after_known_payoff, known_payoff}
-use Rattle.gf_tree.proofs.lemmas.Once.{one_err, one_ok}
+use Rattle.gf_tree.proofs.lemmas.Once.{one_ok}
 use Rattle.gf_fraction.proofs.ReadingBack.{same_fault}
 use Rattle.gf_fraction.specs.declared.fraction.NumberFault.TheVariants as number
 
@@ -119,29 +118,35 @@ module _ (before : List Token) (s : State) (why : Why) (l : Leads before s) wher
         is_fault b fault why is (k.refused b why (says k.row k.stands))
 
     bad_index : IsBadIndex before b → why ≡ BadIndex
-    bad_index (inl (inl d, none)) =
-        let k = asks_player before d.0 file d.1 in
+    bad_index (inl d, none) =
+        let k = asks_player before file d in
         elim (k.refused b why (says k.row k.stands)) [
           | inl e ↦ e.0
           | inr e ↦ let above = e.1.2 in absurd (none e.1.0 (e.1.1, omega (arith, above)))
         ]
-    bad_index (inl (inr d, none)) =
+    bad_index (inr (inl d), none) =
         let k = asks_set before file d in k.refused b why (says k.row k.stands)
-    bad_index (inr (d, none)) =
+    bad_index (inr (inr d), none) =
         let k = asks_outcome before file d in k.refused b why (says k.row k.stands)
 
     -- a number above that of the players; or a player's node, although there are none
     unknown_player : IsUnknownPlayer before b → IsUpTo why 8
     unknown_player (inl d) =
-        let k = asks_player before d.0 file d.2 in
+        let k = asks_player before file (d.0, d.2) in
         elim (k.refused b why (says k.row k.stands)) [
           | inl e ↦ up_to BadIndex 8 e.0 (omega arith)
           | inr e ↦ up_to UnknownPlayer 8 e.0 (omega arith)
         ]
-    unknown_player (inr k) = up_to UnknownPlayer 8
-        (one_err (run_tokens Format nothing (before ++ Bare b ∷ [])) why UnknownPlayer
-        (walk_run before (Bare b ∷ []) Format nothing s l ∙ ap (λ o. then_run o (run_on [])) h)
-        (no_player before b k.0 k.1 k.2)) (omega arith)
+    unknown_player (inr k) =
+        let r = reasoned before file in
+        let t = r.told (codes "t")
+        ((accepted before r.row r.stands (Bare (codes "t") ∷ [])).0 k.0) in
+        let refuses = subst (λ (w : What). RefusesBy w r.row)
+        (node_only t.0 ((t.1 (codes "t")).0 k.0)) t.3 in
+        elim (refuses b why (says r.row r.stands)).1 [
+          | inl e ↦ up_to UnknownPlayer 8 e.0 (omega arith)
+          | inr e ↦ absurd (e.1 k.2)
+        ]
 
     wrong_share : (other : Why) (k : IsWrongProbability other before b) → IsOrdered k.0 k.1 why
     wrong_share other k =

@@ -1,15 +1,15 @@
 -- What the machine of the reader answers after the front of a node, from a probability up to the
 -- number of the outcome: the shape of the front determines this too.
-use Rattle.gf_tree.proofs.Common.{◌≡◌, ℕ, List, [], ◌∷◌, ◌++◌, length, Option, Some, None}
-use Rattle.gf_tree.proofs.Common.{MatchOption, Ok, refl, sym, ap, subst, ◌∙◌, inl, inr, nat_eq}
-use Rattle.gf_tree.proofs.Common.{arith, pos, ◌⊎◌, AllByRecursion, Ratio, IsFraction, whole, Token}
-use Rattle.gf_tree.proofs.Common.{Opening, Closing, Text, Bare, Action, InformationSet, SetKey}
-use Rattle.gf_tree.proofs.Common.{same_set, set_of, IsSet, description_at, Use, BehindOutcomeNumber}
-use Rattle.gf_tree.proofs.Common.{InActions, ToOutcomeNumber, Begun, Content, at, begun}
-use Rattle.gf_tree.proofs.Common.{behind_label, behind_outcome, behind_set, new_set_ends, NodeDue}
-use Rattle.gf_tree.proofs.Common.{NewAction, NewProbability, KnownAction, KnownProbability}
-use Rattle.gf_tree.proofs.Common.{OutcomeNumber, run_tokens, then_run, IsDescription}
-use Rattle.gf_tree.proofs.Common.{IsInformationSet, IsMover, IsPositive, ToProbability, with_set}
+use Rattle.gf_tree.proofs.Common.{◌≡◌, behind_outcome, NewProbability, OutcomeNumber, IsDescription}
+use Rattle.gf_tree.proofs.Common.{ℕ, [], Some, None, refl, ◌∙◌, inl, inr, pos, ◌⊎◌, Text, Bare, Use}
+use Rattle.gf_tree.proofs.Common.{List, Opening, Closing, NewAction, then_run, IsPositive, with_set}
+use Rattle.gf_tree.proofs.Common.{◌∷◌, IsFraction, behind_set, KnownAction, run_tokens, SpellsMover}
+use Rattle.gf_tree.proofs.Common.{◌++◌, sym, subst, arith, Ratio, whole, Token, IsSet, Begun, begun}
+use Rattle.gf_tree.proofs.Common.{length, Option, nat_eq, Action, SetKey, set_of, Content, NodeDue}
+use Rattle.gf_tree.proofs.Common.{MatchOption, InActions, behind_label, new_set_ends, ToProbability}
+use Rattle.gf_tree.proofs.Common.{Ok, ap, at}
+use Rattle.gf_tree.proofs.Common.{AllByRecursion, InformationSet, description_at, ToOutcomeNumber}
+use Rattle.gf_tree.proofs.Common.{same_set, BehindOutcomeNumber, KnownProbability, IsInformationSet}
 use Rattle.gf_tree.proofs.lemmas.fronts.Runs.{GoesOn, HaveSumFrom, behind_number, due_is}
 use Rattle.gf_tree.proofs.lemmas.fronts.Runs.{goes_before, in_actions}
 use Rattle.gf_tree.proofs.lemmas.fronts.Groups.{regroup}
@@ -177,7 +177,7 @@ described_step front u d c behind inner e h g =
 described_by : (front : List Token) (u : Use SetKey InformationSet) (d : InformationSet)
     (c : Content) (letter name : List ℕ) (mover description : List Token) (number : List ℕ)
     → front ≡ Bare letter ∷ Text name ∷ (mover ++ Bare number ∷ description)
-    → IsMover letter mover u.key.player → IsPositive number u.key.number
+    → SpellsMover letter mover u.key.player → IsPositive number u.key.number
     → IsInformationSet u.key.player description d → GoesOn c front → AtTold c front
 described_by front u d c letter name mover description number e moves positive h g =
     let to_set = Bare letter ∷ Text name ∷ mover in
@@ -232,7 +232,7 @@ module _ (front whole : List Token) (t : List ℕ) (f : whole ≡ front ++ Bare 
   step_by : (u : Use SetKey InformationSet) (o : Option InformationSet) (letter name : List ℕ)
       (mover description : List Token) (number : List ℕ)
       → front ≡ Bare letter ∷ Text name ∷ (mover ++ Bare number ∷ description)
-      → IsMover letter mover u.key.player → IsPositive number u.key.number
+      → SpellsMover letter mover u.key.player → IsPositive number u.key.number
       → IsDescription (IsInformationSet u.key.player) description o → AtOutcome c front
   step_by u None letter name mover description number e moves positive h =
       let to_set = Bare letter ∷ Text name ∷ mover in

@@ -5,7 +5,7 @@ use Rattle.gf_tree.proofs.Common.{None, Ok, refl, sym, ap, subst, ◌∙◌, ari
 use Rattle.gf_tree.proofs.Common.{AllByRecursion, ints, Ratio, IsFraction, whole, AddsTo, IsNumber}
 use Rattle.gf_tree.proofs.Common.{whole_fraction, Token, count_of, Each, Opening, Text, Bare}
 use Rattle.gf_tree.proofs.Common.{count_again, Action, InformationSet, SetKey, same_set, set_of}
-use Rattle.gf_tree.proofs.Common.{IsSet, description_at, IsAction, IsMover, BehindSetNumber}
+use Rattle.gf_tree.proofs.Common.{IsSet, description_at, IsAction, SpellsMover, BehindSetNumber}
 use Rattle.gf_tree.proofs.Common.{InActions, Begun, Content, at, begun, behind_label, behind_set}
 use Rattle.gf_tree.proofs.Common.{personal_node, set_number, shared, with_action, NodeDue}
 use Rattle.gf_tree.proofs.Common.{PlayerNumber, SetNumber, NewAction, KnownAction, KnownProbability}
@@ -65,7 +65,7 @@ to_player front c h g = grind arith
 -- ---- the number of a set
 
 among_players : (letter mover name more : _) (player left : ℕ) (c r : Content)
-    → IsMover letter mover player → c.due ≡ suc left
+    → SpellsMover letter mover player → c.due ≡ suc left
     → Reads NodeDue c (Bare letter ∷ Text name ∷ (mover ++ more)) r → player ≤ length c.players
 among_players letter mover name more zero left c r h is e = omega arith
 among_players letter mover name more (suc player) left c r h is e =

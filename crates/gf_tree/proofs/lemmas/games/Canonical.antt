@@ -9,6 +9,7 @@ use Rattle.gf_tree.proofs.Common.{first_use_number, first_use_numbers, Carries, 
 use Rattle.gf_tree.proofs.Common.{HasOutcome}
 use Rattle.std.proofs.Common.{filter}
 use Rattle.gf_tree.specs.CanonicalGame.{canonical_game}
+use Rattle.gf_tree.specs.CarriedParts.{CarriesParts}
 use Rattle.gf_tree.proofs.lemmas.games.Members.{filter_of_map, map_same, map_twice}
 use Rattle.gf_tree.proofs.lemmas.games.FirstUseNumbers.{number_kept}
 use Rattle.gf_tree.proofs.lemmas.games.Carried.{carried_map}
@@ -18,14 +19,25 @@ use Rattle.gf_tree.proofs.lemmas.games.FirstUses.{of_filter}
 use Rattle.gf_tree.proofs.lemmas.games.TreesOnce.{same_set_equality}
 use Rattle.gf_tree.proofs.lemmas.games.Uses.{has, contains}
 use Rattle.gf_tree.proofs.lemmas.games.Renumberings.{Agree, agreed_games, composed, composed_games}
-use Rattle.gf_tree.proofs.lemmas.games.Renumberings.{sets_apart, outcomes_apart}
+use Rattle.gf_tree.proofs.lemmas.games.Renumberings.{sets_apart, outcomes_apart, used_outcomes_of}
+use Rattle.gf_tree.proofs.lemmas.games.Renumberings.{used_sets_of}
 use Rattle.gf_tree.proofs.lemmas.games.Same.{carried_sets, carried_outcomes, same_back, same_on}
 
 -- ---- carried
 
-pub carries_to_renumbered : (g : Game) (r : Renumbering) → IsGame g → IsRenumbering g r
+pub carries_to_renumbered : (g : Game) (r : Renumbering) → IsRenumbering g r
     → Carries r g (renumbered r g)
-carries_to_renumbered g r game h = record {
+carries_to_renumbered g r h = record { renumbering = h; image = refl }
+
+pub carried_is_renumbered : (r : Renumbering) (g h : Game) → IsGame g → IsGame h → Carries r g h
+    → renumbered r g ≡ h
+carried_is_renumbered r g h game game' c = c.image
+
+-- ---- part by part
+
+renumbered_parts : (g : Game) (r : Renumbering) → IsGame g → IsRenumbering g r
+    → CarriesParts r g (renumbered r g)
+renumbered_parts g r game h = record {
   renumbering = h;
   title = refl;
   comment = refl;
@@ -36,10 +48,11 @@ carries_to_renumbered g r game h = record {
       λ number i. sym (outcome_at_image g r game h number (has (used_outcomes g.tree) number i));
 }
 
--- a game is carried to the one by these new numbers, and to no other
-pub carried_is_renumbered : (r : Renumbering) (g h : Game) → IsGame g → IsGame h → Carries r g h
+parts_are_renumbered : (r : Renumbering) (g h : Game) → IsGame g → IsGame h → CarriesParts r g h
     → renumbered r g ≡ h
-carried_is_renumbered r g h game game' c =
+parts_are_renumbered r g h game game' c =
+    let used = ap used_sets (sym c.tree) ∙ used_sets_of r g.tree in
+    let used' = ap used_outcomes (sym c.tree) ∙ used_outcomes_of r g.tree in
     let sets =
     carried_map
     same_set
@@ -50,7 +63,7 @@ carried_is_renumbered r g h game game' c =
     h.sets
     (sets_apart g r c.renumbering)
     game.one_entry_each_set
-    (game'.one_entry_each_set ∙ ap (first_uses same_set) (carried_sets r g h c))
+    (game'.one_entry_each_set ∙ ap (first_uses same_set) used)
     (λ k i. c.sets k (contains (used_sets g.tree) k i)) in
     let outcomes =
     carried_map
@@ -62,7 +75,7 @@ carried_is_renumbered r g h game game' c =
     h.outcomes
     (outcomes_apart g r c.renumbering)
     game.one_entry_each_outcome
-    (game'.one_entry_each_outcome ∙ ap (first_uses nat_eq) (carried_outcomes r g h c))
+    (game'.one_entry_each_outcome ∙ ap (first_uses nat_eq) used')
     (λ k i. c.outcomes k (contains (used_outcomes g.tree) k i)) in
     λ i. record {
       title = c.title i;
@@ -73,11 +86,11 @@ carried_is_renumbered r g h game game' c =
       outcomes = outcomes i;
     }
 
-pub carried_by_new_numbers : (r : Renumbering) (g h : Game) → IsGame g → IsGame h
-    → Carries r g h ↔ (IsRenumbering g r × (renumbered r g ≡ h))
-carried_by_new_numbers r g h game game' = (
-  λ c. (c.renumbering, carried_is_renumbered r g h game game' c),
-  λ k. subst (Carries r g) k.1 (carries_to_renumbered g r game k.0),
+pub carried_by_parts : (r : Renumbering) (g h : Game) → IsGame g → IsGame h
+    → Carries r g h ↔ CarriesParts r g h
+carried_by_parts r g h game game' = (
+  λ c. subst (CarriesParts r g) c.image (renumbered_parts g r game c.renumbering),
+  λ c. record { renumbering = c.renumbering; image = parts_are_renumbered r g h game game' c },
 )
 
 -- ---- the same place in order of first use
@@ -87,7 +100,7 @@ pub set_numbers_carried : (r : Renumbering) (g h : Game) → IsGame g → IsGame
     ≡ map (λ key. r.set player key.number) (player_keys g player)
 set_numbers_carried r g h game game' c player =
     ap (λ x. map (λ key. key.number) (player_keys x player))
-    (sym (carried_is_renumbered r g h game game' c))
+    (sym c.image)
     ∙ ap (λ ss. map (λ key. key.number) (map (λ s. s.key) ss))
     (filter_of_map mine mine moved g.sets (λ s i. refl))
     ∙ map_twice (λ (key : SetKey). key.number) (λ s. s.key) (map moved own)
@@ -108,7 +121,7 @@ set_numbers_carried r g h game game' c player =
 pub outcome_numbers_carried : (r : Renumbering) (g h : Game) → IsGame g → IsGame h → Carries r g h
     → outcome_numbers h ≡ map r.outcome (outcome_numbers g)
 outcome_numbers_carried r g h game game' c =
-    ap outcome_numbers (sym (carried_is_renumbered r g h game game' c))
+    ap outcome_numbers (sym c.image)
     ∙ map_twice (λ o. o.key) moved g.outcomes ∙ sym (map_twice r.outcome (λ o. o.key) g.outcomes)
   where
     moved : Described ℕ Outcome → Described ℕ Outcome
@@ -148,7 +161,7 @@ canonical_is_game g game =
 pub carries_to_canonical : (g : Game) → IsGame g
     → Carries (first_use_numbers g) g (canonical_game g)
 carries_to_canonical g game =
-    carries_to_renumbered g (first_use_numbers g) game (first_use_is_renumbering g)
+    carries_to_renumbered g (first_use_numbers g) (first_use_is_renumbering g)
 
 pub canonical_is_same : (g : Game) → IsGame g → SameGame g (canonical_game g)
 canonical_is_same g game = (first_use_numbers g, carries_to_canonical g game)
@@ -157,7 +170,7 @@ pub same_canonical : (g h : Game) → IsGame g → IsGame h → SameGame g h
     → canonical_game g ≡ canonical_game h
 same_canonical g h game game' (r, c) =
     cc (
-      carried_is_renumbered r g h game game' c,
+      c.image,
       composed_games r (first_use_numbers h) g,
       agreed_games (composed r (first_use_numbers h)) (first_use_numbers g) g game agree,
     )

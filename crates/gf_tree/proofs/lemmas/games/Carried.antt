@@ -58,6 +58,10 @@ carried_map {K} same tells f us es fs apart q p h =
         let o = mapped_from f us k (was_used same (map f us) k (subst (λ ks. Has ks k) image i)) in
         cc (o.2, image_lookup same tells f us es o.0 apart q o.1, h o.0 o.1)
 
+pub at_images_itself : {K D : Type 0} (es : List (Described K D)) → at_images (λ k. k) es ≡ es
+at_images_itself [] = refl
+at_images_itself (e ∷ es) = λ i. e ∷ at_images_itself es i
+
 pub at_images_twice : {K D : Type 0} (f g : K → K) (es : List (Described K D))
     → at_images g (at_images f es) ≡ at_images (λ k. g (f k)) es
 at_images_twice f g es = map_twice (λ e. record { key = g e.key; description = e.description })

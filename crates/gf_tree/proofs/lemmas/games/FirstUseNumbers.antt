@@ -1,13 +1,14 @@
 -- Keys in order of first use, and their numbers.
-use Rattle.gf_tree.proofs.Common.{◌≡◌, suc, ◌+◌, ◌<◌, ◌≤◌, Bool, true, false, not, cond, List, []}
-use Rattle.gf_tree.proofs.Common.{◌∷◌, ◌++◌, length, map, get_or, refl, sym, ap, subst, ◌∙◌, arith}
-use Rattle.gf_tree.proofs.Common.{inl, inr, length-map, ◌⊎◌, filter, both_ways, first_uses}
-use Rattle.gf_tree.proofs.Common.{cases_Bool, not_from_false, through_first_use, first_use_number}
+use Rattle.gf_tree.proofs.Common.{◌≡◌, ◌+◌, ◌≤◌, Bool, not, cond, List, [], ◌∷◌, ◌++◌, length, map}
+use Rattle.gf_tree.proofs.Common.{get_or, refl, sym, ap, subst, ◌∙◌, arith, inl, inr, filter}
+use Rattle.gf_tree.proofs.Common.{first_uses, cases_Bool, first_use_number}
+use Rattle.std.specs.List.{position_or_len}
 use Rattle.std.proofs.Common.{length-append}
 use Rattle.std.proofs.lemmas.List.{get_or_at}
 use Rattle.std.proofs.lemmas.Bool.Decides.{same_from_decides}
-use Rattle.gf_tree.proofs.lemmas.games.Members.{filter_of_map, filter_last}
-use Rattle.gf_tree.proofs.lemmas.games.FirstUses.{was_used, first_uses_distinct, AreDistinct}
+use Rattle.gf_tree.proofs.lemmas.games.Members.{filter_of_map}
+use Rattle.gf_tree.proofs.lemmas.games.FirstUses.{is_used, was_used, first_uses_distinct}
+use Rattle.gf_tree.proofs.lemmas.games.FirstUses.{AreDistinct}
 use Rattle.gf_tree.proofs.lemmas.games.Uses.{Has, IsEquality, has_place}
 
 -- tests of keys and of their images answer alike if the images are equal only for equal keys
@@ -32,126 +33,70 @@ first_uses_of_map same same' t t' f (k ∷ ks) apart =
     (filter_of_map (λ l. not (same' (f k) l)) (λ x. not (same k x)) f (first_uses same ks) (λ x i.
     ap not (same_tests same same' t t' f k x (apart k x (inl refl) (inr (was_used same ks x i))))))
 
-pub of_through : {K : Type 0} (same : K → K → Bool) (key : K) (ks : List K) (k : K)
-    → Has (through_first_use same key ks) k → Has ks k
-of_through same key [] k h = absurd h
-of_through same key (x ∷ ks) k (inl e) = inl e
-of_through same key (x ∷ ks) k (inr h) =
-    inr (of_through same key ks k (go (same x key) (through_first_use same key ks) k h))
-  where
-    go : {K : Type 0} (b : Bool) (ks : List K) (k : K) → Has (cond b [] ks) k → Has ks k
-    go true ks k h = absurd h
-    go false ks k h = h
-
-through_of_map : {K L : Type 0} (same : K → K → Bool)
-    (same' : L → L → Bool) (f : K → L) (key : K) (ks : List K)
-    → ((x : K) → Has ks x → same' (f x) (f key) ≡ same x key)
-    → through_first_use same' (f key) (map f ks) ≡ map f (through_first_use same key ks)
-through_of_map same same' f key [] h = refl
-through_of_map same same' f key (x ∷ ks) h =
-    grind (arith, through_of_map same same' f key ks (λ y i. h y (inr i)))
+-- an image is at the place of its key
+place_of_image : {K L : Type 0} (same : K → K → Bool) (same' : L → L → Bool) (f : K → L) (key : K)
+    (ks : List K) → ((x : K) → Has ks x → same' (f key) (f x) ≡ same key x)
+    → position_or_len (same' (f key)) (map f ks) ≡ position_or_len (same key) ks
+place_of_image same same' f key [] h = refl
+place_of_image same same' f key (x ∷ ks) h = λ i.
+    cond (not (h x (inl refl) i)) (1 + place_of_image same same' f key ks (λ y j. h y (inr j)) i) 0
 
 -- images of keys are used first in the order of the keys
 pub number_kept : {K L : Type 0} (same : K → K → Bool) (same' : L → L → Bool) → IsEquality same
     → IsEquality same' → (f : K → L) (ks : List K) (key : K) → AreApart f ks → Has ks key
     → first_use_number same' (map f ks) (f key) ≡ first_use_number same ks key
 number_kept same same' t t' f ks key apart i =
-    let through = through_first_use same key ks in
-    ap (λ ls. length (first_uses same' ls)) (through_of_map same same' f key ks
-    (λ x j. same_tests same same' t t' f x key (apart x key j i)))
-    ∙ ap length (first_uses_of_map same same' t t' f through
-    (λ a b j k. apart a b (of_through same key ks a j) (of_through same key ks b k)))
-    ∙ length-map (first_uses same through) f
+    ap (λ ls. position_or_len (same' (f key)) ls + 1) (first_uses_of_map same same' t t' f ks apart)
+    ∙ ap (λ n. n + 1) (place_of_image same same' f key (first_uses same ks) (λ x j.
+    same_tests same same' t t' f key x (apart key x i (was_used same ks x j))))
 
 -- ---- places
 
--- the keys that are used first before this one, and those that are so after it
-record Place {K : Type 0} (same : K → K → Bool) (ks : List K) (key : K) : Type 0 where
-  before : List K
-  after : List K
-  through : first_uses same (through_first_use same key ks) ≡ before ++ key ∷ []
-  all : first_uses same ks ≡ before ++ key ∷ after
+-- what is before an item and after it
+parted : {K : Type 0} (ks : List K) (key : K) → Has ks key
+    → (before after : List K) × (ks ≡ before ++ key ∷ after)
+parted [] key h = absurd h
+parted (k ∷ ks) key (inl e) = ([], ks, ap (λ x. x ∷ ks) e)
+parted (k ∷ ks) key (inr h) =
+    let r = parted ks key h in (k ∷ r.0, r.1, ap (λ xs. k ∷ xs) r.2)
 
-place : {K : Type 0} (same : K → K → Bool) → IsEquality same → (ks : List K) (key : K) → Has ks key
-    → Place same ks key
-place same tells [] key h = absurd h
-place {K} same tells (k ∷ ks) key h = elim (cases_Bool (same k key))
-    [ inl e ↦ here e | inr e ↦ later e (place same tells ks key (rest e h)) ]
-  where
-    rest : same k key ≡ false → (k ≡ key) ⊎ Has ks key → Has ks key
-    rest e (inl q) = absurd (both_ways (same k key) e ((tells k key).1 q))
-    rest e (inr i) = i
+module _ {K : Type 0} (same : K → K → Bool) (tells : IsEquality same) where
+  -- if the keys are distinct, each is at only one place
+  place_at : (before after : List K) (key : K) → AreDistinct (before ++ key ∷ after)
+      → position_or_len (same key) (before ++ key ∷ after) ≡ length before
+  place_at [] after key h = rw ((tells key key).1 refl) refl
+  place_at (b ∷ before) after key h = elim (cases_Bool (same key b)) [
+    | inl e ↦ absurd (h.0 (subst (Has (before ++ key ∷ after)) ((tells key b).0 e)
+        (has_place before after key)))
+    | inr e ↦ rw e (ap (λ n. 1 + n) (place_at before after key h.1) ∙ omega arith)
+  ]
 
-    others : List K → List K
-    others xs = filter (λ x. not (same k x)) xs
+  pub number_at : (ks before after : List K) (key : K) → first_uses same ks ≡ before ++ key ∷ after
+      → first_use_number same ks key ≡ length before + 1
+  number_at ks before after key e = ap (λ xs. position_or_len (same key) xs + 1) e
+      ∙ ap (λ n. n + 1) (place_at before after key
+      (subst AreDistinct e (first_uses_distinct same tells ks)))
 
-    here : same k key ≡ true → Place same (k ∷ ks) key
-    here e = let q = (tells k key).0 e in record {
-      before = [];
-      after = others (first_uses same ks);
-      through = rw e (ap (λ x. x ∷ []) q);
-      all = ap (λ x. x ∷ others (first_uses same ks)) q;
-    }
+  -- the keys that are used first before this one, and those that are so after it
+  pub placed : (ks : List K) (key : K) → Has ks key
+      → (before after : List K) × (first_uses same ks ≡ before ++ key ∷ after)
+  placed ks key i = parted (first_uses same ks) key (is_used same tells ks key i)
 
-    later : same k key ≡ false → Place same ks key → Place same (k ∷ ks) key
-    later e p =
-        let passes = not_from_false (same k key) e in
-        record {
-          before = k ∷ others p.before;
-          after = others p.after;
-          through = rw e (cc (p.through, filter_last (λ x. not (same k x)) p.before key [] passes));
-          all = cc (p.all, filter_last (λ x. not (same k x)) p.before key p.after passes);
-        }
+  pub numbers_apart : (ks : List K) → AreApart (first_use_number same ks) ks
+  numbers_apart ks a b i j e =
+      let p = placed ks a i in
+      let q = placed ks b j in
+      let n = number_at ks p.0 p.1 a p.2 in
+      let m = number_at ks q.0 q.1 b q.2 in
+      let size : length p.0 ≡ length q.0 = omega (arith, e, n, m) in
+      sym (get_or_at p.0 a p.1 a (length p.0) refl)
+      ∙ ap (λ xs. get_or xs (length p.0) a) (sym p.2 ∙ q.2)
+      ∙ get_or_at q.0 b q.1 a (length p.0) (sym size)
 
--- the number is one more than this many keys before
-number_is : {K : Type 0} (same : K → K → Bool) (ks : List K) (key : K) (p : Place same ks key)
-    → first_use_number same ks key ≡ length p.before + 1
-number_is same ks key p = ap length p.through ∙ length-append p.before (key ∷ [])
-
-pub numbers_apart : {K : Type 0} (same : K → K → Bool) → IsEquality same → (ks : List K)
-    → AreApart (first_use_number same ks) ks
-numbers_apart same tells ks a b i j e =
-    let p = place same tells ks a i in
-    let q = place same tells ks b j in
-    let n = number_is same ks a p in
-    let m = number_is same ks b q in
-    let size : length p.before ≡ length q.before = omega (arith, e, n, m) in
-    sym (get_or_at p.before a p.after a (length p.before) refl)
-    ∙ ap (λ xs. get_or xs (length p.before) a) (sym p.all ∙ q.all)
-    ∙ get_or_at q.before b q.after a (length p.before) (sym size)
-
-pub number_positive : {K : Type 0} (same : K → K → Bool)
-    → IsEquality same → (ks : List K) (key : K) → Has ks key → 0 < first_use_number same ks key
-number_positive same tells ks key i =
-    let p = place same tells ks key i in let n = number_is same ks key p in omega (arith, n)
-
-pub number_at_most : {K : Type 0} (same : K → K → Bool) → IsEquality same → (ks : List K) (key : K)
-    → Has ks key → first_use_number same ks key ≤ length (first_uses same ks)
-number_at_most same tells ks key i =
-    let p = place same tells ks key i in
-    let n = number_is same ks key p in
-    let all = ap length p.all in
-    omega (arith, n, all, length-append p.before (key ∷ p.after))
-
--- ---- the number at a place
-
--- if the keys are distinct, each is at only one place
-one_place : {K : Type 0} (before before' after after' : List K) (key : K)
-    → AreDistinct (before ++ key ∷ after) → before ++ key ∷ after ≡ before' ++ key ∷ after'
-    → length before ≡ length before'
-one_place [] [] after after' key h e = refl
-one_place [] (y ∷ before') after after' key h e = grind (arith, has_place)
-one_place (x ∷ before) [] after after' key h e = grind (arith, has_place)
-one_place (x ∷ before) (y ∷ before') after after' key h e =
-    let rest : before ++ key ∷ after ≡ before' ++ key ∷ after' = cc in
-    ap suc (one_place before before' after after' key h.1 rest)
-
-pub number_at : {K : Type 0} (same : K → K → Bool) → IsEquality same
-    → (ks before after : List K) (key : K) → first_uses same ks ≡ before ++ key ∷ after
-    → first_use_number same ks key ≡ length before + 1
-number_at same tells ks before after key e =
-    let p = place same tells ks key
-    (was_used same ks key (subst (λ xs. Has xs key) (sym e) (has_place before after key))) in
-    let size = one_place p.before before p.after after key
-    (subst AreDistinct p.all (first_uses_distinct same tells ks)) (sym p.all ∙ e) in
-    number_is same ks key p ∙ ap (λ n. n + 1) size
+  pub number_at_most : (ks : List K) (key : K) → Has ks key
+      → first_use_number same ks key ≤ length (first_uses same ks)
+  number_at_most ks key i =
+      let p = placed ks key i in
+      let n = number_at ks p.0 p.1 key p.2 in
+      let all = ap length p.2 in
+      omega (arith, n, all, length-append p.0 (key ∷ p.1))

@@ -1,12 +1,12 @@
 -- A game by new numbers is a game; first-use numbers are new numbers.
 use Rattle.gf_tree.proofs.Common.{◌≡◌, ℕ, map, length, Option, None, Some, refl, sym, ap, subst}
-use Rattle.gf_tree.proofs.Common.{◌∙◌, AllByRecursion, eq-eqb, Decides-eqb, Entry, flatten, SetKey}
-use Rattle.gf_tree.proofs.Common.{InformationSet, Outcome, same_set, IsSet, IsOutcome, set_of, Node}
-use Rattle.gf_tree.proofs.Common.{Game, IsGame, HasChildren, used_sets, used_outcomes, set_at}
-use Rattle.gf_tree.proofs.Common.{renumbered_node, renumbered, Renumbering, IsRenumbering, HasSet}
-use Rattle.gf_tree.proofs.Common.{renumbered_set, sets_of, Described, first_uses, nat_eq}
+use Rattle.gf_tree.proofs.Common.{◌∙◌, arith, AllByRecursion, eq-eqb, Decides-eqb, Entry, flatten}
+use Rattle.gf_tree.proofs.Common.{SetKey, InformationSet, Outcome, same_set, IsSet, IsOutcome}
+use Rattle.gf_tree.proofs.Common.{set_of, Node, Game, IsGame, HasChildren, used_sets, used_outcomes}
+use Rattle.gf_tree.proofs.Common.{set_at, renumbered_node, renumbered, Renumbering, IsRenumbering}
+use Rattle.gf_tree.proofs.Common.{HasSet, renumbered_set, sets_of, Described, first_uses, nat_eq}
 use Rattle.gf_tree.proofs.Common.{option_map, MatchOption, outcome_at, first_use_numbers}
-use Rattle.gf_tree.proofs.lemmas.games.FirstUseNumbers.{numbers_apart, number_positive}
+use Rattle.gf_tree.proofs.lemmas.games.FirstUseNumbers.{numbers_apart}
 use Rattle.gf_tree.proofs.lemmas.games.Lookups.{at_images}
 use Rattle.gf_tree.proofs.lemmas.games.MappedTrees.{held}
 use Rattle.gf_tree.proofs.lemmas.games.FirstUses.{in_filter}
@@ -113,10 +113,8 @@ own_set g key i = in_filter (λ (k : SetKey). nat_eq k.player key.player) (used_
 
 pub first_use_is_renumbering : (g : Game) → IsRenumbering g (first_use_numbers g)
 first_use_is_renumbering g = record {
-  positive_sets = λ player number h. number_positive same_set same_set_equality
-      (sets_of player (used_sets g.tree)) (set_of player number) (own player number h);
-  positive_outcomes = λ number h. number_positive nat_eq Decides-eqb (used_outcomes g.tree) number
-      (has (used_outcomes g.tree) number h);
+  positive_sets = λ player number h. omega arith;
+  positive_outcomes = λ number h. omega arith;
   sets_apart = λ player a b h k e.
       ap (λ (key : SetKey). key.number)
       (numbers_apart same_set same_set_equality (sets_of player (used_sets g.tree))

@@ -8,6 +8,7 @@ use Rattle.std.proofs.lemmas.Iterator.Adapters.{option_map_id}
 use Rattle.gf_tree.proofs.lemmas.games.FirstUseNumbers.{AreApart}
 use Rattle.gf_tree.proofs.lemmas.games.Consistent.{flatten_map}
 use Rattle.gf_tree.proofs.lemmas.games.Carried.{of_keys, in_keys, at_images_twice, at_images_same}
+use Rattle.gf_tree.proofs.lemmas.games.Carried.{at_images_itself}
 use Rattle.gf_tree.proofs.lemmas.games.MappedTrees.{map_tree_same, map_tree_twice, map_tree_itself}
 use Rattle.gf_tree.proofs.lemmas.games.MappedTrees.{held, held_map}
 use Rattle.gf_tree.proofs.lemmas.games.TreesOnce.{same_set_equality}
@@ -75,12 +76,22 @@ agreed_games r s g game h =
 abbrev pub identity : Renumbering
 identity = record { set = λ player number. number; outcome = λ number. number }
 
-pub itself_tree : (t : Tree Node) → map_tree (renumbered_node identity) t ≡ t
+itself_tree : (t : Tree Node) → map_tree (renumbered_node identity) t ≡ t
 itself_tree t = map_tree_same (renumbered_node identity) (λ n. n) t (λ e i j. record {
   name = e.node.name;
   set = option_map_id e.node.set j;
   outcome = option_map_id e.node.outcome j;
 }) ∙ map_tree_itself t
+
+pub itself : (g : Game) → renumbered identity g ≡ g
+itself g = λ i. record {
+  title = g.title;
+  comment = g.comment;
+  players = g.players;
+  tree = itself_tree g.tree i;
+  sets = at_images_itself g.sets i;
+  outcomes = at_images_itself g.outcomes i;
+}
 
 -- first r, then s
 abbrev pub composed : Renumbering → Renumbering → Renumbering

@@ -1,27 +1,27 @@
 -- Sameness of games: identity, inverse and composition of renumberings.
-use Rattle.gf_tree.proofs.Common.{◌≡◌, ℕ, ◌<◌, List, [], ◌∷◌, map, refl, sym, ap, subst, ◌∙◌, arith}
-use Rattle.gf_tree.proofs.Common.{Decides-eqb, map_tree, renumbered_node, Renumbering, HasSet}
-use Rattle.gf_tree.proofs.Common.{renumbered_set, Game, IsGame, used_sets, used_outcomes, SetKey}
-use Rattle.gf_tree.proofs.Common.{same_set, set_of, nat_eq, HasOutcome, Carries, SameGame}
+use Rattle.gf_tree.proofs.Common.{◌≡◌, ℕ, ◌<◌, List, [], ◌∷◌, map, sym, ap, subst, ◌∙◌, arith}
+use Rattle.gf_tree.proofs.Common.{Decides-eqb, renumbered, Renumbering, HasSet, renumbered_set}
+use Rattle.gf_tree.proofs.Common.{Game, IsGame, used_sets, used_outcomes, SetKey, same_set, set_of}
+use Rattle.gf_tree.proofs.Common.{nat_eq, HasOutcome, Carries, SameGame}
 use Rattle.gf_tree.proofs.lemmas.games.FirstUseNumbers.{AreApart}
 use Rattle.gf_tree.proofs.lemmas.games.TreesOnce.{same_set_equality}
 use Rattle.gf_tree.proofs.lemmas.games.Carried.{undo, undone, undone_apart, apart_twice}
-use Rattle.gf_tree.proofs.lemmas.games.Renumberings.{used_sets_of, used_outcomes_of, agreed_trees}
-use Rattle.gf_tree.proofs.lemmas.games.Renumberings.{identity, itself_tree, composed}
-use Rattle.gf_tree.proofs.lemmas.games.Renumberings.{composed_trees, sets_apart, outcomes_apart}
-use Rattle.gf_tree.proofs.lemmas.games.Renumberings.{is_renumbering, set_number_positive}
-use Rattle.gf_tree.proofs.lemmas.games.Renumberings.{outcome_number_positive}
+use Rattle.gf_tree.proofs.lemmas.games.Renumberings.{used_sets_of, used_outcomes_of, agreed_games}
+use Rattle.gf_tree.proofs.lemmas.games.Renumberings.{identity, itself, composed, composed_games}
+use Rattle.gf_tree.proofs.lemmas.games.Renumberings.{sets_apart, outcomes_apart, is_renumbering}
+use Rattle.gf_tree.proofs.lemmas.games.Renumberings.{set_number_positive, outcome_number_positive}
 use Rattle.gf_tree.proofs.lemmas.games.Uses.{Has, has, contains, has_map, mapped_from}
 
 -- ---- what a carried game uses
 
 pub carried_sets : (r : Renumbering) (g h : Game) → Carries r g h
     → used_sets h.tree ≡ map (renumbered_set r) (used_sets g.tree)
-carried_sets r g h c = ap used_sets (sym c.tree) ∙ used_sets_of r g.tree
+carried_sets r g h c = ap (λ (k : Game). used_sets k.tree) (sym c.image) ∙ used_sets_of r g.tree
 
 pub carried_outcomes : (r : Renumbering) (g h : Game) → Carries r g h
     → used_outcomes h.tree ≡ map r.outcome (used_outcomes g.tree)
-carried_outcomes r g h c = ap used_outcomes (sym c.tree) ∙ used_outcomes_of r g.tree
+carried_outcomes r g h c =
+    ap (λ (k : Game). used_outcomes k.tree) (sym c.image) ∙ used_outcomes_of r g.tree
 
 -- ---- identity
 
@@ -31,12 +31,7 @@ same_itself g game = (
   record {
     renumbering = is_renumbering g identity (set_number_positive g game)
         (outcome_number_positive g game) (λ a b i j e. e) (λ a b i j e. e);
-    title = refl;
-    comment = refl;
-    players = refl;
-    tree = itself_tree g.tree;
-    sets = λ key h. refl;
-    outcomes = λ number h. refl;
+    image = itself g;
   },
 )
 
@@ -46,15 +41,7 @@ pub carries_on : (r s : Renumbering) (g h k : Game) → Carries r g h → Carrie
     → Carries (composed r s) g k
 carries_on r s g h k c d = record {
   renumbering = is_renumbering g (composed r s) positive positive' apart apart';
-  title = c.title ∙ d.title;
-  comment = c.comment ∙ d.comment;
-  players = c.players ∙ d.players;
-  tree = sym (composed_trees r s g.tree) ∙ ap (map_tree (renumbered_node s)) c.tree ∙ d.tree;
-  sets = λ key i. c.sets key i ∙ d.sets (renumbered_set r key) (contains (used_sets h.tree)
-      (renumbered_set r key) (set_there key (has (used_sets g.tree) key i)));
-  outcomes = λ number i. c.outcomes number i
-      ∙ d.outcomes (r.outcome number) (contains (used_outcomes h.tree) (r.outcome number)
-      (outcome_there number (has (used_outcomes g.tree) number i)));
+  image = sym (composed_games r s g) ∙ ap (renumbered s) c.image ∙ d.image;
 }
   where
     set_there : (key : SetKey) → Has (used_sets g.tree) key
@@ -103,19 +90,10 @@ pub carries_back : (r : Renumbering) (g h : Game) → IsGame g → Carries r g h
     → Carries (inverse r g) h g
 carries_back r g h game c = record {
   renumbering = is_renumbering h s positive positive' apart apart';
-  title = sym c.title;
-  comment = sym c.comment;
-  players = sym c.players;
-  tree =
-      ap (map_tree (renumbered_node s)) (sym c.tree) ∙ composed_trees r s g.tree
-      ∙ agreed_trees (composed r s) identity g.tree (record { sets = back; outcomes = back' })
-      ∙ itself_tree g.tree;
-  sets = λ key i.
-      let k = of_set key (has (used_sets h.tree) key i) in
-      cc (k.2, c.sets k.0 (contains (used_sets g.tree) k.0 k.1), back k.0 k.1);
-  outcomes = λ number i.
-      let k = of_outcome number (has (used_outcomes h.tree) number i) in
-      cc (k.2, c.outcomes k.0 (contains (used_outcomes g.tree) k.0 k.1), back' k.0 k.1);
+  image =
+      ap (renumbered s) (sym c.image) ∙ composed_games r s g
+      ∙ agreed_games (composed r s) identity g game (record { sets = back; outcomes = back' })
+      ∙ itself g;
 }
   where
     s : Renumbering

@@ -3,7 +3,7 @@ use Rattle.gf_tree.proofs.Common.{◌≡◌, ℕ, zero, suc, List, [], ◌∷◌
 use Rattle.gf_tree.proofs.Common.{sym, ap, subst, ◌∙◌, append_assoc, arith, inl, inr, Ratio, Token}
 use Rattle.gf_tree.proofs.Common.{Text, Bare, IsIndex, Each, braced, IsComment, flatten, Use}
 use Rattle.gf_tree.proofs.Common.{FileNode, FileTree, SetKey, InformationSet, Outcome, IsAction}
-use Rattle.gf_tree.proofs.Common.{IsInformationSet, IsMover, IsStep, IsResult, IsNode}
+use Rattle.gf_tree.proofs.Common.{IsInformationSet, SpellsMover, IsStep, IsResult, IsNode}
 use Rattle.gf_tree.proofs.Common.{IsDescription, Sentence, IsOutcomeDescription, Option, Some, None}
 use Rattle.std.specs.Str.Parse.{digits_value}
 use Rattle.gf_tree.proofs.lemmas.fronts.Groups.{Agree, Begun, BeginsText, NoText, in_front}
@@ -61,7 +61,7 @@ indices_once : (bytes bytes' : List ℕ) (n m : ℕ)
 indices_once bytes bytes' n m e h k = sym h.1 ∙ ap (digits_value 10) e ∙ k.1
 
 movers_once : (letter letter' : List ℕ) (n m : ℕ) (first first' rest rest' : List Token)
-    → letter ≡ letter' → IsMover letter first n → IsMover letter' first' m
+    → letter ≡ letter' → SpellsMover letter first n → SpellsMover letter' first' m
     → first ++ rest ≡ first' ++ rest' → (n ≡ m) × (rest ≡ rest')
 movers_once letter letter' zero zero first first' rest rest' l h k e = grind arith
 movers_once letter letter' zero (suc m) first first' rest rest' l h k e = grind arith

@@ -6,7 +6,7 @@ use Rattle.gf_tree.proofs.Common.{Each, IsPayoffInBraces, Entry, flatten, Action
 use Rattle.gf_tree.proofs.Common.{InformationSet, Outcome, Use, FileNode, FileTree, set_uses}
 use Rattle.gf_tree.proofs.Common.{outcome_uses, Describes, Game, IsGame, IsSpellable}
 use Rattle.gf_tree.proofs.Common.{IsSpellableSet, IsSpellableOutcome, IsDescription, IsAction}
-use Rattle.gf_tree.proofs.Common.{IsInformationSet, IsMover, IsStep, IsResult, IsNode, Sentence}
+use Rattle.gf_tree.proofs.Common.{IsInformationSet, SpellsMover, IsStep, IsResult, IsNode, Sentence}
 use Rattle.gf_tree.proofs.Common.{IsOutcomeDescription, keys_alone, IsGameOf, SpellsGame, IsLabel}
 use Rattle.gf_tree.proofs.Common.{IsSpelled, IsSpellableAction}
 use Rattle.gf_fraction.proofs.AllElements.{all_parts, all_mapped}
@@ -31,8 +31,8 @@ action_spelled : (player : ℕ) (tokens : List Token) (a : Action)
 action_spelled zero tokens a h all = grind arith
 action_spelled (suc player) tokens a h all = grind arith
 
-mover_bound : (letter : List ℕ) (tokens : List Token) (player : ℕ) → IsMover letter tokens player
-    → player < 2 ^ 32
+mover_bound : (letter : List ℕ) (tokens : List Token) (player : ℕ)
+    → SpellsMover letter tokens player → player < 2 ^ 32
 mover_bound letter tokens player h = grind arith
 
 -- a set's description, or an outcome's, if there is one

@@ -1,6 +1,6 @@
 -- Worked files: what the machine of the reader answers to them is computed.
 use Rattle.gf_tree.proofs.Common.{◌≡◌, ℕ, List, length, Result, Ok, Err, refl, Fault, Span, Why}
-use Rattle.gf_tree.proofs.Common.{Game, SpellsGame, IsRefusal, game_of, Content, nothing, run}
+use Rattle.gf_tree.proofs.Common.{Game, SpellsGame, IsRefusal, game_in, Content, nothing, run}
 use Rattle.gf_tree.proofs.Common.{Format}
 use Rattle.std.specs.Fmt.{digits}
 use Rattle.gf_fraction.specs.Computed.{gcd_within, lowest_of, number_of, sum_of}
@@ -13,7 +13,7 @@ use Rattle.gf_tree.proofs.lemmas.fronts.Judged.{refuses}
 use Rattle.gf_tree.proofs.lemmas.runs.Stops.{machine_spells}
 
 abbrev pub game_read : Result Content Fault → Result Game Fault
-game_read (Ok c) = Ok (game_of c)
+game_read (Ok c) = Ok (game_in c)
 game_read (Err fault) = Err fault
 
 abbrev pub ok_game : Game → Result Game Fault

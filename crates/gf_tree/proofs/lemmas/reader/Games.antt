@@ -3,7 +3,7 @@
 use Rattle.gf_tree.proofs.Common.{◌≡◌, ℕ, List, [], ◌∷◌, ◌++◌, length, Ok, Err, refl, ap, subst}
 use Rattle.gf_tree.proofs.Common.{◌∙◌, Token, Lexeme, Spells, tokens_of, Fault, Span, Why, Game}
 use Rattle.gf_tree.proofs.Common.{IsGame, Node, Parts, SpellsGame, game_with, IsRefusal, Kept}
-use Rattle.gf_tree.proofs.Common.{entries_with, game_of, IsSpellable, Content, nothing, run, Format}
+use Rattle.gf_tree.proofs.Common.{entries_with, game_in, IsSpellable, Content, nothing, run, Format}
 use Rattle.gf_tree.proofs.Common.{Entry, Fills, IsSpanOf, Memory, TooLong, UnknownOutcome}
 use Rattle.gf_tree.proofs.Common.{TooManyProfiles, same_tokens, IsJudged, HasPassed, IsReason}
 use Rattle.gf_tree.proofs.Common.{Fails, to_all}
@@ -19,8 +19,8 @@ use Rattle.gf_tree.proofs.lemmas.Once.{ok_or_err}
 -- ---- what is read
 
 pub read_spells : (bytes : List ℕ) (ls : List Lexeme) (c : Content) → Spells 0 bytes ls
-    → run (length bytes) Format nothing ls ≡ Ok c → SpellsGame bytes (game_of c)
-read_spells bytes ls c spelled e = (machine_spells bytes (game_of c)).1
+    → run (length bytes) Format nothing ls ≡ Ok c → SpellsGame bytes (game_in c)
+read_spells bytes ls c spelled e = (machine_spells bytes (game_in c)).1
     (record { lexemes = ls; spelled = spelled; content = c; read = e; means = refl })
 
 pub read_fills : (bytes : List ℕ) (ls : List Lexeme) (c : Content)
@@ -29,21 +29,21 @@ read_fills bytes ls c e =
     (file_found (tokens_of ls) c ((run_reads (length bytes) Format nothing ls c).0 e)).fills
 
 pub read_is_game : (bytes : List ℕ) (ls : List Lexeme) (c : Content) → Spells 0 bytes ls
-    → run (length bytes) Format nothing ls ≡ Ok c → IsGame (game_of c)
+    → run (length bytes) Format nothing ls ≡ Ok c → IsGame (game_in c)
 read_is_game bytes ls c spelled e =
-    (spelled_is_spellable bytes (game_of c) (read_spells bytes ls c spelled e)).0
+    (spelled_is_spellable bytes (game_in c) (read_spells bytes ls c spelled e)).0
 
 pub read_is_spellable : (bytes : List ℕ) (ls : List Lexeme) (c : Content) → Spells 0 bytes ls
-    → run (length bytes) Format nothing ls ≡ Ok c → IsSpellable (game_of c)
+    → run (length bytes) Format nothing ls ≡ Ok c → IsSpellable (game_in c)
 read_is_spellable bytes ls c spelled e =
-    (spelled_is_spellable bytes (game_of c) (read_spells bytes ls c spelled e)).1
+    (spelled_is_spellable bytes (game_in c) (read_spells bytes ls c spelled e)).1
 
 -- ---- no other game is spelled
 
 -- the machine reads these tokens to each game that the bytes spell
 spelled_read : (bytes : List ℕ) (ls : List Lexeme) (g : Game)
     → Spells 0 bytes ls → SpellsGame bytes g → (c : Content)
-    × (run (length bytes) Format nothing ls ≡ Ok c) × (game_of c ≡ g)
+    × (run (length bytes) Format nothing ls ≡ Ok c) × (game_in c ≡ g)
 spelled_read bytes ls g spelled h =
     let k = (machine_spells bytes g).0 h in
     let same : ls ≡ k.lexemes = same_tokens bytes ls k.lexemes spelled k.spelled in
@@ -123,8 +123,8 @@ read_parts c = record {
 
 pub game_is_with : (c : Content) (nodes : List Kept)
     → c.nodes ≡ entries_with c.sets c.outcomes nodes
-    → game_of c ≡ game_with (read_parts c) nodes
-game_is_with c nodes kept = ap (λ (es : List (Entry Node)). game_of (record c { nodes = es })) kept
+    → game_in c ≡ game_with (read_parts c) nodes
+game_is_with c nodes kept = ap (λ (es : List (Entry Node)). game_in (record c { nodes = es })) kept
 
 -- these parts make a game, which is the one that the bytes spell
 pub record IsWhole (bytes : List ℕ) (p : Parts) (nodes : List Kept) : Type 0 where

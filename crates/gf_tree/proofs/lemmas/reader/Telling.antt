@@ -1,14 +1,15 @@
 -- What a reader has told of the nodes of a file, and that the machine goes on after it.
-use Rattle.gf_tree.proofs.Common.{◌≡◌, ◌≤◌, ◌+◌, ◌-◌, ℕ, List, [], ◌∷◌, ◌++◌, length, max, map}
-use Rattle.gf_tree.proofs.Common.{option_map, Result, Ok, Err, refl, sym, ap, subst, ◌∙◌}
-use Rattle.gf_tree.proofs.Common.{append_assoc, append-nil, arith, length-append, at_position}
-use Rattle.gf_tree.proofs.Common.{Fault, InformationSet, Outcome, SetKey, Described, Node, AreAmong}
-use Rattle.gf_tree.proofs.Common.{IsAmong, Kept, entries_with, Entry, Position, with_node, NodeDue}
-use Rattle.gf_tree.proofs.Common.{heard, take-append-le, child_count, entry_with, ByFirstUse}
-use Rattle.gf_tree.proofs.Common.{Reader, Bool, Answer, Goes, Grows, HasRead, answer, begun_with}
-use Rattle.gf_tree.proofs.Common.{behind, content_of, Heading, Told, told_from, told_node}
-use Rattle.gf_tree.proofs.Common.{told_outcome, told_set}
-use Rattle.gf_tree.specs.inner.ReaderState.{GoesTelling, HasTold, Tells, TellsNode}
+use Rattle.gf_tree.proofs.Common.{◌≡◌, ◌≤◌, ◌+◌, ◌-◌, ◌∷◌, max, map, Err, sym, ap, ◌∙◌, Told}
+use Rattle.gf_tree.proofs.Common.{ℕ, Described, AreAmong, Position, with_node, told_from, told_node}
+use Rattle.gf_tree.proofs.Common.{List, append_assoc, length-append, InformationSet, take-append-le}
+use Rattle.gf_tree.proofs.Common.{[], length, Outcome, IsAmong, NodeDue, HasRead, Heading, told_set}
+use Rattle.gf_tree.proofs.Common.{◌++◌, refl, Fault, Node, Kept, Entry, heard, Bool, Goes, Grows}
+use Rattle.gf_tree.proofs.Common.{option_map, at_position, entries_with, child_count, told_outcome}
+use Rattle.gf_tree.proofs.Common.{Result, Ok, arith, Lexeme, SetKey, Reader, Answer, answer, behind}
+use Rattle.gf_tree.proofs.Common.{subst, append-nil, entry_with, ByFirstUse, begun_with, content_of}
+use Rattle.std.specs.Prelude.{OnOk}
+use Rattle.gf_tree.specs.inner.ReaderState.{GoesTelling, HasTold, IsNoLonger, ReadsTokens, Tells}
+use Rattle.gf_tree.specs.inner.ReaderState.{TellsNode, with_children, with_front}
 use Rattle.gf_tree.specs.Told.{kept_as, used_outcomes_from, used_sets_from}
 use Rattle.gf_tree.proofs.lemmas.reader.Steps.{at_before, outcomes_grow, placed_among_more}
 use Rattle.gf_tree.proofs.lemmas.reader.Steps.{placed_one_more, sets_grow}
@@ -90,21 +91,28 @@ grows_same {A} {xs} {ys} e = record { more = []; parts = sym e ∙ sym (append-n
 grows_length : {A : Type 0} {xs ys : List A} → Grows xs ys → length xs ≤ length ys
 grows_length {A} {xs} {ys} h = grind (arith, length-append)
 
+-- ---- tokens that are taken
+
+pub shorter_by : {l : Lexeme} {xs ys : List Lexeme} → xs ≡ l ∷ ys → length ys ≤ length xs
+shorter_by {l} {xs} {ys} e = omega (arith, ap length e)
+
+pub reads_none : {r : Reader} → ReadsTokens r r
+reads_none {r} = (refl, omega arith)
+
 -- ---- a node that is told
 
 -- the machine, when this node has just become whole
-pub told_goes : (old new : Reader) (node : Kept)
-    → content_of new ≡ record (content_of old) {
-      due = child_count old.sets.known node.set + (old.due - 1);
-    }
-    → new.tokens ≡ old.tokens → new.sets ≡ old.sets → new.outcomes ≡ old.outcomes
-    → (q : Position) → heard q (with_node (content_of old)
-    (begun_with old.sets.known node.name node.set)
-    (option_map (λ o. o.key) (at_position old.outcomes.known node.outcome))) old.tokens
-    ≡ behind (entry_with new.sets.known new.outcomes.known node ∷ []) (answer q new)
-told_goes old new node content tokens sets outcomes q =
-    cc (heard_more (entry_with old.sets.known old.outcomes.known node ∷ []) q (record (content_of
-    old) { due = child_count old.sets.known node.set + (old.due - 1) }) old.tokens)
+pub told_goes : (r : Reader) (told_sets told_outcomes : ℕ) (node : Kept) (q : Position)
+    → heard q (with_node (content_of r) (begun_with r.sets.known node.name node.set)
+    (option_map (λ o. o.key) (at_position r.outcomes.known node.outcome))) r.tokens
+    ≡ behind (entry_with r.sets.known r.outcomes.known node ∷ []) (answer q
+    (with_children (record r { told_sets = told_sets; told_outcomes = told_outcomes }) node.set))
+told_goes r told_sets told_outcomes node q =
+    let children = child_count r.sets.known node.set in
+    let due : children + (r.due - 1) ≡ r.due - 1 + children = omega arith in
+    let entry = entry_with r.sets.known r.outcomes.known node in
+    ap (λ (n : ℕ). heard q (with_front (entry ∷ []) (record (content_of r) { due = n })) r.tokens)
+    due ∙ heard_more (entry ∷ []) q (record (content_of r) { due = r.due - 1 + children }) r.tokens
 
 module _ {T : Type 0} {holds : T → T → Heading → List Told → Type 0} {before : Answer}
     {from to : T} where
@@ -116,36 +124,37 @@ module _ {T : Type 0} {holds : T → T → Heading → List Told → Type 0} {be
       → TellsNode holds r m from to node
       → before ≡ heard q (with_node (content_of r) (begun_with r.sets.known node.name node.set)
       (option_map (λ o. o.key) (at_position r.outcomes.known node.outcome))) r.tokens
-      → new ≡ record m { tokens = new.tokens } → answer q m ≡ answer NodeDue new
-      → Tells holds before old new from to
-  tells q {old} {r} {m} {new} {node} told_sets told_outcomes sets outcomes placed h e kept goes =
-      grind arith
+      → ReadsTokens m new
+      → answer q (with_children m node.set) ≡ answer NodeDue (with_children new node.set)
+      → r.due ≡ old.due → IsNoLonger old r → Tells holds node.set before old new from to
+  tells q {old} {r} {m} {new} {node} told_sets told_outcomes sets outcomes placed h e kept goes due
+      shorter = grind arith
 
   -- the same if a description that is repeated comes after it
-  pub tells_again : {A : Type 0} (q : Position) (old r m new : Reader) (node : Kept)
-      (result : Result A Fault) → r.told_sets ≡ old.told_sets
-      → r.told_outcomes ≡ old.told_outcomes → Grows old.sets.known r.sets.known
-      → Grows old.outcomes.known r.outcomes.known
-      → IsAmong (length r.sets.known) (length r.outcomes.known) node
+  pub tells_again : {A : Type 0} (q : Position) (r m new : Reader) (node : Kept)
+      (result : Result A Fault) → IsAmong (length r.sets.known) (length r.outcomes.known) node
       → TellsNode holds r m from to node
       → before ≡ heard q (with_node (content_of r) (begun_with r.sets.known node.name node.set)
       (option_map (λ o. o.key) (at_position r.outcomes.known node.outcome))) r.tokens
-      → new ≡ record m { tokens = new.tokens } → Goes (answer q m) result (answer NodeDue new)
-      → GoesTelling holds result before old new from to
-  tells_again q old r m new node (Ok x) told_sets told_outcomes sets outcomes placed h e kept goes =
-      tells q told_sets told_outcomes sets outcomes placed h e kept goes
-  tells_again q old r m new node (Err f) told_sets told_outcomes sets outcomes placed h e kept
-      goes = grind arith
+      → OnOk result (ReadsTokens m new)
+      → Goes (answer q (with_children m node.set)) result
+      (heard NodeDue (content_of (with_children m node.set)) new.tokens)
+      → GoesTelling holds result (λ _. node.set) before r new from to
+  tells_again q r m new node (Ok x) placed h e read goes =
+      tells q refl refl (grows_none r.sets.known) (grows_none r.outcomes.known) placed h e read
+      (goes ∙ ap (λ (k : Reader). answer NodeDue (with_children k node.set)) (sym read.0)) refl
+      (omega arith)
+  tells_again q r m new node (Err f) placed h e read goes = grind arith
 
 -- ---- the nodes of a file
 
 module _ {T : Type 0} (holds : T → T → Heading → List Told → Type 0) (untold : T)
     (heading : Heading) where
   pub told_one_more : {old new : Reader} {from to : T} {nodes : List Kept} {before : Answer}
-      → HasTold (λ t told. holds untold t heading told) old from nodes
-      → (h : Tells holds before old new from to)
+      {set : ℕ} → HasTold (λ t told. holds untold t heading told) old from nodes
+      → (h : Tells holds set before old new from to)
       → HasTold (λ t told. holds untold t heading told) new to (nodes ++ h.node ∷ [])
-  told_one_more {old} {new} {from} {to} {nodes} {before} k h = record {
+  told_one_more {old} {new} {from} {to} {nodes} {before} {set} k h = record {
     placed = placed_one_more (length new.sets.known) (length new.outcomes.known) nodes h.node
         (placed_among_more (length old.sets.known) (length old.outcomes.known)
         (length new.sets.known) (length new.outcomes.known) nodes (grows_length h.sets)
@@ -167,21 +176,29 @@ module _ {T : Type 0} (holds : T → T → Heading → List Told → Type 0) (un
           h.node ∷ []
       whole = grind (arith, told_more)
 
-  pub read_one_more : {start : Answer} {old new : Reader} {from to : T}
+  pub read_one_more : {start : Answer} {old new : Reader} {from to : T} {set : ℕ}
       → HasRead (λ t told. holds untold t heading told) start NodeDue old from
-      → Tells holds (answer NodeDue old) old new from to
-      → HasRead (λ t told. holds untold t heading told) start NodeDue new to
-  read_one_more {start} {old} {new} {from} {to} k h = record {
+      → Tells holds set (answer NodeDue old) old new from to
+      → HasRead (λ t told. holds untold t heading told) start NodeDue (with_children new set) to
+  read_one_more {start} {old} {new} {from} {to} {set} k h = record {
     nodes = k.nodes ++ h.node ∷ [];
     goes = cc (
       k.goes,
       entries,
       h.goes,
       behind_both (entries_with new.sets.known new.outcomes.known
-          k.nodes) (entry_with new.sets.known new.outcomes.known h.node ∷ []) (answer NodeDue new),
+          k.nodes) (entry_with new.sets.known new.outcomes.known h.node ∷ [])
+          (answer NodeDue (with_children new set)),
       entries_more new.sets.known new.outcomes.known k.nodes h.node,
     );
-    has_told = told_one_more k.has_told h;
+    has_told =
+        let t = told_one_more k.has_told h in
+        record {
+          placed = t.placed;
+          told = t.told;
+          told_sets = t.told_sets;
+          told_outcomes = t.told_outcomes;
+        };
   }
     where
       entries : entries_with old.sets.known old.outcomes.known k.nodes

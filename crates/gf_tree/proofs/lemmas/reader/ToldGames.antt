@@ -1,7 +1,7 @@
 -- What a receiver holds after the end of a file is the game that the file means.
 use Rattle.gf_tree.proofs.Common.{◌≡◌, ℕ, List, [], length, Ok, Err, refl, sym, subst, ◌∙◌}
 use Rattle.gf_tree.proofs.Common.{tokens_of, Lexeme, Fault, InformationSet, Outcome, SetKey}
-use Rattle.gf_tree.proofs.Common.{Described, Game, SpellsGame, game_of, AreAmong, Kept, game_with}
+use Rattle.gf_tree.proofs.Common.{Described, Game, SpellsGame, game_in, AreAmong, Kept, game_with}
 use Rattle.gf_tree.proofs.Common.{NodeDue, IsJudged, ByFirstUse, Reader, Memory, IsListed, answer}
 use Rattle.gf_tree.proofs.Common.{content_of, heading_read, to_all, Heading, Told, told_from}
 use Rattle.gf_tree.specs.inner.ReaderState.{HasReadAll, content_with, IsRead, KeepsNodes}
@@ -38,7 +38,7 @@ module _ {T : Type 0} (holds : T → Heading → List Told → Type 0) (bytes : 
       AreOutcomes (length (content_of r).players) known) (sym behind.outcomes) tt in
       let n = nodes_found (tokens_of r.tokens.ahead) (content_of r) c sets outcomes
       ((run_reads (length r.tokens.input) NodeDue (content_of r) r.tokens.ahead c).0 h.whole) in
-      let same : heading_read r ≡ heading_in (game_of c) = cc in
+      let same : heading_read r ≡ heading_in (game_in c) = cc in
       record {
         nodes = h.nodes;
         whole = cc (behind.goes, h.whole);
@@ -58,7 +58,7 @@ module _ {T : Type 0} {holds : T → Heading → List Told → Type 0} {bytes : 
   told_game {r} h =
       let a = h.answered in
       let c = content_with r a.nodes in (
-        game_of c,
+        game_in c,
         read_spells bytes h.tokens c h.spelled a.whole,
         record {
           told = told_from ByFirstUse r.sets.known r.outcomes.known 0 0 a.nodes;

@@ -4,8 +4,9 @@ use Rattle.gf_tree.proofs.Common.{◌≡◌, ℕ, suc, ◌+◌, ◌≤◌, List,
 use Rattle.gf_tree.proofs.Common.{max, Some, option_map, slice_get, refl, sym, ap, subst, ◌∙◌}
 use Rattle.gf_tree.proofs.Common.{arith, ◌==◌, filter, eq-eqb, length-map, map-append}
 use Rattle.gf_tree.proofs.Common.{slice_get-map, Lexeme, Spells, SetKey, InformationSet, Outcome}
-use Rattle.gf_tree.proofs.Common.{same_set, Game, IsGame, used_sets, known_of, flatten, Described}
-use Rattle.gf_tree.proofs.Common.{first_uses, sets_of, AreAmong, Kept, entries_with, game_of}
+use Rattle.gf_tree.proofs.Common.{same_set, nat_eq, Decides-eqb, Game, IsGame, used_outcomes}
+use Rattle.gf_tree.proofs.Common.{used_sets, known_of, flatten, Described}
+use Rattle.gf_tree.proofs.Common.{first_uses, sets_of, AreAmong, Kept, entries_with, game_in}
 use Rattle.gf_tree.proofs.Common.{Content, nothing, run, Format, Renumbering, renumbered}
 use Rattle.gf_tree.proofs.Common.{renumbered_node, Bool, true, Ok, file_nodes, no_node}
 use Rattle.gf_tree.proofs.Common.{first_use_numbers, OfFile, ByFirstUse, told_from, told_outcome}
@@ -64,7 +65,12 @@ module _ (g : Game) (game : IsGame g) where
 
   outcome_number : (k : ℕ) (o : Described ℕ Outcome) → slice_get g.outcomes k ≡ Some o
       → numbers.outcome o.key ≡ suc k
-  outcome_number k o there = grind (arith, around, number_at, map-append, length-map)
+  outcome_number k o there =
+      let r = around g.outcomes k o there in
+      let key_of : Described ℕ Outcome → ℕ = λ x. x.key in
+      number_at nat_eq Decides-eqb (used_outcomes g.tree) (map key_of r.0) (map key_of r.1) o.key
+      (sym game.one_entry_each_outcome ∙ ap (map key_of) r.2 ∙ map-append key_of r.0 (o ∷ r.1))
+      ∙ ap (λ n. n + 1) (length-map r.0 key_of ∙ r.3) ∙ omega arith
 
   -- ---- what is told of a set and of an outcome
 
@@ -119,7 +125,7 @@ pub told_of_file : (bytes : List ℕ) (ls : List Lexeme) (c : Content) (nodes : 
     → c.nodes ≡ entries_with c.sets c.outcomes nodes
     → AreAmong (length c.sets) (length c.outcomes) nodes
     → map (λ t. t.node) (told_from ByFirstUse c.sets c.outcomes 0 0 nodes)
-    ≡ file_nodes (renumbered (first_use_numbers (game_of c)) (game_of c))
+    ≡ file_nodes (renumbered (first_use_numbers (game_in c)) (game_in c))
 told_of_file bytes ls c nodes spelled e kept placed =
-    nodes_told (game_of c) (read_is_game bytes ls c spelled e) ByFirstUse nodes
+    nodes_told (game_in c) (read_is_game bytes ls c spelled e) ByFirstUse nodes
     (flatten_grown no_node c.nodes (read_fills bytes ls c e) ∙ kept) placed

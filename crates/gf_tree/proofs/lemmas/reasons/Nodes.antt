@@ -1,33 +1,33 @@
 -- The rows of nodes refuse for reasons, and so does each row after the front of a file.
 use Rattle.gf_tree.proofs.Common.{◌≡◌, ℕ, ◌<◌, List, [], ◌∷◌, ◌++◌, length, Bool, true, false}
-use Rattle.gf_tree.proofs.Common.{Option, Some, None, MatchOption, refl, sym, ap, subst, ◌∙◌, arith}
-use Rattle.gf_tree.proofs.Common.{inl, inr, length-append, same_Some, ◌⊎◌, Ratio, IsNumber, Token}
+use Rattle.gf_tree.proofs.Common.{codes, Option, Some, None, refl, sym, ap, subst, ◌∙◌, arith, inl}
+use Rattle.gf_tree.proofs.Common.{inr, length-append, same_Some, ◌⊎◌, Ratio, IsNumber, Token}
 use Rattle.gf_tree.proofs.Common.{Closing, Text, Bare, IsIndex, Begins, Why, Expected}
 use Rattle.gf_tree.proofs.Common.{UnknownPlayer, Mismatch, Action, InformationSet, Outcome, SetKey}
-use Rattle.gf_tree.proofs.Common.{set_of, set_with, IsDue, Role, Use, FileFront}
-use Rattle.gf_tree.proofs.Common.{BehindOutcomeNumber, BehindSetNumber, InActions, IsExtensiveFile}
-use Rattle.gf_tree.proofs.Common.{IsNewOutcome, IsNewSet, KnowsOutcome, ToOutcomeNumber, IsNoNumber}
-use Rattle.gf_tree.proofs.Common.{Row, a_first_name, an_outcome, or_comma, or_name, this_number}
-use Rattle.gf_tree.proofs.Common.{◌≢◌, append_cancel_left, why_of, MayFollow, NoEntry, BadIndex}
-use Rattle.gf_tree.proofs.Common.{SumBelowOne, OutcomeIsDue, PayoffIsDue, PlayerIsDue}
-use Rattle.gf_tree.proofs.Common.{ProbabilityIsDue, SetIsDue, NewProbabilityIsDue, GoesOnWith}
-use Rattle.gf_tree.proofs.Common.{DiffersFromOutcome, DiffersFromSet, EndsInFirstUse, ListsActions}
-use Rattle.gf_tree.proofs.Common.{BehindNode, IsSetKnown, a_closing, a_new_action, a_new_branch}
-use Rattle.gf_tree.proofs.Common.{a_payoff, a_player, a_probability, a_set, no_label, this_label}
-use Rattle.gf_tree.proofs.Common.{IsBeforeRow, IsInNode}
+use Rattle.gf_tree.proofs.Common.{set_of, set_with, IsDue, Role, OnlySuitedFollow, Use, FileFront}
+use Rattle.gf_tree.proofs.Common.{what_of, BehindOutcomeNumber, BehindSetNumber, InActions}
+use Rattle.gf_tree.proofs.Common.{IsExtensiveFile, IsNewOutcome, IsNewSet, KnowsOutcome}
+use Rattle.gf_tree.proofs.Common.{ToOutcomeNumber, IsNoNumber, Row, a_first_name, an_outcome}
+use Rattle.gf_tree.proofs.Common.{or_comma, or_name, this_number, ◌≢◌, append_cancel_left, why_of}
+use Rattle.gf_tree.proofs.Common.{MayFollow, NoEntry, BadIndex, SumBelowOne, OutcomeIsDue}
+use Rattle.gf_tree.proofs.Common.{PayoffIsDue, PlayerIsDue, ProbabilityIsDue, SetIsDue}
+use Rattle.gf_tree.proofs.Common.{NewProbabilityIsDue, GoesOnWith, DiffersFromOutcome}
+use Rattle.gf_tree.proofs.Common.{DiffersFromSet, EndsInFirstUse, ListsActions, BehindNode}
+use Rattle.gf_tree.proofs.Common.{a_closing, a_new_action, a_new_branch, a_payoff, a_player}
+use Rattle.gf_tree.proofs.Common.{a_probability, a_set, no_label, this_label, IsBeforeRow, IsInNode}
 use Rattle.gf_tree.proofs.lemmas.fronts.CutFiles.{some_row}
 use Rattle.gf_tree.proofs.lemmas.fronts.Cuts.{first_is}
 use Rattle.gf_tree.proofs.lemmas.due.Nodes.{parts}
+use Rattle.gf_tree.proofs.lemmas.due.Suited.{zero_is}
 use Rattle.gf_tree.proofs.lemmas.due.Rows.{Stands, accepted}
 use Rattle.gf_tree.proofs.lemmas.due.Outcomes.{GoesOnBehind, GoesOnBehindOr}
 use Rattle.gf_tree.proofs.lemmas.due.Payoffs.{Seen, seen_behind, seen_to}
 use Rattle.gf_tree.proofs.lemmas.fronts.Codes.{begins_payoffs, known_outcome}
-use Rattle.gf_tree.proofs.lemmas.fronts.WholeNodes.{number_node, whole_node}
-use Rattle.gf_tree.proofs.lemmas.reasons.Rows.{IsOfRole, IsTold, Own, Reasoned, closing, end}
-use Rattle.gf_tree.proofs.lemmas.reasons.Rows.{fault_own, follows, in_heading, name_or_end}
-use Rattle.gf_tree.proofs.lemmas.reasons.Rows.{name_or_node, no_action, node, number_named, opening}
-use Rattle.gf_tree.proofs.lemmas.reasons.Rows.{reasons, some_text, text, told_by, wrong_own, Given}
-use Rattle.gf_tree.proofs.lemmas.reasons.Rows.{IsFor, for_due}
+use Rattle.gf_tree.proofs.lemmas.reasons.Rows.{IsOfRole, Own, Reasoned, closing, end, fault_own}
+use Rattle.gf_tree.proofs.lemmas.reasons.Rows.{follows, in_heading, name_or_end, name_or_node}
+use Rattle.gf_tree.proofs.lemmas.reasons.Rows.{no_action, node, number_named, opening, reasons}
+use Rattle.gf_tree.proofs.lemmas.reasons.Rows.{some_text, text, told_by, wrong_own, Given, IsFor}
+use Rattle.gf_tree.proofs.lemmas.reasons.Rows.{for_due}
 use Rattle.gf_token.specs.declared.fault.What.TheVariants as what
 use Rattle.gf_tree.proofs.lemmas.due.Actions as actions
 use Rattle.gf_tree.proofs.lemmas.due.Nodes as nodes
@@ -76,17 +76,13 @@ module _ (f : FileFront) where
 
   outcome_index : OutcomeIsDue f.before → (b : List ℕ) (why : Why) (after : List Token)
       → ¬ ((n : ℕ) × IsIndex b n) → why ≡ BadIndex → Given f.before (Bare b ∷ after) why
-  outcome_index due b why after n e = (BadIndex, e, inr (due, λ m is. n (m, is)))
+  outcome_index due b why after n e = (BadIndex, e, (inr (inr due), λ m k. n (m, k.0)))
 
-  outcome_due : (set : Option (Use SetKey InformationSet)) → ToOutcomeNumber f.front set
-      → IsSetKnown f.nodes set → OutcomeIsDue f.before
-  outcome_due set h known = (f.ends, set, h, known)
-
-  told_set : (set : Option (Use SetKey InformationSet))
-      → MatchOption set (Unit {0}) (λ u. (d : InformationSet) × (u.description ≡ Some d))
-      → IsSetKnown f.nodes set
-  told_set None h = tt
-  told_set (Some u) h = inl h
+  outcome_due : (set : Option (Use SetKey InformationSet)) (row : Row)
+      → ToOutcomeNumber f.front set → Stands f.before row → row.bare (codes "0")
+      → OutcomeIsDue f.before
+  outcome_due set row h s zero =
+      (f.ends, set, h, follows f.before row what.Index s (Bare (codes "0") ∷ []) zero)
 
   differs : (t : Token) → DiffersFromSet f.ends t ⊎ DiffersFromOutcome f.ends t
       → (after : List Token) → Own Mismatch f.before (t ∷ after)
@@ -166,37 +162,38 @@ module _ (f : FileFront) where
     where
       by : GoesOnBehind f → Reasoned f.before
       by (inl s) = end f.before s
-      by (inr s) = node f.before f.players (whole_node f h) s
+      by (inr s) = node f.before f.players s
 
   in_node : IsInNode f → Reasoned f.before
   in_node (IsInNode.NodeName h) = text f.before (nodes.node_name f h)
   in_node (IsInNode.Player h) =
       let row = a_player (length f.players) in
-      let due : PlayerIsDue f.before (length f.players) = (f.ends, refl, h) in
-      let is : IsDue f.before what.Index = inl (length f.players, due) in
+      let due : PlayerIsDue f.before = (f.ends, h) in
+      let is : IsDue f.before what.Index = inl due in
       let s = nodes.player f h in
       for_due f.before row what.Index s is (refl, refl, λ why e. e) (λ b why after n e. elim e [
-        | inl k ↦ (BadIndex, k.0, inl (inl (length f.players, due), k.1))
-        | inr k ↦ (UnknownPlayer, k.0, inl (length f.players, k.1.0, due, k.1.1, k.1.2))
-      ]) (told_by f.before row (Role.PlayerNumber (length f.players)) s is (λ b. (λ k. k, λ k. k)))
+        | inl k ↦ (BadIndex, k.0, (is, k.1))
+        | inr k ↦ (UnknownPlayer, k.0, inl (f.ends, k.1.0, h, k.1.1, k.1.2))
+      ]) (told_by f.before row (Role.PlayerNumber (length f.players)) s is
+      (λ b. (λ k. k, λ k. k)) tt)
   in_node (IsInNode.SetNumber player h) =
       let due : SetIsDue f.before = (f.ends, player, h) in
       let is : IsDue f.before what.Index = inr (inl due) in
       let s = nodes.set_number_due f player h in
       for_due f.before a_set what.Index s is (refl, refl, λ why e. e)
-      (λ b why after n e. (BadIndex, e, inl (inr due, λ m k. n (m, k))))
-      (told_by f.before a_set Role.SetNumber s is (λ b. (λ k. k, λ k. k)))
+      (λ b why after n e. (BadIndex, e, (is, λ m k. n (m, k))))
+      (told_by f.before a_set Role.SetNumber s is (λ b. (λ k. k, λ k. k)) tt)
   in_node (IsInNode.NewSet key h new) = first_use (inl (key, h, new)) (nodes.new_set f key h new)
   in_node (IsInNode.KnownSet key set h knows) =
       let row = or_name set.name an_outcome in
-      let due = outcome_due (Some (record { key = key; description = None }))
-      (known_step f.front key h) (inr (set, knows)) in
-      let is : IsDue f.before what.Index = inr (inr due) in
       let s = nodes.known_set f key set h knows in
+      let due = outcome_due (Some (record { key = key; description = None })) row
+      (known_step f.front key h) s (0, zero_is) in
+      let is : IsDue f.before what.Index = inr (inr due) in
       reasons f.before row (λ after plain. is)
       (λ l after n. differs (Text l) (inl (key, set, knows, inl (h, n))) after) (outcome_index due)
       (λ why after n e. (Expected what.Index, e, is)) s
-      (told_by f.before row Role.OutcomeNumber s is (λ b. (λ k. k, λ k. k)))
+      (told_by f.before row Role.OutcomeNumber s is (λ b. (λ k. k, λ k. k)) tt)
   in_node (IsInNode.SetOpening key h) = opening f.before (nodes.set_opening f key h)
   in_node (IsInNode.NewAction key set h new some) =
       let row = a_new_action set.actions in
@@ -282,11 +279,11 @@ module _ (f : FileFront) where
       (λ b why after n e. (Expected what.Closing, e, due)) (λ why after n e. absurd (n tt)) s
       (λ b k. absurd k)
   in_node (IsInNode.OutcomeNumber h) =
-      let due = outcome_due h.0 h.1 (told_set h.0 h.2) in
-      let is : IsDue f.before what.Index = inr (inr due) in
       let s = outcomes.outcome_number_due f h in
+      let due = outcome_due h.0 an_outcome h.1 s (0, zero_is) in
+      let is : IsDue f.before what.Index = inr (inr due) in
       for_due f.before an_outcome what.Index s is (refl, refl, λ why e. e) (outcome_index due)
-      (told_by f.before an_outcome Role.OutcomeNumber s is (λ b. (λ k. k, λ k. k)))
+      (told_by f.before an_outcome Role.OutcomeNumber s is (λ b. (λ k. k, λ k. k)) tt)
   in_node (IsInNode.NewOutcome number h new) =
       first_use (inr (number, h, new)) (outcomes.new_outcome f number h new)
   in_node (IsInNode.KnownOutcome number outcome h knows) =
@@ -298,7 +295,7 @@ module _ (f : FileFront) where
 
       by : GoesOnBehindOr outcome.name f → Reasoned f.before
       by (inl s) = name_or_end f.before outcome.name s other
-      by (inr s) = name_or_node f.before f.players (number_node f number h) outcome.name s other
+      by (inr s) = name_or_node f.before f.players outcome.name s other
   in_node (IsInNode.OutcomeOpening number h) =
       opening f.before (outcomes.outcome_opening f number h)
   in_node (IsInNode.NewPayoff number ps h new fewer) =
@@ -336,7 +333,8 @@ reasoned before begins = by (some_row before begins)
     by (inr k) = subst (λ (ts : List Token). Reasoned ts) k.1 (in_node k.0 k.2)
 
 pub told_somewhere : (before : List Token) (b : List ℕ) → Begins IsExtensiveFile before
-    → MayFollow IsExtensiveFile before (Bare b) → IsTold before
+    → MayFollow IsExtensiveFile before (Bare b)
+    → (r : Role) × OnlySuitedFollow before r × IsDue before (what_of r)
 told_somewhere before b begins m =
     let r = reasoned before begins in
-    r.told b ((accepted before r.row r.stands (Bare b ∷ [])).0 m)
+    let t = r.told b ((accepted before r.row r.stands (Bare b ∷ [])).0 m) in (t.0, t.1, t.2)

@@ -1,7 +1,7 @@
 -- Each list of bytes spells a game, or is refused at one place with one code.
 use Rattle.gf_tree.proofs.Common.{◌≡◌, ℕ, List, length, Result, Ok, Err, refl, sym, subst, arith}
 use Rattle.gf_tree.proofs.Common.{inl, inr, map-append, ◌⊎◌, Lexeme, Spells, tokens_of, Fault, Span}
-use Rattle.gf_tree.proofs.Common.{Why, IsDue, IsExtensiveFile, Game, SpellsGame, IsRefusal, game_of}
+use Rattle.gf_tree.proofs.Common.{Why, IsDue, IsExtensiveFile, Game, SpellsGame, IsRefusal, game_in}
 use Rattle.gf_tree.proofs.Common.{Content, nothing, run, Format, code_of, Memory, TooLong}
 use Rattle.gf_tree.proofs.Common.{UnknownOutcome, TooManyProfiles, same_tokens, Holds, IsReason}
 use Rattle.gf_token.proofs.Places.{no_file, one_code, one_offending_place, one_span}
@@ -20,7 +20,7 @@ answered bytes =
   where
     by : (ls : List Lexeme) → Spells 0 bytes ls → (o : Result Content Fault)
         → run (length bytes) Format nothing ls ≡ o → Answered bytes
-    by ls spelled (Ok c) e = inl (game_of c, read_spells bytes ls c spelled e)
+    by ls spelled (Ok c) e = inl (game_in c, read_spells bytes ls c spelled e)
     by ls spelled (Err fault) e = inr (
       fault.why,
       fault.span,

@@ -9,9 +9,9 @@ use Rattle.gf_tree.proofs.Common.{a_word, an_end, an_opening, or_name, ◌≢◌
 use Rattle.gf_tree.proofs.Common.{What, SumAboveOne, SumOverflow, Unterminated, IsInHeading}
 use Rattle.gf_tree.proofs.Common.{NodeIsDue, PayoffIsDue, ProbabilityIsDue, OnlySuitedFollow, Suits}
 use Rattle.gf_tree.proofs.Common.{what_of, Holds, IsNoText, IsWrongBehind, NewProbabilityIsDue}
-use Rattle.gf_tree.proofs.Common.{NobodyMoves, Accepts, Refuses, a_player_name, or_text}
+use Rattle.gf_tree.proofs.Common.{MayFollow, Accepts, Refuses, a_player_name, or_text}
 use Rattle.gf_tree.proofs.lemmas.due.Rows.{Stands, accepted}
-use Rattle.gf_tree.proofs.lemmas.fronts.WholeNodes.{behind_comment, behind_players}
+use Rattle.gf_tree.proofs.lemmas.due.Answers.{other_word}
 use Rattle.gf_fraction.specs.declared.fraction.NumberFault.TheVariants as number
 use Rattle.gf_token.specs.declared.fault.What.TheVariants as what
 use Rattle.gf_tree.proofs.lemmas.due.Heading as heading
@@ -21,9 +21,16 @@ abbrev pub Own : Why → List Token → List Token → Type 0
 Own (Expected w) before after = IsDue before w
 Own why before after = Holds why before after
 
+-- what a row refuses where a node is due
+abbrev pub RefusesBy : What → Row → Type 0
+RefusesBy what.Node row = (b : List ℕ) (why : Why) → row.other_bare b why
+    → (players : ℕ) × (a_node players).other_bare b why
+RefusesBy _ row = Unit {0}
+
 -- one role is due
-abbrev pub IsTold : List Token → Type 0
-IsTold before = (r : Role) × OnlySuitedFollow before r × IsDue before (what_of r)
+abbrev pub IsTold : List Token → Row → Type 0
+IsTold before row = (r : Role) × OnlySuitedFollow before r × IsDue before (what_of r)
+    × RefusesBy (what_of r) row
 
 -- a row comes after these tokens, and its refusals have reasons
 pub record Reasoned (before : List Token) : Type 1 where
@@ -31,7 +38,7 @@ pub record Reasoned (before : List Token) : Type 1 where
   pub stands : Stands before row
   pub own : (after : List Token) (why : Why) → ¬ (Accepts row after) → Refuses row after why
       → Own why before after
-  pub told : (b : List ℕ) → row.bare b → IsTold before
+  pub told : (b : List ℕ) → row.bare b → IsTold before row
 
 -- the bare tokens of a row suit a role
 abbrev pub IsOfRole : Row → Role → Type 0
@@ -92,7 +99,8 @@ module _ (before : List Token) where
     given_by (Closing ∷ after) why n e = closing why after n e
     given_by (Broken ∷ after) why n e = (Unterminated, e, tt)
 
-    pub reasons : Stands before row → ((b : List ℕ) → row.bare b → IsTold before) → Reasoned before
+    pub reasons : Stands before row → ((b : List ℕ) → row.bare b → IsTold before row)
+        → Reasoned before
     reasons s told = record {
       row = row;
       stands = s;
@@ -112,7 +120,7 @@ module _ (before : List Token) (row : Row) (w : What) (s : Stands before row) wh
   pub for_due : IsDue before w → IsFor row w
       → ((b : List ℕ) (why : Why) (after : List Token) → ¬ (row.bare b) → row.other_bare b why
       → Given before (Bare b ∷ after) why)
-      → ((b : List ℕ) → row.bare b → IsTold before) → Reasoned before
+      → ((b : List ℕ) → row.bare b → IsTold before row) → Reasoned before
   for_due due is bare told = reasons before row
       (λ after plain. given before after row.otherwise (Expected w, is.0, due))
       (λ l after n. given before (Text l ∷ after) row.other_text (Expected w, is.1, due))
@@ -120,22 +128,24 @@ module _ (before : List Token) (row : Row) (w : What) (s : Stands before row) wh
 
   one_reason : IsDue before w → IsFor row w
       → ((b : List ℕ) (why : Why) → row.other_bare b why → why ≡ Expected w)
-      → ((b : List ℕ) → row.bare b → IsTold before) → Reasoned before
+      → ((b : List ℕ) → row.bare b → IsTold before row) → Reasoned before
   one_reason due is bare told =
       for_due due is (λ b why after n e. (Expected w, bare b why e, due)) told
 
 -- a row of a role
 module _ (before : List Token) (row : Row) (r : Role)
-    (s : Stands before row) (due : IsDue before (what_of r)) (same : IsOfRole row r) where
-  pub told_by : (b : List ℕ) → row.bare b → IsTold before
-  told_by b h = (r, of_row before row r s same, due)
+    (s : Stands before row) (due : IsDue before (what_of r)) (same : IsOfRole row r)
+    (refuses : RefusesBy (what_of r) row) where
+  pub told_by : (b : List ℕ) → row.bare b → IsTold before row
+  told_by b h = (r, of_row before row r s same, due, refuses)
 
 -- the letter of a node: there is no player, although one is to move
 module _ (before : List Token) (players : List (List ℕ))
-    (ends : length players ≡ 0 → NobodyMoves before) (due : NodeIsDue before) where
+    (nobody : length players ≡ 0 → ¬ (MayFollow IsExtensiveFile before (Bare (codes "p"))))
+    (due : NodeIsDue before) where
   letter_given : (b : List ℕ) (why : Why) (after : List Token)
       → (a_node (length players)).other_bare b why → Given before (Bare b ∷ after) why
-  letter_given b why after (inl h) = (UnknownPlayer, h.0, inr (ends h.2, due, h.1))
+  letter_given b why after (inl h) = (UnknownPlayer, h.0, inr (due, nobody h.2, h.1))
   letter_given b why after (inr k) = (Expected what.Node, k.0, due)
 
 -- ---- the heading
@@ -144,9 +154,9 @@ module _ (before : List Token) where
   word : (row : Row) (r : Role) → Stands before row → IsDue before (what_of r) → IsOfRole row r
       → IsFor row (what_of r)
       → ((b : List ℕ) (why : Why) → row.other_bare b why → why ≡ Expected (what_of r))
-      → Reasoned before
-  word row r s due same is bare =
-      one_reason before row (what_of r) s due is bare (told_by before row r s due same)
+      → RefusesBy (what_of r) row → Reasoned before
+  word row r s due same is bare refuses =
+      one_reason before row (what_of r) s due is bare (told_by before row r s due same refuses)
 
   pub some_text : (row : Row) → Stands before row → row.text [] → IsDue before what.Text
   some_text row s h = ([], follows before row what.Text s (Text [] ∷ []) h)
@@ -162,17 +172,26 @@ module _ (before : List Token) where
 
   pub closing : (row : Row) → Stands before row → row.closing → IsFor row what.Closing
       → ((b : List ℕ) (why : Why) → row.other_bare b why → why ≡ Expected what.Closing)
-      → ((b : List ℕ) → row.bare b → IsTold before) → Reasoned before
+      → ((b : List ℕ) → row.bare b → IsTold before row) → Reasoned before
   closing row s h = one_reason before row what.Closing s
       (follows before row what.Closing s (Closing ∷ []) h)
 
   -- the letter of a node, and perhaps a text
-  module _ (players : List (List ℕ)) (ends : length players ≡ 0 → NobodyMoves before) where
+  module _ (players : List (List ℕ)) where
     node_due : (row : Row) → Stands before row → IsOfRole row (Role.NodeLetter (length players))
         → NodeIsDue before
     node_due row s same =
         follows before row what.Node s (Bare (codes "t") ∷ [])
         ((same (codes "t")).1 (inr (inl refl)))
+
+    nobody : (row : Row) → Stands before row → IsOfRole row (Role.NodeLetter (length players))
+        → length players ≡ 0 → ¬ (MayFollow IsExtensiveFile before (Bare (codes "p")))
+    nobody row s same none = λ m.
+        elim ((same (codes "p")).0 ((accepted before row s (Bare (codes "p") ∷ [])).0 m)) [
+          | inl e ↦ other_word (codes "p") (codes "c") refl e
+          | inr (inl e) ↦ other_word (codes "p") (codes "t") refl e
+          | inr (inr h) ↦ let some = h.1 in omega (arith, none, some)
+        ]
 
     by_letter : (row : Row) → Stands before row → IsOfRole row (Role.NodeLetter (length players))
         → IsFor row what.Node → ((b : List ℕ) (why : Why) → row.other_bare b why
@@ -180,8 +199,10 @@ module _ (before : List Token) where
     by_letter row s same is bare =
         let due = node_due row s same in
         for_due before row what.Node s due is
-        (λ b why after n e. letter_given before players ends due b why after (bare b why e))
-        (told_by before row (Role.NodeLetter (length players)) s due same)
+        (λ b why after n e. letter_given before players (nobody row s same) due b why after
+        (bare b why e))
+        (told_by before row (Role.NodeLetter (length players)) s due same
+        (λ b why e. (length players, bare b why e)))
 
     pub node : Stands before (a_node (length players)) → Reasoned before
     node s = by_letter (a_node (length players)) s (λ b. (λ h. h, λ h. h))
@@ -198,10 +219,12 @@ module _ (before : List Token) where
     name_or_node name s other =
         let row = or_name name (a_node (length players)) in
         let due = node_due row s (λ b. (λ h. h, λ h. h)) in
+        let no_one = nobody row s (λ b. (λ h. h, λ h. h)) in
         reasons before row (λ after plain. due) other
-        (λ b why after n e. letter_given before players ends due b why after e)
+        (λ b why after n e. letter_given before players no_one due b why after e)
         (λ why after n e. (Expected what.Node, e, due)) s
-        (told_by before row (Role.NodeLetter (length players)) s due (λ b. (λ h. h, λ h. h)))
+        (told_by before row (Role.NodeLetter (length players)) s due (λ b. (λ h. h, λ h. h))
+        (λ b why e. (length players, e)))
 
   pub end : Stands before an_end → Reasoned before
   end s = one_reason before an_end what.End s (follows before an_end what.End s [] tt)
@@ -224,18 +247,19 @@ module _ (before : List Token) where
         → Given before (Bare b ∷ after) why)
         → what_of r ≡ what.Number → IsOfRole row r → Reasoned before
     number_named is_for bare named same = for_due before row what.Number s is is_for bare
-        (told_by before row r s (subst (λ (w : What). IsDue before w) (sym named) is) same)
+        (told_by before row r s (subst (λ (w : What). IsDue before w) (sym named) is) same
+        (subst (λ (w : What). RefusesBy w row) (sym named) tt))
 
   pub in_heading : IsInHeading before → Reasoned before
   in_heading (IsInHeading.Format e) =
       word (a_word what.Format (codes "EFG")) Role.Format
-      (rw e heading.format) e (λ b. (λ h. h, λ h. h)) (refl, refl, λ why k. k) (λ b why k. k)
+      (rw e heading.format) e (λ b. (λ h. h, λ h. h)) (refl, refl, λ why k. k) (λ b why k. k) tt
   in_heading (IsInHeading.Version e) =
       word (a_word what.Version (codes "2")) Role.Version
-      (rw e heading.version) e (λ b. (λ h. h, λ h. h)) (refl, refl, λ why k. k) (λ b why k. k)
+      (rw e heading.version) e (λ b. (λ h. h, λ h. h)) (refl, refl, λ why k. k) (λ b why k. k) tt
   in_heading (IsInHeading.Letter e) = word a_letter Role.Letter
       (subst (λ (ts : List Token). Stands ts a_letter) (sym e) heading.letter) e
-      (λ b. (λ h. h, λ h. h)) (refl, refl, λ why k. k) (λ b why k. k)
+      (λ b. (λ h. h, λ h. h)) (refl, refl, λ why k. k) (λ b why k. k) tt
   in_heading (IsInHeading.Title h) = text (heading.title before h)
   in_heading (IsInHeading.BeforePlayers h) = opening (heading.before_players before h)
   in_heading (IsInHeading.Players players h) =
@@ -243,7 +267,6 @@ module _ (before : List Token) where
       one_reason before a_player_name what.Text s (some_text a_player_name s tt)
       (refl, refl, λ why e. e) (λ b why e. e) (λ b k. absurd k)
   in_heading (IsInHeading.AfterPlayers players h) =
-      text_or_node players (behind_players before players h)
-      (heading.after_players before players h)
+      text_or_node players (heading.after_players before players h)
   in_heading (IsInHeading.AfterComment players h) =
-      node players (behind_comment before players h) (heading.after_comment before players h)
+      node players (heading.after_comment before players h)

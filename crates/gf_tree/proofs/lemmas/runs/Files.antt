@@ -6,7 +6,7 @@ use Rattle.gf_tree.proofs.Common.{nat_eq, length-append, AllByRecursion, cons_op
 use Rattle.gf_tree.proofs.Common.{Each, Entry, Fills, keys_alone, Game, HasChildren, Node, Learns}
 use Rattle.gf_tree.proofs.Common.{IsNode, InformationSet, SetKey, Outcome, same_set, Described}
 use Rattle.gf_tree.proofs.Common.{description_at, Use, FileNode, set_uses, outcome_uses, Content}
-use Rattle.gf_tree.proofs.Common.{after_node, NodeDue, run_tokens, then_run, game_of, ◌==◌}
+use Rattle.gf_tree.proofs.Common.{after_node, NodeDue, run_tokens, then_run, game_in, ◌==◌}
 use Rattle.gf_tree.proofs.Common.{node_or_end}
 use Rattle.gf_tree.proofs.lemmas.games.Consistent.{map_entry}
 use Rattle.gf_tree.proofs.lemmas.games.TreesOnce.{same_set_equality}
@@ -39,7 +39,7 @@ pub record NodesRead (ts : List Token) (c r : Content) : Type 0 where
   pub nodes : r.nodes ≡ c.nodes ++ alone entries
   pub learns_sets : Learns same_set c.sets (set_uses entries) r.sets
   pub learns_outcomes : Learns nat_eq c.outcomes (outcome_uses entries) r.outcomes
-  pub children : AllByRecursion (HasChildren (game_of r)) (alone entries)
+  pub children : AllByRecursion (HasChildren (game_in r)) (alone entries)
   pub are_sets : AreSets (length c.players) r.sets
   pub are_outcomes : AreOutcomes (length c.players) r.outcomes
 

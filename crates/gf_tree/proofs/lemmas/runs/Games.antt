@@ -5,7 +5,7 @@ use Rattle.gf_tree.proofs.Common.{◌∙◌, inl, inr, arith, AllByRecursion, To
 use Rattle.gf_tree.proofs.Common.{IsComment, Tree, map_tree, grow, keys_alone, IsSet, FileNode}
 use Rattle.gf_tree.proofs.Common.{FileTree, Sentence, Game, Node, HasChildren, Entry, Fills}
 use Rattle.gf_tree.proofs.Common.{flatten, Content, nothing, Format, AfterPlayers, NodeDue}
-use Rattle.gf_tree.proofs.Common.{run_tokens, game_of, root, no_node, MeansGame, LearnsGame}
+use Rattle.gf_tree.proofs.Common.{run_tokens, game_in, root, no_node, MeansGame, LearnsGame}
 use Rattle.gf_tree.proofs.lemmas.games.Prefix.{one_tree, fills_one, grows_again}
 use Rattle.gf_tree.proofs.lemmas.games.Consistent.{flatten_map}
 use Rattle.gf_tree.proofs.lemmas.games.Learned.{game_learned_once}
@@ -76,7 +76,7 @@ grown_again t nodes e = cc (flatten_map keys_alone t, grows_again (map_tree keys
 pub record FileRead (tokens : List Token) (r : Content) : Type 0 where
   pub file : FileTree
   pub sentence : Sentence tokens file
-  pub learns : LearnsGame file (game_of r)
+  pub learns : LearnsGame file (game_in r)
   pub fills : Fills 1 r.nodes
 
 with_tree : (tokens : List Token) (r : Content) (h : Heading tokens r)
@@ -113,7 +113,7 @@ with_tree tokens r h k n t e =
         outcomes = rw e n.learns_outcomes;
         each_set = rw (← count) n.are_sets;
         each_outcome = rw (← count) n.are_outcomes;
-        children = subst (AllByRecursion (HasChildren (game_of r))) (sym flat) n.children;
+        children = subst (AllByRecursion (HasChildren (game_in r))) (sym flat) n.children;
       };
       fills = subst (Fills 1) (sym n.nodes) filled;
     }
@@ -132,7 +132,7 @@ file_found tokens r e =
 pub record GameRead (tokens : List Token) (g : Game) : Type 0 where
   pub content : Content
   pub read : Reads Format nothing tokens content
-  pub means : game_of content ≡ g
+  pub means : game_in content ≡ g
 
 pub file_again : (tokens : List Token) (f : FileTree) (g : Game)
     → Sentence tokens f → LearnsGame f g → GameRead tokens g

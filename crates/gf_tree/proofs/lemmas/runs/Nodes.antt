@@ -5,7 +5,7 @@ use Rattle.gf_tree.proofs.Common.{MatchOption, Ok, Err, refl, sym, ap, subst, �
 use Rattle.gf_tree.proofs.Common.{arith, nat_eq, codes, pointwise, Token, Text, Bare, count_of}
 use Rattle.gf_tree.proofs.Common.{IsIndex, count_again, Expected, UnknownPlayer, InformationSet}
 use Rattle.gf_tree.proofs.Common.{SetKey, Outcome, set_of, same_set, IsSet, Described}
-use Rattle.gf_tree.proofs.Common.{description_at, Use, FileNode, keys_alone, Learns, IsMover}
+use Rattle.gf_tree.proofs.Common.{description_at, Use, FileNode, keys_alone, Learns, SpellsMover}
 use Rattle.gf_tree.proofs.Common.{IsStep, IsResult, IsNode, Content, at, begun, node_letter}
 use Rattle.gf_tree.proofs.Common.{personal_node, player_number, after_node, NodeDue, ChanceName}
 use Rattle.gf_tree.proofs.Common.{PersonalName, TerminalName, SetNumber, OutcomeNumber, run_tokens}
@@ -59,7 +59,7 @@ pub record NodeRead (ts : List Token) (c r : Content) : Type 0 where
 
 -- a node at which chance or a player moves
 mover_found : (letter : List ℕ) (mover ts : List Token) (name : List ℕ) (player : ℕ) (c r : Content)
-    → IsMover letter mover player → player ≤ length c.players
+    → SpellsMover letter mover player → player ≤ length c.players
     → AreSets (length c.players) c.sets → AreOutcomes (length c.players) c.outcomes
     → Reads (SetNumber name player) c ts r → NodeRead (Bare letter ∷ Text name ∷ (mover ++ ts)) c r
 mover_found letter mover ts name player c r moves among sets outcomes e =
@@ -203,7 +203,7 @@ personal_again players c h = grind arith
 
 pub mover_again : (letter : List ℕ) (mover rest : List Token)
     (name : List ℕ) (player due : ℕ) (c : Content)
-    → IsMover letter mover player → player ≤ length c.players → c.due ≡ suc due
+    → SpellsMover letter mover player → player ≤ length c.players → c.due ≡ suc due
     → run_tokens NodeDue c (Bare letter ∷ Text name ∷ (mover ++ rest))
     ≡ run_tokens (SetNumber name player) c rest
 mover_again letter mover rest name zero due c moves among is = cc

@@ -3,7 +3,7 @@
 use Rattle.gf_tree.proofs.Common.{◌≡◌, Bool, true, false, cond, List, [], ◌∷◌, ◌++◌, Result, Ok}
 use Rattle.gf_tree.proofs.Common.{Err, refl, sym, ap, subst, ◌∙◌, append_assoc, append-nil, Token}
 use Rattle.gf_tree.proofs.Common.{Begins, Why, IsExtensiveFile, Format, Content, Position, State}
-use Rattle.gf_tree.proofs.Common.{at, nothing, step, game_of, run_tokens, then_run, MayFollow, due}
+use Rattle.gf_tree.proofs.Common.{at, nothing, step, game_in, run_tokens, then_run, MayFollow, due}
 use Rattle.gf_tree.proofs.Common.{may_end}
 use Rattle.gf_tree.proofs.lemmas.games.Consistent.{some_game}
 use Rattle.gf_tree.proofs.lemmas.games.Learned.{game_learned_once}
@@ -83,7 +83,7 @@ pub read_is : (tokens : List Token) (r : Content) → Reads Format nothing token
     → IsExtensiveFile tokens
 read_is tokens r e =
     let f = file_found tokens r e in
-    (f.file, f.sentence, ((game_learned_once f.file (game_of r)).0 f.learns).0)
+    (f.file, f.sentence, ((game_learned_once f.file (game_in r)).0 f.learns).0)
 
 pub begins : (ts : List Token) (s : State) → Leads ts s → Begins IsExtensiveFile ts
 begins ts s h =

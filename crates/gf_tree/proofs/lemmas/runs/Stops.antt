@@ -3,7 +3,7 @@ use Rattle.gf_tree.proofs.Common.{◌≡◌, ◌↔◌, ℕ, Bool, true, false, 
 use Rattle.gf_tree.proofs.Common.{Result, Ok, Err, refl, ap, subst, arith, Token, Lexeme, Spells}
 use Rattle.gf_tree.proofs.Common.{tokens_of, IsAccepted, Fault, Why, Game, SpellsGame}
 use Rattle.gf_tree.proofs.Common.{IsExtensiveFile, Content, Position, State, at, nothing, run, step}
-use Rattle.gf_tree.proofs.Common.{Format, game_of, then_run, IsSpanOf, due, may_end, then_on}
+use Rattle.gf_tree.proofs.Common.{Format, game_in, then_run, IsSpanOf, due, may_end, then_on}
 use Rattle.gf_tree.specs.inner.Machine.{refused}
 use Rattle.gf_tree.proofs.lemmas.runs.Tokens.{Reads, run_on, ok_read}
 use Rattle.gf_tree.proofs.lemmas.runs.Games.{machine_means}
@@ -39,7 +39,7 @@ pub record BytesRead (bytes : List ℕ) (g : Game) : Type 0 where
   pub spelled : Spells 0 bytes lexemes
   pub content : Content
   pub read : run (length bytes) Format nothing lexemes ≡ Ok content
-  pub means : game_of content ≡ g
+  pub means : game_in content ≡ g
 
 bytes_read : (bytes : List ℕ) (g : Game) → SpellsGame bytes g → BytesRead bytes g
 bytes_read bytes g h =

@@ -2,14 +2,14 @@
 use Rattle.gf_tree.proofs.Common.{◌≡◌, ℕ, zero, suc, ◌+◌, ◌<◌, Bool, true, false, List, [], ◌∷◌}
 use Rattle.gf_tree.proofs.Common.{◌++◌, length, map, Some, slice_get, max, refl, sym, ap, ◌∙◌}
 use Rattle.gf_tree.proofs.Common.{arith, ◌==◌, eq-eqb, slice_get-map, Described, description_at}
-use Rattle.gf_tree.proofs.Common.{first_uses, not_from_false, filter-append, through_first_use}
-use Rattle.gf_tree.proofs.Common.{first_use_number, use_behind, use_with}
+use Rattle.gf_tree.proofs.Common.{first_uses, filter, not, append_assoc, filter-append}
+use Rattle.gf_tree.proofs.Common.{not_from_false, first_use_number, use_behind, use_with}
 use Rattle.std.proofs.Common.{length-append}
 use Rattle.std.specs.List.{list_any}
 use Rattle.std.proofs.Math.Nat.{max-eq_left}
 use Rattle.std.proofs.lemmas.Bool.{ne_eqb}
 use Rattle.std.proofs.lemmas.List.{append-nil}
-use Rattle.gf_tree.proofs.lemmas.games.FirstUseNumbers.{number_at, number_at_most}
+use Rattle.gf_tree.proofs.lemmas.games.FirstUseNumbers.{number_at, placed}
 use Rattle.gf_tree.proofs.lemmas.games.FirstUses.{first_uses_distinct}
 use Rattle.gf_tree.proofs.lemmas.games.Lookups.{entry_at}
 use Rattle.gf_tree.proofs.lemmas.games.Members.{filter_last, has_at}
@@ -32,17 +32,17 @@ module _ {K : Type 0} (same : K → K → Bool) (tells : IsEquality same) where
   used_before [] key h = absurd cc
   used_before (b ∷ before) key h = grind (arith, used_before before key)
 
-  through_again : (before after : List K) (key : K) → list_any (same key) before ≡ true
-      → through_first_use same key (before ++ after) ≡ through_first_use same key before
-  through_again [] after key h = absurd cc
-  through_again (b ∷ before) after key h =
-      grind (arith, through_again before after key, either_way)
-
-  through_new : (before after : List K) (key : K) → list_any (same key) before ≡ false
-      → through_first_use same key (before ++ key ∷ after) ≡ before ++ key ∷ []
-  through_new [] after key h = rw ((tells key key).1 refl) refl
-  through_new (b ∷ before) after key h =
-      grind (arith, through_new before after key, either_way)
+  -- the keys that are used first stay so when more are used
+  first_uses_more : (before after : List K) → (more : List K)
+      × (first_uses same (before ++ after) ≡ first_uses same before ++ more)
+  first_uses_more [] after = (first_uses same after, refl)
+  first_uses_more (b ∷ before) after =
+      let r = first_uses_more before after in
+      let others : K → Bool = λ k. not (same b k) in (
+        filter others r.0,
+        ap (λ ks. b ∷ filter others ks) r.1
+            ∙ ap (λ ks. b ∷ ks) (filter-append others (first_uses same before) r.0),
+      )
 
   -- the keys that are known then
   abbrev pub more_known : Bool → List K → K → List K
@@ -76,10 +76,24 @@ module _ {K : Type 0} (same : K → K → Bool) (tells : IsEquality same) where
         cc (number_at same tells (before ++ d.key ∷ after) r.0 r.1 d.key (sym all ∙ r.2), r.3)
 
     number_again : list_any (same d.key) before ≡ true → k < length (first_uses same before)
-    number_again h = grind (arith, number_at_most, used_before, number_there, through_again)
+    number_again h =
+        let p = placed same tells before d.key (used_before before d.key h) in
+        let r = first_uses_more before (d.key ∷ after) in
+        let whole = r.1 ∙ ap (λ ks. ks ++ r.0) p.2 ∙ append_assoc p.0 (d.key ∷ p.1) r.0 in
+        let number = number_at same tells (before ++ d.key ∷ after) p.0 (p.1 ++ r.0) d.key whole in
+        let sizes = ap length p.2 ∙ length-append p.0 (d.key ∷ p.1) in
+        omega (arith, number, number_there, sizes)
 
     number_new : list_any (same d.key) before ≡ false → k ≡ length (first_uses same before)
-    number_new h = grind (arith, number_there, through_new, known_more, length-append)
+    number_new h =
+        let r = first_uses_more (before ++ d.key ∷ []) after in
+        let known : first_uses same (before ++ d.key ∷ []) ≡ first_uses same before ++ d.key ∷ [] =
+        rw h at (known_more before d.key) in
+        let whole = ap (first_uses same) (sym (append_assoc before (d.key ∷ []) after)) ∙ r.1
+        ∙ ap (λ ks. ks ++ r.0) known ∙ append_assoc (first_uses same before) (d.key ∷ []) r.0 in
+        let number =
+        number_at same tells (before ++ d.key ∷ after) (first_uses same before) r.0 d.key whole in
+        omega (arith, number, number_there)
 
     description_there : description_at same known d.key ≡ Some d.description
     description_there = grind (arith, entry_at, first_uses_distinct, has_at)

@@ -4,7 +4,7 @@ use Rattle.gf_tree.proofs.Common.{drop, Some, None, Option, MatchOption, refl, a
 use Rattle.gf_tree.proofs.Common.{codes, AllByRecursion, Ratio, IsFraction, Token, Text, Bare, Each}
 use Rattle.gf_tree.proofs.Common.{braced, IsPayoffInBraces, Action, SetKey, InformationSet, Outcome}
 use Rattle.gf_tree.proofs.Common.{IsSet, AreActions, Use, FileNode, IsDescription, IsAction}
-use Rattle.gf_tree.proofs.Common.{IsInformationSet, IsMover, IsStep, IsResult, IsNode}
+use Rattle.gf_tree.proofs.Common.{IsInformationSet, SpellsMover, IsStep, IsResult, IsNode}
 use Rattle.gf_tree.proofs.Common.{IsOutcomeDescription, IsSpellableSet, IsSpellableOutcome, decimal}
 use Rattle.gf_tree.proofs.Common.{flat_map, option_to_list, number_text, written_is_read}
 use Rattle.gf_tree.proofs.Common.{IsSpellableAction}
@@ -133,7 +133,7 @@ outcome_written players outcome n h =
 -- ---- steps and results
 
 mover_written : (player : ℕ) → player < 2 ^ 32
-    → IsMover (mover_letter player) (mover_tokens player) player
+    → SpellsMover (mover_letter player) (mover_tokens player) player
 mover_written zero h = (refl, refl)
 mover_written (suc player) h = (decimal (suc player), refl, refl, decimal_is_index (suc player) h)
 

@@ -24,15 +24,7 @@ own_strategies-requires-clause-counts c =
     ∙ actions_of g counts c.requires.counts place (omega (arith, c.loop-place-test.true))
 
 pub own_strategies-requires-clause-whole : goal.own_strategies-requires-clause-whole
-own_strategies-requires-clause-whole c =
-    read_whole c.args.game.now c.args.counts.now c.requires.counts c.loop-place.place
-    c.index-whole.result.now c.index.result.now c.deref.result.now
-    (record {
-      within = omega (arith, c.loop-place-test.true);
-      whole_is = c.index-whole.ensures;
-      own_is = c.index.ensures;
-      actions_are = c.deref.ensures.value;
-    })
+own_strategies-requires-clause-whole c = grind (arith, read_whole)
 
 pub loop-place-preserved : goal.loop-place-preserved
 loop-place-preserved c =
@@ -70,13 +62,4 @@ returns-clause-firsts c =
     c.loop-place.invariant.0
 
 pub returns-clause-labels : goal.returns-clause-labels
-returns-clause-labels c =
-    let g = c.args.game.now in
-    c.loop-place.invariant.1
-    ∙ take_past c.loop-place.place (map (reduced_labels g) (players_of g))
-    (omega (
-      arith,
-      c.loop-place-test.false,
-      all_counted g c.args.counts.now c.requires.counts,
-      as_many_players g (reduced_labels g),
-    ))
+returns-clause-labels c = grind (arith, take_past, all_counted, as_many_players)

@@ -1,33 +1,9 @@
-use Rattle.gf_form.proofs.Common.{◌≡◌, ◌+◌, ◌<◌, ◌^◌, ◌∙◌, ℕ, ap, arith, length, subst, sym}
-use Rattle.gf_form.proofs.Common.{product, action_counts, IsLevel, AreFoundTo, actions_of}
+use Rattle.gf_form.proofs.Common.{◌∙◌, ℕ, arith, subst, IsLevel}
 use Rattle.gf_form.proofs.lemmas.reduced.SearchStarts.{few_digits, none_found_yet, searched_all}
 use Rattle.gf_form.proofs.reduced.first.first_numbers.Goals as goal
 
-pub own_visits-requires-clause-digits : goal.own_visits-requires-clause-digits
-own_visits-requires-clause-digits c = (
-  action_counts c.args.player.now.game.now c.args.player.now.number,
-  c.deref.ensures.value ∙ c.requires.digits,
-)
-
 pub own_visits-requires-clause-few : goal.own_visits-requires-clause-few
-own_visits-requires-clause-few c =
-    let is = c.deref.ensures.value ∙ c.requires.digits in
-    subst (λ ds. length ds < 2 ^ 32) (sym is)
-    (omega (
-      arith,
-      few_digits 0 (action_counts c.args.player.now.game.now c.args.player.now.number),
-      ap (λ ds. product (actions_of ds)) c.requires.digits,
-      c.requires.choices.counted,
-      c.ranges.whole.fits,
-    ))
-
-pub own_visits-requires-clause-within : goal.own_visits-requires-clause-within
-own_visits-requires-clause-within c = (_, c.requires.visits.within)
-
-pub of_visits-requires : goal.of_visits-requires
-of_visits-requires c =
-    rw (c.len.ensures ∙ c.args.player.now.digits.ok.0, c.deref-2.ensures.value)
-    (rw c.deref.ensures.value at c.in_ok-own.ensures.within)
+own_visits-requires-clause-few c = grind (arith, few_digits)
 
 pub push_below-requires-clause-below : goal.push_below-requires-clause-below
 push_below-requires-clause-below c =
@@ -44,12 +20,4 @@ push_below-requires-clause-below c =
     (c.len.ensures ∙ c.args.player.now.digits.ok.0) c.in_ok-level.ensures.level))
 
 pub push_below-requires-clause-found : goal.push_below-requires-clause-found
-push_below-requires-clause-found c =
-    none_found_yet c.args.player.now.game.now c.args.player.now.number c.new-2.result.items
-    c.new-2.ensures.items
-
-pub returns : goal.returns
-returns c =
-    let all : 0 + c.args.whole ≡ c.args.whole = omega arith in
-    subst (AreFoundTo c.args.player.now.game.now c.args.player.now.number
-    c.push_below.new.self.numbers.items) all c.in_ok-push_below.ensures.found
+push_below-requires-clause-found c = grind (arith, none_found_yet)

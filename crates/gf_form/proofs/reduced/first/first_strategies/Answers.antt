@@ -1,19 +1,13 @@
-use Rattle.gf_form.proofs.Common.{◌∙◌, ap, arith, subst, sym, product, action_counts, ArePositive}
-use Rattle.gf_form.proofs.Common.{digits_from}
+use Rattle.gf_form.proofs.Common.{◌∙◌, ap, arith, product, digits_from}
 use Rattle.gf_form.proofs.lemmas.strategies.CountedActions.{actions_positive}
 use Rattle.gf_form.proofs.lemmas.reduced.SearchStarts.{width_fits, all_choices_had, firsts_are}
 use Rattle.gf_form.proofs.reduced.first.first_strategies.Goals as goal
 
 pub own_steps-requires-clause-some : goal.own_steps-requires-clause-some
-own_steps-requires-clause-some c =
-    subst ArePositive (sym c.requires.counts)
-    (actions_positive c.args.game.now c.requires.is_game c.args.player)
+own_steps-requires-clause-some c = grind (arith, actions_positive)
 
 pub visits_in-requires-clause-fits : goal.visits_in-requires-clause-fits
-visits_in-requires-clause-fits c =
-    width_fits (action_counts c.args.game.now c.args.player)
-    (actions_positive c.args.game.now c.requires.is_game c.args.player)
-    (omega (arith, c.ranges.whole.fits, c.requires.whole, ap product c.requires.counts))
+visits_in-requires-clause-fits c = grind (arith, width_fits, actions_positive)
 
 pub first_numbers-requires-clause-choices : goal.first_numbers-requires-clause-choices
 first_numbers-requires-clause-choices c =

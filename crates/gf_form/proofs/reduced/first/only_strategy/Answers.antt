@@ -1,5 +1,5 @@
-use Rattle.gf_form.proofs.Common.{◌++◌, ◌∷◌, ◌∙◌, [], ℕ, List, ap, map, subst, sym, product}
-use Rattle.gf_form.proofs.Common.{AreFirstsOf, all_choices, strategy_label}
+use Rattle.gf_form.proofs.Common.{arith, ◌++◌, ◌∷◌, ◌∙◌, [], ℕ, List, ap, subst, sym, product}
+use Rattle.gf_form.proofs.Common.{AreFirstsOf}
 use Rattle.gf_form.proofs.lemmas.reduced.Coming.{only_first, only_label}
 use Rattle.gf_form.proofs.reduced.first.only_strategy.Goals as goal
 
@@ -12,8 +12,4 @@ returns-clause-firsts c =
     (sym (ap product c.requires.counts) ∙ c.requires.one))
 
 pub returns-clause-labels : goal.returns-clause-labels
-returns-clause-labels c =
-    c.in_ok-labels.ensures
-    ∙ ap (λ (counts : List ℕ). map strategy_label (all_choices counts)) c.requires.counts
-    ∙ only_label c.args.game.now c.requires.is_game c.args.player
-    (sym (ap product c.requires.counts) ∙ c.requires.one)
+returns-clause-labels c = grind (arith, only_label)

@@ -1,4 +1,4 @@
-use Rattle.gf_form.proofs.Common.{◌≡◌, ◌+◌, ◌∙◌, ℕ, arith, subst, IsLevel, AreLabelledTo}
+use Rattle.gf_form.proofs.Common.{◌∙◌, ℕ, arith, subst, IsLevel}
 use Rattle.gf_form.proofs.lemmas.reduced.SearchStarts.{labels_are, none_labelled_yet, whole_counted}
 use Rattle.gf_form.proofs.lemmas.reduced.SearchStarts.{written_all}
 use Rattle.gf_form.proofs.reduced.labels.labels_of.Goals as goal
@@ -19,8 +19,7 @@ push_below-requires-clause-below c =
     c.in_ok-level.ensures.level))
 
 pub push_below-requires-clause-labelled : goal.push_below-requires-clause-labelled
-push_below-requires-clause-labelled c =
-    none_labelled_yet _ _ _ _ _ c.in_ok-labelling.ensures.labels (λ less. omega arith)
+push_below-requires-clause-labelled c = grind (arith, none_labelled_yet)
 
 pub returns-then-not-is_next_below : goal.returns-then-not-is_next_below
 returns-then-not-is_next_below c =
@@ -35,14 +34,4 @@ returns-then-not-is_next_below c =
     (c.is_next_below.ensures.past c.if-not-is_next_below.true))
 
 pub returns : goal.returns
-returns c =
-    let g = c.args.player.now.game.now in
-    let game = c.requires.is_game in
-    let player = c.args.player.now.number in
-    let all : 0 + c.args.whole ≡ c.args.whole = omega arith in
-    labels_are g game player c.args.numbers.now c.args.whole
-    (whole_counted g game player c.args.player.now.digits.items c.requires.digits c.args.whole
-    c.requires.choices)
-    c.requires.found _
-    (subst (AreLabelledTo g player c.args.numbers.now c.push_below.new.self.labels) all
-    c.in_ok-push_below.ensures.labelled)
+returns c = grind (arith, labels_are, whole_counted)

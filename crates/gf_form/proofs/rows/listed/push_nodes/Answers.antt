@@ -1,17 +1,13 @@
 use Rattle.gf_form.proofs.Common.{◌≡◌, ◌∙◌, ◌<◌, ◌∷◌, ◌++◌, [], ℕ, ℤ, ap, arith, false, get_or}
-use Rattle.gf_form.proofs.Common.{refl, subst, lit<, of_z, pos, sym, to_z, true, Vec, Global, w128}
-use Rattle.gf_form.proofs.Common.{fits_signed_from_abs, to_z-of_z, IsWithin, heads_of, rows_of}
-use Rattle.gf_form.proofs.Common.{Head}
+use Rattle.gf_form.proofs.Common.{refl, subst, lit<, pos, sym, true, Vec, Global, IsWithin}
+use Rattle.gf_form.proofs.Common.{heads_of, rows_of, Head}
 use Rattle.gf_form.specs.inner.rows.ListedNodes.{HasShares, IsShareAt}
 use Rattle.gf_form.proofs.lemmas.rows.FlatRows.{Pushed, is_pushed}
-use Rattle.gf_form.proofs.lemmas.rows.ItemRows.{all_by_place, one_item, unknown}
+use Rattle.gf_form.proofs.lemmas.rows.ItemRows.{all_by_place, in_bits, one_item, unknown}
 use Rattle.gf_form.proofs.lemmas.rows.NodeTerms.{more_size}
 use Rattle.gf_form.proofs.rows.listed.push_nodes.Goals.{in-Some+in_ok-push, in_default+in_ok-push-2}
 use Rattle.gf_form.proofs.rows.listed.push_nodes.Goals.{then-fits, else-fits}
 use Rattle.gf_form.proofs.rows.listed.push_nodes.Goals as goal
-
-in_bits : (z : ℤ) → IsWithin z → to_z w128 (of_z w128 z) ≡ z
-in_bits z small = to_z-of_z w128 z (fits_signed_from_abs w128 z small)
 
 pub loop-place-preserved : goal.loop-place-preserved
 loop-place-preserved c =

@@ -1,15 +1,11 @@
-use Rattle.gf_form.proofs.Common.{◌≡◌, ◌∙◌, ◌+ℤ◌, ◌*ℤ◌, ℤ, List, arith, length, of_z, pos, subst}
-use Rattle.gf_form.proofs.Common.{sym, take, take-length, take_more, to_z, w128}
-use Rattle.gf_form.proofs.Common.{fits_signed_from_abs, to_z-of_z, *ℤ-one, IsWithin, Ratio, Reached}
-use Rattle.gf_form.proofs.Common.{rows_of}
+use Rattle.gf_form.proofs.Common.{◌≡◌, ◌∙◌, ◌+ℤ◌, ◌*ℤ◌, List, arith, length, pos, subst, sym, take}
+use Rattle.gf_form.proofs.Common.{take-length, take_more, *ℤ-one, Ratio, Reached, rows_of}
 use Rattle.gf_form.specs.inner.rows.ListedNodes.{HasShares}
 use Rattle.gf_form.specs.inner.rows.Shares.{IsShare}
+use Rattle.gf_form.proofs.lemmas.rows.ItemRows.{in_bits}
 use Rattle.gf_form.proofs.lemmas.rows.ListedEntries.{no_node, node_at}
 use Rattle.gf_form.proofs.lemmas.rows.NodeTerms.{one_share_more}
 use Rattle.gf_form.proofs.rows.listed.shares_of.Goals as goal
-
-in_bits : (z : ℤ) → IsWithin z → to_z w128 (of_z w128 z) ≡ z
-in_bits z small = to_z-of_z w128 z (fits_signed_from_abs w128 z small)
 
 pub loop-node-preserved : goal.loop-node-preserved
 loop-node-preserved c =

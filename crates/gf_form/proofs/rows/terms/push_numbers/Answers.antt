@@ -1,15 +1,11 @@
-use Rattle.gf_form.proofs.Common.{◌≡◌, ◌∙◌, ◌<◌, ◌+ℤ◌, ◌*ℤ◌, ◌++◌, ◌∷◌, [], ℕ, ℤ, List, get_or}
-use Rattle.gf_form.proofs.Common.{false, length, lit<, pos, ap, arith, of_z, subst, to_z, true}
-use Rattle.gf_form.proofs.Common.{w128, AllByRecursion, fits_signed_from_abs, to_z-of_z, IsWithin}
+use Rattle.gf_form.proofs.Common.{◌∙◌, ◌<◌, ◌+ℤ◌, ◌*ℤ◌, ◌++◌, ◌∷◌, [], ℕ, ℤ, List, get_or, false}
+use Rattle.gf_form.proofs.Common.{length, lit<, pos, ap, arith, subst, AllByRecursion, IsWithin}
 use Rattle.gf_form.specs.inner.rows.Entries.{IsSumAt}
 use Rattle.gf_form.specs.inner.rows.ItemRows.{HasRow}
-use Rattle.gf_form.proofs.lemmas.rows.ItemRows.{one_item, unknown}
+use Rattle.gf_form.proofs.lemmas.rows.ItemRows.{in_bits, one_item, unknown}
 use Rattle.gf_form.proofs.lemmas.strategies.StrategiesByNumber.{all_at}
 use Rattle.gf_form.proofs.rows.terms.push_numbers.Goals.{in-None, in-Some}
 use Rattle.gf_form.proofs.rows.terms.push_numbers.Goals as goal
-
-in_bits : (z : ℤ) → IsWithin z → to_z w128 (of_z w128 z) ≡ z
-in_bits z small = to_z-of_z w128 z (fits_signed_from_abs w128 z small)
 
 pub loop-place-preserved : goal.loop-place-preserved
 loop-place-preserved c =

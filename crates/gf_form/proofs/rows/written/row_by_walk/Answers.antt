@@ -1,5 +1,5 @@
-use Rattle.gf_form.proofs.Common.{List, ℕ, subst, sym, OnOk, HasValuesBy, ArePayoffs, AreStrategies}
-use Rattle.gf_form.proofs.Common.{choices_by}
+use Rattle.gf_form.proofs.Common.{List, ℕ, subst, sym, OnOk, HasValuesWith, ArePayoffs}
+use Rattle.gf_form.proofs.Common.{AreStrategies, choices_by}
 use Rattle.std.specs.Prelude.{IfOk}
 use Rattle.gf_form.proofs.lemmas.strategies.PickedProfiles.{are_strategies}
 use Rattle.gf_form.proofs.rows.written.row_by_walk.Goals as goal
@@ -21,13 +21,14 @@ returns-clause-payoffs c =
 pub returns-clause-values : goal.returns-clause-values
 returns-clause-values c =
     let g = c.args.game.now in
-    subst (λ (all : List (List ℕ)). OnOk c.expected_with.result (HasValuesBy g (choices_by g all)))
+    subst (λ (all : List (List ℕ)).
+    OnOk c.expected_with.result (HasValuesWith g (choices_by g all)))
     c.requires.strategies
     c.expected_with.ensures.values
 
 pub returns-clause-overflow : goal.returns-clause-overflow
 returns-clause-overflow c h =
     let g = c.args.game.now in
-    subst (λ (all : List (List ℕ)). HasValuesBy g (choices_by g all) → ⊥)
+    subst (λ (all : List (List ℕ)). HasValuesWith g (choices_by g all) → ⊥)
     c.requires.strategies
     (c.expected_with.ensures.overflow h)

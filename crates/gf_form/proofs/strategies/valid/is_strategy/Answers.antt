@@ -8,7 +8,7 @@ ne_zero zero h = absurd (h refl)
 ne_zero (suc n) h = omega arith
 
 pub returns : goal.returns
-returns c = (λ _. grind (arith, choice_by_places, length-map), λ _. refl)
+returns c = grind (arith, choice_by_places, length-map)
 
 pub returns-then-action-eq0 : goal.returns-then-action-eq0
 returns-then-action-eq0 c = (

@@ -1,8 +1,7 @@
 use Rattle.gf_form.proofs.Common.{suc, [], arith, map, append-nil, code_left, choices_by}
 use Rattle.gf_form.proofs.Common.{length-map}
 use Rattle.gf_form.specs.declared.fault.EvalFault.TheVariants.{Overflow}
-use Rattle.gf_form.proofs.lemmas.values.ProgramRuns.{code_runs}
-use Rattle.gf_form.proofs.lemmas.values.Stacks.{enough, same_fault}
+use Rattle.gf_form.proofs.lemmas.values.Stacks.{code_runs, enough, same_fault}
 use Rattle.gf_form.proofs.values.evaluate.evaluate.Goals as goal
 
 pub loop-walk-init : goal.loop-walk-init
@@ -32,7 +31,7 @@ pub pop-requires : goal.pop-requires
 pop-requires c = grind (arith, length-map, c.loop-walk.invariant.1 0)
 
 pub returns-clause-row : goal.returns-clause-row
-returns-clause-row c = (rw c.pop.ensures at c.loop-walk.invariant.0).0
+returns-clause-row c = grind (arith, c.pop.ensures)
 
 pub returns-clause-values : goal.returns-clause-values
 returns-clause-values c = grind (arith, c.pop.ensures)

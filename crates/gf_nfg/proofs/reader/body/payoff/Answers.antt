@@ -1,22 +1,16 @@
-use Rattle.gf_nfg.proofs.Common.{arith, rules, ◌-◌, at, AfterBracedPayoff, FlatPayoffs}
-use Rattle.gf_nfg.proofs.Common.{content_told, with_payoff}
+use Rattle.gf_nfg.proofs.Common.{rules, ◌-◌, ◌++◌, [], ◌∷◌, ◌∙◌, at, AfterBracedPayoff, FlatPayoffs}
+use Rattle.gf_nfg.proofs.Common.{content_told, told_of}
 use Rattle.gf_nfg.proofs.lemmas.places.Judged.{wants_memory}
 use Rattle.gf_nfg.proofs.reader.body.payoff.Goals as goal
 
-pub returns-in-Ok-payoff-clause-flat : goal.returns-in-Ok-payoff-clause-flat
-returns-in-Ok-payoff-clause-flat g c = grind arith
-
-pub returns-in-Ok-payoff-clause-braced : goal.returns-in-Ok-payoff-clause-braced
-returns-in-Ok-payoff-clause-braced g c = grind arith
-
 pub returns-in_default-payoff-clause-flat : goal.returns-in_default-payoff-clause-flat
-returns-in_default-payoff-clause-flat g c = λ untold told due some holding.
-    wants_memory c.in-Some.ensures.place c.at.ensures
-    (at FlatPayoffs (due - 1) 0 0 (content_told (with_payoff told c.in-Ok.payoff)))
-    (search rules)
+returns-in_default-payoff-clause-flat g c = λ b due some h.
+    wants_memory c.in-Some.ensures.place c.at.ensures (at FlatPayoffs (due - 1) 0 0
+    (content_told (told_of b (h.payoffs ++ c.in-Ok.payoff ∷ []) h.numbers)))
+    (h.goes ∙ search rules)
 
 pub returns-in_default-payoff-clause-braced : goal.returns-in_default-payoff-clause-braced
-returns-in_default-payoff-clause-braced g c = λ untold told due outcomes some holding.
-    wants_memory c.in-Some.ensures.place c.at.ensures
-    (at AfterBracedPayoff (due - 1) 0 outcomes (content_told (with_payoff told c.in-Ok.payoff)))
-    (search rules)
+returns-in_default-payoff-clause-braced g c = λ b due outcomes some h.
+    wants_memory c.in-Some.ensures.place c.at.ensures (at AfterBracedPayoff (due - 1) 0 outcomes
+    (content_told (told_of b (h.payoffs ++ c.in-Ok.payoff ∷ []) h.numbers)))
+    (h.goes ∙ search rules)

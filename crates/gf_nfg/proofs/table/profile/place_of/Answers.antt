@@ -1,18 +1,29 @@
-use Rattle.gf_nfg.proofs.Common.{◌∙◌, arith}
-use Rattle.gf_nfg.proofs.lemmas.tables.Places.{player_before, strategy_out, strategy_fits}
+use Rattle.gf_nfg.proofs.Common.{◌∙◌, ◌-◌, arith}
+use Rattle.gf_nfg.proofs.lemmas.tables.Places.{AtPlayer, player_before, strategy_fits, strategy_in}
+use Rattle.gf_nfg.proofs.lemmas.tables.Places.{strategy_out}
+use Rattle.gf_nfg.proofs.table.profile.place_of.Goals.{After-strategies-count}
 use Rattle.gf_nfg.proofs.table.profile.place_of.Goals as goal
 
-pub returns-then-strategy-eq0 : goal.returns-then-strategy-eq0
-returns-then-strategy-eq0 c = grind (arith, player_before, strategy_out, c.then-strategy-eq0.either)
-
-pub overflow_mul-place : goal.overflow_mul-place
-overflow_mul-place c =
-    let player = player_before {names = c.args.names.now} c.requires.one_list_each
+player : (c : After-strategies-count) → AtPlayer c.args.names.now c.args.profile.now
+    (c.loop-at.at - 1) c.loop-at.place c.strategies-count.result
+player c = player_before {names = c.args.names.now} c.requires.one_list_each
     c.requires.some_strategy c.requires.within
     (c.if-profile-players.false ∙ c.players-players.ensures.players)
     (omega (arith, c.loop-at-test.true))
     (omega (arith, c.loop-at.auto.at, c.players-players.ensures.players))
-    c.loop-at.invariant c.strategies-count.ensures in
-    let fits = strategy_fits player (omega (arith, c.if-strategy-eq0.false))
-    c.if-strategy-count.false in
+    c.loop-at.invariant c.strategies-count.ensures
+
+pub returns-then-strategy-eq0 : goal.returns-then-strategy-eq0
+returns-then-strategy-eq0 c =
+    strategy_out (player (goal.at.returns-then-strategy-eq0 c).After-strategies-count)
+    c.then-strategy-eq0.either
+
+pub overflow_mul-place : goal.overflow_mul-place
+overflow_mul-place c =
+    let fits = strategy_fits (player (goal.at.overflow_mul-place c).After-strategies-count)
+    (omega (arith, c.if-strategy-eq0.false)) c.if-strategy-count.false in
     omega (arith, fits)
+
+pub loop-at-preserved : goal.loop-at-preserved
+loop-at-preserved c = strategy_in (player (goal.at.loop-at-preserved c).After-strategies-count)
+    (omega (arith, c.if-strategy-eq0.false)) c.if-strategy-count.false

@@ -1,22 +1,17 @@
-use Rattle.gf_nfg.proofs.Common.{◌<◌, ◌∙◌, ◌++◌, ap, subst, sym, ℕ, List, AllByRecursion, kept_row}
-use Rattle.gf_nfg.proofs.Common.{lines_with}
-use Rattle.gf_nfg.proofs.lemmas.texts.SharedLines.{lines_chosen, lines_counted}
+use Rattle.gf_nfg.proofs.Common.{◌∙◌, ◌++◌, ap, ℕ, List, kept_row, lines_with}
+use Rattle.gf_nfg.proofs.lemmas.texts.SharedLines.{lines_chosen, numbers_within}
 use Rattle.gf_nfg.proofs.text.lines.write_shared.Goals as goal
 
 pub reserve-requires : goal.reserve-requires
 reserve-requires c =
     let s = c.args.shared in
-    let row = kept_row s.players s.payoffs.now s.zeros.now in
-    let size = lines_counted row s.rows c.in_ok-lines.lines c.in_ok-lines.ensures in
-    subst (λ (n : ℕ). AllByRecursion (λ number. number < n) s.numbers.now) (sym size)
+    numbers_within (kept_row s.players s.payoffs.now s.zeros.now) _ _ _ c.in_ok-lines.ensures
     c.requires.below
 
 pub append-requires-clause-below : goal.append-requires-clause-below
 append-requires-clause-below c =
     let s = c.args.shared in
-    let row = kept_row s.players s.payoffs.now s.zeros.now in
-    let size = lines_counted row s.rows c.in_ok-lines.lines c.in_ok-lines.ensures in
-    subst (λ (n : ℕ). AllByRecursion (λ number. number < n) s.numbers.now) (sym size)
+    numbers_within (kept_row s.players s.payoffs.now s.zeros.now) _ _ _ c.in_ok-lines.ensures
     c.requires.below
 
 pub returns-clause-text : goal.returns-clause-text

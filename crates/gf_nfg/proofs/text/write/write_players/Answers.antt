@@ -1,5 +1,5 @@
-use Rattle.gf_nfg.proofs.Common.{◌++◌, arith, label_of, quoted}
-use Rattle.gf_nfg.proofs.lemmas.texts.Pieces.{item_written, kept_twice, list_closed, rest_text}
+use Rattle.gf_nfg.proofs.Common.{◌++◌, label_of, quoted}
+use Rattle.gf_nfg.proofs.lemmas.texts.Pieces.{item_written, kept_twice, rest_text}
 use Rattle.gf_nfg.proofs.text.write.write_players.Goals as goal
 
 pub loop-at-preserved : goal.loop-at-preserved
@@ -13,6 +13,3 @@ loop-at-preserved c = (
       c.push.new.self.items _ _ c.in_ok-write_label.ensures.ok c.in_ok-push.ensures.items
       c.loop-at.invariant.1,
 )
-
-pub returns-clause-text : goal.returns-clause-text
-returns-clause-text c = grind (arith, list_closed)

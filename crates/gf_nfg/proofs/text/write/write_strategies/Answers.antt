@@ -1,6 +1,6 @@
 use Rattle.gf_nfg.proofs.Common.{◌++◌, arith, map, List, ℕ, own_of, list_text, quoted}
-use Rattle.gf_nfg.proofs.lemmas.texts.Pieces.{item_written, kept_twice, list_closed, own_there}
-use Rattle.gf_nfg.proofs.lemmas.texts.Pieces.{rest_text}
+use Rattle.gf_nfg.proofs.lemmas.texts.Pieces.{item_written, kept_twice, rest_text}
+use Rattle.gf_nfg.proofs.lemmas.tables.Strategies.{own_there}
 use Rattle.gf_nfg.proofs.text.write.write_strategies.Goals as goal
 
 pub loop-at-preserved : goal.loop-at-preserved
@@ -20,6 +20,3 @@ loop-at-preserved c =
           c.push.new.self.items _ _ c.in_ok-write_own.ensures.text c.in_ok-push.ensures.items
           c.loop-at.invariant.1,
     )
-
-pub returns-clause-text : goal.returns-clause-text
-returns-clause-text c = grind (arith, list_closed)

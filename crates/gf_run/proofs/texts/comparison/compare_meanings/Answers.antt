@@ -6,8 +6,8 @@ pub returns-then-branch-clause-text : goal.returns-then-branch-clause-text
 returns-then-branch-clause-text c =
     let says = c.in_ok-pairs_between.ensures in
     let told = says.told c.if-branch.true c.in_ok-lines.ensures in
-    rw c.of.ensures (same_text (file_of c.args.a.now) (file_of c.args.b.now) _
-    (says.same.0 c.if-branch.true) told.0 told.1 told.2)
+    rw (c.of-then-branch.ensures, c.of.ensures) (same_text (file_of c.args.a.now)
+    (file_of c.args.b.now) _ (says.same.0 c.if-branch.true) told.0 told.1 told.2)
 
 pub returns-else-branch-clause-same : goal.returns-else-branch-clause-same
 returns-else-branch-clause-same c = differs (file_of c.args.a.now) (file_of c.args.b.now) _ _

@@ -1,12 +1,12 @@
-use Rattle.gf_tree.proofs.Common.{Some, ap, arith, refl, rules, sym, label_of, outcome_with}
+use Rattle.gf_tree.proofs.Common.{Some, ap, arith, length, refl, rules, sym, label_of, outcome_with}
 use Rattle.gf_tree.proofs.Common.{with_node, with_outcome, NodeDue, begun_with, content_of, Reader}
 use Rattle.gf_tree.proofs.lemmas.reader.Steps.{wants_memory}
-use Rattle.gf_tree.proofs.lemmas.reader.Telling.{grows_same, tells}
+use Rattle.gf_tree.proofs.lemmas.reader.Telling.{grows_same, reads_none, shorter_by, tells}
 use Rattle.gf_tree.proofs.reader.Reader.end_outcome.Goals as goal
 
-pub returns-in_default-keep_outcome-clause-machine :
-    goal.returns-in_default-keep_outcome-clause-machine
-returns-in_default-keep_outcome-clause-machine g c =
+pub returns-in_default-keep_outcome :
+    goal.returns-in_default-keep_outcome
+returns-in_default-keep_outcome g c =
     wants_memory c.in-Some.ensures.place c.at.ensures NodeDue
     (with_node (with_outcome (content_of c.args.self.now) c.args.number
     (outcome_with (label_of c.args.name) c.args.self.now.outcomes.pending))
@@ -14,8 +14,8 @@ returns-in_default-keep_outcome-clause-machine g c =
     (Some c.args.number))
     (search rules)
 
-pub returns-in_default-tell-clause-machine : goal.returns-in_default-tell-clause-machine
-returns-in_default-tell-clause-machine g c =
+pub returns-in_default-tell : goal.returns-in_default-tell
+returns-in_default-tell g c =
     wants_memory c.in-Some.ensures.place c.at-in_default-tell.ensures NodeDue
     (with_node (with_outcome (content_of c.args.self.now) c.args.number
     (outcome_with (label_of c.args.name) c.args.self.now.outcomes.pending))
@@ -23,11 +23,16 @@ returns-in_default-tell-clause-machine g c =
     (Some c.args.number))
     (search rules)
 
-pub returns-clause-machine : goal.returns-clause-machine
-returns-clause-machine g c =
+pub returns : goal.returns
+returns g c =
     let kept = c.in-Ok.ensures.kept in
-    tells NodeDue (ap (λ (r : Reader). r.told_sets) kept)
+    tells NodeDue {old = c.args.self.now} (ap (λ (r : Reader). r.told_sets) kept)
     (ap (λ (r : Reader). r.told_outcomes) kept)
     (grows_same (sym (ap (λ (r : Reader). r.sets.known) kept))) c.in-Ok.ensures.grows
     (record { set = search rules; outcome = omega (arith, c.in-Ok.ensures.place) })
-    c.in-Ok-tell.ensures.told (search rules) refl refl
+    c.in-Ok-tell.ensures (search rules) reads_none refl (ap (λ (r : Reader). r.due) kept)
+    (omega (
+      arith,
+      shorter_by c.in-Some.ensures.next,
+      ap (λ (r : Reader). length r.tokens.ahead) kept,
+    ))

@@ -3,8 +3,8 @@ use Rattle.gf_tree.proofs.Common.{NewPayoff, answer, begun_with}
 use Rattle.gf_tree.proofs.lemmas.reader.Steps.{carried, fails_back}
 use Rattle.gf_tree.proofs.reader.Reader.new_outcome.Goals as goal
 
-pub returns-in_err-payoff-clause-machine : goal.returns-in_err-payoff-clause-machine
-returns-in_err-payoff-clause-machine g c =
+pub returns-in_err-payoff : goal.returns-in_err-payoff
+returns-in_err-payoff g c =
     let some = c.loop-left-test.true in
     let more : c.loop-left.left ≡ suc (c.loop-left.left - 1) = omega (arith, some) in
     fails_back {r = c.from_residual.result} _ (search rules)

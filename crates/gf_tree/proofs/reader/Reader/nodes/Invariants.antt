@@ -1,5 +1,5 @@
+use Rattle.std.specs.Prelude.{◌+◌, ◌*◌, ◌^◌, ◌<◌}
 use Rattle.gf_tree.proofs.Common.{[], length, NodeDue, answer, HasRead, heading_read}
-use Rattle.gf_tree.specs.inner.ReaderState.{HasRoom}
 use Rattle.gf_tree.proofs.reader.Reader.nodes.Given as goal
 
 abbrev pub invariant-loop-self : goal.invariant-loop-self
@@ -7,7 +7,8 @@ invariant-loop-self g l = record {
   read : (untold : g.row.R.Denot) → g.R.Receive.holds untold l.fn.to (heading_read l.fn.self) []
       → HasRead (λ r told. g.R.Receive.holds untold r (heading_read l.fn.self) told)
       (answer NodeDue l.fn.self) NodeDue l.self l.to;
-  room : HasRoom 0 l.self;
+  -- even if each token to come is a node with as many children as a set can have actions
+  room : l.self.due + length l.self.tokens.ahead * 18446744073709551616 < 2 ^ 128;
 }
 
 abbrev pub decreases-loop-self : goal.decreases-loop-self

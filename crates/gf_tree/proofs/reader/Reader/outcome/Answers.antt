@@ -3,25 +3,26 @@ use Rattle.gf_tree.proofs.Common.{is_quoted, starts, Reader, with_node, KnownOut
 use Rattle.gf_tree.proofs.Common.{begun_with, content_of}
 use Rattle.gf_tree.proofs.lemmas.reader.Steps.{wants_memory}
 use Rattle.gf_tree.proofs.lemmas.stores.PassedBy.{outcome_passed_by}
-use Rattle.gf_tree.proofs.lemmas.reader.Telling.{grows_none, tells}
+use Rattle.gf_tree.specs.inner.ReaderState.{with_children}
+use Rattle.gf_tree.proofs.lemmas.reader.Telling.{grows_none, reads_none, shorter_by, tells}
 use Rattle.gf_tree.proofs.reader.Reader.outcome.Goals as goal
 
-pub returns-in_default-tell-clause-machine : goal.returns-in_default-tell-clause-machine
-returns-in_default-tell-clause-machine g c =
+pub returns-in_default-tell : goal.returns-in_default-tell
+returns-in_default-tell g c =
     wants_memory c.in-Some.ensures.place c.at-in_default-tell.ensures NodeDue
     (with_node (content_of c.args.self.now)
     (begun_with c.args.self.now.sets.known (label_of c.args.node) c.args.set) None)
     (search rules)
 
-pub returns-then-number-eq0-clause-machine : goal.returns-then-number-eq0-clause-machine
-returns-then-number-eq0-clause-machine g c =
+pub returns-then-number-eq0 : goal.returns-then-number-eq0
+returns-then-number-eq0 g c =
     tells NodeDue {old = c.args.self.now} {r = record c.args.self.now { tokens = c.index.new.self }}
     refl refl (grows_none c.args.self.now.sets.known) (grows_none c.args.self.now.outcomes.known)
     (record { set = c.requires.set; outcome = omega arith })
-    c.in-Ok.ensures.told (search rules) refl refl
+    c.in-Ok.ensures (search rules) reads_none refl refl (shorter_by c.in-Some.ensures.next)
 
-pub returns-in_default-tell-2-clause-machine : goal.returns-in_default-tell-2-clause-machine
-returns-in_default-tell-2-clause-machine g c =
+pub returns-in_default-tell-2 : goal.returns-in_default-tell-2
+returns-in_default-tell-2 g c =
     wants_memory c.in-Some.ensures.place c.at-in_default-tell-2.ensures
     (KnownOutcomeName c.in-Some-known_outcome.ensures.known.outcome)
     (with_node (content_of c.args.self.now)
@@ -29,10 +30,10 @@ returns-in_default-tell-2-clause-machine g c =
     (Some c.in-Some-index.number))
     (search rules)
 
-pub returns-clause-machine : goal.returns-clause-machine
-returns-clause-machine g c =
+pub returns : goal.returns
+returns g c =
     let known = c.in-Some-known_outcome.ensures.known in
-    let told = c.in-Ok-tell.ensures.told in
+    let told = c.in-Ok-tell.ensures in
     let now = c.tell-2.new.self in
     let same : now.tokens ≡ c.index.new.self = ap (λ (r : Reader). r.tokens) told.kept in
     let none : starts is_quoted now.tokens.ahead ≡ false =
@@ -41,5 +42,6 @@ returns-clause-machine g c =
     {r = record c.args.self.now { tokens = c.index.new.self }}
     refl refl (grows_none c.args.self.now.sets.known) (grows_none c.args.self.now.outcomes.known)
     (record { set = c.requires.set; outcome = known.within })
-    told (search rules) refl
-    (outcome_passed_by (content_of now) known.outcome now.tokens.input now.tokens.ahead none)
+    told (search rules) reads_none (outcome_passed_by
+    (content_of (with_children now c.args.set)) known.outcome now.tokens.input now.tokens.ahead
+    none) refl (shorter_by c.in-Some.ensures.next)

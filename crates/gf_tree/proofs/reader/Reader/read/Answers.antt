@@ -1,4 +1,4 @@
-use Rattle.gf_tree.proofs.Common.{◌∙◌, ap, rules, KnownOutcomes, Content, KnownSets}
+use Rattle.gf_tree.proofs.Common.{◌∙◌, ap, rules, Content, Reader}
 use Rattle.gf_tree.proofs.lemmas.reader.Steps.{carried, fails_back, heard_begun}
 use Rattle.gf_tree.proofs.lemmas.reader.ToldGames.{read_whole}
 use Rattle.gf_tree.proofs.reader.Reader.read.Goals as goal
@@ -41,7 +41,7 @@ returns-in_err-nodes r c =
 pub returns : goal.returns
 returns r c =
     let n = c.new-reader.ensures in
-    let u = c.in_ok-last.ensures.unknown in
+    let read = c.in_ok-last.ensures.read.0 in
     record {
       tokens = c.new-reader.result.tokens.ahead;
       spelled = n.spelled;
@@ -50,8 +50,8 @@ returns r c =
           (record {
             goes = heard_begun c.new-reader.result c.args.input.now n.input n.content
                 ∙ c.in_ok-last.ensures.machine;
-            sets = ap (λ (k : KnownSets). k.known) u.0 ∙ ap (λ (d : Content). d.sets) n.content;
-            outcomes = ap (λ (k : KnownOutcomes). k.known) u.1
+            sets = ap (λ (k : Reader). k.sets.known) read ∙ ap (λ (d : Content). d.sets) n.content;
+            outcomes = ap (λ (k : Reader). k.outcomes.known) read
                 ∙ ap (λ (d : Content). d.outcomes) n.content;
           }) (c.in_ok-nodes.ensures.machine c.args.to.now c.in_ok-tell_heading.ensures);
     }

@@ -15,7 +15,7 @@ pub push_all-requires-in_default-clause-firsts
     : goal.push_all-requires-in_default-clause-firsts
 push_all-requires-in_default-clause-firsts t c =
     let met = c.mark.new.met.items in
-    let wide = c.in_ok-mark.ensures.counted ∙ c.requires.below.told.levelled.has.counted in
+    let wide = c.in_ok-mark.ensures.counted ∙ c.requires.below.told.levelled.counted in
     last_firsts _ c.requires.is_game _ _ c.requires.below.all_are _ _ _ _ _
     c.requires.below met c.in_ok-mark.ensures.marks
     (no_digits _ c.in_default.ensures.cases)
@@ -30,7 +30,7 @@ push_all-requires-in_default-clause-firsts t c =
 pub returns-then-not-are_set : goal.returns-then-not-are_set
 returns-then-not-are_set t c =
     let met = c.mark.new.met.items in
-    let wide = c.in_ok-mark.ensures.counted ∙ c.requires.below.told.levelled.has.counted in
+    let wide = c.in_ok-mark.ensures.counted ∙ c.requires.below.told.levelled.counted in
     let shut = (rw c.deref-2.ensures.value at c.are_set-2.ensures.unset) c.if-not-are_set.true in
     let early : shut.0 < c.args.depth =
     omega (
@@ -45,15 +45,10 @@ returns-then-not-are_set t c =
     }
 
 pub nonzero_div-each : goal.nonzero_div-each
-nonzero_div-each t c =
-    let below = rw c.in-Some.ensures.cases.0 at c.requires.below in
-    some_actions below.choices
+nonzero_div-each t c = grind (arith, some_actions)
 
 pub choose_at-requires-clause-fits : goal.choose_at-requires-clause-fits
-choose_at-requires-clause-fits t c =
-    let below = rw c.in-Some.ensures.cases.0 at c.requires.below in
-    rw c.from.ensures (step_fits below.choices (c.loop-before.before + 1)
-    (omega (arith, c.loop-before-test.true, c.actions_tried-tried.ensures.upto)))
+choose_at-requires-clause-fits t c = grind (arith, step_fits)
 
 pub push_below-requires : goal.push_below-requires
 push_below-requires t c =
@@ -65,7 +60,7 @@ push_below-requires t c =
         (
           next_searched below c.loop-before.before
               (omega (arith, c.loop-before-test.true, c.actions_tried-tried.ensures.upto)) left
-              (subst (λ (sets : ℕ). IsLevel sets left) c.requires.below.told.levelled.has.counted
+              (subst (λ (sets : ℕ). IsLevel sets left) c.requires.below.told.levelled.counted
               c.in_ok-choose_at.ensures.level)
               (subst (λ (a : ℕ). IsChosenAt c.args.depth c.in-Some.digit.now.step a
               c.args.level.now left) c.from.ensures c.in_ok-choose_at.ensures.chosen),
@@ -73,13 +68,6 @@ push_below-requires t c =
         ),
       ),
     )
-
-pub loop-before-init : goal.loop-before-init
-loop-before-init t c =
-    let none : c.args.number ≡ c.args.number + 0 * (c.args.count / c.in-Some.digit.now.actions)
-    = omega arith in
-    subst (AreFoundTo c.args.player.now.game.now c.args.player.now.number
-    c.args.self.now.numbers.items) none c.requires.found
 
 pub loop-before-preserved : goal.loop-before-preserved
 loop-before-preserved t c =

@@ -12,5 +12,6 @@ returns-clause-left c =
     ∙ take-length (drop start visits) in
     on_ok_weaker _ (parts_added c.args.step c.args.action visits _ _ _ _
     c.count_below-free.ensures c.count_below-start.ensures rest_is c.count_below-count.ensures
-    c.args.self.now c.add_left.new.self c.add_left-2.new.self c.in_ok-add_left.ensures.left)
+    c.args.self.now c.add_left.new.self c.add_left-2.new.self c.in_ok-add_left.ensures.counted
+    c.in_ok-add_left.ensures.left)
     c.add_left-2.ensures.left

@@ -1,14 +1,9 @@
-use Rattle.gf_form.proofs.Common.{◌≡◌, ℕ, ap, arith, length, subst, IsLevel}
+use Rattle.gf_form.proofs.Common.{◌≡◌, ap, arith}
 use Rattle.gf_form.proofs.lemmas.reduced.LevelsChosen.{chosen_by}
 use Rattle.gf_form.proofs.reduced.level.Level.choose.Goals as goal
 
 known_is : (c : goal.After-sort) → c.extend_from_slice.new.self.items ≡ c.args.from.now.known.items
 known_is c = grind arith
-
-pub returns-clause-level : goal.returns-clause-level
-returns-clause-level c =
-    subst (λ (sets : ℕ). IsLevel sets c.sort.new.self) (ap length (known_is c))
-    (c.sort.ensures.level _ c.in_ok-add_chosen.ensures.sets)
 
 pub returns-clause-chosen : goal.returns-clause-chosen
 returns-clause-chosen c =

@@ -1,5 +1,5 @@
-use Rattle.gf_form.proofs.Common.{◌∙◌, ap, sym, tree_of, game_of, Open}
-use Rattle.gf_form.proofs.lemmas.reduced.Surveys.{entered}
+use Rattle.gf_form.proofs.Common.{◌∙◌, ◌-◌, ap, sym, tree_of, game_of, player_keys, Open}
+use Rattle.gf_form.proofs.lemmas.reduced.Surveys.{entered, place_there}
 use Rattle.gf_form.proofs.reduced.survey.Survey.enter.Goals as goal
 
 abbrev node : goal.In_ok-push → Open
@@ -16,7 +16,9 @@ returns-clause-found c =
     let met = c.in_ok-step.ensures in
     entered (game_of c.args.branch) c.in-Some.ensures.is_game c.args.owner.now c.args.self.now
     (record { visits = c.meet.new.self.visits; nodes = c.push.new.self })
-    (tree_of c.args.branch) m.0 c.in-Some.mover.1 (node c) m.1 (cc (m.2, m.3))
+    (tree_of c.args.branch) m.0 (c.in-Some.mover.1 - 1) (node c) m.1
+    (place_there (player_keys (game_of c.args.branch) m.0.player) c.in-Some.mover.1 m.0
+    (cc (m.2, m.3)))
     (λ his. met.own (sym m.2 ∙ his))
     (λ other. let same = met.other (λ e. other (m.2 ∙ e)) in (ap (λ vs. vs.items) same.0, same.1))
     (cc (c.in_ok-push.ensures.items, met.nodes))

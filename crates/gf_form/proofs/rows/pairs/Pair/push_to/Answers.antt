@@ -1,7 +1,7 @@
-use Rattle.gf_form.proofs.Common.{◌≡◌, ◌∙◌, ◌+ℤ◌, ◌*ℤ◌, ℤ, of_z, pos, subst, to_z, w128}
-use Rattle.gf_form.proofs.Common.{fits_signed_from_abs, to_z-of_z, HasValue, pair_number}
+use Rattle.gf_form.proofs.Common.{◌≡◌, ◌∙◌, ◌+ℤ◌, ◌*ℤ◌, ℤ, pos, subst, w128}
+use Rattle.gf_form.proofs.Common.{to_z-of_z, HasValue, pair_number}
 use Rattle.gf_form.specs.inner.rows.Pairs.{IsPairAt}
-use Rattle.gf_form.proofs.lemmas.rows.ItemRows.{no_item, one_item}
+use Rattle.gf_form.proofs.lemmas.rows.ItemRows.{in_bits, no_item, one_item}
 use Rattle.gf_form.proofs.rows.pairs.Pair.push_to.Goals as goal
 
 pub loop-place-init : goal.loop-place-init
@@ -17,15 +17,17 @@ loop-place-preserved c =
     let second =
     to_z-of_z w128 c.number_at-second.result (record { sfits = c.number_at-second.type_inv })
     ∙ c.number_at-second.ensures in
-    let whole : to_z w128 (of_z w128 number) ≡ number =
-    to_z-of_z w128 number (fits_signed_from_abs w128 number c.in-Some.ensures.within) in
+    let whole = in_bits number c.in-Some.ensures.within in
     let is : number ≡ pair_number pair c.loop-place.place =
     c.in-Some.ensures.sum
     ∙ (λ i. first i *ℤ pos pair.scale.first +ℤ second i *ℤ pos pair.scale.second) in
     one_item (IsPairAt pair) (IsPairAt pair) c.loop-place.place c.args.rows.now.items
-    c.loop-place.rows.items c.push.new.self.items c.over.result c.in_ok-push.ensures.items
+    c.loop-place.rows.items c.push.new.self.items c.lowest.result c.in_ok-push.ensures.items
     (λ k f h. h) (
-      c.over.ensures.fraction,
-      subst (λ (z : ℤ). HasValue c.over.result z pair.scale.den) (whole ∙ is) c.over.ensures.value,
+      c.lowest.ensures.fraction,
+      subst (λ den. HasValue c.lowest.result (pair_number pair c.loop-place.place) den)
+          c.put.ensures
+          (subst (λ (z : ℤ). HasValue c.lowest.result z c.put.new.shared) (whole ∙ is)
+          c.lowest.ensures.value),
     )
     c.loop-place.invariant

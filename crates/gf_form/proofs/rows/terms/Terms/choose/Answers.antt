@@ -1,29 +1,27 @@
 use Rattle.gf_form.proofs.Common.{◌+◌, ◌*◌, ◌<◌, ◌^◌, ℕ, List, subst, sym, AreChosen, AreMerged}
-use Rattle.gf_form.proofs.Common.{entries, actions_at}
+use Rattle.gf_form.proofs.Common.{entries}
 use Rattle.gf_form.proofs.lemmas.rows.SettledRows.{settled_next, some_stride, step_within}
-use Rattle.gf_form.proofs.lemmas.rows.SettledRows.{stride_is}
+use Rattle.gf_form.proofs.lemmas.rows.SettledRows.{stride_product}
 use Rattle.gf_form.proofs.rows.terms.Terms.choose.Goals as goal
 
-pub nonzero_div-before : goal.nonzero_div-before
-nonzero_div-before c =
-    some_stride c.args.asked.now c.args.slowest.actions (actions_at c.args.faster.now)
-    c.args.terms.now c.args.run c.requires.some c.requires.count c.requires.settles
+pub part_of-before-requires : goal.part_of-before-requires
+part_of-before-requires c =
+    some_stride c.args.asked.now c.args.run c.requires.some c.requires.count c.requires.settles
+    c.divided-count.ensures
 
 pub next-chosen-requires-clause-fits : goal.next-chosen-requires-clause-fits
 next-chosen-requires-clause-fits c =
     let step = c.args.slowest.step in
     subst (λ (n : ℕ). (n + 1) * step + step < 2 ^ 64) (sym c.from-action.ensures)
-    (step_within c.args.asked.now c.args.slowest.actions (actions_at c.args.faster.now)
-    c.args.terms.now c.args.run c.requires.some c.requires.count c.requires.settles
-    step c.requires.spans)
+    (step_within c.args.asked.now c.args.run c.requires.some c.requires.count c.requires.settles
+    c.divided-count.ensures c.part_of-before.ensures step c.requires.spans)
 
 pub merge-requires-clause-within : goal.merge-requires-clause-within
 merge-requires-clause-within c =
     let step = c.args.slowest.step in
     subst (λ (n : ℕ). (n + 1) * step + step < 2 ^ 64) (sym c.from-action.ensures)
-    (step_within c.args.asked.now c.args.slowest.actions (actions_at c.args.faster.now)
-    c.args.terms.now c.args.run c.requires.some c.requires.count c.requires.settles
-    step c.requires.spans)
+    (step_within c.args.asked.now c.args.run c.requires.some c.requires.count c.requires.settles
+    c.divided-count.ensures c.part_of-before.ensures step c.requires.spans)
 
 pub merge-requires-clause-chosen : goal.merge-requires-clause-chosen
 merge-requires-clause-chosen c =
@@ -32,14 +30,14 @@ merge-requires-clause-chosen c =
 
 pub returns-clause-count : goal.returns-clause-count
 returns-clause-count c =
-    stride_is c.args.asked.now c.args.slowest.actions (actions_at c.args.faster.now)
-    c.args.terms.now c.args.run c.requires.some c.requires.count c.requires.settles
+    stride_product c.args.asked.now c.args.run c.requires.some c.requires.count c.requires.settles
+    c.divided-count.ensures
 
 pub returns-clause-settles : goal.returns-clause-settles
 returns-clause-settles c =
-    settled_next c.args.asked.now c.args.slowest.actions (actions_at c.args.faster.now)
-    c.args.terms.now c.args.run c.requires.some c.requires.count c.requires.settles
-    c.args.slowest.step c.run_end-to.result c.merge.new.self c.requires.step
+    settled_next c.args.asked.now c.args.run c.requires.some c.requires.count c.requires.settles
+    c.divided-count.ensures c.part_of-before.ensures c.args.slowest.step c.run_end-to.result
+    c.merge.new.self c.requires.step
     (subst (λ (n : ℕ). AreMerged c.args.slowest.step (n + 1) (entries c.args.terms.now)
     (entries c.merge.new.self)) c.from-action.ensures c.in_ok-merge.ensures.merged)
     c.run_end-to.ensures.within c.run_end-to.ensures.run

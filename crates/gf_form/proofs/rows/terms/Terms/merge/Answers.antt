@@ -1,4 +1,4 @@
-use Rattle.gf_form.proofs.Common.{◌*◌, ◌∙◌, arith}
+use Rattle.gf_form.proofs.Common.{◌∙◌, arith}
 use Rattle.gf_form.proofs.lemmas.rows.FlatRows.{entry_demands}
 use Rattle.gf_form.proofs.lemmas.rows.Merges.{both_go, first_merge, free_goes, last_merge, own_goes}
 use Rattle.gf_form.proofs.lemmas.rows.Merges.{demands_read}
@@ -15,23 +15,14 @@ overflow_sub-goes c = grind (arith, demands_read)
 
 pub loop-free-preserved-then-stays-goes : goal.loop-free-preserved-then-stays-goes
 loop-free-preserved-then-stays-goes c =
-    let inv = c.loop-free.invariant in
-    both_go c.args.from.now c.args.step c.args.action (c.args.action * c.args.step)
-    c.args.chosen.free c.args.chosen.end
-    c.loop-free.free c.loop-free.own c.loop-free.self c.push_sum.new.self c.requires.ordered inv
-    c.in_ok-push_sum.ensures.alike c.in_ok-push_sum.ensures.shaped c.loop-free-test.true
-    c.if-own-chosen.true
-    (grind (arith, demands_read))
-    c.in_ok-push_sum.ensures.sum
+    both_go c.requires.ordered c.loop-free.invariant c.in_ok-push_sum.ensures.alike
+    c.in_ok-push_sum.ensures.shaped c.loop-free-test.true c.if-own-chosen.true
+    (grind (arith, demands_read)) c.in_ok-push_sum.ensures.sum
 
 pub loop-free-preserved-then-stays-goes-2 : goal.loop-free-preserved-then-stays-goes-2
 loop-free-preserved-then-stays-goes-2 c =
-    let inv = c.loop-free.invariant in
-    free_goes c.args.from.now c.args.step c.args.action (c.args.action * c.args.step)
-    c.args.chosen.free c.args.chosen.end
-    c.loop-free.free c.loop-free.own c.loop-free.self c.push.new.self c.requires.ordered inv
-    c.in_ok-push.ensures.alike c.in_ok-push.ensures.shaped c.loop-free-test.true
-    (λ _. grind (arith, demands_read))
+    free_goes c.requires.ordered c.loop-free.invariant c.in_ok-push.ensures.alike
+    c.in_ok-push.ensures.shaped c.loop-free-test.true (λ _. grind (arith, demands_read))
     c.in_ok-push.ensures.pushed
 
 pub push-requires-else-stays-goes-2-clause-less : goal.push-requires-else-stays-goes-2-clause-less
@@ -39,26 +30,16 @@ push-requires-else-stays-goes-2-clause-less c = grind (arith, entry_demands)
 
 pub loop-free-preserved : goal.loop-free-preserved
 loop-free-preserved c =
-    let inv = c.loop-free.invariant in
-    own_goes c.args.from.now c.args.step c.args.action (c.args.action * c.args.step)
-    c.args.chosen.free c.args.chosen.end
-    c.loop-free.free c.loop-free.own c.loop-free.self c.push-else-stays-goes-2.new.self
-    c.requires.ordered inv c.in_ok-push-2.ensures.alike c.in_ok-push-2.ensures.shaped
-    c.if-own-chosen.true
-    (λ _. grind (arith, demands_read))
+    own_goes c.requires.ordered c.loop-free.invariant c.in_ok-push-2.ensures.alike
+    c.in_ok-push-2.ensures.shaped c.if-own-chosen.true (λ _. grind (arith, demands_read))
     c.in_ok-push-2.ensures.pushed
 
 pub loop-free-2-preserved : goal.loop-free-2-preserved
 loop-free-2-preserved c =
-    let inv = c.loop-free-2.invariant.0 in
     let past = c.loop-free-2.invariant.1 c.loop-free-2-test.true in (
-      free_goes c.args.from.now c.args.step c.args.action (c.args.action * c.args.step)
-          c.args.chosen.free c.args.chosen.end
-          c.loop-free-2.free c.loop-free.own c.loop-free-2.self c.push-in-loop-free-2.new.self
-          c.requires.ordered inv c.in_ok-push-3.ensures.alike c.in_ok-push-3.ensures.shaped
-          c.loop-free-2-test.true
-          (λ less. absurd (omega (arith, less, past)))
-          c.in_ok-push-3.ensures.pushed,
+      free_goes c.requires.ordered c.loop-free-2.invariant.0 c.in_ok-push-3.ensures.alike
+          c.in_ok-push-3.ensures.shaped c.loop-free-2-test.true
+          (λ less. absurd (omega (arith, less, past))) c.in_ok-push-3.ensures.pushed,
       λ _. past,
     )
 
@@ -67,18 +48,12 @@ push-requires-in-loop-own-clause-less c = grind (arith, entry_demands)
 
 pub loop-own-preserved : goal.loop-own-preserved
 loop-own-preserved c =
-    let inv = c.loop-own.invariant in
-    own_goes c.args.from.now c.args.step c.args.action (c.args.action * c.args.step)
-    c.args.chosen.free c.args.chosen.end
-    c.loop-free-2.free c.loop-own.own c.loop-own.self c.push-in-loop-own.new.self
-    c.requires.ordered inv c.in_ok-push-4.ensures.alike c.in_ok-push-4.ensures.shaped
-    c.loop-own-test.true
+    own_goes c.requires.ordered c.loop-own.invariant c.in_ok-push-4.ensures.alike
+    c.in_ok-push-4.ensures.shaped c.loop-own-test.true
     (λ less. absurd (omega (arith, less, c.loop-free-2-test.false)))
     c.in_ok-push-4.ensures.pushed
 
 pub returns-clause-merged : goal.returns-clause-merged
 returns-clause-merged c =
-    last_merge c.args.from.now c.args.step c.args.action (c.args.action * c.args.step)
-    c.args.chosen.free c.args.chosen.end
-    c.loop-free-2.free c.loop-own.own c.loop-own.self c.loop-own.invariant
-    c.loop-free-2-test.false c.loop-own-test.false
+    last_merge _ _ _ _ _ _ _ _ _ c.loop-own.invariant c.loop-free-2-test.false
+    c.loop-own-test.false

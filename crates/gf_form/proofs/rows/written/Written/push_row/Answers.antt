@@ -8,8 +8,8 @@ returns-then-branch-clause-written c =
     let more = c.in_ok-push_to.ensures.row c.if-branch.true in
     next_row asked c.requires.asked.counts.is_game c.requires.asked.spellable
     c.args.before c.args.players c.in-Some.pair c.args.self.now
-    (record c.args.self.now { rows = c.push_to.new.rows }) c.args.self.now.rows.items
-    c.push_to.new.rows.items c.requires.within c.requires.players
+    (record c.args.self.now { rows = c.push_to.new.rows; shared = c.push_to.new.kept })
+    c.args.self.now.rows.items c.push_to.new.rows.items c.requires.within c.requires.players
     (subst (λ o. IfSome o (IsPaidPair asked.game.now (get_or asked.numbers.now c.args.before 0)))
     c.in-Some.is c.requires.paid)
     more more.is refl c.requires.written

@@ -1,8 +1,7 @@
-use Rattle.gf_nfg.proofs.Common.{◌<◌, arith, ap, length, sym, subst, ◌∙◌, table_of, MeansTable}
+use Rattle.gf_nfg.proofs.Common.{◌<◌, arith, length}
 use Rattle.std.proofs.lemmas.List.{nil_from_length}
-use Rattle.gf_nfg.proofs.lemmas.tables.Listed.{in_turn_listed, in_turn_told, lacking, parts_told}
+use Rattle.gf_nfg.proofs.lemmas.tables.Listed.{in_turn_listed, in_turn_means, lacking, parts_told}
 use Rattle.gf_nfg.proofs.lemmas.tables.Listed.{some_is}
-use Rattle.gf_nfg.proofs.lemmas.tables.Told.{told_means}
 use Rattle.gf_nfg.proofs.table.listed.ListedTable.told.Goals as goal
 
 pub invariant_of-result : goal.invariant_of-result
@@ -15,17 +14,15 @@ pub returns-then-is_empty : goal.returns-then-is_empty
 returns-then-is_empty c = λ bytes h.
     let none = nil_from_length _
     (lacking _ _ _ c.is_empty.ensures c.if-is_empty.true c.args.listing.kept.numbers.ok.0) in
-    in_turn_told _ _ _ h _ c.in_ok-names.ensures none
+    in_turn_means _ _ _ h _ c.in_ok-names.ensures none
 
 pub into_table-requires : goal.into_table-requires
 into_table-requires c =
-    let some : 0 < length c.args.listing.kept.numbers.items = grind arith in (
-      c.requires.0,
-      subst (MeansTable c.requires.0) (parts_told _ _ _ c.requires.1 (some_is _ some))
-          (told_means _ _ _ _ c.requires.1),
-    )
+    let some : 0 < length c.args.listing.kept.numbers.items = grind arith in
+    (c.requires.0, parts_told _ _ _ c.requires.1 (some_is _ some))
 
 pub returns : goal.returns
 returns c = λ bytes h.
     let some : 0 < length c.args.listing.kept.numbers.items = grind arith in
-    c.in_ok-table.ensures ∙ ap table_of (sym (parts_told _ _ _ h (some_is _ some)))
+    let m = parts_told _ _ _ h (some_is _ some) in
+    rw c.in_ok-table.ensures (m.spelled, m.within)

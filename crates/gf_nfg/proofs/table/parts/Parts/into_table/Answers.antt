@@ -1,14 +1,7 @@
-use Rattle.gf_nfg.proofs.Common.{◌∙◌, length-map, label_of, table_with, content_of}
+use Rattle.gf_nfg.proofs.Common.{◌∙◌, table_with, content_of}
 use Rattle.gf_nfg.proofs.lemmas.tables.Meaning.{held}
 use Rattle.gf_nfg.proofs.lemmas.tables.Spelled.{spelled_is_spellable}
 use Rattle.gf_nfg.proofs.table.parts.Parts.into_table.Goals as goal
-
-pub names-requires : goal.names-requires
-names-requires c =
-    c.requires.1.complete.one_count_each ∙ length-map c.args.self.heading.players.items label_of
-
-pub rows-requires : goal.rows-requires
-rows-requires c = c.requires.1.complete
 
 pub of_parts-requires : goal.of_parts-requires
 of_parts-requires c =

@@ -1,7 +1,7 @@
-use Rattle.gf_nfg.proofs.lemmas.tables.Strategies.{kept_by, stands_at}
+use Rattle.gf_nfg.proofs.lemmas.tables.Strategies.{own_is}
 use Rattle.gf_nfg.proofs.table.strategies.Strategies.count.Goals as goal
 
 pub overflow_sub-result : goal.overflow_sub-result
 overflow_sub-result c =
-    (stands_at (kept_by c.self.invariant c.self.view_is c.deref.ensures.value) c.requires
+    (own_is _ _ _ _ _ _ _ c.self.invariant c.self.view_is c.deref.ensures.value c.requires
     c.piece_at-own.ensures.start c.piece_at-own.ensures.end).ordered

@@ -1,25 +1,31 @@
-use Rattle.std.proofs.Common.{◌+◌, arith}
-use Rattle.gf_nfg.proofs.lemmas.tables.Strategies.{IsLabelAt, has_list, is_within, kept_by}
-use Rattle.gf_nfg.proofs.lemmas.tables.Strategies.{label_at, stands_at}
+use Rattle.gf_nfg.proofs.Common.{◌∙◌, arith, get_or, []}
+use Rattle.gf_nfg.proofs.lemmas.tables.Strategies.{IsOwn, has_list, own_is, own_label, within_lists}
 use Rattle.gf_nfg.proofs.table.strategies.Strategies.label.Goals as goal
 
 pub piece_at-own-requires : goal.piece_at-own-requires
-piece_at-own-requires c =
-    is_within (kept_by c.self.invariant c.self.view_is c.deref.ensures.value)
+piece_at-own-requires c = within_lists _ _ _ _ _ c.self.view_is c.deref.ensures.value
     (has_list c.args.self.now c.args.at c.args.strategy c.requires)
 
-own : (c : goal.After-struct_known-1) → IsLabelAt c.self.inside.labels c.args.self.now c.args.at
-    c.args.strategy c.piece_at-own.result.end (c.piece_at-own.result.start + c.args.strategy)
-own c =
-    let player = has_list c.args.self.now c.args.at c.args.strategy c.requires in
-    label_at (stands_at (kept_by c.self.invariant c.self.view_is c.deref.ensures.value) player
-    c.piece_at-own.ensures.start c.piece_at-own.ensures.end) c.requires
+own : (c : goal.After-struct_known-1) → IsOwn c.self.inside.labels
+    (get_or c.args.self.now c.args.at []) c.piece_at-own.result.start c.piece_at-own.result.end
+own c = own_is _ _ _ _ _ _ _ c.self.invariant c.self.view_is c.deref.ensures.value
+    (has_list c.args.self.now c.args.at c.args.strategy c.requires)
+    c.piece_at-own.ensures.start c.piece_at-own.ensures.end
 
 pub overflow_add-own : goal.overflow_add-own
-overflow_add-own c = omega (arith, (own c).before, c.piece_at-own.type_inv)
+overflow_add-own c =
+    let below = (own_label (own c) c.requires).0 in
+    omega (arith, below, c.piece_at-own.type_inv)
 
 pub label-requires : goal.label-requires
-label-requires c = (own c).within
+label-requires c =
+    let below = (own_label (own c) c.requires).0 in
+    let within = (own c).within in
+    omega (arith, below, within)
 
 pub returns : goal.returns
-returns c = grind (arith, has_list, own, label_at, stands_at, kept_by)
+returns c =
+    let own = own_is _ _ _ _ _ _ _ c.self.invariant c.self.view_is c.deref.ensures.value
+    (has_list c.args.self.now c.args.at c.args.strategy c.requires)
+    c.piece_at-own.ensures.start c.piece_at-own.ensures.end in
+    (own_label own c.requires).1 ∙ c.label.ensures

@@ -1,0 +1,63 @@
+-- The lines of payoffs.
+use Rattle.gf_nfg.proofs.Common.{◌≡◌, ℕ, ◌-◌, ◌<◌, ◌≤◌, List, [], ◌∷◌, ◌++◌, length, map, refl, sym}
+use Rattle.gf_nfg.proofs.Common.{◌∙◌, append_assoc, arith, true, Bool, AllByRecursion}
+use Rattle.gf_nfg.proofs.Common.{flat_map-append, Ratio, Table, rows, Names, first_line}
+use Rattle.gf_nfg.proofs.Common.{heading_text, line_text, lines_text, list_text, lt-ltb, named_by}
+use Rattle.gf_nfg.proofs.Common.{names_by, nat_tests, quoted, row_text, table_text}
+use Rattle.gf_nfg.specs.inner.TextParts.{payoffs_text}
+use Rattle.gf_fraction.specs.NumberText.{number_text}
+use Rattle.gf_nfg.proofs.lemmas.tables.Lists.{joined}
+use Rattle.gf_nfg.proofs.lemmas.tables.Same.{names_in}
+
+-- ---- one payoff
+
+pub payoff_on : (width left : ℕ) (n : Ratio) (more : List Ratio) → 1 < left
+    → payoffs_text width left (n ∷ more) ≡ number_text n ++ 32 ∷ payoffs_text width (left - 1) more
+payoff_on width left n more h = rw (lt-ltb 1 left h) refl
+
+pub payoff_last : (width left : ℕ) (n : Ratio) (more : List Ratio) → left ≤ 1
+    → payoffs_text width left (n ∷ more) ≡ number_text n ++ 10 ∷ payoffs_text width width more
+payoff_last width left n more h = grind (arith, nat_tests)
+
+-- ---- full rows
+
+-- a row is a line
+row_laid : (width : ℕ) (payoff : Ratio) (row payoffs : List Ratio)
+    → payoffs_text width (length (payoff ∷ row)) ((payoff ∷ row) ++ payoffs)
+    ≡ line_text (payoff ∷ row) ++ payoffs_text width width payoffs
+row_laid width payoff [] payoffs = grind (arith, append_assoc)
+row_laid width payoff (next ∷ row) payoffs =
+    grind (arith, append_assoc, row_laid width next row payoffs)
+
+-- rows are lines
+pub rows_laid : (width : ℕ) (rs : List (List Ratio)) → AllByRecursion (λ row. 0 < length row) rs
+    → AllByRecursion (λ row. length row ≡ width) rs
+    → payoffs_text width width (joined rs) ≡ lines_text (map row_text rs)
+rows_laid width [] some h = refl
+rows_laid width ([] ∷ rs) some h = absurd (omega (arith, some.0))
+rows_laid width ((payoff ∷ row) ∷ rs) some h = grind (
+  arith,
+  append_assoc,
+  row_laid width payoff row (joined rs),
+  rows_laid width rs some.1 h.1,
+)
+
+-- ---- the whole text
+
+-- a text is a heading and lines
+pub text_parts : (named : Bool) (t : Table) → table_text (named_by named t)
+    ≡ heading_text (names_by named (names_in t)) ++ lines_text (map row_text (rows t))
+text_parts named t =
+    let names = names_by named (names_in t) in
+    let heads = first_line names
+    ∷ list_text (map (λ own. list_text (map quoted own)) names.strategies)
+    ∷ quoted names.comment ∷ [] ∷ [] in
+    flat_map-append (λ (line : List ℕ). line ++ 10 ∷ []) heads (map row_text (rows t))
+
+-- a heading that was written, and lines after it
+pub whole_text : (t : Table) (names : Names) (start opened lines : List ℕ)
+    → names ≡ names_in t → start ≡ [] → opened ≡ start ++ heading_text (names_by true names)
+    → lines ≡ lines_text (map row_text (rows t)) → opened ++ lines ≡ table_text t
+whole_text t names start opened lines n none e l =
+    (λ i. (e ∙ (λ j. none j ++ heading_text (names_by true (n j)))) i ++ l i)
+    ∙ sym (text_parts true t)
