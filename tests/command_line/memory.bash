@@ -105,26 +105,6 @@ outcome_text() { # PLAYERS STRATEGIES
     yes "$line" | head -n "$2"
 }
 
-# Chance chooses one of twenty sets of two actions each, ten of each of two players. So there are 2^20
-# profiles, and a payoff has two numbers of 37 or 38 digits.
-fractions_file() {
-    local set player action number outcome=0 large=1000000000000000000000000000000000067
-    echo 'EFG 2 R "" { "a" "b" }'
-    echo 'c "" 1 "" {'
-    yes '"" 1/20' | head -n 20
-    echo '} 0'
-    for set in {1..10}; do
-        for player in 1 2; do
-            echo "p \"\" $player $set \"\" { \"\" \"\" } 0"
-            for action in 1 2; do
-                outcome=$((outcome + 1))
-                number=$(printf "$((1000 + set * 100 + player * 10 + action))%.0s" {1..8})
-                echo "t \"\" $outcome \"\" { $number/$large -$number/$large }"
-            done
-        done
-    done
-}
-
 # Runs the program, and writes to the file `peak` how much memory it held at most, in KiB.
 measured() { # WORD..
     python3 -c '
@@ -162,20 +142,6 @@ check_pieces() {
     judge_peak "the hash of a long text" "$most"
 }
 
-# A table with a text of 152 MB is written from its payoffs, which take 64 MiB, and not held whole.
-check_table_pieces() {
-    local file=$scratch/fractions.efg
-    fractions_file >"$file"
-    status=0
-    measured table "$file" >"$scratch/text" 2>"$scratch/err" || status=$?
-    if [[ $status == 0 && $(wc -lc <"$scratch/text" | xargs) == "1048580 152276183" ]]; then
-        passed=$((passed + 1))
-    else
-        fail "a long table: $(head -n 1 "$scratch/err")"
-    fi
-    judge_peak "a long table" 81920
-}
-
 check_memory() {
     local least=1024
     # An empty file takes no memory beyond that of the words. With less the program doesn't get there.
@@ -196,7 +162,6 @@ check_memory() {
     outcome_file 1000 1048576 >"$scratch/giant.nfg"
     check_giant "a giant text" 60 400000 "$scratch/giant.nfg"
     check_pieces
-    check_table_pieces
     labels_file 20000 >"$scratch/giant.efg"
     check_giant "giant labels" 3 4000000 "$scratch/giant.efg" table
     check_giant "giant labels of the reduced form" 3 4000000 "$scratch/giant.efg" table --reduced

@@ -1,11 +1,11 @@
 """Trees whose strategic form is too slow at full size, which docs/DECISIONS.md lists: at a size that passes, each
 with an honest twin.
 """
-import random
 from fractions import Fraction
 from functools import partial
 
-from .shapes import LARGEST, MOST_ROWS, SEED, many_players, paid_sets, sets_below, side_by_side, wide_tree
+from .reduced import wide_tree
+from .shapes import LARGEST, MOST_ROWS, many_players, paid_sets, side_by_side
 from .trees import Tree
 
 
@@ -57,26 +57,6 @@ def move_beside(actions, sets):
     return tree.game(relevant=True)
 
 
-def set_met_late(trees, depth, sets, late=True):
-    """A toss over moves at all sets and over full trees of moves at some, whose leaves are moves at the last set.
-    If that one has no move of its own, play comes to it only after moves at others, of which one is the last but
-    one."""
-    rng, tree = random.Random(SEED), Tree(1)
-    tree.toss(1, [Fraction(1, sets + trees)] * (sets + trees))
-    for number in range(1, sets + 1):
-        if number < sets or not late:
-            tree.move(1, number)
-            tree.end()
-        tree.end()
-    for _ in range(trees):
-        picked = sorted(rng.sample(range(1, sets - 1), depth - 1))
-        for _ in sets_below(tree, lambda number: (1, number), [*picked, sets - 1]):
-            tree.move(1, sets)
-            tree.end()
-            tree.end()
-    return tree.game(without=["table"], relevant=True)
-
-
 def smooth(count):
     """Divisors of one number, of which each sum of fractions over them is a fraction within the bounds."""
     found = [1]
@@ -107,5 +87,4 @@ KNOWN = {
     "many players paid at each demand": (partial(met_or_not, 20, 12), partial(many_players, 20, 300)),
     "many players and denominators": (partial(tosses_apart, 1000, 4000), partial(tosses_apart, 1, 4000)),
     "many demands beside a move": (partial(move_beside, 2**12, 6), partial(side_by_side, 18)),
-    "a set that is met late": (partial(set_met_late, 30, 5, 16), partial(set_met_late, 30, 5, 16, late=False)),
 }

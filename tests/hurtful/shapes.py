@@ -4,7 +4,7 @@ import random
 from fractions import Fraction
 from functools import partial
 
-from .games import Answer, ended, table_text
+from .games import ended
 from .trees import Tree
 
 SEED = 1
@@ -24,6 +24,20 @@ def side_by_side(sets):
     """A toss over some sets: a form with many rows."""
     tree = Tree(1)
     paid_sets(tree, sets)
+    return tree.game(relevant=True)
+
+
+def payoffs_over(under, sets):
+    """A toss over some sets of each of two players, whose payoffs are numbers over this one."""
+    rng, tree = random.Random(SEED), Tree(2)
+    tree.toss(1, [f"1/{2 * sets}"] * (2 * sets))
+    outcomes = itertools.count(1)
+    for number in range(1, sets + 1):
+        for player in (1, 2):
+            tree.move(player, number)
+            for _ in range(2):
+                payoff = Fraction(rng.randrange(under), under)
+                tree.end(next(outcomes), payoff, -payoff)
     return tree.game(relevant=True)
 
 
@@ -180,20 +194,6 @@ def largest_payoffs_of_two(sets):
     return tree.game(relevant=True)
 
 
-def full_tree(depth):
-    """A move at each node, at one set for each level."""
-    tree, due = Tree(1), [0]
-    while due:
-        level = due.pop()
-        if level == depth:
-            tree.end(1, 1)
-        else:
-            tree.move(1, level + 1)
-            due += [level + 1] * 2
-    # Whatever is chosen before, play comes to each level.
-    return tree.game(relevant=True)
-
-
 def sets_below(tree, player_of, sets):
     """A full tree of moves, at these sets, whose leaves are paid."""
     due = [0]
@@ -204,132 +204,6 @@ def sets_below(tree, player_of, sets):
         else:
             tree.move(*player_of(sets[level]))
             due += [level + 1] * 2
-
-
-def wide_tree(width, depth, sets, **kept):
-    """A toss over full trees of moves at some of the sets."""
-    rng, tree = random.Random(SEED), Tree(1)
-    tree.toss(1, [f"1/{width}"] * width)
-    for _ in range(width):
-        picked = sorted(rng.sample(range(1, sets + 1), depth))
-        for _ in sets_below(tree, lambda number: (1, number), picked):
-            outcome = rng.randint(1, 50)
-            tree.end(outcome, outcome * 7 % 19 - 9)
-    return tree.game(**kept)
-
-
-def mixed_tree(depth, sets):
-    """A full tree of moves at sets that differ from path to path, after a toss over all of them."""
-    rng, tree = random.Random(SEED), Tree(1)
-    tree.toss(1, ["1/2", "1/2"])
-    for number in range(1, sets + 1):
-        tree.move(1, number)
-        tree.end()
-    tree.end()
-    due = [frozenset()]
-    while due:
-        used = due.pop()
-        if len(used) == depth:
-            tree.end()
-        else:
-            number = rng.choice([number for number in range(1, sets + 1) if number not in used])
-            tree.move(1, number)
-            due += [used | {number}] * 2
-    return tree.game()
-
-
-def moves_of_one_action(sets, count):
-    """Many moves of one action below each of some others."""
-    tree = Tree(1)
-    for number in range(1, sets + 1):
-        tree.move(1, number)
-        for at in range(count):
-            tree.move(1, 1000 * number + at, 1)
-        tree.end()
-    tree.end()
-    return tree.game()
-
-
-def set_never_met(actions, count):
-    """A set with many actions, only after two choices that exclude each other, and many sets of one action."""
-    tree = Tree(1)
-    tree.move(1, 1)
-    tree.move(1, 1)
-    for number in range(3, count + 3):
-        tree.move(1, number, 1)
-    tree.end()
-    tree.move(1, 2, actions)
-    for _ in range(actions + 1):
-        tree.end()
-    # (the labels of all strategies would be too long)
-    labels = ["-".join(["1", *["1"] * count, "*"]), "-".join(["2", *["*"] * count, "*"])]
-    form = Answer(table_text("s", tree.players, [labels], "0\n0\n").encode())
-    return tree.game(form, without=["table"], relevant=True)
-
-
-def set_behind_a_later_one(actions, count, met=True):
-    """After one of two choices play comes to a set with many actions, and after the other one to a later set with as
-    many, whose first action leads to the earlier set too, if that is met there. Beside them stand many sets of one
-    action, after another choice.
-    """
-    tree = Tree(1)
-    tree.toss(1, ["1/2", "1/2"])
-    tree.move(1, 1)
-    tree.move(1, 2, actions)
-    for _ in range(actions):
-        tree.end()
-    tree.move(1, 3, actions)
-    if met:
-        tree.move(1, 2, actions)
-    for _ in range(2 * actions - 1 if met else actions):
-        tree.end()
-    tree.move(1, 4)
-    for number in range(5, count + 5):
-        tree.move(1, number, 1)
-    tree.end()
-    tree.end()
-    first, others = range(1, actions + 1), range(2, actions + 1)
-    # In the order of the first strategies, by the actions at the three sets.
-    chosen = [f"1-{action}-*" for action in first]
-    if met:
-        chosen += ["2-1-1", *(f"2-*-{action}" for action in others), *(f"2-{action}-1" for action in others)]
-    else:
-        chosen += [f"2-*-{action}" for action in first]
-    behind = ["-1" * (count + 1), "-2" + "-*" * count]
-    labels = [before + after for before in chosen for after in behind]
-    form = Answer(table_text("s", tree.players, [labels], "0\n" * len(labels)).encode())
-    return tree.game(form, without=["table"], relevant=True)
-
-
-def one_later_set(actions, player):
-    """A move with many actions, and after each of them a move of this player, always at the same set."""
-    tree = Tree(2)
-    tree.move(1, 1, actions)
-    for action in range(actions):
-        tree.move(player, 2)
-        for number in (2 * action % 50 + 1, 2 * action % 50 + 2):
-            tree.end(number, number, -number)
-    # Whatever is chosen before, play comes to the later set.
-    return tree.game(relevant=True)
-
-
-def sets_in_conflict(sets):
-    """The first nodes of late sets are out of reach, and others come after choices that exclude each other."""
-    tree = Tree(1)
-    tree.move(1, 1)
-    tree.move(1, 2)
-    tree.end()
-    tree.end()
-    tree.toss(1, ["1/3"] * 3)
-    for number in range(3, sets + 1):
-        tree.move(1, number)
-        tree.end()
-    tree.end()
-    tree.move(1, sets)
-    tree.move(1, 2)
-    for _ in range(4):
-        tree.end()
-    return tree.game()
 
 
 def paid_groups(tree, sets, size, payoffs):
@@ -381,40 +255,8 @@ def paid_at_the_root(sets, payoff):
     return tree.game(relevant=True)
 
 
-def folded(a, b):
-    """The step of the kit's fast hasher."""
-    product = a * b
-    return (product ^ product >> 64) & 2**64 - 1
-
-
-def visits_collide(demands, number):
-    """Whether the kit's fast hasher, from its fixed start, puts a visit among the first buckets of a set."""
-    start, multiplier = 0x243F_6A88_85A3_08D3, 0x9E37_79B9_7F4A_7C15
-    found = folded(folded(start ^ demands, multiplier ^ 16) ^ number * 0x1_0000_0001, multiplier ^ 8)
-    return (found ^ found >> 32) & 0xFFFF < 0x2000
-
-
-def visits_again(sets, actions, times, collide):
-    """Many sets of one action, a move, and after each of its actions a chain of some of them again."""
-    rng, tree = random.Random(SEED), Tree(1)
-    for number in range(1, sets + 1):
-        tree.move(1, number, 1)
-    tree.move(1, sets + 1, actions)
-    for action in range(1, actions + 1):
-        numbers = range(1, sets + 1)
-        if collide:
-            picked = itertools.islice((it for it in numbers if visits_collide(action, it)), times)
-        else:
-            picked = rng.sample(numbers, times)
-        for number in picked:
-            tree.move(1, number, 1)
-        tree.end()
-    labels = ["-".join([*["1"] * sets, str(action)]) for action in range(1, actions + 1)]
-    form = Answer(table_text("s", tree.players, [labels], "0\n" * actions).encode())
-    return tree.game(form, without=["table"], relevant=True)
-
-
 MOST_ROWS = partial(side_by_side, 20)
+LONG_PAYOFFS = partial(payoffs_over, 10**36 + 67, 10)
 SOME_ROWS = partial(side_by_side, 12)
 
 # Names with what makes the tree and what makes its twin.
@@ -428,6 +270,7 @@ SHAPES = {
         partial(payoff_that_never_comes, 20, Fraction(1, 10**20 + 39), Fraction(1, 10**28 + 27)),
         partial(payoff_that_never_comes, 20, Fraction(1, 7), Fraction(1, 49)),
     ),
+    "long payoffs": (LONG_PAYOFFS, partial(payoffs_over, 10**9 + 7, 10)),
     "fractions apart": (partial(matrix, 300, fractions_apart), partial(side_by_side, 16)),
     "sums of prime denominators": (
         partial(sums_of_denominators, 8, primes(32, 1000)),
@@ -449,24 +292,9 @@ SHAPES = {
     "overflow at half of them": (partial(overflow_at_half, 20), MOST_ROWS),
     "a deep payoff": (partial(deep_payoff, 14), partial(side_by_side, 14)),
     "the largest payoffs of two": (partial(largest_payoffs_of_two, 14), partial(side_by_side, 14)),
-    "moves of one action": (partial(moves_of_one_action, 7, 50), SOME_ROWS),
-    "sets in conflict": (partial(sets_in_conflict, 12), SOME_ROWS),
-    "a full tree": (partial(full_tree, 17), partial(side_by_side, 17)),
-    "a mixed tree": (partial(mixed_tree, 12, 16), partial(side_by_side, 16)),
-    "a wide tree reduced": (partial(wide_tree, 100, 6, 14), partial(side_by_side, 14)),
-    "a move that is forgotten": (partial(one_later_set, 2**17, 1), partial(one_later_set, 2**17, 2)),
     "a golden payoff": (
         partial(paid_at_the_root, 20, golden()),
         partial(paid_at_the_root, 20, Fraction(LARGEST - 1, LARGEST)),
-    ),
-    "visits that collide": (
-        partial(visits_again, 230_000, 16, 20_000, True),
-        partial(visits_again, 230_000, 16, 20_000, False),
-    ),
-    "a set that is never met": (partial(set_never_met, 2**19, 350_000), partial(set_never_met, 2, 350_000)),
-    "a set behind a later one": (
-        partial(set_behind_a_later_one, 512, 5_000),
-        partial(set_behind_a_later_one, 512, 5_000, met=False),
     ),
 }
 
