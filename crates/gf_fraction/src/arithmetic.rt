@@ -49,6 +49,23 @@ pub fn word_gcd(a: u64, b: u64) -> u64
     odd_gcd(a >> a_twos, b >> b_twos) << a_twos.min(b_twos)
 }
 
+/// The remainder of a step of Euclid's algorithm. Most quotients there are 1 or 2, and differences
+/// take far less time than a division.
+fn remainder(n: u128, by: u128) -> u128
+    requires { 0 < by }
+    ensures { result ≡ n % by }
+{
+    if n < by {
+        return n;
+    }
+    let once = n - by;
+    if once < by {
+        return once;
+    }
+    let twice = once - by;
+    if twice < by { twice } else { n % by }
+}
+
 /// The greatest common divisor. Steps use 64 bits as soon as both numbers fit.
 pub fn gcd(a: u128, b: u128) -> u128
     ensures { IsGcd a b result }
@@ -62,7 +79,7 @@ pub fn gcd(a: u128, b: u128) -> u128
         if y == 0 {
             return x;
         }
-        let rest = x % y;
+        let rest = remainder(x, y);
         x = y;
         y = rest;
     }
