@@ -2,18 +2,19 @@
 
 ghost use Rattle.std.specs.Prelude.{◌≡◌, ◌<◌, ◌+◌, ◌*◌, ◌^◌, false, [], IfOk, OnOk, get_or, length};
 ghost use Rattle.std.specs.Prelude.{ℕ};
-ghost use Rattle.std.specs.List.Sorted.{IsNonDecreasingBy, IsPermutation};
+ghost use Rattle.std.specs.List.Sorted.{IsNonDecreasingBy};
 ghost use Rattle.gf_form.specs.inner.reduced.Levels.{AddsLeft, HaveBelow, IsChosen};
 ghost use Rattle.gf_form.specs.inner.reduced.Levels.{IsChosenAt, IsLevel, can_be_met, left_of};
+ghost use Rattle.gf_form.specs.inner.reduced.Visits.{HoldTheSame};
 
-use crate::reduced::visits::Visit;
+use crate::reduced::visits::{Visit, keep_each_once};
 use std::alloc::{AllocError, Global};
 
 /// The visits that the choices so far allow.
 #[derive(Drop)]
 pub(crate) struct Level {
     /// Those to sets that are not known to be met, with their demands at the digits that are left,
-    /// in order of demands.
+    /// each once and in order of demands.
     pub visits: Vec<Visit>,
     /// Whether each set is known to be met, whatever is chosen at the digits that are left.
     pub known: Vec<bool>,
@@ -61,7 +62,7 @@ impl Level {
         visits: &[Visit],
         sets: usize,
     ) -> Result<Level, AllocError>
-        ensures visits { IfOk result (λ level. IsPermutation visits.now level.visits.items) }
+        ensures visits { IfOk result (λ level. HoldTheSame visits.now level.visits.items) }
         ensures unknown { IfOk result (λ level. (place : ℕ)
             → get_or level.known.items place false ≡ false) }
         ensures level { IfOk result (IsLevel sets) }
@@ -69,17 +70,8 @@ impl Level {
         let mut level = Level::none(alloc);
         level.visits.extend_from_slice(visits)?;
         level.known.resize(sets, false)?;
-        level.sort();
+        keep_each_once(&mut level.visits);
         Ok(level)
-    }
-
-    /// Puts the visits in order of demands.
-    fn sort(&mut self)
-        ensures known { self.new.known ≡ self.old.known }
-        ensures visits { IsPermutation self.old.visits.items self.new.visits.items }
-        ensures ordered { IsNonDecreasingBy (λ (v : Visit). v.demands) self.new.visits.items }
-    {
-        self.visits.sort_unstable_by_key(|visit| visit.demands);
     }
 
     /// Adds what is left of these visits, to sets of the level, if this action is chosen at the
@@ -144,7 +136,7 @@ impl Level {
         self.known.clear();
         self.known.extend_from_slice(&from.known)?;
         self.add_chosen(&from.visits, step, action)?;
-        self.sort();
+        keep_each_once(&mut self.visits);
         Ok(())
     }
 

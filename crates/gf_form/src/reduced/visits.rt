@@ -1,9 +1,10 @@
 //! The visits of a player to his sets: the ways to come to them, as far as his own moves
 //! distinguish them.
 
-ghost use Rattle.std.specs.Prelude.{◌≡◌, Bool};
-ghost use Rattle.std.specs.List.{list_any};
+ghost use Rattle.std.specs.Prelude.{◌≡◌};
+ghost use Rattle.std.specs.List.Sorted.{IsNonDecreasingBy};
 ghost use Rattle.gf_form.specs.declared.reduced.visits.Visit.{Visit};
+ghost use Rattle.gf_form.specs.inner.reduced.Visits.{HoldTheSame, order_of};
 
 /// A way to come to a set.
 #[derive(Clone, Copy, PartialEq, Eq)]
@@ -16,16 +17,18 @@ pub(crate) struct Visit {
 
 impl Visit {
     /// A number that orders visits by demands, and those with the same demands by set.
-    fn order(self) -> u128 {
-        u128::from(self.demands) << 32 | u128::from(self.set)
+    fn order(self) -> u128
+        ensures { result ≡ order_of self }
+    {
+        u128::from(self.demands) * (1 << 32) + u128::from(self.set)
     }
 }
 
-/// Keeps each of these visits once. They are sorted for this, and not hashed: a file could choose
-/// visits that collide.
+/// Keeps each of these visits once, in order of demands. They are not hashed, since a file could
+/// choose visits that collide.
 pub(crate) fn keep_each_once(visits: &mut Vec<Visit>)
-    ensures { (test : Visit → Bool)
-        → list_any test visits.new.items ≡ list_any test visits.old.items }
+    ensures same { HoldTheSame visits.old.items visits.new.items }
+    ensures ordered { IsNonDecreasingBy (λ (v : Visit). v.demands) visits.new.items }
 {
     visits.sort_unstable_by_key(|visit| visit.order());
     visits.dedup();

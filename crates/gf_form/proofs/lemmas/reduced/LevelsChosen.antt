@@ -1,15 +1,16 @@
 -- What is left of a player's visits after a choice, visit by visit, and which sets can be met.
 use Rattle.gf_form.proofs.Common.{◌≡◌, ℕ, ◌+◌, ◌*◌, ◌<◌, ◌≤◌, inl, inr, Bool, true, false, List, []}
 use Rattle.gf_form.proofs.Common.{◌∷◌, ◌++◌, Some, None, length, get_or, set, take, drop, ap, sym}
-use Rattle.gf_form.proofs.Common.{◌∙◌, arith, ◌||◌, list_any, IsPermutation, option_map_or}
+use Rattle.gf_form.proofs.Common.{◌∙◌, arith, ◌||◌, list_any, option_map_or}
 use Rattle.gf_form.proofs.Common.{or-false, take-length, cases_lt, get_or-set_at, get_or-set_other}
 use Rattle.gf_form.proofs.Common.{get_or-take, get_or_default, length-drop, length-set, length-take}
-use Rattle.gf_form.proofs.Common.{take-append-drop, list_any-append, list_any-IsPermutation, meets}
+use Rattle.gf_form.proofs.Common.{take-append-drop, list_any-append, meets}
 use Rattle.gf_form.proofs.Common.{ArePositive, IsChosen, is_left, left_of, is_met_on, Level, Visit}
 use Rattle.gf_form.proofs.Common.{◌==◌, can_be_met, ne_eqb, false_from_ne_true}
 use Rattle.std.proofs.lemmas.List.{get_or-drop}
 use Rattle.std.proofs.lemmas.List.Folds.{Any-from_list_any, list_any_at, list_any_more}
 use Rattle.gf_form.specs.inner.reduced.Levels.{AddsLeft, HaveBelow}
+use Rattle.gf_form.specs.inner.reduced.Visits.{HoldTheSame}
 use Rattle.std.proofs.Math.Bool.{or-true}
 
 -- no demands are met
@@ -193,19 +194,18 @@ module _ (step action : ℕ) (visits rest : List Visit) (free start count : ℕ)
         met_in_parts place steps choices,
       )
 
--- what is left of all visits of a level, in order again
+-- what is left of all visits of a level, each once and in order
 pub chosen_by : (step action : ℕ) (from begun added left : Level) → begun.visits.items ≡ []
     → begun.known.items ≡ from.known.items
     → AddsLeft step action from.visits.items begun added
     → left.known.items ≡ added.known.items
-    → IsPermutation added.visits.items left.visits.items → IsChosen step action from left
-chosen_by step action from begun added left none known adds same order place steps choices inside
-    positive =
+    → HoldTheSame added.visits.items left.visits.items → IsChosen step action from left
+chosen_by step action from begun added left none known adds same_known same place steps choices
+    inside positive =
     grind (
       arith,
       adds place steps choices (omega (arith, inside, ap length known)) positive,
-      list_any-IsPermutation (is_met_on place steps choices) added.visits.items
-          left.visits.items order,
+      same (is_met_on place steps choices),
     )
 
 abbrev is_to : ℕ → Visit → Bool

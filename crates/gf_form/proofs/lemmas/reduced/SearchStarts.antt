@@ -4,11 +4,11 @@ use Rattle.gf_form.proofs.Common.{◌≡◌, AreOwn, subst, picked, SetKey, IsGa
 use Rattle.gf_form.proofs.Common.{ℕ, ◌+◌, ◌*◌, ◌^◌, ◌<◌, ◌≤◌, [], ◌∷◌, sym, ◌∙◌, ap, map}
 use Rattle.gf_form.proofs.Common.{zero, length, get_or, ne_eqb, reduced, IsLevel, is_left, numbered}
 use Rattle.gf_form.proofs.Common.{suc, List, ◌++◌, drop, Bool, true, refl, take, ◌==◌, ◌||◌, Game}
-use Rattle.gf_form.proofs.Common.{arith, list_any-IsPermutation, slice_get-get_or, mul-le-mul_right}
+use Rattle.gf_form.proofs.Common.{arith, slice_get-get_or, mul-le-mul_right}
 use Rattle.gf_form.proofs.Common.{append_assoc, steps_behind, ArePositive, digits_from, player_keys}
 use Rattle.gf_form.proofs.Common.{mul-le-mul, false, get_or-map, choices_at, strategies, AreFoundTo}
 use Rattle.gf_form.proofs.Common.{product, eqb-false, is_met_on, IsSearched, actions_of, first_uses}
-use Rattle.gf_form.proofs.Common.{width, IsPermutation, action_counts, FindRelevance, AreLabelledTo}
+use Rattle.gf_form.proofs.Common.{width, action_counts, FindRelevance, AreLabelledTo}
 use Rattle.gf_form.proofs.Common.{OwnDigit, drop-drop, choice_at, IsWritten, pointwise, map_twice}
 use Rattle.gf_form.proofs.Common.{list_any-append, AllByRecursion, reduced_labels, is_relevant_at}
 use Rattle.gf_form.proofs.Common.{or-false, eqb-true, digit_at, Visit, cases_lt, steps_to, steps_of}
@@ -16,6 +16,7 @@ use Rattle.gf_form.proofs.Common.{is_relevant, AreFirstsOf, HaveChoices, IsElsew
 use Rattle.gf_form.proofs.lemmas.rows.DigitPlaces.{steps_long, width_positive}
 use Rattle.gf_form.proofs.lemmas.rows.DigitsMade.{next_is}
 use Rattle.std.proofs.lemmas.List.Folds.{list_any_more}
+use Rattle.gf_form.specs.inner.reduced.Visits.{HoldTheSame}
 use Rattle.gf_form.proofs.lemmas.reduced.LevelsChosen.{no_visit}
 use Rattle.gf_form.proofs.lemmas.reduced.Searches.{digit_inside, alone, place_inside}
 use Rattle.std.proofs.lemmas.Bool.Decides.{nat_tests}
@@ -268,13 +269,13 @@ module _ (g : Game) (game : IsGame g) (player : ℕ) (digits : List OwnDigit)
         (unknown : (place : ℕ) → get_or level.known.items place false ≡ false) where
       -- A set is relevant if some visit to it comes about. The level has these visits, to other
       -- places.
-      told_by : (own : List Visit) → IsPermutation own level.visits.items → (n place q : ℕ)
+      told_by : (own : List Visit) → HoldTheSame own level.visits.items → (n place q : ℕ)
           → n < 0 + whole → place < length keys
           → is_met q (steps_to digits) (choices_at g player digits n) own
           ≡ is_met place (steps_to digits) (choices_at g player digits n) visits
           → is_relevant_at g player n place
           ≡ is_left q (steps_to digits) (choices_at g player digits n) level
-      told_by own order n place q to among same =
+      told_by own held n place q to among same =
           let within : n < product counts = omega (arith, to, whole_counted) in
           let steps_are : steps_to digits ≡ steps_of (picked counts counts) =
           rw are (steps_from 0 counts) in
@@ -284,14 +285,13 @@ module _ (g : Game) (game : IsGame g) (player : ℕ) (digits : List OwnDigit)
           (choice_at_number counts n within) (slice_get-get_or keys place no_key among)
           ∙ (λ i. is_met place (sym steps_are i) (sym (choices_are n within) i) visits)
           ∙ sym same
-          ∙ (λ i. sym (unknown q) i || list_any-IsPermutation
-          (is_met_on q (steps_to digits) (choices_at g player digits n)) own
-          level.visits.items order i)
+          ∙ (λ i. sym (unknown q) i
+          || sym (held (is_met_on q (steps_to digits) (choices_at g player digits n))) i)
 
       pub searched_all : (own : List Visit) → AreOwn digits visits own
-          → IsPermutation own level.visits.items → IsLevel (length digits) level
+          → HoldTheSame own level.visits.items → IsLevel (length digits) level
           → IsSearched g player digits digits level 0 0 whole
-      searched_all own own_are order levelled = record {
+      searched_all own own_are held levelled = record {
         all_are = are;
         rest = refl;
         deep = omega arith;
@@ -300,7 +300,7 @@ module _ (g : Game) (game : IsGame g) (player : ℕ) (digits : List OwnDigit)
           levelled = levelled;
           tells = λ n j from to among.
               let inside = place_inside g game player digits are j among in
-              let relevant = told_by own order n (digit_at digits j).place j to
+              let relevant = told_by own held n (digit_at digits j).place j to
               (omega (arith, inside, sets_counted g player))
               (own_are j (steps_to digits) (choices_at g player digits n) among) in
               grind (arith, nat_tests, relevant);
@@ -309,13 +309,13 @@ module _ (g : Game) (game : IsGame g) (player : ℕ) (digits : List OwnDigit)
 
       pub written_all : (strategy : List ℕ) → length strategy ≡ length counts
           → ((place : ℕ) → place < length counts → get_or strategy place 0 ≡ 1)
-          → IsPermutation visits level.visits.items → IsLevel (length counts) level
+          → HoldTheSame visits level.visits.items → IsLevel (length counts) level
           → IsWritten g player digits strategy level 0 whole
-      written_all strategy wide ones order levelled = record {
+      written_all strategy wide ones held levelled = record {
         choices = choices;
         told = record {
           levelled = rw (sym (sets_counted g player)) levelled;
-          tells = λ n place from to among. told_by visits order n place place to among refl;
+          tells = λ n place from to among. told_by visits held n place place to among refl;
         };
         wide = wide;
         inside = rw are (digits_inside 0 counts (length strategy) (omega (arith, wide)));

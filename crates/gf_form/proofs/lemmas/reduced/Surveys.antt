@@ -12,12 +12,18 @@ use Rattle.gf_form.proofs.Common.{flatten_all, child_trees, list_of, root_node, 
 use Rattle.gf_form.proofs.Common.{none, more, FindsMore, sizes, survey_size, own_step, own_visit}
 use Rattle.gf_form.proofs.Common.{visits_at, visits_below, demanded, Open, Owner, Survey, Visit}
 use Rattle.gf_form.proofs.Common.{first_uses_distinct, sets_by_first_use, subst, sym, used_sets}
+use Rattle.gf_form.proofs.Common.{◌≤◌, IsNonDecreasingBy, mod-lt}
+use Rattle.gf_form.specs.inner.reduced.Visits.{order_of}
 use Rattle.std.proofs.lemmas.Option.{slice_get_within}
 use Rattle.gf_form.proofs.lemmas.values.Walks.{choice_there}
 use Rattle.gf_tree.specs.FirstUse.{sets_of}
 use Rattle.gf_tree.specs.declared.game.branches.Branches.{Branches}
 use Rattle.gf_form.specs.inner.reduced.Survey.{finds, list_visits, open_size, open_visits}
-use Rattle.std.specs.List.{dedup, dedup_from}
+use Rattle.std.specs.List.{All, dedup, dedup_from}
+use Rattle.std.proofs.lemmas.List.Sorted.{IsNonDecreasingBy-drop}
+use Rattle.std.proofs.lemmas.List.Elements.{All-tail}
+use Rattle.std.proofs.lemmas.Bool.{cond_both}
+use Rattle.std.proofs.lemmas.List.Filters.{All-dedup}
 use Rattle.gf_form.proofs.lemmas.rows.PathsTold.{length-list_of}
 
 -- ---- positions
@@ -87,6 +93,45 @@ module _ (same : Visit → Visit → Bool) (equal : (v w : Visit) → same v w �
   pub each_once : (vs : List Visit) → list_any test (dedup same vs) ≡ list_any test vs
   each_once [] = refl
   each_once (v ∷ vs) = once_from v vs
+
+-- and they stay in order of demands
+module _ (same : Visit → Visit → Bool) where
+  abbrev AreOrdered : List Visit → Type 0
+  AreOrdered vs = IsNonDecreasingBy (λ (v : Visit). v.demands) vs
+
+  abbrev IsBefore : Visit → Visit → Type 0
+  IsBefore v w = v.demands ≤ w.demands
+
+  one_before : (v : Visit) (vs : List Visit) → All (IsBefore v) vs → AreOrdered vs
+      → AreOrdered (v ∷ vs)
+  one_before v vs least ordered zero (suc j) d le less = least j d (omega (arith, less))
+  one_before v vs least ordered (suc i) (suc j) d le less =
+      ordered i j d (omega (arith, le)) (omega (arith, less))
+  one_before v vs least ordered i j d le less = grind arith
+
+  ordered_from : (v : Visit) (vs : List Visit) → All (IsBefore v) vs → AreOrdered vs
+      → AreOrdered (dedup_from same v vs)
+  ordered_from v [] least ordered = one_before v [] least ordered
+  ordered_from v (w ∷ vs) least ordered =
+      let next : All (IsBefore w) vs =
+      λ k d less. ordered 0 (suc k) d (omega arith) (omega (arith, less)) in
+      let later = IsNonDecreasingBy-drop (λ (u : Visit). u.demands) 1 (w ∷ vs) ordered in
+      cond_both (same w v) (dedup_from same v vs) (v ∷ dedup_from same w vs) AreOrdered
+      (λ _. ordered_from v vs (All-tail (IsBefore v) w vs least) later)
+      (λ _. one_before v _ (All-dedup same (IsBefore v) (w ∷ vs) least) (ordered_from w vs next later))
+
+  pub each_ordered : (vs : List Visit) → AreOrdered vs → AreOrdered (dedup same vs)
+  each_ordered [] ordered = ordered
+  each_ordered (v ∷ vs) ordered =
+      ordered_from v vs (λ k d less. ordered 0 (suc k) d (omega arith) (omega (arith, less)))
+      (IsNonDecreasingBy-drop (λ (u : Visit). u.demands) 1 (v ∷ vs) ordered)
+
+-- visits in the order of the numbers by which they are sorted
+pub by_demands : (vs : List Visit) → IsNonDecreasingBy order_of vs
+    → IsNonDecreasingBy (λ (v : Visit). v.demands) vs
+by_demands vs sorted i j d le less =
+    let up = sorted i j d le less in
+    omega (arith, up, mod-lt)
 
 -- ---- a node is opened
 

@@ -1,5 +1,6 @@
 -- The visits of a player to his sets, and which of them come about by his own choices.
-use Rattle.std.specs.Prelude.{◌≤◌, ◌==◌, ◌&&◌, ℕ, Bool, List}
+use Rattle.std.specs.Prelude.{◌≡◌, ◌≤◌, ◌+◌, ◌*◌, ◌%◌, ◌^◌, ◌==◌, ◌&&◌, ℕ, Bool}
+use Rattle.std.specs.Prelude.{List}
 use Rattle.std.specs.List.{AllZip, list_any}
 use Rattle.gf_form.specs.inner.rows.Demands.{meets}
 use Rattle.gf_form.specs.declared.reduced.visits.Visit.{Visit}
@@ -12,6 +13,14 @@ AreActions counts strategy =
 -- a visit to the set at this place, from 0, that comes about by these choices at the digits
 abbrev pub is_met_on : ℕ → List ℕ → List ℕ → Visit → Bool
 is_met_on place steps choices v = v.set == place && meets steps choices v.demands
+
+-- the same visits, each of them at least once
+abbrev pub HoldTheSame : List Visit → List Visit → Type 0
+HoldTheSame visits others = (test : Visit → Bool) → list_any test others ≡ list_any test visits
+
+-- orders visits by demands
+abbrev pub order_of : Visit → ℕ
+order_of v = v.demands * 2 ^ 32 + v.set % 2 ^ 32
 
 -- some visit to this set comes about
 abbrev pub is_met : ℕ → List ℕ → List ℕ → List Visit → Bool

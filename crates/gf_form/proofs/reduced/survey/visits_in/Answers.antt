@@ -15,4 +15,4 @@ returns c =
     let none : s.nodes.items ≡ [] =
     nil_from_length s.nodes.items (sym s.nodes.ok.0 ∙ c.in_default.ensures.cases.0) in
     find_relevance c.args.game.now c.requires.is_game _
-    c.requires.steps c.requires.fits s _ none c.loop-node.invariant c.keep_each_once.ensures
+    c.requires.steps c.requires.fits s _ none c.loop-node.invariant c.keep_each_once.ensures.same
