@@ -3,6 +3,7 @@ pub mod Classes
 pub mod ComparedTable
 pub mod Heard
 pub mod ListedTable
+pub mod ListsLeft
 pub mod Machine
 pub mod Meaning
 pub mod PayoffLists

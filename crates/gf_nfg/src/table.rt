@@ -171,11 +171,19 @@ impl Table {
         &self.payoffs
     }
 
-    /// The payoffs at each profile, without the names.
-    pub(crate) fn into_rows(self) -> Rows
-        ensures { result ≡ rows self }
+    /// Everything except the payoffs, and the payoffs at each profile.
+    pub(crate) fn into_parts(self) -> (Names, Rows)
+        ensures is_table { IsTable self }
+        ensures names { result.0 ≡ record {
+          title = self.title;
+          comment = self.comment;
+          players = self.players;
+          strategies = self.strategies;
+        } }
+        ensures rows { result.1 ≡ rows self }
     {
-        self.payoffs
+        let Table { names, payoffs } = self;
+        (names, payoffs)
     }
 
     /// The title.

@@ -15,6 +15,7 @@ use std::alloc::{AllocError, Global};
 
 pub(crate) mod canonical;
 pub(crate) mod lines;
+pub(crate) mod lists;
 pub(crate) mod payoffs;
 pub(crate) mod pieces;
 pub(crate) mod table_text;

@@ -1,3 +1,4 @@
+pub mod Lists
 pub mod OneTable
 pub mod PayoffLines
 pub mod Pieces

@@ -44,6 +44,14 @@ abbrev pub first_line : Names → List ℕ
 first_line names = spaced (codes "NFG" ∷ codes "1" ∷ codes "R" ∷ quoted names.title
     ∷ list_text (map quoted names.players) ∷ [])
 
+-- what stands before the strategies
+abbrev pub front_text : Names → List ℕ
+front_text names = first_line names ++ 10 ∷ codes "{ "
+
+-- what stands between the strategies and the payoffs
+abbrev pub ending_text : Names → List ℕ
+ending_text names = codes "}" ++ 10 ∷ (quoted names.comment ++ 10 ∷ 10 ∷ [])
+
 -- the lines before the payoffs
 abbrev pub heading_text : Names → List ℕ
 heading_text names = lines_text

@@ -98,6 +98,20 @@ impl Names {
         self.players.label(at)
     }
 
+    /// The strategies of each player.
+    pub(crate) fn lists(&self) -> &Strategies
+        ensures { result.now ≡ self.now.strategies }
+    {
+        &self.strategies
+    }
+
+    /// The strategies of each player, without the rest.
+    pub(crate) fn into_lists(self) -> Strategies
+        ensures { result ≡ self.strategies }
+    {
+        self.strategies
+    }
+
     /// How many strategies the player at this place has.
     pub(crate) fn strategies(&self, at: usize) -> usize
         requires { at < length self.now.players }

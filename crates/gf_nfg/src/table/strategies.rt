@@ -6,6 +6,7 @@ ghost use Rattle.std.specs.List.{AllByRecursion};
 ghost use Rattle.gf_token.specs.Label.{label_of};
 ghost use Rattle.gf_nfg.specs.Sentence.{counted_labels};
 ghost use Rattle.gf_nfg.specs.TableParts.{AreSpellings, groups};
+ghost use Rattle.gf_nfg.specs.inner.ListsLeft.{size_of};
 
 use crate::table::labels::Labels;
 use crate::table::pieces::piece_at;
@@ -35,7 +36,7 @@ impl Model for Strategies {
 
 impl Strategies {
     /// Those of no player.
-    fn new(alloc: Global) -> Strategies
+    pub(crate) fn new(alloc: Global) -> Strategies
         ensures { result ≡ [] }
     {
         Strategies {
@@ -147,6 +148,22 @@ impl Strategies {
     /// The labels of all players, one player after another.
     pub(crate) fn labels(&self) -> &Labels {
         &self.labels
+    }
+
+    /// How many lists there are.
+    #[tactic(auto, using(crate::proofs::lemmas::tables::Pieces::as_many_pieces))]
+    pub(crate) fn len(&self) -> usize
+        ensures { result ≡ length self.now }
+    {
+        self.ends.len()
+    }
+
+    /// How many bytes the labels have, all together.
+    #[tactic(auto, using(crate::proofs::lemmas::texts::Lists::size_of_pieces))]
+    pub(crate) fn size(&self) -> usize
+        ensures { result ≡ size_of self.now }
+    {
+        self.labels.size()
     }
 
     /// How many the player at this place, from 0, has.

@@ -25,6 +25,7 @@ fn append_payoffs(
     ensures text { out.new.items ++ payoffs_text width result.1 (drop result.0 payoffs.now)
         ≡ out.old.items ++ payoffs_text width left payoffs.now }
     ensures whole { length out.new.items < bytes → result.0 ≡ length payoffs.now }
+    ensures longer { length out.old.items ≤ length out.new.items }
     ensures room { vec_capacity out.old ≤ vec_capacity out.new }
 {
     let mut left = left;
@@ -91,6 +92,7 @@ impl PayoffLines {
         requires room { 0 < length self.old → bytes + 81 ≤ vec_capacity out.old }
         ensures text { out.new.items ++ self.new ≡ out.old.items ++ self.old }
         ensures whole { length out.new.items < bytes → self.new ≡ [] }
+        ensures longer { length out.old.items ≤ length out.new.items }
         ensures room { vec_capacity out.old ≤ vec_capacity out.new }
     {
         let payoffs = &self.payoffs[self.written..];

@@ -1,52 +1,66 @@
-//! The canonical text of a table, whose lines of payoffs are made piece by piece.
+//! The canonical text of a table, of which the strategies and the lines of payoffs are made piece by
+//! piece.
 
 ghost use Rattle.std.specs.Prelude.{◌≡◌, ◌<◌, ◌++◌, false, true, [], IfOk, length};
 ghost use Rattle.gf_nfg.specs.TableText.{table_text};
-ghost use Rattle.gf_nfg.specs.inner.TextParts.{payoffs_text};
+ghost use Rattle.gf_nfg.specs.inner.TextParts.{heading_text, payoffs_text};
 
 use crate::table::Table;
-use crate::text::lines::write_rows;
+use crate::table::names::Names;
+use crate::table::strategies::Strategies;
+use crate::text::lists::{ListsWritten, write_lists};
 use crate::text::payoffs::{MOST, PayoffLines};
 use crate::text::pieces::{PIECE, TextPieces};
-use crate::text::write::write_heading;
+use crate::text::write::{write_ending, write_front, write_parts};
 use gf_fraction::Fraction;
 use std::alloc::{AllocError, Global};
 use std::marker::Model;
 
-/// A text that is given piece by piece, and after it lines of payoffs, which are made piece by
-/// piece too.
+/// A text that is given piece by piece, and after it the rest of a table's text, which is made
+/// piece by piece too.
 #[derive(Drop)]
 pub struct TextAndPayoffs {
     text: TextPieces,
-    /// Whether the text was given, and the payoffs are begun.
-    at_payoffs: bool,
+    /// Whether the text was given, and what comes after it is begun.
+    begun: bool,
+    strategies: Strategies,
+    /// How much of the strategies was given.
+    written: ListsWritten,
+    /// What stands between the strategies and the payoffs, until it is given.
+    ending: Vec<u8>,
     payoffs: PayoffLines,
-    /// The piece of payoffs that was given last.
+    /// The piece that was given last of what comes after the text.
     piece: Vec<u8>,
 }
 
 impl Model for TextAndPayoffs {
-    ghost use Rattle.std.specs.Prelude.{◌≤◌, ◌<◌, ◌++◌, [], if◌then◌else◌, length, vec_capacity};
+    ghost use Rattle.std.specs.Prelude.{◌++◌, [], if◌then◌else◌, vec_capacity};
     ghost use Rattle.gf_nfg.specs.TextPieces.{TextLeft};
+    ghost use Rattle.gf_nfg.specs.inner.ListsLeft.{HasPieceRoom, lists_left};
 
     ghost Value = { TextLeft };
 
     ghost view = { λ t. record {
-      piece = if t.at_payoffs then t.piece.items else t.text.piece;
-      rest = (if t.at_payoffs then [] else t.text.rest) ++ t.payoffs;
+      piece = if t.begun then t.piece.items else t.text.piece;
+      rest = (if t.begun then [] else t.text.rest)
+          ++ (lists_left t.strategies t.written ++ (t.ending.items ++ t.payoffs));
     } };
 
-    ghost invariant = { λ t. 0 < length t.payoffs → 65617 ≤ vec_capacity t.piece };
+    ghost invariant = { λ t.
+        HasPieceRoom t.strategies t.ending.items t.payoffs (vec_capacity t.piece) };
 }
 
 impl TextAndPayoffs {
-    /// A text, and no payoffs.
+    /// A text, and nothing after it.
     pub fn of(alloc: Global, text: TextPieces) -> TextAndPayoffs
         ensures { result.rest ≡ text.rest }
     {
         TextAndPayoffs {
             text,
-            at_payoffs: false,
+            begun: false,
+            strategies: Strategies::new(alloc),
+            written: ListsWritten::nothing(),
+            ending: Vec::new(alloc),
             payoffs: PayoffLines::none(alloc),
             piece: Vec::new(alloc),
         }
@@ -58,11 +72,17 @@ impl TextAndPayoffs {
         ensures some { result ≡ true → 0 < length self.new.piece }
         ensures end { result ≡ false → self.old.rest ≡ [] }
     {
-        if !self.at_payoffs && self.text.advance() {
+        if !self.begun && self.text.advance() {
             return true;
         }
-        self.at_payoffs = true;
+        self.begun = true;
         self.piece.clear();
+        self.written = write_lists(&self.strategies, self.written, PIECE, &mut self.piece).unwrap();
+        if self.piece.len() >= PIECE {
+            return true;
+        }
+        self.piece.extend_from_slice(&self.ending).unwrap();
+        self.ending.clear();
         self.payoffs.append_until(PIECE, &mut self.piece);
         !self.piece.is_empty()
     }
@@ -71,7 +91,7 @@ impl TextAndPayoffs {
     pub fn piece(&self) -> &[u8]
         ensures { result.now ≡ self.now.piece }
     {
-        if self.at_payoffs {
+        if self.begun {
             &self.piece
         } else {
             self.text.piece()
@@ -79,27 +99,36 @@ impl TextAndPayoffs {
     }
 }
 
-/// The lines of payoffs, and room for a piece of them.
+/// A heading, the lines of payoffs, and room for a piece of them.
 fn with_payoffs(
     alloc: Global,
-    text: Vec<u8>,
+    names: Names,
     payoffs: Vec<Fraction>,
-    width: usize,
 ) -> Result<TextAndPayoffs, AllocError>
-    ensures { IfOk result
-        (λ whole. whole.rest ≡ text.items ++ payoffs_text width width payoffs.items) }
+    ensures { IfOk result (λ whole. whole.rest ≡ heading_text names
+        ++ payoffs_text (length names.players) (length names.players) payoffs.items) }
 {
-    let piece = Vec::with_capacity(alloc, PIECE + MOST)?;
+    let mut text = Vec::new(alloc);
+    write_front(&names, true, &mut text)?;
+    let mut ending = Vec::new(alloc);
+    write_ending(&names, true, &mut ending)?;
+    let width = names.players();
+    let strategies = names.into_lists();
+    let longest = strategies.size().max(ending.len());
+    let piece = Vec::with_capacity(alloc, longest.saturating_add(PIECE + MOST))?;
     Ok(TextAndPayoffs {
         text: TextPieces::of(text),
-        at_payoffs: false,
+        begun: false,
+        strategies,
+        written: ListsWritten::nothing(),
+        ending,
         payoffs: PayoffLines::new(payoffs, width),
         piece,
     })
 }
 
-/// The canonical text of a table. Its payoffs are written as it is given, unless profiles share
-/// them, so little memory is taken beside them.
+/// The canonical text of a table. Its strategies and payoffs are written as it is given, unless
+/// profiles share payoffs, so little memory is taken beside them.
 ///
 /// # Errors
 ///
@@ -107,14 +136,12 @@ fn with_payoffs(
 pub fn text_of(alloc: Global, t: Table) -> Result<TextAndPayoffs, AllocError>
     ensures { IfOk result (λ text. text.rest ≡ table_text t) }
 {
-    let mut text = Vec::new(alloc);
-    text.reserve(t.names().room())?;
-    write_heading(t.names(), true, &mut text)?;
-    let players = t.names().players();
-    match t.into_rows().into_payoffs() {
-        Ok(payoffs) => with_payoffs(alloc, text, payoffs, players),
+    let (names, rows) = t.into_parts();
+    match rows.into_payoffs() {
+        Ok(payoffs) => with_payoffs(alloc, names, payoffs),
         Err(rows) => {
-            write_rows(&rows, &mut text)?;
+            let mut text = Vec::new(alloc);
+            write_parts(&names, &rows, &mut text)?;
             Ok(TextAndPayoffs::of(alloc, TextPieces::of(text)))
         }
     }

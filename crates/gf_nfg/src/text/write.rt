@@ -5,13 +5,15 @@ ghost use Rattle.std.specs.Prelude.{◌≡◌, ◌<◌, ◌++◌, [], OnErr, OnO
 ghost use Rattle.std.specs.Prelude.{map};
 ghost use Rattle.gf_token.specs.Label.{label_of};
 ghost use Rattle.gf_nfg.specs.Table.{IsSpellable, IsTable};
-ghost use Rattle.gf_nfg.specs.TableParts.{own_of};
-ghost use Rattle.gf_nfg.specs.TableText.{SpellsTable, list_text, quoted, table_text};
-ghost use Rattle.gf_nfg.specs.inner.TextParts.{Keeps, first_line, heading_text, names_by};
+ghost use Rattle.gf_nfg.specs.TableText.{SpellsTable, lines_text, list_text, quoted, table_text};
+ghost use Rattle.gf_nfg.specs.inner.TextParts.{Keeps, ending_text, first_line, front_text};
+ghost use Rattle.gf_nfg.specs.inner.TextParts.{heading_text, names_by, row_text};
 
 use crate::table::Table;
 use crate::table::names::Names;
+use crate::table::rows::Rows;
 use crate::text::lines::write_rows;
+use crate::text::lists::{ListsWritten, write_lists};
 use gf_token::{Label, write_label};
 use std::alloc::AllocError;
 
@@ -25,40 +27,6 @@ fn write_players(names: &Names, out: &mut Vec<u8>) -> Result<(), AllocError>
     out.extend_from_slice(b"{ ")?;
     for at in 0..names.players() {
         write_label(names.player(at), out)?;
-        out.push(b' ')?;
-    }
-    out.push(b'}')?;
-    Ok(())
-}
-
-/// Appends the strategies of the player at this place in braces.
-#[tactic(auto, using(crate::proofs::lemmas::texts::Pieces::list_closed))]
-fn write_own(names: &Names, at: usize, out: &mut Vec<u8>) -> Result<(), AllocError>
-    requires { at < length names.now.players }
-    ensures text { OnOk result
-        (out.new.items ≡ out.old.items ++ list_text (map quoted (own_of names.now at))) }
-    ensures kept { OnErr result (Keeps out.old.items out.new.items) }
-{
-    out.extend_from_slice(b"{ ")?;
-    for strategy in 0..names.strategies(at) {
-        write_label(names.strategy(at, strategy), out)?;
-        out.push(b' ')?;
-    }
-    out.push(b'}')?;
-    Ok(())
-}
-
-/// Appends the strategies of each player in braces, and all of them in braces.
-#[tactic(auto, using(crate::proofs::lemmas::texts::Pieces::list_closed))]
-fn write_strategies(names: &Names, out: &mut Vec<u8>) -> Result<(), AllocError>
-    ensures text { OnOk result (out.new.items
-        ≡ out.old.items
-        ++ list_text (map (λ own. list_text (map quoted own)) names.now.strategies)) }
-    ensures kept { OnErr result (Keeps out.old.items out.new.items) }
-{
-    out.extend_from_slice(b"{ ")?;
-    for at in 0..names.players() {
-        write_own(names, at, out)?;
         out.push(b' ')?;
     }
     out.push(b'}')?;
@@ -88,32 +56,60 @@ fn write_first_line(names: &Names, named: bool, out: &mut Vec<u8>) -> Result<(),
     write_players(names, out)
 }
 
-/// Appends everything before the payoffs; title and comment are empty unless it is `named`.
-#[tactic(auto, using(crate::proofs::lemmas::texts::Pieces::kept_behind))]
-pub(crate) fn write_heading(names: &Names, named: bool, out: &mut Vec<u8>) -> Result<(), AllocError>
+/// Appends what stands before the strategies: the first line and a brace.
+pub(crate) fn write_front(names: &Names, named: bool, out: &mut Vec<u8>) -> Result<(), AllocError>
     ensures text { OnOk result
-        (out.new.items ≡ out.old.items ++ heading_text (names_by named names.now)) }
+        (out.new.items ≡ out.old.items ++ front_text (names_by named names.now)) }
     ensures kept { OnErr result (Keeps out.old.items out.new.items) }
 {
     write_first_line(names, named, out)?;
-    out.push(b'\n')?;
-    write_strategies(names, out)?;
-    out.push(b'\n')?;
+    out.extend_from_slice(b"\n{ ")?;
+    Ok(())
+}
+
+/// Appends what stands between the strategies and the payoffs: a brace and the comment.
+pub(crate) fn write_ending(names: &Names, named: bool, out: &mut Vec<u8>) -> Result<(), AllocError>
+    ensures text { OnOk result
+        (out.new.items ≡ out.old.items ++ ending_text (names_by named names.now)) }
+    ensures kept { OnErr result (Keeps out.old.items out.new.items) }
+{
+    out.extend_from_slice(b"}\n")?;
     write_label(label_by(named, names.comment()), out)?;
     out.extend_from_slice(b"\n\n")?;
     Ok(())
 }
 
-/// Appends the heading of a table and its lines. Room for all labels is made once, before them.
+/// Appends everything before the payoffs; title and comment are empty unless it is `named`.
+pub(crate) fn write_heading(names: &Names, named: bool, out: &mut Vec<u8>) -> Result<(), AllocError>
+    ensures text { OnOk result
+        (out.new.items ≡ out.old.items ++ heading_text (names_by named names.now)) }
+    ensures kept { OnErr result (Keeps out.old.items out.new.items) }
+{
+    write_front(names, named, out)?;
+    write_lists(names.lists(), ListsWritten::nothing(), usize::MAX, out)?;
+    write_ending(names, named, out)?;
+    Ok(())
+}
+
+/// Appends a heading and the lines of these rows. Room for all labels is made once, before them.
+pub(crate) fn write_parts(names: &Names, rows: &Rows, out: &mut Vec<u8>) -> Result<(), AllocError>
+    ensures text { OnOk result (out.new.items
+        ≡ out.old.items ++ (heading_text names.now ++ lines_text (map row_text rows.now))) }
+    ensures kept { OnErr result (Keeps out.old.items out.new.items) }
+{
+    out.reserve(names.room())?;
+    write_heading(names, true, out)?;
+    write_rows(rows, out)
+}
+
+/// Appends the heading of a table and its lines.
 fn write_text(t: &Table, out: &mut Vec<u8>) -> Result<(), AllocError>
     ensures text { OnOk result (out.new.items ≡ out.old.items ++ table_text t.now) }
     ensures is_table { IsTable t.now }
     ensures spellable { IsSpellable t.now }
     ensures kept { OnErr result (Keeps out.old.items out.new.items) }
 {
-    out.reserve(t.names().room())?;
-    write_heading(t.names(), true, out)?;
-    write_rows(t.rows(), out)
+    write_parts(t.names(), t.rows(), out)
 }
 
 /// Appends the canonical text of the table: payoff version, each number in lowest terms, one line

@@ -2,7 +2,7 @@
 use Rattle.gf_nfg.proofs.Common.{◌≡◌, ℕ, ◌-◌, ◌<◌, ◌≤◌, List, [], ◌∷◌, ◌++◌, length, map, refl, sym}
 use Rattle.gf_nfg.proofs.Common.{◌∙◌, append_assoc, arith, true, Bool, AllByRecursion}
 use Rattle.gf_nfg.proofs.Common.{flat_map-append, Ratio, Table, rows, Names, first_line}
-use Rattle.gf_nfg.proofs.Common.{heading_text, line_text, lines_text, list_text, lt-ltb, named_by}
+use Rattle.gf_nfg.proofs.Common.{IsTable, heading_text, line_text, lines_text, list_text, lt-ltb, named_by}
 use Rattle.gf_nfg.proofs.Common.{names_by, nat_tests, quoted, row_text, table_text}
 use Rattle.gf_nfg.specs.inner.TextParts.{payoffs_text}
 use Rattle.gf_fraction.specs.NumberText.{number_text}
@@ -54,10 +54,16 @@ text_parts named t =
     ∷ quoted names.comment ∷ [] ∷ [] in
     flat_map-append (λ (line : List ℕ). line ++ 10 ∷ []) heads (map row_text (rows t))
 
--- a heading that was written, and lines after it
-pub whole_text : (t : Table) (names : Names) (start opened lines : List ℕ)
-    → names ≡ names_in t → start ≡ [] → opened ≡ start ++ heading_text (names_by true names)
-    → lines ≡ lines_text (map row_text (rows t)) → opened ++ lines ≡ table_text t
-whole_text t names start opened lines n none e l =
-    (λ i. (e ∙ (λ j. none j ++ heading_text (names_by true (n j)))) i ++ l i)
-    ∙ sym (text_parts true t)
+-- a heading, and the payoffs of the rows
+pub laid_text : (t : Table) (names : Names) (payoffs : List Ratio) → names ≡ names_in t → IsTable t
+    → AllByRecursion (λ row. 0 < length row) (rows t) → payoffs ≡ joined (rows t)
+    → heading_text names ++ payoffs_text (length names.players) (length names.players) payoffs
+    ≡ table_text t
+laid_text t names payoffs n h some e =
+    let lines = rows_laid (length t.players) (rows t) some h.one_payoff_each in
+    rw (n, e, lines) (sym (text_parts true t))
+
+-- a heading, and rows
+pub text_of_rows : (t : Table) (names : Names) (rs : List (List Ratio)) → names ≡ names_in t
+    → rs ≡ rows t → heading_text names ++ lines_text (map row_text rs) ≡ table_text t
+text_of_rows t names rs n e = rw (n, e) (sym (text_parts true t))

@@ -5,11 +5,7 @@ use Rattle.gf_nfg.proofs.Common.{List, ◌++◌, drop, Some, codes, OnErr, Resul
 use Rattle.gf_nfg.proofs.Common.{length, get_or, drop_all, take_all, line_text, list_text, row_text}
 use Rattle.gf_nfg.proofs.Common.{slice_get, arith, length-take, append-nil, lines_text, others_text}
 use Rattle.gf_fraction.specs.NumberText.{number_text}
-
--- each item and a space, and the closing brace
-abbrev pub items_text : List (List ℕ) → List ℕ
-items_text [] = codes "}"
-items_text (item ∷ items) = item ++ 32 ∷ items_text items
+use Rattle.gf_nfg.specs.inner.ListsLeft.{items_text}
 
 spaced_items : (first : List ℕ) (items : List (List ℕ))
     → spaced (first ∷ (items ++ codes "}" ∷ [])) ≡ first ++ 32 ∷ items_text items
