@@ -49,6 +49,35 @@ pub(crate) struct Shared<'t> {
     pub zeros: &'t [Fraction],
 }
 
+/// Such rows, with memory of their own.
+#[derive(Drop)]
+pub(crate) struct SharedRows {
+    pub numbers: Vec<u32>,
+    rows: usize,
+    players: usize,
+    payoffs: Vec<Fraction>,
+    zeros: Vec<Fraction>,
+}
+
+impl SharedRows {
+    /// These rows, lent.
+    pub(crate) fn shared(&self) -> Shared<'_>
+        ensures numbers { result.numbers.now ≡ self.now.numbers.items }
+        ensures rows { result.rows ≡ self.now.rows }
+        ensures players { result.players ≡ self.now.players }
+        ensures payoffs { result.payoffs.now ≡ self.now.payoffs.items }
+        ensures zeros { result.zeros.now ≡ self.now.zeros.items }
+    {
+        Shared {
+            numbers: &self.numbers,
+            rows: self.rows,
+            players: self.players,
+            payoffs: &self.payoffs,
+            zeros: &self.zeros,
+        }
+    }
+}
+
 /// The number of the row of the profile with this place.
 fn number_in(choices: &[u32], place: u32) -> usize
     ensures { result ≡ unwrap_or (slice_get choices.now place) (place + 1) }
@@ -142,6 +171,31 @@ impl Rows {
     }
 
     /// The rows and their numbers, if profiles may share them.
+    #[tactic(auto, using(crate::proofs::lemmas::tables::Rows::are_shared))]
+    pub(crate) fn into_shared(self) -> Result<SharedRows, Rows>
+        ensures { MatchResult result (λ s. AreShared self
+            s.numbers.items s.players s.payoffs.items s.zeros.items s.rows) (λ rows. rows ≡ self) }
+    {
+        if self.choices.is_empty() || self.players == 0 {
+            return Err(self);
+        }
+        let Rows {
+            players,
+            payoffs,
+            choices,
+            zeros,
+            ..
+        } = self;
+        Ok(SharedRows {
+            numbers: choices,
+            rows: payoffs.len() / players + 1,
+            players,
+            payoffs,
+            zeros,
+        })
+    }
+
+    /// The rows and their numbers, lent, if profiles may share them.
     #[tactic(auto, using(crate::proofs::lemmas::tables::Rows::are_shared))]
     pub(crate) fn shared(&self) -> Option<Shared<'_>>
         ensures shared { IfSome result (λ s. AreShared self.now

@@ -10,14 +10,11 @@ ghost use Rattle.gf_nfg.specs.TableText.{SpellsTable, lines_text, named_by, tabl
 ghost use Rattle.gf_nfg.specs.inner.TextParts.{row_text};
 
 use crate::read::tell_nfg;
-use crate::reader::receive::{Kept, Version};
+use crate::reader::receive::Version;
 use crate::table::Table;
 use crate::table::parts::Parts;
-use crate::table::rows::Shared;
 use crate::text::Text;
-use crate::text::lines::{Lines, write_rows};
 use crate::text::pieces::TextPieces;
-use gf_fraction::Fraction;
 use gf_token::{Fault, Why};
 use std::alloc::{AllocError, Global};
 
@@ -28,24 +25,8 @@ fn with_lines(alloc: Global, text: Vec<u8>, parts: Parts<'_>) -> Result<TextPiec
         ++ lines_text
         (map row_text (rows_by (content_of parts.entry) parts.entry.kept.numbers.items))) }
 {
-    let players = parts.heading.players.len();
-    if players == 0 || parts.kept.numbers.is_empty() {
-        let rows = parts.rows(alloc)?;
-        let mut whole = text;
-        write_rows(&rows, &mut whole)?;
-        return Ok(TextPieces::of(whole));
-    }
-    let Kept { payoffs, numbers } = parts.kept;
-    let zeros = vec![in alloc; Fraction::zero(); players]?;
-    let shared = Shared {
-        numbers: &numbers,
-        rows: payoffs.len() / players + 1,
-        players,
-        payoffs: &payoffs,
-        zeros: &zeros,
-    };
-    let lines = Lines::of_rows(alloc, shared)?;
-    TextPieces::with_lines(text, lines, numbers)
+    let rows = parts.rows(alloc)?;
+    TextPieces::with_rows(alloc, text, rows)
 }
 
 /// The canonical text of a strategic file, written while the file is read; title and comment are

@@ -122,7 +122,7 @@ impl Lines {
     }
 
     /// How long the lines with these numbers are together, or `None` if that does not fit `usize`.
-    #[tactic(auto, using(crate::proofs::lemmas::texts::SharedLines::next_counted))]
+    #[tactic(auto, using(crate::proofs::lemmas::texts::SharedLines::next_chosen))]
     fn len_of(&self, numbers: &[u32]) -> Option<usize>
         requires { AllByRecursion (λ number. number < length self.now) numbers.now }
         ensures { MatchOption result (2 ^ 64 ≤ length (lines_with self.now numbers.now))
@@ -151,7 +151,7 @@ impl Lines {
 
     /// Appends the lines with these numbers, for which there is room, until there are this many
     /// bytes. Returns how many lines these are.
-    #[tactic(auto, using(crate::proofs::lemmas::texts::SharedLines::next_counted))]
+    #[tactic(auto, using(crate::proofs::lemmas::texts::SharedLines::next_chosen))]
     pub(crate) fn append_until(&self, bytes: usize, numbers: &[u32], out: &mut Vec<u8>) -> usize
         requires below { AllByRecursion (λ number. number < length self.now) numbers.now }
         requires room { vec_len out.old + length (lines_with self.now numbers.now)

@@ -1,12 +1,14 @@
 //! A text that is given piece by piece, so that one that is much longer than its file need not be
 //! held in memory.
 
-ghost use Rattle.std.specs.Prelude.{◌≡◌, ◌<◌, ◌++◌, [], false, true, IfOk, length};
+ghost use Rattle.std.specs.Prelude.{◌≡◌, ◌<◌, ◌++◌, [], false, true, IfOk, length, map};
 ghost use Rattle.std.specs.List.{AllByRecursion};
-ghost use Rattle.gf_nfg.specs.inner.TextParts.{lines_with};
+ghost use Rattle.gf_nfg.specs.TableText.{lines_text};
+ghost use Rattle.gf_nfg.specs.inner.TextParts.{lines_with, row_text};
 
-use crate::text::lines::Lines;
-use std::alloc::AllocError;
+use crate::table::rows::Rows;
+use crate::text::lines::{Lines, write_rows};
+use std::alloc::{AllocError, Global};
 use std::marker::Model;
 
 /// How many bytes a piece has, or up to a line more; the last one may have fewer.
@@ -60,11 +62,7 @@ impl TextPieces {
 
     /// A text and, after it, the lines with these numbers. Room for all of it is made, so a text
     /// that memory could not hold is refused; most of the room is never touched.
-    pub(crate) fn with_lines(
-        text: Vec<u8>,
-        lines: Lines,
-        numbers: Vec<u32>,
-    ) -> Result<TextPieces, AllocError>
+    fn with_lines(text: Vec<u8>, lines: Lines, numbers: Vec<u32>) -> Result<TextPieces, AllocError>
         requires { AllByRecursion (λ number. number < length lines) numbers.items }
         ensures { IfOk result (λ t. t.rest ≡ text.items ++ lines_with lines numbers.items) }
     {
@@ -77,6 +75,28 @@ impl TextPieces {
             numbers,
             next: 0,
         })
+    }
+
+    /// A text and, after it, a line for each of these rows. The line of a row that profiles share is
+    /// made once.
+    pub(crate) fn with_rows(
+        alloc: Global,
+        text: Vec<u8>,
+        rows: Rows,
+    ) -> Result<TextPieces, AllocError>
+        ensures { IfOk result (λ t. t.rest ≡ text.items ++ lines_text (map row_text rows)) }
+    {
+        match rows.into_shared() {
+            Ok(shared) => {
+                let lines = Lines::of_rows(alloc, shared.shared())?;
+                TextPieces::with_lines(text, lines, shared.numbers)
+            }
+            Err(rows) => {
+                let mut whole = text;
+                write_rows(&rows, &mut whole)?;
+                Ok(TextPieces::of(whole))
+            }
+        }
     }
 
     /// Goes on to the next piece, and returns whether there is one.

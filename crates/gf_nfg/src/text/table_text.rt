@@ -11,7 +11,7 @@ use crate::table::strategies::Strategies;
 use crate::text::lists::{ListsWritten, write_lists};
 use crate::text::payoffs::{MOST, PayoffLines};
 use crate::text::pieces::{PIECE, TextPieces};
-use crate::text::write::{write_ending, write_front, write_parts};
+use crate::text::write::{write_ending, write_front, write_heading};
 use gf_fraction::Fraction;
 use std::alloc::{AllocError, Global};
 use std::marker::Model;
@@ -141,8 +141,8 @@ pub fn text_of(alloc: Global, t: Table) -> Result<TextAndPayoffs, AllocError>
         Ok(payoffs) => with_payoffs(alloc, names, payoffs),
         Err(rows) => {
             let mut text = Vec::new(alloc);
-            write_parts(&names, &rows, &mut text)?;
-            Ok(TextAndPayoffs::of(alloc, TextPieces::of(text)))
+            write_heading(&names, true, &mut text)?;
+            Ok(TextAndPayoffs::of(alloc, TextPieces::with_rows(alloc, text, rows)?))
         }
     }
 }

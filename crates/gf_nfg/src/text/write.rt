@@ -5,20 +5,19 @@ ghost use Rattle.std.specs.Prelude.{◌≡◌, ◌<◌, ◌++◌, [], OnErr, OnO
 ghost use Rattle.std.specs.Prelude.{map};
 ghost use Rattle.gf_token.specs.Label.{label_of};
 ghost use Rattle.gf_nfg.specs.Table.{IsSpellable, IsTable};
-ghost use Rattle.gf_nfg.specs.TableText.{SpellsTable, lines_text, list_text, quoted, table_text};
+ghost use Rattle.gf_nfg.specs.TableText.{SpellsTable, list_text, quoted, table_text};
 ghost use Rattle.gf_nfg.specs.inner.TextParts.{Keeps, ending_text, first_line, front_text};
-ghost use Rattle.gf_nfg.specs.inner.TextParts.{heading_text, names_by, row_text};
+ghost use Rattle.gf_nfg.specs.inner.TextParts.{heading_text, names_by};
 
 use crate::table::Table;
 use crate::table::names::Names;
-use crate::table::rows::Rows;
 use crate::text::lines::write_rows;
 use crate::text::lists::{ListsWritten, write_lists};
 use gf_token::{Label, write_label};
 use std::alloc::AllocError;
 
 /// Appends the players' names in braces.
-#[tactic(auto, using(crate::proofs::lemmas::texts::Pieces::list_closed))]
+#[tactic(auto, using(crate::proofs::lemmas::texts::Pieces::names_closed))]
 fn write_players(names: &Names, out: &mut Vec<u8>) -> Result<(), AllocError>
     ensures text { OnOk result
         (out.new.items ≡ out.old.items ++ list_text (map quoted names.now.players)) }
@@ -91,25 +90,16 @@ pub(crate) fn write_heading(names: &Names, named: bool, out: &mut Vec<u8>) -> Re
     Ok(())
 }
 
-/// Appends a heading and the lines of these rows. Room for all labels is made once, before them.
-pub(crate) fn write_parts(names: &Names, rows: &Rows, out: &mut Vec<u8>) -> Result<(), AllocError>
-    ensures text { OnOk result (out.new.items
-        ≡ out.old.items ++ (heading_text names.now ++ lines_text (map row_text rows.now))) }
-    ensures kept { OnErr result (Keeps out.old.items out.new.items) }
-{
-    out.reserve(names.room())?;
-    write_heading(names, true, out)?;
-    write_rows(rows, out)
-}
-
-/// Appends the heading of a table and its lines.
+/// Appends the heading of a table and its lines. Room for all labels is made once, before them.
 fn write_text(t: &Table, out: &mut Vec<u8>) -> Result<(), AllocError>
     ensures text { OnOk result (out.new.items ≡ out.old.items ++ table_text t.now) }
     ensures is_table { IsTable t.now }
     ensures spellable { IsSpellable t.now }
     ensures kept { OnErr result (Keeps out.old.items out.new.items) }
 {
-    write_parts(t.names(), t.rows(), out)
+    out.reserve(t.names().room())?;
+    write_heading(t.names(), true, out)?;
+    write_rows(t.rows(), out)
 }
 
 /// Appends the canonical text of the table: payoff version, each number in lowest terms, one line

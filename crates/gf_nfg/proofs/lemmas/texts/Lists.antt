@@ -1,14 +1,14 @@
 -- Lists in braces, which are written in several parts.
 use Rattle.gf_nfg.proofs.Common.{◌≡◌, ℕ, ◌+◌, ◌-◌, ◌<◌, ◌≤◌, List, [], ◌∷◌, ◌++◌, length, map, refl}
 use Rattle.gf_nfg.proofs.Common.{false, true, take, drop, get_or, Some, slice_get, append_assoc}
-use Rattle.gf_nfg.proofs.Common.{append-nil, codes, arith, drop_more, drop_all, drop-drop, take-append-drop}
-use Rattle.gf_nfg.proofs.Common.{get_or_from_slice_get, length-append, list_text, quoted, sum}
-use Rattle.gf_nfg.proofs.Common.{Names, pieces, RisesTo, heading_text, slice_get_within}
+use Rattle.gf_nfg.proofs.Common.{append-nil, codes, arith, drop_more, drop_all, drop-drop}
+use Rattle.gf_nfg.proofs.Common.{take-append-drop, get_or_from_slice_get, length-append, list_text}
+use Rattle.gf_nfg.proofs.Common.{quoted, sum, Names, pieces, RisesTo, heading_text}
+use Rattle.gf_nfg.proofs.Common.{slice_get_within}
 use Rattle.std.specs.List.{sum_by}
 use Rattle.std.proofs.lemmas.List.Sums.{get_or-le-sum_by, sum-map, sum_by-append, sum_by-cons}
 use Rattle.gf_nfg.specs.inner.ListsLeft.{items_text, lists_text, size_of}
 use Rattle.gf_nfg.specs.inner.TextParts.{ending_text, front_text}
-use Rattle.gf_nfg.proofs.lemmas.tables.Pieces.{rises_within}
 use Rattle.gf_nfg.proofs.lemmas.tables.Strategies.{has_list}
 use Rattle.gf_nfg.proofs.lemmas.texts.Pieces.{list_text_is}
 

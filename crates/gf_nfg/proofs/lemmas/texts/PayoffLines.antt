@@ -1,9 +1,9 @@
 -- The lines of payoffs.
 use Rattle.gf_nfg.proofs.Common.{◌≡◌, ℕ, ◌-◌, ◌<◌, ◌≤◌, List, [], ◌∷◌, ◌++◌, length, map, refl, sym}
-use Rattle.gf_nfg.proofs.Common.{◌∙◌, append_assoc, arith, true, Bool, AllByRecursion}
-use Rattle.gf_nfg.proofs.Common.{flat_map-append, Ratio, Table, rows, Names, first_line}
-use Rattle.gf_nfg.proofs.Common.{IsTable, heading_text, line_text, lines_text, list_text, lt-ltb, named_by}
-use Rattle.gf_nfg.proofs.Common.{names_by, nat_tests, quoted, row_text, table_text}
+use Rattle.gf_nfg.proofs.Common.{append_assoc, arith, true, Bool, AllByRecursion, flat_map-append}
+use Rattle.gf_nfg.proofs.Common.{Ratio, Table, rows, Names, first_line, IsTable, heading_text}
+use Rattle.gf_nfg.proofs.Common.{line_text, lines_text, list_text, lt-ltb, named_by, names_by}
+use Rattle.gf_nfg.proofs.Common.{nat_tests, quoted, row_text, table_text}
 use Rattle.gf_nfg.specs.inner.TextParts.{payoffs_text}
 use Rattle.gf_fraction.specs.NumberText.{number_text}
 use Rattle.gf_nfg.proofs.lemmas.tables.Lists.{joined}

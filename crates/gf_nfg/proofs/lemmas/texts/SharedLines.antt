@@ -1,9 +1,9 @@
 -- Lines of rows that profiles share.
 use Rattle.gf_nfg.proofs.Common.{◌≡◌, ℕ, ◌+◌, ◌<◌, List, [], ◌∷◌, ◌++◌, length, map, drop, get_or}
-use Rattle.gf_nfg.proofs.Common.{Some, slice_get, append_assoc, refl, sym, ap, ◌∙◌, arith}
-use Rattle.gf_nfg.proofs.Common.{length-append, AllByRecursion, drop_more, get_or-map, length-map}
-use Rattle.gf_nfg.proofs.Common.{map-append, get_or_from_slice_get, Ratio, numbers_from, line_text}
-use Rattle.gf_nfg.proofs.Common.{lines_with, row_text, lines_text, AreShared, kept_row, subst}
+use Rattle.gf_nfg.proofs.Common.{append_assoc, at_drop_more, refl, sym, ap, ◌∙◌, arith}
+use Rattle.gf_nfg.proofs.Common.{length-append, AllByRecursion, get_or-map, length-map, map-append}
+use Rattle.gf_nfg.proofs.Common.{get_or_from_slice_get, Ratio, numbers_from, line_text, lines_with}
+use Rattle.gf_nfg.proofs.Common.{row_text, lines_text, AreShared, kept_row, subst}
 use Rattle.gf_nfg.proofs.lemmas.tables.NumbersInTurn.{get_or-numbers_from, length-numbers_from}
 use Rattle.gf_nfg.proofs.lemmas.tables.NumbersInTurn.{numbers_joined}
 
@@ -16,28 +16,13 @@ lines_more f number = grind (arith, map-append, numbers_joined 0 number 1)
 
 -- ---- chosen lines
 
--- of lines that are chosen, that of the next number and the rest
-chosen_next : (lines : List (List ℕ)) (numbers : List ℕ) (at : ℕ) (line : List ℕ)
-    → at < length numbers → slice_get lines (get_or numbers at 0) ≡ Some line
-    → lines_with lines (drop at numbers) ≡ line ++ lines_with lines (drop (at + 1) numbers)
-chosen_next lines numbers at line h found = grind (arith, get_or_from_slice_get, drop_more)
+-- that of the next number and the rest
+pub chosen_next : (lines : List (List ℕ)) (numbers : List ℕ) (at : ℕ) → at < length numbers
+    → lines_with lines (drop at numbers)
+    ≡ get_or lines (get_or numbers at 0) [] ++ lines_with lines (drop (at + 1) numbers)
+chosen_next lines numbers at h = at_drop_more (lines_with lines) numbers at 0 h
 
-pub next_counted : (lines : List (List ℕ)) (numbers : List ℕ) (at : ℕ) (line : List ℕ)
-    → at < length numbers → slice_get lines (get_or numbers at 0) ≡ Some line
-    → length (lines_with lines (drop at numbers))
-    ≡ length line + length (lines_with lines (drop (at + 1) numbers))
-next_counted lines numbers at line h found =
-    ap length (chosen_next lines numbers at line h found) ∙ length-append line _
-
--- that of the next number is appended
-pub line_appended : (lines : List (List ℕ)) (numbers : List ℕ) (at : ℕ)
-    (line out longer start : List ℕ) → at < length numbers
-    → slice_get lines (get_or numbers at 0) ≡ Some line → longer ≡ out ++ line
-    → out ++ lines_with lines (drop at numbers) ≡ start
-    → longer ++ lines_with lines (drop (at + 1) numbers) ≡ start
-line_appended lines numbers at line out longer start h found e is =
-    let next = chosen_next lines numbers at line h found in
-    grind (arith, append_assoc)
+pub ruleset next_chosen = (append_assoc, chosen_next, get_or_from_slice_get, length-append)
 
 line_there : (row : ℕ → List Ratio) (bound number : ℕ) → number < bound
     → get_or (map (λ n. line_text (row n)) (numbers_from 0 bound)) number []

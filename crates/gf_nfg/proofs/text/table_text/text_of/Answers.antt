@@ -9,9 +9,9 @@ returns-in-Ok c =
     subst (λ (bs : List ℕ). IfOk c.with_payoffs.result (λ text. text.rest ≡ bs))
     (laid_text c.args.t _ _ parts.names parts.is_table paid.1 paid.0) c.with_payoffs.ensures
 
-pub returns-in_ok-write_parts-in-Err : goal.returns-in_ok-write_parts-in-Err
-returns-in_ok-write_parts-in-Err c =
+pub returns-in_ok-with_rows-in-Err : goal.returns-in_ok-with_rows-in-Err
+returns-in_ok-with_rows-in-Err c =
     let parts = c.into_parts-names.ensures in
-    let written = rw c.new-text.ensures.items at c.in_ok-write_parts-in-Err.ensures.text in
-    c.of-in-Err.ensures ∙ c.of.ensures ∙ written
+    let begun = rw c.new-text.ensures.items at c.in_ok-write_heading-in-Err.ensures.text in
+    c.of.ensures ∙ (rw begun at c.in_ok-with_rows-in-Err.ensures)
     ∙ text_of_rows c.args.t _ _ parts.names (c.in-Err.ensures ∙ parts.rows)
