@@ -39,8 +39,8 @@ pub use Rattle.gf_nfg.specs.inner.ComparedTable.{IsCompared}
 pub use Rattle.gf_nfg.specs.inner.Heard.{Answer, Fails, Goes, HasPassed, HasPassedPlace, at_end}
 pub use Rattle.gf_nfg.specs.inner.Heard.{heard, is_past, read_on, taken, then_on, within}
 pub use Rattle.gf_nfg.specs.inner.Machine.{Content, State, at, chosen, counted, due_at, ended}
-pub use Rattle.gf_nfg.specs.inner.Machine.{finish, listed, next_outcome, nothing, opened, paid, run}
-pub use Rattle.gf_nfg.specs.inner.Machine.{settled, start, step, step_at, to, with_choices}
+pub use Rattle.gf_nfg.specs.inner.Machine.{finish, listed, next_outcome, nothing, paid, run, start}
+pub use Rattle.gf_nfg.specs.inner.Machine.{step, step_at, strategies_end, with_choices}
 pub use Rattle.gf_nfg.specs.inner.Machine.{with_comment, with_count, with_labels, with_payoffs}
 pub use Rattle.gf_nfg.specs.inner.Machine.{with_players, with_title, ◌>>=◌}
 pub use Rattle.gf_nfg.specs.inner.Meaning.{HasLabels, HasPayoffs, IsComplete, names_in, rows_by}
@@ -52,9 +52,8 @@ pub use Rattle.gf_nfg.specs.inner.Position.Position.{FlatPayoffs, InList, InOutc
 pub use Rattle.gf_nfg.specs.inner.Position.Position.{OutcomeName, OutcomeNumbers}
 pub use Rattle.gf_nfg.specs.inner.Position.{Position as p, Position}
 pub use Rattle.gf_nfg.specs.inner.ReaderState.{HasMore, HasToldAll, StandsAt, Telling, answer}
-pub use Rattle.gf_nfg.specs.inner.ReaderState.{body_answer, told_of, content_in, content_of}
-pub use Rattle.gf_nfg.specs.inner.ReaderState.{content_told, content_with, labels_of, list_answer}
-pub use Rattle.gf_nfg.specs.inner.ReaderState.{told_answer}
+pub use Rattle.gf_nfg.specs.inner.ReaderState.{content_in, content_of, content_told, content_with}
+pub use Rattle.gf_nfg.specs.inner.ReaderState.{labels_of, told_answer, told_of}
 pub use Rattle.gf_nfg.specs.inner.TextParts.{Keeps, first_line, heading_text, line_text, lines_with}
 pub use Rattle.gf_nfg.specs.inner.TextParts.{names_by, others_text, row_text}
 pub use Rattle.gf_nfg.specs.inner.Told.{Told, told_heading, with_number, with_payoff}

@@ -91,8 +91,8 @@ impl<'a> Reader<'a> {
     fn begin(&mut self) -> Result<(Version, Span), Fault>
         requires { self.old.heading.counts.items ≡ [] }
         ensures machine { MatchResult result
-            (λ begun. answer Format 0 0 self.old ≡ body_answer begun.0 self.new)
-            (λ f. Fails f (answer Format 0 0 self.old)) }
+            (λ begun. answer Format self.old ≡ body_answer begun.0 self.new)
+            (λ f. Fails f (answer Format self.old)) }
         ensures counted { OnOk result (HasCounts self.new.heading) }
         ensures place { IfOk result (λ begun. StandsBefore self.new.tokens begun.1) }
     {
@@ -104,7 +104,7 @@ impl<'a> Reader<'a> {
     }
 
     /// Tells the heading, whose last token is at this place.
-    #[tactic(auto, using(crate::proofs::lemmas::runs::ReaderSteps::body_told))]
+    #[tactic(auto, using(crate::proofs::lemmas::runs::ReaderSteps::memory_behind))]
     fn tell_heading<R: Receive<'a>>(
         &self,
         version: Version,
@@ -131,8 +131,8 @@ impl<'a> Reader<'a> {
     /// Reads and tells the payoffs of the players at each profile, to the end.
     #[tactic(auto, using(crate::proofs::lemmas::runs::ReaderSteps::told_ends))]
     fn tell_payoffs<R: Receive<'a>>(&mut self, to: &mut R) -> Result<(), Fault>
-        ensures { (b : Telling R) → StandsAt R.holds b FlatPayoffs
-            (length self.old.heading.players.items * self.old.heading.profiles.count) 0
+        ensures { (b : Telling R) → StandsAt R.holds b (FlatPayoffs
+            (length self.old.heading.players.items * self.old.heading.profiles.count))
             self.old.tokens to.old
             → b.heading ≡ self.old.heading → MatchResult result
             (λ _. HasToldAll (R.holds b.untold) b.whole self.new.heading to.new)
@@ -148,7 +148,7 @@ impl<'a> Reader<'a> {
     #[tactic(auto, using(crate::proofs::lemmas::runs::ReaderSteps::told_ends))]
     fn tell_outcomes<R: Receive<'a>>(&mut self, to: &mut R) -> Result<(), Fault>
         ensures { (b : Telling R) → b.version ≡ version.Outcomes
-            → StandsAt R.holds b InOutcomes 0 0 self.old.tokens to.old
+            → StandsAt R.holds b (InOutcomes 0) self.old.tokens to.old
             → b.heading ≡ self.old.heading → MatchResult result
             (λ _. HasToldAll (R.holds b.untold) b.whole self.new.heading to.new)
             (λ f. Fails f b.whole) }
@@ -163,8 +163,8 @@ impl<'a> Reader<'a> {
         requires untold { R.untold to.old }
         requires uncounted { self.old.heading.counts.items ≡ [] }
         ensures { MatchResult result
-            (λ _. HasToldAll (R.holds to.old) (answer Format 0 0 self.old) self.new.heading to.new)
-            (λ f. Fails f (answer Format 0 0 self.old)) }
+            (λ _. HasToldAll (R.holds to.old) (answer Format self.old) self.new.heading to.new)
+            (λ f. Fails f (answer Format self.old)) }
     {
         let (version, last) = self.begin()?;
         self.tell_heading(version, last, to)?;

@@ -15,23 +15,23 @@ use Rattle.gf_token.proofs.Spelled.{same_tokens}
 -- ---- two ways to part a list
 
 -- the first way parts it before the second, at an item
-abbrev pub PartsBefore : List Lexeme → List Lexeme → List Lexeme → List Lexeme → Type 0
-PartsBefore xs ys us vs =
-    (z : Lexeme) × (zs : List Lexeme) × (us ≡ xs ++ z ∷ zs) × (ys ≡ z ∷ (zs ++ vs))
+abbrev pub PartsBefore : {A : Type 0} → List A → List A → List A → List A → Type 0
+PartsBefore {A} xs ys us vs =
+    (z : A) × (zs : List A) × (us ≡ xs ++ z ∷ zs) × (ys ≡ z ∷ (zs ++ vs))
 
-abbrev pub Parts : List Lexeme → List Lexeme → List Lexeme → List Lexeme → Type 0
+abbrev pub Parts : {A : Type 0} → List A → List A → List A → List A → Type 0
 Parts xs ys us vs =
     PartsBefore xs ys us vs ⊎ (((xs ≡ us) × (ys ≡ vs)) ⊎ PartsBefore us vs xs ys)
 
-pub first_and_rest : (x y : Lexeme) (xs ys : List Lexeme) → x ∷ xs ≡ y ∷ ys
+pub first_and_rest : {A : Type 0} (x y : A) (xs ys : List A) → x ∷ xs ≡ y ∷ ys
     → (x ≡ y) × (xs ≡ ys)
 first_and_rest x y xs ys e = (cc, cc)
 
-parts_more : (x u : Lexeme) (xs ys us vs : List Lexeme) → x ≡ u → Parts xs ys us vs
+parts_more : {A : Type 0} (x u : A) (xs ys us vs : List A) → x ≡ u → Parts xs ys us vs
     → Parts (x ∷ xs) ys (u ∷ us) vs
 parts_more x u xs ys us vs e h = grind arith
 
-pub parts : (xs ys us vs : List Lexeme) → xs ++ ys ≡ us ++ vs → Parts xs ys us vs
+pub parts : {A : Type 0} (xs ys us vs : List A) → xs ++ ys ≡ us ++ vs → Parts xs ys us vs
 parts [] ys [] vs e = inr (inl (refl, e))
 parts [] ys (u ∷ us) vs e = inl (u, us, refl, e)
 parts (x ∷ xs) ys [] vs e = inr (inr (x, xs, refl, sym e))

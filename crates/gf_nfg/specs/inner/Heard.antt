@@ -15,8 +15,8 @@ use Rattle.gf_nfg.specs.inner.Position.{Position, Position as p}
 
 -- the profiles pass their limit, after the strategies of one more player were read
 abbrev pub is_past : Position → ℕ → Bool
-is_past p.Counts profiles = nat_lt profile_limit profiles
-is_past p.BeforeList profiles = nat_lt profile_limit profiles
+is_past (p.Counts left) profiles = nat_lt profile_limit profiles
+is_past (p.BeforeList left) profiles = nat_lt profile_limit profiles
 is_past _ profiles = false
 
 abbrev pub within : Result State Why → Result State Why

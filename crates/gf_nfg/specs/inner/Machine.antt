@@ -2,7 +2,7 @@
 -- public contract cites this file.
 use Rattle.std.specs.Prelude.{ℕ, zero, suc, ◌+◌, ◌-◌, ◌*◌, ◌^◌, ◌||◌, min, List, [], ◌∷◌, ◌++◌}
 use Rattle.std.specs.Prelude.{length, codes, Option, Some, None, Result, Ok, Err, nat_eq, nat_le}
-use Rattle.std.specs.Prelude.{◌==◌, if◌then◌else◌}
+use Rattle.std.specs.Prelude.{if◌then◌else◌}
 use Rattle.std.specs.Cmp.Lexicographic.{pointwise}
 use Rattle.gf_token.specs.Token.{Token}
 use Rattle.gf_token.specs.Token.Token.{Opening, Closing, Comma, Text, Bare}
@@ -32,14 +32,9 @@ pub record Content : Type 0 where
   pub payoffs : List Ratio
   pub choices : List ℕ
 
--- Where the reader is; how many counts, lists, payoffs or outcome numbers are still due; how many
--- labels came before the list that is being read; the greatest number of an outcome; and what was
--- read.
+-- Where the reader is, and what was read.
 pub record State : Type 0 where
   pub position : Position
-  pub due : ℕ
-  pub list_start : ℕ
-  pub outcomes : ℕ
   pub content : Content
 
 abbrev pub nothing : Content
@@ -54,12 +49,8 @@ nothing = record {
   choices = [];
 }
 
-abbrev pub at : Position → ℕ → ℕ → ℕ → Content → State
-at q due from outcomes c =
-    record { position = q; due = due; list_start = from; outcomes = outcomes; content = c }
-
-abbrev pub to : Position → State → State
-to q s = at q s.due s.list_start s.outcomes s.content
+abbrev pub at : Position → Content → State
+at q c = record { position = q; content = c }
 
 abbrev pub with_title : Content → List ℕ → Content
 with_title c title = record c { title = title }
@@ -83,220 +74,132 @@ with_payoffs c payoffs = record c { payoffs = c.payoffs ++ payoffs }
 abbrev pub with_choices : Content → List ℕ → Content
 with_choices c choices = record c { choices = c.choices ++ choices }
 
--- ---- the heading
+-- ---- what is due
 
-abbrev pub at_format : State → Token → Result State Why
-at_format s (Bare b) =
-    if pointwise nat_eq b (codes "NFG") then Ok (to p.Version s) else Err (Expected what.Format)
-at_format s _ = Err (Expected what.Format)
+-- what is due there, which a refusal of another token names
+abbrev pub due_at : Position → What
+due_at p.Format = what.Format
+due_at p.Version = what.Version
+due_at p.Letter = what.Letter
+due_at p.Title = what.Text
+due_at p.BeforePlayers = what.Opening
+due_at p.InPlayers = what.Text
+due_at p.BeforeStrategies = what.Opening
+due_at (p.FirstStrategies zero) = what.Closing
+due_at (p.FirstStrategies (suc left)) = what.Strategies
+due_at (p.Counts zero) = what.Closing
+due_at (p.Counts (suc left)) = what.Index
+due_at (p.BeforeList zero) = what.Closing
+due_at (p.BeforeList (suc left)) = what.Opening
+due_at (p.InList left labels) = what.Text
+due_at (p.AfterStrategies zero) = what.End
+due_at (p.AfterStrategies (suc left)) = what.Number
+due_at (p.AfterComment zero) = what.End
+due_at (p.AfterComment (suc left)) = what.Number
+due_at (p.FlatPayoffs zero) = what.End
+due_at (p.FlatPayoffs (suc left)) = what.Number
+due_at (p.InOutcomes outcomes) = what.Opening
+due_at (p.OutcomeName outcomes) = what.Text
+due_at (p.BracedPayoff outcomes zero) = what.Closing
+due_at (p.BracedPayoff outcomes (suc left)) = what.Number
+due_at (p.AfterBracedPayoff outcomes zero) = what.Closing
+due_at (p.AfterBracedPayoff outcomes (suc left)) = what.Number
+due_at (p.OutcomeNumbers outcomes zero) = what.End
+due_at (p.OutcomeNumbers outcomes (suc left)) = what.Index
 
-abbrev pub at_version : State → Token → Result State Why
-at_version s (Bare b) =
-    if pointwise nat_eq b (codes "1") then Ok (to p.Letter s) else Err (Expected what.Version)
-at_version s _ = Err (Expected what.Version)
+-- ---- what a token leads to
 
-abbrev pub at_letter : State → Token → Result State Why
-at_letter s (Bare b) =
-    if pointwise nat_eq b (codes "R") || pointwise nat_eq b (codes "D") then Ok (to p.Title s)
-    else Err (Expected what.Letter)
-at_letter s _ = Err (Expected what.Letter)
+-- a count was due, before this many more, and these bytes stood there
+abbrev pub counted : ℕ → Content → Option ℕ → Result State Why
+counted left c None = Err BadIndex
+counted left c (Some n) = Ok (at (p.Counts left) (with_count c n))
 
-abbrev pub at_title : State → Token → Result State Why
-at_title s (Text label) =
-    Ok (at p.BeforePlayers s.due s.list_start s.outcomes (with_title s.content label))
-at_title s _ = Err (Expected what.Text)
-
-abbrev pub at_before_players : State → Token → Result State Why
-at_before_players s Opening = Ok (to p.InPlayers s)
-at_before_players s _ = Err (Expected what.Opening)
-
-abbrev pub at_players : State → Token → Result State Why
-at_players s (Text label) =
-    Ok (at s.position s.due s.list_start s.outcomes (with_players s.content (label ∷ [])))
-at_players s Closing =
-    Ok (at p.BeforeStrategies (length s.content.players) s.list_start s.outcomes s.content)
-at_players s _ = Err (Expected what.Text)
-
--- ---- the strategies
-
-abbrev pub at_before_strategies : State → Token → Result State Why
-at_before_strategies s Opening = Ok (to p.FirstStrategies s)
-at_before_strategies s _ = Err (Expected what.Opening)
-
--- a player has this many strategies
-abbrev pub settled : State → ℕ → Result State Why
-settled s n = Ok (at s.position s.due s.list_start s.outcomes (with_count s.content n))
-
--- a count was due, and these bytes stood there
-abbrev pub counted : State → Option ℕ → Result State Why
-counted s None = Err BadIndex
-counted s (Some n) = settled (at p.Counts (s.due - 1) s.list_start s.outcomes s.content) n
-
-abbrev pub opened : State → State
-opened s = at p.InList (s.due - 1) (length s.content.labels) s.outcomes s.content
-
--- a list with this many labels was closed
-abbrev pub listed : State → ℕ → Result State Why
-listed s zero = Err NoEntry
-listed s (suc n) = settled (at p.BeforeList s.due 0 s.outcomes s.content) (suc n)
+-- a list with this many labels was closed, before this many more lists
+abbrev pub listed : ℕ → Content → ℕ → Result State Why
+listed left c zero = Err NoEntry
+listed left c (suc n) = Ok (at (p.BeforeList left) (with_count c (suc n)))
 
 -- after the strategies, a payoff is due for each player at each profile
-abbrev pub at_strategies_end : State → Token → Result State Why
-at_strategies_end s Closing = Ok (at p.AfterStrategies
-    (length s.content.players * s.content.profiles) s.list_start s.outcomes s.content)
-at_strategies_end s _ = Err (Expected what.Closing)
-
-abbrev pub at_first : State → Token → Result State Why
-at_first s Opening = Ok (opened s)
-at_first s (Bare b) = counted s (count_of b)
-at_first s _ = Err (Expected what.Strategies)
-
-abbrev pub at_first_strategies : State → Token → Result State Why
-at_first_strategies s t = if s.due == 0 then at_strategies_end s t else at_first s t
-
-abbrev pub at_count : State → Token → Result State Why
-at_count s (Bare b) = counted s (count_of b)
-at_count s _ = Err (Expected what.Index)
-
-abbrev pub at_counts : State → Token → Result State Why
-at_counts s t = if s.due == 0 then at_strategies_end s t else at_count s t
-
-abbrev pub at_list_opening : State → Token → Result State Why
-at_list_opening s Opening = Ok (opened s)
-at_list_opening s _ = Err (Expected what.Opening)
-
-abbrev pub at_before_list : State → Token → Result State Why
-at_before_list s t = if s.due == 0 then at_strategies_end s t else at_list_opening s t
-
-abbrev pub at_list : State → Token → Result State Why
-at_list s (Text label) =
-    Ok (at s.position s.due s.list_start s.outcomes (with_labels s.content (label ∷ [])))
-at_list s Closing = listed s (length s.content.labels - s.list_start)
-at_list s _ = Err (Expected what.Text)
-
--- ---- the body
+abbrev pub strategies_end : Content → State
+strategies_end c = at (p.AfterStrategies (length c.players * c.profiles)) c
 
 -- a payoff was due, and these bytes stood there
-abbrev pub paid : Position → State → Result Ratio NumberFault → Result State Why
-paid q s (Err fault) = Err (why_of fault)
-paid q s (Ok n) = Ok (at q (s.due - 1) s.list_start s.outcomes (with_payoffs s.content (n ∷ [])))
-
-abbrev pub at_payoff : Position → State → Token → Result State Why
-at_payoff q s (Bare b) = paid q s (number_of b)
-at_payoff q s _ = Err (Expected what.Number)
-
-abbrev pub at_flat_payoffs : State → Token → Result State Why
-at_flat_payoffs s t = if s.due == 0 then Err (Expected what.End) else at_payoff p.FlatPayoffs s t
-
-abbrev pub at_after_comment : State → Token → Result State Why
-at_after_comment s Opening = Ok (at p.InOutcomes 0 s.list_start s.outcomes s.content)
-at_after_comment s t = at_flat_payoffs s t
-
-abbrev pub at_after_strategies : State → Token → Result State Why
-at_after_strategies s (Text label) =
-    Ok (at p.AfterComment s.due s.list_start s.outcomes (with_comment s.content label))
-at_after_strategies s t = at_after_comment s t
-
--- after the outcomes, an outcome number is due for each profile
-abbrev pub at_outcomes : State → Token → Result State Why
-at_outcomes s Opening = Ok (to p.OutcomeName s)
-at_outcomes s Closing =
-    Ok (at p.OutcomeNumbers s.content.profiles s.list_start s.outcomes s.content)
-at_outcomes s _ = Err (Expected what.Opening)
-
-abbrev pub at_outcome_name : State → Token → Result State Why
-at_outcome_name s (Text label) =
-    Ok (at p.BracedPayoff (length s.content.players) s.list_start s.outcomes s.content)
-at_outcome_name s _ = Err (Expected what.Text)
+abbrev pub paid : Position → Content → Result Ratio NumberFault → Result State Why
+paid q c (Err fault) = Err (why_of fault)
+paid q c (Ok n) = Ok (at q (with_payoffs c (n ∷ [])))
 
 -- no index is greater than 2^32 - 1, so no outcome after that one is ever named
 abbrev pub next_outcome : ℕ → ℕ
 next_outcome n = min (n + 1) (2 ^ 32 - 1)
 
-abbrev pub at_outcome_end : State → Token → Result State Why
-at_outcome_end s Closing =
-    Ok (at p.InOutcomes s.due s.list_start (next_outcome s.outcomes) s.content)
-at_outcome_end s _ = Err (Expected what.Closing)
-
-abbrev pub at_braced_payoff : State → Token → Result State Why
-at_braced_payoff s t = if s.due == 0 then at_outcome_end s t else at_payoff p.AfterBracedPayoff s t
-
-abbrev pub at_after_braced_payoff : State → Token → Result State Why
-at_after_braced_payoff s Comma = Ok (to p.BracedPayoff s)
-at_after_braced_payoff s t = at_braced_payoff s t
-
--- an outcome number was due, and these bytes stood there
-abbrev pub chosen : State → Option ℕ → Result State Why
-chosen s None = Err BadIndex
-chosen s (Some k) =
-    if nat_le k s.outcomes
-    then Ok
-    (at p.OutcomeNumbers (s.due - 1) s.list_start s.outcomes (with_choices s.content (k ∷ [])))
+-- after this many outcomes, the number of one was due, before this many more, and these bytes stood
+-- there
+abbrev pub chosen : ℕ → ℕ → Content → Option ℕ → Result State Why
+chosen outcomes left c None = Err BadIndex
+chosen outcomes left c (Some k) =
+    if nat_le k outcomes then Ok (at (p.OutcomeNumbers outcomes left) (with_choices c (k ∷ [])))
     else Err UnknownOutcome
 
-abbrev pub at_outcome_number : State → Token → Result State Why
-at_outcome_number s (Bare b) = chosen s (index_of b)
-at_outcome_number s _ = Err (Expected what.Index)
-
-abbrev pub at_outcome_numbers : State → Token → Result State Why
-at_outcome_numbers s t = if s.due == 0 then Err (Expected what.End) else at_outcome_number s t
-
--- ---- the whole
-
-abbrev pub step_at : Position → State → Token → Result State Why
-step_at p.Format = at_format
-step_at p.Version = at_version
-step_at p.Letter = at_letter
-step_at p.Title = at_title
-step_at p.BeforePlayers = at_before_players
-step_at p.InPlayers = at_players
-step_at p.BeforeStrategies = at_before_strategies
-step_at p.FirstStrategies = at_first_strategies
-step_at p.Counts = at_counts
-step_at p.BeforeList = at_before_list
-step_at p.InList = at_list
-step_at p.AfterStrategies = at_after_strategies
-step_at p.AfterComment = at_after_comment
-step_at p.FlatPayoffs = at_flat_payoffs
-step_at p.InOutcomes = at_outcomes
-step_at p.OutcomeName = at_outcome_name
-step_at p.BracedPayoff = at_braced_payoff
-step_at p.AfterBracedPayoff = at_after_braced_payoff
-step_at p.OutcomeNumbers = at_outcome_numbers
+-- the next token, at a position
+abbrev pub step_at : Position → Content → Token → Result State Why
+step_at p.Format c (Bare b) =
+    if pointwise nat_eq b (codes "NFG") then Ok (at p.Version c) else Err (Expected what.Format)
+step_at p.Version c (Bare b) =
+    if pointwise nat_eq b (codes "1") then Ok (at p.Letter c) else Err (Expected what.Version)
+step_at p.Letter c (Bare b) =
+    if pointwise nat_eq b (codes "R") || pointwise nat_eq b (codes "D") then Ok (at p.Title c)
+    else Err (Expected what.Letter)
+step_at p.Title c (Text label) = Ok (at p.BeforePlayers (with_title c label))
+step_at p.BeforePlayers c Opening = Ok (at p.InPlayers c)
+step_at p.InPlayers c (Text label) = Ok (at p.InPlayers (with_players c (label ∷ [])))
+step_at p.InPlayers c Closing = Ok (at p.BeforeStrategies c)
+step_at p.BeforeStrategies c Opening = Ok (at (p.FirstStrategies (length c.players)) c)
+step_at (p.FirstStrategies zero) c Closing = Ok (strategies_end c)
+step_at (p.FirstStrategies (suc left)) c Opening = Ok (at (p.InList left 0) c)
+step_at (p.FirstStrategies (suc left)) c (Bare b) = counted left c (count_of b)
+step_at (p.Counts zero) c Closing = Ok (strategies_end c)
+step_at (p.Counts (suc left)) c (Bare b) = counted left c (count_of b)
+step_at (p.BeforeList zero) c Closing = Ok (strategies_end c)
+step_at (p.BeforeList (suc left)) c Opening = Ok (at (p.InList left 0) c)
+step_at (p.InList left labels) c (Text label) =
+    Ok (at (p.InList left (labels + 1)) (with_labels c (label ∷ [])))
+step_at (p.InList left labels) c Closing = listed left c labels
+step_at (p.AfterStrategies left) c (Text label) =
+    Ok (at (p.AfterComment left) (with_comment c label))
+step_at (p.AfterStrategies left) c Opening = Ok (at (p.InOutcomes 0) c)
+step_at (p.AfterStrategies (suc left)) c (Bare b) = paid (p.FlatPayoffs left) c (number_of b)
+step_at (p.AfterComment left) c Opening = Ok (at (p.InOutcomes 0) c)
+step_at (p.AfterComment (suc left)) c (Bare b) = paid (p.FlatPayoffs left) c (number_of b)
+step_at (p.FlatPayoffs (suc left)) c (Bare b) = paid (p.FlatPayoffs left) c (number_of b)
+step_at (p.InOutcomes outcomes) c Opening = Ok (at (p.OutcomeName outcomes) c)
+step_at (p.InOutcomes outcomes) c Closing = Ok (at (p.OutcomeNumbers outcomes c.profiles) c)
+step_at (p.OutcomeName outcomes) c (Text label) =
+    Ok (at (p.BracedPayoff outcomes (length c.players)) c)
+step_at (p.BracedPayoff outcomes zero) c Closing =
+    Ok (at (p.InOutcomes (next_outcome outcomes)) c)
+step_at (p.BracedPayoff outcomes (suc left)) c (Bare b) =
+    paid (p.AfterBracedPayoff outcomes left) c (number_of b)
+step_at (p.AfterBracedPayoff outcomes left) c Comma = Ok (at (p.BracedPayoff outcomes left) c)
+step_at (p.AfterBracedPayoff outcomes zero) c Closing =
+    Ok (at (p.InOutcomes (next_outcome outcomes)) c)
+step_at (p.AfterBracedPayoff outcomes (suc left)) c (Bare b) =
+    paid (p.AfterBracedPayoff outcomes left) c (number_of b)
+step_at (p.OutcomeNumbers outcomes (suc left)) c (Bare b) = chosen outcomes left c (index_of b)
+step_at q c t = Err (Expected (due_at q))
 
 -- the next token
 abbrev pub step : State → Token → Result State Why
-step s t = step_at s.position s t
-
--- what is expected at the end of the tokens, or nothing if they may end
-abbrev pub due_at : Position → ℕ → Option What
-due_at p.Format due = Some what.Format
-due_at p.Version due = Some what.Version
-due_at p.Letter due = Some what.Letter
-due_at p.Title due = Some what.Text
-due_at p.BeforePlayers due = Some what.Opening
-due_at p.InPlayers due = Some what.Text
-due_at p.BeforeStrategies due = Some what.Opening
-due_at p.FirstStrategies due = if due == 0 then Some what.Closing else Some what.Strategies
-due_at p.Counts due = if due == 0 then Some what.Closing else Some what.Index
-due_at p.BeforeList due = if due == 0 then Some what.Closing else Some what.Opening
-due_at p.InList due = Some what.Text
-due_at p.AfterStrategies due = if due == 0 then None else Some what.Number
-due_at p.AfterComment due = if due == 0 then None else Some what.Number
-due_at p.FlatPayoffs due = if due == 0 then None else Some what.Number
-due_at p.InOutcomes due = Some what.Opening
-due_at p.OutcomeName due = Some what.Text
-due_at p.BracedPayoff due = if due == 0 then Some what.Closing else Some what.Number
-due_at p.AfterBracedPayoff due = if due == 0 then Some what.Closing else Some what.Number
-due_at p.OutcomeNumbers due = if due == 0 then None else Some what.Index
+step s t = step_at s.position s.content t
 
 -- the answer at the end of the tokens
-abbrev pub ended : Content → Option What → Result Content Why
-ended c None = Ok c
-ended c (Some expected) = Err (Expected expected)
+abbrev pub ended : Content → What → Result Content Why
+ended c what.End = Ok c
+ended c expected = Err (Expected expected)
 
 abbrev pub finish : State → Result Content Why
-finish s = ended s.content (due_at s.position s.due)
+finish s = ended s.content (due_at s.position)
+
+-- ---- the whole
 
 infixl 10 ◌>>=◌
 abbrev pub ◌>>=◌ : {A B : Type 0} → Result A Why → (A → Result B Why) → Result B Why
@@ -309,4 +212,4 @@ run s [] = finish s
 run s (t ∷ ts) = step s t >>= λ after. run after ts
 
 abbrev pub start : State
-start = at p.Format 0 0 0 nothing
+start = at p.Format nothing

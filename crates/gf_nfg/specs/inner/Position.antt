@@ -1,4 +1,6 @@
--- Where the reader of strategic files is: what may come next.
+-- Where the reader of strategic files is: what is due, with all that is known about it.
+use Rattle.std.specs.Prelude.{ℕ}
+
 pub data Position : Type 0 where
   -- the name of the format, `NFG`
   Format : Position
@@ -10,25 +12,27 @@ pub data Position : Type 0 where
   BeforePlayers : Position
   InPlayers : Position
   BeforeStrategies : Position
-  -- the first count or list; without players the closing brace
-  FirstStrategies : Position
-  -- a later count; after the last the closing brace
-  Counts : Position
-  -- a later list; after the last the closing brace
-  BeforeList : Position
-  InList : Position
-  -- the comment or the body
-  AfterStrategies : Position
+  -- the first of this many counts or lists; without players the closing brace
+  FirstStrategies : ℕ → Position
+  -- one of this many more counts; after the last the closing brace
+  Counts : ℕ → Position
+  -- one of this many more lists; after the last the closing brace
+  BeforeList : ℕ → Position
+  -- a label or the closing brace of a list, before this many more lists, after this many labels
+  InList : ℕ → ℕ → Position
+  -- the comment or the body, which has this many payoffs if it is a flat list
+  AfterStrategies : ℕ → Position
   -- the body
-  AfterComment : Position
-  -- a payoff of the flat list; after the last the end
-  FlatPayoffs : Position
-  -- an outcome, or the closing brace
-  InOutcomes : Position
-  OutcomeName : Position
-  -- a payoff of an outcome; after the last the closing brace
-  BracedPayoff : Position
+  AfterComment : ℕ → Position
+  -- one of this many more payoffs of the flat list; after the last the end
+  FlatPayoffs : ℕ → Position
+  -- an outcome or the closing brace, after this many outcomes
+  InOutcomes : ℕ → Position
+  OutcomeName : ℕ → Position
+  -- after this many outcomes, one of this many more payoffs of the next; after the last its closing
+  -- brace
+  BracedPayoff : ℕ → ℕ → Position
   -- the same, or the one comma that may follow a payoff in braces
-  AfterBracedPayoff : Position
-  -- the number of an outcome; after the last the end
-  OutcomeNumbers : Position
+  AfterBracedPayoff : ℕ → ℕ → Position
+  -- after this many outcomes, one of this many more of their numbers; after the last the end
+  OutcomeNumbers : ℕ → ℕ → Position

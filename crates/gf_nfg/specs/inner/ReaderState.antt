@@ -7,7 +7,7 @@ use Rattle.gf_token.specs.declared.fault.Fault.{Fault}
 use Rattle.gf_token.specs.declared.fault.Span.{Span}
 use Rattle.gf_token.specs.Remaining.{Remaining}
 use Rattle.gf_nfg.specs.inner.Heard.{Answer, Fails, heard, read_on, then_on, within}
-use Rattle.gf_nfg.specs.inner.Machine.{Content, at, settled}
+use Rattle.gf_nfg.specs.inner.Machine.{Content, at, with_count}
 use Rattle.gf_nfg.specs.inner.Position.{Position, Position as p}
 use Rattle.gf_nfg.specs.inner.Told.{Told}
 use Rattle.gf_nfg.specs.declared.table.heading.Heading.{Heading}
@@ -50,35 +50,32 @@ HasMore n before after = (length after.counts.items ≡ length before.counts.ite
 abbrev pub HasCounts : Heading → Type 0
 HasCounts h = length h.counts.items ≡ length h.players.items
 
--- what the machine answers to the tokens that a reader has yet to read, from a position at which
--- this many of something are due, after this many outcomes
-abbrev pub answer : Position → ℕ → ℕ → Reader → Answer
-answer q due outcomes r = heard (at q due 0 outcomes (content_in r.heading)) r.tokens
-
--- the same within a list of labels, with this many labels before it
-abbrev pub list_answer : ℕ → ℕ → Reader → Answer
-list_answer due before r = heard (at p.InList due before 0 (content_in r.heading)) r.tokens
+-- what the machine answers to the tokens that a reader has yet to read
+abbrev pub answer : Position → Reader → Answer
+answer q r = heard (at q (content_in r.heading)) r.tokens
 
 -- the same if a token says that the next player has this many strategies
-abbrev pub settling : Position → ℕ → ℕ → Span → Reader → Answer
-settling q due strategies stands r = record {
+abbrev pub settling : Position → ℕ → Span → Reader → Answer
+settling q strategies stands r = record {
   input = r.tokens.input;
   machine = then_on stands.start stands.end
-      (within (settled (at q due 0 0 (content_in r.heading)) strategies))
+      (within (Ok (at q (with_count (content_in r.heading) strategies))))
       (λ after. read_on (length r.tokens.input) after r.tokens.ahead);
 }
 
 -- ---- the body
 
 -- what the machine answers to the tokens to come, after this was told
-abbrev pub told_answer : Position → ℕ → ℕ → Remaining → Told → Answer
-told_answer q due outcomes tokens t = heard (at q due 0 outcomes (content_told t)) tokens
+abbrev pub told_answer : Position → Remaining → Told → Answer
+told_answer q tokens t = heard (at q (content_told t)) tokens
 
--- where the body begins, what the machine answers to the tokens that a reader has yet to read
+-- where the body begins, which has this many payoffs if it is a flat list
+abbrev pub body_at : Version → ℕ → Position
+body_at version.Payoffs left = p.FlatPayoffs left
+body_at version.Outcomes left = p.InOutcomes 0
+
 abbrev pub body_answer : Version → Reader → Answer
-body_answer version.Payoffs r =
-    answer p.FlatPayoffs (length r.heading.players.items * r.heading.profiles.count) 0 r
-body_answer version.Outcomes r = answer p.InOutcomes 0 0 r
+body_answer v r = answer (body_at v (length r.heading.players.items * r.heading.profiles.count)) r
 
 -- What a receiver was before it was told anything, what the machine answers where the body begins,
 -- and the heading that was told.
@@ -95,11 +92,11 @@ told_of b payoffs numbers =
 
 -- The receiver holds what it was told, and from there the machine gives its answer.
 pub record StandsAt {T : Type 0} (holds : T → T → Told → Type 0) (b : Telling T) (q : Position)
-    (due outcomes : ℕ) (tokens : Remaining) (to : T) : Type 0 where
+    (tokens : Remaining) (to : T) : Type 0 where
   pub payoffs : List Ratio
   pub numbers : List ℕ
   pub unnumbered : b.version ≡ version.Payoffs → numbers ≡ []
-  pub goes : b.whole ≡ told_answer q due outcomes tokens (told_of b payoffs numbers)
+  pub goes : b.whole ≡ told_answer q tokens (told_of b payoffs numbers)
   pub holding : holds b.untold to (told_of b payoffs numbers)
 
 -- a call leads from one such place to another

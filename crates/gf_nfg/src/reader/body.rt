@@ -22,11 +22,11 @@ use gf_token::{Fault, Tokens, What, Why};
 #[inline(always)]
 fn payoff<'a, R: Receive<'a>>(tokens: &mut Tokens<'a>, to: &mut R) -> Result<(), Fault>
     ensures flat { (b : Telling R) (due : ℕ) → 0 < due → GoesTo b result
-        (StandsAt R.holds b FlatPayoffs due 0 tokens.old to.old)
-        (StandsAt R.holds b FlatPayoffs (due - 1) 0 tokens.new to.new) }
-    ensures braced { (b : Telling R) (due outcomes : ℕ) → 0 < due → GoesTo b result
-        (StandsAt R.holds b BracedPayoff due outcomes tokens.old to.old)
-        (StandsAt R.holds b AfterBracedPayoff (due - 1) outcomes tokens.new to.new) }
+        (StandsAt R.holds b (FlatPayoffs due) tokens.old to.old)
+        (StandsAt R.holds b (FlatPayoffs (due - 1)) tokens.new to.new) }
+    ensures braced { (b : Telling R) (outcomes due : ℕ) → 0 < due → GoesTo b result
+        (StandsAt R.holds b (BracedPayoff outcomes due) tokens.old to.old)
+        (StandsAt R.holds b (AfterBracedPayoff outcomes (due - 1)) tokens.new to.new) }
     ensures shorter { OnOk result (length tokens.new.ahead ≤ length tokens.old.ahead) }
 
     // Memory is refused only if the receiver had no room.
@@ -53,8 +53,8 @@ pub(super) fn payoffs<'a, R: Receive<'a>>(
     to: &mut R,
 ) -> Result<(), Fault>
     ensures { (b : Telling R) → GoesTo b result
-        (StandsAt R.holds b FlatPayoffs due 0 tokens.old to.old)
-        (StandsAt R.holds b FlatPayoffs 0 0 tokens.new to.new) }
+        (StandsAt R.holds b (FlatPayoffs due) tokens.old to.old)
+        (StandsAt R.holds b (FlatPayoffs 0) tokens.new to.new) }
 {
     while due > 0 {
         payoff(tokens, to)?;
@@ -66,9 +66,9 @@ pub(super) fn payoffs<'a, R: Receive<'a>>(
 /// Passes the one comma that may follow a payoff in braces.
 #[inline(always)]
 fn comma(tokens: &mut Tokens<'_>)
-    ensures machine { (c : Content) (due outcomes : ℕ)
-        → heard (at AfterBracedPayoff due 0 outcomes c) tokens.old
-        ≡ heard (at BracedPayoff due 0 outcomes c) tokens.new }
+    ensures machine { (c : Content) (outcomes due : ℕ)
+        → heard (at (AfterBracedPayoff outcomes due) c) tokens.old
+        ≡ heard (at (BracedPayoff outcomes due) c) tokens.new }
     ensures shorter { length tokens.new.ahead ≤ length tokens.old.ahead }
 {
     tokens.comma();
@@ -81,8 +81,8 @@ fn braced_payoffs<'a, R: Receive<'a>>(
     to: &mut R,
 ) -> Result<(), Fault>
     ensures told { (b : Telling R) (outcomes : ℕ) → GoesTo b result
-        (StandsAt R.holds b BracedPayoff due outcomes tokens.old to.old)
-        (StandsAt R.holds b BracedPayoff 0 outcomes tokens.new to.new) }
+        (StandsAt R.holds b (BracedPayoff outcomes due) tokens.old to.old)
+        (StandsAt R.holds b (BracedPayoff outcomes 0) tokens.new to.new) }
     ensures shorter { OnOk result (length tokens.new.ahead ≤ length tokens.old.ahead) }
 {
     while due > 0 {
@@ -101,8 +101,8 @@ fn outcome<'a, R: Receive<'a>>(
 ) -> Result<(), Fault>
     ensures told { (b : Telling R) (outcomes : ℕ) → length b.heading.players.items ≡ players
         → GoesTo b result
-        (StandsAt R.holds b OutcomeName 0 outcomes tokens.old to.old)
-        (StandsAt R.holds b InOutcomes 0 (next_outcome outcomes) tokens.new to.new) }
+        (StandsAt R.holds b (OutcomeName outcomes) tokens.old to.old)
+        (StandsAt R.holds b (InOutcomes (next_outcome outcomes)) tokens.new to.new) }
     ensures shorter { OnOk result (length tokens.new.ahead ≤ length tokens.old.ahead) }
 {
     let Some(_) = tokens.text() else {
@@ -123,10 +123,10 @@ pub(super) fn outcomes<'a, R: Receive<'a>>(
     to: &mut R,
 ) -> Result<u32, Fault>
     ensures { (b : Telling R) → length b.heading.players.items ≡ players
-        → StandsAt R.holds b InOutcomes 0 0 tokens.old to.old
+        → StandsAt R.holds b (InOutcomes 0) tokens.old to.old
         → MatchResult result
-        (λ outcomes. StandsAt R.holds b OutcomeNumbers b.heading.profiles.count outcomes tokens.new
-        to.new)
+        (λ outcomes. StandsAt R.holds b (OutcomeNumbers outcomes b.heading.profiles.count)
+        tokens.new to.new)
         (λ f. Fails f b.whole) }
 {
     let mut outcomes: u32 = 0;
@@ -149,8 +149,8 @@ fn number<'a, R: Receive<'a>>(
 ) -> Result<(), Fault>
     ensures told { (b : Telling R) (due : ℕ) → b.version ≡ version.Outcomes → 0 < due
         → GoesTo b result
-        (StandsAt R.holds b OutcomeNumbers due outcomes tokens.old to.old)
-        (StandsAt R.holds b OutcomeNumbers (due - 1) outcomes tokens.new to.new) }
+        (StandsAt R.holds b (OutcomeNumbers outcomes due) tokens.old to.old)
+        (StandsAt R.holds b (OutcomeNumbers outcomes (due - 1)) tokens.new to.new) }
 
     // Memory is refused only if the receiver had no room.
     ensures full { IfErr result (λ f. f.why ≡ Memory → R.numbers_full to.old) }
@@ -178,8 +178,8 @@ pub(super) fn numbers<'a, R: Receive<'a>>(
     to: &mut R,
 ) -> Result<(), Fault>
     ensures { (b : Telling R) → b.version ≡ version.Outcomes → GoesTo b result
-        (StandsAt R.holds b OutcomeNumbers due outcomes tokens.old to.old)
-        (StandsAt R.holds b OutcomeNumbers 0 outcomes tokens.new to.new) }
+        (StandsAt R.holds b (OutcomeNumbers outcomes due) tokens.old to.old)
+        (StandsAt R.holds b (OutcomeNumbers outcomes 0) tokens.new to.new) }
 {
     while due > 0 {
         number(tokens, outcomes, to)?;
@@ -191,11 +191,11 @@ pub(super) fn numbers<'a, R: Receive<'a>>(
 /// Reads the end.
 pub(super) fn end(tokens: &mut Tokens<'_>) -> Result<(), Fault>
     ensures flat { (c : Content) → MatchResult result
-        (λ _. (heard (at FlatPayoffs 0 0 0 c) tokens.old).machine ≡ Ok c)
-        (λ f. Fails f (heard (at FlatPayoffs 0 0 0 c) tokens.old)) }
+        (λ _. (heard (at (FlatPayoffs 0) c) tokens.old).machine ≡ Ok c)
+        (λ f. Fails f (heard (at (FlatPayoffs 0) c) tokens.old)) }
     ensures chosen { (c : Content) (outcomes : ℕ) → MatchResult result
-        (λ _. (heard (at OutcomeNumbers 0 0 outcomes c) tokens.old).machine ≡ Ok c)
-        (λ f. Fails f (heard (at OutcomeNumbers 0 0 outcomes c) tokens.old)) }
+        (λ _. (heard (at (OutcomeNumbers outcomes 0) c) tokens.old).machine ≡ Ok c)
+        (λ f. Fails f (heard (at (OutcomeNumbers outcomes 0) c) tokens.old)) }
 {
     match tokens.next() {
         Ok(Some(token)) => Err(Fault::at(token.span, Why::Expected(What::End))),

@@ -6,7 +6,7 @@ ghost use Rattle.gf_nfg.specs.inner.Heard.{Goes};
 ghost use Rattle.gf_nfg.specs.inner.Position.Position.{AfterComment, AfterStrategies};
 ghost use Rattle.gf_nfg.specs.inner.Position.Position.{BeforePlayers};
 ghost use Rattle.gf_nfg.specs.inner.Position.Position.{BeforeStrategies, Format};
-ghost use Rattle.gf_nfg.specs.inner.ReaderState.{answer, body_answer};
+ghost use Rattle.gf_nfg.specs.inner.ReaderState.{answer, body_at};
 
 use super::{Reader, keep};
 use crate::reader::receive::Version;
@@ -15,8 +15,7 @@ use gf_token::{Fault, Span, What, Why};
 impl<'a> Reader<'a> {
     /// Reads everything before the players.
     pub(super) fn heading(&mut self) -> Result<(), Fault>
-        ensures machine { Goes (answer Format 0 0 self.old) result
-            (answer BeforePlayers 0 0 self.new) }
+        ensures machine { Goes (answer Format self.old) result (answer BeforePlayers self.new) }
         ensures uncounted { self.new.heading.counts ≡ self.old.heading.counts }
     {
         self.tokens.word(b"NFG", What::Format)?;
@@ -31,8 +30,8 @@ impl<'a> Reader<'a> {
 
     /// Reads the players.
     pub(super) fn players(&mut self) -> Result<(), Fault>
-        ensures machine { Goes (answer BeforePlayers 0 0 self.old) result
-            (answer BeforeStrategies (length self.new.heading.players.items) 0 self.new) }
+        ensures machine { Goes (answer BeforePlayers self.old) result
+            (answer BeforeStrategies self.new) }
         ensures uncounted { self.new.heading.counts ≡ self.old.heading.counts }
     {
         let Some(_) = self.tokens.opening() else {
@@ -52,7 +51,7 @@ impl<'a> Reader<'a> {
     pub(super) fn comment(&mut self, brace: Span) -> Span
         requires { StandsBefore self.old.tokens brace }
         ensures machine { (due : ℕ)
-            → answer AfterStrategies due 0 self.old ≡ answer AfterComment due 0 self.new }
+            → answer (AfterStrategies due) self.old ≡ answer (AfterComment due) self.new }
         ensures kept { self.new.heading
             ≡ record self.old.heading { comment = self.new.heading.comment } }
         ensures place { StandsBefore self.new.tokens result }
@@ -68,9 +67,8 @@ impl<'a> Reader<'a> {
     /// place of the last token, which was given before.
     pub(super) fn version(&mut self, last: Span) -> (Version, Span)
         requires { StandsBefore self.old.tokens last }
-        ensures machine { answer AfterComment
-            (length self.old.heading.players.items * self.old.heading.profiles.count) 0 self.old
-            ≡ body_answer result.0 self.new }
+        ensures machine { (due : ℕ)
+            → answer (AfterComment due) self.old ≡ answer (body_at result.0 due) self.new }
         ensures kept { self.new.heading ≡ self.old.heading }
         ensures place { StandsBefore self.new.tokens result.1 }
     {

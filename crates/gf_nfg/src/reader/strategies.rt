@@ -9,9 +9,8 @@ ghost use Rattle.gf_token.specs.declared.fault.Why.TheVariants.{Memory};
 ghost use Rattle.gf_nfg.specs.inner.Heard.{Goes};
 ghost use Rattle.gf_nfg.specs.inner.Position.Position.{AfterStrategies, BeforeList};
 ghost use Rattle.gf_nfg.specs.inner.Position.Position.{BeforeStrategies};
-ghost use Rattle.gf_nfg.specs.inner.Position.Position.{Counts, FirstStrategies};
-ghost use Rattle.gf_nfg.specs.inner.ReaderState.{HasMore, answer, labels_of};
-ghost use Rattle.gf_nfg.specs.inner.ReaderState.{list_answer, settling};
+ghost use Rattle.gf_nfg.specs.inner.Position.Position.{Counts, FirstStrategies, InList};
+ghost use Rattle.gf_nfg.specs.inner.ReaderState.{HasMore, answer, settling};
 
 use super::{Reader, keep};
 use crate::reader::readings;
@@ -22,10 +21,10 @@ impl<'a> Reader<'a> {
     fn settle(&mut self, strategies: usize, stands: Span) -> Result<(), Fault>
         requires some { 0 < strategies }
         requires place { StandsBefore self.old.tokens stands }
-        ensures counts { (due : ℕ) → Goes (settling Counts due strategies stands self.old) result
-            (answer Counts due 0 self.new) }
-        ensures lists { (due : ℕ) → Goes (settling BeforeList due strategies stands self.old) result
-            (answer BeforeList due 0 self.new) }
+        ensures counts { (due : ℕ) → Goes (settling (Counts due) strategies stands self.old) result
+            (answer (Counts due) self.new) }
+        ensures lists { (due : ℕ) → Goes (settling (BeforeList due) strategies stands self.old)
+            result (answer (BeforeList due) self.new) }
 
         ensures counted { OnOk result (HasMore 1 self.old.heading self.new.heading) }
 
@@ -47,10 +46,10 @@ impl<'a> Reader<'a> {
     fn count(&mut self, due: What) -> Result<(), Fault>
         ensures first { (left : ℕ) → 0 < left → due ≡ what.Strategies
             → starts is_opening self.old.tokens.ahead ≡ false
-            → Goes (answer FirstStrategies left 0 self.old) result
-            (answer Counts (left - 1) 0 self.new) }
+            → Goes (answer (FirstStrategies left) self.old) result
+            (answer (Counts (left - 1)) self.new) }
         ensures later { (left : ℕ) → 0 < left → due ≡ what.Index
-            → Goes (answer Counts left 0 self.old) result (answer Counts (left - 1) 0 self.new) }
+            → Goes (answer (Counts left) self.old) result (answer (Counts (left - 1)) self.new) }
         ensures counted { OnOk result (HasMore 1 self.old.heading self.new.heading) }
     {
         let Some((word, index)) = self.tokens.index() else {
@@ -64,21 +63,18 @@ impl<'a> Reader<'a> {
 
     /// Reads the rest of a list of labels, after its opening brace.
     fn list(&mut self) -> Result<(), Fault>
-        ensures machine { (left : ℕ)
-            → Goes (list_answer left (length (labels_of self.old.heading.labels.items)) self.old)
-            result
-            (answer BeforeList left 0 self.new) }
+        ensures machine { (left : ℕ) → Goes (answer (InList left 0) self.old) result
+            (answer (BeforeList left) self.new) }
         ensures counted { OnOk result (HasMore 1 self.old.heading self.new.heading) }
     {
-        let before = self.heading.labels.len();
+        let mut strategies: usize = 0;
         while let Some(strategy) = self.tokens.text() {
             keep(&mut self.heading.labels, strategy)?;
+            strategies += 1;
         }
         let Some(brace) = self.tokens.closing() else {
             return Err(self.tokens.refusal(Why::Expected(What::Text)));
         };
-        // The list starts where the labels ended.
-        let strategies = self.heading.labels.len().saturating_sub(before);
         if strategies == 0 {
             return Err(Fault::at(brace, Why::NoEntry));
         }
@@ -87,7 +83,7 @@ impl<'a> Reader<'a> {
 
     /// Reads this many counts, as many as are still due.
     fn counts(&mut self, mut due: usize) -> Result<(), Fault>
-        ensures machine { Goes (answer Counts due 0 self.old) result (answer Counts 0 0 self.new) }
+        ensures machine { Goes (answer (Counts due) self.old) result (answer (Counts 0) self.new) }
         ensures counted { OnOk result (HasMore due self.old.heading self.new.heading) }
     {
         while due > 0 {
@@ -99,8 +95,8 @@ impl<'a> Reader<'a> {
 
     /// Reads this many lists of labels, as many as are still due.
     fn lists(&mut self, mut due: usize) -> Result<(), Fault>
-        ensures machine { Goes (answer BeforeList due 0 self.old) result
-            (answer BeforeList 0 0 self.new) }
+        ensures machine { Goes (answer (BeforeList due) self.old) result
+            (answer (BeforeList 0) self.new) }
         ensures counted { OnOk result (HasMore due self.old.heading self.new.heading) }
     {
         while due > 0 {
@@ -117,8 +113,8 @@ impl<'a> Reader<'a> {
     #[tactic(auto, using(crate::proofs::lemmas::runs::ReaderSteps::first_steps))]
     fn counts_or_lists(&mut self) -> Result<(), Fault>
         ensures machine { Goes
-            (answer FirstStrategies (length self.old.heading.players.items) 0 self.old) result
-            (answer FirstStrategies 0 0 self.new) }
+            (answer (FirstStrategies (length self.old.heading.players.items)) self.old) result
+            (answer (FirstStrategies 0) self.new) }
         ensures counted { OnOk result (HasMore (length self.old.heading.players.items)
             self.old.heading self.new.heading) }
     {
@@ -136,10 +132,8 @@ impl<'a> Reader<'a> {
 
     /// Reads the strategies of the players, in braces. Returns the place of the closing brace.
     pub(super) fn strategies(&mut self) -> Result<Span, Fault>
-        ensures machine { Goes (answer BeforeStrategies (length self.old.heading.players.items) 0
-            self.old) result
-            (answer AfterStrategies
-            (length self.new.heading.players.items * self.new.heading.profiles.count) 0 self.new) }
+        ensures machine { Goes (answer BeforeStrategies self.old) result (answer (AfterStrategies
+            (length self.new.heading.players.items * self.new.heading.profiles.count)) self.new) }
         ensures counted { OnOk result (HasMore (length self.old.heading.players.items)
             self.old.heading self.new.heading) }
         ensures place { IfOk result (λ brace. StandsBefore self.new.tokens brace) }

@@ -1,9 +1,8 @@
 //! Whether two tables are the same to play.
 
-ghost use Rattle.std.specs.Prelude.{◌≡◌, ◌<◌, ◌↔◌, [], IfOk, IsTrue, if◌then◌else◌, length};
+ghost use Rattle.std.specs.Prelude.{◌≡◌, ◌↔◌, [], IfOk, IsTrue, if◌then◌else◌};
 ghost use Rattle.gf_token.specs.Label.{label_of};
 ghost use Rattle.gf_nfg.specs.SameTable.{SamePlay};
-ghost use Rattle.gf_nfg.specs.TableParts.{own_of};
 ghost use Rattle.gf_nfg.specs.inner.TextParts.{names_by};
 
 use crate::table::Table;
@@ -13,64 +12,6 @@ use crate::table::rows::{Rows, Shared};
 use gf_fraction::Fraction;
 use gf_token::Label;
 use std::alloc::{AllocError, Global};
-
-/// Whether the player at this place has the same strategies in both.
-#[tactic(auto, using(crate::proofs::lemmas::tables::Agreement::same_by_labels))]
-fn same_own(a: &Names, b: &Names, at: usize) -> bool
-    requires left { at < length a.now.players }
-    requires right { at < length b.now.players }
-    ensures { IsTrue result ↔ (own_of a.now at ≡ own_of b.now at) }
-{
-    if a.strategies(at) != b.strategies(at) {
-        return false;
-    }
-    for strategy in 0..a.strategies(at) {
-        if a.strategy(at, strategy) != b.strategy(at, strategy) {
-            return false;
-        }
-    }
-    true
-}
-
-/// Whether both have the same players.
-#[tactic(auto, using(crate::proofs::lemmas::tables::Agreement::same_by_labels))]
-fn same_players(a: &Names, b: &Names) -> bool
-    ensures { IsTrue result ↔ (a.now.players ≡ b.now.players) }
-{
-    if a.players() != b.players() {
-        return false;
-    }
-    for at in 0..a.players() {
-        if a.player(at) != b.player(at) {
-            return false;
-        }
-    }
-    true
-}
-
-/// Whether the players of both have the same strategies.
-#[tactic(auto, using(crate::proofs::lemmas::tables::Agreement::same_by_own))]
-fn same_strategies(a: &Names, b: &Names) -> bool
-    ensures { IsTrue result ↔ (a.now.strategies ≡ b.now.strategies) }
-{
-    if a.players() != b.players() {
-        return false;
-    }
-    for at in 0..a.players() {
-        if !same_own(a, b, at) {
-            return false;
-        }
-    }
-    true
-}
-
-/// Whether both have the same players with the same strategies.
-fn same_names(a: &Names, b: &Names) -> bool
-    ensures { IsTrue result
-        ↔ ((a.now.players ≡ b.now.players) × (a.now.strategies ≡ b.now.strategies)) }
-{
-    same_players(a, b) && same_strategies(a, b)
-}
 
 /// Whether two labels are the same, if they count.
 fn same_label(a: Label<'_>, b: Label<'_>, counts: bool) -> bool
@@ -86,7 +27,7 @@ pub(crate) fn same_heading(a: &Names, b: &Names, named: bool) -> bool
 {
     same_label(a.title(), b.title(), named)
         && same_label(a.comment(), b.comment(), named)
-        && same_names(a, b)
+        && a.plays_as(b)
 }
 
 /// Whether both rows are the same.
@@ -167,7 +108,7 @@ impl Table {
     pub fn play_agrees(&self, o: &Table) -> bool
         ensures { IsTrue result ↔ SamePlay self.now o.now }
     {
-        same_names(self.names(), o.names()) && same_rows(self.rows(), o.rows())
+        self.names().plays_as(o.names()) && same_rows(self.rows(), o.rows())
     }
 
     /// What `play_agrees` returns, in time that grows with what both tables keep: the payoffs of
@@ -180,6 +121,6 @@ impl Table {
     pub fn plays_alike(&self, alloc: Global, o: &Table) -> Result<bool, AllocError>
         ensures { IfOk result (λ answer. IsTrue answer ↔ SamePlay self.now o.now) }
     {
-        Ok(same_names(self.names(), o.names()) && same_kept_rows(alloc, self.rows(), o.rows())?)
+        Ok(self.names().plays_as(o.names()) && same_kept_rows(alloc, self.rows(), o.rows())?)
     }
 }

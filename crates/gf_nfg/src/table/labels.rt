@@ -1,7 +1,7 @@
 //! Lists of labels that own their bytes.
 
 ghost use Rattle.std.specs.Prelude.{◌≡◌, ◌<◌, ◌++◌, ◌∷◌, [], Some};
-ghost use Rattle.std.specs.Prelude.{length, map, slice_get, sum, IfOk, OnErr, OnOk};
+ghost use Rattle.std.specs.Prelude.{◌↔◌, length, map, slice_get, sum, IfOk, IsTrue, OnErr, OnOk};
 ghost use Rattle.std.specs.List.{join_with_byte};
 ghost use Rattle.gf_token.specs.Label.{label_of};
 ghost use Rattle.gf_token.specs.LabelSpelling.{IsLabel};
@@ -83,6 +83,14 @@ impl Labels {
         ensures spelled { AreSpellings self.now }
     {
         self.ends.len()
+    }
+
+    /// Whether both are the same labels.
+    #[tactic(auto, using(crate::proofs::lemmas::tables::Pieces::one_way_cut))]
+    pub(crate) fn is_same(&self, o: &Labels) -> bool
+        ensures { IsTrue result ↔ (self.now ≡ o.now) }
+    {
+        self.ends == o.ends && self.bytes == o.bytes
     }
 
     /// How many bytes the labels have, all together.

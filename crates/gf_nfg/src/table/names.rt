@@ -1,7 +1,7 @@
 //! Everything of a table except its payoffs: its title, its comment, its players and their
 //! strategies.
 
-ghost use Rattle.std.specs.Prelude.{◌≡◌, ◌<◌, ◌∷◌, Some, IfOk, length, map, slice_get};
+ghost use Rattle.std.specs.Prelude.{◌≡◌, ◌<◌, ◌↔◌, ◌∷◌, Some, IfOk, IsTrue, length, map, slice_get};
 ghost use Rattle.gf_token.specs.Label.{label_of};
 ghost use Rattle.gf_nfg.specs.TableParts.{own_of};
 
@@ -80,6 +80,14 @@ impl Names {
         ensures { label_of result ≡ self.now.comment }
     {
         self.heading.label(1)
+    }
+
+    /// Whether both have the same players with the same strategies.
+    pub(crate) fn plays_as(&self, o: &Names) -> bool
+        ensures { IsTrue result
+            ↔ ((self.now.players ≡ o.now.players) × (self.now.strategies ≡ o.now.strategies)) }
+    {
+        self.players.is_same(&o.players) && self.strategies.is_same(&o.strategies)
     }
 
     /// How many players there are.

@@ -1,7 +1,7 @@
 //! The strategies of players, in memory of their own.
 
 ghost use Rattle.std.specs.Prelude.{◌≡◌, ◌<◌, ◌++◌, ◌∷◌, [], Some, get_or, length, map, IfOk};
-ghost use Rattle.std.specs.Prelude.{OnOk, slice_get};
+ghost use Rattle.std.specs.Prelude.{◌↔◌, IsTrue, OnOk, slice_get};
 ghost use Rattle.std.specs.List.{AllByRecursion};
 ghost use Rattle.gf_token.specs.Label.{label_of};
 ghost use Rattle.gf_nfg.specs.Sentence.{counted_labels};
@@ -143,6 +143,14 @@ impl Strategies {
             start = end;
         }
         Ok(all)
+    }
+
+    /// Whether both are the same lists.
+    #[tactic(auto, using(crate::proofs::lemmas::tables::Pieces::one_way_cut))]
+    pub(crate) fn is_same(&self, o: &Strategies) -> bool
+        ensures { IsTrue result ↔ (self.now ≡ o.now) }
+    {
+        self.ends == o.ends && self.labels.is_same(&o.labels)
     }
 
     /// The labels of all players, one player after another.

@@ -2,30 +2,26 @@
 -- all files that begin with the tokens through it are above the limit.
 use Rattle.gf_nfg.proofs.Common.{all_images, all_mapped, all_parts, profile_limit, BeginsPastLimit}
 use Rattle.gf_nfg.proofs.Common.{IsBareOrClosing, IsLimitByFiles, StaysWithinLimit, GivesCounts, at}
-use Rattle.gf_nfg.proofs.Common.{IsLimitPlace, product, IsCount, IsLabelList, Sentence, IsTable, p}
-use Rattle.gf_nfg.proofs.Common.{Table, Content, State, start, step, Each, tokens_of, Bare, Closing}
-use Rattle.gf_nfg.proofs.Common.{Opening, Token, Span, List, Ok, [], ap, append_assoc, arith, drop}
-use Rattle.gf_nfg.proofs.Common.{inl, inr, length, length-append, length-take, map, refl, subst, ℕ}
-use Rattle.gf_nfg.proofs.Common.{suc, sym, take, zero, ◌++◌, ◌-◌, ◌<◌, ◌∙◌, ◌∷◌, ◌≡◌, ◌≤◌}
-use Rattle.gf_nfg.proofs.Common.{take_all, take-append_seam, cases_lt, length-map, take-append-drop}
-use Rattle.gf_nfg.proofs.Common.{take-map, take-take, codes, ◌↔◌, ◌⊎◌}
+use Rattle.gf_nfg.proofs.Common.{IsLimitPlace, product, IsCount, IsLabelList, Sentence, p, Position}
+use Rattle.gf_nfg.proofs.Common.{parts, PartsBefore, Table, Content, State, start, step, Each}
+use Rattle.gf_nfg.proofs.Common.{tokens_of, Bare, Closing, Opening, Token, Span, List, Ok, [], ap}
+use Rattle.gf_nfg.proofs.Common.{append_assoc, arith, drop, inl, inr, length, length-append}
+use Rattle.gf_nfg.proofs.Common.{length-take, map, refl, subst, ℕ, suc, sym, take, zero, ◌++◌, ◌-◌}
+use Rattle.gf_nfg.proofs.Common.{◌<◌, ◌∙◌, ◌∷◌, ◌≡◌, ◌≤◌, take_all, take-append_seam, cases_lt}
+use Rattle.gf_nfg.proofs.Common.{length-map, take-append-drop, take-map, take-take, codes, ◌↔◌, ◌⊎◌}
 use Rattle.gf_nfg.proofs.lemmas.places.Led.{begins, last_count, makes_more, products, read_past}
 use Rattle.gf_nfg.proofs.lemmas.places.Led.{stays_within}
 use Rattle.gf_nfg.proofs.lemmas.runs.Sentence.{kind_of}
 use Rattle.gf_nfg.proofs.lemmas.runs.Strategies.{Kind, Strategies, all_groups, all_in, and_more}
 use Rattle.gf_nfg.proofs.lemmas.runs.Strategies.{and_more_is, behind, each_parts, groups_walk, next}
 use Rattle.gf_nfg.proofs.lemmas.runs.Strategies.{heading, heading_leads, heading_line, with_group}
-use Rattle.gf_nfg.proofs.lemmas.runs.Common.{Leads, leads_more, leads_on, walk_split}
-use Rattle.gf_nfg.proofs.lemmas.tables.Profiles.{length-profiles}
+use Rattle.gf_nfg.proofs.lemmas.runs.Common.{Leads, leads_more, leads_on, then_ok, walk, walk_split}
+use Rattle.gf_nfg.proofs.lemmas.tables.Rows.{entries_counted}
 
 -- the product passes the limit with the last of these counts, and with none before
 pub record PassesAtLast (counts : List ℕ) : Type 0 where
   pub passes : profile_limit < product counts
   pub nowhere_before : (k : ℕ) → k < length counts → product (take k counts) ≤ profile_limit
-
--- it has as many entries as the product of its players' numbers of strategies
-pub entries_counted : (t : Table) → IsTable t → length t.entries ≡ product (map length t.strategies)
-entries_counted t h = grind (arith, length-map, length-profiles)
 
 -- where a number passes the limit, it first passes it somewhere
 first_past : (f : ℕ → ℕ) (n : ℕ) → f 0 ≤ profile_limit → profile_limit < f n
@@ -60,25 +56,6 @@ last_of : {A : Type 0} (x : A) (xs : List A)
     → (front : List A) × (last : A) × (x ∷ xs ≡ front ++ last ∷ [])
 last_of x [] = ([], x, refl)
 last_of x (y ∷ ys) = let h = last_of y ys in (x ∷ h.0, h.1, cc h.2)
-
--- a token that comes after some tokens stands in others too, before their end
-abbrev pub StandsIn : List Token → Token → List Token → Type 0
-StandsIn xs x us = (zs : List Token) × (us ≡ xs ++ x ∷ zs)
-
--- a token after some tokens and one after others are one, or one of them stands before the other
-abbrev pub Parted : List Token → Token → List Token → Token → Type 0
-Parted xs x us u = ((xs ≡ us) × (x ≡ u)) ⊎ (StandsIn xs x us ⊎ StandsIn us u xs)
-
-parted_more : (z w : Token) (xs : List Token) (x : Token) (us : List Token) (u : Token)
-    → z ≡ w → Parted xs x us u → Parted (z ∷ xs) x (w ∷ us) u
-parted_more z w xs x us u e h = grind arith
-
-pub parted : (xs : List Token) (x : Token) (ys us : List Token) (u : Token) (vs : List Token)
-    → xs ++ x ∷ ys ≡ us ++ u ∷ vs → Parted xs x us u
-parted [] x ys [] u vs e = grind arith
-parted [] x ys (w ∷ us) u vs e = inr (inl (us, cc))
-parted (z ∷ xs) x ys [] u vs e = inr (inr (xs, cc))
-parted (z ∷ xs) x ys (w ∷ us) u vs e = grind (arith, parted_more, parted xs x ys us u vs (cc))
 
 -- ---- a token at which the machine passes the limit
 
@@ -118,11 +95,17 @@ limit_token ts t h =
 abbrev pub AreGroups : List Token → Strategies → Type 0
 AreGroups inner strategies = Each IsCount inner strategies ⊎ Each IsLabelList inner strategies
 
-some_behind : (k : Kind) (strategies : Strategies)
-    → profile_limit < product (map length strategies)
-    → behind k strategies p.FirstStrategies ≡ next k
-some_behind k [] over = absurd (omega arith)
-some_behind k (labels ∷ strategies) over = refl
+some_behind : (k : Kind) (strategies : Strategies) (due : ℕ) (q : Position)
+    → profile_limit < product (map length strategies) → behind k strategies due q ≡ next k due
+some_behind k [] due q over = absurd (omega arith)
+some_behind k (labels ∷ strategies) due q over = refl
+
+below_last : (counts ns : List ℕ) (n : ℕ) → counts ≡ ns ++ n ∷ [] → PassesAtLast counts
+    → product ns ≤ profile_limit
+below_last counts ns n e h =
+    let longer = length-append ns (n ∷ []) in
+    let below = h.nowhere_before (length ns) in
+    grind (arith, take-append_seam ns (n ∷ []))
 
 passes_given : (ts : List Token) (t : Token) (counts : List ℕ) → GivesCounts (ts ++ t ∷ []) counts
     → PassesAtLast counts → Passes ts t
@@ -132,32 +115,31 @@ passes_given ts t counts g h =
     let c : Content = heading g.title g.players in
     let due = length g.players - length g.strategies in
     let d : Content = all_in (with_group k.0) c g.strategies in
-    let after : State = at (behind k.0 g.strategies p.FirstStrategies) due 0 0 d in
-    let first = g.first_players in
+    let first : Position = p.FirstStrategies (and_more g.strategies due) in
+    let after : State = at (behind k.0 g.strategies due first) d in
+    let fewer = g.first_players in
     let passes = h.passes in
     let size = length-map g.strategies length in
     let more = and_more_is g.strategies due in
     let all : and_more g.strategies due ≡ length g.players =
-    omega (arith, more, size, first, ap length g.are_counts) in
+    omega (arith, more, size, fewer, ap length g.are_counts) in
     let begun = heading_leads g.letter g.title g.players g.is_letter in
-    let opened : Leads (line ++ Opening ∷ [])
-    (at p.FirstStrategies (and_more g.strategies due) 0 0 c) =
+    let opened : Leads (line ++ Opening ∷ []) (at first c) =
     rw all (leads_more line Opening _ _ begun refl) in
-    let walks = groups_walk k.0 g.strategies g.inner p.FirstStrategies (inl refl) due c k.1
+    let walks = groups_walk k.0 g.strategies g.inner due first (inl refl) c k.1
     (all_mapped (λ (n : ℕ). 0 < n) length g.strategies (rw (← g.are_counts) g.some_strategy)) in
     let whole = leads_on (line ++ Opening ∷ []) g.inner _ after opened walks in
     let led : Leads (ts ++ t ∷ []) after =
     cc (g.parts, append_assoc line (Opening ∷ []) g.inner, whole) in
     let m = walk_split ts (t ∷ []) start after led in
-    let steps : step m.0 t ≡ Ok after = grind (arith, m.2) in
+    let n = then_ok (step m.0 t) (λ x. walk x []) after m.2 in
+    let steps = n.1 ∙ n.2 in
     let counted : d.counts ≡ counts =
     ap (λ (e : Content). e.counts) (all_groups k.0 g.strategies c) ∙ sym g.are_counts in
-    let stands = some_behind k.0 g.strategies (rw (← g.are_counts) passes) in
-    let l = last_count m.0 after t k.0 stands steps in
+    let stands = some_behind k.0 g.strategies due first (rw (← g.are_counts) passes) in
+    let l = last_count m.0 after t k.0 due stands steps in
     let parts : counts ≡ m.0.content.counts ++ l.0 ∷ [] = sym counted ∙ l.1 in
-    let longer = length-append m.0.content.counts (l.0 ∷ []) in
-    let seam = take-append_seam m.0.content.counts (l.0 ∷ []) in
-    let below = h.nowhere_before (length m.0.content.counts) in
+    let fits = below_last counts m.0.content.counts l.0 parts h in
     let mid = products ts start m.0 m.1 refl in
     let total = products (ts ++ t ∷ []) start after led refl in
     record {
@@ -165,7 +147,7 @@ passes_given ts t counts g h =
       after = after;
       leads = m.1;
       steps = steps;
-      within = grind (arith, parts, longer, seam, below, mid);
+      within = omega (arith, mid, fits);
       over = grind (arith, total, counted, passes);
     }
 
@@ -220,19 +202,19 @@ found tokens t s over =
 
 -- ---- there is one such token
 
-none_before : (xs : List Token) (x : Token) (us : List Token)
-    → IsLimitToken xs x → StaysWithinLimit us → ¬ (StandsIn xs x us)
-none_before xs x us h stays stands =
-    let w = stays xs stands.0 x stands.1 h.grows in let over = h.past.past w.0 in grind arith
+none_before : (xs : List Token) (x : Token) (ys us vs : List Token) → IsLimitToken xs x
+    → StaysWithinLimit us → ¬ (PartsBefore xs (x ∷ ys) us vs)
+none_before xs x ys us vs h stays before =
+    let w = stays xs before.1 x (cc) h.grows in let over = h.past.past w.0 in grind arith
 
 one_limit_token : (xs : List Token) (x : Token) (ys us : List Token) (u : Token) (vs : List Token)
     → xs ++ x ∷ ys ≡ us ++ u ∷ vs → IsLimitToken xs x → IsLimitToken us u
     → xs ++ x ∷ [] ≡ us ++ u ∷ []
-one_limit_token xs x ys us u vs e h k =
-    let p = parted xs x ys us u vs e in
-    let first = none_before xs x us h k.first in
-    let second = none_before us u xs k h.first in
-    grind arith
+one_limit_token xs x ys us u vs e h k = elim (parts xs (x ∷ ys) us (u ∷ vs) e) [
+  | inl p ↦ absurd (none_before xs x ys us (u ∷ vs) h k.first p)
+  | inr (inl p) ↦ cc
+  | inr (inr p) ↦ absurd (none_before us u vs xs (x ∷ ys) k h.first p)
+]
 
 -- ---- the law
 

@@ -10,11 +10,12 @@ use Rattle.gf_nfg.proofs.Common.{begins_front, parts, same_span, tokens_on, same
 use Rattle.gf_nfg.proofs.Common.{IsAccepted, IsOffendingPlace, IsSpanOf, tokens_of, AreInOrder, Why}
 use Rattle.gf_nfg.proofs.Common.{Remaining, StandsBefore, Broken, Lexeme, Token, lexeme, Spells, ap}
 use Rattle.gf_nfg.proofs.Common.{Fault, Span, What, Expected, Memory, TooManyProfiles, Err, List}
-use Rattle.gf_nfg.proofs.Common.{Unterminated, Option, Result, append-nil, append_assoc, inl, arith}
+use Rattle.gf_nfg.proofs.Common.{Unterminated, Result, append-nil, append_assoc, inl, arith}
 use Rattle.gf_nfg.proofs.Common.{inr, length, refl, subst, sym, ◌++◌, ◌<◌, ◌∷◌, ◌≡◌, ◌≤◌, IfErr}
-use Rattle.gf_nfg.proofs.Common.{map-append, first_and_rest, None, Some, MayFollow, table_of, ◌⊎◌}
+use Rattle.gf_nfg.proofs.Common.{map-append, first_and_rest, MayFollow, table_of, ◌⊎◌}
 use Rattle.gf_nfg.proofs.lemmas.tables.Meaning.{within_limit}
 use Rattle.gf_token.proofs.Spans.{starts_later}
+use Rattle.gf_token.specs.declared.fault.What.TheVariants.{End}
 use Rattle.gf_nfg.proofs.lemmas.limit.Counts.{limit_by_files, limit_token}
 use Rattle.gf_nfg.proofs.lemmas.places.Led.{IsRead, Led, begins, bounded, led_more, led_none, past}
 use Rattle.gf_nfg.proofs.lemmas.places.Led.{no_file, read_whole, refused, spelled_as, stays_within}
@@ -176,15 +177,14 @@ module _ (bytes : List ℕ) where
       (refused (tokens_of h.seen) Broken s b.0 h.leads b.1))
   took s from to t ls h = took_step s (lexeme from to t) ls (step s t) h tt refl
 
-  end_answered : (s : State) (o : Option What) → Led bytes [] s → due_at s.position s.due ≡ o
-      → IsAnswered bytes (at_end (length bytes) (ended s.content o))
-  end_answered s None h e = (read_whole bytes s s.content h (ap (ended s.content) e), h.few)
-  end_answered s (Some what) h e =
-      let is = ap (ended s.content) e in
-      let reason = end_reason (tokens_of h.seen) [] s h.leads what is in
-      let none = no_file (tokens_of h.seen) s (Expected what) h.leads is in
-      refused_by (Expected what) bytes (end_of (length bytes))
-      (refusal bytes s [] (end_of (length bytes)) (Expected what) h (refl, refl) reason none)
+  end_answered : (s : State) (due : What) → Led bytes [] s → due_at s.position ≡ due
+      → IsAnswered bytes (at_end (length bytes) (ended s.content due))
+  end_answered s End h e = (read_whole bytes s s.content h (ap (ended s.content) e), h.few)
+  end_answered s due h e =
+      let reason = end_reason (tokens_of h.seen) [] s h.leads due e in
+      let none = no_file (tokens_of h.seen) s (Expected due) h.leads (ap (ended s.content) e) in
+      refused_by (Expected due) bytes (end_of (length bytes))
+      (refusal bytes s [] (end_of (length bytes)) (Expected due) h (refl, refl) reason none)
 
   token_answered : (l : Lexeme) (ls : List Lexeme) (o : Result State Why) → Took ls l o
       → ((after : State) → Led bytes ls after → IsAnswered bytes (read_on (length bytes) after ls))
@@ -193,7 +193,7 @@ module _ (bytes : List ℕ) where
 
   answered_on : (s : State) (ls : List Lexeme) → Led bytes ls s
       → IsAnswered bytes (read_on (length bytes) s ls)
-  answered_on s [] h = end_answered s (due_at s.position s.due) h refl
+  answered_on s [] h = end_answered s (due_at s.position) h refl
   answered_on s (l ∷ ls) h = token_answered l ls (taken s l.token)
       (took s l.start l.end l.token ls h) (λ after led. answered_on after ls led)
 
@@ -314,7 +314,7 @@ pub answer_read : (bytes : List ℕ) (all : List Lexeme) (c : Content) → Spell
 answer_read bytes all c spelled e = grind (arith, all_answered)
 
 pub heard_begun : (r : Reader) (bytes : List ℕ) → r.tokens.input ≡ bytes
-    → content_in r.heading ≡ nothing → to_all bytes r.tokens.ahead ≡ answer p.Format 0 0 r
+    → content_in r.heading ≡ nothing → to_all bytes r.tokens.ahead ≡ answer p.Format r
 heard_begun r bytes input none = grind arith
 
 pub refused_why : {A : Type 0} (f : Fault) (P : Fault → Type 0) (result : Result A Fault)

@@ -2,12 +2,12 @@
 -- it to. No token makes the number of profiles smaller, so above their limit they stay there.
 use Rattle.gf_nfg.proofs.Common.{profile_limit, BeginsWithinLimit, IsBareOrClosing, product, Table}
 use Rattle.gf_nfg.proofs.Common.{StaysWithinLimit, IsStrategicFile, Sentence, SpellsTable, is_past}
-use Rattle.gf_nfg.proofs.Common.{Content, State, finish, run, settled, start, step, ◌>>=◌, table_of}
+use Rattle.gf_nfg.proofs.Common.{Content, State, finish, run, start, step, ◌>>=◌, table_of}
 use Rattle.gf_nfg.proofs.Common.{p, Position, same_tokens, Begins, MayFollow, tokens_of, Lexeme, Ok}
 use Rattle.gf_nfg.proofs.Common.{Token, Spells, Why, Err, List, Result, [], ap, append-nil, arith}
 use Rattle.gf_nfg.proofs.Common.{append_assoc, false, length, refl, subst, sym, true, ℕ, ◌*◌, ◌++◌}
 use Rattle.gf_nfg.proofs.Common.{◌<◌, ◌∙◌, ◌∷◌, ◌≡◌, ◌≤◌, mul_assoc, map-append, is_ok}
-use Rattle.gf_nfg.proofs.lemmas.runs.Ends.{IsSettled, ends, settled_ends}
+use Rattle.gf_nfg.proofs.lemmas.runs.Ends.{ends, reached}
 use Rattle.gf_nfg.proofs.lemmas.runs.Sentence.{Read, one_table, sentence_again, sentence_found}
 use Rattle.gf_nfg.proofs.lemmas.runs.Strategies.{Kind, next}
 use Rattle.gf_nfg.proofs.lemmas.runs.Common.{Leads, leads_more, leads_run, then_ok, walk, walk_run}
@@ -18,8 +18,9 @@ use Rattle.gf_nfg.proofs.lemmas.tables.Meaning.{length-entries}
 
 pub begins : (ts : List Token) (s : State) → Leads ts s → Begins IsStrategicFile ts
 begins ts s h =
-    let e = ends s in
-    (e.0, (table_of e.1, (sentence_found (ts ++ e.0) e.1 (leads_run ts e.0 s h ∙ e.2)).sentence))
+    let e = ends s.position s.content in
+    let all = leads_run ts e.more s h ∙ e.goes_on in
+    (e.more, (table_of e.read, (sentence_found (ts ++ e.more) e.read all).sentence))
 
 pub follows : (ts : List Token) (t : Token) (s after : State) → Leads ts s → step s t ≡ Ok after
     → MayFollow IsStrategicFile ts t
@@ -115,8 +116,8 @@ HasCount c d = (n : ℕ) × (d.counts ≡ c.counts ++ n ∷ []) × (d.profiles �
 
 -- a count or a list was read, or there are as many as before
 abbrev IsGrownAt : Position → Content → Content → Type 0
-IsGrownAt p.Counts c d = HasCount c d
-IsGrownAt p.BeforeList c d = HasCount c d
+IsGrownAt (p.Counts left) c d = HasCount c d
+IsGrownAt (p.BeforeList left) c d = HasCount c d
 IsGrownAt _ c d = (d.counts ≡ c.counts) × (d.profiles ≡ c.profiles)
 
 abbrev IsGrown : State → Result State Why → Type 0
@@ -127,9 +128,9 @@ grown : (s : State) (t : Token) → IsGrown s (step s t)
 grown s t = grind arith
 
 -- the last count of those that were read
-pub last_count : (s after : State) (t : Token) (k : Kind) → after.position ≡ next k
+pub last_count : (s after : State) (t : Token) (k : Kind) (due : ℕ) → after.position ≡ next k due
     → step s t ≡ Ok after → (n : ℕ) × (after.content.counts ≡ s.content.counts ++ n ∷ [])
-last_count s after t k q e = let h = subst (IsGrown s) e (grown s t) in grind arith
+last_count s after t k due q e = let h = subst (IsGrown s) e (grown s t) in grind arith
 
 product_snoc : (ns : List ℕ) (n : ℕ) → product (ns ++ n ∷ []) ≡ product ns * n
 product_snoc [] n = omega arith
@@ -159,7 +160,7 @@ past q n h = grind arith
 
 -- after one of these no list is open
 settles : (s after : State) (t : Token) → step s t ≡ Ok after → IsBareOrClosing t
-    → IsSettled after.position
+    → reached after.position after.content.profiles ≡ after.content.profiles
 settles s after t e h = grind arith
 
 -- ---- above the limit
@@ -192,13 +193,13 @@ read_past ts s h more t sentence =
     let grown = run_grows more s p.content (sym (leads_run ts more s h) ∙ p.read) in
     grind (arith, size_read)
 
-begins_within : (ts : List Token) (s : State)
-    → Leads ts s → IsSettled s.position → s.content.profiles ≤ profile_limit → BeginsWithinLimit ts
-begins_within ts s h settled within =
-    let e = settled_ends s settled in
-    let all : run start (ts ++ e.0) ≡ Ok e.1 = leads_run ts e.0 s h ∙ e.2 in
-    let size = size_read (ts ++ e.0) e.1 all in
-    grind (arith, sentence_found)
+begins_within : (ts : List Token) (s : State) → Leads ts s
+    → reached s.position s.content.profiles ≤ profile_limit → BeginsWithinLimit ts
+begins_within ts s h within =
+    let e = ends s.position s.content in
+    let all : run start (ts ++ e.more) ≡ Ok e.read = leads_run ts e.more s h ∙ e.goes_on in
+    let size = size_read (ts ++ e.more) e.read all in
+    grind (arith, sentence_found, e.count)
 
 -- up to there the limit was not passed
 pub stays_within : (ts : List Token) (s : State) → Leads ts s → s.content.profiles ≤ profile_limit
@@ -207,4 +208,5 @@ stays_within ts s h within front back token parts is =
     let a = walk_split front (token ∷ back) start s (cc (h, parts)) in
     let b = then_ok (step a.0 token) (λ x. walk x back) s a.2 in
     let grown = walk_grows back b.0 s b.2 in
-    grind (arith, begins_within, leads_more front token a.0 b.0 a.1 b.1, settles)
+    begins_within (front ++ token ∷ []) b.0 (leads_more front token a.0 b.0 a.1 b.1)
+    (omega (arith, grown, within, settles a.0 b.0 token b.1 is))

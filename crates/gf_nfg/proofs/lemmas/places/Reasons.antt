@@ -1,19 +1,18 @@
 -- The table of positions: what each row accepts and how it refuses the rest, and that the machine
--- does so. What a row names is due there, so the code of each refusal is the reason for it.
-use Rattle.gf_nfg.proofs.Common.{number_again, number_is, number_is_computed, same_fault}
-use Rattle.gf_nfg.proofs.Common.{gcd_within, lowest_of, number_of, HasNumberFault, Reads, Ratio}
-use Rattle.gf_nfg.proofs.Common.{NumberFault, Count, Format, Letter, OutcomeNumber, Payoff, Version}
-use Rattle.gf_nfg.proofs.Common.{IsDue, Role, RoleIsDue, Suits, Applies, IsReason, IsStrategicFile}
-use Rattle.gf_nfg.proofs.Common.{Content, State, chosen, counted, due_at, ended, finish, paid}
-use Rattle.gf_nfg.proofs.Common.{step, step_at, to, table_of, p, Position, count_again, count_is}
-use Rattle.gf_nfg.proofs.Common.{index_again, index_is, code_of, IsIndex, count_of, index_of}
-use Rattle.gf_nfg.proofs.Common.{why_of, Begins, MayFollow, Bare, Broken, Closing, Comma, Opening}
-use Rattle.gf_nfg.proofs.Common.{Text, Token, What, BadIndex, Expected, NoEntry, NotANumber}
-use Rattle.gf_nfg.proofs.Common.{UnknownOutcome, Unterminated, ZeroDenominator, Why, Bool, Err}
-use Rattle.gf_nfg.proofs.Common.{List, None, Ok, Option, Result, Some, [], ap, arith, false, inl}
-use Rattle.gf_nfg.proofs.Common.{inr, length, map, nat_eq, refl, subst, suc, sym, true, zero, ℕ}
-use Rattle.gf_nfg.proofs.Common.{◌++◌, ◌-◌, ◌<◌, ◌∷◌, ◌≡◌, ◌≤◌, nat_tests, false_from_ne_true}
-use Rattle.gf_nfg.proofs.Common.{is_ok, pointwise, codes, if◌then◌else◌, not, ◌==◌, ◌||◌, ◌↔◌, ◌⊎◌}
+-- does so. What is due there the row accepts, so the code of each refusal is the reason for it.
+use Rattle.gf_nfg.proofs.Common.{IsStrategicFile, false_from_ne_true, number_is, number_is_computed}
+use Rattle.gf_nfg.proofs.Common.{HasNumberFault, OutcomeNumber, UnknownOutcome, ZeroDenominator, at}
+use Rattle.gf_nfg.proofs.Common.{NumberFault, Unterminated, count_again, index_again, number_again}
+use Rattle.gf_nfg.proofs.Common.{IsReason, NotANumber, gcd_within, lowest_of, number_of, same_fault}
+use Rattle.gf_nfg.proofs.Common.{MayFollow, Ok, Position, RoleIsDue, nat_tests, pointwise, table_of}
+use Rattle.gf_nfg.proofs.Common.{BadIndex, Expected, Format, count_is, count_of, index_is, index_of}
+use Rattle.gf_nfg.proofs.Common.{Applies, Content, IsIndex, Version, Why, code_of, counted, step_at}
+use Rattle.gf_nfg.proofs.Common.{Closing, Letter, NoEntry, Opening, Payoff, chosen, due_at, why_of}
+use Rattle.gf_nfg.proofs.Common.{Begins, Broken, Count, IsDue, Option, Ratio, Reads, Result, nat_eq}
+use Rattle.gf_nfg.proofs.Common.{Comma, Err, State, Suits, Token, arith, ended, false, is_ok, subst}
+use Rattle.gf_nfg.proofs.Common.{Bare, Bool, List, None, Role, Some, Text, What, codes, paid, step}
+use Rattle.gf_nfg.proofs.Common.{inl, inr, map, p, refl, suc, sym, true, zero, ◌++◌, ◌<◌, ◌||◌, ◌∷◌}
+use Rattle.gf_nfg.proofs.Common.{[], ap, ℕ, ◌↔◌, ◌≡◌, ◌≤◌, ◌⊎◌}
 use Rattle.gf_nfg.proofs.lemmas.places.Led.{begins, follows, is_file, refused, stops}
 use Rattle.gf_nfg.proofs.lemmas.runs.Common.{same_bytes, Leads, leads_on, walk}
 use Rattle.gf_nfg.proofs.lemmas.runs.Ends.{zero_is_index, zero_is_number, zero_number, zero_text}
@@ -21,24 +20,68 @@ use Rattle.gf_nfg.proofs.lemmas.runs.Strategies.{labels_walk}
 use Rattle.gf_token.specs.declared.fault.What.TheVariants as what
 use Rattle.gf_fraction.specs.declared.fraction.NumberFault.TheVariants as number
 
--- Which tokens a row accepts, bare ones by their role, and the `What` of its E3.
+-- Which tokens a row accepts, bare ones by their role.
 pub record Row : Type 0 where
   pub opening : Bool
   pub closing : Bool
   pub comma : Bool
   pub text : Bool
   pub bare : Option Role
-  pub expected : What
 
-abbrev pub none : What → Row
-none expected = record {
-  opening = false;
-  closing = false;
-  comma = false;
-  text = false;
-  bare = None;
-  expected = expected;
-}
+abbrev pub none : Row
+none = record { opening = false; closing = false; comma = false; text = false; bare = None }
+
+abbrev pub only : Role → Row
+only role = record none { bare = Some role }
+
+abbrev a_text : Row
+a_text = record none { text = true }
+
+abbrev an_opening : Row
+an_opening = record none { opening = true }
+
+abbrev a_closing : Row
+a_closing = record none { closing = true }
+
+-- without players no payoff is due
+abbrev a_body : ℕ → Row
+a_body zero = an_opening
+a_body (suc left) = record an_opening { bare = Some Payoff }
+
+-- a closing brace would leave a list of labels empty
+abbrev pub unfilled : Position → Bool
+unfilled (p.InList left zero) = true
+unfilled _ = false
+
+-- the row of a position
+abbrev pub row_at : Position → Row
+row_at p.Format = only Format
+row_at p.Version = only Version
+row_at p.Letter = only Letter
+row_at p.Title = a_text
+row_at p.BeforePlayers = an_opening
+row_at p.InPlayers = record a_text { closing = true }
+row_at p.BeforeStrategies = an_opening
+row_at (p.FirstStrategies zero) = a_closing
+row_at (p.FirstStrategies (suc left)) = record an_opening { bare = Some Count }
+row_at (p.Counts zero) = a_closing
+row_at (p.Counts (suc left)) = only Count
+row_at (p.BeforeList zero) = a_closing
+row_at (p.BeforeList (suc left)) = an_opening
+row_at (p.InList left zero) = a_text
+row_at (p.InList left (suc labels)) = record a_text { closing = true }
+row_at (p.AfterStrategies left) = record (a_body left) { text = true }
+row_at (p.AfterComment left) = a_body left
+row_at (p.FlatPayoffs zero) = none
+row_at (p.FlatPayoffs (suc left)) = only Payoff
+row_at (p.InOutcomes outcomes) = record an_opening { closing = true }
+row_at (p.OutcomeName outcomes) = a_text
+row_at (p.BracedPayoff outcomes zero) = a_closing
+row_at (p.BracedPayoff outcomes (suc left)) = only Payoff
+row_at (p.AfterBracedPayoff outcomes zero) = record a_closing { comma = true }
+row_at (p.AfterBracedPayoff outcomes (suc left)) = record (only Payoff) { comma = true }
+row_at (p.OutcomeNumbers outcomes zero) = none
+row_at (p.OutcomeNumbers outcomes (suc left)) = only (OutcomeNumber outcomes)
 
 abbrev pub AcceptsBare : Option Role → List ℕ → Type 0
 AcceptsBare None bytes = false ≡ true
@@ -65,15 +108,15 @@ abbrev pub RefusesClosing : Bool → What → Why → Type 0
 RefusesClosing true expected why = why ≡ NoEntry
 RefusesClosing false expected why = why ≡ Expected expected
 
-abbrev pub Refuses : Bool → Row → Token → Why → Type 0
-Refuses unfilled row (Bare bytes) why = RefusesBare row.bare row.expected bytes why
-Refuses unfilled row Closing why = RefusesClosing unfilled row.expected why
-Refuses unfilled row _ why = why ≡ Expected row.expected
+abbrev pub Refuses : Position → Token → Why → Type 0
+Refuses q (Bare bytes) why = RefusesBare (row_at q).bare (due_at q) bytes why
+Refuses q Closing why = RefusesClosing (unfilled q) (due_at q) why
+Refuses q _ why = why ≡ Expected (due_at q)
 
--- the machine's answer to a token is that of the row, if a closing brace leaves a list empty or not
-abbrev pub Answers : Bool → Row → Token → Result State Why → Type 0
-Answers unfilled row token (Ok after) = Accepts row token
-Answers unfilled row token (Err why) = ¬ (Accepts row token) × Refuses unfilled row token why
+-- a token goes on or is refused, as its row says
+abbrev pub AsRow : Type 0 → (Why → Type 0) → Result State Why → Type 0
+AsRow accepts refuses (Ok after) = accepts
+AsRow accepts refuses (Err why) = ¬ accepts × refuses why
 
 -- ---- what bare tokens are answered
 
@@ -81,114 +124,52 @@ same_word : (b word : List ℕ) → pointwise nat_eq word word ≡ true → b �
     → pointwise nat_eq b word ≡ true
 same_word b word h e = subst (λ (x : List ℕ). pointwise nat_eq x word ≡ true) (sym e) h
 
-counted_by : (row : Row) (s : State) (b : List ℕ) (o : Option ℕ) → count_of b ≡ o
-    → Answers false (record row { bare = Some Count }) (Bare b) (counted s o)
-counted_by row s b o e = grind (arith, count_is b, count_again b)
-
-paid_by : (row : Row) (q : Position) (s : State) (b : List ℕ) (o : Result Ratio NumberFault)
-    → number_of b ≡ o → Answers false (record row { bare = Some Payoff }) (Bare b) (paid q s o)
-paid_by row q s b (Ok n) e = (n, number_is b n e)
-paid_by row q s b (Err fault) e = (
-  λ suits. let f = number_again b suits.0 suits.1 in absurd cc,
-  (fault, refl, subst (Reads b) e (number_is_computed b)),
-)
-
-chosen_by : (row : Row) (s : State) (b : List ℕ) (o : Option ℕ) → index_of b ≡ o
-    → Answers false (record row { bare = Some (OutcomeNumber s.outcomes) }) (Bare b) (chosen s o)
-chosen_by row s b o e = grind (arith, nat_tests, index_is b, index_again b)
-
--- ---- the rows
-
-abbrev pub only : Role → What → Row
-only role expected = record (none expected) { bare = Some role }
-
-abbrev a_text : Row
-a_text = record (none what.Text) { text = true }
-
-abbrev an_opening : Row
-an_opening = record (none what.Opening) { opening = true }
-
-abbrev a_closing : Row
-a_closing = record (none what.Closing) { closing = true }
-
-abbrev first_row : Row
-first_row = record (none what.Strategies) { opening = true; bare = Some Count }
-
-abbrev a_payoff : Row
-a_payoff = only Payoff what.Number
-
-abbrev a_body : Row
-a_body = record a_payoff { opening = true }
-
--- no players
-abbrev an_empty_body : Row
-an_empty_body = record (none what.End) { opening = true }
-
--- with one more token accepted
-abbrev or_text : Row → Row
-or_text row = record row { text = true }
-
-abbrev or_comma : Row → Row
-or_comma row = record row { comma = true }
-
-abbrev pub has_some : ℕ → Bool
-has_some zero = false
-has_some (suc n) = true
-
--- how many labels stand in the list
-abbrev pub listed_in : State → ℕ
-listed_in s = length s.content.labels - s.list_start
-
--- a closing brace would leave a list of labels empty
-abbrev pub unfilled : Position → State → Bool
-unfilled p.InList s = not (has_some (listed_in s))
-unfilled _ s = false
-
--- the row of a position, by what is due
-abbrev pub row_at : Position → State → Row
-row_at p.Format s = only Format what.Format
-row_at p.Version s = only Version what.Version
-row_at p.Letter s = only Letter what.Letter
-row_at p.Title s = a_text
-row_at p.BeforePlayers s = an_opening
-row_at p.InPlayers s = record a_text { closing = true }
-row_at p.BeforeStrategies s = an_opening
-row_at p.FirstStrategies s = if s.due == 0 then a_closing else first_row
-row_at p.Counts s = if s.due == 0 then a_closing else only Count what.Index
-row_at p.BeforeList s = if s.due == 0 then a_closing else an_opening
-row_at p.InList s = record a_text { closing = has_some (listed_in s) }
-row_at p.AfterStrategies s = if s.due == 0 then or_text an_empty_body else or_text a_body
-row_at p.AfterComment s = if s.due == 0 then an_empty_body else a_body
-row_at p.FlatPayoffs s = if s.due == 0 then none what.End else a_payoff
-row_at p.InOutcomes s = record an_opening { closing = true }
-row_at p.OutcomeName s = a_text
-row_at p.BracedPayoff s = if s.due == 0 then a_closing else a_payoff
-row_at p.AfterBracedPayoff s = if s.due == 0 then or_comma a_closing else or_comma a_payoff
-row_at p.OutcomeNumbers s =
-    if s.due == 0 then none what.End else only (OutcomeNumber s.outcomes) what.Index
-
--- ---- the machine's answers
-
 letter_again : (b : List ℕ) → Suits Letter b
     → (pointwise nat_eq b (codes "R") || pointwise nat_eq b (codes "D")) ≡ true
 letter_again b h = grind (arith, same_word)
 
-pub answers : (q : Position) (s : State) (t : Token)
-    → Answers (unfilled q s) (row_at q s) t (step_at q s t)
-answers p.Format s (Bare b) = grind (arith, same_bytes, same_word)
-answers p.Version s (Bare b) = grind (arith, same_bytes, same_word)
-answers p.Letter s (Bare b) = grind (arith, same_bytes, letter_again)
-answers p.OutcomeNumbers s (Bare b) = grind (arith, chosen_by first_row s b (index_of b) refl)
-answers q s (Bare b) =
-    let counted = counted_by first_row s b (count_of b) refl in
-    let flat = paid_by a_body p.FlatPayoffs s b (number_of b) refl in
-    let braced = paid_by a_body p.AfterBracedPayoff s b (number_of b) refl in
-    grind arith
-answers q s t = grind arith
+counted_by : (left : ℕ) (c : Content) (b : List ℕ) (o : Option ℕ) → count_of b ≡ o
+    → AsRow (Suits Count b) (λ why. why ≡ BadIndex) (counted left c o)
+counted_by left c b o e = grind (arith, count_is b, count_again b)
+
+paid_by : (q : Position) (c : Content) (b : List ℕ) (o : Result Ratio NumberFault) → number_of b ≡ o
+    → AsRow (Suits Payoff b) (RefusesBare (Some Payoff) what.Number b) (paid q c o)
+paid_by q c b (Ok n) e = (n, number_is b n e)
+paid_by q c b (Err fault) e = (
+  λ suits. let f = number_again b suits.0 suits.1 in absurd cc,
+  (fault, refl, subst (Reads b) e (number_is_computed b)),
+)
+
+chosen_by : (outcomes left : ℕ) (c : Content) (b : List ℕ) (o : Option ℕ) → index_of b ≡ o
+    → AsRow (Suits (OutcomeNumber outcomes) b)
+    (RefusesBare (Some (OutcomeNumber outcomes)) what.Index b) (chosen outcomes left c o)
+chosen_by outcomes left c b o e = grind (arith, nat_tests, index_is b, index_again b)
+
+-- ---- the machine's answers
+
+pub answers : (q : Position) (c : Content) (t : Token)
+    → AsRow (Accepts (row_at q) t) (Refuses q t) (step_at q c t)
+answers p.Format c (Bare b) = grind (arith, same_bytes, same_word)
+answers p.Version c (Bare b) = grind (arith, same_bytes, same_word)
+answers p.Letter c (Bare b) = grind (arith, same_bytes, letter_again)
+answers (p.FirstStrategies (suc left)) c (Bare b) = counted_by left c b (count_of b) refl
+answers (p.Counts (suc left)) c (Bare b) = counted_by left c b (count_of b) refl
+answers (p.AfterStrategies (suc left)) c (Bare b) =
+    paid_by (p.FlatPayoffs left) c b (number_of b) refl
+answers (p.AfterComment (suc left)) c (Bare b) =
+    paid_by (p.FlatPayoffs left) c b (number_of b) refl
+answers (p.FlatPayoffs (suc left)) c (Bare b) = paid_by (p.FlatPayoffs left) c b (number_of b) refl
+answers (p.BracedPayoff outcomes (suc left)) c (Bare b) =
+    paid_by (p.AfterBracedPayoff outcomes left) c b (number_of b) refl
+answers (p.AfterBracedPayoff outcomes (suc left)) c (Bare b) =
+    paid_by (p.AfterBracedPayoff outcomes left) c b (number_of b) refl
+answers (p.OutcomeNumbers outcomes (suc left)) c (Bare b) =
+    chosen_by outcomes left c b (index_of b) refl
+answers q c t = grind arith
 
 -- ---- what is due
 
--- what a row names it accepts
+-- the row accepts this
 abbrev pub Names : Row → What → Type 0
 Names row what.Format = row.bare ≡ Some Format
 Names row what.Version = row.bare ≡ Some Version
@@ -203,61 +184,55 @@ Names row what.Strategies = (row.bare ≡ Some Count) × (row.opening ≡ true)
 Names row what.Node = ⊥
 Names row what.End = Unit {0}
 
--- what is expected, unless it is the end
-abbrev pub unless_end : What → Option What
-unless_end what.End = None
-unless_end expected = Some expected
-
--- a row accepts what it names, and this is expected there
-abbrev Named : Row → Option What → Type 0
-Named row expected = Names row row.expected × (expected ≡ unless_end row.expected)
-
-named_at : (q : Position) (s : State) → Named (row_at q s) (due_at q s.due)
-named_at p.FirstStrategies s = grind arith
-named_at q s = grind arith
+-- a row accepts what is due there
+named_at : (q : Position) → Names (row_at q) (due_at q)
+named_at q = grind arith
 
 abbrev pub row_of : State → Row
-row_of s = row_at s.position s
+row_of s = row_at s.position
 
 -- an unterminated text is refused in each state
 pub broken_refused : (s : State) → (why : Why) × (step s Broken ≡ Err why)
-broken_refused s = let a = answers s.position s Broken in grind arith
+broken_refused s = let a = answers s.position s.content Broken in grind arith
 
 -- ---- texts after a refused brace
 
 -- if a brace would leave a list empty, any labels may follow
-pub labels_follow : (q : Position) (s : State) → unfilled q s ≡ true → (labels : List (List ℕ))
-    → (after : State) × (walk (to q s) (map Text labels) ≡ Ok after)
-labels_follow p.InList s e labels =
-    (_, labels_walk labels s.due s.list_start s.outcomes s.content)
-labels_follow _ s e labels = absurd cc
+pub labels_follow : (q : Position) (c : Content) → unfilled q ≡ true → (labels : List (List ℕ))
+    → (after : State) × (walk (at q c) (map Text labels) ≡ Ok after)
+labels_follow (p.InList left zero) c e labels = (_, labels_walk labels left 0 c)
+labels_follow _ c e labels = absurd cc
 
 abbrev pub two_texts : List Token
 two_texts = Text [] ∷ Text [] ∷ []
 
 -- otherwise, no two texts may follow
-pub no_texts_follow : (q : Position) (s : State) → (row_at q s).closing ≡ false
-    → unfilled q s ≡ false → is_ok (walk (to q s) two_texts) ≡ false
-no_texts_follow q s e f = grind arith
+pub no_texts_follow : (q : Position) (c : Content) → (row_at q).closing ≡ false
+    → unfilled q ≡ false → is_ok (walk (at q c) two_texts) ≡ false
+no_texts_follow q c e f = grind arith
 
 -- ---- what may follow
 
 -- limits aside, after tokens that lead to a state
 module _ (ts : List Token) (s : State) (h : Leads ts s) where
+  answered : (token : Token) (o : Result State Why) → step s token ≡ o
+      → AsRow (Accepts (row_of s) token) (Refuses s.position token) o
+      → MayFollow IsStrategicFile ts token ↔ Accepts (row_of s) token
+  answered token (Ok after) e a = (λ f. a, λ accepts. follows ts token s after h e)
+  answered token (Err why) e a =
+      (λ f. absurd (refused ts token s why h e f), λ accepts. absurd (a.0 accepts))
+
   -- a token may follow exactly when its row accepts it
   pub may_follow : (token : Token)
       → MayFollow IsStrategicFile ts token ↔ Accepts (row_of s) token
   may_follow token =
-      let a = answers s.position s token in
-      let b = λ (after : State). follows ts token s after h in
-      let d = λ (why : Why). refused ts token s why h in
-      grind (arith, a, b, d)
+      answered token (step s token) refl (answers s.position s.content token)
 
   role_is_due : (role : Role) → (row_of s).bare ≡ Some role → RoleIsDue ts role
   role_is_due role e = λ bytes. let a = may_follow (Bare bytes) in grind arith
 
-  named_is_due : (expected : What) → Names (row_of s) expected
-      → due_at s.position s.due ≡ unless_end expected → IsDue ts expected
+  named_is_due : (expected : What) → Names (row_of s) expected → due_at s.position ≡ expected
+      → IsDue ts expected
   named_is_due what.Format n e = role_is_due Format n
   named_is_due what.Version n e = role_is_due Version n
   named_is_due what.Letter n e = role_is_due Letter n
@@ -272,8 +247,8 @@ module _ (ts : List Token) (s : State) (h : Leads ts s) where
   named_is_due what.End n e =
       (table_of s.content, is_file ts s s.content h (ap (ended s.content) e))
 
-  expected_is_due : IsDue ts (row_of s).expected
-  expected_is_due = let n = named_at s.position s in named_is_due (row_of s).expected n.0 n.1
+  expected_is_due : IsDue ts (due_at s.position)
+  expected_is_due = named_is_due (due_at s.position) (named_at s.position) refl
 
 -- ---- no two roles of numbers are due at one place
 
@@ -370,28 +345,24 @@ abbrev pub IsWhole : Token → Type 0
 IsWhole Broken = ⊥
 IsWhole token = Unit {0}
 
-end_names : (c : Content) (expected named : What)
-    → ended c (unless_end expected) ≡ Err (Expected named) → expected ≡ named
-end_names c expected named e = grind arith
-
 module _ (ts after : List Token) (s : State) (h : Leads ts s) where
   follows_as : (o : Option Role) (b : List ℕ) → (row_of s).bare ≡ o
       → MayFollow IsStrategicFile ts (Bare b) → AcceptsBare o b
   follows_as o b e f = grind (arith, may_follow ts s h (Bare b))
 
-  expected_reason : (t : Token) (why : Why) → why ≡ Expected (row_of s).expected
+  expected_reason : (t : Token) (why : Why) → why ≡ Expected (due_at s.position)
       → NoneApplies ts t → IsReason why ts (t ∷ after)
   expected_reason t why e none = rw e (expected_is_due ts s h, none)
 
   -- in a row that expects no number
   word_reason : (b : List ℕ) (why : Why) (o : Option Role) → (row_of s).bare ≡ o
       → ¬ (AcceptsBare o zero_text) → ¬ (AcceptsBare o two_text)
-      → why ≡ Expected (row_of s).expected → IsReason why ts (Bare b ∷ after)
+      → why ≡ Expected (due_at s.position) → IsReason why ts (Bare b ∷ after)
   word_reason b why o e z t is = expected_reason (Bare b) why is (none_of_bare ts b
       (λ f. z (follows_as o zero_text e f)) (λ f. t (follows_as o two_text e f)))
 
   bare_reason : (b : List ℕ) (why : Why) (o : Option Role) → (row_of s).bare ≡ o
-      → ¬ (AcceptsBare o b) → RefusesBare o (row_of s).expected b why
+      → ¬ (AcceptsBare o b) → RefusesBare o (due_at s.position) b why
       → IsReason why ts (Bare b ∷ after)
   bare_reason b why (Some Count) e n r =
       let due = role_is_due ts s h Count e in
@@ -411,40 +382,35 @@ module _ (ts after : List Token) (s : State) (h : Leads ts s) where
   bare_reason b why o e n r =
       word_reason b why o e (λ z. grind arith) (λ t. grind arith) r
 
-  closing_reason : (why : Why) (empty : Bool) → unfilled s.position s ≡ empty
-      → ¬ ((row_of s).closing ≡ true) → RefusesClosing empty (row_of s).expected why
+  closing_reason : (why : Why) (empty : Bool) → unfilled s.position ≡ empty
+      → ¬ ((row_of s).closing ≡ true) → RefusesClosing empty (due_at s.position) why
       → IsReason why ts (Closing ∷ after)
   closing_reason why true e n r =
       let labels : (labels : List (List ℕ)) → Begins IsStrategicFile (ts ++ map Text labels) =
       λ labels.
-      let w = labels_follow s.position s e labels in
+      let w = labels_follow s.position s.content e labels in
       begins (ts ++ map Text labels) w.0 (leads_on ts (map Text labels) s w.0 h w.1) in
       grind (arith, may_follow ts s h Closing, lowest_entry ts)
   closing_reason why false e n r =
       expected_reason Closing why r (none_of_closing ts (stops ts two_texts s h
-      (no_texts_follow s.position s (false_from_ne_true (row_of s).closing n) e)))
+      (no_texts_follow s.position s.content (false_from_ne_true (row_of s).closing n) e)))
 
   refused_reason : (t : Token) (why : Why) → IsWhole t → ¬ (Accepts (row_of s) t)
-      → Refuses (unfilled s.position s) (row_of s) t why → IsReason why ts (t ∷ after)
-  refused_reason Closing why w n r = closing_reason why (unfilled s.position s) refl n r
+      → Refuses s.position t why → IsReason why ts (t ∷ after)
+  refused_reason Closing why w n r = closing_reason why (unfilled s.position) refl n r
   refused_reason (Bare b) why w n r = bare_reason b why (row_of s).bare refl n r
   refused_reason Broken why w n r = absurd w
-  refused_reason Opening why w n r = expected_reason Opening why r (λ other g. grind arith)
-  refused_reason Comma why w n r = expected_reason Comma why r (λ other g. grind arith)
-  refused_reason (Text label) why w n r =
-      expected_reason (Text label) why r (λ other g. grind arith)
+  refused_reason t why w n r = expected_reason t why r (λ other g. grind arith)
 
   pub reason : (t : Token) (why : Why) → IsWhole t → step s t ≡ Err why
       → IsReason why ts (t ∷ after)
   reason t why whole e =
-      let a = subst (Answers (unfilled s.position s) (row_of s) t) e (answers s.position s t) in
+      let a = subst (AsRow (Accepts (row_of s) t) (Refuses s.position t)) e
+      (answers s.position s.content t) in
       refused_reason t why whole a.0 a.1
 
   -- ---- the end
 
-  pub end_reason : (named : What) → finish s ≡ Err (Expected named)
-      → IsReason (Expected named) ts []
-  end_reason named e =
-      let n = named_at s.position s in
-      let due = expected_is_due ts s h in
-      grind (arith, end_names s.content (row_of s).expected named)
+  pub end_reason : (expected : What) → due_at s.position ≡ expected
+      → IsReason (Expected expected) ts []
+  end_reason expected e = let due = expected_is_due ts s h in grind arith

@@ -1,26 +1,26 @@
 -- Each state of the machine can be completed.
 use Rattle.gf_nfg.proofs.Common.{gcd_within, lowest_of, number_of, Ratio, whole, Content, State, at}
-use Rattle.gf_nfg.proofs.Common.{next_outcome, run, with_choices, with_count, with_labels, p}
+use Rattle.gf_nfg.proofs.Common.{next_outcome, run, step, with_choices, with_count, with_labels, p}
 use Rattle.gf_nfg.proofs.Common.{with_payoffs, with_title, Position, count_of, index_of, Bare, Text}
-use Rattle.gf_nfg.proofs.Common.{Closing, Comma, Opening, Token, List, Ok, Some, [], arith, inl}
-use Rattle.gf_nfg.proofs.Common.{inr, length, length-append, pos, refl, suc, zero, ℕ}
-use Rattle.gf_nfg.proofs.Common.{◌*◌, ◌+◌, ◌-◌, ◌<◌, ◌∙◌, ◌∷◌, ◌≡◌, mul-one, le-leb, codes}
-use Rattle.gf_nfg.proofs.lemmas.runs.Common.{not_zero, pred_suc}
-use Rattle.gf_nfg.proofs.lemmas.runs.Strategies.{Takes, list_closed}
-use Rattle.gf_nfg.proofs.lemmas.runs.Strategies.Kind.{ByCounts}
+use Rattle.gf_nfg.proofs.Common.{Closing, Comma, Opening, Token, List, Ok, Some, [], arith, length}
+use Rattle.gf_nfg.proofs.Common.{pos, refl, suc, zero, ℕ, ◌*◌, ◌∙◌, ◌∷◌, ◌≡◌, mul-one, le-leb}
+use Rattle.gf_nfg.proofs.Common.{codes}
 
 -- it can be completed, to this many profiles
-abbrev pub EndsWith : State → ℕ → Type 0
-EndsWith s profiles =
-    (more : List Token) × (r : Content) × (run s more ≡ Ok r) × (r.profiles ≡ profiles)
+pub record Ends (s : State) (profiles : ℕ) : Type 0 where
+  pub more : List Token
+  pub read : Content
+  pub goes_on : run s more ≡ Ok read
+  pub count : read.profiles ≡ profiles
 
--- to no more profiles than there are
-abbrev Ends : State → Type 0
-Ends s = EndsWith s s.content.profiles
+-- by this token, and then as the state that it leads to
+by : {s after : State} {n : ℕ} (t : Token) → step s t ≡ Ok after → Ends after n → Ends s n
+by t e k = record { more = t ∷ k.more; read = k.read; goes_on = rw e k.goes_on; count = k.count }
 
--- from a position, whatever is due and was read
-abbrev EndsAt : Position → Type 0
-EndsAt q = (due from outcomes : ℕ) (c : Content) → Ends (at q due from outcomes c)
+-- with one strategy more
+by_one : {s : State} (n : ℕ) → Ends s (n * 1) → Ends s n
+by_one n k =
+    record { more = k.more; read = k.read; goes_on = k.goes_on; count = k.count ∙ mul-one n }
 
 abbrev pub zero_text : List ℕ
 zero_text = codes "0"
@@ -46,128 +46,84 @@ one_is_count = refl
 abbrev paid : Content → Content
 paid c = with_payoffs c (zero_number ∷ [])
 
-flat_ends : EndsAt p.FlatPayoffs
-flat_ends zero from outcomes c = ([], c, refl, refl)
-flat_ends (suc due) from outcomes c =
-    let k = flat_ends due from outcomes (paid c) in
-    (Bare zero_text ∷ k.0, k.1, rw (not_zero, zero_is_number, pred_suc) k.2, k.3)
+flat_ends : (left : ℕ) (c : Content) → Ends (at (p.FlatPayoffs left) c) c.profiles
+flat_ends zero c = record { more = []; read = c; goes_on = refl; count = refl }
+flat_ends (suc left) c = by (Bare zero_text) (rw zero_is_number refl) (flat_ends left (paid c))
 
-numbers_ends : EndsAt p.OutcomeNumbers
-numbers_ends zero from outcomes c = ([], c, refl, refl)
-numbers_ends (suc due) from outcomes c =
-    let k = numbers_ends due from outcomes (with_choices c (0 ∷ [])) in
+numbers_ends : (outcomes left : ℕ) (c : Content)
+    → Ends (at (p.OutcomeNumbers outcomes left) c) c.profiles
+numbers_ends outcomes zero c = record { more = []; read = c; goes_on = refl; count = refl }
+numbers_ends outcomes (suc left) c =
     let known = le-leb 0 outcomes (omega arith) in
-    (Bare zero_text ∷ k.0, k.1, rw (not_zero, zero_is_index, known, pred_suc) k.2, k.3)
+    by (Bare zero_text) (rw (zero_is_index, known) refl)
+    (numbers_ends outcomes left (with_choices c (0 ∷ [])))
 
-outcomes_ends : EndsAt p.InOutcomes
-outcomes_ends due from outcomes c =
-    let k = numbers_ends c.profiles from outcomes c in (Closing ∷ k.0, k.1, k.2, k.3)
+outcomes_ends : (outcomes : ℕ) (c : Content) → Ends (at (p.InOutcomes outcomes) c) c.profiles
+outcomes_ends outcomes c = by Closing refl (numbers_ends outcomes c.profiles c)
 
-body_ends : EndsAt p.AfterStrategies
-body_ends due from outcomes c =
-    let k = outcomes_ends 0 from outcomes c in (Opening ∷ k.0, k.1, k.2, k.3)
-
-braced_ends : EndsAt p.BracedPayoff
-braced_ends zero from outcomes c =
-    let k = outcomes_ends 0 from (next_outcome outcomes) c in (Closing ∷ k.0, k.1, k.2, k.3)
-braced_ends (suc due) from outcomes c =
-    let k = braced_ends due from outcomes (paid c) in
-    (Bare zero_text ∷ Comma ∷ k.0, k.1, rw (not_zero, zero_is_number, pred_suc) k.2, k.3)
+braced_ends : (outcomes left : ℕ) (c : Content)
+    → Ends (at (p.BracedPayoff outcomes left) c) c.profiles
+braced_ends outcomes zero c = by Closing refl (outcomes_ends (next_outcome outcomes) c)
+braced_ends outcomes (suc left) c =
+    by (Bare zero_text) (rw zero_is_number refl)
+    (by {s = at (p.AfterBracedPayoff outcomes left) (paid c)} Comma refl
+    (braced_ends outcomes left (paid c)))
 
 -- ---- strategies
 
-counted_ends : (q : Position) → Takes ByCounts q → EndsAt q
-counted_ends q takes zero from outcomes c =
-    let k = body_ends (length c.players * c.profiles) from outcomes c in
-    (Closing ∷ k.0, k.1, grind arith, k.3)
-counted_ends q takes (suc due) from outcomes c =
-    let k = counted_ends p.Counts (inr refl) due from outcomes (with_count c 1) in
-    (Bare (codes "1") ∷ k.0, k.1, grind (arith, one_is_count), k.3 ∙ mul-one c.profiles)
+body_ends : (left : ℕ) (c : Content) → Ends (at (p.AfterStrategies left) c) c.profiles
+body_ends left c = by Opening refl (outcomes_ends 0 c)
 
-longer : (c : Content) → length (with_labels c ([] ∷ [])).labels ≡ length c.labels + 1
-longer c = length-append c.labels ([] ∷ [])
+counts_end : (left : ℕ) (c : Content) → Ends (at (p.Counts left) c) c.profiles
+counts_end zero c = by Closing refl (body_ends _ c)
+counts_end (suc left) c = by_one c.profiles
+    (by (Bare (codes "1")) (rw one_is_count refl) (counts_end left (with_count c 1)))
 
--- a list is filled up with this many empty labels, and closed; then come lists of one label
-lists_ends : EndsAt p.BeforeList
-lists_ends zero from outcomes c =
-    let k = body_ends (length c.players * c.profiles) from outcomes c in
-    (Closing ∷ k.0, k.1, k.2, k.3)
-lists_ends (suc due) from outcomes c =
-    let d = with_labels c ([] ∷ []) in
-    let more = longer c in
-    let one : length d.labels - length c.labels ≡ 1 = omega (arith, more) in
-    let k = lists_ends due 0 outcomes (with_count d 1) in
-    let ts = Opening ∷ Text [] ∷ Closing ∷ k.0 in
-    (ts, k.1, rw (not_zero, pred_suc, one) k.2, k.3 ∙ mul-one c.profiles)
+lists_end : (left : ℕ) (c : Content) → Ends (at (p.BeforeList left) c) c.profiles
+lists_end zero c = by Closing refl (body_ends _ c)
+lists_end (suc left) c = by_one c.profiles (by Opening refl (by (Text []) refl (by Closing refl
+    (lists_end left (with_count (with_labels c ([] ∷ [])) 1)))))
 
-list_ends : (n due from outcomes : ℕ) (c : Content) → from < length c.labels + n
-    → (profiles : ℕ) × EndsWith (at p.InList due from outcomes c) profiles
-list_ends zero due from outcomes c h =
-    let n = length c.labels - from in
-    let k = lists_ends due 0 outcomes (with_count c n) in
-    let closed = list_closed (at p.InList due from outcomes c) n (omega arith) in
-    (c.profiles * n, (Closing ∷ k.0, k.1, rw closed k.2, k.3))
-list_ends (suc n) due from outcomes c h =
-    let more = longer c in
-    let k = list_ends n due from outcomes (with_labels c ([] ∷ [])) (omega (arith, more)) in
-    (k.0, (Text [] ∷ k.1.0, k.1.1, k.1.2, k.1.3))
+first_ends : (left : ℕ) (c : Content) → Ends (at (p.FirstStrategies left) c) c.profiles
+first_ends zero c = by Closing refl (body_ends _ c)
+first_ends (suc left) c = by_one c.profiles
+    (by (Bare (codes "1")) (rw one_is_count refl) (counts_end left (with_count c 1)))
 
--- ---- headings
+-- ---- the whole
 
-players_end : EndsAt p.InPlayers
-players_end due from outcomes c =
-    let k = counted_ends p.FirstStrategies (inl refl) (length c.players) from outcomes c in
-    (Closing ∷ Opening ∷ k.0, k.1, k.2, k.3)
+players_end : (c : Content) → Ends (at p.InPlayers c) c.profiles
+players_end c = by Closing refl (by Opening refl (first_ends (length c.players) c))
 
-title_ends : EndsAt p.Title
-title_ends due from outcomes c =
-    let k = players_end due from outcomes (with_title c []) in
-    (Text [] ∷ Opening ∷ k.0, k.1, k.2, k.3)
+title_ends : (c : Content) → Ends (at p.Title c) c.profiles
+title_ends c = by (Text []) refl (by Opening refl (players_end (with_title c [])))
 
--- no list is open
-abbrev pub IsSettled : Position → Type 0
-IsSettled p.InList = ⊥
-IsSettled _ = Unit {0}
+letter_ends : (c : Content) → Ends (at p.Letter c) c.profiles
+letter_ends c = by (Bare (codes "R")) refl (title_ends c)
 
-ends_at : (q : Position) → IsSettled q → EndsAt q
-ends_at p.Format h due from outcomes c =
-    let k = title_ends due from outcomes c in
-    (Bare (codes "NFG") ∷ Bare (codes "1") ∷ Bare (codes "R") ∷ k.0, k.1, k.2, k.3)
-ends_at p.Version h due from outcomes c =
-    let k = title_ends due from outcomes c in
-    (Bare (codes "1") ∷ Bare (codes "R") ∷ k.0, k.1, k.2, k.3)
-ends_at p.Letter h due from outcomes c =
-    let k = title_ends due from outcomes c in (Bare (codes "R") ∷ k.0, k.1, k.2, k.3)
-ends_at p.Title h due from outcomes c = title_ends due from outcomes c
-ends_at p.BeforePlayers h due from outcomes c =
-    let k = players_end due from outcomes c in (Opening ∷ k.0, k.1, k.2, k.3)
-ends_at p.InPlayers h due from outcomes c = players_end due from outcomes c
-ends_at p.BeforeStrategies h due from outcomes c =
-    let k = counted_ends p.FirstStrategies (inl refl) due from outcomes c in
-    (Opening ∷ k.0, k.1, k.2, k.3)
-ends_at p.FirstStrategies h due from outcomes c =
-    counted_ends p.FirstStrategies (inl refl) due from outcomes c
-ends_at p.Counts h due from outcomes c =
-    counted_ends p.Counts (inr refl) due from outcomes c
-ends_at p.BeforeList h due from outcomes c = lists_ends due from outcomes c
-ends_at p.InList h due from outcomes c = absurd h
-ends_at p.AfterStrategies h due from outcomes c = body_ends due from outcomes c
-ends_at p.AfterComment h due from outcomes c =
-    let k = outcomes_ends 0 from outcomes c in (Opening ∷ k.0, k.1, k.2, k.3)
-ends_at p.FlatPayoffs h due from outcomes c = flat_ends due from outcomes c
-ends_at p.InOutcomes h due from outcomes c = outcomes_ends due from outcomes c
-ends_at p.OutcomeName h due from outcomes c =
-    let k = braced_ends (length c.players) from outcomes c in (Text [] ∷ k.0, k.1, k.2, k.3)
-ends_at p.BracedPayoff h due from outcomes c = braced_ends due from outcomes c
-ends_at p.AfterBracedPayoff h due from outcomes c =
-    let k = braced_ends due from outcomes c in (Comma ∷ k.0, k.1, k.2, k.3)
-ends_at p.OutcomeNumbers h due from outcomes c = numbers_ends due from outcomes c
+-- then there are this many profiles: an open list is closed, with one label at least
+abbrev pub reached : Position → ℕ → ℕ
+reached (p.InList left (suc n)) profiles = profiles * suc n
+reached _ profiles = profiles
 
-pub settled_ends : (s : State) → IsSettled s.position → EndsWith s s.content.profiles
-settled_ends s h = ends_at s.position h s.due s.list_start s.outcomes s.content
-
-pub ends : (s : State) → (more : List Token) × (r : Content) × (run s more ≡ Ok r)
-ends s =
-    let a = list_ends (s.list_start + 1) s.due s.list_start s.outcomes s.content (omega arith) in
-    let b = settled_ends s in
-    grind arith
+pub ends : (q : Position) (c : Content) → Ends (at q c) (reached q c.profiles)
+ends p.Format c = by (Bare (codes "NFG")) refl (by (Bare (codes "1")) refl (letter_ends c))
+ends p.Version c = by (Bare (codes "1")) refl (letter_ends c)
+ends p.Letter c = letter_ends c
+ends p.Title c = title_ends c
+ends p.BeforePlayers c = by Opening refl (players_end c)
+ends p.InPlayers c = players_end c
+ends p.BeforeStrategies c = by Opening refl (first_ends (length c.players) c)
+ends (p.FirstStrategies left) c = first_ends left c
+ends (p.Counts left) c = counts_end left c
+ends (p.BeforeList left) c = lists_end left c
+ends (p.InList left zero) c = by_one c.profiles
+    (by (Text []) refl (by Closing refl (lists_end left (with_count (with_labels c ([] ∷ [])) 1))))
+ends (p.InList left (suc n)) c = by Closing refl (lists_end left (with_count c (suc n)))
+ends (p.AfterStrategies left) c = body_ends left c
+ends (p.AfterComment left) c = by Opening refl (outcomes_ends 0 c)
+ends (p.FlatPayoffs left) c = flat_ends left c
+ends (p.InOutcomes outcomes) c = outcomes_ends outcomes c
+ends (p.OutcomeName outcomes) c = by (Text []) refl (braced_ends outcomes (length c.players) c)
+ends (p.BracedPayoff outcomes left) c = braced_ends outcomes left c
+ends (p.AfterBracedPayoff outcomes left) c = by Comma refl (braced_ends outcomes left c)
+ends (p.OutcomeNumbers outcomes left) c = numbers_ends outcomes left c

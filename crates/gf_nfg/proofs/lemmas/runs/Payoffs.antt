@@ -1,55 +1,52 @@
 -- Runs over payoffs: the flat list, the outcomes in braces, and the outcome numbers after them; and
 -- the rows that they are.
-use Rattle.gf_nfg.proofs.Common.{number_again, number_is, number_of, Ratio, NumberFault}
-use Rattle.gf_nfg.proofs.Common.{IsOutcomeInBraces, IsOutcomeNumber, IsPayoff, Pays, row_of}
-use Rattle.gf_nfg.proofs.Common.{rows_of, Content, State, at, chosen, next_outcome, paid, run}
-use Rattle.gf_nfg.proofs.Common.{with_choices, with_payoffs, ◌>>=◌, p, Position, index_again}
-use Rattle.gf_nfg.proofs.Common.{index_is, Each, IsPayoffInBraces, braced, IsIndex, index_of, Bare}
-use Rattle.gf_nfg.proofs.Common.{Closing, Comma, Opening, Text, Token, Bool, List, Ok, Option}
-use Rattle.gf_nfg.proofs.Common.{Result, Some, [], ap, append_assoc, arith, drop, false, inr}
-use Rattle.gf_nfg.proofs.Common.{length, length-append, length-drop, map, min, refl, suc, sym, take}
-use Rattle.gf_nfg.proofs.Common.{true, zero, ℕ, ◌*◌, ◌++◌, ◌+◌, ◌-◌, ◌<◌, ◌^◌, ◌∙◌, ◌∷◌, ◌≡◌, ◌≤◌}
-use Rattle.gf_nfg.proofs.Common.{mul-suc, take-append-drop, slice_get_within, AllByRecursion, ◌⊎◌}
+use Rattle.gf_nfg.proofs.Common.{IsOutcomeInBraces, IsPayoffInBraces, NumberFault, take-append-drop}
+use Rattle.gf_nfg.proofs.Common.{AllByRecursion, IsOutcomeNumber, length-append, slice_get_within}
+use Rattle.gf_nfg.proofs.Common.{append-nil, next_outcome, number_again, with_choices, with_payoffs}
+use Rattle.gf_nfg.proofs.Common.{Pays, append_assoc, index_again, length-drop, number_is, number_of}
+use Rattle.gf_nfg.proofs.Common.{Content, IsIndex, IsPayoff, Position, index_is, index_of, rows_of}
+use Rattle.gf_nfg.proofs.Common.{Closing, Opening, Option, Result, braced, chosen, mul-suc, row_of}
+use Rattle.gf_nfg.proofs.Common.{Comma, Ratio, State, Token, arith, false, length, paid, run, ◌>>=◌}
+use Rattle.gf_nfg.proofs.Common.{Bare, Bool, Each, List, Some, Text, drop, refl, take, true, zero}
+use Rattle.gf_nfg.proofs.Common.{inr, map, min, suc, ◌*◌, ◌++◌, ◌+◌, ◌-◌, ◌<◌, ◌^◌, ◌∙◌, ◌∷◌, ◌≡◌}
+use Rattle.gf_nfg.proofs.Common.{Ok, [], ap, at, p, ℕ, ◌≤◌, ◌⊎◌}
 use Rattle.gf_token.proofs.Grammar.{each_both}
-use Rattle.gf_nfg.proofs.lemmas.runs.Common.{not_zero, ok_is, pred_suc, with_more_choices}
-use Rattle.gf_nfg.proofs.lemmas.runs.Common.{with_more_payoffs, with_no_choices, with_no_payoffs}
+use Rattle.gf_nfg.proofs.lemmas.runs.Common.{ok_is}
 use Rattle.gf_nfg.proofs.lemmas.runs.Strategies.{First, all_in, each_parts, groups_found}
 use Rattle.gf_nfg.proofs.lemmas.tables.Lists.{get-joined, joined}
 
 -- a payoff that was read
-paid_found : (q : Position) (s : State) (o : Result Ratio NumberFault) (ts : List Token)
-    (r : Content) → (paid q s o >>= λ after. run after ts) ≡ Ok r
-    → (n : Ratio) × (o ≡ Ok n) × (run (at q (s.due - 1) s.list_start s.outcomes (with_payoffs
-    s.content (n ∷ []))) ts ≡ Ok r)
-paid_found q s o ts r e = grind arith
+paid_found : (q : Position) (c : Content) (o : Result Ratio NumberFault) (ts : List Token)
+    (r : Content) → (paid q c o >>= λ after. run after ts) ≡ Ok r
+    → (n : Ratio) × (o ≡ Ok n) × (run (at q (with_payoffs c (n ∷ []))) ts ≡ Ok r)
+paid_found q c o ts r e = grind arith
 
 -- ---- the flat list
 
 -- number^due
 pub flat_found : (ts : List Token) (due : ℕ) (c r : Content)
-    → run (at p.FlatPayoffs due 0 0 c) ts ≡ Ok r
+    → run (at (p.FlatPayoffs due) c) ts ≡ Ok r
     → (numbers : List Ratio) × Each IsPayoff ts numbers × (length numbers ≡ due)
     × (r ≡ with_payoffs c numbers)
 flat_found (Bare b ∷ ts) (suc due) c r e =
-    let s : State = at p.FlatPayoffs (suc due) 0 0 c in
-    let h = paid_found p.FlatPayoffs s (number_of b) ts r (rw not_zero at e) in
-    let k = flat_found ts due (with_payoffs c (h.0 ∷ [])) r (rw pred_suc at h.2) in
-    let more = with_more_payoffs c (h.0 ∷ []) k.0 in
+    let h = paid_found (p.FlatPayoffs due) c (number_of b) ts r e in
+    let k = flat_found ts due (with_payoffs c (h.0 ∷ [])) r h.2 in
+    let more = append_assoc c.payoffs (h.0 ∷ []) k.0 in
     let one : IsPayoff (Bare b ∷ []) h.0 = (b, refl, number_is b h.0 h.1) in
-    (h.0 ∷ k.0, (Bare b ∷ [], ts, refl, one, k.1), ap suc k.2, k.3 ∙ more)
-flat_found ts due c r e = grind (arith, ok_is, with_no_payoffs)
+    (h.0 ∷ k.0, (Bare b ∷ [], ts, refl, one, k.1), ap suc k.2, cc (k.3, more))
+flat_found ts due c r e = grind (arith, ok_is, append-nil)
 
 pub flat_again : (numbers : List Ratio) (ts : List Token) (c : Content) → Each IsPayoff ts numbers
-    → run (at p.FlatPayoffs (length numbers) 0 0 c) ts ≡ Ok (with_payoffs c numbers)
-flat_again [] ts c h = grind (arith, with_no_payoffs)
+    → run (at (p.FlatPayoffs (length numbers)) c) ts ≡ Ok (with_payoffs c numbers)
+flat_again [] ts c h = grind (arith, append-nil)
 flat_again (n ∷ numbers) ts c h =
     let more = flat_again numbers h.1 (with_payoffs c (n ∷ [])) h.4 in
-    grind (arith, number_again h.3.0 n h.3.2, with_more_payoffs)
+    grind (arith, number_again h.3.0 n h.3.2, append_assoc)
 
 -- ---- in braces
 
 -- whether a comma may stand next
-abbrev pub braced_at : Bool → Position
+abbrev pub braced_at : Bool → ℕ → ℕ → Position
 braced_at true = p.AfterBracedPayoff
 braced_at false = p.BracedPayoff
 
@@ -57,14 +54,14 @@ abbrev with_one : Content → Ratio → Content
 with_one c n = with_payoffs c (n ∷ [])
 
 all_payoffs : (ns : List Ratio) (c : Content) → all_in with_one c ns ≡ with_payoffs c ns
-all_payoffs [] c = sym (with_no_payoffs c)
-all_payoffs (n ∷ ns) c = all_payoffs ns (with_one c n) ∙ with_more_payoffs c (n ∷ []) ns
+all_payoffs [] c = rw append-nil refl
+all_payoffs (n ∷ ns) c = grind (arith, append_assoc, all_payoffs ns (with_one c n))
 
 abbrev braced_due : ℕ → ℕ → Content → State
-braced_due outcomes due c = at p.BracedPayoff due 0 outcomes c
+braced_due outcomes due c = at (p.BracedPayoff outcomes due) c
 
 comma_found : (ts : List Token) (due outcomes : ℕ) (c r : Content)
-    → run (at p.AfterBracedPayoff due 0 outcomes c) ts ≡ Ok r
+    → run (at (p.AfterBracedPayoff outcomes due) c) ts ≡ Ok r
     → (comma : List Token) × (rest : List Token) × (ts ≡ comma ++ rest)
     × ((comma ≡ []) ⊎ (comma ≡ Comma ∷ [])) × (run (braced_due outcomes due c) rest ≡ Ok r)
 comma_found (Comma ∷ ts) due outcomes c r e = (Comma ∷ [], ts, refl, inr refl, e)
@@ -74,16 +71,15 @@ one_braced : (outcomes : ℕ) (ts : List Token) (due : ℕ) (c r : Content)
     → run (braced_due outcomes (suc due) c) ts ≡ Ok r
     → First IsPayoffInBraces (braced_due outcomes) with_one ts due c r
 one_braced outcomes (Bare b ∷ ts) due c r e =
-    let s : State = braced_due outcomes (suc due) c in
-    let h = paid_found p.AfterBracedPayoff s (number_of b) ts r (rw not_zero at e) in
-    let k = comma_found ts due outcomes (with_one c h.0) r (rw pred_suc at h.2) in
+    let h = paid_found (p.AfterBracedPayoff outcomes due) c (number_of b) ts r e in
+    let k = comma_found ts due outcomes (with_one c h.0) r h.2 in
     let n = number_is b h.0 h.1 in
     (Bare b ∷ k.0, k.1, h.0, ap (λ x. Bare b ∷ x) k.2, (b, k.0, refl, n, k.3), k.4)
 one_braced outcomes _ due c r e = absurd (grind arith)
 
 brace_found : (ts : List Token) (outcomes : ℕ) (c r : Content)
     → run (braced_due outcomes 0 c) ts ≡ Ok r → (rest : List Token) × (ts ≡ Closing ∷ rest)
-    × (run (at p.InOutcomes 0 0 (next_outcome outcomes) c) rest ≡ Ok r)
+    × (run (at (p.InOutcomes (next_outcome outcomes)) c) rest ≡ Ok r)
 brace_found (Closing ∷ ts) outcomes c r e = (ts, refl, e)
 brace_found _ outcomes c r e = absurd cc
 
@@ -92,7 +88,7 @@ pub braces_found : (ts : List Token) (due outcomes : ℕ) (c r : Content)
     → run (braced_due outcomes due c) ts ≡ Ok r
     → (numbers : List Ratio) × (inner : List Token) × (rest : List Token)
     × (ts ≡ inner ++ Closing ∷ rest) × Each IsPayoffInBraces inner numbers × (length numbers ≡ due)
-    × (run (at p.InOutcomes 0 0 (next_outcome outcomes) (with_payoffs c numbers)) rest ≡ Ok r)
+    × (run (at (p.InOutcomes (next_outcome outcomes)) (with_payoffs c numbers)) rest ≡ Ok r)
 braces_found ts due outcomes c r e =
     let h = groups_found IsPayoffInBraces (braced_due outcomes) with_one (one_braced outcomes) ts
     due c r e in
@@ -101,14 +97,14 @@ braces_found ts due outcomes c r e =
 
 pub braces_again : (numbers : List Ratio) (inner rest : List Token) (outcomes : ℕ) (c : Content)
     → Each IsPayoffInBraces inner numbers → (may : Bool)
-    → run (at (braced_at may) (length numbers) 0 outcomes c) (inner ++ Closing ∷ rest) ≡ run (at
-    p.InOutcomes 0 0 (next_outcome outcomes) (with_payoffs c numbers)) rest
-braces_again [] inner rest outcomes c h may = grind (arith, with_no_payoffs)
+    → run (at (braced_at may outcomes (length numbers)) c) (inner ++ Closing ∷ rest)
+    ≡ run (at (p.InOutcomes (next_outcome outcomes)) (with_payoffs c numbers)) rest
+braces_again [] inner rest outcomes c h may = grind (arith, append-nil)
 braces_again (n ∷ numbers) inner rest outcomes c h may =
     let more = braces_again numbers h.1 rest outcomes (with_payoffs c (n ∷ [])) h.4 in
     let plain = more false in
     let after_comma = more true in
-    grind (arith, append_assoc, number_again h.3.0 n h.3.3, with_more_payoffs)
+    grind (arith, append_assoc, number_again h.3.0 n h.3.3)
 
 -- ---- outcomes
 
@@ -124,16 +120,16 @@ abbrev pub Outcomes : List Token → ℕ → Content → Content → Type 0
 Outcomes ts before c r = (list : List Token) × (numbers : List Token)
     × (outcomes : List (List Ratio)) × (ts ≡ list ++ Closing ∷ numbers)
     × Each (IsOutcomeInBraces (length c.players)) list outcomes
-    × (run (at p.OutcomeNumbers c.profiles 0 (greatest (before + length outcomes))
+    × (run (at (p.OutcomeNumbers (greatest (before + length outcomes)) c.profiles)
     (with_payoffs c (joined outcomes))) numbers ≡ Ok r)
 
 -- in more steps than there are tokens
 pub outcomes_in : (steps : ℕ) (ts : List Token) (before : ℕ) (c r : Content) → length ts < steps
-    → run (at p.InOutcomes 0 0 (greatest before) c) ts ≡ Ok r → Outcomes ts before c r
+    → run (at (p.InOutcomes (greatest before)) c) ts ≡ Ok r → Outcomes ts before c r
 outcomes_in zero ts before c r less e = absurd (omega arith)
 outcomes_in (suc steps) (Closing ∷ ts) before c r less e =
     let none : greatest before ≡ greatest (before + 0) = omega arith in
-    ([], ts, [], refl, refl, cc (with_no_payoffs c))
+    ([], ts, [], refl, refl, grind (arith, append-nil))
 outcomes_in (suc steps) (Opening ∷ Text name ∷ ts) before c r less e =
     let b = braces_found ts (length c.players) (greatest before) c r e in
     let size = ap length b.3 ∙ length-append b.1 (Closing ∷ b.2) in
@@ -142,7 +138,7 @@ outcomes_in (suc steps) (Opening ∷ Text name ∷ ts) before c r less e =
     let more : greatest ((before + 1) + length h.2) ≡ greatest (before + length (b.0 ∷ h.2)) =
     omega arith in
     let group = braced (Text name ∷ b.1) in
-    let all = with_more_payoffs c b.0 (joined h.2) in
+    let all = append_assoc c.payoffs b.0 (joined h.2) in
     let one : IsOutcomeInBraces (length c.players) group b.0 = (name, b.1, refl, b.4, b.5) in
     let parts : Opening ∷ Text name ∷ ts ≡ (group ++ h.0) ++ Closing ∷ h.1 =
     grind (arith, append_assoc) in
@@ -151,19 +147,20 @@ outcomes_in (suc steps) _ before c r less e = absurd cc
 
 outcomes_more : (outcomes : List (List Ratio)) (list rest : List Token) (before : ℕ) (c : Content)
     → Each (IsOutcomeInBraces (length c.players)) list outcomes
-    → run (at p.InOutcomes 0 0 (greatest before) c) (list ++ Closing ∷ rest) ≡ run (at
-    p.OutcomeNumbers c.profiles 0 (greatest (before + length outcomes))
+    → run (at (p.InOutcomes (greatest before)) c) (list ++ Closing ∷ rest)
+    ≡ run (at (p.OutcomeNumbers (greatest (before + length outcomes)) c.profiles)
     (with_payoffs c (joined outcomes))) rest
-outcomes_more [] list rest before c h = grind (arith, with_no_payoffs)
+outcomes_more [] list rest before c h = grind (arith, append-nil)
 outcomes_more (payoffs ∷ outcomes) list rest before c h =
     let ends = braces_again payoffs h.3.1 (h.1 ++ Closing ∷ rest) (greatest before) c h.3.3 false in
     let more = outcomes_more outcomes h.1 rest (before + 1) (with_payoffs c payoffs) h.4 in
-    grind (arith, h.3.0, greatest_next before, with_more_payoffs, append_assoc, joined)
+    grind (arith, h.3.0, greatest_next before, append_assoc, joined)
 
 pub outcomes_again : (outcomes : List (List Ratio)) (list rest : List Token) (c : Content)
     → Each (IsOutcomeInBraces (length c.players)) list outcomes
-    → run (at p.InOutcomes 0 0 0 c) (list ++ Closing ∷ rest) ≡ run (at p.OutcomeNumbers c.profiles 0
-    (greatest (length outcomes)) (with_payoffs c (joined outcomes))) rest
+    → run (at (p.InOutcomes 0) c) (list ++ Closing ∷ rest)
+    ≡ run (at (p.OutcomeNumbers (greatest (length outcomes)) c.profiles)
+    (with_payoffs c (joined outcomes))) rest
 outcomes_again outcomes list rest c h = grind (arith, outcomes_more outcomes list rest 0 c h)
 
 -- ---- outcomes' numbers
@@ -173,11 +170,11 @@ abbrev pub IsChoice : List Token → ℕ → Type 0
 IsChoice tokens k = (bytes : List ℕ) × (tokens ≡ Bare bytes ∷ []) × IsIndex bytes k
 
 -- a number that was read
-chosen_found : (s : State) (o : Option ℕ) (ts : List Token) (r : Content)
-    → (chosen s o >>= λ after. run after ts) ≡ Ok r
-    → (k : ℕ) × (o ≡ Some k) × (k ≤ s.outcomes) × (run (at p.OutcomeNumbers (s.due - 1) s.list_start
-    s.outcomes (with_choices s.content (k ∷ []))) ts ≡ Ok r)
-chosen_found s o ts r h = grind arith
+chosen_found : (outcomes due : ℕ) (c : Content) (o : Option ℕ) (ts : List Token) (r : Content)
+    → (chosen outcomes due c o >>= λ after. run after ts) ≡ Ok r
+    → (k : ℕ) × (o ≡ Some k) × (k ≤ outcomes)
+    × (run (at (p.OutcomeNumbers outcomes due) (with_choices c (k ∷ []))) ts ≡ Ok r)
+chosen_found outcomes due c o ts r h = grind arith
 
 -- index^due
 pub record Choices (ts : List Token) (due outcomes : ℕ) (c r : Content) : Type 0 where
@@ -188,27 +185,26 @@ pub record Choices (ts : List Token) (due outcomes : ℕ) (c r : Content) : Type
   pub got : r ≡ with_choices c choices
 
 pub choices_found : (ts : List Token) (due outcomes : ℕ) (c r : Content)
-    → run (at p.OutcomeNumbers due 0 outcomes c) ts ≡ Ok r → Choices ts due outcomes c r
+    → run (at (p.OutcomeNumbers outcomes due) c) ts ≡ Ok r → Choices ts due outcomes c r
 choices_found (Bare b ∷ ts) (suc due) outcomes c r e =
-    let s : State = at p.OutcomeNumbers (suc due) 0 outcomes c in
-    let h = chosen_found s (index_of b) ts r (rw not_zero at e) in
-    let k = choices_found ts due outcomes (with_choices c (h.0 ∷ [])) r (rw pred_suc at h.3) in
+    let h = chosen_found outcomes due c (index_of b) ts r e in
+    let k = choices_found ts due outcomes (with_choices c (h.0 ∷ [])) r h.3 in
     record {
       choices = h.0 ∷ k.choices;
       each = (Bare b ∷ [], ts, refl, (b, refl, index_is b h.0 h.1), k.each);
       count = ap suc k.count;
       known = (h.2, k.known);
-      got = k.got ∙ with_more_choices c h.0 k.choices;
+      got = cc (k.got, append_assoc c.choices (h.0 ∷ []) k.choices);
     }
-choices_found ts due outcomes c r e = grind (arith, ok_is, with_no_choices)
+choices_found ts due outcomes c r e = grind (arith, ok_is, append-nil)
 
 pub choices_again : (choices : List ℕ) (ts : List Token) (outcomes : ℕ) (c : Content)
     → Each IsChoice ts choices → AllByRecursion (λ k. k ≤ outcomes) choices
-    → run (at p.OutcomeNumbers (length choices) 0 outcomes c) ts ≡ Ok (with_choices c choices)
-choices_again [] ts outcomes c h known = grind (arith, with_no_choices)
+    → run (at (p.OutcomeNumbers outcomes (length choices)) c) ts ≡ Ok (with_choices c choices)
+choices_again [] ts outcomes c h known = grind (arith, append-nil)
 choices_again (k ∷ choices) ts outcomes c h known =
     let more = choices_again choices h.1 outcomes (with_choices c (k ∷ [])) h.4 known.1 in
-    grind (arith, index_again h.3.0 k h.3.2, with_more_choices)
+    grind (arith, index_again h.3.0 k h.3.2, append_assoc)
 
 -- ---- the rows of both bodies
 

@@ -1,12 +1,11 @@
 -- What the methods of the reader rest on: answers carried back, and steps with a test of what is
 -- due.
-use Rattle.gf_nfg.proofs.Common.{StandsAt, Telling, Reader, Heading, Answer, Fails, Goes, heard, at}
-use Rattle.gf_nfg.proofs.Common.{read_on, then_on, within, Content, State, settled, p, HasToldAll}
-use Rattle.gf_nfg.proofs.Common.{body_answer, content_in, content_told, labels_of, Told, Remaining}
-use Rattle.gf_nfg.proofs.Common.{Closing, Opening, Text, Lexeme, lexeme, Fault, Span, Label, Err, ℕ}
-use Rattle.gf_nfg.proofs.Common.{List, Ok, Result, [], ap, arith, length, refl, subst, sym, ◌*◌}
-use Rattle.gf_nfg.proofs.Common.{◌-◌, ◌<◌, ◌∙◌, ◌∷◌, ◌≡◌, length-map, MatchResult}
-use Rattle.gf_nfg.specs.declared.reader.receive.Version.{Version}
+use Rattle.gf_nfg.proofs.Common.{HasToldAll, MatchResult, StandsBefore, content_told, p}
+use Rattle.gf_nfg.proofs.Common.{Position, Remaining, StandsAt, Telling, at, content_in, length-map}
+use Rattle.gf_nfg.proofs.Common.{Answer, Content, Goes, Heading, Opening, read_on, Lexeme, Memory}
+use Rattle.gf_nfg.proofs.Common.{Ok, Reader, Result, answer, length, lexeme, Fails, Fault, List}
+use Rattle.gf_nfg.proofs.Common.{Span, Text, Told, arith, heard, refl, subst, ℕ, Err, [], ap, sym}
+use Rattle.gf_nfg.proofs.Common.{◌-◌, ◌<◌, ◌∙◌, ◌∷◌, ◌≡◌}
 use Rattle.gf_nfg.proofs.lemmas.places.Judged.{carried, wants_memory}
 use Rattle.gf_nfg.specs.declared.reader.receive.Version.TheVariants as version
 
@@ -31,69 +30,41 @@ goes_to r a e h = subst (λ x. Goes a r x) e h
 
 pub first_opens : (due : ℕ) (c : Content) (t new : Remaining) (s : Span) → 0 < due
     → t.ahead ≡ lexeme s.start s.end Opening ∷ new.ahead → new.input ≡ t.input
-    → heard (at p.FirstStrategies due 0 0 c) t
-    ≡ heard (at p.InList (due - 1) (length c.labels) 0 c) new
+    → heard (at (p.FirstStrategies due) c) t ≡ heard (at (p.InList (due - 1) 0) c) new
 first_opens due c t new s some next input = grind arith
-
-pub later_opens : (due : ℕ) (c : Content) (t new : Remaining) (s : Span) → 0 < due
-    → t.ahead ≡ lexeme s.start s.end Opening ∷ new.ahead → new.input ≡ t.input
-    → heard (at p.BeforeList due 0 0 c) t ≡ heard (at p.InList (due - 1) (length c.labels) 0 c) new
-later_opens due c t new s some next input = grind arith
-
--- the closing brace of a list shows how many labels it has
-pub list_closes : (due before n : ℕ) (c : Content) (t new : Remaining) (s : Span) → 0 < n
-    → n ≡ length c.labels - before → t.ahead ≡ lexeme s.start s.end Closing ∷ new.ahead
-    → new.input ≡ t.input
-    → heard (at p.InList due before 0 c) t ≡ record {
-      input = new.input;
-      machine = then_on s.start
-          s.end (within (settled (at p.BeforeList due 0 0 c) n))
-          (λ after. read_on (length new.input) after new.ahead);
-    }
-list_closes due before n c t new s some is next input = grind arith
 
 -- ---- outcomes
 
 -- after the name of an outcome, a payoff is due for each player
 pub outcome_named : {T : Type 0} {holds : T → T → Told → Type 0} {b : Telling T} {to : T}
     {outcomes players start end : ℕ} {t new : Remaining} {label : List ℕ}
-    → StandsAt holds b p.OutcomeName 0 outcomes t to → length b.heading.players.items ≡ players
+    → StandsAt holds b (p.OutcomeName outcomes) t to → length b.heading.players.items ≡ players
     → t.ahead ≡ lexeme start end (Text label) ∷ new.ahead → new.input ≡ t.input
-    → StandsAt holds b p.BracedPayoff players outcomes new to
+    → StandsAt holds b (p.BracedPayoff outcomes players) new to
 outcome_named h size next input = grind (arith, length-map)
 
 -- ---- after the last of the strategies
 
 ends_alike : (end : ℕ) (c : Content) (ls : List Lexeme)
-    → (read_on end (at p.BeforeList 0 0 0 c) ls ≡ read_on end (at p.FirstStrategies 0 0 0 c) ls)
-    × (read_on end (at p.Counts 0 0 0 c) ls ≡ read_on end (at p.FirstStrategies 0 0 0 c) ls)
+    → (read_on end (at (p.BeforeList 0) c) ls ≡ read_on end (at (p.FirstStrategies 0) c) ls)
+    × (read_on end (at (p.Counts 0) c) ls ≡ read_on end (at (p.FirstStrategies 0) c) ls)
 ends_alike end c [] = (refl, refl)
 ends_alike end c (l ∷ ls) = (refl, refl)
 
 pub lists_end : (c : Content) (t : Remaining)
-    → heard (at p.BeforeList 0 0 0 c) t ≡ heard (at p.FirstStrategies 0 0 0 c) t
+    → heard (at (p.BeforeList 0) c) t ≡ heard (at (p.FirstStrategies 0) c) t
 lists_end c t = grind (arith, ends_alike (length t.input) c t.ahead)
 
 pub counts_end : (c : Content) (t : Remaining)
-    → heard (at p.Counts 0 0 0 c) t ≡ heard (at p.FirstStrategies 0 0 0 c) t
+    → heard (at (p.Counts 0) c) t ≡ heard (at (p.FirstStrategies 0) c) t
 counts_end c t = grind (arith, ends_alike (length t.input) c t.ahead)
 
--- how many labels were read
-pub label_count : (now before : List Label) (n m k : ℕ) → n ≡ length now → m ≡ length before
-    → k ≡ n - m → k ≡ length (labels_of now) - length (labels_of before)
-label_count now before n m k e f g = grind (arith, length-map)
+-- memory may run out at the last token
+pub memory_behind : {f : Fault} {span : Span} (q : Position) (r : Reader)
+    → StandsBefore r.tokens span → f ≡ record { span = span; why = Memory } → Fails f (answer q r)
+memory_behind q r stands is = wants_memory stands is (at q (content_in r.heading)) refl
 
 -- ---- the body
-
--- where it begins the machine stands somewhere
-pub body_begins : (v : Version) (r : Reader)
-    → (s : State) × (body_answer v r ≡ heard s r.tokens)
-body_begins version.Payoffs r = (
-  at p.FlatPayoffs (length r.heading.players.items * r.heading.profiles.count) 0 0
-      (content_in r.heading),
-  refl,
-)
-body_begins version.Outcomes r = (at p.InOutcomes 0 0 0 (content_in r.heading), refl)
 
 -- the end stands after all that was told
 pub all_told : {A T : Type 0} (holds : T → Told → Type 0) (r : Result A Fault) (t : Told)
@@ -109,8 +80,6 @@ all_told holds (Ok x) t same unnumbered holding goes whole = record {
   holding = holding;
 }
 all_told holds (Err f) t same unnumbered holding goes fails = carried fails goes
-
-pub ruleset body_told = (body_begins, wants_memory)
 
 pub ruleset told_ends = (carried, ends_back)
 

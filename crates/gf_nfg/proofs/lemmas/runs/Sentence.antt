@@ -5,7 +5,8 @@ use Rattle.gf_nfg.proofs.Common.{◌+◌, ◌*◌, ◌<◌, ◌++◌, refl, Text
 use Rattle.gf_nfg.proofs.Common.{List, AllByRecursion, IsOutcomeBody, counted_labels, strategies_of}
 use Rattle.gf_nfg.proofs.Common.{append_assoc, IsPayoffBody, with_comment, HasPayoffs, IsLabelList}
 use Rattle.gf_nfg.proofs.Common.{Opening, IsComment, all_weaker, length-map, all_images, IsComplete}
-use Rattle.gf_nfg.proofs.Common.{Closing, Content, rows_by, product, Sentence, table_of, HasLabels}
+use Rattle.gf_nfg.proofs.Common.{strategies_end, Closing, Content, rows_by, product, Sentence}
+use Rattle.gf_nfg.proofs.Common.{table_of, HasLabels}
 use Rattle.gf_nfg.proofs.lemmas.tables.Lists.{joined, length-joined_rows, length-counted_labels}
 use Rattle.gf_nfg.proofs.lemmas.tables.Lists.{length-joined, product_above_zero, rows_again}
 use Rattle.gf_nfg.proofs.lemmas.tables.Meaning.{is_table, rows-table_of, strategies_of-joined}
@@ -14,10 +15,9 @@ use Rattle.gf_nfg.proofs.lemmas.runs.Payoffs.{flat_found, flat_again, greatest, 
 use Rattle.gf_nfg.proofs.lemmas.runs.Payoffs.{outcomes_again, choices_found, choices_again}
 use Rattle.gf_nfg.proofs.lemmas.runs.Payoffs.{rows_each, rows_joined, outcomes_full, choices_pay}
 use Rattle.gf_nfg.proofs.lemmas.runs.Payoffs.{choices_chosen}
-use Rattle.gf_nfg.proofs.lemmas.runs.Strategies.{ended, AllSome, IsGroup, Kind, Strategies}
-use Rattle.gf_nfg.proofs.lemmas.runs.Strategies.{labels_in, strategies_again, strategies_found}
-use Rattle.gf_nfg.proofs.lemmas.runs.Strategies.{with_counts, heading, heading_found, heading_leads}
-use Rattle.gf_nfg.proofs.lemmas.runs.Strategies.{heading_line}
+use Rattle.gf_nfg.proofs.lemmas.runs.Strategies.{heading_found, strategies_again, strategies_found}
+use Rattle.gf_nfg.proofs.lemmas.runs.Strategies.{AllSome, heading_leads, heading_line, with_counts}
+use Rattle.gf_nfg.proofs.lemmas.runs.Strategies.{IsGroup, Kind, Strategies, heading, labels_in}
 use Rattle.gf_nfg.proofs.lemmas.tables.Profiles.{length-profiles}
 use Rattle.gf_nfg.proofs.lemmas.runs.Common.{leads_run}
 
@@ -44,7 +44,7 @@ pub record Body (body : List Token) (c r : Content) : Type 0 where
   pub is_body : IsBody (length c.players) body (rows_by (filled c payoffs choices) choices)
 
 flat_body : (ts : List Token) (c r : Content)
-    → run (at p.FlatPayoffs (length c.players * c.profiles) 0 0 (filled c [] [])) ts ≡ Ok r
+    → run (at (p.FlatPayoffs (length c.players * c.profiles)) (filled c [] [])) ts ≡ Ok r
     → Body ts c r
 flat_body ts c r e =
     let h = flat_found ts (length c.players * c.profiles) (filled c [] []) r e in
@@ -52,7 +52,7 @@ flat_body ts c r e =
     record { payoffs = h.0; choices = []; got = h.3; has_rows = h.2; is_body = grind arith }
 
 outcome_body : (ts : List Token) (c r : Content) → 0 < c.profiles
-    → run (at p.InOutcomes 0 0 0 (filled c [] [])) ts ≡ Ok r → Body (Opening ∷ ts) c r
+    → run (at (p.InOutcomes 0) (filled c [] [])) ts ≡ Ok r → Body (Opening ∷ ts) c r
 outcome_body ts c r above e =
     let h = outcomes_in (length ts + 1) ts 0 (filled c [] []) r (omega arith) e in
     let none : 0 + length h.2 ≡ length h.2 = omega arith in
@@ -72,10 +72,10 @@ outcome_body ts c r above e =
     }
 
 body_found : (ts : List Token) (c r : Content) → 0 < c.profiles
-    → run (at p.AfterComment (length c.players * c.profiles) 0 0 (filled c [] [])) ts ≡ Ok r
+    → run (at (p.AfterComment (length c.players * c.profiles)) (filled c [] [])) ts ≡ Ok r
     → Body ts c r
 body_found (Opening ∷ ts) c r above e = outcome_body ts c r above e
-body_found ts c r above e = flat_body ts c r e
+body_found ts c r above e = flat_body ts c r (grind arith)
 
 -- the comment and the body, behind what is neither
 abbrev Commented : List Token → Content → Content → Type 0
@@ -83,7 +83,7 @@ Commented ts c r = (comment : List Token) × (body : List Token) × (said : List
     × (ts ≡ comment ++ body) × IsComment comment said × Body body (with_comment c said) r
 
 comment_found : (ts : List Token) (c r : Content) → 0 < c.profiles
-    → run (ended (filled (with_comment c []) [] [])) ts ≡ Ok r → Commented ts c r
+    → run (strategies_end (filled (with_comment c []) [] [])) ts ≡ Ok r → Commented ts c r
 comment_found (Text said ∷ ts) c r above e =
     (Text said ∷ [], ts, said, refl, inr refl, body_found ts (with_comment c said) r above e)
 comment_found ts c r above e =
@@ -93,22 +93,22 @@ comment_found ts c r above e =
 
 -- what is read where only payoffs are due is read where outcomes may come
 outcomes_may_come : (ts : List Token) (due : ℕ) (c r : Content)
-    → run (at p.FlatPayoffs due 0 0 c) ts ≡ Ok r → run (at p.AfterComment due 0 0 c) ts ≡ Ok r
+    → run (at (p.FlatPayoffs due) c) ts ≡ Ok r → run (at (p.AfterComment due) c) ts ≡ Ok r
 outcomes_may_come (Opening ∷ ts) due c r e = absurd (grind arith)
-outcomes_may_come ts due c r e = e
+outcomes_may_come ts due c r e = grind arith
 
 -- and that is read where a comment may come
 comment_may_come : (ts : List Token) (due : ℕ) (c r : Content)
-    → run (at p.AfterComment due 0 0 c) ts ≡ Ok r → run (at p.AfterStrategies due 0 0 c) ts ≡ Ok r
+    → run (at (p.AfterComment due) c) ts ≡ Ok r → run (at (p.AfterStrategies due) c) ts ≡ Ok r
 comment_may_come (Text said ∷ ts) due c r e = absurd (grind arith)
-comment_may_come ts due c r e = e
+comment_may_come ts due c r e = grind arith
 
 -- a body is read to these rows
 pub record Kept (body : List Token) (c : Content) (rs : List (List Ratio)) : Type 0 where
   pub payoffs : List Ratio
   pub choices : List ℕ
   pub means : rows_by (filled c payoffs choices) choices ≡ rs
-  pub goes_on : run (at p.AfterComment (length c.players * c.profiles) 0 0 (filled c [] [])) body
+  pub goes_on : run (at (p.AfterComment (length c.players * c.profiles)) (filled c [] [])) body
       ≡ Ok (filled c payoffs choices)
 
 pub body_again : (body : List Token) (c : Content) (rs : List (List Ratio)) → 0 < c.profiles
@@ -117,7 +117,7 @@ pub body_again : (body : List Token) (c : Content) (rs : List (List Ratio)) → 
 body_again body c rs above full count (inl each) =
     let all = rows_joined rs body each in
     let size = length-joined_rows (length c.players) rs full in
-    let goes : run (at p.FlatPayoffs (length c.players * c.profiles) 0 0 (filled c [] [])) body
+    let goes : run (at (p.FlatPayoffs (length c.players * c.profiles)) (filled c [] [])) body
     ≡ Ok (filled c (joined rs) []) =
     cc (size, count, flat_again (joined rs) body (filled c [] []) all) in
     record {
@@ -131,7 +131,7 @@ body_again body c rs above full count (inr b) =
     let o = choices_chosen (length c.players) b.outcomes paid rs b.numbers b.chosen in
     let some : 0 < length o.choices = omega (arith, o.count, count, above) in
     let d : Content = filled c (joined b.outcomes) [] in
-    let goes : run (at p.InOutcomes 0 0 0 (filled c [] [])) ((b.list ++ Closing ∷ []) ++ b.numbers)
+    let goes : run (at (p.InOutcomes 0) (filled c [] [])) ((b.list ++ Closing ∷ []) ++ b.numbers)
     ≡ Ok (filled c (joined b.outcomes) o.choices) =
     let list = outcomes_again b.outcomes b.list b.numbers (filled c [] []) b.listed in
     let numbers = choices_again o.choices b.numbers (greatest (length b.outcomes)) d o.each
@@ -198,7 +198,7 @@ begun title players k strategies =
 pub sentence_found : (ts : List Token) (r : Content) → run start ts ≡ Ok r → Read ts r
 sentence_found ts r e =
     let a = heading_found ts r e in
-    let b = strategies_found a.rest (length a.players) (heading a.title a.players) r a.goes_on in
+    let b = strategies_found a.rest (heading a.title a.players) r a.goes_on in
     let c = begun a.title a.players b.kind b.strategies in
     let d = comment_found b.rest c r (some_profiles b.strategies b.some) b.goes_on in
     let k = d.5 in
@@ -252,7 +252,8 @@ table_again t k payoffs choices h strategies means = grind (arith, entries_again
 behind_comment : (comment body : List Token) (said : List ℕ) (c : Content)
     (rs : List (List Ratio)) → IsComment comment said → (k : Kept body (with_comment c said) rs)
     → c ≡ filled (with_comment c []) [] []
-    → run (ended c) (comment ++ body) ≡ Ok (filled (with_comment c said) k.payoffs k.choices)
+    → run (strategies_end c) (comment ++ body)
+    ≡ Ok (filled (with_comment c said) k.payoffs k.choices)
 behind_comment comment body said c rs h k e =
     let plain = comment_may_come body (length c.players * c.profiles)
     (filled (with_comment c said) [] []) _ k.goes_on in

@@ -1,16 +1,13 @@
 -- Runs over the heading, and over the strategies: a count for each player, or a list of labels for
 -- each.
-use Rattle.gf_nfg.proofs.Common.{product, IsCount, IsLabelList, counted_labels, Content, State, at}
-use Rattle.gf_nfg.proofs.Common.{counted, listed, nothing, opened, run, start, with_count}
-use Rattle.gf_nfg.proofs.Common.{with_labels, with_players, with_title, ◌>>=◌, p, Position}
-use Rattle.gf_nfg.proofs.Common.{count_again, count_is, Each, braced, count_of, Bare, Closing}
-use Rattle.gf_nfg.proofs.Common.{Opening, Text, Token, List, Ok, Option, Some, [], ap, append-nil}
-use Rattle.gf_nfg.proofs.Common.{append_assoc, arith, inl, inr, length, length-append, map, refl}
-use Rattle.gf_nfg.proofs.Common.{suc, zero, ℕ, ◌*◌, ◌++◌, ◌+◌, ◌-◌, ◌<◌, ◌∙◌, ◌∷◌, ◌≡◌}
-use Rattle.gf_nfg.proofs.Common.{mul-one, mul_assoc, AllByRecursion, codes, ◌⊎◌}
-use Rattle.gf_nfg.proofs.lemmas.runs.Common.{not_zero, pred_suc, same_bytes, with_more_labels}
-use Rattle.gf_nfg.proofs.lemmas.runs.Common.{with_more_players, with_no_labels, with_no_players}
-use Rattle.gf_nfg.proofs.lemmas.runs.Common.{Leads, walk, walk_run, walk_then}
+use Rattle.gf_nfg.proofs.Common.{AllByRecursion, Each, counted_labels, strategies_end, with_players}
+use Rattle.gf_nfg.proofs.Common.{IsLabelList, append_assoc, count_again, p, with_count, with_labels}
+use Rattle.gf_nfg.proofs.Common.{Position, append-nil, count_is, count_of, mul_assoc, with_title, ℕ}
+use Rattle.gf_nfg.proofs.Common.{Closing, Content, IsCount, Opening, counted, nothing, product, run}
+use Rattle.gf_nfg.proofs.Common.{Bare, Option, State, braced, length, listed, mul-one, start, ◌>>=◌}
+use Rattle.gf_nfg.proofs.Common.{List, Some, Text, Token, arith, codes, inl, inr, refl, zero, ◌++◌}
+use Rattle.gf_nfg.proofs.Common.{Ok, [], ap, at, map, suc, ◌*◌, ◌+◌, ◌<◌, ◌∙◌, ◌∷◌, ◌≡◌, ◌⊎◌}
+use Rattle.gf_nfg.proofs.lemmas.runs.Common.{same_bytes, Leads, walk, walk_run, walk_then}
 use Rattle.gf_nfg.proofs.lemmas.tables.Lists.{joined, length-counted_labels}
 
 -- ---- groups of tokens, one for each of some items
@@ -76,18 +73,17 @@ module _ {A : Type 0} (P : List Token → A → Type 0) (state : ℕ → Content
 begun_found : (format version letter : List ℕ) (ts : List Token) (r : Content)
     → run start (Bare format ∷ Bare version ∷ Bare letter ∷ ts) ≡ Ok r
     → (format ≡ codes "NFG") × (version ≡ codes "1")
-    × ((letter ≡ codes "R") ⊎ (letter ≡ codes "D")) × (run (at p.Title 0 0 0 nothing) ts ≡ Ok r)
+    × ((letter ≡ codes "R") ⊎ (letter ≡ codes "D")) × (run (at p.Title nothing) ts ≡ Ok r)
 begun_found format version letter ts r e = grind (arith, same_bytes)
 
 -- Text* Closing
-players_found : (ts : List Token) (c r : Content) → run (at p.InPlayers 0 0 0 c) ts ≡ Ok r
+players_found : (ts : List Token) (c r : Content) → run (at p.InPlayers c) ts ≡ Ok r
     → (players : List (List ℕ)) × (rest : List Token) × (ts ≡ map Text players ++ Closing ∷ rest)
-    × (run (at p.BeforeStrategies (length (c.players ++ players)) 0 0 (with_players c players)) rest
-    ≡ Ok r)
+    × (run (at p.BeforeStrategies (with_players c players)) rest ≡ Ok r)
 players_found (Text label ∷ ts) c r e =
     let h = players_found ts (with_players c (label ∷ [])) r e in
-    grind (arith, run, with_more_players)
-players_found (Closing ∷ ts) c r e = ([], ts, refl, cc (with_no_players c))
+    grind (arith, append_assoc, run)
+players_found (Closing ∷ ts) c r e = ([], ts, refl, rw append-nil e)
 players_found _ c r e = absurd cc
 
 -- of this title and these players
@@ -102,7 +98,7 @@ pub record Heading (ts : List Token) (r : Content) : Type 0 where
   pub parts : ts ≡ Bare (codes "NFG") ∷ Bare (codes "1") ∷ Bare letter ∷ Text title
       ∷ (braced (map Text players) ++ rest)
   pub is_letter : (letter ≡ codes "R") ⊎ (letter ≡ codes "D")
-  pub goes_on : run (at p.BeforeStrategies (length players) 0 0 (heading title players)) rest ≡ Ok r
+  pub goes_on : run (at p.BeforeStrategies (heading title players)) rest ≡ Ok r
 
 pub heading_found : (ts : List Token) (r : Content) → run start ts ≡ Ok r → Heading ts r
 heading_found (Bare format ∷ Bare version ∷ Bare letter ∷ Text title ∷ Opening ∷ ts) r e =
@@ -118,18 +114,17 @@ heading_line letter title players =
     Bare (codes "NFG") ∷ Bare (codes "1") ∷ Bare letter ∷ Text title ∷ braced (map Text players)
 
 players_walk : (players : List (List ℕ)) (c : Content)
-    → walk (at p.InPlayers 0 0 0 c) (map Text players)
-    ≡ Ok (at p.InPlayers 0 0 0 (with_players c players))
-players_walk [] c = cc (with_no_players c)
+    → walk (at p.InPlayers c) (map Text players) ≡ Ok (at p.InPlayers (with_players c players))
+players_walk [] c = rw append-nil refl
 players_walk (label ∷ players) c =
-    grind (arith, with_more_players, players_walk players (with_players c (label ∷ [])))
+    grind (arith, append_assoc, players_walk players (with_players c (label ∷ [])))
 
 pub heading_leads : (letter title : List ℕ) (players : List (List ℕ))
     → (letter ≡ codes "R") ⊎ (letter ≡ codes "D") → Leads (heading_line letter title players)
-    (at p.BeforeStrategies (length players) 0 0 (heading title players))
+    (at p.BeforeStrategies (heading title players))
 heading_leads letter title players h =
     let c : Content = with_title nothing title in
-    let walks = walk_then (map Text players) (Closing ∷ []) (at p.InPlayers 0 0 0 c) _ _
+    let walks = walk_then (map Text players) (Closing ∷ []) (at p.InPlayers c) _ _
     (players_walk players c) refl in
     grind arith
 
@@ -152,12 +147,12 @@ IsGroup ByCounts = IsCount
 IsGroup ByLists = IsLabelList
 
 -- where the next of them is read; the first may be of either kind
-abbrev pub next : Kind → Position
+abbrev pub next : Kind → ℕ → Position
 next ByCounts = p.Counts
 next ByLists = p.BeforeList
 
-abbrev pub Takes : Kind → Position → Type 0
-Takes k q = (q ≡ p.FirstStrategies) ⊎ (q ≡ next k)
+abbrev pub Takes : Kind → ℕ → Position → Type 0
+Takes k due q = (q ≡ p.FirstStrategies due) ⊎ (q ≡ next k due)
 
 -- the labels that are kept
 abbrev pub labels_in : Kind → Strategies → List (List ℕ)
@@ -184,64 +179,47 @@ all_groups k (labels ∷ strategies) c =
     let more = all_groups k strategies (with_group k c labels) in
     grind (arith, append_assoc, append-nil, mul_assoc, joined)
 
--- after the closing brace: a payoff is due for each player at each profile
-abbrev pub ended : Content → State
-ended c = at p.AfterStrategies (length c.players * c.profiles) 0 0 c
-
 -- ---- what was read
 
 abbrev IsSome : Kind → List Token → List (List ℕ) → Type 0
 IsSome k group labels = IsGroup k group labels × (0 < length labels)
 
 abbrev pub due_at : Kind → ℕ → Content → State
-due_at k due c = at (next k) due 0 0 c
+due_at k due c = at (next k due) c
 
-abbrev OneOf : Kind → List Token → ℕ → Content → Content → Type 0
-OneOf k = First (IsSome k) (due_at k) (with_group k)
+counted_found : (due : ℕ) (c : Content) (o : Option ℕ) (ts : List Token) (r : Content)
+    → (counted due c o >>= λ after. run after ts) ≡ Ok r
+    → (n : ℕ) × (o ≡ Some n) × (run (at (p.Counts due) (with_count c n)) ts ≡ Ok r)
+counted_found due c o ts r e = grind arith
 
-counted_found : (s : State) (o : Option ℕ) (ts : List Token) (r : Content)
-    → (counted s o >>= λ after. run after ts) ≡ Ok r
-    → (n : ℕ) × (o ≡ Some n)
-    × (run (at p.Counts (s.due - 1) s.list_start s.outcomes (with_count s.content n)) ts ≡ Ok r)
-counted_found s o ts r e = grind arith
+-- Text* Closing, after this many labels
+labels_found : (ts : List Token) (due n : ℕ) (c r : Content)
+    → run (at (p.InList due n) c) ts ≡ Ok r
+    → (labels : List (List ℕ)) × (rest : List Token) × (ts ≡ map Text labels ++ Closing ∷ rest)
+    × (0 < n + length labels) × (run (at (p.BeforeList due)
+    (with_count (with_labels c labels) (n + length labels))) rest ≡ Ok r)
+labels_found (Text label ∷ ts) due n c r e =
+    let h = labels_found ts due (n + 1) (with_labels c (label ∷ [])) r e in
+    (label ∷ h.0, h.1, cc h.2, omega (arith, h.3), grind (arith, h.4, append_assoc))
+labels_found (Closing ∷ ts) due (suc n) c r e =
+    ([], ts, refl, omega arith, grind (arith, append-nil))
+labels_found _ due n c r e = absurd (grind arith)
 
-one_count : (ts : List Token) (due : ℕ) (c r : Content)
-    → run (at p.Counts (suc due) 0 0 c) ts ≡ Ok r → OneOf ByCounts ts due c r
-one_count (Bare b ∷ ts) due c r e =
-    let h = counted_found (at p.Counts (suc due) 0 0 c) (count_of b) ts r (rw not_zero at e) in
+one_group : (k : Kind) (ts : List Token) (due : ℕ) (c r : Content)
+    → run (due_at k (suc due) c) ts ≡ Ok r
+    → First (IsSome k) (due_at k) (with_group k) ts due c r
+one_group ByCounts (Bare b ∷ ts) due c r e =
+    let h = counted_found due c (count_of b) ts r e in
     let k = count_is b h.0 h.1 in
     let n = length-counted_labels h.0 in
     let is : IsCount (Bare b ∷ []) (counted_labels h.0) = (b, h.0, refl, k.1, refl) in
-    (Bare b ∷ [], ts, counted_labels h.0, refl, (is, omega (arith, n, k.0)), cc (n, pred_suc due))
-one_count _ due c r e = absurd (grind arith)
-
--- Text* Closing
-labels_found : (ts : List Token) (due from : ℕ) (c r : Content)
-    → run (at p.InList due from 0 c) ts ≡ Ok r
-    → (labels : List (List ℕ)) × (rest : List Token) × (ts ≡ map Text labels ++ Closing ∷ rest)
-    × (run (at p.InList due from 0 (with_labels c labels)) (Closing ∷ rest) ≡ Ok r)
-labels_found (Text label ∷ ts) due from c r e =
-    grind (arith, labels_found ts due from (with_labels c (label ∷ [])) r e, with_more_labels)
-labels_found (Closing ∷ ts) due from c r e = ([], ts, refl, cc (with_no_labels c))
-labels_found _ due from c r e = absurd cc
-
-listed_found : (s : State) (n : ℕ) (ts : List Token) (r : Content)
-    → (listed s n >>= λ after. run after ts) ≡ Ok r
-    → (0 < n) × (run (at p.BeforeList s.due 0 s.outcomes (with_count s.content n)) ts ≡ Ok r)
-listed_found s n ts r e = grind arith
-
-behind_front : {A : Type 0} (xs ys : List A) → length (xs ++ ys) - length xs ≡ length ys
-behind_front xs ys = omega (arith, length-append xs ys)
-
-one_list : (ts : List Token) (due : ℕ) (c r : Content)
-    → run (at p.BeforeList (suc due) 0 0 c) ts ≡ Ok r → OneOf ByLists ts due c r
-one_list (Opening ∷ ts) due c r e =
-    let f : run (opened (at p.BeforeList (suc due) 0 0 c)) ts ≡ Ok r = rw not_zero at e in
-    let h = labels_found ts due (length c.labels) c r (rw pred_suc at f) in
-    let s : State = at p.InList due (length c.labels) 0 (with_labels c h.0) in
-    let k = listed_found s (length h.0) h.1 r (rw behind_front at h.3) in
-    (braced (map Text h.0), h.1, h.0, grind (arith, append_assoc), (refl, k.0), k.1)
-one_list _ due c r e = absurd (grind arith)
+    (Bare b ∷ [], ts, counted_labels h.0, refl, (is, omega (arith, n, k.0)), cc n)
+one_group ByLists (Opening ∷ ts) due c r e =
+    let h = labels_found ts due 0 c r e in
+    let size : 0 + length h.0 ≡ length h.0 = omega arith in
+    let parts = append_assoc (map Text h.0) (Closing ∷ []) h.1 in
+    (braced (map Text h.0), h.1, h.0, cc (h.2, parts), (refl, rw size at h.3), rw size at h.4)
+one_group k _ due c r e = absurd (grind arith)
 
 -- what the strategies still due and the closing brace read
 pub record Read (ts : List Token) (due : ℕ) (c r : Content) : Type 0 where
@@ -253,95 +231,95 @@ pub record Read (ts : List Token) (due : ℕ) (c r : Content) : Type 0 where
   pub each : Each (IsGroup kind) inner strategies
   pub some : AllSome strategies
   pub count : length strategies ≡ due
-  pub goes_on : run (ended (with_counts c (map length strategies) (labels_in kind strategies))) rest
-      ≡ Ok r
+  pub goes_on : run (strategies_end (with_counts c (map length strategies)
+      (labels_in kind strategies))) rest ≡ Ok r
 
 closed_found : (k : Kind) (ts : List Token) (c r : Content) → run (due_at k 0 c) ts ≡ Ok r
-    → (rest : List Token) × (ts ≡ Closing ∷ rest) × (run (ended c) rest ≡ Ok r)
+    → (rest : List Token) × (ts ≡ Closing ∷ rest) × (run (strategies_end c) rest ≡ Ok r)
 closed_found ByCounts (Closing ∷ ts) c r e = (ts, refl, e)
 closed_found ByLists (Closing ∷ ts) c r e = (ts, refl, e)
 closed_found k _ c r e = grind arith
 
-of_groups : (k : Kind) (ts : List Token) (due : ℕ) (c r : Content)
-    → Groups (IsSome k) (due_at k) (with_group k) ts due c r → Read (Opening ∷ ts) due c r
-of_groups k ts due c r h =
-    let e = each_both (IsGroup k) (λ labels. 0 < length labels) h.2 h.0 h.4 in
+read_by : (k : Kind) (ts : List Token) (due : ℕ) (c r : Content) → run (due_at k due c) ts ≡ Ok r
+    → Read (Opening ∷ ts) due c r
+read_by k ts due c r e =
+    let h = groups_found (IsSome k) (due_at k) (with_group k) (one_group k) ts due c r e in
+    let each = each_both (IsGroup k) (λ labels. 0 < length labels) h.2 h.0 h.4 in
     let z = closed_found k h.1 (all_in (with_group k) c h.2) r h.6 in
     grind (arith, append_assoc, run, all_groups)
 
-read_by : (k : Kind) (ts : List Token) (due : ℕ) (c r : Content) → run (due_at k due c) ts ≡ Ok r
-    → Read (Opening ∷ ts) due c r
-read_by ByCounts ts due c r e = of_groups ByCounts ts due c r (groups_found (IsSome ByCounts)
-    (due_at ByCounts) (with_group ByCounts) one_count ts due c r e)
-read_by ByLists ts due c r e = of_groups ByLists ts due c r (groups_found (IsSome ByLists)
-    (due_at ByLists) (with_group ByLists) one_list ts due c r e)
+first_found : (ts : List Token) (due : ℕ) (c r : Content)
+    → run (at (p.FirstStrategies due) c) ts ≡ Ok r → Read (Opening ∷ ts) due c r
+first_found (Opening ∷ ts) (suc due) c r e = read_by ByLists (Opening ∷ ts) (suc due) c r e
+first_found ts due c r e = read_by ByCounts ts due c r (grind arith)
 
-pub strategies_found : (ts : List Token) (due : ℕ) (c r : Content)
-    → run (at p.BeforeStrategies due 0 0 c) ts ≡ Ok r → Read ts due c r
-strategies_found (Opening ∷ Opening ∷ ts) due c r e =
-    read_by ByLists (Opening ∷ ts) due c r (grind arith)
-strategies_found (Opening ∷ ts) due c r e = read_by ByCounts ts due c r (grind arith)
-strategies_found _ due c r e = absurd (grind arith)
+pub strategies_found : (ts : List Token) (c r : Content) → run (at p.BeforeStrategies c) ts ≡ Ok r
+    → Read ts (length c.players) c r
+strategies_found (Opening ∷ ts) c r e = first_found ts (length c.players) c r e
+strategies_found _ c r e = absurd (grind arith)
 
 -- ---- where strategies lead
 
-pub labels_walk : (labels : List (List ℕ)) (due from outcomes : ℕ) (c : Content)
-    → walk (at p.InList due from outcomes c) (map Text labels)
-    ≡ Ok (at p.InList due from outcomes (with_labels c labels))
-labels_walk [] due from outcomes c = cc (with_no_labels c)
-labels_walk (label ∷ labels) due from outcomes c =
-    let more = labels_walk labels due from outcomes (with_labels c (label ∷ [])) in
-    grind (arith, with_more_labels)
+pub labels_walk : (labels : List (List ℕ)) (due n : ℕ) (c : Content)
+    → walk (at (p.InList due n) c) (map Text labels)
+    ≡ Ok (at (p.InList due (n + length labels)) (with_labels c labels))
+labels_walk [] due n c = grind (arith, append-nil)
+labels_walk (label ∷ labels) due n c =
+    let more = labels_walk labels due (n + 1) (with_labels c (label ∷ [])) in
+    grind (arith, append_assoc)
 
-pub list_closed : (s : State) (n : ℕ) → 0 < n
-    → listed s n ≡ Ok (at p.BeforeList s.due 0 s.outcomes (with_count s.content n))
-list_closed s n some = grind arith
+list_closed : (due : ℕ) (c : Content) (n : ℕ) → 0 < n
+    → listed due c n ≡ Ok (at (p.BeforeList due) (with_count c n))
+list_closed due c n some = grind arith
 
-group_walk : (k : Kind) (q : Position) → Takes k q → (due : ℕ) (c : Content) (group : List Token)
-    (labels : List (List ℕ)) → IsGroup k group labels → 0 < length labels
-    → walk (at q (suc due) 0 0 c) group ≡ Ok (due_at k due (with_group k c labels))
-group_walk ByCounts q takes due c group labels h some =
+group_walk : (k : Kind) (due : ℕ) (q : Position) → Takes k (suc due) q → (c : Content)
+    (group : List Token) (labels : List (List ℕ)) → IsGroup k group labels → 0 < length labels
+    → walk (at q c) group ≡ Ok (due_at k due (with_group k c labels))
+group_walk ByCounts due q takes c group labels h some =
     let same : length labels ≡ h.1 = ap length h.4 ∙ length-counted_labels h.1 in
     let read = count_again h.0 h.1 (omega (arith, some, same)) h.3 in
     grind arith
-group_walk ByLists q takes due c group labels h some =
-    let mid : State = at p.InList due (length c.labels) 0 (with_labels c labels) in
-    let texts = labels_walk labels due (length c.labels) 0 c in
-    let closed = list_closed mid (length labels) some in
-    let whole = walk_then (Opening ∷ map Text labels) (Closing ∷ []) (at q (suc due) 0 0 c) mid in
-    grind (arith, behind_front c.labels labels)
+group_walk ByLists due q takes c group labels h some =
+    let texts = labels_walk labels due 0 c in
+    let closed = list_closed due (with_labels c labels) (length labels) some in
+    let whole = walk_then (Opening ∷ map Text labels) (Closing ∷ []) (at q c)
+    (at (p.InList due (length labels)) (with_labels c labels)) in
+    grind arith
 
--- where groups of some players lead
-abbrev pub behind : Kind → Strategies → Position → Position
-behind k [] q = q
-behind k (labels ∷ strategies) q = next k
+-- where groups of some players lead, if this many more are due
+abbrev pub behind : Kind → Strategies → ℕ → Position → Position
+behind k [] due q = q
+behind k (labels ∷ strategies) due q = next k due
 
-behind_next : (k : Kind) (strategies : Strategies) → behind k strategies (next k) ≡ next k
-behind_next k strategies = grind arith
+behind_next : (k : Kind) (strategies : Strategies) (due : ℕ)
+    → behind k strategies due (next k (and_more strategies due)) ≡ next k due
+behind_next k strategies due = grind arith
 
--- there this many more are due
-pub groups_walk : (k : Kind) (strategies : Strategies) (inner : List Token) (q : Position)
-    → Takes k q → (due : ℕ) (c : Content) → Each (IsGroup k) inner strategies → AllSome strategies
-    → walk (at q (and_more strategies due) 0 0 c) inner
-    ≡ Ok (at (behind k strategies q) due 0 0 (all_in (with_group k) c strategies))
-groups_walk k [] inner q takes due c h some = ap (walk (at q due 0 0 c)) h
-groups_walk k (labels ∷ strategies) inner q takes due c h some =
-    let first = group_walk k q takes (and_more strategies due) c h.0 labels h.3 some.0 in
+pub groups_walk : (k : Kind) (strategies : Strategies) (inner : List Token) (due : ℕ) (q : Position)
+    → Takes k (and_more strategies due) q → (c : Content) → Each (IsGroup k) inner strategies
+    → AllSome strategies
+    → walk (at q c) inner
+    ≡ Ok (at (behind k strategies due q) (all_in (with_group k) c strategies))
+groups_walk k [] inner due q takes c h some = ap (walk (at q c)) h
+groups_walk k (labels ∷ strategies) inner due q takes c h some =
+    let first = group_walk k (and_more strategies due) q takes c h.0 labels h.3 some.0 in
     let d = with_group k c labels in
-    let more = groups_walk k strategies h.1 (next k) (inr refl) due d h.4 some.1 in
+    let more = groups_walk k strategies h.1 due (next k (and_more strategies due)) (inr refl) d h.4
+    some.1 in
     grind (arith, walk_then, behind_next)
 
 closed : (k : Kind) (strategies : Strategies) (rest : List Token) (c : Content)
-    → run (at (behind k strategies p.FirstStrategies) 0 0 0 c) (Closing ∷ rest)
-    ≡ run (ended c) rest
+    → run (at (behind k strategies 0 (p.FirstStrategies 0)) c) (Closing ∷ rest)
+    ≡ run (strategies_end c) rest
 closed k strategies rest c = grind arith
 
 pub strategies_again : (k : Kind) (strategies : Strategies) (inner rest : List Token) (c : Content)
     → Each (IsGroup k) inner strategies → AllSome strategies
-    → run (at p.FirstStrategies (length strategies) 0 0 c) (inner ++ Closing ∷ rest)
-    ≡ run (ended (with_counts c (map length strategies) (labels_in k strategies))) rest
+    → run (at (p.FirstStrategies (length strategies)) c) (inner ++ Closing ∷ rest)
+    ≡ run (strategies_end (with_counts c (map length strategies) (labels_in k strategies))) rest
 strategies_again k strategies inner rest c h some =
-    let w = groups_walk k strategies inner p.FirstStrategies (inl refl) 0 c h some in
     let due : and_more strategies 0 ≡ length strategies =
     let more = and_more_is strategies 0 in omega (arith, more) in
+    let w = groups_walk k strategies inner 0 (p.FirstStrategies (and_more strategies 0)) (inl refl)
+    c h some in
     grind (arith, walk_run, closed, all_in, all_groups)

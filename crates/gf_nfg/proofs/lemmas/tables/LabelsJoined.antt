@@ -1,11 +1,10 @@
 -- Labels that are put together: one after another, or joined to one.
-use Rattle.gf_nfg.proofs.Common.{◌≡◌, ℕ, ◌+◌, ◌-◌, ◌<◌, ◌∷◌, map, ◌∙◌, sym, Ok, Err, OnOk, sum}
-use Rattle.gf_nfg.proofs.Common.{true, get_or, Result, map_push, label_of, IsLabel, RisesTo, pieces}
-use Rattle.gf_nfg.proofs.Common.{List, ◌++◌, subst, ap, Some, take, drop, refl, arith, is_ok, Label}
-use Rattle.gf_nfg.proofs.Common.{[], append_assoc, AllByRecursion, join_with_byte, slice_get_within}
-use Rattle.gf_nfg.proofs.Common.{length, take-append-drop, get_or_from_slice_get, is_spelling_after}
-use Rattle.gf_nfg.proofs.Common.{slice_get, and_from, and_parts, length-map, take_more, all_parts}
-use Rattle.gf_nfg.proofs.Common.{append-nil, length-drop, length-take, AreSpellings, at_drop_more}
+use Rattle.gf_nfg.proofs.Common.{◌≡◌, ℕ, ◌+◌, ◌<◌, ◌∷◌, map, ◌∙◌, sym, sum, true, get_or, label_of}
+use Rattle.gf_nfg.proofs.Common.{IsLabel, RisesTo, pieces, List, ◌++◌, ap, Some, take, drop, refl}
+use Rattle.gf_nfg.proofs.Common.{arith, Label, [], append_assoc, join_with_byte, slice_get_within}
+use Rattle.gf_nfg.proofs.Common.{length, get_or_from_slice_get, is_spelling_after, slice_get}
+use Rattle.gf_nfg.proofs.Common.{and_from, and_parts, take_more, append-nil, length-drop}
+use Rattle.gf_nfg.proofs.Common.{length-take, AreSpellings, at_drop_more}
 use Rattle.gf_nfg.specs.TableParts.{dashed}
 use Rattle.gf_nfg.proofs.lemmas.tables.Lists.{sum-cons}
 use Rattle.gf_nfg.proofs.lemmas.tables.Pieces.{rises_within}

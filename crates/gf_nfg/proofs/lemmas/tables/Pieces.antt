@@ -1,9 +1,10 @@
 -- Lists that are cut into pieces.
-use Rattle.gf_nfg.proofs.Common.{◌≡◌, ℕ, suc, ◌+◌, ◌-◌, ◌<◌, ◌≤◌, List, [], ◌∷◌, ◌++◌, length, take}
-use Rattle.gf_nfg.proofs.Common.{drop, get_or, Some, slice_get, refl, ap, arith, true}
-use Rattle.gf_nfg.proofs.Common.{take-append-le, drop-append-le, length-drop, length-append}
-use Rattle.gf_nfg.proofs.Common.{take_all, drop_at, all_at, all_both, is_spelling, IsLabel, pieces}
-use Rattle.gf_nfg.proofs.Common.{start_of, RisesTo, IsCut, AllByRecursion}
+use Rattle.gf_nfg.proofs.Common.{drop-append-le, slice_eq-Decides, take-append-drop, take-append-le}
+use Rattle.gf_nfg.proofs.Common.{AllByRecursion, length-append, length-drop, length-take, slice_get}
+use Rattle.gf_nfg.proofs.Common.{Decides-eqb, all_both, drop-drop, drop_all, is_spelling, take_all}
+use Rattle.gf_nfg.proofs.Common.{IsLabel, RisesTo, all_at, arith, drop_at, get_or, length, start_of}
+use Rattle.gf_nfg.proofs.Common.{IsCut, List, Some, drop, pieces, refl, suc, take, true, ◌++◌, ◌≡◌}
+use Rattle.gf_nfg.proofs.Common.{[], ap, ℕ, ◌+◌, ◌-◌, ◌<◌, ◌∙◌, ◌∷◌, ◌≤◌}
 
 pub start_of_suc : (from : ℕ) (ends : List ℕ) (k d : ℕ) → k < length ends
     → start_of from ends (suc k) ≡ get_or ends k d
@@ -37,6 +38,34 @@ pub end_within : (whole from : ℕ) (ends : List ℕ) (k d : ℕ)
 end_within whole from (end ∷ ends) (suc k) d r h =
     end_within whole end ends k d r.1 (omega (arith, h))
 end_within whole from ends k d r h = grind (arith, rises_within)
+
+part_and_rest : {A : Type 0} (from n : ℕ) (xs : List A) → from ≤ n
+    → take (n - from) (drop from xs) ++ drop n xs ≡ drop from xs
+part_and_rest from n xs h =
+    let more : from + (n - from) ≡ n = omega arith in
+    rw (drop-drop (n - from) from xs ∙ ap (λ i. drop i xs) more)
+    at (take-append-drop (n - from) (drop from xs))
+
+-- a list and its ends are known by the pieces
+cut_once : {A : Type 0} (from : ℕ) (ends stops : List ℕ) (xs ys : List A)
+    → RisesTo (length xs) from ends → RisesTo (length ys) from stops
+    → pieces from ends xs ≡ pieces from stops ys → (ends ≡ stops) × (drop from xs ≡ drop from ys)
+cut_once from [] [] xs ys h k e = (refl, grind (arith, drop_all))
+cut_once from (end ∷ ends) (stop ∷ stops) xs ys h k e =
+    let near = rises_within (length xs) end ends h.1 in
+    let close = rises_within (length ys) stop stops k.1 in
+    let first : take (end - from) (drop from xs) ≡ take (stop - from) (drop from ys) = cc in
+    let sizes = simp (length-take, length-drop) at (ap length first) in
+    let same : end ≡ stop = omega (arith, h.0, k.0) in
+    let rest : pieces end ends xs ≡ pieces stop stops ys = cc in
+    let more = cut_once end ends stops xs ys h.1 (rw same k.1) (rest ∙ rw same refl) in
+    (cc (same, more.0), cc (part_and_rest from end xs h.0, part_and_rest from stop ys k.0, more.1))
+cut_once from ends stops xs ys h k e = absurd cc
+
+pub one_cut : {A : Type 0} (ends stops : List ℕ) (xs ys : List A)
+    → RisesTo (length xs) 0 ends → RisesTo (length ys) 0 stops
+    → pieces 0 ends xs ≡ pieces 0 stops ys → (ends ≡ stops) × (xs ≡ ys)
+one_cut ends stops xs ys h k e = cut_once 0 ends stops xs ys h k e
 
 pub take_part : {A : Type 0} (n m : ℕ) (xs ys : List A) → m + n ≤ length xs
     → take n (drop m (xs ++ ys)) ≡ take n (drop m xs)
@@ -76,6 +105,8 @@ pub ruleset one_piece_more = (rises-more, pieces-more, spelled-more)
 pub within_ends : (ends bytes : List ℕ) (labels : List (List ℕ)) (at : ℕ)
     → pieces 0 ends bytes ≡ labels → at < length labels → at < length ends
 within_ends ends bytes labels at v h = grind (arith, length-pieces)
+
+pub ruleset one_way_cut = (one_cut, slice_eq-Decides, Decides-eqb)
 
 pub ruleset as_many_pieces = (length-pieces)
 

@@ -98,15 +98,6 @@ paid_in_turn players count payoffs zeros (k ∷ numbers) rs none h view some = a
 
 pub ruleset payoffs_in_turn = (in_turn, paid_in_turn)
 
--- the row of zeros matters only if a number may be 0
-pub rows_alike : (players count : ℕ) (payoffs zeros : List Ratio) (numbers : List ℕ)
-    → (0 < length numbers → zeros ≡ no_pay players)
-    → kept_rows players count payoffs zeros numbers
-    ≡ kept_rows players count payoffs (no_pay players) numbers
-rows_alike players count payoffs zeros [] h = refl
-rows_alike players count payoffs zeros (k ∷ numbers) h =
-    ap (λ none. map (kept_row players payoffs none) (k ∷ numbers)) (h (omega arith))
-
 -- the row at a place has this number
 pub record IsRow (players : ℕ) (payoffs zeros : List Ratio) (rs : List (List Ratio))
     (place number : ℕ) : Type 0 where

@@ -3,7 +3,7 @@ use Rattle.gf_nfg.proofs.reader.Reader.counts.Given as goal
 
 abbrev pub invariant-loop-due : goal.invariant-loop-due
 invariant-loop-due l =
-    (answer Counts l.initial.due 0 l.initial.self ≡ answer Counts l.due 0 l.self)
+    (answer (Counts l.initial.due) l.initial.self ≡ answer (Counts l.due) l.self)
     × HasMore (l.initial.due - l.due) l.initial.self.heading l.self.heading
     × (l.due ≤ l.initial.due)
 

@@ -3,7 +3,7 @@ use Rattle.gf_nfg.proofs.reader.Reader.lists.Given as goal
 
 abbrev pub invariant-loop-due : goal.invariant-loop-due
 invariant-loop-due l =
-    (answer BeforeList l.initial.due 0 l.initial.self ≡ answer BeforeList l.due 0 l.self)
+    (answer (BeforeList l.initial.due) l.initial.self ≡ answer (BeforeList l.due) l.self)
     × HasMore (l.initial.due - l.due) l.initial.self.heading l.self.heading
     × (l.due ≤ l.initial.due)
 

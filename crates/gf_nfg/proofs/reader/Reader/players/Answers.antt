@@ -7,6 +7,6 @@ pub returns-in_err-keep-clause-machine : goal.returns-in_err-keep-clause-machine
 returns-in_err-keep-clause-machine c =
     goes_back {r = c.from_residual.result} _ (search rules)
     (wants_memory c.in-Some-text.ensures.place c.in_err-keep.ensures.0
-    (at InPlayers 0 0 0 (with_players (content_in c.loop-player.self.heading)
+    (at InPlayers (with_players (content_in c.loop-player.self.heading)
     (label_of c.in-Some-text.player.label ∷ [])))
     (search rules))

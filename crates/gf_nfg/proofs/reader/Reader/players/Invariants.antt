@@ -3,7 +3,7 @@ use Rattle.gf_nfg.proofs.reader.Reader.players.Given as goal
 
 abbrev pub invariant-loop-player : goal.invariant-loop-player
 invariant-loop-player l =
-    (answer BeforePlayers 0 0 l.fn.self ≡ answer InPlayers 0 0 l.self)
+    (answer BeforePlayers l.fn.self ≡ answer InPlayers l.self)
     × (l.self.heading.counts ≡ l.fn.self.heading.counts)
 
 abbrev pub decreases-loop-player : goal.decreases-loop-player

@@ -5,11 +5,11 @@ use Rattle.gf_nfg.proofs.reader.Reader.settle.Goals as goal
 pub returns-in_default-push-clause-counts : goal.returns-in_default-push-clause-counts
 returns-in_default-push-clause-counts c = λ due.
     wants_memory c.requires.place c.at-in_default-push.ensures
-    (at Counts due 0 0 (with_count (content_in c.args.self.now.heading) c.args.strategies))
+    (at (Counts due) (with_count (content_in c.args.self.now.heading) c.args.strategies))
     (search rules)
 
 pub returns-in_default-push-clause-lists : goal.returns-in_default-push-clause-lists
 returns-in_default-push-clause-lists c = λ due.
     wants_memory c.requires.place c.at-in_default-push.ensures
-    (at BeforeList due 0 0 (with_count (content_in c.args.self.now.heading) c.args.strategies))
+    (at (BeforeList due) (with_count (content_in c.args.self.now.heading) c.args.strategies))
     (search rules)

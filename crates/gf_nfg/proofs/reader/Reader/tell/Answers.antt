@@ -9,7 +9,7 @@ returns-in-Payoffs g c =
     c.tell_payoffs.ensures
     (record {
       untold = c.args.to.now;
-      whole = answer Format 0 0 c.args.self.now;
+      whole = answer Format c.args.self.now;
       version = Payoffs;
       heading = c.begin.new.self.heading;
     })
@@ -23,7 +23,7 @@ returns-in-Outcomes g c =
     c.tell_outcomes.ensures
     (record {
       untold = c.args.to.now;
-      whole = answer Format 0 0 c.args.self.now;
+      whole = answer Format c.args.self.now;
       version = Outcomes;
       heading = c.begin.new.self.heading;
     })

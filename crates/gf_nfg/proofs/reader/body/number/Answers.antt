@@ -6,6 +6,6 @@ use Rattle.gf_nfg.proofs.reader.body.number.Goals as goal
 pub returns-in_default-number-clause-told : goal.returns-in_default-number-clause-told
 returns-in_default-number-clause-told g c = λ b due version some h.
     wants_memory c.in-Some.ensures.place c.at-in_default-number.ensures
-    (at OutcomeNumbers (due - 1) 0 c.args.outcomes
+    (at (OutcomeNumbers c.args.outcomes (due - 1))
     (content_told (told_of b h.payoffs (h.numbers ++ c.in-Some-index.number ∷ []))))
     (h.goes ∙ search rules)
