@@ -243,13 +243,10 @@ module _ (players : ℕ) (outcomes : List (List Ratio))
       → Each (IsOutcomeNumber players outcomes) tokens
       (map (row_of players (joined outcomes)) choices)
   choices_pay [] tokens h known = h
-  choices_pay (k ∷ choices) tokens h known = (
-    h.0,
-    h.1,
-    h.2,
-    (h.3.0, k, h.3.1, h.3.2, grind (arith, get-joined)),
-    choices_pay choices h.1 h.4 known.1,
-  )
+  choices_pay (k ∷ choices) tokens h known =
+      let pays : Pays players outcomes k (row_of players (joined outcomes) k) =
+      grind (arith, get-joined) in
+      (h.0, h.1, h.2, (h.3.0, k, h.3.1, h.3.2, pays), choices_pay choices h.1 h.4 known.1)
 
   -- an outcome's number that pays a row, as it is read
   pub record Chosen (tokens : List Token) (rs : List (List Ratio)) : Type 0 where

@@ -16,16 +16,9 @@ pieces_size : {A : Type 0} (from : ℕ) (ends : List ℕ) (items : List A)
     → RisesTo (length items) from ends
     → from + sum (map length (pieces from ends items)) ≡ length items
 pieces_size from [] items h = omega (arith, h)
-pieces_size from (end ∷ ends) items h = grind (
-  arith,
-  length-take,
-  drop,
-  length-drop,
-  rises_within,
-  sum-cons,
-  take,
-  pieces_size end ends items h.1,
-)
+pieces_size from (end ∷ ends) items h =
+    let more = pieces_size end ends items h.1 in
+    grind (arith, length-take, drop, length-drop, rises_within, sum-cons, take)
 
 pub labels_size : (ends bytes : List ℕ) → RisesTo (length bytes) 0 ends
     → sum (map length (pieces 0 ends bytes)) ≡ length bytes

@@ -92,15 +92,10 @@ module _ (named : Bool) (t u : Table) (ht : IsTable t) (hu : IsTable u) where
 
   -- payoffs of as many players and profiles are in the same rows
   rows_parted : SameNames → joined (rows t) ≡ joined (rows u) → rows t ≡ rows u
-  rows_parted names same = grind (
-    arith,
-    entries_counted t ht,
-    entries_counted u hu,
-    length-map t.entries (λ e. e.payoffs),
-    length-map u.entries (λ e. e.payoffs),
-    rows_again (length t.players) (rows t) ht.one_payoff_each,
-    rows_again (length u.players) (rows u) hu.one_payoff_each,
-  )
+  rows_parted names same =
+      let first = rows_again (length t.players) (rows t) ht.one_payoff_each in
+      let second = rows_again (length u.players) (rows u) hu.one_payoff_each in
+      grind (arith, entries_counted t ht, entries_counted u hu, length-map)
 
   pub same_in_turn : SameTable (named_by named t) (named_by named u)
       ↔ (SameNames × (joined (rows t) ≡ joined (rows u)))

@@ -14,14 +14,10 @@ use Rattle.gf_nfg.proofs.lemmas.tables.Rows as kept
 length-groups : {A : Type 0} (sizes : List ℕ) (items : List A) → length items ≡ sum sizes
     → map length (groups sizes items) ≡ sizes
 length-groups [] items e = refl
-length-groups (n ∷ sizes) items e = grind (
-  arith,
-  sum-cons,
-  length-take,
-  drop,
-  length-drop,
-  length-groups sizes (drop n items) (omega (arith, e, (sum-cons n sizes), length-drop n items)),
-)
+length-groups (n ∷ sizes) items e =
+    let more = length-groups sizes (drop n items)
+    (omega (arith, e, sum-cons n sizes, length-drop n items)) in
+    grind (arith, sum-cons, length-take, drop, length-drop)
 
 -- the strategies are as many as the counts say
 pub counts-strategies_of : (counts : List ℕ) (labels : List (List ℕ)) → HasLabels counts labels

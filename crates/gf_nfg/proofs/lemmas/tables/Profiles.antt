@@ -37,14 +37,9 @@ places_all count counts (others ∷ tails) k e =
 length-firsts : (count : ℕ) (tails : List (List ℕ))
     → length (flat_map (firsts count) tails) ≡ count * length tails
 length-firsts count [] = omega arith
-length-firsts count (others ∷ tails) = grind (
-  arith,
-  length-map,
-  length-numbers_from,
-  length-append,
-  mul-suc,
-  length-firsts count tails,
-)
+length-firsts count (others ∷ tails) =
+    let more = length-firsts count tails in
+    grind (arith, length-map, length-numbers_from, length-append, mul-suc)
 
 pub length-profiles : (counts : List ℕ) → length (profiles counts) ≡ product counts
 length-profiles [] = refl
@@ -53,11 +48,9 @@ length-profiles (count ∷ counts) = grind (arith, length-firsts, length-profile
 places_are : (counts : List ℕ)
     → map (place counts) (profiles counts) ≡ numbers_from 0 (length (profiles counts))
 places_are [] = refl
-places_are (count ∷ counts) = grind (
-  arith,
-  places_all count counts (profiles counts) 0 (places_are counts),
-  length-firsts count (profiles counts),
-)
+places_are (count ∷ counts) =
+    let all = places_all count counts (profiles counts) 0 (places_are counts) in
+    grind (arith, length-firsts count (profiles counts))
 
 pub profiles_in_order : (counts : List ℕ)
     → map (place counts) (profiles counts) ≡ numbers_from 0 (product counts)
@@ -65,12 +58,10 @@ profiles_in_order counts = places_are counts ∙ ap (numbers_from 0) (length-pro
 
 pub place_at : (counts : List ℕ) (i : ℕ) (d : List ℕ) → i < length (profiles counts)
     → place counts (get_or (profiles counts) i d) ≡ i
-place_at counts i d h = grind (
-  arith,
-  get_or-map (place counts) (profiles counts) i d 0 h,
-  places_are counts,
-  get_or-numbers_from 0 (length (profiles counts)) i 0 h,
-)
+place_at counts i d h =
+    let there = get_or-map (place counts) (profiles counts) i d 0 h in
+    let number = get_or-numbers_from 0 (length (profiles counts)) i 0 h in
+    grind (arith, places_are counts)
 
 -- no profile stands twice
 pub profiles_distinct : (counts : List ℕ) (i j : ℕ) (d : List ℕ) → i < length (profiles counts)

@@ -154,11 +154,9 @@ count_at_most [] k h = omega arith
 count_at_most (first ∷ others) zero h =
     let some = product_above_zero (map length others) (all_images (λ n. 0 < n) length others h.1) in
     grind (arith, mul-le-mul_left (length first) some)
-count_at_most (first ∷ others) (suc k) h = grind (
-  arith,
-  count_at_most others k h.1,
-  mul-le-mul_right (product (map length others)) h.0,
-)
+count_at_most (first ∷ others) (suc k) h =
+    let more = count_at_most others k h.1 in
+    grind (arith, mul-le-mul_right (product (map length others)) h.0)
 
 pub own_count_within : (t : Table) (k : ℕ) → IsTable t → IsWithinLimit t
     → length (get_or t.strategies k []) ≤ profile_limit

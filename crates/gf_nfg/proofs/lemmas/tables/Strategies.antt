@@ -64,13 +64,9 @@ pub own_label : {labels own : List (List ℕ)} {start end k : ℕ} → IsOwn lab
     → k < length own → (start + k < end) × (slice_get own k ≡ slice_get labels (start + k))
 own_label {labels} {own} {start} {end} {k} h less =
     let size = own_length h in
-    grind (
-      arith,
-      slice_get-get_or own k [],
-      get_or-take (end - start) (drop start labels) k [],
-      get_or-drop start labels k [],
-      slice_get-get_or labels (start + k) [],
-    )
+    let taken = get_or-take (end - start) (drop start labels) k [] in
+    let dropped = get_or-drop start labels k [] in
+    grind (arith, slice_get-get_or own k [], slice_get-get_or labels (start + k) [])
 
 pub has_list : (lists : List (List (List ℕ))) (at k : ℕ) → k < length (get_or lists at [])
     → at < length lists
