@@ -2,10 +2,9 @@
 use Rattle.gf_nfg.proofs.Common.{◌≡◌, ℕ, ◌*◌, ◌<◌, ◌≤◌, List, [], ◌∷◌, length, map, drop, refl, sym}
 use Rattle.gf_nfg.proofs.Common.{◌∙◌, arith, length-take, length-drop, sum, AllByRecursion}
 use Rattle.gf_nfg.proofs.Common.{mul_comm, mul-le-mul_right, length-map, Ratio, all_mapped, product}
-use Rattle.gf_nfg.proofs.Common.{profile_limit, IsWithinLimit, IsSpellable, no_pay, IsTable, rows}
+use Rattle.gf_nfg.proofs.Common.{profile_limit, IsWithinLimit, IsSpellable, IsTable, rows}
 use Rattle.gf_nfg.proofs.Common.{Names, groups, IsHeld, HasRows, Content, names_in, strategies_of}
 use Rattle.gf_nfg.proofs.Common.{rows_by, table_of, HasPayoffs, HasLabels, IsComplete, all_weaker}
-use Rattle.gf_nfg.proofs.Common.{◌+◌, ◌/◌, AreShared}
 use Rattle.gf_nfg.proofs.lemmas.tables.Lists.{joined, sum-cons, counts_back, groups-joined}
 use Rattle.gf_nfg.proofs.lemmas.tables.Rows as kept
 
@@ -43,16 +42,6 @@ has_rows c (k ∷ choices) h = (
 )
 
 pub ruleset rows_of_parts = (has_rows, length-map)
-
--- a number of an outcome is read for each profile
-pub outcomes_shared : (c : Content) (players size : ℕ) (zeros : List Ratio) → HasPayoffs c c.choices
-    → length c.players ≡ players → size ≡ length c.payoffs → 0 < players → 0 < length c.choices
-    → zeros ≡ no_pay players
-    → AreShared (rows_by c c.choices) c.choices players c.payoffs zeros (size / players + 1)
-outcomes_shared c players size zeros h p s some chosen z =
-    rw (z, s, sym p)
-    (kept.are_shared (length c.players) c.profiles c.payoffs (no_pay (length c.players)) c.choices
-    (rows_by c c.choices) (has_rows c c.choices h) refl (omega (arith, p, some)) chosen)
 
 -- ---- the table
 
