@@ -40,9 +40,7 @@ pub use Rattle.gf_tree.specs.Consistent.{IsConsistent}
 pub use Rattle.gf_tree.specs.Description.{Action, AddToOne, AreActions, InformationSet, IsOutcome}
 pub use Rattle.gf_tree.specs.Description.{IsSet, Outcome, SetKey, outcome_with, same_set, set_of}
 pub use Rattle.gf_tree.specs.Description.{set_with}
-pub use Rattle.gf_tree.specs.Due.{IsDue, NodeIsDue, OutcomeIsDue, PayoffIsDue, PlayerIsDue}
-pub use Rattle.gf_tree.specs.Due.{ProbabilityIsDue, SetIsDue}
-pub use Rattle.gf_tree.specs.DueRoles.{OnlySuitedFollow, Role, Suits, what_of}
+pub use Rattle.gf_tree.specs.Due.{IndexIsDue, IsDue, MayBeNext, NodeIsDue, NumberIsDue}
 pub use Rattle.gf_tree.specs.FileNodes.{file_nodes, use_behind}
 pub use Rattle.gf_tree.specs.FileTree.{FileNode, FileTree, Use, outcome_uses, set_uses}
 pub use Rattle.gf_tree.specs.Fills.{Fills}

@@ -6,7 +6,6 @@ pub mod CarriedParts
 pub mod Consistent
 pub mod Description
 pub mod Due
-pub mod DueRoles
 pub mod FileNodeOf
 pub mod FileNodes
 pub mod FileTree

@@ -16,24 +16,22 @@ use Rattle.gf_fraction.specs.NumberSpelling.{HasNumberFault, IsNumber}
 use Rattle.gf_fraction.specs.declared.fraction.NumberFault.{NumberFault}
 use Rattle.gf_tree.specs.Description.{Action, InformationSet, Outcome, SetKey, set_of, set_with}
 use Rattle.gf_tree.specs.Sentence.{IsPositive}
-use Rattle.gf_token.specs.Place.{MayFollow}
 use Rattle.gf_tree.specs.Front.{EndsInNode, BehindSetNumber, InActions, ToProbability, IsNewOutcome}
 use Rattle.gf_tree.specs.Front.{BehindOutcomeNumber, InPayoffs, KnowsSet, IsNewSet, KnowsOutcome}
-use Rattle.gf_tree.specs.Front.{IsExtensiveFile, ToPlayerNumber}
-use Rattle.gf_tree.specs.Due.{NodeIsDue, IsDue}
+use Rattle.gf_tree.specs.Front.{ToPlayerNumber}
+use Rattle.gf_tree.specs.Due.{MayBeNext, NumberIsDue, IndexIsDue, NodeIsDue, IsDue}
 use Rattle.gf_token.specs.Reason as any_format
-use Rattle.gf_token.specs.declared.fault.What.TheVariants as what
 use Rattle.gf_fraction.specs.declared.fraction.NumberFault.TheVariants as number
 
 -- ---- numbers and indices
 
 -- a payoff or a probability is due, and the bytes are not a number, for this reason
 abbrev pub IsFaultyNumber : List Token → List ℕ → NumberFault → Type 0
-IsFaultyNumber before bytes fault = IsDue before what.Number × HasNumberFault bytes fault
+IsFaultyNumber before bytes fault = NumberIsDue before × HasNumberFault bytes fault
 
 -- an index is due, and the bytes are not one above 0; where 0 may stand, it is not refused
 abbrev pub IsBadIndex : List Token → List ℕ → Type 0
-IsBadIndex before bytes = IsDue before what.Index × ((n : ℕ) → ¬ (IsPositive bytes n))
+IsBadIndex before bytes = IndexIsDue before × ((n : ℕ) → ¬ (IsPositive bytes n))
 
 -- a player's number is due, and the bytes are an index above the number of players; or a node is
 -- due, and a player is to move, but none may
@@ -41,8 +39,7 @@ abbrev pub IsUnknownPlayer : List Token → List ℕ → Type 0
 IsUnknownPlayer before bytes =
     ((f : EndsInNode before) × (n : ℕ) × ToPlayerNumber f.front × IsIndex bytes n
     × (length f.players < n))
-    ⊎ (NodeIsDue before × ¬ (MayFollow IsExtensiveFile before (Bare (codes "p")))
-    × (bytes ≡ codes "p"))
+    ⊎ (NodeIsDue before × ¬ (MayBeNext before (codes "p")) × (bytes ≡ codes "p"))
 
 -- ---- descriptions
 

@@ -1,6 +1,5 @@
 //! Laws of the definitions, each as the contract of a function that does nothing.
 
-pub mod due;
 pub mod rows;
 
 ghost use Rattle.std.specs.Prelude.{◌≡◌, ◌↔◌, ◌⊎◌, Bool, Decides, List, [], ◌∷◌, ℕ, map, nat_eq};

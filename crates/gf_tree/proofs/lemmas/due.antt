@@ -1,9 +1,8 @@
 pub mod Actions
 pub mod Answers
-pub mod ByShapes
+pub mod BareTokens
 pub mod Heading
 pub mod Nodes
 pub mod Outcomes
 pub mod Payoffs
 pub mod Rows
-pub mod Suited

@@ -12,31 +12,32 @@ use Rattle.gf_tree.proofs.Common.{code_of, why_of, Unterminated, BadIndex, SumAb
 use Rattle.gf_tree.proofs.Common.{SumOverflow, NoEntry, this_label, a_new_action, a_new_branch}
 use Rattle.gf_tree.proofs.Common.{Refuses, no_label, Holds, IsReason, DiffersFromOutcome}
 use Rattle.gf_tree.proofs.Common.{DiffersFromSet, EndsInFirstUse, IsNoText, IsWrongBehind}
-use Rattle.gf_tree.proofs.Common.{ListsActions, SumFits, HasNumberFault, answer_is, codes, What}
+use Rattle.gf_tree.proofs.Common.{ListsActions, SumFits, HasNumberFault, answer_is, a_player}
 use Rattle.gf_token.specs.declared.fault.Why.TheVariants.{NotANumber, ZeroDenominator}
 use Rattle.gf_token.specs.declared.fault.Why.TheVariants.{NumberTooLarge, NotDescribed}
 use Rattle.gf_tree.specs.Rows.{Obeys}
 use Rattle.gf_tree.specs.Reason.{StaysBelowOne, IsBadIndex, IsMismatch, IsWrongProbability}
 use Rattle.gf_tree.specs.Reason.{IsFaultyNumber, IsUnknownPlayer}
 use Rattle.gf_tree.proofs.lemmas.due.Rows.{Stands, accepted, answers_at, leads, refused_by}
-use Rattle.gf_tree.proofs.lemmas.due.Suited.{node_only}
 use Rattle.gf_tree.proofs.lemmas.fronts.Codes.{IsUpTo, known_left}
 use Rattle.gf_tree.proofs.lemmas.reasons.Nodes.{reasoned}
-use Rattle.gf_tree.proofs.lemmas.reasons.Rows.{Own, RefusesBy}
+use Rattle.gf_tree.proofs.lemmas.reasons.Rows.{Own}
 use Rattle.gf_tree.proofs.lemmas.fronts.CutPlaces.{payoff_place}
-use Rattle.gf_tree.proofs.lemmas.due.ByShapes.{front_of, asks_number, asks_outcome, asks_player}
-use Rattle.gf_tree.proofs.lemmas.due.ByShapes.{asks_set}
 use Rattle.gf_tree.proofs.lemmas.runs.Places.{Leads, begins}
 use Rattle.gf_tree.proofs.lemmas.runs.Stops.{StopsAt, not_accepted, stopped}
 use Rattle.gf_fraction.specs.Computed.{number_of}
 use Rattle.gf_tree.proofs.lemmas.due.Actions.{a_share, known_action, known_share, new_action}
 use Rattle.gf_tree.proofs.lemmas.due.Actions.{new_branch, new_share, no_action_left}
-use Rattle.gf_tree.proofs.lemmas.due.Nodes.{known_set, new_set, reads_on}
+use Rattle.gf_tree.proofs.lemmas.due.Nodes.{known_set, new_set, player, reads_on}
 use Rattle.gf_tree.proofs.lemmas.due.Outcomes.{known_outcome, new_outcome}
 use Rattle.gf_tree.proofs.lemmas.due.Payoffs.{after_known_payoff, known_payoff}
 use Rattle.gf_tree.proofs.lemmas.Once.{one_ok}
 use Rattle.gf_fraction.proofs.ReadingBack.{same_fault}
 use Rattle.gf_fraction.specs.declared.fraction.NumberFault.TheVariants as number
+
+abbrev front_of : (before : List Token) → Begins IsExtensiveFile before → EndsInNode before
+    → FileFront
+front_of before begins ends = record { before = before; begins = begins; ends = ends }
 
 -- ---- numbers
 
@@ -114,36 +115,27 @@ module _ (before : List Token) (s : State) (why : Why) (l : Leads before s) wher
 
     no_number : (fault : NumberFault) → IsFaultyNumber before b fault → why ≡ why_of fault
     no_number fault (due, is) =
-        let k = asks_number before file due in
-        is_fault b fault why is (k.refused b why (says k.row k.stands))
+        let r = reasoned before file in
+        is_fault b fault why is (r.told.number due b why (says r.row r.stands))
 
     bad_index : IsBadIndex before b → why ≡ BadIndex
-    bad_index (inl d, none) =
-        let k = asks_player before file d in
-        elim (k.refused b why (says k.row k.stands)) [
-          | inl e ↦ e.0
-          | inr e ↦ let above = e.1.2 in absurd (none e.1.0 (e.1.1, omega (arith, above)))
+    bad_index (due, none) =
+        let r = reasoned before file in
+        elim (r.told.index due b why (says r.row r.stands)) [
+          | inl e ↦ e
+          | inr k ↦ absurd (none k.0 k.1)
         ]
-    bad_index (inr (inl d), none) =
-        let k = asks_set before file d in k.refused b why (says k.row k.stands)
-    bad_index (inr (inr d), none) =
-        let k = asks_outcome before file d in k.refused b why (says k.row k.stands)
 
     -- a number above that of the players; or a player's node, although there are none
     unknown_player : IsUnknownPlayer before b → IsUpTo why 8
-    unknown_player (inl d) =
-        let k = asks_player before file (d.0, d.2) in
-        elim (k.refused b why (says k.row k.stands)) [
+    unknown_player (inl d) = elim (says (a_player (length d.0.players))
+        (player (front_of before file d.0) d.2)) [
           | inl e ↦ up_to BadIndex 8 e.0 (omega arith)
           | inr e ↦ up_to UnknownPlayer 8 e.0 (omega arith)
         ]
     unknown_player (inr k) =
         let r = reasoned before file in
-        let t = r.told (codes "t")
-        ((accepted before r.row r.stands (Bare (codes "t") ∷ [])).0 k.0) in
-        let refuses = subst (λ (w : What). RefusesBy w r.row)
-        (node_only t.0 ((t.1 (codes "t")).0 k.0)) t.3 in
-        elim (refuses b why (says r.row r.stands)).1 [
+        elim ((r.told.node k.0).1 b why (says r.row r.stands)) [
           | inl e ↦ up_to UnknownPlayer 8 e.0 (omega arith)
           | inr e ↦ absurd (e.1 k.2)
         ]

@@ -1,16 +1,16 @@
 -- The rows of nodes refuse for reasons, and so does each row after the front of a file.
 use Rattle.gf_tree.proofs.Common.{◌≡◌, ℕ, ◌<◌, List, [], ◌∷◌, ◌++◌, length, Bool, true, false}
-use Rattle.gf_tree.proofs.Common.{codes, Option, Some, None, refl, sym, ap, subst, ◌∙◌, arith, inl}
+use Rattle.gf_tree.proofs.Common.{codes, Some, None, refl, sym, ap, subst, ◌∙◌, arith, inl}
 use Rattle.gf_tree.proofs.Common.{inr, length-append, same_Some, ◌⊎◌, Ratio, IsNumber, Token}
 use Rattle.gf_tree.proofs.Common.{Closing, Text, Bare, IsIndex, Begins, Why, Expected}
 use Rattle.gf_tree.proofs.Common.{UnknownPlayer, Mismatch, Action, InformationSet, Outcome, SetKey}
-use Rattle.gf_tree.proofs.Common.{set_of, set_with, IsDue, Role, OnlySuitedFollow, Use, FileFront}
-use Rattle.gf_tree.proofs.Common.{what_of, BehindOutcomeNumber, BehindSetNumber, InActions}
+use Rattle.gf_tree.proofs.Common.{set_of, set_with, IsDue, IndexIsDue, NumberIsDue, FileFront}
+use Rattle.gf_tree.proofs.Common.{BehindOutcomeNumber, BehindSetNumber, InActions}
 use Rattle.gf_tree.proofs.Common.{IsExtensiveFile, IsNewOutcome, IsNewSet, KnowsOutcome}
 use Rattle.gf_tree.proofs.Common.{ToOutcomeNumber, IsNoNumber, Row, a_first_name, an_outcome}
 use Rattle.gf_tree.proofs.Common.{or_comma, or_name, this_number, ◌≢◌, append_cancel_left, why_of}
-use Rattle.gf_tree.proofs.Common.{MayFollow, NoEntry, BadIndex, SumBelowOne, OutcomeIsDue}
-use Rattle.gf_tree.proofs.Common.{PayoffIsDue, PlayerIsDue, ProbabilityIsDue, SetIsDue}
+use Rattle.gf_tree.proofs.Common.{NoEntry, BadIndex, SumBelowOne, BehindPayoff, Comma, Accepts}
+use Rattle.gf_tree.proofs.Common.{append_assoc, whole, pos}
 use Rattle.gf_tree.proofs.Common.{NewProbabilityIsDue, GoesOnWith, DiffersFromOutcome}
 use Rattle.gf_tree.proofs.Common.{DiffersFromSet, EndsInFirstUse, ListsActions, BehindNode}
 use Rattle.gf_tree.proofs.Common.{a_closing, a_new_action, a_new_branch, a_payoff, a_player}
@@ -18,16 +18,17 @@ use Rattle.gf_tree.proofs.Common.{a_probability, a_set, no_label, this_label, Is
 use Rattle.gf_tree.proofs.lemmas.fronts.CutFiles.{some_row}
 use Rattle.gf_tree.proofs.lemmas.fronts.Cuts.{first_is}
 use Rattle.gf_tree.proofs.lemmas.due.Nodes.{parts}
-use Rattle.gf_tree.proofs.lemmas.due.Suited.{zero_is}
-use Rattle.gf_tree.proofs.lemmas.due.Rows.{Stands, accepted}
+use Rattle.gf_tree.proofs.lemmas.due.BareTokens.{one_index, one_number}
+use Rattle.gf_tree.proofs.lemmas.due.Rows.{Stands}
 use Rattle.gf_tree.proofs.lemmas.due.Outcomes.{GoesOnBehind, GoesOnBehindOr}
 use Rattle.gf_tree.proofs.lemmas.due.Payoffs.{Seen, seen_behind, seen_to}
 use Rattle.gf_tree.proofs.lemmas.fronts.Codes.{begins_payoffs, known_outcome}
-use Rattle.gf_tree.proofs.lemmas.reasons.Rows.{IsOfRole, Own, Reasoned, closing, end, fault_own}
-use Rattle.gf_tree.proofs.lemmas.reasons.Rows.{follows, in_heading, name_or_end, name_or_node}
-use Rattle.gf_tree.proofs.lemmas.reasons.Rows.{no_action, node, number_named, opening, reasons}
-use Rattle.gf_tree.proofs.lemmas.reasons.Rows.{some_text, text, told_by, wrong_own, Given, IsFor}
-use Rattle.gf_tree.proofs.lemmas.reasons.Rows.{for_due}
+use Rattle.gf_tree.proofs.lemmas.reasons.Rows.{AcceptsIndices, AcceptsNumbers, Given, IsFor, Own}
+use Rattle.gf_tree.proofs.lemmas.reasons.Rows.{Reasoned, accepts_some, closing, end, fault_own}
+use Rattle.gf_tree.proofs.lemmas.reasons.Rows.{follows, for_due, given, in_heading, index_due, text}
+use Rattle.gf_tree.proofs.lemmas.reasons.Rows.{name_or_end, name_or_node, no_action, node, of_none}
+use Rattle.gf_tree.proofs.lemmas.reasons.Rows.{number_due, of_indices, of_numbers, opening, reasons}
+use Rattle.gf_tree.proofs.lemmas.reasons.Rows.{some_bare, some_text, wrong_own}
 use Rattle.gf_token.specs.declared.fault.What.TheVariants as what
 use Rattle.gf_tree.proofs.lemmas.due.Actions as actions
 use Rattle.gf_tree.proofs.lemmas.due.Nodes as nodes
@@ -72,17 +73,12 @@ module _ (f : FileFront) where
       → Stands f.before a_first_name → Reasoned f.before
   first_use h s =
       let first : EndsInFirstUse f.before = (f.ends, h) in
+      let told = of_none f.before a_first_name s (λ b k. k) in
       grind arith
 
-  outcome_index : OutcomeIsDue f.before → (b : List ℕ) (why : Why) (after : List Token)
+  outcome_index : IndexIsDue f.before → (b : List ℕ) (why : Why) (after : List Token)
       → ¬ ((n : ℕ) × IsIndex b n) → why ≡ BadIndex → Given f.before (Bare b ∷ after) why
-  outcome_index due b why after n e = (BadIndex, e, (inr (inr due), λ m k. n (m, k.0)))
-
-  outcome_due : (set : Option (Use SetKey InformationSet)) (row : Row)
-      → ToOutcomeNumber f.front set → Stands f.before row → row.bare (codes "0")
-      → OutcomeIsDue f.before
-  outcome_due set row h s zero =
-      (f.ends, set, h, follows f.before row what.Index s (Bare (codes "0") ∷ []) zero)
+  outcome_index due b why after n e = (BadIndex, e, (due, λ m k. n (m, k.0)))
 
   differs : (t : Token) → DiffersFromSet f.ends t ⊎ DiffersFromOutcome f.ends t
       → (after : List Token) → Own Mismatch f.before (t ∷ after)
@@ -102,48 +98,62 @@ module _ (f : FileFront) where
       (lists key set h new) in
       (NoEntry, e, (key, set.name, listed))
 
-  due_payoff : (n : ℕ) (ps : List Ratio) (may : Bool) → Seen f.front n ps may
-      → length ps < length f.players → PayoffIsDue f.before
-  due_payoff n ps may h fewer = (
-    f.ends,
-    n,
-    h.outcome,
-    h.place,
-    subst (λ (qs : List Ratio). length qs < length f.players) (sym h.are) fewer,
-  )
+  -- a number: some bytes are not one, and others are another one
+  number_row : (row : Row) → Stands f.before row → NumberIsDue f.before → IsFor row what.Number
+      → AcceptsNumbers row
+      → ((b : List ℕ) (why : Why) (after : List Token) → row.other_bare b why
+      → IsNoNumber b why ⊎ ((p : Ratio) × IsNumber b p × Own why f.before (Bare b ∷ after)))
+      → Reasoned f.before
+  number_row row s due is only bare = for_due f.before row what.Number s due is
+      (λ b why after n e. elim (bare b why after e) [
+        | inl k ↦ (why_of k.0, k.1, fault_own f.before after b k.0 due k.2)
+        | inr k ↦ (why, refl, k.2)
+      ]) (of_numbers f.before row s due only (λ b why e. elim (bare b why [] e) [
+        | inl k ↦ inl k
+        | inr k ↦ inr (k.0, k.1)
+      ]))
 
-  new_number : (row : Row) → Stands f.before row → PayoffIsDue f.before → IsFor row what.Number
-      → ((b : List ℕ) (why : Why) → row.other_bare b why → IsNoNumber b why)
-      → IsOfRole row Role.Payoff → Reasoned f.before
-  new_number row s due is bare same = number_named f.before Role.Payoff (inr due) row s is
-      (λ b why after n e.
-      let k = bare b why e in
-      (why_of k.0, k.1, fault_own f.before after b k.0 (inr due) k.2)) refl same
+  -- any number
+  new_number : (row : Row) → Stands f.before row → IsFor row what.Number
+      → ((b : List ℕ) (why : Why) → row.other_bare b why → IsNoNumber b why) → AcceptsNumbers row
+      → ((b : List ℕ) (p : Ratio) → IsNumber b p → row.bare b) → Reasoned f.before
+  new_number row s is bare only all =
+      let one = whole (pos 1) in
+      number_row row s (number_due f.before row s (codes "1") one one_number (λ b. all b one))
+      is only (λ b why after e. inl (bare b why e))
 
-  known_number : (row : Row) (p : Ratio) → Stands f.before row
-      → (ProbabilityIsDue f.before ⊎ PayoffIsDue f.before)
+  -- a number that is known
+  known_number : (row : Row) (p : Ratio) → Stands f.before row → (spelled : List ℕ)
+      → IsNumber spelled p
       → ((b : List ℕ) (q : Ratio) → IsNumber b q → q ≢ p
       → DiffersFromSet f.ends (Bare b) ⊎ DiffersFromOutcome f.ends (Bare b)) → IsFor row what.Number
       → ((b : List ℕ) (why : Why) → row.other_bare b why → (this_number p).other_bare b why)
-      → IsOfRole row (Role.KnownNumber p) → Reasoned f.before
-  known_number row p s due other is bare same =
-      number_named f.before (Role.KnownNumber p) due row s is
-      (λ b why after n e. by b why after (bare b why e)) refl same
+      → ((b : List ℕ) → (row.bare b → IsNumber b p) × (IsNumber b p → row.bare b))
+      → Reasoned f.before
+  known_number row p s spelled one other is bare same = number_row row s
+      (number_due f.before row s spelled p one (λ b. (same b).1)) is (λ b k. (p, (same b).0 k))
+      (λ b why after e. by b why after (bare b why e))
     where
       by : (b : List ℕ) (why : Why) (after : List Token) → (this_number p).other_bare b why
-          → Given f.before (Bare b ∷ after) why
-      by b why after (inl k) = (why_of k.0, k.1, fault_own f.before after b k.0 due k.2)
-      by b why after (inr k) = (Mismatch, k.0, differs (Bare b) (other b k.1.0 k.1.1 k.1.2) after)
+          → IsNoNumber b why ⊎ ((q : Ratio) × IsNumber b q × Own why f.before (Bare b ∷ after))
+      by b why after (inl k) = inl k
+      by b why after (inr k) = inr (
+        k.1.0,
+        k.1.1,
+        given f.before (Bare b ∷ after) why
+            (Mismatch, k.0, differs (Bare b) (other b k.1.0 k.1.1 k.1.2) after),
+      )
 
   -- a payoff of a known outcome
   known_payoff : (row : Row) (n : ℕ) (ps : List Ratio) (outcome : Outcome) (p : Ratio)
-      (others : List Ratio) (may : Bool) → Stands f.before row → Seen f.front n ps may
+      (others : List Ratio) (may : Bool) → Stands f.before row → (spelled : List ℕ)
+      → IsNumber spelled p → Seen f.front n ps may
       → KnowsOutcome f.nodes n outcome → outcome.payoffs ≡ ps ++ p ∷ others → IsFor row what.Number
       → ((b : List ℕ) (why : Why) → row.other_bare b why → (this_number p).other_bare b why)
-      → IsOfRole row (Role.KnownNumber p) → Reasoned f.before
-  known_payoff row n ps outcome p others may s h knows parts =
-      let fewer = known_fewer f n ps outcome p others may h knows parts in
-      known_number row p s (inr (due_payoff n ps may h fewer)) (λ b q is other. inr (
+      → ((b : List ℕ) → (row.bare b → IsNumber b p) × (IsNumber b p → row.bare b))
+      → Reasoned f.before
+  known_payoff row n ps outcome p others may s spelled one h knows parts =
+      known_number row p s spelled one (λ b q is other. inr (
         n,
         outcome,
         h.outcome,
@@ -157,6 +167,40 @@ module _ (f : FileFront) where
         other,
       ))
 
+  -- a payoff may follow, or a comma before it
+  payoff_spelled : (n : ℕ) (ps : List Ratio) (outcome : Outcome) (p : Ratio) (others : List Ratio)
+      → BehindPayoff f.front n ps → KnowsOutcome f.nodes n outcome
+      → outcome.payoffs ≡ ps ++ p ∷ others → Stands f.before (or_comma (this_number p))
+      → (b : List ℕ) × IsNumber b p
+  payoff_spelled n ps outcome p others h knows parts s =
+      let row = or_comma (this_number p) in
+      let k = accepts_some f.before row s in
+      by k.0 k.1
+    where
+      comma : FileFront
+      comma = record {
+        before = f.before ++ Comma ∷ [];
+        begins = follows f.before (or_comma (this_number p)) s (Comma ∷ []) tt;
+        ends = record {
+          title = f.ends.title;
+          note = f.ends.note;
+          players = f.players;
+          nodes = f.nodes;
+          whole = f.ends.whole;
+          front = f.front ++ Comma ∷ [];
+          parts = ap (λ (ts : List Token). ts ++ Comma ∷ []) f.ends.parts
+              ∙ append_assoc f.ends.whole f.front (Comma ∷ []);
+          says = f.ends.says;
+        };
+      }
+
+      by : (after : List Token) → Accepts (or_comma (this_number p)) after
+          → (b : List ℕ) × IsNumber b p
+      by (Bare b ∷ after) a = (b, a)
+      by (Comma ∷ after) a = some_bare comma.before (Expected what.Number) _ _
+          (payoffs.known_payoff comma n ps outcome p others (inr (f.front, h, refl)) knows parts)
+      by _ a = absurd a
+
   behind : BehindNode f.front → Reasoned f.before
   behind h = by (payoffs.either f h)
     where
@@ -168,32 +212,36 @@ module _ (f : FileFront) where
   in_node (IsInNode.NodeName h) = text f.before (nodes.node_name f h)
   in_node (IsInNode.Player h) =
       let row = a_player (length f.players) in
-      let due : PlayerIsDue f.before = (f.ends, h) in
-      let is : IsDue f.before what.Index = inl due in
       let s = nodes.player f h in
-      for_due f.before row what.Index s is (refl, refl, λ why e. e) (λ b why after n e. elim e [
-        | inl k ↦ (BadIndex, k.0, (is, k.1))
+      let first = some_bare f.before (Expected what.Index) _ _ s in
+      let some = first.1.1.1 in
+      let within = first.1.2 in
+      let one : row.bare (codes "1") =
+      (1, (one_index, omega arith), omega (arith, some, within)) in
+      let only : AcceptsIndices row = λ b k. (k.0, k.1.0) in
+      let due = index_due f.before row s only one in
+      for_due f.before row what.Index s due (refl, refl, λ why e. e) (λ b why after n e. elim e [
+        | inl k ↦ (BadIndex, k.0, (due, k.1))
         | inr k ↦ (UnknownPlayer, k.0, inl (f.ends, k.1.0, h, k.1.1, k.1.2))
-      ]) (told_by f.before row (Role.PlayerNumber (length f.players)) s is
-      (λ b. (λ k. k, λ k. k)) tt)
+      ]) (of_indices f.before row s only (λ b why e. elim e [
+        | inl k ↦ inl k.0
+        | inr k ↦ let above = k.1.2 in inr (k.1.0, (k.1.1, omega (arith, above)))
+      ]))
   in_node (IsInNode.SetNumber player h) =
-      let due : SetIsDue f.before = (f.ends, player, h) in
-      let is : IsDue f.before what.Index = inr (inl due) in
       let s = nodes.set_number_due f player h in
-      for_due f.before a_set what.Index s is (refl, refl, λ why e. e)
-      (λ b why after n e. (BadIndex, e, (is, λ m k. n (m, k))))
-      (told_by f.before a_set Role.SetNumber s is (λ b. (λ k. k, λ k. k)) tt)
+      let due = index_due f.before a_set s (λ b k. (k.0, k.1.0)) (1, (one_index, omega arith)) in
+      for_due f.before a_set what.Index s due (refl, refl, λ why e. e)
+      (λ b why after n e. (BadIndex, e, (due, λ m k. n (m, k))))
+      (of_indices f.before a_set s (λ b k. (k.0, k.1.0)) (λ b why e. inl e))
   in_node (IsInNode.NewSet key h new) = first_use (inl (key, h, new)) (nodes.new_set f key h new)
   in_node (IsInNode.KnownSet key set h knows) =
       let row = or_name set.name an_outcome in
       let s = nodes.known_set f key set h knows in
-      let due = outcome_due (Some (record { key = key; description = None })) row
-      (known_step f.front key h) s (0, zero_is) in
-      let is : IsDue f.before what.Index = inr (inr due) in
-      reasons f.before row (λ after plain. is)
+      let due = index_due f.before row s (λ b k. k) (1, one_index) in
+      reasons f.before row (λ after plain. due)
       (λ l after n. differs (Text l) (inl (key, set, knows, inl (h, n))) after) (outcome_index due)
-      (λ why after n e. (Expected what.Index, e, is)) s
-      (told_by f.before row Role.OutcomeNumber s is (λ b. (λ k. k, λ k. k)) tt)
+      (λ why after n e. (Expected what.Index, e, due)) s
+      (of_indices f.before row s (λ b k. k) (λ b why e. inl e))
   in_node (IsInNode.SetOpening key h) = opening f.before (nodes.set_opening f key h)
   in_node (IsInNode.NewAction key set h new some) =
       let row = a_new_action set.actions in
@@ -202,7 +250,7 @@ module _ (f : FileFront) where
       reasons f.before row (λ after plain. due) (λ l after n. due)
       (λ b why after n e. (Expected what.Text, e, due))
       (λ why after n e. no_entry key set h new (no_action set.actions n) why after e) s
-      (λ b k. absurd k)
+      (of_none f.before row s (λ b k. k))
   in_node (IsInNode.NewBranch number set sum h new has) =
       let row = a_new_branch set.actions sum in
       let key = set_of 0 number in
@@ -214,21 +262,23 @@ module _ (f : FileFront) where
         | inr k ↦
             let below = actions.sum_below f number set sum h new has (λ one. n (k.1, one)) in
             (SumBelowOne, k.0, (number, set, sum, lists key set h new, k.1, has, below))
-      ]) s (λ b k. absurd k)
+      ]) s (of_none f.before row s (λ b k. k))
   in_node (IsInNode.NewProbability number set sum h new has) =
       let due : NewProbabilityIsDue f.before sum = (f.ends, number, set, h, new, has) in
-      let asked : ProbabilityIsDue f.before = (f.ends, number, set, h) in
-      number_named f.before (Role.Probability sum) (inl asked) (a_probability sum)
-      (actions.new_probability f number set sum h new has) (refl, refl, λ why e. e)
-      (λ b why after n e. elim e [
-        | inl k ↦ (why_of k.0, k.1, fault_own f.before after b k.0 (inl asked) k.2)
-        | inr k ↦ (why, refl, wrong_own why f.before after b sum k.0 due k.1 k.2)
-      ]) refl (λ b. (λ k. k, λ k. k))
+      let s = actions.new_probability f number set sum h new has in
+      let first = some_bare f.before (Expected what.Number) _ _ s in
+      let k = first.1 in
+      number_row (a_probability sum) s (number_due f.before (a_probability sum) s first.0 k.0 k.2
+      (λ b is. (k.0, k.1, is, k.3, k.4, k.5))) (refl, refl, λ why e. e) (λ b m. (m.0, m.2))
+      (λ b why after e. elim e [
+        | inl m ↦ inl m
+        | inr m ↦ inr (m.0, m.1, wrong_own why f.before after b sum m.0 due m.1 m.2)
+      ])
   in_node (IsInNode.KnownAction key known seen next h knows more) =
       let row = this_label next.label in
       let s = actions.known_action f key known seen next h knows more in
       let due : IsDue f.before what.Text =
-      (next.label, follows f.before row what.Text s (Text next.label ∷ []) refl) in
+      (next.label, follows f.before row s (Text next.label ∷ []) refl) in
       let same = λ (other : Action) (k : GoesOnWith known seen other).
       one_next seen.actions other next k.0 more.0 known.actions k.1 more.1 in
       reasons f.before row (λ after plain. due)
@@ -244,12 +294,11 @@ module _ (f : FileFront) where
       )) after)
       (λ b why after n e. (Expected what.Text, e, due)) (λ why after n e.
       (Mismatch, e, differs Closing (inl (key, known, seen, next, knows, h, more)) after)) s
-      (λ b k. absurd k)
+      (of_none f.before row s (λ b k. k))
   in_node (IsInNode.KnownProbability number known seen next p h knows more has) =
-      known_number (this_number p) p
-      (actions.known_probability f number known seen next p h knows more has)
-      (inl (f.ends, number, seen, h))
-      (λ b q is other. inl (
+      let s = actions.known_probability f number known seen next p h knows more has in
+      let one = some_bare f.before (Expected what.Number) _ _ s in
+      known_number (this_number p) p s one.0 one.1 (λ b q is other. inl (
         number,
         known,
         seen,
@@ -264,7 +313,7 @@ module _ (f : FileFront) where
   in_node (IsInNode.NoActionLeft key known seen h knows same) =
       let s = actions.no_action_left f key known seen h knows same in
       let due : IsDue f.before what.Closing =
-      follows f.before no_label what.Closing s (Closing ∷ []) tt in
+      follows f.before no_label s (Closing ∷ []) tt in
       reasons f.before no_label (λ after plain. due)
       (λ l after n. differs (Text l) (inl (
         key,
@@ -277,13 +326,12 @@ module _ (f : FileFront) where
         ),
       )) after)
       (λ b why after n e. (Expected what.Closing, e, due)) (λ why after n e. absurd (n tt)) s
-      (λ b k. absurd k)
+      (of_none f.before no_label s (λ b k. k))
   in_node (IsInNode.OutcomeNumber h) =
       let s = outcomes.outcome_number_due f h in
-      let due = outcome_due h.0 an_outcome h.1 s (0, zero_is) in
-      let is : IsDue f.before what.Index = inr (inr due) in
-      for_due f.before an_outcome what.Index s is (refl, refl, λ why e. e) (outcome_index due)
-      (told_by f.before an_outcome Role.OutcomeNumber s is (λ b. (λ k. k, λ k. k)) tt)
+      let due = index_due f.before an_outcome s (λ b k. k) (1, one_index) in
+      for_due f.before an_outcome what.Index s due (refl, refl, λ why e. e) (outcome_index due)
+      (of_indices f.before an_outcome s (λ b k. k) (λ b why e. inl e))
   in_node (IsInNode.NewOutcome number h new) =
       first_use (inr (number, h, new)) (outcomes.new_outcome f number h new)
   in_node (IsInNode.KnownOutcome number outcome h knows) =
@@ -299,29 +347,29 @@ module _ (f : FileFront) where
   in_node (IsInNode.OutcomeOpening number h) =
       opening f.before (outcomes.outcome_opening f number h)
   in_node (IsInNode.NewPayoff number ps h new fewer) =
-      new_number a_payoff (payoffs.new_payoff f number ps h new fewer)
-      (due_payoff number ps false (seen_to f.front number ps h) fewer) (refl, refl, λ why e. e)
-      (λ b why e. e) (λ b. (λ k. k, λ k. k))
+      new_number a_payoff (payoffs.new_payoff f number ps h new fewer) (refl, refl, λ why e. e)
+      (λ b why e. e) (λ b k. k) (λ b p k. (p, k))
   in_node (IsInNode.KnownPayoff number ps outcome p others h knows parts) =
-      known_payoff (this_number p) number ps outcome p others false
-      (payoffs.known_payoff f number ps outcome p others h knows parts)
+      let s = payoffs.known_payoff f number ps outcome p others h knows parts in
+      let one = some_bare f.before (Expected what.Number) _ _ s in
+      known_payoff (this_number p) number ps outcome p others false s one.0 one.1
       (seen_to f.front number ps h) knows parts (refl, refl, λ why e. e) (λ b why e. e)
       (λ b. (λ k. k, λ k. k))
   in_node (IsInNode.AfterNewPayoff number ps h new fewer) =
       new_number (or_comma a_payoff) (payoffs.after_new_payoff f number ps h new fewer)
-      (due_payoff number ps true (seen_behind f.front number ps h) fewer) (refl, refl, λ why e. e)
-      (λ b why e. e) (λ b. (λ k. k, λ k. k))
+      (refl, refl, λ why e. e) (λ b why e. e) (λ b k. k) (λ b p k. (p, k))
   in_node (IsInNode.AfterKnownPayoff number ps outcome p others h knows parts) =
-      known_payoff (or_comma (this_number p)) number ps outcome p others true
-      (payoffs.after_known_payoff f number ps outcome p others h knows parts)
+      let s = payoffs.after_known_payoff f number ps outcome p others h knows parts in
+      let one = payoff_spelled number ps outcome p others h knows parts s in
+      known_payoff (or_comma (this_number p)) number ps outcome p others true s one.0 one.1
       (seen_behind f.front number ps h) knows parts (refl, refl, λ why e. e) (λ b why e. e)
       (λ b. (λ k. k, λ k. k))
   in_node (IsInNode.AfterLastPayoff number ps h all) =
       closing f.before (or_comma a_closing) (payoffs.after_last_payoff f number ps h all) tt
-      (refl, refl, λ why e. e) (λ b why e. e) (λ b k. absurd k)
+      (refl, refl, λ why e. e) (λ b why e. e) (λ b k. k)
   in_node (IsInNode.NoPayoff number ps h all) =
       closing f.before a_closing (payoffs.no_payoff f number ps h all) tt (refl, refl, λ why e. e)
-      (λ b why e. e) (λ b k. absurd k)
+      (λ b why e. e) (λ b k. k)
   in_node (IsInNode.AfterNode h) = behind h
 
 -- a row comes after the tokens that some file begins with, and its refusals have reasons
@@ -331,10 +379,3 @@ reasoned before begins = by (some_row before begins)
     by : IsBeforeRow before → Reasoned before
     by (inl h) = in_heading before h
     by (inr k) = subst (λ (ts : List Token). Reasoned ts) k.1 (in_node k.0 k.2)
-
-pub told_somewhere : (before : List Token) (b : List ℕ) → Begins IsExtensiveFile before
-    → MayFollow IsExtensiveFile before (Bare b)
-    → (r : Role) × OnlySuitedFollow before r × IsDue before (what_of r)
-told_somewhere before b begins m =
-    let r = reasoned before begins in
-    let t = r.told b ((accepted before r.row r.stands (Bare b ∷ [])).0 m) in (t.0, t.1, t.2)

@@ -4,14 +4,21 @@ use Rattle.gf_tree.proofs.Common.{◌≡◌, ℕ, ◌<◌, List, [], ◌∷◌, 
 use Rattle.gf_tree.proofs.Common.{inr, codes, ◌⊎◌, Ratio, NumberFault, IsNumber, Token, IsAccepted}
 use Rattle.gf_tree.proofs.Common.{Opening, Closing, Comma, Text, Bare, Broken, Why, Expected}
 use Rattle.gf_tree.proofs.Common.{UnknownPlayer, Mismatch, NegativeProbability, Action}
-use Rattle.gf_tree.proofs.Common.{IsExtensiveFile, IsDue, Role, Row, a_letter, a_node, a_text}
+use Rattle.gf_tree.proofs.Common.{IsExtensiveFile, IsDue, Row, a_letter, a_node, a_text}
 use Rattle.gf_tree.proofs.Common.{a_word, an_end, an_opening, or_name, ◌≢◌, HasNumberFault, why_of}
 use Rattle.gf_tree.proofs.Common.{What, SumAboveOne, SumOverflow, Unterminated, IsInHeading}
-use Rattle.gf_tree.proofs.Common.{NodeIsDue, PayoffIsDue, ProbabilityIsDue, OnlySuitedFollow, Suits}
-use Rattle.gf_tree.proofs.Common.{what_of, Holds, IsNoText, IsWrongBehind, NewProbabilityIsDue}
+use Rattle.gf_tree.proofs.Common.{NodeIsDue, NumberIsDue, IndexIsDue, MayBeNext, Some, None, pos}
+use Rattle.gf_tree.proofs.Common.{IsIndex, index_is, IsNoNumber, IsPositive, BadIndex, Option}
+use Rattle.gf_tree.proofs.Common.{append-nil, append_assoc, whole, ◌++◌}
+use Rattle.gf_tree.proofs.Common.{Holds, IsNoText, IsWrongBehind, NewProbabilityIsDue}
 use Rattle.gf_tree.proofs.Common.{MayFollow, Accepts, Refuses, a_player_name, or_text}
 use Rattle.gf_tree.proofs.lemmas.due.Rows.{Stands, accepted}
-use Rattle.gf_tree.proofs.lemmas.due.Answers.{other_word}
+use Rattle.gf_tree.proofs.lemmas.due.Answers.{no_index, other_word}
+use Rattle.gf_tree.proofs.lemmas.due.BareTokens.{IsWord, format_word, letter_word, no_letter}
+use Rattle.gf_tree.proofs.lemmas.due.BareTokens.{one_number, plus_no_index, plus_number, t_no_index}
+use Rattle.gf_tree.proofs.lemmas.due.BareTokens.{t_no_number, two_index, version_word}
+use Rattle.gf_token.specs.Indices.{index_of}
+use Rattle.gf_tree.specs.Rows.{IsNodeLetter, none}
 use Rattle.gf_fraction.specs.declared.fraction.NumberFault.TheVariants as number
 use Rattle.gf_token.specs.declared.fault.What.TheVariants as what
 use Rattle.gf_tree.proofs.lemmas.due.Heading as heading
@@ -21,16 +28,25 @@ abbrev pub Own : Why → List Token → List Token → Type 0
 Own (Expected w) before after = IsDue before w
 Own why before after = Holds why before after
 
--- what a row refuses where a node is due
-abbrev pub RefusesBy : What → Row → Type 0
-RefusesBy what.Node row = (b : List ℕ) (why : Why) → row.other_bare b why
-    → (players : ℕ) × (a_node players).other_bare b why
-RefusesBy _ row = Unit {0}
+-- why a row refuses bare tokens: as no number or as another one; as no index above 0, or although
+-- they are one; or as the letter of a node
+abbrev pub OtherNumbers : Row → Type 0
+OtherNumbers row = (b : List ℕ) (why : Why) → row.other_bare b why
+    → IsNoNumber b why ⊎ ((p : Ratio) × IsNumber b p)
 
--- one role is due
-abbrev pub IsTold : List Token → Row → Type 0
-IsTold before row = (r : Role) × OnlySuitedFollow before r × IsDue before (what_of r)
-    × RefusesBy (what_of r) row
+abbrev pub OtherIndices : Row → Type 0
+OtherIndices row = (b : List ℕ) (why : Why) → row.other_bare b why
+    → (why ≡ BadIndex) ⊎ ((n : ℕ) × IsPositive b n)
+
+abbrev pub OtherLetters : Row → Type 0
+OtherLetters row = (players : ℕ)
+    × ((b : List ℕ) (why : Why) → row.other_bare b why → (a_node players).other_bare b why)
+
+-- what is due determines why a row refuses bare tokens
+pub record Told (before : List Token) (row : Row) : Type 0 where
+  pub number : NumberIsDue before → OtherNumbers row
+  pub index : IndexIsDue before → OtherIndices row
+  pub node : NodeIsDue before → OtherLetters row
 
 -- a row comes after these tokens, and its refusals have reasons
 pub record Reasoned (before : List Token) : Type 1 where
@@ -38,23 +54,107 @@ pub record Reasoned (before : List Token) : Type 1 where
   pub stands : Stands before row
   pub own : (after : List Token) (why : Why) → ¬ (Accepts row after) → Refuses row after why
       → Own why before after
-  pub told : (b : List ℕ) → row.bare b → IsTold before row
+  pub told : Told before row
 
--- the bare tokens of a row suit a role
-abbrev pub IsOfRole : Row → Role → Type 0
-IsOfRole row r = (b : List ℕ) → (row.bare b → Suits r b) × (Suits r b → row.bare b)
+-- ---- what is due, by the bare tokens that a row accepts
 
-pub of_row : (before : List Token) (row : Row) (r : Role) → Stands before row → IsOfRole row r
-    → OnlySuitedFollow before r
-of_row before row r s same b =
-    let k = accepted before row s (Bare b ∷ []) in
-    (λ m. (same b).0 (k.0 m), λ t. k.1 ((same b).1 t))
+abbrev pub AcceptsNumbers : Row → Type 0
+AcceptsNumbers row = (b : List ℕ) → row.bare b → (p : Ratio) × IsNumber b p
+
+abbrev pub AcceptsIndices : Row → Type 0
+AcceptsIndices row = (b : List ℕ) → row.bare b → (n : ℕ) × IsIndex b n
+
+abbrev AcceptsLetters : ℕ → Row → Type 0
+AcceptsLetters players row = (b : List ℕ)
+    → (row.bare b → IsNodeLetter players b) × (IsNodeLetter players b → row.bare b)
+
+module _ (before : List Token) (row : Row) (s : Stands before row) where
+  pub follows : (after : List Token) → Accepts row after → IsAccepted IsExtensiveFile before after
+  follows after = (accepted before row s after).1
+
+  takes : (b : List ℕ) → MayBeNext before b → row.bare b
+  takes b = (accepted before row s (Bare b ∷ [])).0
+
+  -- something is accepted
+  pub accepts_some : (after : List Token) × Accepts row after
+  accepts_some = by s.begins.0 s.begins.1
+    where
+      by : (more : List Token) → IsExtensiveFile (before ++ more)
+          → (after : List Token) × Accepts row after
+      by [] file =
+          ([], (accepted before row s []).0 (subst IsExtensiveFile (append-nil before) file))
+      by (t ∷ more) file = (
+        t ∷ [],
+        (accepted before row s (t ∷ [])).0
+            (more, subst IsExtensiveFile (sym (append_assoc before (t ∷ []) more)) file),
+      )
+
+  -- a number that may follow in each of its spellings
+  pub number_due : (b : List ℕ) (p : Ratio) → IsNumber b p
+      → ((x : List ℕ) → IsNumber x p → row.bare x) → NumberIsDue before
+  number_due b p is all = by (index_of b) refl
+    where
+      by : (o : Option ℕ) → index_of b ≡ o → NumberIsDue before
+      by None e = (b, p, follows (Bare b ∷ []) (all b is), is, no_index b e)
+      by (Some n) e =
+          let plus = plus_number b n p (index_is b n e) is in
+          (43 ∷ b, p, follows (Bare (43 ∷ b) ∷ []) (all (43 ∷ b) plus), plus, plus_no_index b)
+
+  pub index_due : AcceptsIndices row → row.bare (codes "1") → IndexIsDue before
+  index_due only one = (
+    follows (Bare (codes "1") ∷ []) one,
+    λ d. let k = only d.0 (takes d.0 d.2) in d.4 k.0 k.1,
+  )
+
+  -- what the row tells, if it is one of numbers, indices, letters of nodes, or words
+  pub of_numbers : NumberIsDue before → AcceptsNumbers row → OtherNumbers row → Told before row
+  of_numbers due only others = record {
+    number = λ d. others;
+    index = λ d. absurd (d.1 due);
+    node = λ m. let k = only (codes "t") (takes (codes "t") m) in absurd (t_no_number k.0 k.1);
+  }
+
+  pub of_indices : AcceptsIndices row → OtherIndices row → Told before row
+  of_indices only others = record {
+    number = λ d. let k = only d.0 (takes d.0 d.2) in absurd (d.4 k.0 k.1);
+    index = λ d. others;
+    node = λ m. let k = only (codes "t") (takes (codes "t") m) in absurd (t_no_index k.0 k.1);
+  }
+
+  pub of_letters : (players : ℕ) → ((b : List ℕ) → row.bare b → IsNodeLetter players b)
+      → OtherLetters row → Told before row
+  of_letters players only others = record {
+    number = λ d. absurd (no_letter players d.0 (only d.0 (takes d.0 d.2)) d.1 d.3);
+    index = λ d. absurd (no_letter players (codes "1") (only (codes "1") (takes (codes "1") d.0))
+        (whole (pos 1)) one_number);
+    node = λ m. others;
+  }
+
+  pub of_words : ((b : List ℕ) → row.bare b → IsWord b) → Told before row
+  of_words words = record {
+    number = λ d.
+        let e = (words d.0 (takes d.0 d.2)).0 d.1 d.3 in
+        absurd (d.4 2 (subst (λ (x : List ℕ). IsIndex x 2) (sym e) two_index));
+    index = λ d. absurd (other_word (codes "1") (codes "2") refl
+        ((words (codes "1") (takes (codes "1") d.0)).0 (whole (pos 1)) one_number));
+    node = λ m. absurd ((words (codes "t") (takes (codes "t") m)).1 refl);
+  }
+
+-- a bare token, if the row accepts nothing else
+pub some_bare : (before : List Token) (w : Why) (P : List ℕ → Type 0) (Q : List ℕ → Why → Type 0)
+    → Stands before (record (none w) { bare = P; other_bare = Q }) → (b : List ℕ) × P b
+some_bare before w P Q s =
+    let k = accepts_some before (record (none w) { bare = P; other_bare = Q }) s in by k.0 k.1
+  where
+    by : (after : List Token) → Accepts (record (none w) { bare = P; other_bare = Q }) after
+        → (b : List ℕ) × P b
+    by (Bare b ∷ after) a = (b, a)
+    by _ a = absurd a
 
 -- ---- codes
 
 pub fault_own : (before after : List Token) (b : List ℕ) (fault : NumberFault)
-    → (ProbabilityIsDue before ⊎ PayoffIsDue before) → HasNumberFault b fault
-    → Own (why_of fault) before (Bare b ∷ after)
+    → NumberIsDue before → HasNumberFault b fault → Own (why_of fault) before (Bare b ∷ after)
 fault_own before after b number.NotANumber h is = (h, is)
 fault_own before after b number.ZeroDenominator h is = (h, is)
 fault_own before after b number.TooLarge h is = (h, is)
@@ -78,7 +178,7 @@ abbrev pub Given : List Token → List Token → Why → Type 0
 Given before after why = (other : Why) × (why ≡ other) × Own other before after
 
 module _ (before : List Token) where
-  given : (after : List Token) (why : Why) → Given before after why → Own why before after
+  pub given : (after : List Token) (why : Why) → Given before after why → Own why before after
   given after why h = subst (λ (w : Why). Own w before after) (sym h.1) h.2
 
   module _ (row : Row)
@@ -99,8 +199,7 @@ module _ (before : List Token) where
     given_by (Closing ∷ after) why n e = closing why after n e
     given_by (Broken ∷ after) why n e = (Unterminated, e, tt)
 
-    pub reasons : Stands before row → ((b : List ℕ) → row.bare b → IsTold before row)
-        → Reasoned before
+    pub reasons : Stands before row → Told before row → Reasoned before
     reasons s told = record {
       row = row;
       stands = s;
@@ -114,13 +213,10 @@ IsFor row w = (row.otherwise ≡ Expected w) × (row.other_text ≡ Expected w)
     × ((why : Why) → row.other_closing why → why ≡ Expected w)
 
 module _ (before : List Token) (row : Row) (w : What) (s : Stands before row) where
-  pub follows : (after : List Token) → Accepts row after → IsAccepted IsExtensiveFile before after
-  follows after = (accepted before row s after).1
-
   pub for_due : IsDue before w → IsFor row w
       → ((b : List ℕ) (why : Why) (after : List Token) → ¬ (row.bare b) → row.other_bare b why
       → Given before (Bare b ∷ after) why)
-      → ((b : List ℕ) → row.bare b → IsTold before row) → Reasoned before
+      → Told before row → Reasoned before
   for_due due is bare told = reasons before row
       (λ after plain. given before after row.otherwise (Expected w, is.0, due))
       (λ l after n. given before (Text l ∷ after) row.other_text (Expected w, is.1, due))
@@ -128,16 +224,9 @@ module _ (before : List Token) (row : Row) (w : What) (s : Stands before row) wh
 
   one_reason : IsDue before w → IsFor row w
       → ((b : List ℕ) (why : Why) → row.other_bare b why → why ≡ Expected w)
-      → ((b : List ℕ) → row.bare b → IsTold before row) → Reasoned before
+      → Told before row → Reasoned before
   one_reason due is bare told =
       for_due due is (λ b why after n e. (Expected w, bare b why e, due)) told
-
--- a row of a role
-module _ (before : List Token) (row : Row) (r : Role)
-    (s : Stands before row) (due : IsDue before (what_of r)) (same : IsOfRole row r)
-    (refuses : RefusesBy (what_of r) row) where
-  pub told_by : (b : List ℕ) → row.bare b → IsTold before row
-  told_by b h = (r, of_row before row r s same, due, refuses)
 
 -- the letter of a node: there is no player, although one is to move
 module _ (before : List Token) (players : List (List ℕ))
@@ -151,49 +240,50 @@ module _ (before : List Token) (players : List (List ℕ))
 -- ---- the heading
 
 module _ (before : List Token) where
-  word : (row : Row) (r : Role) → Stands before row → IsDue before (what_of r) → IsOfRole row r
-      → IsFor row (what_of r)
-      → ((b : List ℕ) (why : Why) → row.other_bare b why → why ≡ Expected (what_of r))
-      → RefusesBy (what_of r) row → Reasoned before
-  word row r s due same is bare refuses =
-      one_reason before row (what_of r) s due is bare (told_by before row r s due same refuses)
+  word : (row : Row) (w : What) → Stands before row → IsDue before w → IsFor row w
+      → ((b : List ℕ) (why : Why) → row.other_bare b why → why ≡ Expected w)
+      → ((b : List ℕ) → row.bare b → IsWord b) → Reasoned before
+  word row w s due is bare words =
+      one_reason before row w s due is bare (of_words before row s words)
 
   pub some_text : (row : Row) → Stands before row → row.text [] → IsDue before what.Text
-  some_text row s h = ([], follows before row what.Text s (Text [] ∷ []) h)
+  some_text row s h = ([], follows before row s (Text [] ∷ []) h)
+
+  -- a row without bare tokens
+  pub of_none : (row : Row) → Stands before row → ((b : List ℕ) → ¬ (row.bare b))
+      → Told before row
+  of_none row s none = of_words before row s (λ b h. absurd (none b h))
 
   pub text : Stands before a_text → Reasoned before
-  text s = one_reason before a_text what.Text s (some_text a_text s tt) (refl, refl, λ why e. e)
+  text s = word a_text what.Text s (some_text a_text s tt) (refl, refl, λ why e. e)
       (λ b why e. e) (λ b h. absurd h)
 
   pub opening : Stands before an_opening → Reasoned before
-  opening s = one_reason before an_opening what.Opening s
-      (follows before an_opening what.Opening s (Opening ∷ []) tt) (refl, refl, λ why e. e)
-      (λ b why e. e) (λ b h. absurd h)
+  opening s = word an_opening what.Opening s (follows before an_opening s (Opening ∷ []) tt)
+      (refl, refl, λ why e. e) (λ b why e. e) (λ b h. absurd h)
 
   pub closing : (row : Row) → Stands before row → row.closing → IsFor row what.Closing
       → ((b : List ℕ) (why : Why) → row.other_bare b why → why ≡ Expected what.Closing)
-      → ((b : List ℕ) → row.bare b → IsTold before row) → Reasoned before
-  closing row s h = one_reason before row what.Closing s
-      (follows before row what.Closing s (Closing ∷ []) h)
+      → ((b : List ℕ) → ¬ (row.bare b)) → Reasoned before
+  closing row s h is bare none = word row what.Closing s (follows before row s (Closing ∷ []) h) is
+      bare (λ b k. absurd (none b k))
 
   -- the letter of a node, and perhaps a text
   module _ (players : List (List ℕ)) where
-    node_due : (row : Row) → Stands before row → IsOfRole row (Role.NodeLetter (length players))
+    node_due : (row : Row) → Stands before row → AcceptsLetters (length players) row
         → NodeIsDue before
-    node_due row s same =
-        follows before row what.Node s (Bare (codes "t") ∷ [])
+    node_due row s same = follows before row s (Bare (codes "t") ∷ [])
         ((same (codes "t")).1 (inr (inl refl)))
 
-    nobody : (row : Row) → Stands before row → IsOfRole row (Role.NodeLetter (length players))
-        → length players ≡ 0 → ¬ (MayFollow IsExtensiveFile before (Bare (codes "p")))
-    nobody row s same none = λ m.
-        elim ((same (codes "p")).0 ((accepted before row s (Bare (codes "p") ∷ [])).0 m)) [
-          | inl e ↦ other_word (codes "p") (codes "c") refl e
-          | inr (inl e) ↦ other_word (codes "p") (codes "t") refl e
-          | inr (inr h) ↦ let some = h.1 in omega (arith, none, some)
-        ]
+    nobody : (row : Row) → Stands before row → AcceptsLetters (length players) row
+        → length players ≡ 0 → ¬ (MayBeNext before (codes "p"))
+    nobody row s same none = λ m. elim ((same (codes "p")).0 (takes before row s (codes "p") m)) [
+      | inl e ↦ other_word (codes "p") (codes "c") refl e
+      | inr (inl e) ↦ other_word (codes "p") (codes "t") refl e
+      | inr (inr h) ↦ let some = h.1 in omega (arith, none, some)
+    ]
 
-    by_letter : (row : Row) → Stands before row → IsOfRole row (Role.NodeLetter (length players))
+    by_letter : (row : Row) → Stands before row → AcceptsLetters (length players) row
         → IsFor row what.Node → ((b : List ℕ) (why : Why) → row.other_bare b why
         → (a_node (length players)).other_bare b why) → Reasoned before
     by_letter row s same is bare =
@@ -201,8 +291,7 @@ module _ (before : List Token) where
         for_due before row what.Node s due is
         (λ b why after n e. letter_given before players (nobody row s same) due b why after
         (bare b why e))
-        (told_by before row (Role.NodeLetter (length players)) s due same
-        (λ b why e. (length players, bare b why e)))
+        (of_letters before row s (length players) (λ b. (same b).0) (length players, bare))
 
     pub node : Stands before (a_node (length players)) → Reasoned before
     node s = by_letter (a_node (length players)) s (λ b. (λ h. h, λ h. h))
@@ -223,49 +312,38 @@ module _ (before : List Token) where
         reasons before row (λ after plain. due) other
         (λ b why after n e. letter_given before players no_one due b why after e)
         (λ why after n e. (Expected what.Node, e, due)) s
-        (told_by before row (Role.NodeLetter (length players)) s due (λ b. (λ h. h, λ h. h))
-        (λ b why e. (length players, e)))
+        (of_letters before row s (length players) (λ b h. h) (length players, λ b why e. e))
 
   pub end : Stands before an_end → Reasoned before
-  end s = one_reason before an_end what.End s (follows before an_end what.End s [] tt)
-      (refl, refl, λ why e. e) (λ b why e. e) (λ b h. absurd h)
+  end s = word an_end what.End s (follows before an_end s [] tt) (refl, refl, λ why e. e)
+      (λ b why e. e) (λ b h. absurd h)
 
   pub name_or_end : (name : List ℕ) → Stands before (or_name name an_end)
       → ((l : List ℕ) (after : List Token) → l ≢ name → Own Mismatch before (Text l ∷ after))
       → Reasoned before
   name_or_end name s other =
       let row = or_name name an_end in
-      let due : IsExtensiveFile before = follows before row what.End s [] tt in
+      let due : IsExtensiveFile before = follows before row s [] tt in
       reasons before row (λ after plain. due) other
       (λ b why after n e. (Expected what.End, e, due))
-      (λ why after n e. (Expected what.End, e, due)) s (λ b h. absurd h)
-
-  -- a number: some bytes are not one, and others are a different one
-  module _ (r : Role) (is : IsDue before what.Number) (row : Row) (s : Stands before row) where
-    pub number_named : IsFor row what.Number
-        → ((b : List ℕ) (why : Why) (after : List Token) → ¬ (row.bare b) → row.other_bare b why
-        → Given before (Bare b ∷ after) why)
-        → what_of r ≡ what.Number → IsOfRole row r → Reasoned before
-    number_named is_for bare named same = for_due before row what.Number s is is_for bare
-        (told_by before row r s (subst (λ (w : What). IsDue before w) (sym named) is) same
-        (subst (λ (w : What). RefusesBy w row) (sym named) tt))
+      (λ why after n e. (Expected what.End, e, due)) s (of_none row s (λ b h. h))
 
   pub in_heading : IsInHeading before → Reasoned before
   in_heading (IsInHeading.Format e) =
-      word (a_word what.Format (codes "EFG")) Role.Format
-      (rw e heading.format) e (λ b. (λ h. h, λ h. h)) (refl, refl, λ why k. k) (λ b why k. k) tt
+      word (a_word what.Format (codes "EFG")) what.Format (rw e heading.format) e
+      (refl, refl, λ why k. k) (λ b why k. k) format_word
   in_heading (IsInHeading.Version e) =
-      word (a_word what.Version (codes "2")) Role.Version
-      (rw e heading.version) e (λ b. (λ h. h, λ h. h)) (refl, refl, λ why k. k) (λ b why k. k) tt
-  in_heading (IsInHeading.Letter e) = word a_letter Role.Letter
+      word (a_word what.Version (codes "2")) what.Version (rw e heading.version) e
+      (refl, refl, λ why k. k) (λ b why k. k) version_word
+  in_heading (IsInHeading.Letter e) = word a_letter what.Letter
       (subst (λ (ts : List Token). Stands ts a_letter) (sym e) heading.letter) e
-      (λ b. (λ h. h, λ h. h)) (refl, refl, λ why k. k) (λ b why k. k) tt
+      (refl, refl, λ why k. k) (λ b why k. k) letter_word
   in_heading (IsInHeading.Title h) = text (heading.title before h)
   in_heading (IsInHeading.BeforePlayers h) = opening (heading.before_players before h)
   in_heading (IsInHeading.Players players h) =
       let s = heading.player_names before players h in
-      one_reason before a_player_name what.Text s (some_text a_player_name s tt)
-      (refl, refl, λ why e. e) (λ b why e. e) (λ b k. absurd k)
+      word a_player_name what.Text s (some_text a_player_name s tt) (refl, refl, λ why e. e)
+      (λ b why e. e) (λ b k. absurd k)
   in_heading (IsInHeading.AfterPlayers players h) =
       text_or_node players (heading.after_players before players h)
   in_heading (IsInHeading.AfterComment players h) =

@@ -18,8 +18,3 @@ sums_once (a ∷ actions) sum total machine some h k =
 pub same_sum : (set : InformationSet) (total machine : Ratio) → HasSum set total
     → HaveSumFrom 0 (whole (pos 0)) set.actions machine → machine ≡ total
 same_sum set total machine h k = grind (arith, sums_once)
-
-pub adds_up : (actions : List Action) (sum total : Ratio) → AddShares sum actions total
-    → AddUpTo sum actions total
-adds_up [] sum total h = h
-adds_up (a ∷ actions) sum total h = (h.0, h.1, h.2, h.3, adds_up actions h.1 total h.5)
