@@ -1,11 +1,12 @@
 -- The names that many lemmas of this crate cite, passed on from one place. Declares nothing.
 pub use Rattle.gf_canon.specs.CanonicalFile.{canonical_file}
 pub use Rattle.gf_canon.specs.CanonicalText.{IsCanonicalText, IsFileWithinLimit, SpellsWithin}
-pub use Rattle.gf_canon.specs.GameFile.{GameFile, IsGameFile, SameFile, SpellsFile, canonical_text}
+pub use Rattle.gf_canon.specs.GameFile.{GameFile, SameFile, SpellsFile, canonical_text}
 pub use Rattle.gf_canon.specs.GameFile.GameFile.{extensive, strategic}
 pub use Rattle.gf_canon.specs.GameText.{action_fields, described_fields, game_text, mover_fields}
 pub use Rattle.gf_canon.specs.GameText.{node_text, outcome_fields, result_fields, set_fields}
 pub use Rattle.gf_canon.specs.GameText.{step_fields}
+pub use Rattle.gf_canon.specs.IsGameFile.{IsGameFile}
 pub use Rattle.gf_canon.specs.Judgement.{BeginsWithWord, IsFormatReason, IsInEitherFormat, IsJudged}
 pub use Rattle.gf_canon.specs.Judgement.{IsPlaced, IsRefused, IsRefusedWith, IsWithoutFormat}
 pub use Rattle.gf_canon.specs.Judgement.{MeansFile}
@@ -25,7 +26,7 @@ pub use Rattle.gf_canon.specs.inner.TextParts.{first_line, heading_text, mover_l
 pub use Rattle.gf_canon.specs.inner.TextParts.{number_then, plain_line, player_letter, player_then}
 pub use Rattle.gf_canon.specs.inner.TextParts.{tail_text, told_text}
 pub use Rattle.gf_fraction.proofs.AllElements.{all_images, all_weaker}
-pub use Rattle.gf_nfg.specs.LimitPlace.{IsWithinLimit}
+pub use Rattle.gf_nfg.specs.Limit.{IsWithinLimit}
 pub use Rattle.gf_nfg.specs.Profiles.{numbers_from, positions}
 pub use Rattle.gf_nfg.specs.Table.{Table}
 pub use Rattle.gf_nfg.specs.TableText.{SpellsTable, lines_text, list_text, quoted, spaced}

@@ -1,6 +1,6 @@
 -- The canonical text of bytes, and when two lists of bytes mean the same.
 use Rattle.std.specs.Prelude.{◌≡◌, ℕ, List}
-use Rattle.gf_nfg.specs.LimitPlace.{IsWithinLimit}
+use Rattle.gf_nfg.specs.Limit.{IsWithinLimit}
 use Rattle.gf_canon.specs.GameFile.{GameFile, SameFile, SpellsFile, canonical_text}
 use Rattle.gf_canon.specs.GameFile.GameFile.{extensive, strategic}
 

@@ -1,9 +1,9 @@
 -- Game files of both kinds: when they mean the same, and their canonical text.
 use Rattle.std.specs.Prelude.{ℕ, List}
-use Rattle.gf_nfg.specs.Table.{Table, IsTable}
+use Rattle.gf_nfg.specs.Table.{Table}
 use Rattle.gf_nfg.specs.SameTable.{SameTable}
 use Rattle.gf_nfg.specs.TableText.{table_text, SpellsTable}
-use Rattle.gf_tree.specs.Game.{Game, IsGame}
+use Rattle.gf_tree.specs.Game.{Game}
 use Rattle.gf_tree.specs.GameOf.{SpellsGame}
 use Rattle.gf_tree.specs.SameGame.{SameGame}
 use Rattle.gf_tree.specs.CanonicalGame.{canonical_game}
@@ -13,10 +13,6 @@ use Rattle.gf_canon.specs.GameText.{game_text}
 pub data GameFile : Type 0 where
   extensive : Game → GameFile
   strategic : Table → GameFile
-
-abbrev pub IsGameFile : GameFile → Type 0
-IsGameFile (extensive g) = IsGame g
-IsGameFile (strategic t) = IsTable t
 
 -- these bytes mean it
 abbrev pub SpellsFile : List ℕ → GameFile → Type 0

@@ -4,6 +4,7 @@ pub mod FileFormat
 pub mod FirstDescribed
 pub mod GameFile
 pub mod GameText
+pub mod IsGameFile
 pub mod Judgement
 pub mod MeaningOf
 pub mod NamesAside

@@ -10,10 +10,11 @@ pub use Rattle.gf_fraction.specs.declared.fraction.NumberFault.{NumberFault}
 pub use Rattle.gf_nfg.specs.Due.Role.{Count, Format, Letter, OutcomeNumber, Payoff, Version}
 pub use Rattle.gf_nfg.specs.Due.{IsDue, Role, RoleIsDue, Suits}
 pub use Rattle.gf_nfg.specs.Judgement.{IsAcceptedWithinLimit, IsJudged, IsRefusal, IsRefused}
-pub use Rattle.gf_nfg.specs.Limit.{profile_limit}
+pub use Rattle.gf_nfg.specs.Limit.{IsWithinLimit, profile_limit}
 pub use Rattle.gf_nfg.specs.LimitByFiles.{BeginsPastLimit, BeginsWithinLimit, IsBareOrClosing}
 pub use Rattle.gf_nfg.specs.LimitByFiles.{IsLimitByFiles, StaysWithinLimit}
-pub use Rattle.gf_nfg.specs.LimitPlace.{GivesCounts, IsLimitPlace, IsWithinLimit}
+pub use Rattle.gf_nfg.specs.LimitPlace.{GivesCounts, IsLimitPlace}
+pub use Rattle.gf_nfg.specs.NamedBy.{named_by}
 pub use Rattle.gf_nfg.specs.ProfilePlaces.{IsProfile, place}
 pub use Rattle.gf_nfg.specs.Profiles.{numbers_from, positions, product, profiles}
 pub use Rattle.gf_nfg.specs.Reason.{Applies, IsReason}
@@ -21,13 +22,14 @@ pub use Rattle.gf_nfg.specs.SameTable.{SamePlay, SameTable}
 pub use Rattle.gf_nfg.specs.Sentence.{IsCount, IsLabelList, IsOutcomeBody, IsOutcomeInBraces}
 pub use Rattle.gf_nfg.specs.Sentence.{IsOutcomeNumber, IsPayoff, IsPayoffBody, IsStrategicFile}
 pub use Rattle.gf_nfg.specs.Sentence.{Pays, Sentence, counted_labels}
-pub use Rattle.gf_nfg.specs.Table.{Entry, IsSpellable, IsTable, Table, rows}
+pub use Rattle.gf_nfg.specs.Spellable.{IsSpellable}
+pub use Rattle.gf_nfg.specs.Table.{Entry, IsTable, Table, rows}
 pub use Rattle.gf_nfg.specs.TableAccess.{IsTableOf, payoffs_at}
 pub use Rattle.gf_nfg.specs.TableParts.{AreParts, AreShared, AreSpellings, HasRows, IsCut, IsHeld}
 pub use Rattle.gf_nfg.specs.TableParts.{IsPlaced, Names, RisesTo, entries_of, groups, kept_row}
 pub use Rattle.gf_nfg.specs.TableParts.{kept_rows, no_pay, own_of, pieces, row_of, rows_of}
 pub use Rattle.gf_nfg.specs.TableParts.{start_of, table_with}
-pub use Rattle.gf_nfg.specs.TableText.{SpellsTable, lines_text, list_text, named_by, quoted, spaced}
+pub use Rattle.gf_nfg.specs.TableText.{SpellsTable, lines_text, list_text, quoted, spaced}
 pub use Rattle.gf_nfg.specs.TableText.{table_text}
 pub use Rattle.gf_nfg.specs.WorkedTables.{no_players, no_players_text, selten, selten_by_counts}
 pub use Rattle.gf_nfg.specs.WorkedTables.{selten_by_outcomes, selten_text}

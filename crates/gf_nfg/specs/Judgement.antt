@@ -1,14 +1,12 @@
 -- What the reader of strategic files answers.
-use Rattle.std.specs.Prelude.{◌≡◌, ℕ, ◌<◌, List, Result, Ok, Err}
+use Rattle.std.specs.Prelude.{◌≡◌, ℕ, ◌<◌, List}
 use Rattle.gf_token.specs.Place.{tokens_of, IsAcceptedThrough, IsOffendingPlace}
-use Rattle.gf_token.specs.declared.fault.Fault.{Fault}
 use Rattle.gf_token.specs.declared.fault.Span.{Span}
 use Rattle.gf_token.specs.declared.fault.Why.{Why}
 use Rattle.gf_token.specs.declared.fault.Why.TheVariants.{TooLong, TooManyProfiles, Memory}
 use Rattle.gf_nfg.specs.LimitPlace.{IsLimitPlace}
 use Rattle.gf_nfg.specs.Reason.{IsReason}
 use Rattle.gf_nfg.specs.Sentence.{IsStrategicFile}
-use Rattle.gf_nfg.specs.Table.{Table}
 
 -- The span is that of the offending place, the refusal is for what stands there, and the profiles
 -- pass their limit nowhere.
@@ -32,8 +30,3 @@ IsJudged why bytes span = IsRefusal why bytes span
 -- a refusal for another reason than lack of memory
 abbrev pub IsRefused : Why → List ℕ → Span → Type 0
 IsRefused why bytes span = ¬ (why ≡ Memory) × IsJudged why bytes span
-
--- this table, or out of memory
-abbrev pub IsReadAs : Result Table Fault → Table → Type 0
-IsReadAs (Ok read) t = read ≡ t
-IsReadAs (Err fault) t = fault.why ≡ Memory

@@ -3,11 +3,13 @@ pub mod Judgement
 pub mod Limit
 pub mod LimitByFiles
 pub mod LimitPlace
+pub mod NamedBy
 pub mod ProfilePlaces
 pub mod Profiles
 pub mod Reason
 pub mod SameTable
 pub mod Sentence
+pub mod Spellable
 pub mod Table
 pub mod TableAccess
 pub mod TableParts

@@ -6,8 +6,7 @@ use Rattle.gf_token.specs.Token.Token.{Closing, Bare}
 use Rattle.gf_token.specs.TokenSpelling.{Spells}
 use Rattle.gf_token.specs.Place.{tokens_of, Begins}
 use Rattle.gf_token.specs.declared.fault.Span.{Span}
-use Rattle.gf_nfg.specs.Limit.{profile_limit}
-use Rattle.gf_nfg.specs.LimitPlace.{IsWithinLimit}
+use Rattle.gf_nfg.specs.Limit.{IsWithinLimit, profile_limit}
 use Rattle.gf_nfg.specs.Table.{Table}
 use Rattle.gf_nfg.specs.Sentence.{Sentence, IsStrategicFile}
 

@@ -9,12 +9,7 @@ use Rattle.gf_token.specs.Place.{tokens_of}
 use Rattle.gf_token.specs.declared.fault.Span.{Span}
 use Rattle.gf_nfg.specs.Limit.{profile_limit}
 use Rattle.gf_nfg.specs.Profiles.{product}
-use Rattle.gf_nfg.specs.Table.{Table}
 use Rattle.gf_nfg.specs.Sentence.{IsCount, IsLabelList}
-
--- a table has no more profiles than allowed
-abbrev pub IsWithinLimit : Table → Type 0
-IsWithinLimit t = length t.entries ≤ profile_limit
 
 -- `NFG` `1` letter Text players Opening, and then a count for each of the first players, or a whole
 -- list of labels for each of them: these players have this many strategies, and each has at least

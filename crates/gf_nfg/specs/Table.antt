@@ -1,8 +1,7 @@
 -- The table that a strategic file means.
-use Rattle.std.specs.Prelude.{◌≡◌, ℕ, ◌<◌, List, ◌∷◌, ◌++◌, length, map}
-use Rattle.std.specs.List.{AllByRecursion, flat_map}
-use Rattle.gf_fraction.specs.Ratio.{Ratio, IsFraction}
-use Rattle.gf_token.specs.LabelSpelling.{IsLabel}
+use Rattle.std.specs.Prelude.{◌≡◌, ℕ, ◌<◌, List, length, map}
+use Rattle.std.specs.List.{AllByRecursion}
+use Rattle.gf_fraction.specs.Ratio.{Ratio}
 use Rattle.gf_nfg.specs.Profiles.{profiles}
 
 -- what each player is paid at a profile
@@ -28,12 +27,3 @@ pub record IsTable (t : Table) : Type 0 where
   pub some_strategy : AllByRecursion (λ labels. 0 < length labels) t.strategies
   pub one_entry_each : map (λ e. e.profile) t.entries ≡ profiles (map length t.strategies)
   pub one_payoff_each : AllByRecursion (λ row. length row ≡ length t.players) (rows t)
-
--- title, comment, and the names of the players and of the strategies
-abbrev pub labels : Table → List (List ℕ)
-labels t = t.title ∷ t.comment ∷ (t.players ++ flat_map (λ names. names) t.strategies)
-
--- a file can hold it: its labels are spellings of labels, and its payoffs are fractions
-pub record IsSpellable (t : Table) : Type 0 where
-  pub labels_spelled : AllByRecursion IsLabel (labels t)
-  pub payoffs_are_fractions : AllByRecursion (λ row. AllByRecursion IsFraction row) (rows t)

@@ -6,9 +6,9 @@ use Rattle.gf_fraction.specs.Ratio.{IsFraction, Ratio, whole}
 use Rattle.gf_token.specs.LabelSpelling.{IsLabel}
 use Rattle.gf_nfg.specs.ProfilePlaces.{IsProfile, place}
 use Rattle.gf_nfg.specs.Profiles.{product, profiles}
-use Rattle.gf_nfg.specs.Limit.{profile_limit}
-use Rattle.gf_nfg.specs.LimitPlace.{IsWithinLimit}
-use Rattle.gf_nfg.specs.Table.{Entry, Table, IsSpellable, IsTable, rows}
+use Rattle.gf_nfg.specs.Limit.{IsWithinLimit, profile_limit}
+use Rattle.gf_nfg.specs.Spellable.{IsSpellable}
+use Rattle.gf_nfg.specs.Table.{Entry, Table, IsTable, rows}
 
 -- a list cut at these ends, from this place on
 abbrev pub pieces : {A : Type 0} → ℕ → List ℕ → List A → List (List A)

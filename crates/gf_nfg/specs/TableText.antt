@@ -1,5 +1,5 @@
 -- The canonical text of a table.
-use Rattle.std.specs.Prelude.{ℕ, Bool, List, [], ◌∷◌, map, codes, if◌then◌else◌}
+use Rattle.std.specs.Prelude.{ℕ, List, [], ◌∷◌, map, codes}
 pub use Rattle.gf_token.specs.TextLayout.{lines_text, list_text, quoted, spaced}
 use Rattle.gf_token.specs.Token.{Lexeme}
 use Rattle.gf_token.specs.TokenSpelling.{Spells}
@@ -17,13 +17,6 @@ table_text t = lines_text
     ∷ quoted t.comment
     ∷ []
     ∷ map (λ row. spaced (map number_text row)) (rows t))
-
--- title and comment are empty if it is not named
-abbrev pub named_by : Bool → Table → Table
-named_by named t = record t {
-  title = if named then t.title else [];
-  comment = if named then t.comment else [];
-}
 
 -- the bytes of a strategic file that means this table
 abbrev pub SpellsTable : List ℕ → Table → Type 0

@@ -5,10 +5,11 @@ ghost use Rattle.std.specs.List.{flat_map};
 ghost use Rattle.gf_token.specs.declared.fault.Why.TheVariants.{Memory};
 ghost use Rattle.gf_nfg.specs.inner.ComparedTable.{IsCompared};
 ghost use Rattle.gf_nfg.specs.Judgement.{IsJudged};
-ghost use Rattle.gf_nfg.specs.LimitPlace.{IsWithinLimit};
+ghost use Rattle.gf_nfg.specs.Limit.{IsWithinLimit};
+ghost use Rattle.gf_nfg.specs.NamedBy.{named_by};
 ghost use Rattle.gf_nfg.specs.SameTable.{SameTable};
 ghost use Rattle.gf_nfg.specs.Table.{Table as table, rows};
-ghost use Rattle.gf_nfg.specs.TableText.{SpellsTable, named_by};
+ghost use Rattle.gf_nfg.specs.TableText.{SpellsTable};
 ghost use Rattle.gf_nfg.specs.inner.ToldTable.{HasToldTable};
 
 use crate::read::tell_nfg;

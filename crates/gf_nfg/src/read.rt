@@ -2,10 +2,11 @@
 
 ghost use Rattle.std.specs.Prelude.{◌≡◌, IfErr, IfOk, OnOk, length};
 ghost use Rattle.gf_token.specs.declared.fault.Why.TheVariants.{Memory};
+ghost use Rattle.gf_token.specs.ReadAs.{IsReadAs};
 ghost use Rattle.gf_nfg.specs.TableText.{SpellsTable};
 ghost use Rattle.gf_nfg.specs.inner.ToldTable.{HasToldTable};
-ghost use Rattle.gf_nfg.specs.LimitPlace.{IsWithinLimit};
-ghost use Rattle.gf_nfg.specs.Judgement.{IsJudged, IsReadAs};
+ghost use Rattle.gf_nfg.specs.Limit.{IsWithinLimit};
+ghost use Rattle.gf_nfg.specs.Judgement.{IsJudged};
 
 use crate::reader::Reader;
 use crate::reader::receive::{Kept, Receive, Unkept};

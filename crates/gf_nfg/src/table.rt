@@ -5,10 +5,10 @@ ghost use Rattle.std.specs.Prelude.{min, option_and_then, option_map, vec_len};
 ghost use Rattle.std.specs.List.{AllByRecursion};
 ghost use Rattle.gf_fraction.specs.Ratio.{IsFraction};
 ghost use Rattle.gf_token.specs.Label.{label_of};
-ghost use Rattle.gf_nfg.specs.Limit.{profile_limit};
-ghost use Rattle.gf_nfg.specs.LimitPlace.{IsWithinLimit};
+ghost use Rattle.gf_nfg.specs.Limit.{IsWithinLimit, profile_limit};
 ghost use Rattle.gf_nfg.specs.Profiles.{product};
-ghost use Rattle.gf_nfg.specs.Table.{IsSpellable, IsTable, rows};
+ghost use Rattle.gf_nfg.specs.Spellable.{IsSpellable};
+ghost use Rattle.gf_nfg.specs.Table.{IsTable, rows};
 ghost use Rattle.gf_nfg.specs.TableAccess.{IsTableOf, at_position, payoffs_at};
 ghost use Rattle.gf_nfg.specs.TableParts.{AreParts, IsHeld, table_with};
 

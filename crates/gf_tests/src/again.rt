@@ -2,9 +2,10 @@
 //! memory refused, so the second call has to answer.
 
 ghost use Rattle.std.specs.Prelude.{IfErr, IfOk};
+ghost use Rattle.gf_token.specs.ReadAs.{IsReadAs};
 ghost use Rattle.gf_tree.specs.Game.{Game as game};
 ghost use Rattle.gf_tree.specs.GameOf.{SpellsGame};
-ghost use Rattle.gf_tree.specs.Judgement.{IsJudged, IsReadAs};
+ghost use Rattle.gf_tree.specs.Judgement.{IsJudged};
 
 use gf_token::{Fault, Why};
 use gf_tree::{Game, read_efg};

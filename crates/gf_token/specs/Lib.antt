@@ -10,6 +10,7 @@ pub mod Next
 pub mod NumberWhy
 pub mod Place
 pub mod Positions
+pub mod ReadAs
 pub mod Reason
 pub mod Remaining
 pub mod Token

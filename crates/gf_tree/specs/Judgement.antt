@@ -1,13 +1,11 @@
 -- What the reader of extensive files answers.
-use Rattle.std.specs.Prelude.{◌≡◌, ℕ, List, Result, Ok, Err}
+use Rattle.std.specs.Prelude.{◌≡◌, ℕ, List}
 use Rattle.gf_token.specs.Place.{tokens_of, IsAcceptedThrough, IsOffendingPlace}
-use Rattle.gf_token.specs.declared.fault.Fault.{Fault}
 use Rattle.gf_token.specs.declared.fault.Span.{Span}
 use Rattle.gf_token.specs.declared.fault.Why.{Why}
 use Rattle.gf_token.specs.declared.fault.Why.TheVariants.{Memory, TooLong, UnknownOutcome}
 use Rattle.gf_token.specs.declared.fault.Why.TheVariants.{TooManyProfiles}
 use Rattle.gf_tree.specs.Front.{IsExtensiveFile}
-use Rattle.gf_tree.specs.Game.{Game}
 use Rattle.gf_tree.specs.Reason.{IsReason}
 
 -- the span is that of the offending place, and the refusal is for what stands there
@@ -27,8 +25,3 @@ IsJudged why bytes span = IsRefusal why bytes span
 -- a refusal for another reason than lack of memory
 abbrev pub IsRefused : Why → List ℕ → Span → Type 0
 IsRefused why bytes span = ¬ (why ≡ Memory) × IsJudged why bytes span
-
--- this game, or out of memory
-abbrev pub IsReadAs : Result Game Fault → Game → Type 0
-IsReadAs (Ok read) g = read ≡ g
-IsReadAs (Err fault) g = fault.why ≡ Memory

@@ -3,9 +3,10 @@
 
 ghost use Rattle.std.specs.Prelude.{◌≡◌, IfErr, IfOk, OnOk};
 ghost use Rattle.gf_token.specs.declared.fault.Why.TheVariants.{Memory};
+ghost use Rattle.gf_token.specs.ReadAs.{IsReadAs};
 ghost use Rattle.gf_tree.specs.Game.{Game as game};
 ghost use Rattle.gf_tree.specs.GameOf.{SpellsGame};
-ghost use Rattle.gf_tree.specs.Judgement.{IsJudged, IsReadAs};
+ghost use Rattle.gf_tree.specs.Judgement.{IsJudged};
 ghost use Rattle.gf_tree.specs.ToldGame.{HasToldGame};
 
 use crate::game::Game;

@@ -1,6 +1,6 @@
 -- What is told of a file of either format.
 use Rattle.std.specs.Prelude.{ℕ, List}
-use Rattle.gf_nfg.specs.LimitPlace.{IsWithinLimit}
+use Rattle.gf_nfg.specs.Limit.{IsWithinLimit}
 use Rattle.gf_nfg.specs.Table.{Table}
 use Rattle.gf_nfg.specs.TableText.{SpellsTable}
 use Rattle.gf_tree.specs.Game.{Game}

@@ -1,7 +1,7 @@
 -- What a receiver was told of a table.
 use Rattle.std.specs.Prelude.{◌≡◌, ℕ, List, []}
 use Rattle.gf_fraction.specs.Ratio.{Ratio}
-use Rattle.gf_nfg.specs.LimitPlace.{IsWithinLimit}
+use Rattle.gf_nfg.specs.Limit.{IsWithinLimit}
 use Rattle.gf_nfg.specs.inner.Machine.{Content}
 use Rattle.gf_nfg.specs.inner.Meaning.{IsComplete, table_of}
 use Rattle.gf_nfg.specs.inner.ReaderState.{content_with}

@@ -3,10 +3,11 @@
 ghost use Rattle.std.specs.Prelude.{◌≡◌, ◌++◌, List, ℕ, IfErr, IfOk, map};
 ghost use Rattle.gf_token.specs.declared.fault.Why.TheVariants.{Memory};
 ghost use Rattle.gf_nfg.specs.Judgement.{IsJudged};
-ghost use Rattle.gf_nfg.specs.LimitPlace.{IsWithinLimit};
+ghost use Rattle.gf_nfg.specs.Limit.{IsWithinLimit};
+ghost use Rattle.gf_nfg.specs.NamedBy.{named_by};
 ghost use Rattle.gf_nfg.specs.inner.Meaning.{IsComplete, rows_by};
 ghost use Rattle.gf_nfg.specs.inner.ReaderState.{content_of};
-ghost use Rattle.gf_nfg.specs.TableText.{SpellsTable, lines_text, named_by, table_text};
+ghost use Rattle.gf_nfg.specs.TableText.{SpellsTable, lines_text, table_text};
 ghost use Rattle.gf_nfg.specs.inner.TextParts.{row_text};
 
 use crate::read::tell_nfg;

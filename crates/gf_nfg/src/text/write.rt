@@ -4,7 +4,8 @@
 ghost use Rattle.std.specs.Prelude.{◌≡◌, ◌<◌, ◌++◌, [], OnErr, OnOk, if◌then◌else◌, length};
 ghost use Rattle.std.specs.Prelude.{map};
 ghost use Rattle.gf_token.specs.Label.{label_of};
-ghost use Rattle.gf_nfg.specs.Table.{IsSpellable, IsTable};
+ghost use Rattle.gf_nfg.specs.Spellable.{IsSpellable};
+ghost use Rattle.gf_nfg.specs.Table.{IsTable};
 ghost use Rattle.gf_nfg.specs.TableText.{SpellsTable, list_text, quoted, table_text};
 ghost use Rattle.gf_nfg.specs.inner.TextParts.{Keeps, ending_text, first_line, front_text};
 ghost use Rattle.gf_nfg.specs.inner.TextParts.{heading_text, names_by};

@@ -4,7 +4,8 @@ use Rattle.gf_canon.proofs.Common.{Memory, Table, SpellsTable, GameFile, SpellsF
 use Rattle.gf_canon.proofs.Common.{strategic, IsRefusedWith, IsTextBy, SpellsWithin, file_by, Names}
 use Rattle.gf_canon.proofs.Common.{Bool, refl, ap, ◌∙◌, Kept, Aside, IsWithinLimit}
 use Rattle.gf_canon.specs.inner.NamedBy.{are_kept}
-use Rattle.gf_nfg.specs.TableText.{named_by, table_text}
+use Rattle.gf_nfg.specs.NamedBy.{named_by}
+use Rattle.gf_nfg.specs.TableText.{table_text}
 use Rattle.gf_canon.proofs.lemmas.files.Texts.{spells_one_file}
 
 pub text_is : (names : Names) (bytes text : List ℕ) (x : GameFile) → IsTextBy names bytes text

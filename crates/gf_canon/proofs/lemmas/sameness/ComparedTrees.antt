@@ -7,7 +7,7 @@ use Rattle.gf_canon.proofs.Common.{strategic, SpellsWithin, node_by, SameBy, Nam
 use Rattle.gf_canon.proofs.Common.{Result, Ok, Err, IfOk, Fault, SpellsTable, GameFile, append-nil}
 use Rattle.gf_canon.proofs.Common.{IsWithinLimit, ◌∷◌, refl}
 use Rattle.gf_nfg.specs.SameTable.{SameTable}
-use Rattle.gf_nfg.specs.TableText.{named_by}
+use Rattle.gf_nfg.specs.NamedBy.{named_by}
 use Rattle.gf_canon.specs.inner.NamedBy.{are_kept}
 use Rattle.gf_tree.proofs.lemmas.games.Spelled.{spelled_is_spellable}
 use Rattle.gf_canon.specs.inner.ComparedTrees.{AgreesWith, IsCompared}

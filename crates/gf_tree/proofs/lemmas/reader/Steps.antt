@@ -17,7 +17,7 @@ use Rattle.gf_tree.proofs.Common.{answer, begun_with, content_of}
 use Rattle.std.specs.Prelude.{OnOk, IfErr, IfOk, IfNone, MatchResult}
 use Rattle.std.proofs.lemmas.List.Quantifiers.{position-Some}
 use Rattle.gf_tree.specs.inner.KnownOutcomes.{with_pending_outcome}
-use Rattle.gf_tree.specs.Judgement.{IsReadAs}
+use Rattle.gf_token.specs.ReadAs.{IsReadAs}
 use Rattle.gf_tree.proofs.lemmas.runs.Passed.{passed_before}
 use Rattle.gf_token.specs.declared.token.TextToken.{TextToken}
 use Rattle.gf_tree.specs.inner.AddsUp.{adds_up}

@@ -29,6 +29,7 @@ use Rattle.gf_tree.proofs.lemmas.reasons.Rows.{follows, for_due, given, in_headi
 use Rattle.gf_tree.proofs.lemmas.reasons.Rows.{name_or_end, name_or_node, no_action, node, of_none}
 use Rattle.gf_tree.proofs.lemmas.reasons.Rows.{number_due, of_indices, of_numbers, opening, reasons}
 use Rattle.gf_tree.proofs.lemmas.reasons.Rows.{some_bare, some_text, wrong_own}
+use Rattle.gf_tree.specs.Rows.{Always}
 use Rattle.gf_token.specs.declared.fault.What.TheVariants as what
 use Rattle.gf_tree.proofs.lemmas.due.Actions as actions
 use Rattle.gf_tree.proofs.lemmas.due.Nodes as nodes
@@ -113,47 +114,41 @@ module _ (f : FileFront) where
         | inr k ↦ inr (k.0, k.1)
       ]))
 
-  -- any number
-  new_number : (row : Row) → Stands f.before row → IsFor row what.Number
-      → ((b : List ℕ) (why : Why) → row.other_bare b why → IsNoNumber b why) → AcceptsNumbers row
-      → ((b : List ℕ) (p : Ratio) → IsNumber b p → row.bare b) → Reasoned f.before
-  new_number row s is bare only all =
-      let one = whole (pos 1) in
-      number_row row s (number_due f.before row s (codes "1") one one_number (λ b. all b one))
-      is only (λ b why after e. inl (bare b why e))
-
-  -- a number that is known
-  known_number : (row : Row) (p : Ratio) → Stands f.before row → (spelled : List ℕ)
-      → IsNumber spelled p
-      → ((b : List ℕ) (q : Ratio) → IsNumber b q → q ≢ p
-      → DiffersFromSet f.ends (Bare b) ⊎ DiffersFromOutcome f.ends (Bare b)) → IsFor row what.Number
-      → ((b : List ℕ) (why : Why) → row.other_bare b why → (this_number p).other_bare b why)
-      → ((b : List ℕ) → (row.bare b → IsNumber b p) × (IsNumber b p → row.bare b))
+  -- any number, and perhaps a comma
+  new_number : (comma : Type 0) → Stands f.before (record a_payoff { comma = comma })
       → Reasoned f.before
-  known_number row p s spelled one other is bare same = number_row row s
-      (number_due f.before row s spelled p one (λ b. (same b).1)) is (λ b k. (p, (same b).0 k))
-      (λ b why after e. by b why after (bare b why e))
-    where
-      by : (b : List ℕ) (why : Why) (after : List Token) → (this_number p).other_bare b why
-          → IsNoNumber b why ⊎ ((q : Ratio) × IsNumber b q × Own why f.before (Bare b ∷ after))
-      by b why after (inl k) = inl k
-      by b why after (inr k) = inr (
-        k.1.0,
-        k.1.1,
-        given f.before (Bare b ∷ after) why
-            (Mismatch, k.0, differs (Bare b) (other b k.1.0 k.1.1 k.1.2) after),
-      )
+  new_number comma s =
+      let row = record a_payoff { comma = comma } in
+      let one = whole (pos 1) in
+      number_row row s (number_due f.before row s (codes "1") one one_number (λ b is. (one, is)))
+      (refl, refl, λ why e. e) (λ b k. k) (λ b why after e. inl e)
+
+  -- a number that is known, and perhaps a comma
+  known_number : (comma : Type 0) (p : Ratio)
+      → Stands f.before (record (this_number p) { comma = comma }) → (b : List ℕ) × IsNumber b p
+      → ((b : List ℕ) (q : Ratio) → IsNumber b q → q ≢ p
+      → DiffersFromSet f.ends (Bare b) ⊎ DiffersFromOutcome f.ends (Bare b)) → Reasoned f.before
+  known_number comma p s one other =
+      let row = record (this_number p) { comma = comma } in
+      number_row row s (number_due f.before row s one.0 p one.1 (λ b is. is))
+      (refl, refl, λ why e. e) (λ b k. (p, k)) (λ b why after e. elim e [
+        | inl k ↦ inl k
+        | inr k ↦ inr (
+          k.1.0,
+          k.1.1,
+          given f.before (Bare b ∷ after) why
+              (Mismatch, k.0, differs (Bare b) (other b k.1.0 k.1.1 k.1.2) after),
+        )
+      ])
 
   -- a payoff of a known outcome
-  known_payoff : (row : Row) (n : ℕ) (ps : List Ratio) (outcome : Outcome) (p : Ratio)
-      (others : List Ratio) (may : Bool) → Stands f.before row → (spelled : List ℕ)
-      → IsNumber spelled p → Seen f.front n ps may
-      → KnowsOutcome f.nodes n outcome → outcome.payoffs ≡ ps ++ p ∷ others → IsFor row what.Number
-      → ((b : List ℕ) (why : Why) → row.other_bare b why → (this_number p).other_bare b why)
-      → ((b : List ℕ) → (row.bare b → IsNumber b p) × (IsNumber b p → row.bare b))
+  known_payoff : (comma : Type 0) (n : ℕ) (ps : List Ratio) (outcome : Outcome) (p : Ratio)
+      (others : List Ratio) (may : Bool)
+      → Stands f.before (record (this_number p) { comma = comma }) → (b : List ℕ) × IsNumber b p
+      → Seen f.front n ps may → KnowsOutcome f.nodes n outcome → outcome.payoffs ≡ ps ++ p ∷ others
       → Reasoned f.before
-  known_payoff row n ps outcome p others may s spelled one h knows parts =
-      known_number row p s spelled one (λ b q is other. inr (
+  known_payoff comma n ps outcome p others may s one h knows parts =
+      known_number comma p s one (λ b q is other. inr (
         n,
         outcome,
         h.outcome,
@@ -297,8 +292,7 @@ module _ (f : FileFront) where
       (of_none f.before row s (λ b k. k))
   in_node (IsInNode.KnownProbability number known seen next p h knows more has) =
       let s = actions.known_probability f number known seen next p h knows more has in
-      let one = some_bare f.before (Expected what.Number) _ _ s in
-      known_number (this_number p) p s one.0 one.1 (λ b q is other. inl (
+      known_number ⊥ p s (some_bare f.before (Expected what.Number) _ _ s) (λ b q is other. inl (
         number,
         known,
         seen,
@@ -309,7 +303,7 @@ module _ (f : FileFront) where
         more,
         is,
         λ e. other (same_Some q p (sym e ∙ has)),
-      )) (refl, refl, λ why e. e) (λ b why e. e) (λ b. (λ k. k, λ k. k))
+      ))
   in_node (IsInNode.NoActionLeft key known seen h knows same) =
       let s = actions.no_action_left f key known seen h knows same in
       let due : IsDue f.before what.Closing =
@@ -347,23 +341,18 @@ module _ (f : FileFront) where
   in_node (IsInNode.OutcomeOpening number h) =
       opening f.before (outcomes.outcome_opening f number h)
   in_node (IsInNode.NewPayoff number ps h new fewer) =
-      new_number a_payoff (payoffs.new_payoff f number ps h new fewer) (refl, refl, λ why e. e)
-      (λ b why e. e) (λ b k. k) (λ b p k. (p, k))
+      new_number ⊥ (payoffs.new_payoff f number ps h new fewer)
   in_node (IsInNode.KnownPayoff number ps outcome p others h knows parts) =
       let s = payoffs.known_payoff f number ps outcome p others h knows parts in
-      let one = some_bare f.before (Expected what.Number) _ _ s in
-      known_payoff (this_number p) number ps outcome p others false s one.0 one.1
-      (seen_to f.front number ps h) knows parts (refl, refl, λ why e. e) (λ b why e. e)
-      (λ b. (λ k. k, λ k. k))
+      known_payoff ⊥ number ps outcome p others false s
+      (some_bare f.before (Expected what.Number) _ _ s) (seen_to f.front number ps h) knows parts
   in_node (IsInNode.AfterNewPayoff number ps h new fewer) =
-      new_number (or_comma a_payoff) (payoffs.after_new_payoff f number ps h new fewer)
-      (refl, refl, λ why e. e) (λ b why e. e) (λ b k. k) (λ b p k. (p, k))
+      new_number Always (payoffs.after_new_payoff f number ps h new fewer)
   in_node (IsInNode.AfterKnownPayoff number ps outcome p others h knows parts) =
       let s = payoffs.after_known_payoff f number ps outcome p others h knows parts in
-      let one = payoff_spelled number ps outcome p others h knows parts s in
-      known_payoff (or_comma (this_number p)) number ps outcome p others true s one.0 one.1
-      (seen_behind f.front number ps h) knows parts (refl, refl, λ why e. e) (λ b why e. e)
-      (λ b. (λ k. k, λ k. k))
+      known_payoff Always number ps outcome p others true s
+      (payoff_spelled number ps outcome p others h knows parts s) (seen_behind f.front number ps h)
+      knows parts
   in_node (IsInNode.AfterLastPayoff number ps h all) =
       closing f.before (or_comma a_closing) (payoffs.after_last_payoff f number ps h all) tt
       (refl, refl, λ why e. e) (λ b why e. e) (λ b k. k)

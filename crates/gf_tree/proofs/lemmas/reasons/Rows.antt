@@ -18,7 +18,7 @@ use Rattle.gf_tree.proofs.lemmas.due.BareTokens.{IsWord, format_word, letter_wor
 use Rattle.gf_tree.proofs.lemmas.due.BareTokens.{one_number, plus_no_index, plus_number, t_no_index}
 use Rattle.gf_tree.proofs.lemmas.due.BareTokens.{t_no_number, two_index, version_word}
 use Rattle.gf_token.specs.Indices.{index_of}
-use Rattle.gf_tree.specs.Rows.{IsNodeLetter, none}
+use Rattle.gf_tree.specs.Rows.{Always, IsNodeLetter, none}
 use Rattle.gf_fraction.specs.declared.fraction.NumberFault.TheVariants as number
 use Rattle.gf_token.specs.declared.fault.What.TheVariants as what
 use Rattle.gf_tree.proofs.lemmas.due.Heading as heading
@@ -63,10 +63,6 @@ AcceptsNumbers row = (b : List ℕ) → row.bare b → (p : Ratio) × IsNumber b
 
 abbrev pub AcceptsIndices : Row → Type 0
 AcceptsIndices row = (b : List ℕ) → row.bare b → (n : ℕ) × IsIndex b n
-
-abbrev AcceptsLetters : ℕ → Row → Type 0
-AcceptsLetters players row = (b : List ℕ)
-    → (row.bare b → IsNodeLetter players b) × (IsNodeLetter players b → row.bare b)
 
 module _ (before : List Token) (row : Row) (s : Stands before row) where
   pub follows : (after : List Token) → Accepts row after → IsAccepted IsExtensiveFile before after
@@ -268,51 +264,42 @@ module _ (before : List Token) where
   closing row s h is bare none = word row what.Closing s (follows before row s (Closing ∷ []) h) is
       bare (λ b k. absurd (none b k))
 
-  -- the letter of a node, and perhaps a text
+  -- the letter of a node, and perhaps texts
   module _ (players : List (List ℕ)) where
-    node_due : (row : Row) → Stands before row → AcceptsLetters (length players) row
-        → NodeIsDue before
-    node_due row s same = follows before row s (Bare (codes "t") ∷ [])
-        ((same (codes "t")).1 (inr (inl refl)))
-
-    nobody : (row : Row) → Stands before row → AcceptsLetters (length players) row
-        → length players ≡ 0 → ¬ (MayBeNext before (codes "p"))
-    nobody row s same none = λ m. elim ((same (codes "p")).0 (takes before row s (codes "p") m)) [
-      | inl e ↦ other_word (codes "p") (codes "c") refl e
-      | inr (inl e) ↦ other_word (codes "p") (codes "t") refl e
-      | inr (inr h) ↦ let some = h.1 in omega (arith, none, some)
-    ]
-
-    by_letter : (row : Row) → Stands before row → AcceptsLetters (length players) row
-        → IsFor row what.Node → ((b : List ℕ) (why : Why) → row.other_bare b why
-        → (a_node (length players)).other_bare b why) → Reasoned before
-    by_letter row s same is bare =
-        let due = node_due row s same in
-        for_due before row what.Node s due is
-        (λ b why after n e. letter_given before players (nobody row s same) due b why after
-        (bare b why e))
-        (of_letters before row s (length players) (λ b. (same b).0) (length players, bare))
+    letter_row : (text : List ℕ → Type 0) (other : Why)
+        → Stands before (record (a_node (length players)) { text = text; other_text = other })
+        → ((l : List ℕ) (after : List Token) → ¬ (text l) → NodeIsDue before
+        → Own other before (Text l ∷ after)) → Reasoned before
+    letter_row text other s own =
+        let row = record (a_node (length players)) { text = text; other_text = other } in
+        let due : NodeIsDue before =
+        follows before row s (Bare (codes "t") ∷ []) (inr (inl refl)) in
+        reasons before row (λ after plain. due) (λ l after n. own l after n due)
+        (λ b why after n e. letter_given before players nobody due b why after e)
+        (λ why after n e. (Expected what.Node, e, due)) s
+        (of_letters before row s (length players) (λ b h. h) (length players, λ b why e. e))
+      where
+        nobody : length players ≡ 0 → ¬ (MayBeNext before (codes "p"))
+        nobody none m =
+            let row = record (a_node (length players)) { text = text; other_text = other } in
+            elim (takes before row s (codes "p") m) [
+              | inl e ↦ other_word (codes "p") (codes "c") refl e
+              | inr (inl e) ↦ other_word (codes "p") (codes "t") refl e
+              | inr (inr h) ↦ let some = h.1 in omega (arith, none, some)
+            ]
 
     pub node : Stands before (a_node (length players)) → Reasoned before
-    node s = by_letter (a_node (length players)) s (λ b. (λ h. h, λ h. h))
-        (refl, refl, λ why e. e) (λ b why e. e)
+    node s = letter_row (λ l. ⊥) (Expected what.Node) s (λ l after n due. due)
 
     text_or_node : Stands before (or_text (a_node (length players))) → Reasoned before
-    text_or_node s = by_letter (or_text (a_node (length players))) s (λ b. (λ h. h, λ h. h))
-        (refl, refl, λ why e. e) (λ b why e. e)
+    text_or_node s = letter_row (λ l. Always) (Expected what.Node) s (λ l after n due. due)
 
     -- or this name, of which another one differs
     pub name_or_node : (name : List ℕ) → Stands before (or_name name (a_node (length players)))
         → ((l : List ℕ) (after : List Token) → l ≢ name → Own Mismatch before (Text l ∷ after))
         → Reasoned before
     name_or_node name s other =
-        let row = or_name name (a_node (length players)) in
-        let due = node_due row s (λ b. (λ h. h, λ h. h)) in
-        let no_one = nobody row s (λ b. (λ h. h, λ h. h)) in
-        reasons before row (λ after plain. due) other
-        (λ b why after n e. letter_given before players no_one due b why after e)
-        (λ why after n e. (Expected what.Node, e, due)) s
-        (of_letters before row s (length players) (λ b h. h) (length players, λ b why e. e))
+        letter_row (λ l. l ≡ name) Mismatch s (λ l after n due. other l after n)
 
   pub end : Stands before an_end → Reasoned before
   end s = word an_end what.End s (follows before an_end s [] tt) (refl, refl, λ why e. e)

@@ -1,0 +1,15 @@
+-- Which tables a file can hold.
+use Rattle.std.specs.Prelude.{ℕ, List, ◌∷◌, ◌++◌}
+use Rattle.std.specs.List.{AllByRecursion, flat_map}
+use Rattle.gf_fraction.specs.Ratio.{IsFraction}
+use Rattle.gf_token.specs.LabelSpelling.{IsLabel}
+use Rattle.gf_nfg.specs.Table.{Table, rows}
+
+-- title, comment, and the names of the players and of the strategies
+abbrev pub labels : Table → List (List ℕ)
+labels t = t.title ∷ t.comment ∷ (t.players ++ flat_map (λ names. names) t.strategies)
+
+-- its labels are spellings of labels, and its payoffs are fractions
+pub record IsSpellable (t : Table) : Type 0 where
+  pub labels_spelled : AllByRecursion IsLabel (labels t)
+  pub payoffs_are_fractions : AllByRecursion (λ row. AllByRecursion IsFraction row) (rows t)
