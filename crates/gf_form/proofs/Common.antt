@@ -36,8 +36,6 @@ pub use Rattle.gf_form.specs.declared.rows.terms.Terms.{Terms}
 pub use Rattle.gf_form.specs.declared.rows.written.Asked.{Asked}
 pub use Rattle.gf_form.specs.declared.rows.written.Run.{Run}
 pub use Rattle.gf_form.specs.declared.strategies.counts.Counts.{Counts}
-pub use Rattle.gf_form.specs.declared.values.op.Op.{Op}
-pub use Rattle.gf_form.specs.declared.values.op.Op.TheVariants.{Push, Begin, Nothing, Weigh, Pay}
 pub use Rattle.gf_form.specs.inner.reduced.Comes.{tree_comes, trees_come}
 pub use Rattle.gf_form.specs.inner.reduced.Firsts.{AreFirstsOf, IsPaidAt}
 pub use Rattle.gf_form.specs.inner.reduced.Levels.{ArePositive, IsLevel, is_left, left_of}
@@ -82,11 +80,9 @@ pub use Rattle.gf_form.specs.inner.strategies.LabelTexts.{choice_text, IsPlain}
 pub use Rattle.gf_form.specs.inner.strategies.ProfileNumbers.{AreProfileNumbers, AreBelow}
 pub use Rattle.gf_form.specs.inner.strategies.ProfileNumbers.{ArePicked, IsPicked, full_at}
 pub use Rattle.gf_form.specs.inner.strategies.ProfileNumbers.{numbered_profiles}
-pub use Rattle.gf_form.specs.inner.values.CodeLeft.{code_left, strategies_of_walk}
 pub use Rattle.gf_form.specs.inner.values.PaidRows.{rows_of}
-pub use Rattle.gf_form.specs.inner.values.Program.{run, paid_at_node, paid, chance_code, child_code}
-pub use Rattle.gf_form.specs.inner.values.Program.{code}
-pub use Rattle.gf_form.specs.inner.values.Rows.{ArePaid, at_place, row_at, IsRow, AreRows, column}
+pub use Rattle.gf_form.specs.inner.values.Rows.{ArePaid, at_place, row_at, IsRow, paid}
+pub use Rattle.gf_form.specs.inner.values.Rows.{paid_at_node}
 pub use Rattle.gf_form.specs.inner.values.Values.{value, chances_at, chance_value, child_value}
 pub use Rattle.gf_form.specs.inner.values.Values.{plus_of, times_of, value_over}
 pub use Rattle.gf_fraction.proofs.AllElements.{all_images, all_weaker, all_parts, all_both}

@@ -1,9 +1,8 @@
-//! What the players are paid if they choose given actions: the tree is walked once, on a stack
-//! of rows.
+//! What the players are paid if they choose given actions: the tree is walked once, and the sums
+//! so far stand at the nodes on the path.
 
-pub(crate) mod evaluate;
 pub(crate) mod expectation;
-pub(crate) mod op;
 pub(crate) mod payoffs;
+pub(crate) mod positions;
 pub(crate) mod stack;
 pub(crate) mod walk;

@@ -2,8 +2,8 @@ pub mod Alike
 pub mod BottomUp
 pub mod Denominators
 pub mod Following
+pub mod PaidRows
 pub mod PayoffsGiven
 pub mod RowSums
-pub mod Stacks
 pub mod ValuesComputed
 pub mod Walks

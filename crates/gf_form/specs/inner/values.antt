@@ -1,6 +1,4 @@
-pub mod CodeLeft
 pub mod PaidRows
-pub mod Program
 pub mod Rows
-pub mod RowsOn
+pub mod ValueLeft
 pub mod Values

@@ -10,9 +10,9 @@ ghost use Rattle.gf_form.specs.Strategies.{AreStrategies, choices_by};
 
 use crate::fault::EvalFault;
 use crate::rows::write_out;
-use crate::values::evaluate::evaluate;
 use crate::values::payoffs::Payoffs;
 use crate::values::stack::Values;
+use crate::values::walk::Walk;
 use gf_fraction::Fraction;
 use gf_tree::Game;
 use std::alloc::Global;
@@ -40,7 +40,12 @@ pub(crate) fn expected_with(
     if players == 0 {
         return Ok(Vec::new(alloc));
     }
-    let mut row = match evaluate(alloc, game, payoffs, choices, values) {
+    let walk = Walk {
+        game,
+        payoffs,
+        choices,
+    };
+    let mut row = match walk.value(alloc, values) {
         Ok(row) => row,
         Err(fault) => return Err(fault),
     };

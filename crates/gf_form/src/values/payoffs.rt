@@ -4,9 +4,10 @@ ghost use Rattle.std.specs.Prelude.{◌≡◌, ℕ, suc, IfOk, IsTrue, length, m
 ghost use Rattle.gf_fraction.specs.Rational.{zero_ratio};
 ghost use Rattle.gf_tree.specs.Game.{IsGame};
 ghost use Rattle.gf_tree.specs.Spellable.{IsSpellable};
-ghost use Rattle.gf_form.specs.inner.values.Program.{paid};
+ghost use Rattle.gf_form.specs.inner.values.Rows.{paid};
 ghost use Rattle.gf_form.specs.inner.values.Rows.{ArePaid, IsRow, at_place, row_at};
 
+use crate::values::positions::at;
 use gf_fraction::Fraction;
 use gf_tree::Game;
 use std::alloc::{AllocError, Global};
@@ -67,14 +68,11 @@ impl<'g> Payoffs<'g> {
     }
 
     /// The row of the outcome at this position, from 1; an empty one if there is no such outcome.
-    #[tactic(auto, using(crate::proofs::lemmas::values::Stacks::row_steps))]
+    #[tactic(auto, using(crate::proofs::lemmas::values::PaidRows::at_mapped))]
     pub(crate) fn at(&self, position: u32) -> &'g [Fraction]
         ensures { result.now ≡ row_at (rows_of self.now) position }
     {
-        if position == 0 {
-            return &[];
-        }
-        match self.rows.get(position as usize - 1) {
+        match at(&self.rows, position as usize) {
             Some(row) => *row,
             None => &[],
         }

@@ -1,59 +1,66 @@
-//! The operations of a tree, given one after another as they are asked for: the tree is walked
-//! once, and only the nodes on the path are kept.
+//! The bottom-up value of a tree. The tree is walked once, and only the nodes on the path are kept,
+//! each with the sum of the children that were left.
 
-ghost use Rattle.std.specs.Prelude.{◌≡◌, ◌<◌, ◌≤◌, ◌++◌, [], ◌∷◌, None, Some, IfNone, IfOk};
-ghost use Rattle.std.specs.Prelude.{MatchOption, OnErr, OnOk, length, map, option_to_list};
-ghost use Rattle.std.specs.Prelude.{unwrap_or};
-ghost use Rattle.std.specs.Prelude.{vec_capacity, vec_len};
+ghost use Rattle.std.specs.Prelude.{◌≡◌, ◌<◌, ◌+◌, ◌*◌, ℕ, Some, IfOk, IsErrOf, length, map};
 ghost use Rattle.gf_token.specs.Positions.{at_position};
-ghost use Rattle.gf_tree.specs.Branches.{tree_of};
+ghost use Rattle.gf_tree.specs.Branches.{game_of, tree_of};
 ghost use Rattle.gf_tree.specs.PrefixOrder.{flatten};
-ghost use Rattle.gf_form.specs.inner.values.CodeLeft.{branch_chances, branch_code};
-ghost use Rattle.gf_form.specs.inner.values.CodeLeft.{child_then_payoffs};
-ghost use Rattle.gf_form.specs.inner.values.CodeLeft.{code_behind, code_left, next_size, rest_code};
-ghost use Rattle.gf_form.specs.inner.values.CodeLeft.{strategies_of_walk};
-ghost use Rattle.gf_form.specs.inner.values.Program.{code};
-ghost use Rattle.gf_form.specs.Strategies.{choices_by, strategy_at};
+ghost use Rattle.gf_form.specs.Strategies.{strategy_at};
+ghost use Rattle.gf_form.specs.inner.values.PaidRows.{rows_of};
+ghost use Rattle.gf_form.specs.inner.values.Rows.{ArePaid, IsRow, at_place};
+ghost use Rattle.gf_form.specs.inner.values.ValueLeft.{IsOpen, Gives, Lacks, branch_chances};
+ghost use Rattle.gf_form.specs.inner.values.ValueLeft.{open_size, open_value, tree_value};
+ghost use Rattle.gf_form.specs.inner.values.ValueLeft.{drawn_value, with_own};
 
-use crate::values::op::Op;
+use crate::fault::EvalFault;
+use crate::rows::{pay, weigh};
+use crate::values::payoffs::Payoffs;
+use crate::values::positions::at;
+use crate::values::stack::Values;
 use gf_fraction::Fraction;
 use gf_tree::{Branch, Branches, Game};
-use std::alloc::{AllocError, Global};
+use std::alloc::Global;
 
-/// What is still to come at a node, once the value of a child is on the stack.
+/// A node on the path, whose value is not known yet.
 #[derive(Drop)]
 enum Open<'g, 'a> {
-    /// Chance moves: the sum of the children before it is below that value, and these branches are
-    /// left.
+    /// A player moves there: the node's payoffs are added to the value of the child that is chosen.
+    Choice(Branch<'g, 'a>),
+    /// Chance moves there: the children before come to this sum, and these are left.
     Chance {
         node: Branch<'g, 'a>,
         rest: Branches<'g, 'a>,
+        sum: Vec<Fraction>,
     },
-    /// The payoffs of this outcome are added to it.
-    Payoffs(u32),
 }
 
-/// A walk through a tree that gives its operations.
+/// What a walk does next.
 #[derive(Drop)]
+enum Next<'g, 'a> {
+    /// It goes into this child of a node that stays open.
+    Child {
+        node: Open<'g, 'a>,
+        child: Branch<'g, 'a>,
+    },
+    /// It leaves a subtree, which has this value.
+    Value(Vec<Fraction>),
+}
+
+/// A walk through the tree of a game, if these are the payoffs of its outcomes.
+#[derive(Clone, Copy)]
 pub(crate) struct Walk<'c, 'g, 'a> {
+    pub game: &'g Game<'a>,
+    pub payoffs: &'c Payoffs<'g>,
     /// The action at each set of each player.
-    choices: &'c [Vec<u32>],
-    /// The subtree that comes next, unless one is being left.
-    next: Option<Branch<'g, 'a>>,
-    /// The nodes on the path to it.
-    open: Vec<Open<'g, 'a>>,
+    pub choices: &'c [Vec<u32>],
 }
 
 /// What is given for a set of a player, by the position of the set among his.
-#[tactic(auto, using(crate::proofs::lemmas::values::Walks::choice_steps))]
+#[tactic(auto, using(crate::proofs::lemmas::values::Walks::set_there))]
 pub(crate) fn at_set<T: Copy>(all: &[Vec<T>], player: u32, position: u32) -> Option<T>
     ensures { result ≡ at_position (strategy_at (map (λ own. own.items) all.now) player) position }
 {
-    if player == 0 || position == 0 {
-        return None;
-    }
-    let own = all.get(player as usize - 1)?;
-    own.get(position as usize - 1).copied()
+    at(at(all, player as usize)?, position as usize).copied()
 }
 
 /// The probability of the action at this position, or one if a player moves.
@@ -61,142 +68,150 @@ pub(crate) fn at_set<T: Copy>(all: &[Vec<T>], player: u32, position: u32) -> Opt
 pub(crate) fn chance_of(node: &Branch<'_, '_>, position: usize) -> Fraction
     ensures { result ≡ branch_chances node.now position }
 {
-    if position == 0 {
-        return Fraction::one();
-    }
-    match node.actions().get(position - 1) {
+    match at(node.actions(), position) {
         Some(action) => action.probability.unwrap_or(Fraction::one()),
         None => Fraction::one(),
     }
 }
 
 impl<'c, 'g, 'a> Walk<'c, 'g, 'a> {
-    /// A walk through the whole tree of a game.
-    pub(crate) fn new(
-        alloc: Global,
-        game: &'g Game<'a>,
-        choices: &'c [Vec<u32>],
-    ) -> Walk<'c, 'g, 'a>
-        ensures { code_left result ≡ code game.entry.now
-            (choices_by game.entry.now (map (λ own. own.items) choices.entry.now))
-            game.entry.now.tree }
+    /// The value of a node, if this comes from below.
+    #[tactic(auto, using(crate::proofs::lemmas::values::PaidRows::own_is))]
+    fn close(
+        &self,
+        node: Branch<'g, 'a>,
+        mut below: Vec<Fraction>,
+    ) -> Result<Next<'g, 'a>, EvalFault>
+        requires paid { ArePaid self.now.game.now (rows_of self.now.payoffs.now) }
+        requires game { game_of node ≡ self.now.game.now }
+        requires row { IsRow (length self.now.game.now.players) below.items }
+        ensures gives { IfOk result (Gives self.now
+            (λ k. with_own self.now k node.entry (Some (at_place below.items k))) 2) }
+        ensures overflow { IsErrOf result EvalFault.Overflow → Lacks self.now
+            (λ k. with_own self.now k node.entry (Some (at_place below.items k))) }
     {
-        Walk {
-            choices,
-            next: Some(game.root()),
-            open: Vec::new(alloc),
+        match pay(self.payoffs.at(node.outcome_position()), &mut below) {
+            Ok(()) => Ok(Next::Value(below)),
+            Err(fault) => Err(fault),
         }
     }
 
-    /// Makes the remaining children of a node of chance come next, and then its payoffs.
-    #[tactic(auto, using(crate::proofs::lemmas::values::Walks::open_steps))]
-    fn go_on(&mut self, node: Branch<'g, 'a>, mut rest: Branches<'g, 'a>) -> Result<(), AllocError>
-        requires { self.old.next ≡ None }
-        ensures same { strategies_of_walk self.new ≡ strategies_of_walk self.old }
-        ensures left { OnOk result (rest_code (strategies_of_walk self.old) node.entry rest.entry
-            ++ code_behind self.old ≡ code_left self.new) }
-
-        // It fails only if there was no room.
-        ensures full { OnErr result (vec_capacity self.old.«open» ≤ vec_len self.old.«open») }
+    /// Goes on at a node of chance: into the next child, or with its value after the last one.
+    fn draw(
+        &self,
+        node: Branch<'g, 'a>,
+        mut rest: Branches<'g, 'a>,
+        sum: Vec<Fraction>,
+    ) -> Result<Next<'g, 'a>, EvalFault>
+        requires paid { ArePaid self.now.game.now (rows_of self.now.payoffs.now) }
+        requires is_open { IsOpen self.now (Open.Chance node rest sum) }
+        ensures gives { IfOk result (Gives self.now (λ k. drawn_value self.now k node.entry rest.entry
+            (Some (at_place sum.items k)))
+            (open_size (Open.Chance node.entry rest.entry sum) + 1)) }
+        ensures overflow { IsErrOf result EvalFault.Overflow → Lacks self.now
+            (λ k. drawn_value self.now k node.entry rest.entry
+            (Some (at_place sum.items k))) }
     {
         match rest.next() {
-            Some(child) => {
-                self.open.push(Open::Chance { node, rest })?;
-                self.next = Some(child);
-            }
-            None => self.open.push(Open::Payoffs(node.outcome_position()))?,
+            Some(child) => Ok(Next::Child {
+                node: Open::Chance { node, rest, sum },
+                child,
+            }),
+            None => self.close(node, sum),
         }
-        Ok(())
     }
 
-    /// Makes the child that is chosen at a node come next, and then the payoffs of the node.
-    #[tactic(auto, using(crate::proofs::lemmas::values::Walks::walk_steps))]
-    fn follow(
-        &mut self,
-        node: Branch<'g, 'a>,
-        player: u32,
-        position: u32,
-    ) -> Result<Option<Op>, AllocError>
-        requires { self.old.next ≡ None }
-        ensures same { strategies_of_walk self.new ≡ strategies_of_walk self.old }
-        ensures left { IfOk result (λ op.
-            child_then_payoffs (strategies_of_walk self.old) node.entry
-            (unwrap_or (at_position (strategy_at (strategies_of_walk self.old) player) position) 0)
-            ++ code_behind self.old ≡ option_to_list op ++ code_left self.new) }
-        ensures smaller { IfOk result (λ op. IfNone op
-            (next_size self.new.next < length (flatten (tree_of node.entry)))) }
-
-        // It fails only if there was no room.
-        ensures full { OnErr result (vec_capacity self.old.«open» ≤ vec_len self.old.«open») }
+    /// Goes into a branch.
+    #[tactic(auto, using(crate::proofs::lemmas::values::Walks::enter_steps))]
+    fn enter(&self, branch: Branch<'g, 'a>, values: &mut Values) -> Result<Next<'g, 'a>, EvalFault>
+        requires some_player { 0 < length self.now.game.now.players }
+        requires paid { ArePaid self.now.game.now (rows_of self.now.payoffs.now) }
+        requires game { game_of branch ≡ self.now.game.now }
+        ensures gives { IfOk result (Gives self.now
+            (λ k. tree_value self.now k (tree_of branch.entry))
+            (2 * length (flatten (tree_of branch.entry)))) }
+        ensures overflow { IsErrOf result EvalFault.Overflow → Lacks self.now
+            (λ k. tree_value self.now k (tree_of branch.entry)) }
     {
+        let Some((player, position)) = branch.mover() else {
+            let payoffs = self.payoffs.at(branch.outcome_position());
+            return Ok(Next::Value(values.row(payoffs)?));
+        };
+        if player == 0 {
+            return self.draw(branch, branch.child_branches(), values.row(&[])?);
+        }
         let choice = at_set(self.choices, player, position).unwrap_or(0);
-        self.open.push(Open::Payoffs(node.outcome_position()))?;
-        match node.child(choice as usize) {
-            Some(child) => {
-                self.next = Some(child);
-                Ok(None)
-            }
-            None => Ok(Some(Op::Nothing)),
+        match branch.child(choice as usize) {
+            Some(child) => Ok(Next::Child {
+                node: Open::Choice(branch),
+                child,
+            }),
+            None => Err(EvalFault::Overflow),
         }
     }
 
-    /// Goes into a branch. Returns its first operation, or `None` if that belongs to a child, which
-    /// comes next.
-    fn enter(&mut self, branch: Branch<'g, 'a>) -> Result<Option<Op>, AllocError>
-        requires { self.old.next ≡ None }
-        ensures same { strategies_of_walk self.new ≡ strategies_of_walk self.old }
-        ensures left { IfOk result (λ op. branch_code (strategies_of_walk self.old) branch.entry
-            ++ code_behind self.old ≡ option_to_list op ++ code_left self.new) }
-        ensures smaller { IfOk result (λ op. IfNone op
-            (next_size self.new.next < length (flatten (tree_of branch.entry)))) }
-
-        // It fails only if there was no room.
-        ensures full { OnErr result (vec_capacity self.old.«open» ≤ vec_len self.old.«open») }
+    /// Leaves a child of a node with this value.
+    #[tactic(auto, using(crate::proofs::lemmas::values::PaidRows::below_players))]
+    fn leave(
+        &self,
+        node: Open<'g, 'a>,
+        value: Vec<Fraction>,
+        values: &mut Values,
+    ) -> Result<Next<'g, 'a>, EvalFault>
+        requires paid { ArePaid self.now.game.now (rows_of self.now.payoffs.now) }
+        requires is_open { IsOpen self.now node }
+        requires row { IsRow (length self.now.game.now.players) value.items }
+        ensures gives { IfOk result (Gives self.now
+            (λ k. open_value self.now k node.entry (Some (at_place value.items k)))
+            (open_size node.entry + 1)) }
+        ensures overflow { IsErrOf result EvalFault.Overflow → Lacks self.now
+            (λ k. open_value self.now k node.entry (Some (at_place value.items k))) }
     {
-        match branch.mover() {
-            None => Ok(Some(Op::Push(branch.outcome_position()))),
-            Some((player, position)) => {
-                if player == 0 {
-                    self.go_on(branch, branch.child_branches())?;
-                    Ok(Some(Op::Begin))
-                } else {
-                    self.follow(branch, player, position)
-                }
-            }
-        }
-    }
-
-    /// Leaves a subtree, whose value is on the stack.
-    #[tactic(auto, using(crate::proofs::lemmas::values::Walks::walk_steps))]
-    fn leave(&mut self) -> Result<Option<Op>, AllocError>
-        requires { self.old.next ≡ None }
-        ensures same { strategies_of_walk self.new ≡ strategies_of_walk self.old }
-        ensures left { IfOk result (λ op. MatchOption op (code_left self.old ≡ [])
-            (λ op. code_left self.old ≡ op ∷ code_left self.new)) }
-    {
-        match self.open.pop() {
-            None => Ok(None),
-            Some(Open::Payoffs(outcome)) => Ok(Some(Op::Pay(outcome))),
-            Some(Open::Chance { node, rest }) => {
+        match node {
+            Open::Choice(node) => self.close(node, value),
+            Open::Chance {
+                node,
+                rest,
+                mut sum,
+            } => {
                 let chance = chance_of(&node, rest.given());
-                self.go_on(node, rest)?;
-                Ok(Some(Op::Weigh(chance)))
+                if let Err(fault) = weigh(&mut sum, chance, &value) {
+                    return Err(fault);
+                }
+                values.give_back(value)?;
+                self.draw(node, rest, sum)
             }
         }
     }
 
-    /// The next operation, or `None` after the last one.
-    pub(crate) fn next(&mut self) -> Result<Option<Op>, AllocError>
-        ensures same { strategies_of_walk self.new ≡ strategies_of_walk self.old }
-        ensures left { IfOk result (λ op. MatchOption op (code_left self.old ≡ [])
-            (λ op. code_left self.old ≡ op ∷ code_left self.new)) }
+    /// The value of the whole tree for each player. The row is empty if each value is zero.
+    #[tactic(auto, using(std::proofs::lemmas::List::Sums::sum_by_push))]
+    pub(crate) fn value(
+        &self,
+        alloc: Global,
+        values: &mut Values,
+    ) -> Result<Vec<Fraction>, EvalFault>
+        requires some_player { 0 < length self.now.game.now.players }
+        requires paid { ArePaid self.now.game.now (rows_of self.now.payoffs.now) }
+        ensures row { IfOk result (λ row. IsRow (length self.now.game.now.players) row.items) }
+        ensures values { IfOk result (λ row. (k : ℕ)
+            → tree_value self.now k self.now.game.now.tree ≡ Some (at_place row.items k)) }
+        ensures overflow { IsErrOf result EvalFault.Overflow
+            → Lacks self.now (λ k. tree_value self.now k self.now.game.now.tree) }
     {
-        while let Some(branch) = self.next.take() {
-            let op = self.enter(branch)?;
-            if op.is_some() {
-                return Ok(op);
-            }
+        let mut open = Vec::new(alloc);
+        let mut next = self.enter(self.game.root(), values)?;
+        loop {
+            next = match next {
+                Next::Child { node, child } => {
+                    open.push(node)?;
+                    self.enter(child, values)?
+                }
+                Next::Value(value) => match open.pop() {
+                    Some(node) => self.leave(node, value, values)?,
+                    None => return Ok(value),
+                },
+            };
         }
-        self.leave()
     }
 }

@@ -76,16 +76,9 @@ module _ (g : Game) (r : Renumbering) (game : IsGame g) (is : IsRenumbering g r)
       → choice_at (player_keys h player) strategy (renumbered_set r key)
       ≡ choice_at (player_keys g player) strategy key
   strategy_carried player strategy key used =
-      grind (
-        arith,
-        choice_at,
-        keys_carried,
-        choice_carried,
-        same_tests,
-        same_set_equality,
-        sets_apart,
-        key_used,
-      )
+      rw keys_carried (choice_carried (renumbered_set r) (player_keys g player) strategy key
+      (λ k i. same_tests same_set same_set same_set_equality same_set_equality (renumbered_set r) k
+      key (sets_apart g r is k key (key_used player k i) used)))
 
   choices_carried : (all : List (List ℕ)) (key : SetKey) → Has (used_sets g.tree) key
       → choices_by h all (renumbered_set r key) ≡ choices_by g all key
@@ -210,8 +203,7 @@ module _ (g : Game) (r : Renumbering) (game : IsGame g) (is : IsRenumbering g r)
         → option_map_or (λ k. not (k.player == owner) || d k == taken)
         (option_map (renumbered_set r) o) true
         ≡ option_map_or (λ k. not (k.player == owner) || c k == taken) o true
-    own_carried owner taken None all = refl
-    own_carried owner taken (Some k) all = grind (arith, strategy_carried)
+    own_carried owner taken o all = grind (arith, strategy_carried)
 
     comes_carried : (key : SetKey) → Has (used_sets g.tree) key → (steps : List Step)
         → OnSteps HasUsed steps

@@ -17,7 +17,7 @@ use Rattle.gf_form.proofs.lemmas.values.Denominators.{probability_fraction}
 use Rattle.gf_form.proofs.lemmas.rows.DemandDigits.{met, no_demands, none_met, none_pack}
 use Rattle.gf_form.proofs.lemmas.rows.DemandDigits.{none_within}
 use Rattle.gf_form.proofs.lemmas.rows.IdlePaths.{idle_weightless, unpaid_move, weightless}
-use Rattle.gf_form.proofs.lemmas.values.Stacks.{paid_is}
+use Rattle.gf_form.proofs.lemmas.values.PaidRows.{paid_is}
 use Rattle.gf_form.proofs.lemmas.rows.ShareSums.{bounds_append}
 use Rattle.gf_form.proofs.lemmas.rows.UnmetShares.{HasDigits, below_by, chosen_digits, meets_digits}
 use Rattle.gf_form.proofs.lemmas.rows.UnmetShares.{IsUnmet, all_unmet, met_with, set_there, unmet}

@@ -107,13 +107,14 @@ node_agrees own f (Some key) P Q c d p q v =
 
 -- ---- the tree
 
-module _ (g : Game) (spellable : IsSpellable g) (choices : SetKey → ℕ) (player : ℕ) where
-  -- nothing is added to a sum that is not defined
-  none_stays : (ts : Trees Node) (chances : ℕ → Ratio) (k : ℕ)
-      → chance_value g choices player chances k None ts ≡ None
-  none_stays none chances k = refl
-  none_stays (more t ts) chances k = none_stays ts chances (k + 1)
+-- nothing is added to a sum that is not defined
+pub none_stays : (g : Game) (choices : SetKey → ℕ) (player : ℕ) (ts : Trees Node)
+    (chances : ℕ → Ratio) (k : ℕ) → chance_value g choices player chances k None ts ≡ None
+none_stays g choices player none chances k = refl
+none_stays g choices player (more t ts) chances k =
+    none_stays g choices player ts chances (k + 1)
 
+module _ (g : Game) (spellable : IsSpellable g) (choices : SetKey → ℕ) (player : ℕ) where
   mutual
     pub value_agrees : (t : Tree Node) (v : Ratio)
         → Agree (IsValue g choices player t) (value g choices player t) v
@@ -137,7 +138,7 @@ module _ (g : Game) (spellable : IsSpellable g) (choices : SetKey → ℕ) (play
         (λ x. IsValue g choices player t x)
         (λ next v. IsChanceValue g choices player n (k + 1) next ts v) (value g choices player t)
         (λ next. chance_value g choices player (chances_at g n) (k + 1) next ts)
-        (λ x. value_agrees t x) (none_stays ts (chances_at g n) (k + 1)) v
+        (λ x. value_agrees t x) (none_stays g choices player ts (chances_at g n) (k + 1)) v
         (λ next. chance_agrees ts n (k + 1) next v)
 
     child_agrees : (ts : Trees Node) (position : ℕ) (v : Ratio)
@@ -173,11 +174,7 @@ module _ (x : Ratio) (f : IsFraction x) where
       subst (IsLcm x.den 1) e (IsLcm-from_gcd x.den 1 1 (omega arith) (IsGcd-one_right x.den))
 
   lcm_left : IsLcm 1 x.den x.den
-  lcm_left = record {
-    left = lcm_right.right;
-    right = lcm_right.left;
-    least = λ k a b. lcm_right.least k b a;
-  }
+  lcm_left = grind (arith, lcm_right)
 
   pub plus_zero : sum_of x zero_ratio ≡ Some x
   plus_zero =

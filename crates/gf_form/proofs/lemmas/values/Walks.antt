@@ -1,60 +1,107 @@
--- The operations of a tree, given by a walk through its branches.
-use Rattle.gf_form.proofs.Common.{◌≡◌, List, ◌++◌, Some, None, Trees, IsGame, set_at, Begin, has_at}
-use Rattle.gf_form.proofs.Common.{ℕ, length, Option, get_or, Global, eq-eqb, branch, Action, SetKey}
-use Rattle.gf_form.proofs.Common.{zero, at_index, one_ratio, list_of, root_node, choice_at, Nothing}
-use Rattle.gf_form.proofs.Common.{suc, ◌+◌, ◌-◌, ◌<◌, ◌∷◌, refl, Tree, none, more, Game, Node, code}
-use Rattle.gf_form.proofs.Common.{[], option_map, length-map, AreDistinct, chance_code, strategy_at}
-use Rattle.gf_form.proofs.Common.{map, ◌≤◌, Vec, Op, Pay}
-use Rattle.gf_form.proofs.Common.{slice_get, unwrap_or, flatten, child_code, choices_by, chances_at}
-use Rattle.gf_form.proofs.Common.{MatchOption, option_and_then, slice_get-get_or, same_set_equality}
-use Rattle.gf_form.proofs.Common.{append_assoc, length-append, slice_get-map, slice_get_past, Ratio}
-use Rattle.gf_form.proofs.Common.{arith, false_from_ne_true, first_uses_distinct, sets_by_first_use}
-use Rattle.gf_form.proofs.Common.{at_position, player_keys, flatten_all, child_trees, paid_at_node}
-use Rattle.gf_tree.specs.Actions.{action_of, actions_of}
-use Rattle.gf_tree.specs.declared.game.action.Action.{Action as Held}
-use Rattle.gf_form.specs.inner.values.CodeLeft.{list_code, open_code, opened, option_code}
+-- The value of a tree by its branches, and what is left of it while a walk goes through them.
+use Rattle.gf_form.proofs.Common.{Trees, same_set_equality, false_from_ne_true, first_uses_distinct}
+use Rattle.gf_form.proofs.Common.{option_and_then, sets_by_first_use, length-append, AllByRecursion}
+use Rattle.gf_form.proofs.Common.{branches_given, slice_get-map, chance_value, branches_left, Ratio}
+use Rattle.gf_form.proofs.Common.{AreDistinct, strategy_at, MatchOption, at_position, player_keys}
+use Rattle.gf_form.proofs.Common.{[], flatten_all, option_map, choices_by, child_trees, child_value}
+use Rattle.gf_form.proofs.Common.{one_ratio, root_node, choice_at, chances_at, zero_ratio, all_both}
+use Rattle.gf_form.proofs.Common.{list_of, ◌≡◌, slice_get, unwrap_or, flatten, payoff_at, all_parts}
+use Rattle.gf_form.proofs.Common.{IsGame, set_at, has_at, length, Option, plus_of, game_of, tree_of}
+use Rattle.gf_form.proofs.Common.{Global, eq-eqb, branch, Action, SetKey, arith, List, ◌++◌, value}
+use Rattle.gf_form.proofs.Common.{suc, Some, None, zero, refl, Tree, none, more, Game, ℕ, ◌+◌, Node}
+use Rattle.gf_form.proofs.Common.{ap, ◌-◌, ◌<◌, ◌∷◌, map, Vec, ◌∙◌, sym}
+use Rattle.gf_tree.specs.declared.game.branch.Branch.{Branch}
+use Rattle.gf_form.proofs.lemmas.values.PaidRows.{at_mapped, own_is}
 use Rattle.gf_form.specs.declared.values.walk.Open.{Open}
+use Rattle.gf_form.specs.declared.values.walk.Open.TheVariants.{Chance, Choice}
+use Rattle.gf_form.specs.declared.values.walk.Walk.{Walk}
+use Rattle.gf_form.specs.inner.values.ValueLeft.{branch_chances, choices_of, trees_of, whole_value}
+use Rattle.gf_form.specs.inner.values.ValueLeft.{open_value, with_own, next_value, tree_value}
+use Rattle.gf_form.specs.inner.values.ValueLeft.{IsOpen, Lacks, Gives, IsNext}
+use Rattle.gf_form.specs.declared.values.walk.Next.{Next}
+use Rattle.gf_form.proofs.lemmas.values.ValuesComputed.{none_stays}
 
--- ---- the operations of a tree by the list of its children
+-- ---- the value of a tree by the list of its children
 
-module _ (g : Game) (choices : SetKey → ℕ) where
-  chance_list : (ts : Trees Node) (chances : ℕ → Ratio) (k : ℕ)
-      → chance_code g choices chances k ts ≡ list_code g choices chances k (list_of ts)
-  chance_list none chances k = refl
-  chance_list (more t ts) chances k = cc (chance_list ts chances (k + 1))
+pub trees_of_list : {N : Type 0} (ts : Trees N) → trees_of (list_of ts) ≡ ts
+trees_of_list none = refl
+trees_of_list (more t ts) = ap (more t) (trees_of_list ts)
 
-  child_list : (ts : Trees Node) (position : ℕ)
-      → child_code g choices position ts ≡ option_code g choices (at_position (list_of ts) position)
-  child_list (more t ts) (suc (suc position)) = child_list ts (suc position)
-  child_list ts position = grind arith
+module _ (g : Game) (choices : SetKey → ℕ) (player : ℕ) where
+  child_there : (ts : Trees Node) (position : ℕ) → child_value g choices player position ts
+      ≡ option_and_then (value g choices player) (at_position (list_of ts) position)
+  child_there (more t ts) (suc (suc position)) = child_there ts (suc position)
+  child_there ts position = grind arith
 
-  pub code_of_chance : (t : Tree Node) (key : SetKey) → (root_node t).set ≡ Some key
+  pub value_of_leaf : (t : Tree Node) → (root_node t).set ≡ None
+      → value g choices player t ≡ Some (payoff_at g player (root_node t))
+  value_of_leaf (branch n ts) is = grind (arith, is)
+
+  pub value_by_chance : (t : Tree Node) (key : SetKey) → (root_node t).set ≡ Some key
       → key.player ≡ 0
-      → code g choices t ≡ Begin ∷ (list_code g choices (chances_at g (root_node t)) 1
-      (child_trees t) ++ Pay (paid_at_node g (root_node t)) ∷ [])
-  code_of_chance (branch n ts) key is chance = grind (arith, is, eq-eqb, chance_list)
+      → value g choices player t ≡ plus_of (Some (payoff_at g player (root_node t)))
+      (chance_value g choices player (chances_at g (root_node t)) 1 (Some zero_ratio)
+      (trees_of (child_trees t)))
+  value_by_chance (branch n ts) key is chance = grind (arith, is, eq-eqb, trees_of_list)
 
-  pub code_of_player : (t : Tree Node) (key : SetKey) → (root_node t).set ≡ Some key
+  pub value_by_choice : (t : Tree Node) (key : SetKey) → (root_node t).set ≡ Some key
       → ¬ (key.player ≡ 0)
-      → code g choices t ≡ option_code g choices (at_position (child_trees t) (choices key))
-      ++ Pay (paid_at_node g (root_node t)) ∷ []
-  code_of_player (branch n ts) key is personal =
-      grind (arith, is, false_from_ne_true, child_list)
+      → value g choices player t ≡ plus_of (Some (payoff_at g player (root_node t)))
+      (option_and_then (value g choices player) (at_position (child_trees t) (choices key)))
+  value_by_choice (branch n ts) key is personal =
+      grind (arith, is, false_from_ne_true, child_there)
 
 -- ---- what is open
 
-pub opened_last : (all : List (List ℕ)) (os : List Open) (o : Open) (ops : List Op)
-    → opened all (os ++ o ∷ []) ops ≡ open_code all o ++ opened all os ops
-opened_last all [] o ops = refl
-opened_last all (p ∷ os) o ops = opened_last all os o (open_code all p ++ ops)
+module _ (w : Walk) where
+  whole_last : (k : ℕ) (os : List Open) (o : Open) (below : Option Ratio)
+      → whole_value w k (os ++ o ∷ []) below ≡ whole_value w k os (open_value w k o below)
+  whole_last k [] o below = refl
+  whole_last k (p ∷ os) o below = ap (open_value w k p) (whole_last k os o below)
 
--- ---- the children that are left
+  -- a value that is not defined stays so
+  open_none : (k : ℕ) (o : Open) → open_value w k o None ≡ None
+  open_none k (Choice node) = refl
+  open_none k (Chance node rest sum) =
+      ap (with_own w k node) (none_stays w.game.now (choices_of w) (suc k)
+      (trees_of (branches_left rest)) (branch_chances node) (branches_given rest + 1))
 
-pub first_of : (all : List (List ℕ)) (g g' : Game) (chances : ℕ → Ratio) (k : ℕ)
-    (ts ts' : List (Tree Node)) → g' ≡ g → ts' ≡ ts → k ≡ 0
-    → list_code g (choices_by g all) chances 1 ts
-    ≡ list_code g' (choices_by g' all) chances (k + 1) ts'
-first_of all g g' chances k ts ts' e f h = rw (e, f, h) refl
+  whole_none : (k : ℕ) (os : List Open) → whole_value w k os None ≡ None
+  whole_none k [] = refl
+  whole_none k (o ∷ os) = grind (arith, whole_none k os, open_none)
+
+  module _ (total : ℕ → Option Ratio) where
+    -- if the last open node is closed with these values, the whole tree has those
+    abbrev pub Leads : List Open → (ℕ → Option Ratio) → Type 0
+    Leads os values = AllByRecursion (IsOpen w) os
+        × ((k : ℕ) → total k ≡ whole_value w k os (values k))
+
+    pub pushed : (os items : List Open) (o : Open) (values : ℕ → Option Ratio)
+        → items ≡ os ++ o ∷ [] → IsOpen w o → Leads os (λ k. open_value w k o (values k))
+        → Leads items values
+    pushed os items o values are is leads =
+        rw are (
+          all_both (IsOpen w) os (o ∷ []) leads.0 (is, tt),
+          λ k. leads.1 k ∙ sym (whole_last k os o (values k)),
+        )
+
+    pub popped : (os items : List Open) (o : Open) (values : ℕ → Option Ratio)
+        → items ≡ os ++ o ∷ [] → Leads items values
+        → IsOpen w o × Leads os (λ k. open_value w k o (values k))
+    popped os items o values are leads =
+        let parts = all_parts (IsOpen w) os (o ∷ []) (rw are at leads.0) in
+        (parts.1.0, (parts.0, λ k. rw are at leads.1 k ∙ whole_last k os o (values k)))
+
+    pub goes_on : (os : List Open) (values : ℕ → Option Ratio) (size : ℕ) (next : Next)
+        → Leads os values → Gives w values size next
+        → IsNext w next × Leads os (λ k. next_value w k next)
+    goes_on os values size next leads gives =
+        (gives.0, (leads.0, λ k. leads.1 k ∙ ap (whole_value w k os) (gives.1 k)))
+
+    pub stops : (os : List Open) (values : ℕ → Option Ratio) → Leads os values → Lacks w values
+        → Lacks w total
+    stops os values leads (k, less, nothing) =
+        (k, less, leads.1 k ∙ ap (whole_value w k os) nothing ∙ whole_none k os)
 
 -- ---- the action that is chosen
 
@@ -71,6 +118,22 @@ pub choice_is : (g : Game) (all : List (List ℕ)) (player position : ℕ) (key 
 choice_is g all player position key game his at =
     grind (arith, sets_by_first_use, first_uses_distinct, same_set_equality, choice_there)
 
+pub chosen : (w : Walk) (k : ℕ) (node : Branch) (player position : ℕ) (key : SetKey)
+    → game_of node ≡ w.game.now → IsGame (game_of node) → (root_node (tree_of node)).set ≡ Some key
+    → key.player ≡ player → at_position (player_keys (game_of node) player) position ≡ Some key
+    → ¬ (player ≡ 0)
+    → tree_value w k (tree_of node) ≡ with_own w k node (option_and_then (tree_value w k)
+    (at_position (child_trees (tree_of node)) (unwrap_or (at_position
+    (strategy_at (map (λ own. own.items) w.choices.now) player) position) 0)))
+chosen w k node player position key same game is his there personal =
+    let all = map (λ own. own.items) w.choices.now in
+    value_by_choice w.game.now (choices_of w) (suc k) (tree_of node) key is
+    (λ e. personal (sym his ∙ e))
+    ∙ ap (λ (action : ℕ). with_own w k node (option_and_then (tree_value w k)
+    (at_position (child_trees (tree_of node)) action)))
+    (ap (λ g. choices_by g all key) (sym same)
+    ∙ choice_is (game_of node) all player position key game his there)
+
 -- ---- the probability of an action
 
 pub chance_is : (g : Game) (n : Node) (actions : List Action) (k : ℕ)
@@ -79,52 +142,14 @@ pub chance_is : (g : Game) (n : Node) (actions : List Action) (k : ℕ)
     ≡ unwrap_or (option_and_then (λ a. a.probability) (at_position actions k)) one_ratio
 chance_is g n actions k h = grind arith
 
--- the action at a position, as it is held
-pub held_action : (held : List Held) (position : ℕ) (action : Held) → ¬ (position ≡ 0)
-    → position - 1 < length held → action ≡ get_or held (position - 1) action
-    → at_position (actions_of held) position ≡ Some (action_of action)
-held_action held position action some within is =
-    grind (arith, at_index, slice_get-map, slice_get-get_or, is)
+-- ---- positions
 
-pub no_action : (held : List Held) (position : ℕ) → ¬ (position ≡ 0)
-    → length held ≤ position - 1 → at_position (actions_of held) position ≡ None
-no_action held position some past = grind (arith, at_index, slice_get-map, slice_get_past)
-
--- ---- what is given for a player's set
-
-pub no_list : {A : Type 0} (all : List (Vec A Global)) (player position : ℕ) → ¬ (player ≡ 0)
-    → length all ≤ player - 1
-    → at_position (strategy_at (map (λ own. own.items) all) player) position ≡ None
-no_list all player position some past =
-    grind (arith, at_index, slice_get_past, append_assoc, length-map, length-append, eq-eqb)
-
-pub item_there : {A : Type 0} (all : List (Vec A Global)) (player position : ℕ) (own : Vec A Global)
-    (item : A) → ¬ (player ≡ 0) → ¬ (position ≡ 0) → player - 1 < length all
-    → own ≡ get_or all (player - 1) own → position - 1 < length own.items
-    → item ≡ get_or own.items (position - 1) item
-    → at_position (strategy_at (map (λ own. own.items) all) player) position ≡ Some item
-item_there all player position own item some at within is inside here =
-    grind (arith, is, at_index, slice_get-map, slice_get-get_or, here)
-
-pub nothing_there : {A : Type 0} (all : List (Vec A Global)) (player position : ℕ)
-    (own : Vec A Global) → ¬ (player ≡ 0) → ¬ (position ≡ 0) → player - 1 < length all
-    → own ≡ get_or all (player - 1) own → length own.items ≤ position - 1
-    → at_position (strategy_at (map (λ own. own.items) all) player) position ≡ None
-nothing_there all player position own some at within is past =
-    grind (arith, is, at_index, slice_get-map, slice_get-get_or, slice_get_past)
-
--- ---- the child that is followed
-
-pub followed : (all : List (List ℕ)) (g h : Game) (o : Option (Tree Node)) (t : Tree Node)
-    (own : ℕ) (behind : List Op) → o ≡ Some t → h ≡ g
-    → (option_code g (choices_by g all) o ++ Pay own ∷ []) ++ behind
-    ≡ code h (choices_by h all) t ++ (Pay own ∷ behind)
-followed all g h o t own behind e f = rw (e, f) (simp append_assoc)
-
-pub not_followed : (all : List (List ℕ))
-    (g : Game) (o : Option (Tree Node)) (own : ℕ) (behind : List Op) → o ≡ None
-    → (option_code g (choices_by g all) o ++ Pay own ∷ []) ++ behind ≡ Nothing ∷ (Pay own ∷ behind)
-not_followed all g o own behind e = rw e refl
+pub set_there : {A : Type 0} (all : List (Vec A Global)) (player position : ℕ)
+    → at_position (strategy_at (map (λ own. own.items) all) player) position
+    ≡ option_and_then (λ own. at_position own.items position) (at_position all player)
+set_there all zero zero = refl
+set_there all zero (suc k) = refl
+set_there all (suc player) position = grind (arith, slice_get-map)
 
 -- ---- sizes
 
@@ -140,10 +165,10 @@ child_smaller (branch n ts) child position h = grind (arith, listed_smaller)
 
 -- ---- what the steps of the code need
 
-pub ruleset choice_steps = (no_list, item_there, nothing_there)
+pub tree_size : (t : Tree Node)
+    → length (flatten t) ≡ suc (length (flatten_all (trees_of (child_trees t))))
+tree_size (branch n ts) = ap (λ us. suc (length (flatten_all us))) (sym (trees_of_list ts))
 
-pub ruleset open_steps = (append_assoc, opened_last)
+pub ruleset chance_steps = (chance_is, at_mapped)
 
-pub ruleset walk_steps = (opened_last, followed, not_followed, child_smaller)
-
-pub ruleset chance_steps = (chance_is, held_action, no_action)
+pub ruleset enter_steps = (own_is, value_of_leaf, value_by_chance, chosen, child_smaller, tree_size)

@@ -10,7 +10,7 @@ use Rattle.gf_tree.specs.Subtrees.{child_trees}
 use Rattle.gf_tree.specs.Tree.{Tree}
 use Rattle.gf_tree.specs.Tree.Tree.{branch}
 use Rattle.gf_tree.specs.declared.game.branch.Branch.{Branch}
-use Rattle.gf_form.specs.inner.values.CodeLeft.{branch_chances}
+use Rattle.gf_form.specs.inner.values.ValueLeft.{branch_chances}
 use Rattle.gf_form.specs.inner.rows.ReachedNodes.{below_set, by_choice, demanded, drawn}
 use Rattle.gf_form.specs.inner.rows.ReachedNodes.{over_set, reached}
 use Rattle.gf_form.specs.Strategies.{choices_by}

@@ -11,7 +11,7 @@ use Rattle.gf_tree.specs.Description.{SetKey, InformationSet}
 use Rattle.gf_tree.specs.Game.{Game, set_at}
 use Rattle.std.specs.Prelude.{Some, ◌≤◌}
 use Rattle.gf_form.specs.inner.rows.Demands.{meets, spans, steps_of}
-use Rattle.gf_form.specs.inner.values.Program.{paid}
+use Rattle.gf_form.specs.inner.values.Rows.{paid}
 use Rattle.gf_form.specs.declared.rows.paths.Path.{Path}
 use Rattle.gf_form.specs.declared.rows.paths.Reached.{Reached}
 use Rattle.gf_form.specs.declared.rows.share.Share.{Share}

@@ -1,12 +1,23 @@
 -- Rows of numbers, one for each player. In an empty row each is zero.
-use Rattle.std.specs.Prelude.{◌≡◌, ℕ, suc, ◌<◌, List, [], get_or, length, map, Option, Some}
+use Rattle.std.specs.Prelude.{◌≡◌, ℕ, suc, ◌<◌, List, [], get_or, length, option_and_then}
 use Rattle.std.specs.Prelude.{unwrap_or}
 use Rattle.std.specs.List.{AllByRecursion}
 use Rattle.gf_fraction.specs.Ratio.{Ratio, IsFraction}
 use Rattle.gf_fraction.specs.Rational.{zero_ratio}
 use Rattle.gf_token.specs.Positions.{at_position}
-use Rattle.gf_tree.specs.Game.{Game}
-use Rattle.gf_form.specs.inner.values.Program.{paid}
+use Rattle.gf_tree.specs.FirstUse.{outcome_numbers}
+use Rattle.gf_tree.specs.Game.{Game, Node, outcome_at}
+use Rattle.gf_tree.specs.OutcomePositions.{position_among}
+
+-- the position of a node's outcome
+abbrev pub paid_at_node : Game → Node → ℕ
+paid_at_node g n = position_among (outcome_numbers g) n.outcome
+
+-- what the outcome with this position pays a player
+abbrev pub paid : Game → ℕ → ℕ → Ratio
+paid g player position = unwrap_or (option_and_then (λ number.
+    option_and_then (λ outcome. at_position outcome.payoffs player) (outcome_at g number))
+    (at_position (outcome_numbers g) position)) zero_ratio
 
 -- the number at a place, from 0
 abbrev pub at_place : List Ratio → ℕ → Ratio
@@ -25,10 +36,3 @@ row_at rows position = unwrap_or (at_position rows position) []
 pub record ArePaid (g : Game) (rows : List (List Ratio)) : Type 0 where
   pub paid_is : (position k : ℕ) → at_place (row_at rows position) k ≡ paid g (suc k) position
   pub row : (position : ℕ) → IsRow (length g.players) (row_at rows position)
-
--- the values at a place of rows
-abbrev pub column : ℕ → List (List Ratio) → List (Option Ratio)
-column k rows = map (λ row. Some (at_place row k)) rows
-
-abbrev pub AreRows : ℕ → List (List Ratio) → Type 0
-AreRows players rows = AllByRecursion (IsRow players) rows

@@ -1,0 +1,20 @@
+use Rattle.gf_form.proofs.Common.{arith}
+use Rattle.gf_form.proofs.lemmas.values.PaidRows.{below_players}
+use Rattle.gf_form.proofs.lemmas.values.ValuesComputed.{none_stays}
+use Rattle.gf_form.proofs.values.walk.Walk.leave.Goals as goal
+
+pub draw-requires-clause-is_open : goal.draw-requires-clause-is_open
+draw-requires-clause-is_open c =
+    let is = rw c.in-Chance.is at c.requires.is_open in
+    (is.0, is.1, c.in_default.ensures.row _ is.2 (rw c.deref.ensures.value c.requires.row))
+
+pub returns-in-Err-clause-overflow : goal.returns-in-Err-clause-overflow
+returns-in-Err-clause-overflow c h =
+    let lacks = c.in-Err.ensures.overflow cc in
+    (lacks.0, grind (arith, below_players), rw c.in-Chance.is (grind (arith, none_stays)))
+
+pub returns-in_ok-give_back-in-Chance-clause-overflow :
+    goal.returns-in_ok-give_back-in-Chance-clause-overflow
+returns-in_ok-give_back-in-Chance-clause-overflow c h =
+    let lacks = c.draw.ensures.overflow h in
+    (lacks.0, lacks.1, rw c.in-Chance.is (grind (arith, lacks.2)))
