@@ -1,14 +1,14 @@
 -- If the bottom-up value is defined, it is the payoff by plays. What is paid before a tree counts
 -- in each of its plays, so that a node's own payoff is paid before its children.
 use Rattle.gf_form.proofs.Common.{◌≡◌, AllByRecursion, InformationSet, filter-append, IsChanceValue}
-use Rattle.gf_form.proofs.Common.{ℕ, eqb-true, AddToOne, from_node, is_chosen, action_at, payoff_at}
+use Rattle.gf_form.proofs.Common.{ℕ, eqb-true, AddToOne, from_node, is_chosen, payoff_at}
 use Rattle.gf_form.proofs.Common.{zero, Option, length, IsEqual, IsAbove, flatten, follows, IsValue}
 use Rattle.gf_form.proofs.Common.{suc, ◌+◌, ◌<◌, [], ◌∷◌, map, Tree, none, more, Node, Game, Play}
-use Rattle.gf_form.proofs.Common.{Bool, true, List, ◌++◌, Some, None, refl, ◌==◌, drop, plus, back}
+use Rattle.gf_form.proofs.Common.{Bool, true, List, ◌++◌, Some, None, refl, ◌==◌, plus, back}
 use Rattle.gf_form.proofs.Common.{false, length-map, zero_ratio, equal_refl, plus_assoc, times_comm}
 use Rattle.gf_form.proofs.Common.{MatchOption, option_map, MultipliesTo, numbers_from, IsChildValue}
 use Rattle.gf_form.proofs.Common.{MatchBool, unwrap_or, slice_get, one_ratio, all_parts, plays_from}
-use Rattle.gf_form.proofs.Common.{ap}
+use Rattle.gf_form.proofs.Common.{ap, slice_get-map, unwrap_or-slice_get}
 use Rattle.gf_form.proofs.Common.{subst, times_plus, times_zero, plus_above, plus_right, append-nil}
 use Rattle.gf_form.proofs.Common.{arith, Ratio, times, total, Trees, count, set_at, plays, payoff}
 use Rattle.gf_form.proofs.Common.{filter, get_or, AddsTo, ◌then◌, branch, SetKey, Action, IsGame}
@@ -100,10 +100,6 @@ module _ (choices : SetKey → ℕ) where
         → followed n k (more t ts) ≡ followed n (k + 1) ts
     first_other t ts other = grind (arith, filter-append, other_plays)
 
-  each_chosen : (n : Node) (key : SetKey) → n.set ≡ Some key → (key.player == 0) ≡ true
-      → (k : ℕ) → is_chosen choices (record { node = n; taken = k }) ≡ true
-  each_chosen n key at chance k = grind (arith, at, chance)
-
   -- a player moves
   module _ (n : Node) (key : SetKey) (at : n.set ≡ Some key)
       (personal : (key.player == 0) ≡ false) where
@@ -139,10 +135,9 @@ each_probability : (actions : List Action) (ps : List Ratio) (i : ℕ)
     → map (λ a. a.probability) actions ≡ map Some ps
     → unwrap_or (option_and_then (λ a. a.probability) (slice_get actions i)) one_ratio
     ≡ get_or ps i one_ratio
-each_probability (a ∷ actions) (p ∷ ps) (suc i) e = each_probability actions ps i (ap (drop 1) e)
-each_probability (a ∷ actions) (p ∷ ps) zero e = ap (λ o. unwrap_or (get_or o 0 None) one_ratio) e
-each_probability [] [] i e = refl
-each_probability actions ps i e = grind arith
+each_probability actions ps i e =
+    let there = ap (λ (os : List (Option Ratio)). slice_get os i) e in
+    grind (arith, slice_get-map, unwrap_or-slice_get)
 
 -- a node that has children has a set
 pub has_set : (g : Game) (o : Option SetKey) (n : ℕ) → 0 < n → MatchOption o (n ≡ 0)
@@ -172,13 +167,13 @@ module _ (g : Game) (game : IsGame g) (spellable : IsSpellable g) where
         length-map set.0.actions (λ a. a.probability),
         set.2,
       ) in
-      let taken : (i : ℕ) → f (1 + i) ≡ get_or ps i one_ratio =
-      λ i.
-      let at_set : action_at g (record { node = n; taken = 1 + i }) ≡ slice_get set.0.actions i =
-      cc (at, set.1, next_position set.0.actions i) in
-      cc (at_set, each_probability set.0.actions ps i lottery.1) in
       let list : map f (numbers_from 1 (length ps)) ≡ ps =
-      in_turn f 1 ps one_ratio (λ i _. taken i) in
+      in_turn f 1 ps one_ratio (λ i _. cc (
+        at,
+        set.1,
+        next_position set.0.actions i,
+        each_probability set.0.actions ps i lottery.1,
+      )) in
       let above = subst (AllByRecursion IsAbove) list (all_mapped IsAbove f
       (numbers_from 1 (length ps))
       (λ k. probability_above g spellable (record { node = n; taken = k }))) in
@@ -417,7 +412,7 @@ module _ (g : Game) (game : IsGame g) (spellable : IsSpellable g) (choices : Set
         let set = has_set g n.set (suc (count ts)) (omega arith) children.0 in
         move_pays n (more t ts) value set.0 set.1 (rw set.1 at children.0)
         (λ below chance is. chance_adds (more t ts) n 1 zero_ratio below
-        (each_chosen choices n set.0 set.1 chance) (omega arith) children.1 is)
+        (λ k. grind (arith, set.1, chance)) (omega arith) children.1 is)
         (λ below personal is. child_pays (more t ts) n set.0 1 (choices set.0) below set.1 personal
         (omega arith) children.1 is) (subst (ValueAt n (more t ts) value) set.1 h)
 

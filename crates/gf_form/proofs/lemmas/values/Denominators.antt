@@ -5,7 +5,7 @@ use Rattle.gf_form.proofs.Common.{⊤, ◌==◌, AllByRecursion, IsFraction, zer
 use Rattle.gf_form.proofs.Common.{whole_fraction, IsAbove, total_above, at_position}
 use Rattle.gf_form.proofs.Common.{SetKey, same_set, Node, Game, set_at, outcome_at, IsSpellable}
 use Rattle.gf_form.proofs.Common.{Step, Play, action_at, probability, payoff_at, play_probability}
-use Rattle.gf_form.proofs.Common.{play_payoff, ℤ, pos, List, ◌∷◌, length, map, ap, drop, subst}
+use Rattle.gf_form.proofs.Common.{play_payoff, pos, List, ◌∷◌, length, map, ap, drop, subst}
 use Rattle.gf_form.proofs.Common.{unsigned_abs, ints, Ratio, AddToOne, IsSet, IsGame, chances_at}
 use Rattle.gf_fraction.proofs.Rationals.{ratio_product_above}
 use Rattle.gf_tree.specs.Spellable.{IsSpellableAction, IsSpellableSet, IsSpellableOutcome}
@@ -90,19 +90,17 @@ lottery_signs (a ∷ actions) (p ∷ ps) sum e adds =
     grind (arith, lottery_signs actions ps adds.1.0 (ap (drop 1) e) adds.1.2, ints)
 lottery_signs actions ps sum e adds = grind arith
 
-size_is : (z : ℤ) → pos 0 ≤ℤ z → z ≡ pos (unsigned_abs z)
-size_is z h = omega (arith, ints, h)
-
 pub chance_size : (g : Game) → IsGame g → (n : Node) (key : SetKey) (k : ℕ) → n.set ≡ Some key
     → key.player ≡ 0 → (chances_at g n k).num ≡ pos (unsigned_abs (chances_at g n k).num)
 chance_size g game n key k at chance =
-    size_is (chances_at g n k).num
-    (each_or IsNotNegative (option_and_then (λ a. a.probability) taken) one_ratio
+    let not_negative =
+    each_or IsNotNegative (option_and_then (λ a. a.probability) taken) one_ratio
     (omega (arith, ints))
     (each_then HasSign IsNotNegative (λ a. a.probability) taken (λ a h. h)
     (each_action g HasSign (record { node = n; taken = k })
     (λ other is. let same : key ≡ other = cc in
-    sets other (subst (λ s. s.player ≡ 0) same chance)))))
+    sets other (subst (λ s. s.player ≡ 0) same chance)))) in
+    omega (arith, ints, not_negative)
   where
     taken : Option Action
     taken = action_at g (record { node = n; taken = k })

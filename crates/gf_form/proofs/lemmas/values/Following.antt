@@ -125,9 +125,7 @@ module _ (choices : SetKey → ℕ) where
     mutual
       pub same_or_part : (t : Tree Node) → AllByRecursion (HasChildren g) (flatten t) → (p q : Play)
           → Has (plays t) p → Has (plays t) q → Follows p → Follows q → SameOrPart p q
-      same_or_part (branch n none) children p q (inl e) (inl f) hp hq = inl (sym e ∙ f)
-      same_or_part (branch n none) children p q (inl e) (inr f) hp hq = absurd f
-      same_or_part (branch n none) children p q (inr e) f hp hq = absurd e
+      same_or_part (branch n none) _ p q i j _ _ = grind arith
       same_or_part (branch n (more t ts)) children p q i j hp hq =
           let set = has_set g n.set (suc (count ts)) (omega arith) children.0 in
           same_or_part_of (more t ts) n 1 set.0 set.1 children.1 p q (play_of (more t ts) n 1 p i)

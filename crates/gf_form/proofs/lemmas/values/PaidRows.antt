@@ -69,9 +69,6 @@ pub record ArePaidTo (g : Game) (rows : List (List Ratio)) (count : ℕ) : Type 
   pub counted : length rows ≡ count
   pub each : (position : ℕ) → position ≤ count → IsPaidAt g (row_at rows position) position
 
-pub empty_at : (k : ℕ) → at_place [] k ≡ zero_ratio
-empty_at k = grind arith
-
 pub one_row : (g : Game) (rows : List (List Ratio)) (row : List Ratio) (count : ℕ)
     → ArePaidTo g rows count → IsPaidAt g row (count + 1)
     → ArePaidTo g (rows ++ row ∷ []) (count + 1)

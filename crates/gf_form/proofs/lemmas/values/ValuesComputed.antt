@@ -49,15 +49,9 @@ plus_agrees own f P (Some x) agree v =
     (λ h. h.2.1, (λ h. grind (arith, sum_agrees, agree h.0), λ e. (x, p, sum.1.1 e)))
 
 -- a sum that is defined has defined parts
-record Parts (p : Ratio) (o : Option Ratio) (sum next : Ratio) : Type 0 where
-  factor : Ratio
-  factor_is : o ≡ Some factor
-  product : Ratio
-  product_is : product_of p factor ≡ Some product
-  sum_is : sum_of sum product ≡ Some next
-
 parts_of : (p : Ratio) (o : Option Ratio) (sum next : Ratio)
-    → plus_of (Some sum) (times_of p o) ≡ Some next → Parts p o sum next
+    → plus_of (Some sum) (times_of p o) ≡ Some next
+    → (x y : Ratio) × (o ≡ Some x) × (product_of p x ≡ Some y) × (sum_of sum y ≡ Some next)
 parts_of p o sum next h = grind arith
 
 -- a multiple is added to a sum, with which it goes on
@@ -78,12 +72,12 @@ next_agrees p sum fp fs P Q o later agree stays v rest =
         → (x y next : Ratio) × P x × MultipliesTo p x y × AddsTo sum y next × Q next v
     from None e h = absurd cc
     from (Some next) e h =
-        let x = parts_of p o sum next e in
-        let a = agree x.factor in
-        let is = a.1.1 x.factor_is in
-        let times = (product_agrees p x.factor x.product fp (a.0 is)).1.1 x.product_is in
-        let adds = (sum_agrees sum x.product next fs times.0).1.1 x.sum_is in
-        (x.factor, x.product, next, is, times, adds, (rest next adds.1).1.1 h)
+        let parts = parts_of p o sum next e in
+        let a = agree parts.0 in
+        let is = a.1.1 parts.2 in
+        let times = (product_agrees p parts.0 parts.1 fp (a.0 is)).1.1 parts.3 in
+        let adds = (sum_agrees sum parts.1 next fs times.0).1.1 parts.4 in
+        (parts.0, parts.1, next, is, times, adds, (rest next adds.1).1.1 h)
 
 -- one thing or another
 either : (b : Bool) (P Q : Ratio → Type 0) (c d : Option Ratio) (x : Ratio) → Agree P c x

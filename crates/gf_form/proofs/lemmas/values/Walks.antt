@@ -1,24 +1,24 @@
 -- The value of a tree by its branches, and what is left of it while a walk goes through them.
 use Rattle.gf_form.proofs.Common.{Trees, same_set_equality, false_from_ne_true, first_uses_distinct}
-use Rattle.gf_form.proofs.Common.{option_and_then, sets_by_first_use, length-append, AllByRecursion}
-use Rattle.gf_form.proofs.Common.{branches_given, slice_get-map, chance_value, branches_left, Ratio}
-use Rattle.gf_form.proofs.Common.{AreDistinct, strategy_at, MatchOption, at_position, player_keys}
-use Rattle.gf_form.proofs.Common.{[], flatten_all, option_map, choices_by, child_trees, child_value}
-use Rattle.gf_form.proofs.Common.{one_ratio, root_node, choice_at, chances_at, zero_ratio, all_both}
-use Rattle.gf_form.proofs.Common.{list_of, ◌≡◌, slice_get, unwrap_or, flatten, payoff_at, all_parts}
-use Rattle.gf_form.proofs.Common.{IsGame, set_at, has_at, length, Option, plus_of, game_of, tree_of}
-use Rattle.gf_form.proofs.Common.{Global, eq-eqb, branch, Action, SetKey, arith, List, ◌++◌, value}
-use Rattle.gf_form.proofs.Common.{suc, Some, None, zero, refl, Tree, none, more, Game, ℕ, ◌+◌, Node}
-use Rattle.gf_form.proofs.Common.{ap, ◌-◌, ◌<◌, ◌∷◌, map, Vec, ◌∙◌, sym}
+use Rattle.gf_form.proofs.Common.{option_and_then, sets_by_first_use, length-append, branches_given}
+use Rattle.gf_form.proofs.Common.{slice_get-map, chance_value, branches_left, AreDistinct, list_of}
+use Rattle.gf_form.proofs.Common.{strategy_at, MatchOption, at_position, player_keys, flatten_all}
+use Rattle.gf_form.proofs.Common.{option_map, choices_by, child_trees, child_value, chances_at, ◌≡◌}
+use Rattle.gf_form.proofs.Common.{one_ratio, root_node, choice_at, zero_ratio, slice_get, unwrap_or}
+use Rattle.gf_form.proofs.Common.{[], flatten, payoff_at, IsGame, set_at, plus_of, game_of, tree_of}
+use Rattle.gf_form.proofs.Common.{has_at, length, Option, Global, eq-eqb, branch, Action, SetKey, ℕ}
+use Rattle.gf_form.proofs.Common.{Ratio, arith, List, ◌++◌, value, Some, None, zero, refl, Tree, ap}
+use Rattle.gf_form.proofs.Common.{suc, none, more, Game, ◌+◌, Node, ◌-◌, ◌<◌, ◌∷◌, map, Vec, ◌∙◌}
+use Rattle.gf_form.proofs.Common.{sym}
+use Rattle.std.proofs.Common.{reverse}
+use Rattle.std.proofs.lemmas.List.{reverse-append}
 use Rattle.gf_tree.specs.declared.game.branch.Branch.{Branch}
 use Rattle.gf_form.proofs.lemmas.values.PaidRows.{at_mapped, own_is}
 use Rattle.gf_form.specs.declared.values.walk.Open.{Open}
 use Rattle.gf_form.specs.declared.values.walk.Open.TheVariants.{Chance, Choice}
 use Rattle.gf_form.specs.declared.values.walk.Walk.{Walk}
 use Rattle.gf_form.specs.inner.values.ValueLeft.{branch_chances, choices_of, trees_of, whole_value}
-use Rattle.gf_form.specs.inner.values.ValueLeft.{open_value, with_own, next_value, tree_value}
-use Rattle.gf_form.specs.inner.values.ValueLeft.{IsOpen, Lacks, Gives, IsNext}
-use Rattle.gf_form.specs.declared.values.walk.Next.{Next}
+use Rattle.gf_form.specs.inner.values.ValueLeft.{open_value, with_own, tree_value, Lacks}
 use Rattle.gf_form.proofs.lemmas.values.ValuesComputed.{none_stays}
 
 -- ---- the value of a tree by the list of its children
@@ -53,12 +53,12 @@ module _ (g : Game) (choices : SetKey → ℕ) (player : ℕ) where
 
 -- ---- what is open
 
-module _ (w : Walk) where
-  whole_last : (k : ℕ) (os : List Open) (o : Open) (below : Option Ratio)
-      → whole_value w k (os ++ o ∷ []) below ≡ whole_value w k os (open_value w k o below)
-  whole_last k [] o below = refl
-  whole_last k (p ∷ os) o below = ap (open_value w k p) (whole_last k os o below)
+-- the node that is opened last comes first
+pub turned : (os items : List Open) (o : Open) → items ≡ os ++ o ∷ []
+    → reverse items ≡ o ∷ reverse os
+turned os items o are = grind (arith, are, reverse-append)
 
+module _ (w : Walk) where
   -- a value that is not defined stays so
   open_none : (k : ℕ) (o : Open) → open_value w k o None ≡ None
   open_none k (Choice node) = refl
@@ -68,40 +68,12 @@ module _ (w : Walk) where
 
   whole_none : (k : ℕ) (os : List Open) → whole_value w k os None ≡ None
   whole_none k [] = refl
-  whole_none k (o ∷ os) = grind (arith, whole_none k os, open_none)
+  whole_none k (o ∷ os) = ap (whole_value w k os) (open_none k o) ∙ whole_none k os
 
-  module _ (total : ℕ → Option Ratio) where
-    -- if the last open node is closed with these values, the whole tree has those
-    abbrev pub Leads : List Open → (ℕ → Option Ratio) → Type 0
-    Leads os values = AllByRecursion (IsOpen w) os
-        × ((k : ℕ) → total k ≡ whole_value w k os (values k))
-
-    pub pushed : (os items : List Open) (o : Open) (values : ℕ → Option Ratio)
-        → items ≡ os ++ o ∷ [] → IsOpen w o → Leads os (λ k. open_value w k o (values k))
-        → Leads items values
-    pushed os items o values are is leads =
-        rw are (
-          all_both (IsOpen w) os (o ∷ []) leads.0 (is, tt),
-          λ k. leads.1 k ∙ sym (whole_last k os o (values k)),
-        )
-
-    pub popped : (os items : List Open) (o : Open) (values : ℕ → Option Ratio)
-        → items ≡ os ++ o ∷ [] → Leads items values
-        → IsOpen w o × Leads os (λ k. open_value w k o (values k))
-    popped os items o values are leads =
-        let parts = all_parts (IsOpen w) os (o ∷ []) (rw are at leads.0) in
-        (parts.1.0, (parts.0, λ k. rw are at leads.1 k ∙ whole_last k os o (values k)))
-
-    pub goes_on : (os : List Open) (values : ℕ → Option Ratio) (size : ℕ) (next : Next)
-        → Leads os values → Gives w values size next
-        → IsNext w next × Leads os (λ k. next_value w k next)
-    goes_on os values size next leads gives =
-        (gives.0, (leads.0, λ k. leads.1 k ∙ ap (whole_value w k os) (gives.1 k)))
-
-    pub stops : (os : List Open) (values : ℕ → Option Ratio) → Leads os values → Lacks w values
-        → Lacks w total
-    stops os values leads (k, less, nothing) =
-        (k, less, leads.1 k ∙ ap (whole_value w k os) nothing ∙ whole_none k os)
+  pub stops : (total values : ℕ → Option Ratio) (os : List Open)
+      → ((k : ℕ) → total k ≡ whole_value w k os (values k)) → Lacks w values → Lacks w total
+  stops total values os leads (k, less, nothing) =
+      (k, less, leads k ∙ ap (whole_value w k os) nothing ∙ whole_none k os)
 
 -- ---- the action that is chosen
 
@@ -155,9 +127,8 @@ set_there all (suc player) position = grind (arith, slice_get-map)
 
 listed_smaller : (ts : Trees Node) (k : ℕ) (t : Tree Node) → slice_get (list_of ts) k ≡ Some t
     → length (flatten t) < suc (length (flatten_all ts))
-listed_smaller none k t h = absurd cc
-listed_smaller (more u ts) zero t h = grind (arith, length-append (flatten u) (flatten_all ts))
 listed_smaller (more u ts) (suc k) t h = grind (arith, length-append, listed_smaller ts k t h)
+listed_smaller ts k t h = grind (arith, length-append)
 
 pub child_smaller : (t child : Tree Node) (position : ℕ) → at_position (child_trees t) position
     ≡ Some child → length (flatten child) < length (flatten t)

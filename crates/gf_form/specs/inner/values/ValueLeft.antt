@@ -56,10 +56,10 @@ open_value w k (Chance node rest sum) below =
     drawn_value w k node rest (plus_of (Some (at_place sum.items k))
     (times_of (branch_chances node (branches_given rest)) below))
 
--- his value at the first of the open nodes, if the last one is closed with this
+-- his value at the last of these open nodes, if the first one is closed with this
 abbrev pub whole_value : Walk → ℕ → List Open → Option Ratio → Option Ratio
 whole_value w k [] below = below
-whole_value w k (o ∷ os) below = open_value w k o (whole_value w k os below)
+whole_value w k (o ∷ os) below = whole_value w k os (open_value w k o below)
 
 abbrev pub next_value : Walk → ℕ → Next → Option Ratio
 next_value w k (Child node child) = open_value w k node (tree_value w k (tree_of child))
