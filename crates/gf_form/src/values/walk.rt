@@ -185,7 +185,7 @@ impl<'c, 'g, 'a> Walk<'c, 'g, 'a> {
     }
 
     /// The value of the whole tree for each player. The row is empty if each value is zero.
-    #[tactic(auto, using(std::proofs::lemmas::List::Sums::sum_by_push))]
+    #[tactic(auto, using(crate::proofs::lemmas::values::Walks::whole_steps))]
     pub(crate) fn value(
         &self,
         alloc: Global,

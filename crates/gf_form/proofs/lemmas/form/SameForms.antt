@@ -89,23 +89,12 @@ module _ (g : Game) (r : Renumbering) (game : IsGame g) (is : IsRenumbering g r)
   node_alike : (all : List (List ℕ)) (player : ℕ) (e : Entry Node) → Has (flatten g.tree) e
       → IsAlike g h (choices_by g all) (choices_by h all) player (renumbered_node r) e.node
   node_alike all player e i =
-      let used : (key : SetKey) → e.node.set ≡ Some key → Has (used_sets g.tree) key =
-      λ key q. held (λ n. n.set) (flatten g.tree) e key i q in
-      let choice : (key : SetKey) → e.node.set ≡ Some key
-      → choices_by h all (renumbered_set r key) ≡ choices_by g all key =
-      λ key q. choices_carried all key (used key q) in
-      let sets : (key : SetKey) → e.node.set ≡ Some key
-      → set_at h (renumbered_set r key) ≡ set_at g key =
-      λ key q. set_at_image g r game is key (used key q) in
-      let outcomes : (number : ℕ) → e.node.outcome ≡ Some number
-      → outcome_at h (r.outcome number) ≡ outcome_at g number =
-      λ number q. outcome_at_image g r game is number
-      (held (λ n. n.outcome) (flatten g.tree) e number i q) in
-      record {
-        chosen = λ k. grind (arith, choice);
-        chance = λ k. grind (arith, sets);
-        pays = grind (arith, outcomes);
-        moves = grind (arith, choice);
+      let used = λ (key : SetKey). held (λ n. n.set) (flatten g.tree) e key i in
+      let paid = λ (number : ℕ). held (λ n. n.outcome) (flatten g.tree) e number i in record {
+        chosen = λ k. grind (arith, choices_carried all, used);
+        chance = λ k. grind (arith, set_at_image g r game is, used);
+        pays = grind (arith, outcome_at_image g r game is, paid);
+        moves = grind (arith, choices_carried all, used);
       }
 
   alike : (all : List (List ℕ)) (player : ℕ) → AreAlike g h (choices_by g all) (choices_by h all)

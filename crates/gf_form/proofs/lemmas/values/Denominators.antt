@@ -1,6 +1,6 @@
 -- The probabilities and payoffs of a game that a file can hold have denominators above zero, and no
 -- probability of a chance move is negative.
-use Rattle.gf_form.proofs.Common.{◌≡◌, Option, Some, None, refl, Action, ℕ, arith, option_and_then}
+use Rattle.gf_form.proofs.Common.{◌≡◌, Option, Some, Action, ℕ, arith, option_and_then}
 use Rattle.gf_form.proofs.Common.{⊤, ◌==◌, AllByRecursion, IsFraction, zero_ratio, one_ratio}
 use Rattle.gf_form.proofs.Common.{whole_fraction, IsAbove, total_above, at_position}
 use Rattle.gf_form.proofs.Common.{SetKey, same_set, Node, Game, set_at, outcome_at, IsSpellable}
@@ -20,17 +20,7 @@ pub each_action : (g : Game) (P : Action → Type 0) (s : Step)
     → ((key : SetKey) → s.node.set ≡ Some key
     → Each (λ set. AllByRecursion P set.actions) (set_at g key))
     → Each P (action_at g s)
-each_action g P s sets = by s.node.set sets
-  where
-    by : (o : Option SetKey)
-        → ((key : SetKey) → o ≡ Some key
-        → Each (λ set. AllByRecursion P set.actions) (set_at g key))
-        → Each P (option_and_then (λ key. option_and_then (λ set. at_position set.actions s.taken)
-        (set_at g key)) o)
-    by None h = tt
-    by (Some key) h =
-        each_then (λ set. AllByRecursion P set.actions) P (λ set. at_position set.actions s.taken)
-        (set_at g key) (λ set all. each_at P set.actions s.taken all) (h key refl)
+each_action g P s sets = grind (arith, each_at P)
 
 module _ (g : Game) (spellable : IsSpellable g) where
   actions_of : (key : SetKey)

@@ -11,6 +11,7 @@ use Rattle.gf_form.proofs.Common.{Ratio, arith, List, ◌++◌, value, Some, Non
 use Rattle.gf_form.proofs.Common.{suc, none, more, Game, ◌+◌, Node, ◌-◌, ◌<◌, ◌∷◌, map, Vec, ◌∙◌}
 use Rattle.gf_form.proofs.Common.{sym}
 use Rattle.std.proofs.Common.{reverse}
+use Rattle.std.proofs.lemmas.List.Sums.{sum_by_push}
 use Rattle.std.proofs.lemmas.List.{reverse-append}
 use Rattle.gf_tree.specs.declared.game.branch.Branch.{Branch}
 use Rattle.gf_form.proofs.lemmas.values.PaidRows.{at_mapped, own_is}
@@ -143,3 +144,5 @@ tree_size (branch n ts) = ap (λ us. suc (length (flatten_all us))) (sym (trees_
 pub ruleset chance_steps = (chance_is, at_mapped)
 
 pub ruleset enter_steps = (own_is, value_of_leaf, value_by_chance, chosen, child_smaller, tree_size)
+
+pub ruleset whole_steps = (sum_by_push, turned)

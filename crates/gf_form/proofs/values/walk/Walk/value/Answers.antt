@@ -7,12 +7,6 @@ pub leave-requires-clause-is_open : goal.leave-requires-clause-is_open
 leave-requires-clause-is_open c =
     (rw (turned _ _ _ c.in-Some.ensures.items) at c.loop-next.invariant.1).0
 
-pub loop-next-preserved-in_ok-next-in-Child : goal.loop-next-preserved-in_ok-next-in-Child
-loop-next-preserved-in_ok-next-in-Child c = grind (arith, turned)
-
-pub loop-next-preserved : goal.loop-next-preserved
-loop-next-preserved c = grind (arith, turned)
-
 pub returns-in_err-next-in-Some-clause-overflow : goal.returns-in_err-next-in-Some-clause-overflow
 returns-in_err-next-in-Some-clause-overflow c h =
     let now = rw (c.in-Value.is, turned _ _ _ c.in-Some.ensures.items) at c.loop-next.invariant in
