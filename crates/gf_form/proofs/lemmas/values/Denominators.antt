@@ -1,16 +1,15 @@
 -- The probabilities and payoffs of a game that a file can hold have denominators above zero, and no
 -- probability of a chance move is negative.
-use Rattle.gf_form.proofs.Common.{◌≡◌, Option, Some, Action, ℕ, arith, option_and_then}
-use Rattle.gf_form.proofs.Common.{⊤, ◌==◌, AllByRecursion, IsFraction, zero_ratio, one_ratio}
-use Rattle.gf_form.proofs.Common.{whole_fraction, IsAbove, total_above, at_position}
-use Rattle.gf_form.proofs.Common.{SetKey, same_set, Node, Game, set_at, outcome_at, IsSpellable}
-use Rattle.gf_form.proofs.Common.{Step, Play, action_at, probability, payoff_at, play_probability}
-use Rattle.gf_form.proofs.Common.{play_payoff, pos, List, ◌∷◌, length, map, ap, drop, subst}
-use Rattle.gf_form.proofs.Common.{unsigned_abs, ints, Ratio, AddToOne, IsSet, IsGame, chances_at}
+use Rattle.gf_form.proofs.Common.{option_and_then, AllByRecursion, whole_fraction, play_probability}
+use Rattle.gf_form.proofs.Common.{total_above, at_position, IsSpellable, probability, unsigned_abs}
+use Rattle.gf_form.proofs.Common.{Some, IsFraction, zero_ratio, outcome_at, play_payoff, chances_at}
+use Rattle.gf_form.proofs.Common.{Action, IsAbove, SetKey, same_set, action_at, payoff_at, AddToOne}
+use Rattle.gf_form.proofs.Common.{ℕ, arith, ◌==◌, Node, set_at, length, subst, Ratio, IsSet, IsGame}
+use Rattle.gf_form.proofs.Common.{◌≡◌, ⊤, Game, Step, Play, pos, List, ◌∷◌, map, ap, drop, ints}
 use Rattle.gf_fraction.proofs.Rationals.{ratio_product_above}
 use Rattle.gf_tree.specs.Spellable.{IsSpellableAction, IsSpellableSet, IsSpellableOutcome}
-use Rattle.gf_form.proofs.lemmas.strategies.Lookups.{Each, each_at, each_described, each_then}
-use Rattle.gf_form.proofs.lemmas.strategies.Lookups.{each_or, each_weaker}
+use Rattle.gf_form.proofs.lemmas.strategies.Lookups.{Each, each_described, each_then, each_weaker}
+use Rattle.gf_form.proofs.lemmas.strategies.Lookups.{each_at, each_or}
 use Rattle.std.specs.Prelude.{◌≤ℤ◌}
 use Rattle.gf_tree.specs.Description.{AreActions, IsLottery}
 use Rattle.gf_form.proofs.lemmas.strategies.KnownSets.{each_set}
@@ -38,11 +37,8 @@ module _ (g : Game) (spellable : IsSpellable g) where
   pub probability_fraction : (s : Step) → IsFraction (probability g s)
   probability_fraction s =
       let taken = each_action g IsSpellableAction s (λ key _. actions_of key) in
-      grind (
-        arith,
-        each_or IsFraction (option_and_then (λ a. a.probability) (action_at g s))
-            one_ratio (whole_fraction 1 (omega arith)) (grind arith),
-      )
+      let one = whole_fraction 1 (omega arith) in
+      grind arith
 
   pub probability_above : (s : Step) → IsAbove (probability g s)
   probability_above s = (probability_fraction s).den_above_zero
@@ -80,28 +76,19 @@ lottery_signs (a ∷ actions) (p ∷ ps) sum e adds =
     grind (arith, lottery_signs actions ps adds.1.0 (ap (drop 1) e) adds.1.2, ints)
 lottery_signs actions ps sum e adds = grind arith
 
+sign_sets : (g : Game) → IsGame g → (key : SetKey) → key.player ≡ 0
+    → Each (λ set. AllByRecursion HasSign set.actions) (set_at g key)
+sign_sets g game key chance =
+    each_weaker (IsSet (length g.players) key) (λ set. AllByRecursion HasSign set.actions)
+    (set_at g key)
+    (λ set is.
+    let lottery : IsLottery set.actions =
+    subst (λ p. AreActions p set.actions) chance is.actions in
+    lottery_signs set.actions lottery.0 _ lottery.1 lottery.2)
+    (each_set g game key)
+
 pub chance_size : (g : Game) → IsGame g → (n : Node) (key : SetKey) (k : ℕ) → n.set ≡ Some key
     → key.player ≡ 0 → (chances_at g n k).num ≡ pos (unsigned_abs (chances_at g n k).num)
 chance_size g game n key k at chance =
-    let not_negative =
-    each_or IsNotNegative (option_and_then (λ a. a.probability) taken) one_ratio
-    (omega (arith, ints))
-    (each_then HasSign IsNotNegative (λ a. a.probability) taken (λ a h. h)
-    (each_action g HasSign (record { node = n; taken = k })
-    (λ other is. let same : key ≡ other = cc in
-    sets other (subst (λ s. s.player ≡ 0) same chance)))) in
-    omega (arith, ints, not_negative)
-  where
-    taken : Option Action
-    taken = action_at g (record { node = n; taken = k })
-
-    sets : (key : SetKey) → key.player ≡ 0
-        → Each (λ set. AllByRecursion HasSign set.actions) (set_at g key)
-    sets key chance =
-        each_weaker (IsSet (length g.players) key) (λ set. AllByRecursion HasSign set.actions)
-        (set_at g key)
-        (λ set is.
-        let lottery : IsLottery set.actions =
-        subst (λ p. AreActions p set.actions) chance is.actions in
-        lottery_signs set.actions lottery.0 _ lottery.1 lottery.2)
-        (each_set g game key)
+    let sets = sign_sets g game key chance in
+    grind (arith, ints, at, each_at HasSign)
