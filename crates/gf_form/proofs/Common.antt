@@ -58,8 +58,8 @@ pub use Rattle.gf_form.specs.inner.rows.DigitSteps.{all_steps}
 pub use Rattle.gf_form.specs.inner.rows.Entries.{Entry, IsScale, IsShaped, IsSumOf, entries}
 pub use Rattle.gf_form.specs.inner.rows.Entries.{entries_of, entry_at, heads, heads_of, no_entry}
 pub use Rattle.gf_form.specs.inner.rows.Entries.{number_at, AreOrdered, EndsBelow, HasSum, lowered}
-pub use Rattle.gf_form.specs.inner.rows.Entries.{IsExactAt, AreExactAt, AreMerged, size_of_entries}
-pub use Rattle.gf_form.specs.inner.rows.Entries.{sum_of_entries, AreAlike, AreChosen, part}
+pub use Rattle.gf_form.specs.inner.rows.Entries.{IsExactAt, AreExactAt, AreMerged, ComeAsWell}
+pub use Rattle.gf_form.specs.inner.rows.Entries.{sum_of_entries, AreAlike, AreChosen, part, ComeTo}
 pub use Rattle.gf_form.specs.inner.rows.GameDigits.{HasDigits, digit_actions, actions_at}
 pub use Rattle.gf_form.specs.inner.rows.KeptNodes.{paid_reached, is_paid}
 pub use Rattle.gf_form.specs.inner.rows.ListedNodes.{AreTermsOf}
@@ -71,9 +71,9 @@ pub use Rattle.gf_form.specs.inner.rows.ReachedNodes.{root_path, by_action, by_c
 pub use Rattle.gf_form.specs.inner.rows.ReachedNodes.{drawn, over_set, below_set}
 pub use Rattle.gf_form.specs.inner.rows.SettledRows.{Settles, SettlesAt, SettleRows, AreWritten}
 pub use Rattle.gf_form.specs.inner.rows.SettledRows.{asked_profiles}
-pub use Rattle.gf_form.specs.inner.rows.Shares.{IsDigitOf, AreDigits, FitsAt, IsExactIfMet}
-pub use Rattle.gf_form.specs.inner.rows.Shares.{met_bounds, pay_at, share, share_bound}
-pub use Rattle.gf_form.specs.inner.rows.Shares.{sum_of_shares, IsExact, over}
+pub use Rattle.gf_form.specs.inner.rows.Shares.{IsDigitOf, AreDigits, FitsAt, AreExactShares}
+pub use Rattle.gf_form.specs.inner.rows.Shares.{met_bounds, node_term, node_terms, pay_at, term_of}
+pub use Rattle.gf_form.specs.inner.rows.Shares.{sum_of_shares}
 pub use Rattle.gf_form.specs.inner.rows.SummedNodes.{order_of}
 pub use Rattle.gf_form.specs.inner.strategies.Counted.{AreCounts}
 pub use Rattle.gf_form.specs.inner.strategies.LabelTexts.{choice_text, IsPlain}

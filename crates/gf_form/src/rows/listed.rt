@@ -19,7 +19,7 @@ use crate::rows::digits::Digits;
 use crate::rows::paths::{Path, Reached};
 use crate::rows::share::{Share, payoff_at, share_of};
 use crate::rows::shares::paid_sums;
-use crate::rows::sums::{combined, factor, multiple};
+use crate::rows::sums::{combined, multiple};
 use crate::rows::terms::{Head, Terms};
 use crate::values::payoffs::Payoffs;
 use gf_fraction::Fraction;
@@ -80,9 +80,8 @@ fn shares_of(nodes: &[Reached], payoffs: &Payoffs<'_>, place: usize, den: u128) 
         bound: 0,
     };
     for node in nodes {
-        let times = factor(den, node.path.den)?;
         let payoff = payoff_at(payoffs, node.outcome, place);
-        let share = share_of(node.path, payoff, times)?;
+        let share = share_of(node.path, payoff, den)?;
         let amount = combined(sum.amount, 1, share.amount, 1)?;
         let bound = sum.bound.checked_add(share.bound)?;
         sum = Share { amount, bound };

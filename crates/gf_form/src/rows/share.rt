@@ -4,7 +4,7 @@ ghost use Rattle.std.specs.Prelude.{◌≡◌, IfSome};
 ghost use Rattle.gf_fraction.specs.Ratio.{IsWithin};
 ghost use Rattle.gf_form.specs.inner.values.PaidRows.{rows_of};
 ghost use Rattle.gf_form.specs.inner.values.Rows.{at_place, row_at};
-ghost use Rattle.gf_form.specs.inner.rows.Shares.{IsShare};
+ghost use Rattle.gf_form.specs.inner.rows.Shares.{IsShare, term_of};
 
 use crate::rows::paths::Path;
 use crate::rows::sums::factor;
@@ -29,20 +29,21 @@ pub(crate) fn payoff_at(payoffs: &Payoffs<'_>, outcome: u32, place: usize) -> Fr
     }
 }
 
-/// What a path adds to a payoff over a denominator that is so many times its own; `None` if that is
-/// not a whole number, or is too large.
+/// What a path adds to a payoff over a denominator; `None` if that is not a whole number, or is too
+/// large.
 #[inline]
-pub(crate) fn share_of(path: Path, payoff: Fraction, times: u128) -> Option<Share>
-    ensures share { IfSome result (IsShare path payoff times) }
+pub(crate) fn share_of(path: Path, payoff: Fraction, den: u128) -> Option<Share>
+    ensures share { IfSome result (IsShare (term_of path payoff) den) }
     ensures within { IfSome result (λ share. IsWithin share.amount) }
 {
-    if payoff == Fraction::zero() {
+    if payoff.num() == 0 {
         return Some(Share {
             amount: 0,
             bound: 0,
         });
     }
-    let Ok(scale) = i128::try_from(factor(times, payoff.den())?) else {
+    let own = path.den.checked_mul(payoff.den())?;
+    let Ok(scale) = i128::try_from(factor(den, own)?) else {
         return None;
     };
     let over = payoff.num().checked_mul(scale)?;

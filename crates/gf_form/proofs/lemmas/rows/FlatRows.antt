@@ -1,5 +1,5 @@
 -- Terms whose numbers stand one row after another.
-use Rattle.gf_form.proofs.Common.{◌≡◌, ℕ, ℤ, suc, ◌+◌, ◌*◌, ◌<◌, ◌≤◌, ◌/◌, ◌+ℤ◌, ◌*ℤ◌, List, []}
+use Rattle.gf_form.proofs.Common.{zero, ◌≡◌, ℕ, ℤ, suc, ◌+◌, ◌*◌, ◌<◌, ◌≤◌, ◌/◌, ◌+ℤ◌, ◌*ℤ◌, List, []}
 use Rattle.gf_form.proofs.Common.{◌∷◌, ◌++◌, Bool, true, pos, inl, inr, length, get_or, take, drop}
 use Rattle.gf_form.proofs.Common.{refl, ap, sym, subst, ◌∙◌, arith, map, take-length, ◌∣◌, zero-*ℤ}
 use Rattle.gf_form.proofs.Common.{cases_lt, get_or_past, length-take-le, drop-drop}
@@ -232,7 +232,7 @@ all_sums first second by_first by_second fits old new same h known k =
 pub sum_made : (a b : Entry) (s : Scale) (fits : Bool) (demands : ℕ) (row : List ℤ)
     → IsScale a.head b.head s
     → (fits ≡ true → (k : ℕ) → get_or row k (pos 0)
-    ≡ number_at k a *ℤ pos s.first +ℤ number_at k b *ℤ pos s.second)
+    ≡ number_at (suc k) a *ℤ pos s.first +ℤ number_at (suc k) b *ℤ pos s.second)
     → (den : ℕ) → (0 < den → (fits ≡ true) × (den ≡ s.den)) → 0 < den
     → IsSumOf a b
     (record { head = record { demands = demands; den = den; size = s.size }; row = row })
@@ -241,7 +241,18 @@ sum_made a b s fits demands row is sums den known above =
     subst (λ (n : ℕ). IsSumOf a b
     (record { head = record { demands = demands; den = n; size = s.size }; row = row }))
     (sym k.1)
-    (grind arith)
+    (record {
+      first = is.first.above;
+      first_divides = is.first.divides;
+      second = is.second.above;
+      second_divides = is.second.divides;
+      numbers = rw (is.first.factor_is, is.second.factor_is) at numbers k.0;
+    })
+  where
+    numbers : fits ≡ true → (i : ℕ) → get_or (pos s.size ∷ row) i (pos 0)
+        ≡ number_at i a *ℤ pos s.first +ℤ number_at i b *ℤ pos s.second
+    numbers known zero = ap pos is.size
+    numbers known (suc i) = sums known i
 
 -- what notes write out
 pub ruleset noted = (next_noted, one_noted)

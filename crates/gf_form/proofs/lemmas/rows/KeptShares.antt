@@ -1,10 +1,13 @@
 -- The nodes that pay somebody something have all shares.
-use Rattle.gf_form.proofs.Common.{◌≡◌, ℕ, suc, false, List, [], ◌∷◌, length, refl, arith, Some, pos}
-use Rattle.gf_form.proofs.Common.{nat_lt, AllByRecursion, HasValue, IsFraction, Ratio, zero_ratio}
+use Rattle.gf_form.proofs.Common.{◌≡◌, ℕ, suc, false, List, [], ◌∷◌, length, refl, arith, Some}
+use Rattle.gf_form.proofs.Common.{nat_lt, HasValue, IsFraction, Ratio, zero_ratio}
 use Rattle.gf_form.proofs.Common.{SetKey, Game, IsGame, IsSpellable, steps_of, is_paid}
 use Rattle.gf_form.proofs.Common.{paid_reached, reached, root_path, ArePaid, at_place, AreDigits}
-use Rattle.gf_form.proofs.Common.{FitsAt, IsExactIfMet, met_bounds, pay_at, share, share_bound}
-use Rattle.gf_form.proofs.Common.{sum_of_shares, value, Reached}
+use Rattle.gf_form.proofs.Common.{AreExactShares, ComeAsWell, FitsAt, node_terms}
+use Rattle.gf_form.proofs.Common.{sum_of_shares, value, Reached, sym, ap, ◌∙◌, subst, zero, pos, number_at}
+use Rattle.gf_form.proofs.Common.{Bool, true, if◌then◌else◌, ComeTo, IsExactAt, Path, node_term}
+use Rattle.gf_form.proofs.Common.{*ℤ-zero, one-dvd, row_at, term_of}
+use Rattle.gf_form.proofs.lemmas.rows.MergedEntries.{none_first}
 use Rattle.std.specs.List.{filter}
 use Rattle.gf_form.proofs.lemmas.rows.ReachedValues.{reached_value}
 
@@ -12,38 +15,46 @@ empty_row : (row : List Ratio) (k : ℕ) → nat_lt 0 (length row) ≡ false →
 empty_row [] k h = refl
 empty_row (x ∷ row) k h = grind arith
 
-module _ (g : Game) (den : ℕ) (rows : List (List Ratio)) (are : ArePaid g rows) where
-  no_share : (r : Reached) (k : ℕ) → pay_at g (suc k) r ≡ zero_ratio → share g (suc k) den r ≡ pos 0
-  no_share r k nothing = grind arith
+no_number : (path : Path) (n : ℕ) → number_at n (term_of path zero_ratio) ≡ pos 0
+no_number path zero = ap pos (omega arith)
+no_number path (suc zero) = *ℤ-zero (pos path.weight)
+no_number path (suc (suc n)) = refl
 
-  no_bound : (r : Reached) (k : ℕ) → pay_at g (suc k) r ≡ zero_ratio
-      → share_bound g (suc k) den r ≡ 0
-  no_bound r k nothing = grind arith
+module _ (g : Game) (rows : List (List Ratio)) (are : ArePaid g rows) (k : ℕ) where
+  -- a node that pays nobody adds nothing, over any denominator
+  pub kept_come : (rs : List Reached)
+      → ComeAsWell (node_terms g (suc k) rs) (node_terms g (suc k) (filter (is_paid rows) rs))
+  kept_come [] den steps choices exact = record { exact = tt; sums = λ n. refl }
+  kept_come (r ∷ rs) den steps choices exact =
+      by (is_paid rows r) refl exact (kept_come rs den steps choices)
+    where
+      left : Bool → List Reached
+      left b = if b then r ∷ filter (is_paid rows) rs else filter (is_paid rows) rs
 
-  kept_shares : (k : ℕ) (steps choices : List ℕ) (rs : List Reached)
-      → sum_of_shares g (suc k) den steps choices (filter (is_paid rows) rs)
-      ≡ sum_of_shares g (suc k) den steps choices rs
-  kept_shares k steps choices [] = refl
-  kept_shares k steps choices (r ∷ rs) =
-      grind (arith, no_share, empty_row, kept_shares k steps choices rs)
-
-  kept_bounds : (k : ℕ) (steps choices : List ℕ) (rs : List Reached)
-      → met_bounds g (suc k) den steps choices (filter (is_paid rows) rs)
-      ≡ met_bounds g (suc k) den steps choices rs
-  kept_bounds k steps choices [] = refl
-  kept_bounds k steps choices (r ∷ rs) =
-      grind (arith, no_bound, empty_row, kept_bounds k steps choices rs)
-
-  kept_exact : (k : ℕ) (steps choices : List ℕ) (rs : List Reached)
-      → AllByRecursion (IsExactIfMet g (suc k) den steps choices) (filter (is_paid rows) rs)
-      → AllByRecursion (IsExactIfMet g (suc k) den steps choices) rs
-  kept_exact k steps choices [] h = h
-  kept_exact k steps choices (r ∷ rs) h = grind (arith, empty_row, kept_exact k steps choices rs)
-
-  pub kept_fits : (k : ℕ) (steps choices : List ℕ) (rs : List Reached)
-      → FitsAt g (suc k) den steps choices (filter (is_paid rows) rs)
-      → FitsAt g (suc k) den steps choices rs
-  kept_fits k steps choices rs fits = grind (arith, kept_exact, kept_bounds)
+      by : (b : Bool) → is_paid rows r ≡ b → AreExactShares g (suc k) den steps choices (left b)
+          → (AreExactShares g (suc k) den steps choices (filter (is_paid rows) rs)
+          → ComeTo den steps choices (node_terms g (suc k) rs) steps choices
+          (node_terms g (suc k) (filter (is_paid rows) rs)))
+          → ComeTo den steps choices (node_terms g (suc k) (r ∷ rs)) steps choices
+          (node_terms g (suc k) (left b))
+      by true is h later = let rest = later h.1 in record {
+        exact = (h.0, rest.exact);
+        sums = λ n. cc (rest.sums n);
+      }
+      by false is h later =
+          let rest = later h in
+          let nothing : node_term g (suc k) r ≡ term_of r.path zero_ratio =
+          ap (term_of r.path)
+          (sym (are.paid_is r.outcome k) ∙ empty_row (row_at rows r.outcome) k is) in record {
+            exact = (
+              subst (IsExactAt den steps choices) (sym nothing)
+                  (λ _. (omega arith, one-dvd den)),
+              rest.exact,
+            );
+            sums = λ n. none_first n den steps choices (node_term g (suc k) r)
+                (node_terms g (suc k) rs) (ap (number_at n) nothing ∙ no_number r.path n)
+                ∙ rest.sums n;
+          }
 
 -- The value of the game for a player, if over the denominator no share has a remainder of the nodes
 -- which pay somebody something and which the choices reach.
@@ -56,5 +67,11 @@ pub paid_value : (g : Game) → IsGame g → IsSpellable g → (rows : List (Lis
     (paid_reached rows g steps)) den
 paid_value g game spellable rows are steps choose actions choices digits k den fits =
     let all = reached g steps root_path g.tree in
+    let come = kept_come g rows are k all den (steps_of actions) choices fits.exact in
     let v = reached_value g game spellable steps choose actions choices digits (suc k) den
-    (kept_fits g den rows are k (steps_of actions) choices all fits) in grind (arith, kept_shares)
+    (record {
+      den_above_zero = fits.den_above_zero;
+      den_within = fits.den_within;
+      exact = come.exact;
+      within = rw (come.sums 0) fits.within;
+    }) in (v.0, v.1, v.2, rw (sym (come.sums 1)) v.3)

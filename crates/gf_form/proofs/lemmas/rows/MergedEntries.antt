@@ -2,45 +2,46 @@
 use Rattle.gf_form.proofs.Common.{◌≡◌, ℕ, ℤ, pos, ◌+◌, ◌-◌, ◌*◌, ◌/◌, ◌<◌, ◌≤◌, ◌+ℤ◌, ◌*ℤ◌, Bool}
 use Rattle.gf_form.proofs.Common.{true, false, List, [], ◌∷◌, ◌++◌, refl, ap, sym, subst, arith}
 use Rattle.gf_form.proofs.Common.{map, ◌⊎◌, if◌then◌else◌, ◌∣◌, AllByRecursion, +ℤ_assoc, +ℤ_idl}
-use Rattle.gf_form.proofs.Common.{mul-le-mul_right, lt-ltb, ints, dvd_trans, all_both, all_parts}
+use Rattle.gf_form.proofs.Common.{unsigned_abs, lt-ltb, ints, dvd_trans, all_both, all_parts}
 use Rattle.gf_form.proofs.Common.{*ℤ_assoc, add-*ℤ, meets, AreExactAt, AreMerged, Entry, IsExactAt}
-use Rattle.gf_form.proofs.Common.{IsSumOf, lowered, number_at, size_of_entries, sum_of_entries}
-use Rattle.gf_form.specs.inner.rows.Entries.{ComeTo}
+use Rattle.gf_form.proofs.Common.{◌∙◌, zero-*ℤ, ComeAsWell, ComeTo, IsSumOf, lowered, number_at, sum_of_entries}
 use Rattle.gf_form.proofs.lemmas.rows.OverOneDenominator.{quotient_through}
 
 false_true : ¬ (false ≡ true)
 false_true e = absurd cc
 
+pub same_come : (es : List Entry) → ComeAsWell es es
+same_come es den steps choices exact = record { exact = exact; sums = λ k. refl }
+
+-- ---- the first term
+
+module _ (k den : ℕ) (steps choices : List ℕ) (e : Entry) (es : List Entry) where
+  pub first_met : meets steps choices e.head.demands ≡ true
+      → sum_of_entries k den steps choices (e ∷ es)
+      ≡ number_at k e *ℤ pos (den / e.head.den) +ℤ sum_of_entries k den steps choices es
+  first_met met = rw met refl
+
+  pub none_first : number_at k e ≡ pos 0
+      → sum_of_entries k den steps choices (e ∷ es) ≡ sum_of_entries k den steps choices es
+  none_first none = by (meets steps choices e.head.demands)
+    where
+      by : (b : Bool) → (if b then number_at k e *ℤ pos (den / e.head.den) else pos 0)
+          +ℤ sum_of_entries k den steps choices es ≡ sum_of_entries k den steps choices es
+      by true = (λ i. none i *ℤ pos (den / e.head.den) +ℤ sum_of_entries k den steps choices es)
+          ∙ (λ i. zero-*ℤ (pos (den / e.head.den)) i +ℤ sum_of_entries k den steps choices es)
+          ∙ +ℤ_idl (sum_of_entries k den steps choices es)
+      by false = +ℤ_idl (sum_of_entries k den steps choices es)
+
 -- ---- the sum of two terms
 
-scaled : (z : ℤ) (d m den : ℕ) → 0 < d → d ∣ m → m ∣ den
+pub scaled : (z : ℤ) (d m den : ℕ) → 0 < d → d ∣ m → m ∣ den
     → (z *ℤ pos (m / d)) *ℤ pos (den / m) ≡ z *ℤ pos (den / d)
 scaled z d m den above dm mden = grind (arith, *ℤ_assoc, quotient_through, dvd_trans)
-
-scaled_size : (n d m den : ℕ) → 0 < d → d ∣ m → m ∣ den
-    → n * (m / d) * (den / m) ≡ n * (den / d)
-scaled_size n d m den above dm mden =
-    let q : den / d ≡ m / d * (den / m) =
-    quotient_through d m den above dm mden (dvd_trans d dm mden) in
-    omega (arith, ap (λ (k : ℕ). n * k) q)
 
 module _ (den : ℕ) (a b sum : Entry) (adds : IsSumOf a b sum) (divides : sum.head.den ∣ den) where
   pub numbers_added : (k : ℕ) → number_at k sum *ℤ pos (den / sum.head.den)
       ≡ number_at k a *ℤ pos (den / a.head.den) +ℤ number_at k b *ℤ pos (den / b.head.den)
   numbers_added k = grind (arith, add-*ℤ, scaled)
-
-  pub sizes_added : a.head.size * (den / a.head.den) + b.head.size * (den / b.head.den)
-      ≤ sum.head.size * (den / sum.head.den)
-  sizes_added =
-      let q = den / sum.head.den in
-      let first = scaled_size a.head.size a.head.den sum.head.den den adds.first
-      adds.first_divides divides in
-      let second = scaled_size b.head.size b.head.den sum.head.den den adds.second
-      adds.second_divides divides in
-      let most : (a.head.size * (sum.head.den / a.head.den)
-      + b.head.size * (sum.head.den / b.head.den)) * q ≤ sum.head.size * q =
-      mul-le-mul_right q adds.size in
-      grind arith
 
 -- ---- parts of a list
 
@@ -50,20 +51,29 @@ module _ (den : ℕ) (steps choices : List ℕ) where
   sum_append k [] ys = sym (+ℤ_idl (sum_of_entries k den steps choices ys))
   sum_append k (x ∷ xs) ys = grind (arith, +ℤ_assoc, sum_append k xs ys)
 
-  pub size_append : (xs ys : List Entry) → size_of_entries den steps choices (xs ++ ys)
-      ≡ size_of_entries den steps choices xs + size_of_entries den steps choices ys
-  size_append [] ys = omega arith
-  size_append (x ∷ xs) ys = omega (arith, size_append xs ys)
+  one_above : (met : Bool) (m n : ℕ) (s : ℤ) → s ≡ pos (unsigned_abs s)
+      → (if met then pos m *ℤ pos n else pos 0) +ℤ s
+      ≡ pos (unsigned_abs ((if met then pos m *ℤ pos n else pos 0) +ℤ s))
+  one_above met m n s above = grind (arith, ints)
+
+  sizes_above : (es : List Entry) → sum_of_entries 0 den steps choices es
+      ≡ pos (unsigned_abs (sum_of_entries 0 den steps choices es))
+  sizes_above [] = refl
+  sizes_above (e ∷ es) =
+      one_above (meets steps choices e.head.demands) e.head.size (den / e.head.den)
+      (sum_of_entries 0 den steps choices es) (sizes_above es)
+
+  pub size_append : (xs ys : List Entry)
+      → unsigned_abs (sum_of_entries 0 den steps choices (xs ++ ys))
+      ≡ unsigned_abs (sum_of_entries 0 den steps choices xs)
+      + unsigned_abs (sum_of_entries 0 den steps choices ys)
+  size_append xs ys = rw (sum_append 0 xs ys, sizes_above xs, sizes_above ys) refl
 
 -- ---- a term in place of two
 
 one_sum : (met : Bool) (x y z : ℤ) → (met ≡ true → z ≡ x +ℤ y)
     → (if met then z else pos 0) ≡ (if met then x else pos 0) +ℤ (if met then y else pos 0)
 one_sum met x y z h = grind arith
-
-one_size : (met : Bool) (x y z : ℕ) → (met ≡ true → x + y ≤ z)
-    → (if met then x else 0) + (if met then y else 0) ≤ (if met then z else 0)
-one_size met x y z h = grind arith
 
 module _ (den : ℕ) (steps choices : List ℕ) (a b sum : Entry)
     (first : sum.head.demands ≡ a.head.demands) (second : sum.head.demands ≡ b.head.demands)
@@ -74,13 +84,13 @@ module _ (den : ℕ) (steps choices : List ℕ) (a b sum : Entry)
   met_second : meets steps choices sum.head.demands ≡ meets steps choices b.head.demands
   met_second = ap (meets steps choices) second
 
-  pub exact_first : IsExactAt den steps choices a
+  exact_first : IsExactAt den steps choices a
   exact_first met = grind (arith, met_first, dvd_trans)
 
-  pub exact_second : IsExactAt den steps choices b
+  exact_second : IsExactAt den steps choices b
   exact_second met = grind (arith, met_second, dvd_trans)
 
-  pub both_sum : (k : ℕ)
+  both_sum : (k : ℕ)
       → (if meets steps choices sum.head.demands
       then number_at k sum *ℤ pos (den / sum.head.den) else pos 0)
       ≡ (if meets steps choices a.head.demands
@@ -89,11 +99,11 @@ module _ (den : ℕ) (steps choices : List ℕ) (a b sum : Entry)
       then number_at k b *ℤ pos (den / b.head.den) else pos 0)
   both_sum k = grind (arith, one_sum, numbers_added, met_first, met_second)
 
-  pub both_size :
-      (if meets steps choices a.head.demands then a.head.size * (den / a.head.den) else 0)
-      + (if meets steps choices b.head.demands then b.head.size * (den / b.head.den) else 0)
-      ≤ (if meets steps choices sum.head.demands then sum.head.size * (den / sum.head.den) else 0)
-  both_size = grind (arith, one_size, sizes_added, met_first, met_second)
+  pub both_come : ComeTo den steps choices (a ∷ b ∷ []) steps choices (sum ∷ [])
+  both_come = record {
+    exact = (exact_first, (exact_second, tt));
+    sums = λ k. omega (arith, ints, both_sum k);
+  }
 
 -- ---- while terms are merged
 
@@ -104,9 +114,6 @@ pub record Parts (den : ℕ) (step action : ℕ) (steps choices : List ℕ)
   pub sums : (k : ℕ) → sum_of_entries k den (step ∷ steps) (action ∷ choices) terms
       ≡ sum_of_entries k den steps choices left
       +ℤ (sum_of_entries k den steps choices more +ℤ sum_of_entries k den steps choices others)
-  pub sizes : size_of_entries den (step ∷ steps) (action ∷ choices) terms
-      ≤ size_of_entries den steps choices left
-      + (size_of_entries den steps choices more + size_of_entries den steps choices others)
 
 abbrev pub Merging : ℕ → ℕ → List Entry → List Entry → List Entry → List Entry → Type 0
 Merging step action terms left more others = (den : ℕ) (steps choices : List ℕ)
@@ -114,57 +121,31 @@ Merging step action terms left more others = (den : ℕ) (steps choices : List �
     → AreExactAt den steps choices others
     → Parts den step action steps choices terms left more others
 
-module _ (step action : ℕ) (terms left more others : List Entry) where
-  pub take_free : (t : Entry) → Merging step action terms left (t ∷ more) others
-      → Merging step action terms (left ++ t ∷ []) more others
-  take_free t before den steps choices done exact_more exact_others =
-      let both = all_parts (IsExactAt den steps choices) left (t ∷ []) done in
-      let parts = before den steps choices both.0 (both.1.0, exact_more) exact_others in record {
-        exact = parts.exact;
-        sums = λ k. omega (
-          arith,
-          ints,
-          parts.sums k,
-          sum_append den steps choices k left (t ∷ []),
-        );
-        sizes = omega (arith, parts.sizes, size_append den steps choices left (t ∷ []));
-      }
-
-  pub take_own : (t : Entry) → Merging step action terms left more (t ∷ others)
-      → Merging step action terms (left ++ t ∷ []) more others
-  take_own t before den steps choices done exact_more exact_others =
-      let both = all_parts (IsExactAt den steps choices) left (t ∷ []) done in
-      let parts = before den steps choices both.0 exact_more (both.1.0, exact_others) in record {
-        exact = parts.exact;
-        sums = λ k. omega (
-          arith,
-          ints,
-          parts.sums k,
-          sum_append den steps choices k left (t ∷ []),
-        );
-        sizes = omega (arith, parts.sizes, size_append den steps choices left (t ∷ []));
-      }
-
-  pub take_both : (a b sum : Entry) → sum.head.demands ≡ a.head.demands
-      → sum.head.demands ≡ b.head.demands → (0 < sum.head.den → IsSumOf a b sum)
-      → Merging step action terms left (a ∷ more) (b ∷ others)
-      → Merging step action terms (left ++ sum ∷ []) more others
-  take_both a b sum first second adds before den steps choices done exact_more exact_others =
-      let both = all_parts (IsExactAt den steps choices) left (sum ∷ []) done in
-      let known : IsExactAt den steps choices sum = both.1.0 in
-      let parts = before den steps choices both.0
-      (exact_first den steps choices a b sum first second adds known, exact_more)
-      (exact_second den steps choices a b sum first second adds known, exact_others) in record {
-        exact = parts.exact;
-        sums = λ k. omega (
-          arith,
-          ints,
-          parts.sums k,
-          sum_append den steps choices k left (sum ∷ []),
-          both_sum den steps choices a b sum first second adds known k,
-        );
-        sizes = grind (arith, size_append, both_size);
-      }
+-- one more is made of some that come first
+pub take_next : (step action : ℕ) (terms left more others xs ys : List Entry) (t : Entry)
+    → ComeAsWell (xs ++ ys) (t ∷ []) → Merging step action terms left (xs ++ more) (ys ++ others)
+    → Merging step action terms (left ++ t ∷ []) more others
+take_next step action terms left more others xs ys t come before den steps choices done exact_more
+    exact_others =
+    let P = IsExactAt den steps choices in
+    let add = sum_append den steps choices in
+    let both = all_parts P left (t ∷ []) done in
+    let own = come den steps choices both.1 in
+    let each = all_parts P xs ys own.exact in
+    let parts = before den steps choices both.0 (all_both P xs more each.0 exact_more)
+    (all_both P ys others each.1 exact_others) in record {
+      exact = parts.exact;
+      sums = λ k. omega (
+        arith,
+        ints,
+        parts.sums k,
+        own.sums k,
+        add k left (t ∷ []),
+        add k xs more,
+        add k ys others,
+        add k xs ys,
+      );
+    }
 
 -- ---- before anything is merged
 
@@ -214,13 +195,13 @@ module _ (step action : ℕ) (steps choices : List ℕ) where
         → ((e : Entry) → P e → meets (step ∷ steps) (action ∷ choices) e.head.demands
         ≡ meets steps choices (d e)) → (es : List Entry) → AllByRecursion P es
         → AreExactAt den steps choices (map (demanding d) es) → Come es (map (demanding d) es)
-    come_same d met [] all h = record { exact = tt; sums = λ k. refl; sizes = omega arith }
+    come_same d met [] all h = record { exact = tt; sums = λ k. refl }
     come_same d met (e ∷ es) all h = grind (arith, come_same d met es all.1 h.1)
 
     come_none : ((e : Entry) → P e
         → meets (step ∷ steps) (action ∷ choices) e.head.demands ≡ false) → (es : List Entry)
         → AllByRecursion P es → Come es []
-    come_none unmet [] all = record { exact = tt; sums = λ k. refl; sizes = omega arith }
+    come_none unmet [] all = record { exact = tt; sums = λ k. refl }
     come_none unmet (e ∷ es) all = grind (arith, false_true, come_none unmet es all.1)
 
 -- the four ranges of the terms
@@ -238,7 +219,6 @@ first_parts step action terms free between own rest some ranges den steps choice
     exact_own =
     let both = all_both (IsExactAt den (step ∷ steps) (action ∷ choices)) in
     let sum = λ (k : ℕ). sum_append den (step ∷ steps) (action ∷ choices) k in
-    let size = size_append den (step ∷ steps) (action ∷ choices) in
     let come = come_same step action steps choices den in
     let other = come_none step action steps choices den (IsOther step action)
     (other_unmet step action steps choices) in

@@ -1,6 +1,6 @@
 -- Two ranges of terms while they are merged by the code.
 use Rattle.gf_form.proofs.Common.{◌≡◌, mul-le-mul_right, get_or-append_seam, IsNonDecreasingBy-push}
-use Rattle.gf_form.proofs.Common.{ℕ, ◌<◌, ◌≤◌, [], ◌∷◌, map, ap, sym, ◌∙◌, inl, inr}
+use Rattle.gf_form.proofs.Common.{ℕ, ◌<◌, ◌≤◌, [], ◌∷◌, map, ap, sym, ◌∙◌, inl, inr, refl, ComeAsWell}
 use Rattle.gf_form.proofs.Common.{zero, ◌+◌, ◌-◌, ◌*◌, List, ◌++◌, take, drop, Entry, part, Terms}
 use Rattle.gf_form.proofs.Common.{suc, AreAlike, AreMerged, EndsBelow, IsShaped, entry_at, no_entry}
 use Rattle.gf_form.proofs.Common.{length, get_or, arith, add-one, HasSum, entries, lowered, Chosen}
@@ -12,8 +12,8 @@ use Rattle.gf_form.specs.inner.rows.Entries.{CountsBelow}
 use Rattle.gf_form.proofs.lemmas.rows.FlatRows.{demands_more, entry_demands, none_taken}
 use Rattle.gf_form.proofs.lemmas.rows.FlatRows.{terms_count}
 use Rattle.gf_form.proofs.lemmas.rows.MergedEntries.{IsFree, IsOther, IsOwn, Merging, Ranges}
-use Rattle.gf_form.proofs.lemmas.rows.MergedEntries.{all_merged, first_parts, take_both, take_free}
-use Rattle.gf_form.proofs.lemmas.rows.MergedEntries.{take_own}
+use Rattle.gf_form.proofs.lemmas.rows.MergedEntries.{all_merged, both_come, first_parts, same_come}
+use Rattle.gf_form.proofs.lemmas.rows.MergedEntries.{take_next}
 
 -- ---- ranges of a list
 
@@ -198,19 +198,22 @@ module _ {from : Terms} {step action lowest free_end own_end free own : ℕ} {to
   own_demands : own < own_end → (entry_at from own).head.demands ≡ demands_at from own
   own_demands less = entry_demands from own (omega (arith, less, before.own_within))
 
-  -- one more term, and the places of those that are next
-  one_more : (next_free next_own : ℕ) (e : Entry) → own ≤ next_own
-      → entries after ≡ entries to ++ e ∷ []
-      → Made (entries to ++ e ∷ []) (frees next_free) (owns next_own)
+  -- one more term, made of those that come first, and the places of those that are next
+  one_more : (next_free next_own : ℕ) (e : Entry) (xs ys : List Entry) → own ≤ next_own
+      → entries after ≡ entries to ++ e ∷ [] → frees free ≡ xs ++ frees next_free
+      → owns own ≡ ys ++ owns next_own → ComeAsWell (xs ++ ys) (e ∷ [])
       → EndsBelow to.demands.items e.head.demands
       → (next_free < free_end → e.head.demands ≤ demands_at from next_free)
       → (next_own < own_end → e.head.demands ≤ demands_at from next_own - lowest)
       → Merges from step action lowest free_end own_end next_free next_own after
-  one_more next_free next_own e on is merging ends below_free below_own =
+  one_more next_free next_own e xs ys on is first second come ends below_free below_own =
       let grown = demands_more after to.den to.players to.demands.items to.scaled.items
       to.numbers.items e is in record {
         merging = subst (λ (made : List Entry). Made made (frees next_free) (owns next_own))
-            (sym is) merging;
+            (sym is)
+            (take_next step action (entries from) (entries to) (frees next_free) (owns next_own) xs
+            ys e come (subst (λ (more : List Entry). Made (entries to) more (ys ++ owns next_own))
+            first (subst (Made (entries to) (frees free)) second before.merging)));
         shaped = shaped;
         alike = (alike.0 ∙ before.alike.0, alike.1 ∙ before.alike.1);
         ordered = ordered_more to.demands.items after.demands.items e.head.demands grown
@@ -231,11 +234,9 @@ module _ {from : Terms} {step action lowest free_end own_end free own : ℕ} {to
   free_goes less first is =
       let t = entry_at from free in
       let demands = free_demands less in
-      one_more (free + 1) own t (omega arith)
-      (is ∙ ap (λ (e : Entry). entries to ++ e ∷ []) (lowered_none t))
-      (take_free step action (entries from) (entries to) (frees (free + 1)) (owns own) t
-      (subst (λ (more : List Entry). Made (entries to) more (owns own)) (first_free less)
-      before.merging))
+      one_more (free + 1) own t (t ∷ []) [] (omega arith)
+      (is ∙ ap (λ (e : Entry). entries to ++ e ∷ []) (lowered_none t)) (first_free less) refl
+      (same_come (t ∷ []))
       (λ d some. let le = before.free_next less d some in omega (arith, le, demands))
       (λ next. let le = rises free free_end next before.free_within in omega (arith, le, demands))
       (λ next. let le = first next in omega (arith, le, demands))
@@ -247,9 +248,8 @@ module _ {from : Terms} {step action lowest free_end own_end free own : ℕ} {to
   own_goes less first is =
       let t = lowered lowest (entry_at from own) in
       let demands = own_demands less in
-      one_more free (own + 1) t (omega arith) is
-      (take_own step action (entries from) (entries to) (frees free) (owns (own + 1)) t
-      (subst (Made (entries to) (frees free)) (first_own less) before.merging))
+      one_more free (own + 1) t [] (t ∷ []) (omega arith) is refl (first_own less)
+      (same_come (t ∷ []))
       (λ d some. let le = before.own_next less d some in omega (arith, le, demands))
       (λ next. let le = first next in omega (arith, le, demands))
       (λ next. let le = rises own own_end next before.own_within in omega (arith, le, demands))
@@ -264,20 +264,11 @@ module _ {from : Terms} {step action lowest free_end own_end free own : ℕ} {to
       let first = free_demands free_less in
       let second = own_demands own_less in
       let demands : has.sum.head.demands ≡ demands_at from free = has.demands ∙ first in
-      one_more (free + 1) (own + 1) has.sum (omega arith) has.is
-      (take_both step action (entries from) (entries to) (frees (free + 1)) (owns (own + 1)) t u
-      has.sum has.demands (omega (arith, has.demands, first, second, same))
-      (λ above. let s = has.adds above in record {
-        first = s.first;
-        first_divides = s.first_divides;
-        second = s.second;
-        second_divides = s.second_divides;
-        size = s.size;
-        numbers = s.numbers;
-      })
-      (subst (λ (more : List Entry). Made (entries to) more (u ∷ owns (own + 1)))
-      (first_free free_less)
-      (subst (Made (entries to) (frees free)) (first_own own_less) before.merging)))
+      one_more (free + 1) (own + 1) has.sum (t ∷ []) (u ∷ []) (omega arith) has.is
+      (first_free free_less) (first_own own_less)
+      (λ den steps choices exact. both_come den steps choices t u has.sum has.demands
+      (omega (arith, has.demands, first, second, same))
+      (λ above. let s = has.adds above in grind arith) exact.0)
       (λ d some. let le = before.free_next free_less d some in omega (arith, le, demands))
       (λ next. let le = rises free free_end next before.free_within in omega (arith, le, demands))
       (λ next. let le = rises own own_end next before.own_within in

@@ -1,8 +1,9 @@
 -- The shares of nodes, node by node.
-use Rattle.gf_form.proofs.Common.{◌≡◌, ℕ, ℤ, pos, ◌+◌, ◌*◌, ◌/◌, ◌≤◌, ◌+ℤ◌, List, [], ◌∷◌, ◌++◌}
-use Rattle.gf_form.proofs.Common.{suc, arith, sym, subst, ◌∣◌, all_both, one-dvd, Ratio, whole}
-use Rattle.gf_form.proofs.Common.{Game, ArePaid, IsExact, at_place, row_at, share, share_bound}
-use Rattle.gf_form.proofs.Common.{Path, Reached}
+use Rattle.gf_form.proofs.Common.{◌≡◌, ℕ, ℤ, pos, ◌+◌, ◌*◌, ◌≤◌, ◌+ℤ◌, List, [], ◌∷◌, ◌++◌}
+use Rattle.gf_form.proofs.Common.{suc, arith, subst, sym, ◌∙◌, ◌*ℤ◌, ◌/◌, all_both, one-dvd, Ratio, zero-*ℤ}
+use Rattle.gf_form.proofs.Common.{Game, ArePaid, at_place, row_at, map-append, IsExactAt, *ℤ-zero}
+use Rattle.gf_form.proofs.Common.{node_term, node_terms, term_of, Path, Reached, unsigned_abs, ne_eqb}
+use Rattle.gf_form.proofs.Common.{ap, *ℤ_assoc, mul_assoc, unsigned_abs-mul}
 use Rattle.gf_form.specs.inner.rows.Entries.{IsFactor}
 use Rattle.gf_form.specs.inner.rows.ListedNodes.{HasShares}
 use Rattle.gf_form.specs.inner.rows.Shares.{IsShare}
@@ -10,30 +11,42 @@ use Rattle.gf_form.specs.declared.rows.share.Share.{Share}
 use Rattle.gf_form.proofs.lemmas.rows.ShareSums.{bounds_append, shares_append}
 
 -- nothing is added to a payoff of zero
-pub zero_share : (path : Path) (pay : Ratio) (times : ℕ) (s : Share) → pay ≡ whole (pos 0)
-    → s.amount ≡ pos 0 → s.bound ≡ 0 → IsShare path pay times s
-zero_share path pay times s nothing amount_is bound_is =
-    let none : 0 * (times / 1) ≡ 0 = omega arith in
-    subst (λ (pay : Ratio). IsShare path pay times s) (sym nothing) (grind (arith, one-dvd))
+pub zero_share : (path : Path) (pay : Ratio) (den : ℕ) (s : Share) → pay.num ≡ pos 0
+    → s.amount ≡ pos 0 → s.bound ≡ 0 → IsShare (term_of path pay) den s
+zero_share path pay den s nothing amount_is bound_is =
+    rw nothing (record {
+      exact = λ _. (omega arith, one-dvd den);
+      amount_is = amount_is ∙ sym (cc (*ℤ-zero (pos path.weight), zero-*ℤ (pos (den / 1))));
+      bound_is = bound_is ∙ omega arith;
+    })
+
+pub own_share : (path : Path) (pay : Ratio) (den factor : ℕ) (s : Share)
+    → ¬ (unsigned_abs pay.num ≡ 0) → IsFactor (path.den * pay.den) den factor
+    → s.amount ≡ pos path.weight *ℤ (pay.num *ℤ pos factor)
+    → s.bound ≡ path.bound * unsigned_abs (pay.num *ℤ pos factor)
+    → IsShare (term_of path pay) den s
+own_share path pay den factor s some is amount_is bound_is =
+    rw (ne_eqb (unsigned_abs pay.num) 0 some) (record {
+      exact = λ _. (is.above, is.divides);
+      amount_is = amount_is ∙ sym (*ℤ_assoc (pos path.weight) pay.num (pos factor))
+          ∙ ap (λ (n : ℕ). pos path.weight *ℤ pay.num *ℤ pos n) is.factor_is;
+      bound_is = cc (
+        unsigned_abs-mul pay.num (pos factor),
+        mul_assoc path.bound (unsigned_abs pay.num) factor,
+        is.factor_is,
+      );
+    })
 
 module _ (g : Game) (rows : List (List Ratio)) (are : ArePaid g rows) (k den : ℕ) where
-  pub one_share_more : (rs : List Reached) (r : Reached) (times bound next : ℕ) (amount total : ℤ)
-      (s : Share) → IsFactor r.path.den den times
-      → IsShare r.path (at_place (row_at rows r.outcome) k) times s
+  pub one_share_more : (rs : List Reached) (r : Reached) (bound next : ℕ) (amount total : ℤ)
+      (s : Share) → IsShare (term_of r.path (at_place (row_at rows r.outcome) k)) den s
       → total ≡ amount +ℤ s.amount → next ≡ bound + s.bound
       → HasShares g rs k den bound amount → HasShares g (rs ++ r ∷ []) k den next total
-  one_share_more rs r times bound next amount total s factor is total_is next_is before =
-      let paid = are.paid_is r.outcome k in
-      let own : s.amount ≡ share g (suc k) den r = cc (is.amount_is, factor.factor_is, paid) in
-      let size : s.bound ≡ share_bound g (suc k) den r =
-      cc (is.bound_is, factor.factor_is, paid) in
-      let exact : IsExact g (suc k) den r = record {
-        path = factor.divides;
-        pay = subst (λ (p : Ratio). p.den ∣ den / r.path.den) paid
-            (subst (λ (n : ℕ). (at_place (row_at rows r.outcome) k).den ∣ n) factor.factor_is
-            is.exact);
-      } in record {
-        exact = all_both (IsExact g (suc k) den) rs (r ∷ []) before.exact (exact, tt);
+  one_share_more rs r bound next amount total s is total_is next_is before =
+      let own = subst (λ (pay : Ratio). IsShare (term_of r.path pay) den s)
+      (are.paid_is r.outcome k) is in record {
+        exact = rw map-append (all_both (IsExactAt den [] []) (node_terms g (suc k) rs)
+            (node_term g (suc k) r ∷ []) before.exact (own.exact, tt));
         number_is = grind (arith, shares_append);
         bound = grind (arith, bounds_append);
       }

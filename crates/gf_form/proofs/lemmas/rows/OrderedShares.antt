@@ -1,10 +1,11 @@
--- The sums of shares do not depend on the order of the nodes.
-use Rattle.gf_form.proofs.Common.{◌≡◌, ℕ, ◌+◌, ℤ, pos, ◌+ℤ◌, List, [], ◌∷◌, refl, arith}
-use Rattle.gf_form.proofs.Common.{if◌then◌else◌, IsPermutation, Game, meets, met_bounds, share}
-use Rattle.gf_form.proofs.Common.{share_bound, sum_of_shares, Reached}
+-- What terms come to does not depend on their order.
+use Rattle.gf_form.proofs.Common.{◌≡◌, ℕ, ◌+◌, ◌/◌, ℤ, pos, ◌+ℤ◌, ◌*ℤ◌, List, [], ◌∷◌, refl, arith}
+use Rattle.gf_form.proofs.Common.{if◌then◌else◌, IsPermutation, meets, number_at, sum_of_entries}
+use Rattle.gf_form.proofs.Common.{ComeAsWell, Entry, IsExactAt, All-from_recursion}
+use Rattle.gf_form.proofs.Common.{All-permutation, recursion_from_All}
 use borrow.Author.Differences.{up, down, same_in, sum_is_lem}
 use Rattle.std.specs.List.{sum_by}
-use Rattle.std.proofs.lemmas.List.Sorted.{sum_by-IsPermutation}
+use Rattle.std.proofs.lemmas.List.Sorted.{IsPermutation-sym, sum_by-IsPermutation}
 use Rattle.std.proofs.lemmas.List.Sums.{sum_by-cons}
 
 more : (z s : ℤ) (m n : ℕ) → up s + n ≡ m + down s
@@ -14,45 +15,38 @@ more z s m n h = omega (arith, h, sum_is_lem z s)
 same : (s t : ℤ) (m n : ℕ) → up s + n ≡ m + down s → up t + n ≡ m + down t → s ≡ t
 same s t m n h k = same_in s t (omega (arith, h, k))
 
-module _ (g : Game) (player den : ℕ) where
-  module _ (steps choices : List ℕ) where
-    abbrev counted : Reached → ℤ
-    counted r = if meets steps choices r.path.demands then share g player den r else pos 0
+module _ (k den : ℕ) (steps choices : List ℕ) where
+  abbrev counted : Entry → ℤ
+  counted e = if meets steps choices e.head.demands
+      then number_at k e *ℤ pos (den / e.head.den) else pos 0
 
-    abbrev gains : List Reached → ℕ
-    gains rs = sum_by (λ r. up (counted r)) rs
+  abbrev gains : List Entry → ℕ
+  gains es = sum_by (λ e. up (counted e)) es
 
-    abbrev losses : List Reached → ℕ
-    losses rs = sum_by (λ r. down (counted r)) rs
+  abbrev losses : List Entry → ℕ
+  losses es = sum_by (λ e. down (counted e)) es
 
-    -- the sum of integers as a difference of two sums
-    as_sizes : (rs : List Reached) → up (sum_of_shares g player den steps choices rs) + losses rs
-        ≡ gains rs + down (sum_of_shares g player den steps choices rs)
-    as_sizes [] = refl
-    as_sizes (r ∷ rs) =
-        let s = sum_of_shares g player den steps choices rs in
-        omega (
-          arith,
-          more (counted r) s (gains rs) (losses rs) (as_sizes rs),
-          sum_by-cons (λ r. up (counted r)) r rs,
-          sum_by-cons (λ r. down (counted r)) r rs,
-        )
+  -- the sum of integers as a difference of two sums
+  as_sizes : (es : List Entry) → up (sum_of_entries k den steps choices es) + losses es
+      ≡ gains es + down (sum_of_entries k den steps choices es)
+  as_sizes [] = refl
+  as_sizes (e ∷ es) = omega (
+    arith,
+    more (counted e) (sum_of_entries k den steps choices es) (gains es) (losses es) (as_sizes es),
+    sum_by-cons (λ e. up (counted e)) e es,
+    sum_by-cons (λ e. down (counted e)) e es,
+  )
 
-    pub shares_permuted : (rs ss : List Reached) → IsPermutation rs ss
-        → sum_of_shares g player den steps choices ss ≡ sum_of_shares g player den steps choices rs
-    shares_permuted rs ss h =
-        same (sum_of_shares g player den steps choices ss)
-        (sum_of_shares g player den steps choices rs) (gains rs) (losses rs)
-        (grind (arith, as_sizes, sum_by-IsPermutation))
-        (as_sizes rs)
+  sum_permuted : (es fs : List Entry) → IsPermutation es fs
+      → sum_of_entries k den steps choices es ≡ sum_of_entries k den steps choices fs
+  sum_permuted es fs h =
+      same (sum_of_entries k den steps choices es) (sum_of_entries k den steps choices fs)
+      (gains es) (losses es) (as_sizes es) (grind (arith, as_sizes, sum_by-IsPermutation))
 
-    abbrev bound : Reached → ℕ
-    bound r = if meets steps choices r.path.demands then share_bound g player den r else 0
-
-    bounds_sum : (rs : List Reached) → met_bounds g player den steps choices rs ≡ sum_by bound rs
-    bounds_sum [] = refl
-    bounds_sum (r ∷ rs) = cc (bounds_sum rs, sum_by-cons bound r rs)
-
-    pub bounds_permuted : (rs ss : List Reached) → IsPermutation rs ss
-        → met_bounds g player den steps choices ss ≡ met_bounds g player den steps choices rs
-    bounds_permuted rs ss h = cc (bounds_sum ss, sum_by-IsPermutation bound rs ss h, bounds_sum rs)
+pub come_permuted : (es fs : List Entry) → IsPermutation es fs → ComeAsWell es fs
+come_permuted es fs order den steps choices all = record {
+  exact = let P = IsExactAt den steps choices in
+      recursion_from_All P es
+      (All-permutation P fs es (IsPermutation-sym es fs order) (All-from_recursion P fs all));
+  sums = λ k. sum_permuted k den steps choices es fs order;
+}

@@ -7,7 +7,7 @@ use Rattle.gf_form.proofs.Common.{pos_of_dvd_of_pos, Ratio, HasValue, IsFraction
 use Rattle.gf_form.proofs.Common.{plus, times, IsLcm, IsProduct, IsSum, SumFits, scaled_num}
 use Rattle.gf_form.proofs.Common.{product_of, ◌then◌, back, lowest_of-fraction, product_of-some}
 use Rattle.gf_form.proofs.Common.{sum_of-some, *ℤ-cancel_right, *ℤ_assoc, add-*ℤ, mul_pos_right}
-use Rattle.gf_form.proofs.Common.{mul_above, equal_refl, plus_both, IsLcm-from_gcd, over}
+use Rattle.gf_form.proofs.Common.{mul_above, equal_refl, plus_both, IsLcm-from_gcd}
 use Rattle.std.specs.Int.{IsGcd}
 use Rattle.std.proofs.lemmas.Nat.Gcd.{IsGcd-from_mod, IsGcd-from_zero, IsGcd-swap, le_of_dvd}
 use Rattle.gf_fraction.specs.Computed.{lowest_of, sum_of}
@@ -69,14 +69,19 @@ den_divides x n s f v =
     dvd_of_dvd-mul x.den (unsigned_abs x.num) s (IsGcd-swap _ _ _ f.lowest)
     (subst (λ k. x.den ∣ k) (sym sizes) (dvd-mul_left x.den (unsigned_abs n)))
 
-over_is : (x : Ratio) (n : ℤ) (s : ℕ) → 0 < x.den → HasValue x n s → x.den ∣ s → over s x ≡ n
+over_is : (x : Ratio) (n : ℤ) (s : ℕ) → 0 < x.den → HasValue x n s → x.den ∣ s
+    → x.num *ℤ pos (s / x.den) ≡ n
 over_is x n s above v h =
-    *ℤ-cancel_right (over s x) n x.den above
+    *ℤ-cancel_right (x.num *ℤ pos (s / x.den)) n x.den above
     (cc (*ℤ_assoc x.num (pos (s / x.den)) (pos x.den), div-mul_cancel x.den h))
 
--- over a denominator that its own divides
-pub over_value : (x : Ratio) (s : ℕ) → x.den ∣ s → HasValue x (over s x) s
-over_value x s h = cc (div-mul_cancel x.den h, *ℤ_assoc x.num (pos (s / x.den)) (pos x.den))
+-- over what is left of a denominator after a part of it
+pub own_value : (x : Ratio) (by s : ℕ) → 0 < s → by * x.den ∣ s
+    → HasValue x (x.num *ℤ pos (s / (by * x.den))) (s / by)
+own_value x by s above h =
+    let whole = quotient_of_product by x.den s above h in
+    let turned : x.den * (s / (by * x.den)) ≡ s / (by * x.den) * x.den = omega arith in
+    cc (*ℤ_assoc x.num (pos (s / (by * x.den))) (pos x.den))
 
 -- ---- sums
 

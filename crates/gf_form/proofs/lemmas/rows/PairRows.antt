@@ -6,12 +6,12 @@ use Rattle.gf_form.proofs.Common.{take-length, eqb-true, length-take-le, IsFract
 use Rattle.gf_form.proofs.Common.{one_fraction, Game, IsGame, IsSpellable, HasValues, ArePayoffsAt}
 use Rattle.gf_form.proofs.Common.{all_choices, choices_by, full_profiles, strategies_at, meets}
 use Rattle.gf_form.proofs.Common.{steps_of, AreChosen, AreExactAt, Entry, IsScale, entries}
-use Rattle.gf_form.proofs.Common.{entries_of, entry_at, heads_of, lowered, part, size_of_entries}
-use Rattle.gf_form.proofs.Common.{sum_of_entries, HasPairRow, IsPaidPair, actions_at, SettleRows}
+use Rattle.gf_form.proofs.Common.{entries_of, entry_at, heads_of, lowered, part, ComeTo, ints}
+use Rattle.gf_form.proofs.Common.{◌+ℤ◌, ◌*ℤ◌, pos, number_at, IsWithin, sum_of_entries, HasPairRow, IsPaidPair, actions_at, SettleRows}
 use Rattle.gf_form.proofs.Common.{Settles, SettlesAt, at_place, value, Chosen, Digit, Scale, Scaled}
 use Rattle.gf_form.proofs.Common.{Terms, Asked, Run, AreWritten, asked_profiles, sym, zero_ratio}
 use Rattle.gf_form.specs.declared.rows.written.Written.{Written}
-use Rattle.gf_form.specs.inner.rows.Pairs.{ComeToOne, ComeToPair, IsOnly, entry_of}
+use Rattle.gf_form.specs.inner.rows.Pairs.{ComeToPair, IsOnly, entry_of}
 use Rattle.gf_form.specs.inner.rows.SettledRows.{PaysOver, SettleAlike}
 use Rattle.gf_form.specs.declared.rows.pairs.Only.{Only}
 use Rattle.gf_form.specs.declared.rows.pairs.Pair.{Pair}
@@ -50,10 +50,35 @@ module _ (den less : ℕ) where
   low_sum k [] = refl
   low_sum k (e ∷ es) = cc (low_sum k es)
 
-  low_size : (es : List Entry) → size_of_entries den [] [] (map (lowered less) es)
-      ≡ size_of_entries den [] [] es
-  low_size [] = refl
-  low_size (e ∷ es) = ap (λ (n : ℕ). e.head.size * (den / e.head.den) + n) (low_size es)
+scaled_both : (x y : ℤ) (m n : ℕ) → x *ℤ pos m +ℤ pos 0 +ℤ (y *ℤ pos n +ℤ pos 0)
+    ≡ x *ℤ pos m +ℤ y *ℤ pos n
+scaled_both x y m n = omega (arith, ints)
+
+-- terms that come to both
+module _ (first second : Only) (s : Scale) (is : IsScale first.head second.head s)
+    (above : 0 < s.den) (within : s.den < 2 ^ 127) (small : s.size < 2 ^ 127)
+    (steps choices : List ℕ) (es : List Entry) (exact : AreExactAt s.den steps choices es)
+    (sums : (k : ℕ) → sum_of_entries k s.den steps choices es
+    ≡ sum_of_entries k s.den [] [] (entry_of first ∷ [])
+    +ℤ sum_of_entries k s.den [] [] (entry_of second ∷ [])) where
+  both : (k : ℕ) → sum_of_entries k s.den steps choices es
+      ≡ number_at k (entry_of first) *ℤ pos s.first +ℤ number_at k (entry_of second) *ℤ pos s.second
+  both k =
+      sums k
+      ∙ scaled_both (number_at k (entry_of first)) (number_at k (entry_of second))
+      (s.den / first.head.den) (s.den / second.head.den)
+      ∙ (λ i. number_at k (entry_of first) *ℤ pos (sym is.first.factor_is i)
+      +ℤ number_at k (entry_of second) *ℤ pos (sym is.second.factor_is i))
+
+  pair_comes : ComeToPair steps choices es
+      (record { scale = s; first = first.numbers; second = second.numbers })
+  pair_comes = record {
+    above = above;
+    within = within;
+    exact = exact;
+    size = subst IsWithin (sym (both 0)) (omega (arith, is.size, small));
+    sums = λ k. both (suc k);
+  }
 
 pub come_to_pair : (from : Terms) (action : ℕ) (chosen : Chosen) → 1 ≤ action
     → AreChosen from.demands.items 1 action chosen → (first second : Only) (s : Scale)
@@ -70,14 +95,15 @@ come_to_pair from action chosen some are first second s only_first only_second i
     let start = chosen.start in
     let end = chosen.end in
     let whole : free - 0 ≡ free = omega arith in
-    let a = subst (λ (n : ℕ). ComeToOne (take n es) (entry_of first) den) whole
+    let a = subst (λ (n : ℕ). ComeTo den [] [] (take n es) [] [] (entry_of first ∷ [])) whole
     (only_first den is.first.above is.first.divides) in
     let b = only_second den is.second.above is.second.divides in
     let own = part start end es in
     let parts = first_parts 1 action es (take free es) (part free start es) own (drop end es) some
     (ranges from 1 action some chosen are) den [] [] tt a.exact
     (low_exact den (action * 1) own b.exact) in
-    grind (arith, low_size, low_sum)
+    pair_comes first second s is above within small (1 ∷ []) (action ∷ []) es parts.exact
+    (λ k. omega (arith, ints, parts.sums k, a.sums k, low_sum den (action * 1) k own, b.sums k))
 
 -- all terms, if there is at most one, and none beside them
 pub come_alone : (from : Terms) (chosen : Chosen) → chosen.free ≡ length from.demands.items
@@ -93,7 +119,14 @@ come_alone from chosen whole none first second s only_first only_second is above
     let den = s.den in
     let count = terms_count from in
     let all : chosen.free - 0 ≡ length es = omega (arith, whole, count) in
-    grind (arith, take-length, part_past)
+    let a = subst (λ (xs : List Entry). ComeTo den [] [] xs [] [] (entry_of first ∷ []))
+    (ap (λ (n : ℕ). take n es) all ∙ take-length es)
+    (only_first den is.first.above is.first.divides) in
+    let b = subst (λ (xs : List Entry). ComeTo den [] [] xs [] [] (entry_of second ∷ []))
+    (part_past es chosen.start chosen.end none)
+    (only_second den is.second.above is.second.divides) in
+    pair_comes first second s is above within small [] [] es a.exact
+    (λ k. omega (arith, ints, a.sums k, b.sums k))
 
 -- ---- what is paid
 
@@ -215,11 +248,6 @@ module _ (den : ℕ) (ns choices : List ℕ) where
   free_sum k [] all = refl
   free_sum k (e ∷ es) all = cc (any_met e.head.demands all.0, free_sum k es all.1)
 
-  free_size : (es : List Entry) → AllByRecursion IsFree es
-      → size_of_entries den (steps_of ns) choices es ≡ size_of_entries den [] [] es
-  free_size [] all = refl
-  free_size (e ∷ es) all = cc (any_met e.head.demands all.0, free_size es all.1)
-
 -- it is what is paid whatever is chosen
 pub one_for_all : (asked : Asked) (digits : List Digit) (terms : Terms) (run : Run)
     → length terms.demands.items ≤ 1 → get_or terms.demands.items 0 0 ≡ 0
@@ -232,9 +260,9 @@ one_for_all asked digits terms run few none settles i from to k less den above w
     let all = are_free terms.players terms.den terms.demands.items terms.scaled.items
     terms.numbers.items few none in
     let here = settles i from to in
-    subst (PaysOver asked.game.now number k den) (free_sum den ns choices k es all)
+    subst (PaysOver asked.game.now number k den) (free_sum den ns choices (suc k) es all)
     (here.settles k less den above within (free_exact den ns choices es all exact)
-    (omega (arith, free_size den ns choices es all, small)))
+    (rw (free_sum den ns choices 0 es all) small))
 
 pub one_digit : (asked : Asked) (digits : List Digit) (terms : Terms) (run : Run)
     → 1 ≤ length digits → (length (take (length digits - 1) (drop 1 digits)) == 0) ≡ true

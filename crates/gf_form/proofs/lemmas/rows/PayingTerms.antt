@@ -1,11 +1,11 @@
 -- Terms that fit together over one denominator, and those of them that add something.
 use Rattle.gf_form.proofs.Common.{◌≡◌, pos, ◌+◌, ◌*◌, ◌/◌, ◌<◌, ◌≤◌, take, drop, refl, Game, Head}
-use Rattle.gf_form.proofs.Common.{ℕ, ℤ, ◌^◌, [], ◌∷◌, ap, sym, ◌∙◌, ◌∣◌}
+use Rattle.gf_form.proofs.Common.{ℕ, ℤ, ◌^◌, [], ◌∷◌, ap, sym, ◌∙◌, ◌∣◌, suc, ints, unsigned_abs}
 use Rattle.gf_form.proofs.Common.{◌+ℤ◌, length, zero-*ℤ, add-*ℤ, entries, heads_of, lowered, Scaled}
 use Rattle.gf_form.proofs.Common.{◌*ℤ◌, Bool, true, List, ◌++◌, arith, meets, Entry, heads, Terms}
 use Rattle.gf_form.proofs.Common.{subst, dvd_refl, all_both, *ℤ_assoc, AreAlike, IsShaped, entry_at}
 use Rattle.gf_form.proofs.Common.{if◌then◌else◌, take-length, all_parts, AreExactAt, sum_of_entries}
-use Rattle.gf_form.proofs.Common.{AllByRecursion, div-mul_cancel, *ℤ-cancel_right, size_of_entries}
+use Rattle.gf_form.proofs.Common.{AllByRecursion, div-mul_cancel, *ℤ-cancel_right}
 use Rattle.gf_form.proofs.Common.{take-suc, AreOrdered, EndsBelow, entries_of, number_at, SettlesAt}
 use Rattle.gf_fraction.proofs.Integers.{*ℤ_right_comm}
 use Rattle.gf_form.specs.inner.rows.Paying.{FitOver, IsOver, Kept, SettleAsWell, sizes_of}
@@ -22,8 +22,9 @@ are_over : (den p : ℕ) (hs : List Head) (ns : List ℤ)
 are_over den p [] ns all = tt
 are_over den p (h ∷ hs) ns all = (all.0, are_over den p hs (drop p ns) all.1)
 
-chosen : (b : Bool) (n : ℕ) → (if b then n else 0) ≤ n
-chosen b n = grind arith
+chosen : (b : Bool) (n : ℕ) (s : ℤ) (most : ℕ) → unsigned_abs s ≤ most
+    → unsigned_abs ((if b then pos n *ℤ pos 1 else pos 0) +ℤ s) ≤ n + most
+chosen b n s most less = grind (arith, ints)
 
 module _ (den : ℕ) (above : 0 < den) (steps choices : List ℕ) where
   are_exact : (es : List Entry) → AllByRecursion (IsOver den) es
@@ -39,9 +40,10 @@ module _ (den : ℕ) (above : 0 < den) (steps choices : List ℕ) where
 
   sizes_met : (p : ℕ) (hs : List Head) (ns : List ℤ)
       → AllByRecursion (λ (h : Head). h.den ≡ den) hs
-      → size_of_entries den steps choices (entries_of p hs ns) ≤ sizes_of hs
+      → unsigned_abs (sum_of_entries 0 den steps choices (entries_of p hs ns)) ≤ sizes_of hs
   sizes_met p [] ns all = omega arith
-  sizes_met p (h ∷ hs) ns all = grind (arith, itself, chosen, sizes_met p hs (drop p ns) all.1)
+  sizes_met p (h ∷ hs) ns all = rw (all.0, itself den above)
+      (chosen (meets steps choices h.demands) h.size _ _ (sizes_met p hs (drop p ns) all.1))
 
 -- ---- over a multiple of the denominator
 
@@ -86,12 +88,12 @@ kept_more es left e before = record {
 none_met : (b : Bool) (z : ℤ) (n : ℕ) → z ≡ pos 0 → (if b then z *ℤ pos n else pos 0) ≡ pos 0
 none_met b z n none = grind arith
 
-kept_zero : (es left : List Entry) (e : Entry) → ((k : ℕ) → number_at k e ≡ pos 0)
+kept_zero : (es left : List Entry) (e : Entry) → ((k : ℕ) → number_at (suc k) e ≡ pos 0)
     → Kept es left → Kept (es ++ e ∷ []) left
 kept_zero es left e none before = record {
   sums = λ k den steps choices.
       let own = if meets steps choices e.head.demands
-      then number_at k e *ℤ pos (den / e.head.den) else pos 0 in
+      then number_at (suc k) e *ℤ pos (den / e.head.den) else pos 0 in
       grind (arith, none_met, sum_append);
   among = λ den all. before.among den (all_parts (IsOver den) es (e ∷ []) all).0;
 }
@@ -106,13 +108,13 @@ settled_as_well from left den fit kept g number steps choices settles k less mos
     let base = settles k less den fit.above fit.within
     (are_exact den fit.above steps choices (entries from) all)
     (grind (arith, sizes_met)) in
-    let whole = sum_of_entries k den steps choices (entries from) in
-    let left_whole = sum_of_entries k most steps choices (entries left) in
+    let whole = sum_of_entries (suc k) den steps choices (entries from) in
+    let left_whole = sum_of_entries (suc k) most steps choices (entries left) in
     let num = base.payoff.num in
     let own = base.payoff.den in
     let same : whole *ℤ pos most ≡ left_whole *ℤ pos den =
     ap (λ (z : ℤ). z *ℤ pos most) (sym (kept.sums k den steps choices))
-    ∙ sym (all_scaled k den most fit.above steps choices (entries left) (kept.among den all)
+    ∙ sym (all_scaled (suc k) den most fit.above steps choices (entries left) (kept.among den all)
     exact) in
     record {
       payoff = base.payoff;
@@ -168,7 +170,7 @@ module _ (from : Terms) (i : ℕ) (left : Terms) (sorted : AreOrdered from)
             (let le = rises there in omega (arith, le, demands));
       }
 
-  pub same_paying : ((k : ℕ) → number_at k (entry_at from i) ≡ pos 0) → Paying from (i + 1) left
+  pub same_paying : ((k : ℕ) → number_at (suc k) (entry_at from i) ≡ pos 0) → Paying from (i + 1) left
   same_paying none = grind (arith, one_more, kept_zero, rises)
 
 -- those of terms that were put over one denominator

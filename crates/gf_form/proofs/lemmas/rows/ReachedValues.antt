@@ -6,11 +6,12 @@ use Rattle.gf_form.proofs.Common.{suc, pos, ◌+◌, ap, ◌==◌, ◌&&◌, Tre
 use Rattle.gf_form.proofs.Common.{◌*◌, ◌/◌, ◌^◌, ◌<◌, ◌≤◌, ◌∷◌, set, sym, ◌∙◌, inr}
 use Rattle.gf_form.proofs.Common.{false, unsigned_abs, if◌then◌else◌, AllByRecursion, sum_of_shares}
 use Rattle.gf_form.proofs.Common.{Option, eqb-false, zero_ratio, met_bounds, chances_at, value_over}
-use Rattle.gf_form.proofs.Common.{MatchOption, option_map, paid_at_node, IsExactIfMet, chance_value}
+use Rattle.gf_form.proofs.Common.{MatchOption, option_map, paid_at_node, AreExactShares, chance_value}
 use Rattle.gf_form.proofs.Common.{length, get_or, eq-eqb, ne_eqb, branch, SetKey, plus_of, Reached}
 use Rattle.gf_form.proofs.Common.{subst, arith, Ratio, Trees, count, IsGame, set_at, meets, FitsAt}
 use Rattle.gf_form.proofs.Common.{all_parts, payoff_at, below_set, by_action, by_chance, by_choice}
 use Rattle.gf_form.proofs.Common.{HasValue, flatten, steps_of, by_each, over_set, reached, times_of}
+use Rattle.gf_form.proofs.Common.{[], IsExactAt, map-append, node_terms}
 use Rattle.gf_form.specs.inner.rows.ReachedNodes.{has_room, is_sum}
 use Rattle.gf_form.proofs.lemmas.values.Denominators.{chance_size, payoff_fraction}
 use Rattle.gf_form.proofs.lemmas.values.Denominators.{probability_fraction}
@@ -31,7 +32,7 @@ module _ (g : Game) (game : IsGame g) (spellable : IsSpellable g) (steps choose 
     (actions choices : List ℕ) (digits : AreDigits g steps choose actions choices)
     (player den : ℕ) (den_above : 0 < den) (den_within : den < 2 ^ 127) where
   abbrev AreExact : List Reached → Type 0
-  AreExact rs = AllByRecursion (IsExactIfMet g player den (steps_of actions) choices) rs
+  AreExact rs = AreExactShares g player den (steps_of actions) choices rs
 
   abbrev bounds : List Reached → ℕ
   bounds rs = met_bounds g player den (steps_of actions) choices rs
@@ -60,7 +61,8 @@ module _ (g : Game) (game : IsGame g) (spellable : IsSpellable g) (steps choose 
 
   parts : (xs ys : List Reached) → AreExact (xs ++ ys) → AreExact xs × AreExact ys
   parts xs ys h =
-      all_parts (IsExactIfMet g player den (steps_of actions) choices) xs ys h
+      all_parts (IsExactAt den (steps_of actions) choices) (node_terms g player xs)
+      (node_terms g player ys) (rw map-append at h)
 
   -- ---- a node
 
@@ -115,9 +117,14 @@ module _ (g : Game) (game : IsGame g) (spellable : IsSpellable g) (steps choose 
   awake_valued n ts path ds is some below None at exact limit =
       leaf_valued _ _ _ _ _ _ _ (record { path = path; outcome = paid_at_node g n })
       (payoff_at g player n) (paid_is g player n) (own_fraction n)
-      (exact.0 (demands_met path ds is)) (demands_met path ds is)
+      exact.0 (demands_met path ds is)
   awake_valued n ts path ds is some below (Some key) at exact limit =
-      grind (arith, move_valued, paid_is, own_fraction, demands_met)
+      let own : Reached = record { path = path; outcome = paid_at_node g n } in
+      let rs = below_set g steps path n ts key in
+      let lists = bounds_append g player den (steps_of actions) choices (own ∷ []) rs in
+      move_valued _ _ _ _ _ _ _ own (payoff_at g player n) (paid_is g player n) (own_fraction n)
+      exact.0 (demands_met path ds is) (value_below n ts key) rs some limit
+      (below path is key at (λ _. some) exact.1 (omega (arith, limit, lists)))
 
   -- the node at the end of a path that is idle or is not, and at which something is added or is not
   abbrev met_if : Bool → Bool → Path → ℕ → Reached
@@ -144,7 +151,9 @@ module _ (g : Game) (game : IsGame g) (spellable : IsSpellable g) (steps choose 
       awake_valued n ts path ds is some below o at
   node_valued n ts path ds is below None at true idle true adds = absurd cc
   node_valued n ts path ds is below None at true idle false adds =
-      grind (arith, eqb-true, idle_leaf, own_fraction)
+      λ exact limit. let unbound = eqb-true path.bound 0 idle in
+      idle_leaf _ _ _ _ _ _ _ (met_if true false path (paid_at_node g n)) (is.weightless unbound)
+      unbound (payoff_at g player n) (own_fraction n)
   node_valued n ts path ds is below (Some key) at true idle true adds = λ exact limit.
       let anew : Path =
       record { weight = path.weight; bound = 1; den = 1; demands = path.demands } in

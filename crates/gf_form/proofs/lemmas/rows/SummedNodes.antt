@@ -2,61 +2,81 @@
 use Rattle.gf_form.proofs.Common.{◌≡◌, ℕ, zero, suc, ℤ, pos, ◌+◌, ◌<◌, ◌≤◌, ◌*ℤ◌, Bool, true, false}
 use Rattle.gf_form.proofs.Common.{List, [], ◌∷◌, ◌++◌, ⊤, arith, ap, refl, sym, subst, ◌∙◌, get_or}
 use Rattle.gf_form.proofs.Common.{length, ◌+ℤ◌, if◌then◌else◌, IsNonDecreasingBy, IsPermutation}
-use Rattle.gf_form.proofs.Common.{mod-lt, All-from_recursion, all_both, all_parts, Game, Entry}
-use Rattle.gf_form.proofs.Common.{AreTermsOf, IsExactIfMet, order_of, Reached, recursion_from_All}
-use Rattle.gf_form.proofs.Common.{All-permutation, MatchBool}
+use Rattle.gf_form.proofs.Common.{IsExactAt, map-append, node_term, node_terms}
+use Rattle.gf_form.proofs.Common.{◌/◌, add-*ℤ, ints, meets, number_at, pay_at}
+use Rattle.gf_form.proofs.Common.{mod-lt, all_both, all_parts, Game, Entry, AreTermsOf, order_of}
+use Rattle.gf_form.proofs.Common.{Reached, MatchBool}
 use Rattle.std.specs.List.Retain.{DedupsFrom, IsDeduped}
-use Rattle.std.proofs.lemmas.List.Sorted.{IsPermutation-sym}
+use Rattle.std.proofs.lemmas.List.Sorted.{IsPermutation-map}
 use Rattle.gf_form.specs.inner.rows.SummedNodes.{HaveSharesOf, IsNodeSum, weighing}
-use Rattle.gf_form.proofs.lemmas.rows.OrderedShares.{bounds_permuted, shares_permuted}
-use Rattle.gf_form.proofs.lemmas.rows.ShareSums.{bounds_append, shares_append}
+use Rattle.gf_form.proofs.lemmas.rows.MergedEntries.{same_come, sum_append}
+use Rattle.gf_form.proofs.lemmas.rows.OrderedShares.{come_permuted}
 
 -- ---- lists of nodes
 
 pub have_same : (rs : List Reached) → HaveSharesOf rs rs
-have_same rs = grind arith
+have_same rs g player = same_come (node_terms g player rs)
 
 pub have_then : (rs ss ts : List Reached) → HaveSharesOf rs ss → HaveSharesOf ss ts
     → HaveSharesOf rs ts
-have_then rs ss ts first second = grind arith
+have_then rs ss ts first second g player den steps choices exact =
+    let on = second g player den steps choices exact in
+    let come = first g player den steps choices on.exact in
+    record { exact = come.exact; sums = λ k. come.sums k ∙ on.sums k }
 
 pub have_both : (rs ss ps qs : List Reached) → HaveSharesOf rs ss → HaveSharesOf ps qs
     → HaveSharesOf (rs ++ ps) (ss ++ qs)
-have_both rs ss ps qs first second = record {
-  exact = λ g player den steps choices all.
-      let P = IsExactIfMet g player den steps choices in
-      let both = all_parts P ss qs all in
-      grind (arith, all_both);
-  sums = grind (arith, shares_append);
-  bounds = grind (arith, bounds_append);
-}
+have_both rs ss ps qs first second g player den steps choices exact =
+    let terms = node_terms g player in
+    let P = IsExactAt den steps choices in
+    let parts = all_parts P (terms ss) (terms qs) (rw map-append at exact) in
+    let one = first g player den steps choices parts.0 in
+    let other = second g player den steps choices parts.1 in record {
+      exact = rw map-append (all_both P (terms rs) (terms ps) one.exact other.exact);
+      sums = grind (arith, map-append, sum_append);
+    }
 
 pub have_permuted : (rs ss : List Reached) → IsPermutation rs ss → HaveSharesOf rs ss
-have_permuted rs ss order = record {
-  exact = λ g player den steps choices all. let P = IsExactIfMet g player den steps choices in
-      recursion_from_All P rs (All-permutation P ss rs (IsPermutation-sym rs ss order)
-      (All-from_recursion P ss all));
-  sums = λ g player den steps choices. sym (shares_permuted g player den steps choices rs ss order);
-  bounds = grind (arith, bounds_permuted);
-}
+have_permuted rs ss order g player =
+    come_permuted (node_terms g player rs) (node_terms g player ss)
+    (IsPermutation-map (node_term g player) rs ss order)
 
 -- ---- two nodes and their sum
 
-both_met : (met : Bool) (v w : ℕ) (number : ℤ) → (if met then pos v *ℤ number else pos 0)
-    +ℤ ((if met then pos w *ℤ number else pos 0) +ℤ pos 0)
-    ≡ (if met then pos (v + w) *ℤ number else pos 0) +ℤ pos 0
-both_met met v w number = grind arith
+both_met : (met : Bool) (x y z : ℤ) (n : ℕ) → x +ℤ y ≡ z → (if met then x *ℤ pos n else pos 0)
+    +ℤ ((if met then y *ℤ pos n else pos 0) +ℤ pos 0)
+    ≡ (if met then z *ℤ pos n else pos 0) +ℤ pos 0
+both_met true x y z n is =
+    let sum : (x +ℤ y) *ℤ pos n ≡ z *ℤ pos n = ap (λ (s : ℤ). s *ℤ pos n) is in
+    omega (arith, ints, sum, add-*ℤ x y (pos n))
+both_met false x y z n is = refl
 
 weights_sum : (r : Reached) (w b : ℕ) → HaveSharesOf (r ∷ weighing r w b ∷ [])
     (weighing r (r.path.weight + w) (r.path.bound + b) ∷ [])
-weights_sum r w b = grind (arith, both_met)
+weights_sum r w b g player den steps choices exact = record {
+  exact = (exact.0, (exact.0, tt));
+  sums = λ k. both_met (meets steps choices r.path.demands) (number_at k one) (number_at k other)
+      (number_at k sum) (den / one.head.den) (added k);
+}
+  where
+    one : Entry
+    one = node_term g player r
+
+    other : Entry
+    other = node_term g player (weighing r w b)
+
+    sum : Entry
+    sum = node_term g player (weighing r (r.path.weight + w) (r.path.bound + b))
+
+    added : (k : ℕ) → number_at k one +ℤ number_at k other ≡ number_at k sum
+    added zero = ap pos (omega arith)
+    added (suc zero) = sym (add-*ℤ (pos r.path.weight) (pos w) (pay_at g player r).num)
+    added (suc (suc k)) = refl
 
 sum_shares : (r s sum : Reached) → IsNodeSum r s sum → HaveSharesOf (r ∷ s ∷ []) (sum ∷ [])
 sum_shares r s sum h =
-    let weight = s.path.weight in
-    let bound = s.path.bound in
-    let like : s ≡ weighing r weight bound = grind arith in
-    grind (arith, weights_sum)
+    let like : s ≡ weighing r s.path.weight s.path.bound = grind arith in
+    rw (h.is, like) (weights_sum r s.path.weight s.path.bound)
 
 -- ---- node by node
 
@@ -149,4 +169,7 @@ module _ {F : Type 0} (R : F → Reached → Reached → Bool → F → Reached 
 -- the terms of nodes are terms of those whose shares they have
 pub terms_of_sums : (g : Game) (players : ℕ) (rs ss : List Reached) (es : List Entry)
     → HaveSharesOf rs ss → AreTermsOf g players ss es → AreTermsOf g players rs es
-terms_of_sums g players rs ss es have told k less den steps choices exact = grind arith
+terms_of_sums g players rs ss es have told k less den steps choices exact =
+    let on = told k less den steps choices exact in
+    let come = have g (suc k) den steps choices on.exact in
+    record { exact = come.exact; sums = come.sums 1 ∙ on.sums; bounds = rw (come.sums 0) on.bounds }

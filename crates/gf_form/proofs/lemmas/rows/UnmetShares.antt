@@ -8,12 +8,12 @@ use Rattle.gf_form.proofs.Common.{all_parts, Tree, Trees, count, branch, none, m
 use Rattle.gf_form.proofs.Common.{flatten_all, InformationSet, SetKey, Game, HasChildren, Node}
 use Rattle.gf_form.proofs.Common.{set_at, product, meets, spans, steps_of, below_set, by_action}
 use Rattle.gf_form.proofs.Common.{by_choice, by_each, demanded, drawn, over_set, reached}
-use Rattle.gf_form.proofs.Common.{AreDigits, IsDigitOf, sum_of_shares, chances_at, Path, Reached}
+use Rattle.gf_form.proofs.Common.{AreDigits, IsDigitOf, sum_of_shares, chances_at, Path, Reached, +ℤ_idl}
 use Rattle.gf_form.specs.inner.rows.ReachedNodes.{met_node}
 use Rattle.gf_form.proofs.lemmas.rows.DemandDigits.{AreWithin, digit_is, meets_is, met, met_set}
 use Rattle.gf_form.proofs.lemmas.rows.DemandDigits.{pack, pack_below, set_pack, set_within}
 use Rattle.gf_form.proofs.lemmas.rows.DemandDigits.{met_digit, within_length}
-use Rattle.gf_form.proofs.lemmas.rows.ShareSums.{shares_append, unmet_first}
+use Rattle.gf_form.proofs.lemmas.rows.ShareSums.{shares_append}
 
 -- a set with this many actions is at a node with children
 pub set_there : (g : Game) (key : SetKey) (m : ℕ)
@@ -155,11 +155,10 @@ module _ {g : Game} {steps choose : SetKey → ℕ} {actions choices : List ℕ}
           → IsUnmet path → AddsNothing (reached g steps path t)
       unmet (branch n ts) path children h =
           let on = met_node g path n in
-          unmet_first g player den (steps_of actions) choices on _
-          (meets_digits path h.0 h.1 ∙ h.2)
-          ∙ nothing_below n ts on.path h.0 h.1 h.2
+          rw (meets_digits path h.0 h.1 ∙ h.2)
+          (+ℤ_idl _ ∙ nothing_below n ts on.path h.0 h.1 h.2
           (λ paths each. all_unmet ts paths 1 children.1 each)
-          (λ position. action_unmet ts position on.path children.1 h) n.set children.0
+          (λ position. action_unmet ts position on.path children.1 h) n.set children.0)
 
       pub all_unmet : (ts : Trees Node) (paths : ℕ → Path) (k : ℕ)
           → AllByRecursion (HasChildren g) (flatten_all ts)

@@ -1,22 +1,22 @@
 -- A value over the common denominator, with the shares that it is the sum of: at a leaf, at a move,
 -- and as the children of a chance move are added.
-use Rattle.gf_form.proofs.Common.{◌≡◌, ◌⊎◌, inl, inr, pos, Some, refl, ◌+ℤ◌, ◌*ℤ◌, ◌&&◌, Game, over}
+use Rattle.gf_form.proofs.Common.{◌≡◌, ◌⊎◌, inl, inr, pos, Some, refl, ◌+ℤ◌, ◌*ℤ◌, ◌==◌, Game, ints}
 use Rattle.gf_form.proofs.Common.{ℕ, ℤ, ◌+◌, ◌*◌, ◌/◌, ◌^◌, ◌<◌, ◌≤◌, [], ◌∷◌, ap, sym, ◌∙◌, ◌∣◌}
-use Rattle.gf_form.proofs.Common.{Bool, true, List, ◌++◌, arith, subst, Ratio, meets, pay_at, share}
-use Rattle.gf_form.proofs.Common.{false, nat_eq, zero-*ℤ, +ℤ_idl, add-*ℤ, IsExact, plus_of, Reached}
+use Rattle.gf_form.proofs.Common.{Bool, true, List, ◌++◌, arith, subst, Ratio, meets, pay_at, Entry}
+use Rattle.gf_form.proofs.Common.{false, zero-*ℤ, +ℤ_idl, add-*ℤ, IsExactAt, plus_of, Reached, term_of}
 use Rattle.gf_form.proofs.Common.{Option, dvd_trans, IsFraction, zero_ratio, product_of, met_bounds}
-use Rattle.gf_form.proofs.Common.{Decides, *ℤ_comm, *ℤ-zero, HasValue, IsWithin, *ℤ_assoc, times_of}
-use Rattle.gf_form.proofs.Common.{unsigned_abs, +ℤ_assoc, Decides-ratio, share_bound, sum_of_shares}
+use Rattle.gf_form.proofs.Common.{*ℤ_comm, *ℤ-zero, HasValue, IsWithin, *ℤ_assoc, times_of, node_term}
+use Rattle.gf_form.proofs.Common.{unsigned_abs, +ℤ_assoc, sum_of_shares, dvd_refl, eqb-true, node_terms, sum_of_entries}
 use Rattle.gf_form.proofs.Common.{if◌then◌else◌, unsigned_abs-mul, dvd-mul_right, mul-le-mul_right}
-use Rattle.std.specs.Ordering.{int_eq}
+use Rattle.std.proofs.lemmas.Nat.Gcd.{dvd-zero, le_of_dvd}
 use Rattle.std.proofs.Math.IntN.{+ℤ_comm}
 use Rattle.std.proofs.Math.Nat.{eq-zero_of_zero-dvd, le-mul_of_pos_right}
 use Rattle.gf_fraction.specs.Computed.{sum_of}
-use Rattle.gf_form.proofs.lemmas.rows.OverOneDenominator.{over_value, product_over, quotient_above}
+use Rattle.gf_form.proofs.lemmas.rows.OverOneDenominator.{own_value, product_over, quotient_above}
 use Rattle.gf_form.proofs.lemmas.rows.OverOneDenominator.{quotient_le, quotient_of_product}
 use Rattle.gf_form.proofs.lemmas.rows.OverOneDenominator.{sum_over, sum_size}
-use Rattle.gf_form.proofs.lemmas.rows.ShareSums.{bound_first, bounds_append, met_first}
-use Rattle.gf_form.proofs.lemmas.rows.ShareSums.{shares_append}
+use Rattle.gf_form.proofs.lemmas.rows.MergedEntries.{first_met}
+use Rattle.gf_form.proofs.lemmas.rows.ShareSums.{bounds_append, shares_append}
 use Rattle.gf_form.proofs.lemmas.values.ValuesComputed.{zero_fraction, none_times, plus_zero}
 use Rattle.gf_form.proofs.lemmas.values.ValuesComputed.{times_zero, zero_plus}
 
@@ -41,6 +41,16 @@ chance_below a b x =
     let size : unsigned_abs (pos a *ℤ x) ≡ a * unsigned_abs x = unsigned_abs-mul (pos a) x in
     let times = ap (λ k. k * b) size in
     omega (arith, times)
+
+-- a fraction that is nothing
+no_ratio : (r : Ratio) → IsFraction r → unsigned_abs r.num ≡ 0 → r ≡ zero_ratio
+no_ratio r f none =
+    let least : r.den ≤ 1 =
+    le_of_dvd (omega arith) (f.lowest.2 r.den (subst (λ (n : ℕ). r.den ∣ n) (sym none) (dvd-zero r.den)) (dvd_refl r.den)) in
+    let some = f.den_above_zero in
+    let den : r.den ≡ 1 = omega arith in
+    let num : r.num ≡ pos 0 = omega (arith, ints) in
+    λ i. record { num = num i; den = den i }
 
 -- ---- parts of the common denominator
 
@@ -144,31 +154,58 @@ module _ (g : Game) (player den : ℕ) (den_above : 0 < den) (den_within : den <
   -- ---- a node's own payoff
 
   module _ (own : Reached) (pay : Ratio) (pays : pay_at g player own ≡ pay) (f : IsFraction pay)
-      (exact : ¬ (pay_at g player own ≡ zero_ratio) → IsExact g player den own)
+      (exact : IsExactAt den steps choices (node_term g player own))
       (met : meets steps choices own.path.demands ≡ true) where
-    abbrev left : ℕ
-    left = den / own.path.den
+    abbrev term : Entry
+    term = term_of own.path pay
+
+    term_is : node_term g player own ≡ term
+    term_is = ap (term_of own.path) pays
 
     abbrev amount : ℤ
-    amount = over left (pay_at g player own)
+    amount = pay.num *ℤ pos (den / term.head.den)
 
     abbrev size : ℕ
     size = unsigned_abs amount * own.path.bound
 
     amount_is : IsOver own.path.den pay amount
     amount_is =
-        subst (λ (r : Ratio). IsOver own.path.den r amount) pays
-        (by _ refl (Decides-ratio (pay_at g player own) zero_ratio))
+        by (unsigned_abs pay.num == 0) refl
+        ((subst (IsExactAt den steps choices) term_is exact) met)
       where
-        by : (b : Bool) → (int_eq (pay_at g player own).num (pos 0)
-            && nat_eq (pay_at g player own).den 1) ≡ b
-            → Decides b (pay_at g player own ≡ zero_ratio)
-            → IsOver own.path.den (pay_at g player own) amount
-        by true is decides = grind (arith, zero-*ℤ)
-        by false is decides = grind (arith, over_value)
+        by : (b : Bool) → (unsigned_abs pay.num == 0) ≡ b
+            → (0 < (if b then 1 else own.path.den * pay.den))
+            × ((if b then 1 else own.path.den * pay.den) ∣ den)
+            → IsOver own.path.den pay
+            (pay.num *ℤ pos (den / (if b then 1 else own.path.den * pay.den)))
+        by true is h =
+            let none = no_ratio pay f (eqb-true (unsigned_abs pay.num) 0 is) in
+            grind (arith, zero-*ℤ)
+        by false is h = inl (
+          dvd_trans own.path.den (dvd-mul_right own.path.den pay.den) h.1,
+          own_value pay own.path.den den den_above h.1,
+        )
 
-    bound_is : size ≡ share_bound g player den own
-    bound_is = omega arith
+    shares_first : (rs : List Reached)
+        → shares (own ∷ rs) ≡ pos own.path.weight *ℤ amount +ℤ shares rs
+    shares_first rs =
+        ap (λ (e : Entry). sum_of_entries 1 den steps choices (e ∷ node_terms g player rs)) term_is
+        ∙ first_met 1 den steps choices term (node_terms g player rs) met
+        ∙ ap (λ z. z +ℤ shares rs)
+        (*ℤ_assoc (pos own.path.weight) pay.num (pos (den / term.head.den)))
+
+    bounds_first : (rs : List Reached) → bounds (own ∷ rs) ≡ size + bounds rs
+    bounds_first rs =
+        bounds_append g player den steps choices (own ∷ []) rs
+        ∙ ap (λ n. n + bounds rs) (ap (λ (e : Entry). unsigned_abs (sum_of_entries 0 den steps
+        choices (e ∷ []))) term_is
+        ∙ ap unsigned_abs (first_met 0 den steps choices term [] met) ∙ sizes)
+      where
+        sizes : unsigned_abs (pos term.head.size *ℤ pos (den / term.head.den) +ℤ pos 0) ≡ size
+        sizes =
+            let q = den / term.head.den in
+            let amounts = ap (λ n. n * own.path.bound) (unsigned_abs-mul pay.num (pos q)) in
+            omega (arith, amounts)
 
     pub leaf_valued :
         IsValued (Some pay) own.path.weight own.path.bound own.path.den (own ∷ [])
@@ -178,8 +215,8 @@ module _ (g : Game) (player den : ℕ) (den_above : 0 < den) (den_within : den <
       fraction = f;
       amount = amount;
       amount_is = λ some. amount_is;
-      shares_are = grind (arith, met_first, right_zero);
-      size = omega (arith, bound_is, bound_first g player den steps choices own [] met);
+      shares_are = shares_first [] ∙ right_zero (pos own.path.weight *ℤ amount);
+      size = omega (arith, bounds_first []);
     }
 
     pub move_valued : (below : Option Ratio) (rs : List Reached)
@@ -188,10 +225,13 @@ module _ (g : Game) (player den : ℕ) (den_above : 0 < den) (den_within : den <
         → IsValued (plus_of (Some pay) below) own.path.weight own.path.bound own.path.den (own ∷ rs)
     move_valued below rs some limit h =
         let both = sum_below amount h.amount own.path.bound in
-        let all = bound_first g player den steps choices own rs met in
-        let first : IsWithin amount = grind arith in
-        let second : IsWithin h.amount = grind arith in
-        let whole : IsWithin (amount +ℤ h.amount) = grind arith in
+        let all = bounds_first rs in
+        let within = λ (z : ℤ) (le : unsigned_abs z * own.path.bound ≤ size
+        + unsigned_abs h.amount * own.path.bound). size_below (unsigned_abs z) own.path.bound
+        (2 ^ 127) some (omega (arith, le, h.size, all, limit)) in
+        let first = within amount (omega arith) in
+        let second = within h.amount (omega arith) in
+        let whole = within (amount +ℤ h.amount) both in
         let sum = sum_part den den_above den_within own.path.den pay h.ratio amount h.amount f
         h.fraction amount_is (h.amount_is some) first second whole in
         record {
@@ -200,10 +240,10 @@ module _ (g : Game) (player den : ℕ) (den_above : 0 < den) (den_within : den <
           fraction = sum.2;
           amount = amount +ℤ h.amount;
           amount_is = λ some. sum.3;
-          shares_are = met_first g player den steps choices own rs met
-              ∙ ap (λ z. share g player den own +ℤ z) h.shares_are
+          shares_are = shares_first rs
+              ∙ ap (λ z. pos own.path.weight *ℤ amount +ℤ z) h.shares_are
               ∙ sym (mul-plus (pos own.path.weight) amount h.amount);
-          size = omega (arith, both, bound_is, h.size, all);
+          size = omega (arith, both, h.size, all);
         }
 
   -- ---- a node on an idle path

@@ -17,9 +17,9 @@ pub record Entry : Type 0 where
   pub head : Head
   pub row : List ℤ
 
--- the player's number, by his place from 0
+-- the number of the player at this position, from 1; the size stands before those of the players
 abbrev pub number_at : ℕ → Entry → ℤ
-number_at k e = get_or e.row k (pos 0)
+number_at k e = get_or (pos e.head.size ∷ e.row) k (pos 0)
 
 -- the terms of these heads, each with this many of the numbers
 abbrev pub entries_of : ℕ → List Head → List ℤ → List Entry
@@ -107,7 +107,7 @@ pub record IsFactor (from den factor : ℕ) : Type 0 where
 pub record IsScale (a b : Head) (s : Scale) : Type 0 where
   pub first : IsFactor a.den s.den s.first
   pub second : IsFactor b.den s.den s.second
-  pub size : a.size * (s.den / a.den) + b.size * (s.den / b.den) ≤ s.size
+  pub size : s.size ≡ a.size * s.first + b.size * s.second
 
 -- the sum of the numbers at this place, each times its factor, if it is known to fit
 abbrev pub IsSumAt : List ℤ → List ℤ → ℕ → ℕ → Bool → ℕ → ℤ → Type 0
@@ -120,8 +120,6 @@ pub record IsSumOf (a b sum : Entry) : Type 0 where
   pub first_divides : a.head.den ∣ sum.head.den
   pub second : 0 < b.head.den
   pub second_divides : b.head.den ∣ sum.head.den
-  pub size : a.head.size * (sum.head.den / a.head.den) + b.head.size * (sum.head.den / b.head.den)
-      ≤ sum.head.size
   pub numbers : (k : ℕ) → number_at k sum ≡ number_at k a *ℤ pos (sum.head.den / a.head.den)
       +ℤ number_at k b *ℤ pos (sum.head.den / b.head.den)
 
@@ -142,19 +140,12 @@ IsExactAt den steps choices e =
 abbrev pub AreExactAt : ℕ → List ℕ → List ℕ → List Entry → Type 0
 AreExactAt den steps choices es = AllByRecursion (IsExactAt den steps choices) es
 
--- what the terms that are met come to for the player at this place, from 0
+-- what the terms that are met come to for the player at this position, from 1, and at 0 their sizes
 abbrev pub sum_of_entries : ℕ → ℕ → List ℕ → List ℕ → List Entry → ℤ
 sum_of_entries k den steps choices [] = pos 0
 sum_of_entries k den steps choices (e ∷ es) =
     (if meets steps choices e.head.demands then number_at k e *ℤ pos (den / e.head.den) else pos 0)
     +ℤ sum_of_entries k den steps choices es
-
--- what their sizes come to
-abbrev pub size_of_entries : ℕ → List ℕ → List ℕ → List Entry → ℕ
-size_of_entries den steps choices [] = 0
-size_of_entries den steps choices (e ∷ es) =
-    (if meets steps choices e.head.demands then e.head.size * (den / e.head.den) else 0)
-    + size_of_entries den steps choices es
 
 -- these terms, at choices for their digits, come to what others come to
 pub record ComeTo (den : ℕ) (steps choices : List ℕ) (es : List Entry) (others_steps others_choices
@@ -162,11 +153,14 @@ pub record ComeTo (den : ℕ) (steps choices : List ℕ) (es : List Entry) (othe
   pub exact : AreExactAt den steps choices es
   pub sums : (k : ℕ) → sum_of_entries k den steps choices es
       ≡ sum_of_entries k den others_steps others_choices others
-  pub sizes : size_of_entries den steps choices es
-      ≤ size_of_entries den others_steps others_choices others
 
 -- what is left of terms if this action is chosen at the slowest digit
 abbrev pub AreMerged : ℕ → ℕ → List Entry → List Entry → Type 0
 AreMerged step action es left = (den : ℕ) (steps choices : List ℕ)
     → AreExactAt den steps choices left
     → ComeTo den (step ∷ steps) (action ∷ choices) es steps choices left
+
+-- the first come to what the others come to
+abbrev pub ComeAsWell : List Entry → List Entry → Type 0
+ComeAsWell es others = (den : ℕ) (steps choices : List ℕ) → AreExactAt den steps choices others
+    → ComeTo den steps choices es steps choices others

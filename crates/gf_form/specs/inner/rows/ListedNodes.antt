@@ -1,19 +1,18 @@
 -- The terms of nodes that choices can reach.
 use Rattle.std.specs.Prelude.{◌≡◌, ℕ, ℤ, suc, ◌<◌, ◌≤◌, Bool, List, [], ◌∷◌, ◌++◌, true}
-use Rattle.std.specs.List.{AllByRecursion}
+use Rattle.std.specs.Prelude.{unsigned_abs}
 use Rattle.gf_fraction.specs.Ratio.{IsWithin, Ratio}
 use Rattle.gf_tree.specs.Game.{Game}
-use Rattle.gf_form.specs.inner.rows.Entries.{AreExactAt, Entry, entries, number_at, size_of_entries}
-use Rattle.gf_form.specs.inner.rows.Entries.{sum_of_entries}
+use Rattle.gf_form.specs.inner.rows.Entries.{AreExactAt, Entry, entries, number_at, sum_of_entries}
 use Rattle.gf_form.specs.inner.values.Rows.{ArePaid}
-use Rattle.gf_form.specs.inner.rows.Shares.{IsExact, IsExactIfMet, met_bounds, sum_of_shares}
+use Rattle.gf_form.specs.inner.rows.Shares.{AreExactShares, met_bounds, sum_of_shares}
 use Rattle.gf_form.specs.declared.rows.paths.Reached.{Reached}
 use Rattle.gf_form.specs.declared.rows.terms.Terms.{Terms}
 
 -- over this denominator, the shares of these nodes come to this number for the player, by his place
 -- from 0, and their bounds to at most this size
 pub record HasShares (g : Game) (rs : List Reached) (k den size : ℕ) (number : ℤ) : Type 0 where
-  pub exact : AllByRecursion (IsExact g (suc k) den) rs
+  pub exact : AreExactShares g (suc k) den [] [] rs
   pub number_is : number ≡ sum_of_shares g (suc k) den [] [] rs
   pub bound : met_bounds g (suc k) den [] [] rs ≤ size
 
@@ -30,17 +29,17 @@ pub record IsTermMore (rows : List (List Ratio)) (demands : ℕ) (rs : List Reac
   pub grown : new.demands.items ≡ old.demands.items ++ term.head.demands ∷ []
   pub demands_are : term.head.demands ≡ demands
   pub says : (g : Game) → ArePaid g rows → 0 < term.head.den → (k : ℕ) → k < old.players
-      → HasShares g rs k term.head.den term.head.size (number_at k term)
+      → HasShares g rs k term.head.den term.head.size (number_at (suc k) term)
 
 -- over this denominator and at these choices, the terms come to the shares of a player, by his
 -- place from 0, in the nodes that the choices reach
 pub record Tells (g : Game) (k den : ℕ) (steps choices : List ℕ) (rs : List Reached)
     (es : List Entry) : Type 0 where
-  pub exact : AllByRecursion (IsExactIfMet g (suc k) den steps choices) rs
+  pub exact : AreExactShares g (suc k) den steps choices rs
   pub sums : sum_of_shares g (suc k) den steps choices rs
-      ≡ sum_of_entries k den steps choices es
+      ≡ sum_of_entries (suc k) den steps choices es
   pub bounds : met_bounds g (suc k) den steps choices rs
-      ≤ size_of_entries den steps choices es
+      ≤ unsigned_abs (sum_of_entries 0 den steps choices es)
 
 -- the terms say what these nodes add
 abbrev pub AreTermsOf : Game → ℕ → List Reached → List Entry → Type 0

@@ -1,12 +1,11 @@
 -- What at most two terms come to: one that demands nothing, and one that demands an action of the
 -- fastest digit.
-use Rattle.std.specs.Prelude.{◌≡◌, ℕ, ℤ, pos, ◌/◌, ◌<◌, ◌≤◌, ◌*◌, ◌^◌, ◌+ℤ◌, ◌*ℤ◌, List, [], get_or}
+use Rattle.std.specs.Prelude.{◌≡◌, ℕ, ℤ, suc, pos, ◌<◌, ◌^◌, ◌+ℤ◌, ◌*ℤ◌, List, [], ◌∷◌, get_or}
 use Rattle.std.specs.Prelude.{length}
 use Rattle.std.specs.Int.{◌∣◌}
-use Rattle.gf_fraction.specs.Ratio.{HasValue, IsFraction, Ratio}
+use Rattle.gf_fraction.specs.Ratio.{HasValue, IsFraction, IsWithin, Ratio}
 use Rattle.gf_tree.specs.Game.{Game}
-use Rattle.gf_form.specs.inner.rows.Entries.{AreExactAt, Entry, number_at, size_of_entries}
-use Rattle.gf_form.specs.inner.rows.Entries.{sum_of_entries}
+use Rattle.gf_form.specs.inner.rows.Entries.{AreExactAt, ComeTo, Entry, sum_of_entries}
 use Rattle.gf_form.specs.inner.rows.ItemRows.{HasRow}
 use Rattle.gf_form.specs.inner.rows.SettledRows.{PaysOver}
 use Rattle.gf_form.specs.declared.rows.pairs.Only.{Only}
@@ -16,14 +15,9 @@ abbrev pub entry_of : Only → Entry
 entry_of only = record { head = only.head; row = only.numbers.now }
 
 -- Terms that demand nothing more come to this one, over each denominator that its own divides.
-pub record ComeToOne (es : List Entry) (e : Entry) (den : ℕ) : Type 0 where
-  pub exact : AreExactAt den [] [] es
-  pub sums : (k : ℕ) → sum_of_entries k den [] [] es ≡ number_at k e *ℤ pos (den / e.head.den)
-  pub sizes : size_of_entries den [] [] es ≤ e.head.size * (den / e.head.den)
-
 abbrev pub IsOnly : List Entry → Only → Type 0
 IsOnly es only = (den : ℕ) → 0 < only.head.den → only.head.den ∣ den
-    → ComeToOne es (entry_of only) den
+    → ComeTo den [] [] es [] [] (entry_of only ∷ [])
 
 -- what the pair has for the player at this place, from 0
 abbrev pub pair_number : Pair → ℕ → ℤ
@@ -35,8 +29,8 @@ pub record ComeToPair (steps choices : List ℕ) (es : List Entry) (pair : Pair)
   pub above : 0 < pair.scale.den
   pub within : pair.scale.den < 2 ^ 127
   pub exact : AreExactAt pair.scale.den steps choices es
-  pub size : size_of_entries pair.scale.den steps choices es < 2 ^ 127
-  pub sums : (k : ℕ) → sum_of_entries k pair.scale.den steps choices es ≡ pair_number pair k
+  pub size : IsWithin (sum_of_entries 0 pair.scale.den steps choices es)
+  pub sums : (k : ℕ) → sum_of_entries (suc k) pair.scale.den steps choices es ≡ pair_number pair k
 
 -- the pair is what is paid at the profile with this number, from 0, among all
 pub record IsPaidPair (g : Game) (number : ℕ) (pair : Pair) : Type 0 where

@@ -1,5 +1,5 @@
 -- Terms that fit together over one denominator.
-use Rattle.std.specs.Prelude.{◌≡◌, ℕ, ◌+◌, ◌<◌, ◌^◌, List, [], ◌∷◌}
+use Rattle.std.specs.Prelude.{◌≡◌, ℕ, suc, ◌+◌, ◌<◌, ◌^◌, List, [], ◌∷◌}
 use Rattle.std.specs.List.{AllByRecursion}
 use Rattle.gf_tree.specs.Game.{Game}
 use Rattle.gf_form.specs.inner.rows.Entries.{Entry, entries, sum_of_entries}
@@ -21,10 +21,11 @@ pub record FitOver (den : ℕ) (heads : List Head) : Type 0 where
 abbrev pub IsOver : ℕ → Entry → Type 0
 IsOver den e = e.head.den ≡ den
 
--- the second come to what the first come to, and are over one denominator if these are
+-- the second come to what the first come to for each player, by his place from 0, and are over one
+-- denominator if these are
 pub record Kept (es left : List Entry) : Type 0 where
-  pub sums : (k den : ℕ) (steps choices : List ℕ) → sum_of_entries k den steps choices left
-      ≡ sum_of_entries k den steps choices es
+  pub sums : (k den : ℕ) (steps choices : List ℕ) → sum_of_entries (suc k) den steps choices left
+      ≡ sum_of_entries (suc k) den steps choices es
   pub among : (den : ℕ) → AllByRecursion (IsOver den) es → AllByRecursion (IsOver den) left
 
 -- the second come to what is paid if the first do

@@ -2,7 +2,7 @@
 use Rattle.std.specs.Prelude.{◌≡◌, ℕ, ℤ, suc, ◌-◌, ◌<◌, ◌≤◌, ◌^◌, List, []}
 use Rattle.std.specs.Prelude.{IsErrOf, Result, Some, get_or, length, take, true}
 use Rattle.std.specs.List.{AllByRecursion}
-use Rattle.gf_fraction.specs.Ratio.{HasValue, IsFraction, Ratio}
+use Rattle.gf_fraction.specs.Ratio.{HasValue, IsFraction, IsWithin, Ratio}
 use Rattle.gf_nfg.specs.Limit.{profile_limit}
 use Rattle.gf_nfg.specs.Profiles.{product}
 use Rattle.gf_tree.specs.Game.{Game}
@@ -10,7 +10,7 @@ use Rattle.gf_tree.specs.Spellable.{IsSpellable}
 use Rattle.gf_form.specs.inner.strategies.Counted.{AreCounts}
 use Rattle.gf_form.specs.inner.rows.Demands.{steps_of}
 use Rattle.gf_form.specs.inner.rows.Entries.{AreExactAt, AreOrdered, Entry, IsShaped, entries}
-use Rattle.gf_form.specs.inner.rows.Entries.{size_of_entries, sum_of_entries}
+use Rattle.gf_form.specs.inner.rows.Entries.{sum_of_entries}
 use Rattle.gf_form.specs.inner.values.PaidRows.{rows_of}
 use Rattle.gf_form.specs.inner.strategies.ProfileNumbers.{AreProfileNumbers, numbered_profiles}
 use Rattle.gf_form.specs.inner.rows.ProfileRows.{AreRowsAt}
@@ -39,8 +39,8 @@ pub record PaysOver (g : Game) (number k den : ℕ) (whole : ℤ) : Type 0 where
 abbrev pub Settles : Game → ℕ → List ℕ → List ℕ → List Entry → Type 0
 Settles g number steps choices es = (k : ℕ) → k < length g.players → (den : ℕ) → 0 < den
     → den < 2 ^ 127 → AreExactAt den steps choices es
-    → size_of_entries den steps choices es < 2 ^ 127
-    → PaysOver g number k den (sum_of_entries k den steps choices es)
+    → IsWithin (sum_of_entries 0 den steps choices es)
+    → PaysOver g number k den (sum_of_entries (suc k) den steps choices es)
 
 -- the choices at these digits have the number of the profile, less that of the first choices
 pub record SettlesAt (g : Game) (actions : List ℕ) (terms : Terms) (least number : ℕ) : Type 0 where

@@ -1,71 +1,60 @@
 -- What the nodes that choices reach add to a player's payoff, over one denominator for all.
-use Rattle.std.specs.Prelude.{◌≡◌, ℕ, ℤ, true, pos, ◌+◌, ◌*◌, ◌/◌, ◌<◌, ◌^◌, ◌+ℤ◌, ◌*ℤ◌, List, []}
-use Rattle.std.specs.Prelude.{◌∷◌}
-use Rattle.std.specs.Prelude.{unsigned_abs, if◌then◌else◌, length, get_or}
-use Rattle.std.specs.Int.{◌∣◌}
-use Rattle.std.specs.List.{AllByRecursion}
+use Rattle.std.specs.Prelude.{◌≡◌, ℕ, ℤ, pos, ◌*◌, ◌/◌, ◌<◌, ◌≤◌, ◌==◌, ◌^◌, ◌*ℤ◌, List, [], ◌∷◌}
+use Rattle.std.specs.Prelude.{Some, unsigned_abs, if◌then◌else◌, length, get_or, map}
 use Rattle.gf_fraction.specs.Ratio.{Ratio}
-use Rattle.gf_fraction.specs.Rational.{zero_ratio}
 use Rattle.gf_nfg.specs.Profiles.{product}
 use Rattle.gf_tree.specs.Description.{SetKey, InformationSet}
 use Rattle.gf_tree.specs.Game.{Game, set_at}
-use Rattle.std.specs.Prelude.{Some, ◌≤◌}
-use Rattle.gf_form.specs.inner.rows.Demands.{meets, spans, steps_of}
+use Rattle.gf_form.specs.inner.rows.Demands.{spans, steps_of}
+use Rattle.gf_form.specs.inner.rows.Entries.{AreExactAt, Entry, IsExactAt, number_at, sum_of_entries}
 use Rattle.gf_form.specs.inner.values.Rows.{paid}
 use Rattle.gf_form.specs.declared.rows.paths.Path.{Path}
 use Rattle.gf_form.specs.declared.rows.paths.Reached.{Reached}
 use Rattle.gf_form.specs.declared.rows.share.Share.{Share}
 
--- what is left of the common denominator after a path
-abbrev pub scale : ℕ → Reached → ℕ
-scale den r = den / r.path.den
+-- What a path adds to a payoff, as a term for one player: probability times payoff. Its size is that
+-- of the product even if a probability on the path is 0. Nothing is over any denominator.
+abbrev pub term_of : Path → Ratio → Entry
+term_of path pay = record {
+  head = record {
+    demands = path.demands;
+    den = if unsigned_abs pay.num == 0 then 1 else path.den * pay.den;
+    size = path.bound * unsigned_abs pay.num;
+  };
+  row = (pos path.weight *ℤ pay.num) ∷ [];
+}
 
--- a payoff over such a denominator
-abbrev pub over : ℕ → Ratio → ℤ
-over den pay = pay.num *ℤ pos (den / pay.den)
-
--- what a path adds to a payoff over so many times its denominator, if there is no remainder
-pub record IsShare (path : Path) (pay : Ratio) (times : ℕ) (s : Share) : Type 0 where
-  pub exact : pay.den ∣ times
-  pub amount_is : s.amount ≡ pos path.weight *ℤ over times pay
-  pub bound_is : s.bound ≡ path.bound * unsigned_abs (over times pay)
+-- what a term of one player comes to over a denominator, if there is no remainder
+pub record IsShare (e : Entry) (den : ℕ) (s : Share) : Type 0 where
+  pub exact : IsExactAt den [] [] e
+  pub amount_is : s.amount ≡ number_at 1 e *ℤ pos (den / e.head.den)
+  pub bound_is : s.bound ≡ e.head.size * (den / e.head.den)
 
 -- what the node's outcome pays the player
 abbrev pub pay_at : Game → ℕ → Reached → Ratio
 pay_at g player r = paid g player r.outcome
 
--- probability times payoff, over the common denominator
-abbrev pub share : Game → ℕ → ℕ → Reached → ℤ
-share g player den r = pos r.path.weight *ℤ over (scale den r) (pay_at g player r)
+-- what the node adds for the player
+abbrev pub node_term : Game → ℕ → Reached → Entry
+node_term g player r = term_of r.path (pay_at g player r)
 
--- its greatest size, even if no probability on the path were 0
-abbrev pub share_bound : Game → ℕ → ℕ → Reached → ℕ
-share_bound g player den r = r.path.bound * unsigned_abs (over (scale den r) (pay_at g player r))
+abbrev pub node_terms : Game → ℕ → List Reached → List Entry
+node_terms g player rs = map (node_term g player) rs
 
--- the denominators of path and payoff divide the common one
-pub record IsExact (g : Game) (player den : ℕ) (r : Reached) : Type 0 where
-  pub path : r.path.den ∣ den
-  pub pay : (pay_at g player r).den ∣ scale den r
-
--- the sum of the shares of the nodes that these choices, one for each digit, reach
+-- what the nodes that these choices, one for each digit, reach come to
 abbrev pub sum_of_shares : Game → ℕ → ℕ → List ℕ → List ℕ → List Reached → ℤ
-sum_of_shares g player den steps choices [] = pos 0
-sum_of_shares g player den steps choices (r ∷ rs) =
-    (if meets steps choices r.path.demands then share g player den r else pos 0)
-    +ℤ sum_of_shares g player den steps choices rs
+sum_of_shares g player den steps choices rs =
+    sum_of_entries 1 den steps choices (node_terms g player rs)
 
--- the sum of the bounds of those that these choices reach
+-- what their sizes come to
 abbrev pub met_bounds : Game → ℕ → ℕ → List ℕ → List ℕ → List Reached → ℕ
-met_bounds g player den steps choices [] = 0
-met_bounds g player den steps choices (r ∷ rs) =
-    (if meets steps choices r.path.demands then share_bound g player den r else 0)
-    + met_bounds g player den steps choices rs
+met_bounds g player den steps choices rs =
+    unsigned_abs (sum_of_entries 0 den steps choices (node_terms g player rs))
 
--- its share has no remainder, if these choices reach the node and it pays the player
-abbrev pub IsExactIfMet : Game → ℕ → ℕ → List ℕ → List ℕ → Reached → Type 0
-IsExactIfMet g player den steps choices r =
-    meets steps choices r.path.demands ≡ true → ¬ (pay_at g player r ≡ zero_ratio)
-    → IsExact g player den r
+-- the share of none of them has a remainder
+abbrev pub AreExactShares : Game → ℕ → ℕ → List ℕ → List ℕ → List Reached → Type 0
+AreExactShares g player den steps choices rs =
+    AreExactAt den steps choices (node_terms g player rs)
 
 -- over this denominator, no share of the player that these choices reach has a remainder, and all
 -- of these together are within bounds
@@ -73,7 +62,7 @@ pub record FitsAt (g : Game) (player den : ℕ) (steps choices : List ℕ) (rs :
   where
     pub den_above_zero : 0 < den
     pub den_within : den < 2 ^ 127
-    pub exact : AllByRecursion (IsExactIfMet g player den steps choices) rs
+    pub exact : AreExactShares g player den steps choices rs
     pub within : met_bounds g player den steps choices rs < 2 ^ 127
 
 -- a set with only one action has no digit, and its action is chosen; any other set has one, with a

@@ -1,8 +1,8 @@
 -- Nodes that differ in weight alone, added up.
 use Rattle.std.specs.Prelude.{◌≡◌, ℕ, ◌+◌, ◌*◌, ◌%◌, ◌^◌, List}
-use Rattle.std.specs.List.{AllByRecursion}
 use Rattle.gf_tree.specs.Game.{Game}
-use Rattle.gf_form.specs.inner.rows.Shares.{IsExactIfMet, met_bounds, sum_of_shares}
+use Rattle.gf_form.specs.inner.rows.Entries.{ComeAsWell}
+use Rattle.gf_form.specs.inner.rows.Shares.{node_terms}
 use Rattle.gf_form.specs.declared.rows.paths.Reached.{Reached}
 
 -- orders nodes by demands
@@ -24,11 +24,6 @@ pub record IsNodeSum (r s sum : Reached) : Type 0 where
   pub outcome : s.outcome ≡ r.outcome
 
 -- the shares of the first are those of the second, over any denominator and at any choices
-pub record HaveSharesOf (rs ss : List Reached) : Type 0 where
-  pub exact : (g : Game) (player den : ℕ) (steps choices : List ℕ)
-      → AllByRecursion (IsExactIfMet g player den steps choices) ss
-      → AllByRecursion (IsExactIfMet g player den steps choices) rs
-  pub sums : (g : Game) (player den : ℕ) (steps choices : List ℕ)
-      → sum_of_shares g player den steps choices rs ≡ sum_of_shares g player den steps choices ss
-  pub bounds : (g : Game) (player den : ℕ) (steps choices : List ℕ)
-      → met_bounds g player den steps choices rs ≡ met_bounds g player den steps choices ss
+abbrev pub HaveSharesOf : List Reached → List Reached → Type 0
+HaveSharesOf rs ss = (g : Game) (player : ℕ) → ComeAsWell (node_terms g player rs)
+    (node_terms g player ss)

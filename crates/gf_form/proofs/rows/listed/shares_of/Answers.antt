@@ -1,5 +1,5 @@
 use Rattle.gf_form.proofs.Common.{◌≡◌, ◌∙◌, ◌+ℤ◌, ◌*ℤ◌, List, arith, length, pos, subst, sym, take}
-use Rattle.gf_form.proofs.Common.{take-length, take_more, *ℤ-one, Ratio, Reached, rows_of}
+use Rattle.gf_form.proofs.Common.{take-length, take_more, *ℤ-one, Ratio, Reached, rows_of, term_of}
 use Rattle.gf_form.specs.inner.rows.ListedNodes.{HasShares}
 use Rattle.gf_form.specs.inner.rows.Shares.{IsShare}
 use Rattle.gf_form.proofs.lemmas.rows.ItemRows.{in_bits}
@@ -28,9 +28,8 @@ loop-node-preserved c =
           c.in_ok-bound.bound amount)
           (sym (take_more nodes at no_node c.loop-node-test.true))
           (one_share_more g (rows_of c.args.payoffs.now) are c.args.place c.args.den
-          (take at nodes) r c.in_ok-times.times sum.bound c.in_ok-bound.bound sum.amount amount
-          share c.in_ok-times.ensures
-          (subst (λ (pay : Ratio). IsShare r.path pay c.in_ok-times.times share)
+          (take at nodes) r sum.bound c.in_ok-bound.bound sum.amount amount share
+          (subst (λ (pay : Ratio). IsShare (term_of r.path pay) c.args.den share)
           c.payoff_at-payoff.ensures c.in_ok-share.ensures.share)
           total c.in_ok-bound.ensures.1 (inv.1 g are)),
     )
