@@ -56,7 +56,7 @@ pub use Rattle.gf_form.specs.inner.rows.Demands.{meets, spans, steps_of}
 pub use Rattle.gf_form.specs.inner.rows.DigitSteps.{steps_behind, picked, width, at_digits}
 pub use Rattle.gf_form.specs.inner.rows.DigitSteps.{all_steps}
 pub use Rattle.gf_form.specs.inner.rows.Entries.{Entry, IsScale, IsShaped, IsSumOf, entries}
-pub use Rattle.gf_form.specs.inner.rows.Entries.{entries_of, entry_at, heads, heads_of, no_entry}
+pub use Rattle.gf_form.specs.inner.rows.Entries.{first_entries, entry_at, scaled_at, no_entry}
 pub use Rattle.gf_form.specs.inner.rows.Entries.{number_at, AreOrdered, EndsBelow, HasSum, lowered}
 pub use Rattle.gf_form.specs.inner.rows.Entries.{IsExactAt, AreExactAt, AreMerged, ComeAsWell}
 pub use Rattle.gf_form.specs.inner.rows.Entries.{sum_of_entries, AreAlike, AreChosen, part, ComeTo}

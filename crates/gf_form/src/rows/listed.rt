@@ -6,7 +6,6 @@ ghost use Rattle.gf_fraction.specs.Ratio.{IsWithin};
 ghost use Rattle.std.specs.List.Sorted.{IsNonDecreasingBy};
 ghost use Rattle.gf_tree.specs.Game.{Game};
 ghost use Rattle.gf_form.specs.inner.rows.Entries.{AreOrdered, IsShaped, entries};
-ghost use Rattle.gf_form.specs.inner.rows.Entries.{heads};
 ghost use Rattle.gf_form.specs.inner.rows.KeptNodes.{paid_reached};
 ghost use Rattle.gf_form.specs.inner.rows.ListedNodes.{AreTermsOf, HasShares, IsTermMore};
 ghost use Rattle.gf_form.specs.inner.values.PaidRows.{rows_of};
@@ -139,7 +138,7 @@ fn alike_end(nodes: &[Reached], start: usize) -> usize
 impl Terms {
     /// Whether all are over this denominator, and fit together.
     pub(crate) fn fit_over(&self, den: u128) -> bool
-        ensures { IsTrue result → FitOver den (heads self.now) }
+        ensures { IsTrue result → FitOver den (entries self.now) }
     {
         if den == 0 || den > LARGEST {
             return false;

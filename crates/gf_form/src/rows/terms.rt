@@ -6,7 +6,7 @@ ghost use Rattle.std.specs.Prelude.{IfOk, IsTrue, List, OnOk, get_or, length, po
 ghost use Rattle.std.specs.List.{AllByRecursion};
 ghost use Rattle.gf_fraction.specs.Ratio.{IsWithin};
 ghost use Rattle.gf_form.specs.inner.rows.Entries.{AreAlike, HasSum, IsScale, IsShaped, IsSumAt};
-ghost use Rattle.gf_form.specs.inner.rows.Entries.{entries, entry_at, heads, heads_of, lowered};
+ghost use Rattle.gf_form.specs.inner.rows.Entries.{IsNoted, entries, entry_at, lowered, scaled_at};
 ghost use Rattle.gf_form.specs.inner.rows.ItemRows.{HasRow};
 
 use crate::rows::sums::{Scale, combined, scale_of};
@@ -137,7 +137,6 @@ impl Terms {
 
     /// The numbers of the term at this place, from 0.
     #[inline]
-    #[tactic(auto, using(crate::proofs::lemmas::rows::FlatRows::there))]
     pub(crate) fn row(&self, place: usize) -> &[i128]
         requires shaped { IsShaped self.now }
         requires within { place < length self.now.demands.items }
@@ -150,8 +149,7 @@ impl Terms {
     /// What the numbers of the term at this place, from 0, are over.
     #[inline]
     fn scaled_at(&self, place: usize) -> Scaled
-        ensures { result ≡ get_or self.now.scaled.items place
-            (record { den = self.now.den; size = 0 }) }
+        ensures { result ≡ scaled_at self.now place }
     {
         match self.scaled.get(place) {
             Some(scaled) => *scaled,
@@ -164,7 +162,6 @@ impl Terms {
 
     /// What the term at this place, from 0, demands, and what its numbers are over.
     #[inline]
-    #[tactic(auto, using(crate::proofs::lemmas::rows::FlatRows::head_is))]
     pub(crate) fn head(&self, place: usize) -> Head
         requires { place < length self.now.demands.items }
         ensures { result ≡ (entry_at self.now place).head }
@@ -182,10 +179,7 @@ impl Terms {
     #[tactic(auto, using(crate::proofs::lemmas::rows::FlatRows::noted))]
     fn note(&mut self, next: Scaled) -> Result<(), AllocError>
         requires { length self.old.scaled.items ≤ length self.old.demands.items }
-        ensures heads { OnOk result ((demands : ℕ)
-            → heads_of self.new.den (self.new.demands.items ++ demands ∷ []) self.new.scaled.items
-            ≡ heads self.old
-            ++ record { demands = demands; den = next.den; size = next.size } ∷ []) }
+        ensures noted { OnOk result (IsNoted self.old self.new next.den next.size) }
         ensures all { OnOk result
             (length self.new.scaled.items ≡ length self.new.demands.items + 1) }
         ensures demands { self.new.demands ≡ self.old.demands }
@@ -204,10 +198,10 @@ impl Terms {
 
     /// Appends a head, for the numbers that were appended last.
     #[inline(always)]
-    #[tactic(auto, using(crate::proofs::lemmas::rows::FlatRows::one_plain))]
+    #[tactic(auto, using(std::proofs::lemmas::List::get_or_past))]
     pub(crate) fn push_head(&mut self, head: Head) -> Result<(), AllocError>
         requires { length self.old.scaled.items ≤ length self.old.demands.items }
-        ensures heads { OnOk result (heads self.new ≡ heads self.old ++ head ∷ []) }
+        ensures noted { OnOk result (IsNoted self.old self.new head.den head.size) }
         ensures demands { OnOk result
             (self.new.demands.items ≡ self.old.demands.items ++ head.demands ∷ []) }
         ensures scaled { OnOk result
@@ -232,11 +226,8 @@ impl Terms {
         requires scaled { length self.old.scaled.items ≤ length self.old.demands.items }
         requires den { self.old.den ≡ from.now.den }
         requires within { place < length from.now.demands.items }
-        ensures heads { OnOk result (heads self.new ≡ heads self.old ++ record {
-          demands = demands;
-          den = (entry_at from.now place).head.den;
-          size = (entry_at from.now place).head.size;
-        } ∷ []) }
+        ensures noted { OnOk result (IsNoted self.old self.new (entry_at from.now place).head.den
+            (entry_at from.now place).head.size) }
         ensures demands { OnOk result
             (self.new.demands.items ≡ self.old.demands.items ++ demands ∷ []) }
         ensures scaled { OnOk result

@@ -1,12 +1,11 @@
 -- The nodes that pay somebody something have all shares.
-use Rattle.gf_form.proofs.Common.{◌≡◌, ℕ, suc, false, List, [], ◌∷◌, length, refl, arith, Some}
-use Rattle.gf_form.proofs.Common.{nat_lt, HasValue, IsFraction, Ratio, zero_ratio}
-use Rattle.gf_form.proofs.Common.{SetKey, Game, IsGame, IsSpellable, steps_of, is_paid}
-use Rattle.gf_form.proofs.Common.{paid_reached, reached, root_path, ArePaid, at_place, AreDigits}
-use Rattle.gf_form.proofs.Common.{AreExactShares, ComeAsWell, FitsAt, node_terms}
-use Rattle.gf_form.proofs.Common.{sum_of_shares, value, Reached, sym, ap, ◌∙◌, subst, zero, pos, number_at}
-use Rattle.gf_form.proofs.Common.{Bool, true, if◌then◌else◌, ComeTo, IsExactAt, Path, node_term}
-use Rattle.gf_form.proofs.Common.{*ℤ-zero, one-dvd, row_at, term_of}
+use Rattle.gf_form.proofs.Common.{AreExactShares, sum_of_shares, if◌then◌else◌, paid_reached, false}
+use Rattle.gf_form.proofs.Common.{IsSpellable, IsFraction, zero_ratio, ComeAsWell, node_terms, List}
+use Rattle.gf_form.proofs.Common.{root_path, AreDigits, number_at, IsExactAt, node_term, HasValue}
+use Rattle.gf_form.proofs.Common.{steps_of, at_place, is_paid, reached, ArePaid, Reached, *ℤ-zero}
+use Rattle.gf_form.proofs.Common.{one-dvd, term_of, length, nat_lt, SetKey, IsGame, FitsAt, ComeTo}
+use Rattle.gf_form.proofs.Common.{row_at, arith, Ratio, value, subst, refl, Some, Game, zero, Bool}
+use Rattle.gf_form.proofs.Common.{true, Path, ◌≡◌, suc, ◌∷◌, sym, pos, ◌∙◌, [], ap, ℕ}
 use Rattle.gf_form.proofs.lemmas.rows.MergedEntries.{none_first}
 use Rattle.std.specs.List.{filter}
 use Rattle.gf_form.proofs.lemmas.rows.ReachedValues.{reached_value}

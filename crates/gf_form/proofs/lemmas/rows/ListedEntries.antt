@@ -1,13 +1,12 @@
 -- The terms of nodes say what the nodes add.
-use Rattle.gf_form.proofs.Common.{◌≡◌, pos, suc, ◌+◌, ◌/◌, take, Game, refl, drop}
-use Rattle.gf_form.proofs.Common.{ℕ, arith, get_or, length, Ratio, add-*ℤ, Reached, AreExactAt}
-use Rattle.gf_form.proofs.Common.{◌<◌, ◌≤◌, [], ◌∷◌, ap, sym, ◌∙◌, ◌∣◌, ◌-◌}
-use Rattle.gf_form.proofs.Common.{◌*ℤ◌, Bool, true, List, ◌++◌, meets, Entry, Terms, false, node_term}
-use Rattle.gf_form.proofs.Common.{subst, number_at, EndsBelow, IsShaped, ArePaid, zero-*ℤ, node_terms}
-use Rattle.gf_form.proofs.Common.{all_both, sum_of_entries, map-append, all_images}
-use Rattle.gf_form.proofs.Common.{mul-le-mul_right, dvd_trans, IsNonDecreasingBy}
-use Rattle.gf_form.proofs.Common.{unsigned_abs-mul, AllByRecursion, get_or_default}
-use Rattle.gf_form.proofs.Common.{all_parts, IsExactAt, AreOrdered, entries, AreTermsOf}
+use Rattle.gf_form.proofs.Common.{IsNonDecreasingBy, mul-le-mul_right, unsigned_abs-mul, AreExactAt}
+use Rattle.gf_form.proofs.Common.{sum_of_entries, AllByRecursion, get_or_default, node_terms, arith}
+use Rattle.gf_form.proofs.Common.{map-append, all_images, AreOrdered, AreTermsOf, node_term, get_or}
+use Rattle.gf_form.proofs.Common.{number_at, EndsBelow, dvd_trans, all_parts, IsExactAt, IsShaped}
+use Rattle.gf_form.proofs.Common.{all_both, Reached, ArePaid, zero-*ℤ, entries, length, add-*ℤ, ◌≡◌}
+use Rattle.gf_form.proofs.Common.{Ratio, meets, Entry, Terms, false, subst, take, Game, refl, drop}
+use Rattle.gf_form.proofs.Common.{◌*ℤ◌, Bool, true, List, ◌++◌, pos, suc, ◌+◌, ◌/◌, ◌<◌, ◌≤◌, ◌∷◌}
+use Rattle.gf_form.proofs.Common.{sym, ◌∙◌, ◌∣◌, ◌-◌, [], ap, ℕ}
 use Rattle.std.proofs.Math.Seq.{take-nil}
 use Rattle.gf_form.specs.inner.rows.ListedNodes.{HasShares, IsTermMore, Tells}
 use Rattle.gf_form.proofs.lemmas.rows.Merges.{all_in, below_more, ordered_more}
@@ -28,28 +27,13 @@ module _ (den : ℕ) (steps choices : List ℕ) (demands : ℕ) where
   all_met m above divides met (e ∷ es) alike exact =
       let later = all_met m above divides met es alike.1 exact.1 in
       let own = exact.0 refl in
-      let here : meets steps choices e.head.demands ≡ true =
-      ap (meets steps choices) alike.0 ∙ met in (
-        ((λ _. (own.0, dvd_trans e.head.den own.1 divides)), later.0),
-        λ k. rw here (cc (
-          later.1 k,
-          scaled (number_at k e) e.head.den m den own.0 own.1 divides,
-          add-*ℤ (number_at k e *ℤ pos (m / e.head.den)) (sum_of_entries k m [] [] es)
-              (pos (den / m)),
-        )),
-      )
+      grind (arith, scaled, add-*ℤ, dvd_trans)
 
   all_unmet : meets steps choices demands ≡ false → (es : List Entry) → AreAlike es
       → AreExactAt den steps choices es
       × ((k : ℕ) → sum_of_entries k den steps choices es ≡ pos 0)
   all_unmet unmet [] alike = (tt, λ k. refl)
-  all_unmet unmet (e ∷ es) alike =
-      let later = all_unmet unmet es alike.1 in
-      let here : meets steps choices e.head.demands ≡ false =
-      ap (meets steps choices) alike.0 ∙ unmet in (
-        ((λ met. absurd (let no : false ≡ true = cc (here, met) in cc)), later.0),
-        λ k. rw here (cc (later.1 k)),
-      )
+  all_unmet unmet (e ∷ es) alike = grind (arith, all_unmet unmet es alike.1)
 
 -- ---- nodes with the same demands, and their term
 

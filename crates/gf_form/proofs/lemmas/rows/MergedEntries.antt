@@ -1,10 +1,10 @@
 -- What terms come to, part by part, and while they are merged.
-use Rattle.gf_form.proofs.Common.{◌≡◌, ℕ, ℤ, pos, ◌+◌, ◌-◌, ◌*◌, ◌/◌, ◌<◌, ◌≤◌, ◌+ℤ◌, ◌*ℤ◌, Bool}
-use Rattle.gf_form.proofs.Common.{true, false, List, [], ◌∷◌, ◌++◌, refl, ap, sym, subst, arith}
-use Rattle.gf_form.proofs.Common.{map, ◌⊎◌, if◌then◌else◌, ◌∣◌, AllByRecursion, +ℤ_assoc, +ℤ_idl}
-use Rattle.gf_form.proofs.Common.{unsigned_abs, lt-ltb, ints, dvd_trans, all_both, all_parts}
-use Rattle.gf_form.proofs.Common.{*ℤ_assoc, add-*ℤ, meets, AreExactAt, AreMerged, Entry, IsExactAt}
-use Rattle.gf_form.proofs.Common.{◌∙◌, zero-*ℤ, ComeAsWell, ComeTo, IsSumOf, lowered, number_at, sum_of_entries}
+use Rattle.gf_form.proofs.Common.{AllByRecursion, sum_of_entries, if◌then◌else◌, unsigned_abs, ◌+ℤ◌}
+use Rattle.gf_form.proofs.Common.{AreExactAt, ComeAsWell, dvd_trans, all_parts, AreMerged, +ℤ_assoc}
+use Rattle.gf_form.proofs.Common.{IsExactAt, number_at, all_both, *ℤ_assoc, zero-*ℤ, IsSumOf, false}
+use Rattle.gf_form.proofs.Common.{lowered, +ℤ_idl, lt-ltb, add-*ℤ, ComeTo, subst, arith, meets, ◌≡◌}
+use Rattle.gf_form.proofs.Common.{Entry, ◌*ℤ◌, Bool, true, List, ◌++◌, refl, ints, pos, ◌+◌, ◌-◌, ℕ}
+use Rattle.gf_form.proofs.Common.{◌*◌, ◌/◌, ◌<◌, ◌≤◌, ◌∷◌, sym, map, ◌⊎◌, ◌∣◌, [], ap, ℤ}
 use Rattle.gf_form.proofs.lemmas.rows.OverOneDenominator.{quotient_through}
 
 false_true : ¬ (false ≡ true)
@@ -23,14 +23,7 @@ module _ (k den : ℕ) (steps choices : List ℕ) (e : Entry) (es : List Entry) 
 
   pub none_first : number_at k e ≡ pos 0
       → sum_of_entries k den steps choices (e ∷ es) ≡ sum_of_entries k den steps choices es
-  none_first none = by (meets steps choices e.head.demands)
-    where
-      by : (b : Bool) → (if b then number_at k e *ℤ pos (den / e.head.den) else pos 0)
-          +ℤ sum_of_entries k den steps choices es ≡ sum_of_entries k den steps choices es
-      by true = (λ i. none i *ℤ pos (den / e.head.den) +ℤ sum_of_entries k den steps choices es)
-          ∙ (λ i. zero-*ℤ (pos (den / e.head.den)) i +ℤ sum_of_entries k den steps choices es)
-          ∙ +ℤ_idl (sum_of_entries k den steps choices es)
-      by false = +ℤ_idl (sum_of_entries k den steps choices es)
+  none_first none = grind (arith, zero-*ℤ, +ℤ_idl)
 
 -- ---- the sum of two terms
 
@@ -84,12 +77,6 @@ module _ (den : ℕ) (steps choices : List ℕ) (a b sum : Entry)
   met_second : meets steps choices sum.head.demands ≡ meets steps choices b.head.demands
   met_second = ap (meets steps choices) second
 
-  exact_first : IsExactAt den steps choices a
-  exact_first met = grind (arith, met_first, dvd_trans)
-
-  exact_second : IsExactAt den steps choices b
-  exact_second met = grind (arith, met_second, dvd_trans)
-
   both_sum : (k : ℕ)
       → (if meets steps choices sum.head.demands
       then number_at k sum *ℤ pos (den / sum.head.den) else pos 0)
@@ -101,7 +88,10 @@ module _ (den : ℕ) (steps choices : List ℕ) (a b sum : Entry)
 
   pub both_come : ComeTo den steps choices (a ∷ b ∷ []) steps choices (sum ∷ [])
   both_come = record {
-    exact = (exact_first, (exact_second, tt));
+    exact = (
+      λ met. grind (arith, met_first, dvd_trans),
+      (λ met. grind (arith, met_second, dvd_trans), tt),
+    );
     sums = λ k. omega (arith, ints, both_sum k);
   }
 

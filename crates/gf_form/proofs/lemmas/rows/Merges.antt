@@ -1,16 +1,15 @@
 -- Two ranges of terms while they are merged by the code.
-use Rattle.gf_form.proofs.Common.{◌≡◌, mul-le-mul_right, get_or-append_seam, IsNonDecreasingBy-push}
-use Rattle.gf_form.proofs.Common.{ℕ, ◌<◌, ◌≤◌, [], ◌∷◌, map, ap, sym, ◌∙◌, inl, inr, refl, ComeAsWell}
-use Rattle.gf_form.proofs.Common.{zero, ◌+◌, ◌-◌, ◌*◌, List, ◌++◌, take, drop, Entry, part, Terms}
-use Rattle.gf_form.proofs.Common.{suc, AreAlike, AreMerged, EndsBelow, IsShaped, entry_at, no_entry}
-use Rattle.gf_form.proofs.Common.{length, get_or, arith, add-one, HasSum, entries, lowered, Chosen}
-use Rattle.gf_form.proofs.Common.{subst, drop-cons, drop-drop, length-append, AreChosen, AreOrdered}
-use Rattle.gf_form.proofs.Common.{AllByRecursion, IsNonDecreasing, get_or_default, take-append-drop}
+use Rattle.gf_form.proofs.Common.{IsNonDecreasingBy-push, get_or-append_seam, mul-le-mul_right, ◌≡◌}
+use Rattle.gf_form.proofs.Common.{take-append-drop, IsNonDecreasing, AllByRecursion, get_or_default}
+use Rattle.gf_form.proofs.Common.{length-append, ComeAsWell, AreOrdered, AreMerged, EndsBelow, refl}
+use Rattle.gf_form.proofs.Common.{drop-cons, drop-drop, AreChosen, AreAlike, IsShaped, entry_at, []}
+use Rattle.gf_form.proofs.Common.{no_entry, add-one, entries, lowered, length, get_or, HasSum, zero}
+use Rattle.gf_form.proofs.Common.{Chosen, Entry, Terms, arith, subst, List, ◌++◌, take, drop, part}
+use Rattle.gf_form.proofs.Common.{◌<◌, ◌≤◌, ◌∷◌, map, sym, ◌∙◌, inl, inr, ◌+◌, ◌-◌, ◌*◌, suc, ap, ℕ}
 use Rattle.std.proofs.lemmas.List.{take_rest}
 use Rattle.std.proofs.lemmas.List.Sorted.{IsNonDecreasingBy-short}
 use Rattle.gf_form.specs.inner.rows.Entries.{CountsBelow}
-use Rattle.gf_form.proofs.lemmas.rows.FlatRows.{demands_more, entry_demands, none_taken}
-use Rattle.gf_form.proofs.lemmas.rows.FlatRows.{terms_count}
+use Rattle.gf_form.proofs.lemmas.rows.FlatRows.{demands_more, none_taken, terms_count, there}
 use Rattle.gf_form.proofs.lemmas.rows.MergedEntries.{IsFree, IsOther, IsOwn, Merging, Ranges}
 use Rattle.gf_form.proofs.lemmas.rows.MergedEntries.{all_merged, both_come, first_parts, same_come}
 use Rattle.gf_form.proofs.lemmas.rows.MergedEntries.{take_next}
@@ -74,8 +73,8 @@ module _ (from : Terms) (step action : ℕ) (some : 1 ≤ action) (chosen : Chos
   start_le = grind arith
 
   by_demands : (P : Entry → Type 0) (Q : ℕ → Type 0) → ((e : Entry) → Q e.head.demands → P e)
-      → (k : ℕ) → k < length from.demands.items → Q (demands_at from k) → P (entry_at from k)
-  by_demands P Q f k less q = f (entry_at from k) (subst Q (sym (entry_demands from k less)) q)
+      → (k : ℕ) → k < length from.demands.items → Q (demands_at from k) → P (get_or es k no_entry)
+  by_demands P Q f k less q = subst P (sym (there from k less)) (f (entry_at from k) q)
 
   pub ranges : Ranges step action es (take chosen.free es) (part chosen.free chosen.start es)
       (part chosen.start chosen.end es) (drop chosen.end es)
@@ -186,17 +185,10 @@ module _ {from : Terms} {step action lowest free_end own_end free own : ℕ} {to
   rises k end less within = sorted k (k + 1) 0 (omega arith) (omega (arith, less, within))
 
   first_free : free < free_end → frees free ≡ entry_at from free ∷ frees (free + 1)
-  first_free less =
-      part_next (entries from) free free_end less (omega (arith, count_from, before.free_within))
+  first_free less = grind (arith, part_next, count_from, there)
 
   first_own : own < own_end → owns own ≡ lowered lowest (entry_at from own) ∷ owns (own + 1)
-  first_own less = grind (arith, part_next, count_from)
-
-  free_demands : free < free_end → (entry_at from free).head.demands ≡ demands_at from free
-  free_demands less = entry_demands from free (omega (arith, less, before.free_within))
-
-  own_demands : own < own_end → (entry_at from own).head.demands ≡ demands_at from own
-  own_demands less = entry_demands from own (omega (arith, less, before.own_within))
+  first_own less = grind (arith, part_next, count_from, there)
 
   -- one more term, made of those that come first, and the places of those that are next
   one_more : (next_free next_own : ℕ) (e : Entry) (xs ys : List Entry) → own ≤ next_own
@@ -207,8 +199,7 @@ module _ {from : Terms} {step action lowest free_end own_end free own : ℕ} {to
       → (next_own < own_end → e.head.demands ≤ demands_at from next_own - lowest)
       → Merges from step action lowest free_end own_end next_free next_own after
   one_more next_free next_own e xs ys on is first second come ends below_free below_own =
-      let grown = demands_more after to.den to.players to.demands.items to.scaled.items
-      to.numbers.items e is in record {
+      let grown = demands_more to after e is in record {
         merging = subst (λ (made : List Entry). Made made (frees next_free) (owns next_own))
             (sym is)
             (take_next step action (entries from) (entries to) (frees next_free) (owns next_own) xs
@@ -233,13 +224,10 @@ module _ {from : Terms} {step action lowest free_end own_end free own : ℕ} {to
       → Merges from step action lowest free_end own_end (free + 1) own after
   free_goes less first is =
       let t = entry_at from free in
-      let demands = free_demands less in
       one_more (free + 1) own t (t ∷ []) [] (omega arith)
       (is ∙ ap (λ (e : Entry). entries to ++ e ∷ []) (lowered_none t)) (first_free less) refl
       (same_come (t ∷ []))
-      (λ d some. let le = before.free_next less d some in omega (arith, le, demands))
-      (λ next. let le = rises free free_end next before.free_within in omega (arith, le, demands))
-      (λ next. let le = first next in omega (arith, le, demands))
+      (before.free_next less) (λ next. rises free free_end next before.free_within) first
 
   pub own_goes : own < own_end
       → (free < free_end → demands_at from own - lowest ≤ demands_at from free)
@@ -247,12 +235,10 @@ module _ {from : Terms} {step action lowest free_end own_end free own : ℕ} {to
       → Merges from step action lowest free_end own_end free (own + 1) after
   own_goes less first is =
       let t = lowered lowest (entry_at from own) in
-      let demands = own_demands less in
       one_more free (own + 1) t [] (t ∷ []) (omega arith) is refl (first_own less)
       (same_come (t ∷ []))
-      (λ d some. let le = before.own_next less d some in omega (arith, le, demands))
-      (λ next. let le = first next in omega (arith, le, demands))
-      (λ next. let le = rises own own_end next before.own_within in omega (arith, le, demands))
+      (before.own_next less) first
+      (λ next. let le = rises own own_end next before.own_within in omega (arith, le))
 
   pub both_go : free < free_end → own < own_end
       → demands_at from free ≡ demands_at from own - lowest
@@ -261,13 +247,11 @@ module _ {from : Terms} {step action lowest free_end own_end free own : ℕ} {to
   both_go free_less own_less same has =
       let t = entry_at from free in
       let u = lowered lowest (entry_at from own) in
-      let first = free_demands free_less in
-      let second = own_demands own_less in
-      let demands : has.sum.head.demands ≡ demands_at from free = has.demands ∙ first in
+      let demands : has.sum.head.demands ≡ demands_at from free = has.demands in
       one_more (free + 1) (own + 1) has.sum (t ∷ []) (u ∷ []) (omega arith) has.is
       (first_free free_less) (first_own own_less)
       (λ den steps choices exact. both_come den steps choices t u has.sum has.demands
-      (omega (arith, has.demands, first, second, same))
+      (omega (arith, has.demands, same))
       (λ above. let s = has.adds above in grind arith) exact.0)
       (λ d some. let le = before.free_next free_less d some in omega (arith, le, demands))
       (λ next. let le = rises free free_end next before.free_within in omega (arith, le, demands))

@@ -1,9 +1,9 @@
 -- The shares of nodes, node by node.
-use Rattle.gf_form.proofs.Common.{◌≡◌, ℕ, ℤ, pos, ◌+◌, ◌*◌, ◌≤◌, ◌+ℤ◌, List, [], ◌∷◌, ◌++◌}
-use Rattle.gf_form.proofs.Common.{suc, arith, subst, sym, ◌∙◌, ◌*ℤ◌, ◌/◌, all_both, one-dvd, Ratio, zero-*ℤ}
-use Rattle.gf_form.proofs.Common.{Game, ArePaid, at_place, row_at, map-append, IsExactAt, *ℤ-zero}
-use Rattle.gf_form.proofs.Common.{node_term, node_terms, term_of, Path, Reached, unsigned_abs, ne_eqb}
-use Rattle.gf_form.proofs.Common.{ap, *ℤ_assoc, mul_assoc, unsigned_abs-mul}
+use Rattle.gf_form.proofs.Common.{unsigned_abs-mul, unsigned_abs, map-append, node_terms, IsExactAt}
+use Rattle.gf_form.proofs.Common.{node_term, mul_assoc, all_both, at_place, *ℤ_assoc, one-dvd, ◌+ℤ◌}
+use Rattle.gf_form.proofs.Common.{zero-*ℤ, ArePaid, *ℤ-zero, term_of, Reached, row_at, ne_eqb, List}
+use Rattle.gf_form.proofs.Common.{arith, subst, Ratio, ◌++◌, ◌*ℤ◌, Game, Path, ◌≡◌, pos, ◌+◌, ◌*◌}
+use Rattle.gf_form.proofs.Common.{◌≤◌, ◌∷◌, suc, sym, ◌∙◌, ◌/◌, [], ℕ, ℤ}
 use Rattle.gf_form.specs.inner.rows.Entries.{IsFactor}
 use Rattle.gf_form.specs.inner.rows.ListedNodes.{HasShares}
 use Rattle.gf_form.specs.inner.rows.Shares.{IsShare}
@@ -28,8 +28,7 @@ pub own_share : (path : Path) (pay : Ratio) (den factor : ℕ) (s : Share)
 own_share path pay den factor s some is amount_is bound_is =
     rw (ne_eqb (unsigned_abs pay.num) 0 some) (record {
       exact = λ _. (is.above, is.divides);
-      amount_is = amount_is ∙ sym (*ℤ_assoc (pos path.weight) pay.num (pos factor))
-          ∙ ap (λ (n : ℕ). pos path.weight *ℤ pay.num *ℤ pos n) is.factor_is;
+      amount_is = cc (*ℤ_assoc (pos path.weight) pay.num (pos factor), is.factor_is);
       bound_is = cc (
         unsigned_abs-mul pay.num (pos factor),
         mul_assoc path.bound (unsigned_abs pay.num) factor,

@@ -1,22 +1,22 @@
 -- Rows at the fastest digit, as what at most two terms come to.
-use Rattle.gf_form.proofs.Common.{◌≡◌, ℕ, ℤ, suc, ◌+◌, ◌-◌, ◌*◌, ◌/◌, ◌<◌, ◌≤◌, ◌^◌, List, [], ◌∷◌}
-use Rattle.gf_form.proofs.Common.{◌++◌, Some, drop, get_or, length, lit<, map, take, refl, ap}
-use Rattle.gf_form.proofs.Common.{subst, ◌∙◌, arith, true, Option, IfSome, ◌==◌, AllByRecursion}
-use Rattle.gf_form.proofs.Common.{take-length, eqb-true, length-take-le, IsFraction, Ratio}
-use Rattle.gf_form.proofs.Common.{one_fraction, Game, IsGame, IsSpellable, HasValues, ArePayoffsAt}
-use Rattle.gf_form.proofs.Common.{all_choices, choices_by, full_profiles, strategies_at, meets}
-use Rattle.gf_form.proofs.Common.{steps_of, AreChosen, AreExactAt, Entry, IsScale, entries}
-use Rattle.gf_form.proofs.Common.{entries_of, entry_at, heads_of, lowered, part, ComeTo, ints}
-use Rattle.gf_form.proofs.Common.{◌+ℤ◌, ◌*ℤ◌, pos, number_at, IsWithin, sum_of_entries, HasPairRow, IsPaidPair, actions_at, SettleRows}
-use Rattle.gf_form.proofs.Common.{Settles, SettlesAt, at_place, value, Chosen, Digit, Scale, Scaled}
-use Rattle.gf_form.proofs.Common.{Terms, Asked, Run, AreWritten, asked_profiles, sym, zero_ratio}
+use Rattle.gf_form.proofs.Common.{AllByRecursion, length-take-le, sum_of_entries, asked_profiles, ℕ}
+use Rattle.gf_form.proofs.Common.{full_profiles, strategies_at, first_entries, one_fraction, get_or}
+use Rattle.gf_form.proofs.Common.{ArePayoffsAt, take-length, IsSpellable, all_choices, IsFraction}
+use Rattle.gf_form.proofs.Common.{choices_by, AreExactAt, HasPairRow, IsPaidPair, actions_at, subst}
+use Rattle.gf_form.proofs.Common.{SettleRows, AreWritten, zero_ratio, HasValues, AreChosen, IsScale}
+use Rattle.gf_form.proofs.Common.{number_at, SettlesAt, eqb-true, steps_of, entry_at, at_place, ◌≡◌}
+use Rattle.gf_form.proofs.Common.{entries, lowered, Settles, length, Option, IfSome, IsGame, ComeTo}
+use Rattle.gf_form.proofs.Common.{Chosen, arith, Ratio, meets, Entry, value, Digit, Scale, Terms, ℤ}
+use Rattle.gf_form.proofs.Common.{Asked, List, ◌++◌, Some, drop, lit<, take, refl, true, ◌==◌, Game}
+use Rattle.gf_form.proofs.Common.{part, ints, ◌+ℤ◌, ◌*ℤ◌, zero, suc, ◌+◌, ◌-◌, ◌*◌, ◌<◌, ◌≤◌, ◌^◌}
+use Rattle.gf_form.proofs.Common.{◌∷◌, map, ◌∙◌, pos, Run, sym, [], ap}
 use Rattle.gf_form.specs.declared.rows.written.Written.{Written}
 use Rattle.gf_form.specs.inner.rows.Pairs.{ComeToPair, IsOnly, entry_of}
 use Rattle.gf_form.specs.inner.rows.SettledRows.{PaysOver, SettleAlike}
 use Rattle.gf_form.specs.declared.rows.pairs.Only.{Only}
 use Rattle.gf_form.specs.declared.rows.pairs.Pair.{Pair}
 use Rattle.gf_form.proofs.lemmas.rows.DemandDigits.{spans_above}
-use Rattle.gf_form.proofs.lemmas.rows.FlatRows.{terms_count}
+use Rattle.gf_form.proofs.lemmas.rows.FlatRows.{terms_count, there}
 use Rattle.gf_form.proofs.lemmas.rows.MergedEntries.{first_parts}
 use Rattle.gf_form.proofs.lemmas.rows.Merges.{part_next, part_past, ranges}
 use Rattle.gf_form.proofs.lemmas.rows.RowsMade.{all_more, one_row_more}
@@ -34,7 +34,7 @@ one_only t start end only within some one head row den above divides =
     let es = entries t in
     let count = terms_count t in
     let e : entry_of only ≡ entry_at t start = λ i. record { head = head i; row = row i } in
-    let all : part start end es ≡ entry_of only ∷ [] = grind (arith, part_next, part_past) in
+    let all : part start end es ≡ entry_of only ∷ [] = grind (arith, part_next, part_past, there) in
     grind arith
 
 -- ---- two terms
@@ -53,32 +53,6 @@ module _ (den less : ℕ) where
 scaled_both : (x y : ℤ) (m n : ℕ) → x *ℤ pos m +ℤ pos 0 +ℤ (y *ℤ pos n +ℤ pos 0)
     ≡ x *ℤ pos m +ℤ y *ℤ pos n
 scaled_both x y m n = omega (arith, ints)
-
--- terms that come to both
-module _ (first second : Only) (s : Scale) (is : IsScale first.head second.head s)
-    (above : 0 < s.den) (within : s.den < 2 ^ 127) (small : s.size < 2 ^ 127)
-    (steps choices : List ℕ) (es : List Entry) (exact : AreExactAt s.den steps choices es)
-    (sums : (k : ℕ) → sum_of_entries k s.den steps choices es
-    ≡ sum_of_entries k s.den [] [] (entry_of first ∷ [])
-    +ℤ sum_of_entries k s.den [] [] (entry_of second ∷ [])) where
-  both : (k : ℕ) → sum_of_entries k s.den steps choices es
-      ≡ number_at k (entry_of first) *ℤ pos s.first +ℤ number_at k (entry_of second) *ℤ pos s.second
-  both k =
-      sums k
-      ∙ scaled_both (number_at k (entry_of first)) (number_at k (entry_of second))
-      (s.den / first.head.den) (s.den / second.head.den)
-      ∙ (λ i. number_at k (entry_of first) *ℤ pos (sym is.first.factor_is i)
-      +ℤ number_at k (entry_of second) *ℤ pos (sym is.second.factor_is i))
-
-  pair_comes : ComeToPair steps choices es
-      (record { scale = s; first = first.numbers; second = second.numbers })
-  pair_comes = record {
-    above = above;
-    within = within;
-    exact = exact;
-    size = subst IsWithin (sym (both 0)) (omega (arith, is.size, small));
-    sums = λ k. both (suc k);
-  }
 
 pub come_to_pair : (from : Terms) (action : ℕ) (chosen : Chosen) → 1 ≤ action
     → AreChosen from.demands.items 1 action chosen → (first second : Only) (s : Scale)
@@ -102,8 +76,7 @@ come_to_pair from action chosen some are first second s only_first only_second i
     let parts = first_parts 1 action es (take free es) (part free start es) own (drop end es) some
     (ranges from 1 action some chosen are) den [] [] tt a.exact
     (low_exact den (action * 1) own b.exact) in
-    pair_comes first second s is above within small (1 ∷ []) (action ∷ []) es parts.exact
-    (λ k. omega (arith, ints, parts.sums k, a.sums k, low_sum den (action * 1) k own, b.sums k))
+    grind (arith, low_sum, scaled_both)
 
 -- all terms, if there is at most one, and none beside them
 pub come_alone : (from : Terms) (chosen : Chosen) → chosen.free ≡ length from.demands.items
@@ -119,14 +92,12 @@ come_alone from chosen whole none first second s only_first only_second is above
     let den = s.den in
     let count = terms_count from in
     let all : chosen.free - 0 ≡ length es = omega (arith, whole, count) in
-    let a = subst (λ (xs : List Entry). ComeTo den [] [] xs [] [] (entry_of first ∷ []))
-    (ap (λ (n : ℕ). take n es) all ∙ take-length es)
-    (only_first den is.first.above is.first.divides) in
-    let b = subst (λ (xs : List Entry). ComeTo den [] [] xs [] [] (entry_of second ∷ []))
-    (part_past es chosen.start chosen.end none)
-    (only_second den is.second.above is.second.divides) in
-    pair_comes first second s is above within small [] [] es a.exact
-    (λ k. omega (arith, ints, a.sums k, b.sums k))
+    let a = only_first den is.first.above is.first.divides in
+    let b = only_second den is.second.above is.second.divides in
+    let sum : (k : ℕ) → sum_of_entries k den [] [] es
+    ≡ number_at k (entry_of first) *ℤ pos s.first +ℤ number_at k (entry_of second) *ℤ pos s.second =
+    λ k. grind (arith, take-length, part_past, scaled_both) in
+    grind (arith, take-length, part_past)
 
 -- ---- what is paid
 
@@ -225,10 +196,11 @@ rest_settled asked (d ∷ ds) terms run rest some on to first settles = λ i fro
 abbrev IsFree : Entry → Type 0
 IsFree e = e.head.demands ≡ 0
 
-are_free : (p den : ℕ) (ds : List ℕ) (ss : List Scaled) (ns : List ℤ) → length ds ≤ 1
-    → get_or ds 0 0 ≡ 0 → AllByRecursion IsFree (entries_of p (heads_of den ds ss) ns)
-are_free p den (d ∷ []) (s ∷ ss) ns few none = (none, tt)
-are_free p den ds ss ns few none = grind arith
+are_free : (t : Terms) (n : ℕ) → n ≤ 1 → get_or t.demands.items 0 0 ≡ 0
+    → AllByRecursion IsFree (first_entries t n)
+are_free t zero few none = tt
+are_free t (suc zero) few none = (none, tt)
+are_free t (suc (suc n)) few none = absurd (omega arith)
 
 free_met : (ns choices : List ℕ) → meets (steps_of ns) choices 0 ≡ true
 free_met (n ∷ ns) (c ∷ choices) = grind (arith, spans_above, free_met ns choices)
@@ -257,8 +229,7 @@ one_for_all asked digits terms run few none settles i from to k less den above w
     let ns = actions_at digits in
     let choices = get_or (all_choices ns) (number - run.first) [] in
     let es = entries terms in
-    let all = are_free terms.players terms.den terms.demands.items terms.scaled.items
-    terms.numbers.items few none in
+    let all = are_free terms (length terms.demands.items) few none in
     let here = settles i from to in
     subst (PaysOver asked.game.now number k den) (free_sum den ns choices (suc k) es all)
     (here.settles k less den above within (free_exact den ns choices es all exact)

@@ -1,26 +1,19 @@
 -- Terms that fit together over one denominator, and those of them that add something.
-use Rattle.gf_form.proofs.Common.{◌≡◌, pos, ◌+◌, ◌*◌, ◌/◌, ◌<◌, ◌≤◌, take, drop, refl, Game, Head}
-use Rattle.gf_form.proofs.Common.{ℕ, ℤ, ◌^◌, [], ◌∷◌, ap, sym, ◌∙◌, ◌∣◌, suc, ints, unsigned_abs}
-use Rattle.gf_form.proofs.Common.{◌+ℤ◌, length, zero-*ℤ, add-*ℤ, entries, heads_of, lowered, Scaled}
-use Rattle.gf_form.proofs.Common.{◌*ℤ◌, Bool, true, List, ◌++◌, arith, meets, Entry, heads, Terms}
-use Rattle.gf_form.proofs.Common.{subst, dvd_refl, all_both, *ℤ_assoc, AreAlike, IsShaped, entry_at}
-use Rattle.gf_form.proofs.Common.{if◌then◌else◌, take-length, all_parts, AreExactAt, sum_of_entries}
-use Rattle.gf_form.proofs.Common.{AllByRecursion, div-mul_cancel, *ℤ-cancel_right}
-use Rattle.gf_form.proofs.Common.{take-suc, AreOrdered, EndsBelow, entries_of, number_at, SettlesAt}
+use Rattle.gf_form.proofs.Common.{*ℤ-cancel_right, sum_of_entries, AllByRecursion, div-mul_cancel}
+use Rattle.gf_form.proofs.Common.{if◌then◌else◌, first_entries, unsigned_abs, AreExactAt, all_parts}
+use Rattle.gf_form.proofs.Common.{AreOrdered, EndsBelow, number_at, SettlesAt, dvd_refl, all_both}
+use Rattle.gf_form.proofs.Common.{*ℤ_assoc, AreAlike, IsShaped, entry_at, zero-*ℤ, entries, lowered}
+use Rattle.gf_form.proofs.Common.{add-one, length, add-*ℤ, Global, arith, meets, Entry, Terms, refl}
+use Rattle.gf_form.proofs.Common.{subst, Game, ints, ◌+ℤ◌, ◌*ℤ◌, Bool, true, List, ◌++◌, zero, ◌≡◌}
+use Rattle.gf_form.proofs.Common.{pos, ◌+◌, ◌*◌, ◌/◌, ◌<◌, ◌≤◌, ◌^◌, ◌∷◌, sym, ◌∙◌, ◌∣◌, suc, Vec}
+use Rattle.gf_form.proofs.Common.{[], ap, ℕ, ℤ}
 use Rattle.gf_fraction.proofs.Integers.{*ℤ_right_comm}
 use Rattle.gf_form.specs.inner.rows.Paying.{FitOver, IsOver, Kept, SettleAsWell, sizes_of}
-use Rattle.gf_form.proofs.lemmas.rows.FlatRows.{demands_more, entry_demands, heads_count, itself}
-use Rattle.gf_form.proofs.lemmas.rows.FlatRows.{none_taken, terms_count, there}
+use Rattle.gf_form.proofs.lemmas.rows.FlatRows.{demands_more, itself, terms_count}
 use Rattle.gf_form.proofs.lemmas.rows.MergedEntries.{sum_append}
 use Rattle.gf_form.proofs.lemmas.rows.Merges.{below_more, demands_at, lowered_none, ordered_more}
 
 -- ---- all over one denominator
-
-are_over : (den p : ℕ) (hs : List Head) (ns : List ℤ)
-    → AllByRecursion (λ (h : Head). h.den ≡ den) hs
-    → AllByRecursion (IsOver den) (entries_of p hs ns)
-are_over den p [] ns all = tt
-are_over den p (h ∷ hs) ns all = (all.0, are_over den p hs (drop p ns) all.1)
 
 chosen : (b : Bool) (n : ℕ) (s : ℤ) (most : ℕ) → unsigned_abs s ≤ most
     → unsigned_abs ((if b then pos n *ℤ pos 1 else pos 0) +ℤ s) ≤ n + most
@@ -38,12 +31,11 @@ module _ (den : ℕ) (above : 0 < den) (steps choices : List ℕ) where
     are_exact es all.1,
   )
 
-  sizes_met : (p : ℕ) (hs : List Head) (ns : List ℤ)
-      → AllByRecursion (λ (h : Head). h.den ≡ den) hs
-      → unsigned_abs (sum_of_entries 0 den steps choices (entries_of p hs ns)) ≤ sizes_of hs
-  sizes_met p [] ns all = omega arith
-  sizes_met p (h ∷ hs) ns all = rw (all.0, itself den above)
-      (chosen (meets steps choices h.demands) h.size _ _ (sizes_met p hs (drop p ns) all.1))
+  sizes_met : (es : List Entry) → AllByRecursion (IsOver den) es
+      → unsigned_abs (sum_of_entries 0 den steps choices es) ≤ sizes_of es
+  sizes_met [] all = omega arith
+  sizes_met (e ∷ es) all = rw (all.0, itself den above)
+      (chosen (meets steps choices e.head.demands) e.head.size _ _ (sizes_met es all.1))
 
 -- ---- over a multiple of the denominator
 
@@ -78,12 +70,18 @@ module _ (k den most : ℕ) (above : 0 < den) (steps choices : List ℕ) where
 
 -- ---- some of the terms
 
-kept_more : (es left : List Entry) (e : Entry) → Kept es left → Kept (es ++ e ∷ []) (left ++ e ∷ [])
-kept_more es left e before = record {
-  sums = grind (arith, sum_append);
-  among = λ den all. let parts = all_parts (IsOver den) es (e ∷ []) all in
-      all_both (IsOver den) left (e ∷ []) (before.among den parts.0) parts.1;
+kept_next : (es left : List Entry) (e f : Entry) → f.head.demands ≡ e.head.demands
+    → ((k : ℕ) → number_at (suc k) f ≡ number_at (suc k) e) → f.head.den ≡ e.head.den
+    → Kept es left → Kept (es ++ e ∷ []) (left ++ f ∷ [])
+kept_next es left e f demands numbers den before = record {
+  sums = λ k most steps choices. grind (arith, sum_append, numbers);
+  among = λ most all. let parts = all_parts (IsOver most) es (e ∷ []) all in
+      all_both (IsOver most) left (f ∷ []) (before.among most parts.0)
+      (den ∙ parts.1.0, tt);
 }
+
+kept_more : (es left : List Entry) (e : Entry) → Kept es left → Kept (es ++ e ∷ []) (left ++ e ∷ [])
+kept_more es left e = kept_next es left e e refl (λ k. refl) refl
 
 none_met : (b : Bool) (z : ℤ) (n : ℕ) → z ≡ pos 0 → (if b then z *ℤ pos n else pos 0) ≡ pos 0
 none_met b z n none = grind arith
@@ -98,13 +96,11 @@ kept_zero es left e none before = record {
   among = λ den all. before.among den (all_parts (IsOver den) es (e ∷ []) all).0;
 }
 
-pub settled_as_well : (from left : Terms) (den : ℕ) → FitOver den (heads from)
+pub settled_as_well : (from left : Terms) (den : ℕ) → FitOver den (entries from)
     → Kept (entries from) (entries left) → SettleAsWell from left
 settled_as_well from left den fit kept g number steps choices settles k less most above within exact
     small =
-    let hs = heads from in
-    let ns = from.numbers.items in
-    let all = are_over den from.players hs ns fit.dens in
+    let all = fit.dens in
     let base = settles k less den fit.above fit.within
     (are_exact den fit.above steps choices (entries from) all)
     (grind (arith, sizes_met)) in
@@ -131,7 +127,7 @@ settled_as_well from left den fit kept g number steps choices settles k less mos
 -- ---- while they are gone over
 
 pub record Paying (from : Terms) (i : ℕ) (left : Terms) : Type 0 where
-  pub kept : Kept (take i (entries from)) (entries left)
+  pub kept : Kept (first_entries from i) (entries left)
   pub shaped : IsShaped left
   pub alike : AreAlike left from
   pub ordered : AreOrdered left
@@ -139,12 +135,12 @@ pub record Paying (from : Terms) (i : ℕ) (left : Terms) : Type 0 where
 
 pub first_paying : (from left : Terms) → entries left ≡ [] → IsShaped left
     → AreAlike left from → Paying from 0 left
-first_paying from left none shaped alike = grind (arith, terms_count, none_taken)
+first_paying from left none shaped alike = grind (arith, terms_count)
 
 module _ (from : Terms) (i : ℕ) (left : Terms) (sorted : AreOrdered from)
     (less : i < length from.demands.items) (before : Paying from i left) where
-  one_more : take (i + 1) (entries from) ≡ take i (entries from) ++ entry_at from i ∷ []
-  one_more = grind (arith, terms_count, take-suc)
+  one_more : first_entries from (i + 1) ≡ first_entries from i ++ entry_at from i ∷ []
+  one_more = ap (first_entries from) (add-one i)
 
   rises : i + 1 < length from.demands.items → demands_at from i ≤ demands_at from (i + 1)
   rises there = sorted i (i + 1) 0 (omega arith) there
@@ -154,10 +150,9 @@ module _ (from : Terms) (i : ℕ) (left : Terms) (sorted : AreOrdered from)
       → AreAlike after left → IsShaped after → Paying from (i + 1) after
   more_paying after is alike shaped =
       let e = entry_at from i in
-      let grown = demands_more after left.den left.players left.demands.items left.scaled.items
-      left.numbers.items (lowered 0 e) is in
+      let grown = demands_more left after (lowered 0 e) is in
       let demands : (lowered 0 e).head.demands ≡ demands_at from i =
-      grind (arith, lowered_none, entry_demands) in
+      grind (arith, lowered_none) in
       record {
         kept = grind (arith, one_more, lowered_none, kept_more);
         shaped = shaped;
@@ -175,11 +170,11 @@ module _ (from : Terms) (i : ℕ) (left : Terms) (sorted : AreOrdered from)
 
 -- those of terms that were put over one denominator
 pub last_paying : (from plain left : Terms) (i den : ℕ) → i ≡ length plain.demands.items
-    → FitOver den (heads from) → Kept (entries from) (entries plain) → Paying plain i left
+    → FitOver den (entries from) → Kept (entries from) (entries plain) → Paying plain i left
     → SettleAsWell from left
 last_paying from plain left i den all fit first done =
     let second : Kept (entries plain) (entries left) =
-    grind (arith, terms_count, take-length) in
+    subst (λ (n : ℕ). Kept (first_entries plain n) (entries left)) all done.kept in
     settled_as_well from left den fit (record {
       sums = λ k own steps choices.
           second.sums k own steps choices ∙ first.sums k own steps choices;
@@ -188,45 +183,44 @@ last_paying from plain left i den all fit first done =
 
 -- ---- one denominator for all
 
-pub kept_over : (den d p : ℕ) (ds : List ℕ) (ss : List Scaled) (ns : List ℤ)
-    → AllByRecursion (λ (h : Head). h.den ≡ den) (heads_of d ds ss)
-    → Kept (entries_of p (heads_of d ds ss) ns) (entries_of p (heads_of den ds []) ns)
-kept_over den d p [] ss ns all =
-    record { sums = λ k most steps choices. refl; among = λ most over. tt }
-kept_over den d p (c ∷ ds) [] ns all =
-    let rest = kept_over den d p ds [] (drop p ns) all.1 in record {
-      sums = λ k most steps choices. cc (all.0, rest.sums k most steps choices);
-      among = λ most over. (sym all.0 ∙ over.0, rest.among most over.1);
-    }
-kept_over den d p (c ∷ ds) (s ∷ ss) ns all =
-    let rest = kept_over den d p ds ss (drop p ns) all.1 in record {
-      sums = λ k most steps choices. cc (all.0, rest.sums k most steps choices);
-      among = λ most over. (sym all.0 ∙ over.0, rest.among most over.1);
-    }
+pub kept_over : (from plain : Terms) → plain.players ≡ from.players
+    → plain.demands ≡ from.demands → plain.numbers ≡ from.numbers → plain.scaled.items ≡ []
+    → FitOver plain.den (entries from) → Kept (entries from) (entries plain)
+kept_over from plain players demands numbers none fit =
+    subst (λ (n : ℕ). Kept (entries from) (first_entries plain n))
+    (ap (λ (v : Vec ℕ Global). length v.items) (sym demands))
+    (all (length from.demands.items) fit.dens)
+  where
+    all : (n : ℕ) → AllByRecursion (IsOver plain.den) (first_entries from n)
+        → Kept (first_entries from n) (first_entries plain n)
+    all zero over = record { sums = λ k most steps choices. refl; among = λ most over. tt }
+    all (suc n) over =
+        let parts = all_parts (IsOver plain.den) (first_entries from n) (entry_at from n ∷ []) over
+        in
+        kept_next (first_entries from n) (first_entries plain n) (entry_at from n)
+        (entry_at plain n) (grind arith) (λ k. grind arith) (grind arith) (all n parts.0)
 
 -- ---- whether they fit
 
--- the first heads, so many
-pub record Fitting (den size : ℕ) (heads : List Head) (i : ℕ) : Type 0 where
-  pub dens : AllByRecursion (λ (h : Head). h.den ≡ den) (take i heads)
-  pub sizes : sizes_of (take i heads) ≡ size
+-- the first terms, so many
+pub record Fitting (den size : ℕ) (t : Terms) (i : ℕ) : Type 0 where
+  pub dens : AllByRecursion (IsOver den) (first_entries t i)
+  pub sizes : sizes_of (first_entries t i) ≡ size
   pub within : size < 2 ^ 127
 
-sizes_append : (xs ys : List Head) → sizes_of (xs ++ ys) ≡ sizes_of xs + sizes_of ys
+sizes_append : (xs ys : List Entry) → sizes_of (xs ++ ys) ≡ sizes_of xs + sizes_of ys
 sizes_append [] ys = omega arith
 sizes_append (x ∷ xs) ys = omega (arith, sizes_append xs ys)
 
-pub more_fitting : (den size more : ℕ) (t : Terms) (i : ℕ) → i < length t.demands.items
-    → (entry_at t i).head.den ≡ den → more ≡ size + (entry_at t i).head.size → more < 2 ^ 127
-    → Fitting den size (heads t) i → Fitting den more (heads t) (i + 1)
-more_fitting den size more t i less same sum within before =
-    let taken : take (i + 1) (heads t) ≡ take i (heads t) ++ (entry_at t i).head ∷ [] =
-    grind (arith, take-suc, there, heads_count) in
-    grind (arith, all_both, sizes_append)
+pub more_fitting : (den size more : ℕ) (t : Terms) (i : ℕ) → (entry_at t i).head.den ≡ den
+    → more ≡ size + (entry_at t i).head.size → more < 2 ^ 127
+    → Fitting den size t i → Fitting den more t (i + 1)
+more_fitting den size more t i same sum within before =
+    let next = add-one i in grind (arith, all_both, sizes_append)
 
 pub all_fit : (t : Terms) (den size i : ℕ) → i ≡ length t.demands.items
-    → Fitting den size (heads t) i → 0 < den → den < 2 ^ 127 → FitOver den (heads t)
-all_fit t den size i all done above within = grind (arith, heads_count, take-length)
+    → Fitting den size t i → 0 < den → den < 2 ^ 127 → FitOver den (entries t)
+all_fit t den size i all done above within = grind arith
 
 -- ---- profiles
 

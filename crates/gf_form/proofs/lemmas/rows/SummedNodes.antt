@@ -1,11 +1,10 @@
 -- Nodes that differ in weight alone have the shares of their sum.
-use Rattle.gf_form.proofs.Common.{◌≡◌, ℕ, zero, suc, ℤ, pos, ◌+◌, ◌<◌, ◌≤◌, ◌*ℤ◌, Bool, true, false}
-use Rattle.gf_form.proofs.Common.{List, [], ◌∷◌, ◌++◌, ⊤, arith, ap, refl, sym, subst, ◌∙◌, get_or}
-use Rattle.gf_form.proofs.Common.{length, ◌+ℤ◌, if◌then◌else◌, IsNonDecreasingBy, IsPermutation}
-use Rattle.gf_form.proofs.Common.{IsExactAt, map-append, node_term, node_terms}
-use Rattle.gf_form.proofs.Common.{◌/◌, add-*ℤ, ints, meets, number_at, pay_at}
-use Rattle.gf_form.proofs.Common.{mod-lt, all_both, all_parts, Game, Entry, AreTermsOf, order_of}
-use Rattle.gf_form.proofs.Common.{Reached, MatchBool}
+use Rattle.gf_form.proofs.Common.{IsNonDecreasingBy, if◌then◌else◌, IsPermutation, map-append, zero}
+use Rattle.gf_form.proofs.Common.{node_terms, AreTermsOf, IsExactAt, node_term, number_at, all_both}
+use Rattle.gf_form.proofs.Common.{all_parts, MatchBool, order_of, Reached, get_or, length, add-*ℤ}
+use Rattle.gf_form.proofs.Common.{pay_at, mod-lt, false, arith, subst, meets, Entry, ◌*ℤ◌, Bool, []}
+use Rattle.gf_form.proofs.Common.{true, List, ◌++◌, refl, ◌+ℤ◌, ints, Game, ◌≡◌, suc, pos, ◌+◌, ◌<◌}
+use Rattle.gf_form.proofs.Common.{◌≤◌, ◌∷◌, sym, ◌∙◌, ◌/◌, ap, ℕ, ℤ, ⊤}
 use Rattle.std.specs.List.Retain.{DedupsFrom, IsDeduped}
 use Rattle.std.proofs.lemmas.List.Sorted.{IsPermutation-map}
 use Rattle.gf_form.specs.inner.rows.SummedNodes.{HaveSharesOf, IsNodeSum, weighing}
@@ -171,5 +170,4 @@ pub terms_of_sums : (g : Game) (players : ℕ) (rs ss : List Reached) (es : List
     → HaveSharesOf rs ss → AreTermsOf g players ss es → AreTermsOf g players rs es
 terms_of_sums g players rs ss es have told k less den steps choices exact =
     let on = told k less den steps choices exact in
-    let come = have g (suc k) den steps choices on.exact in
-    record { exact = come.exact; sums = come.sums 1 ∙ on.sums; bounds = rw (come.sums 0) on.bounds }
+    let come = have g (suc k) den steps choices on.exact in grind arith

@@ -1,13 +1,13 @@
 -- A value over the common denominator, with the shares that it is the sum of: at a leaf, at a move,
 -- and as the children of a chance move are added.
-use Rattle.gf_form.proofs.Common.{◌≡◌, ◌⊎◌, inl, inr, pos, Some, refl, ◌+ℤ◌, ◌*ℤ◌, ◌==◌, Game, ints}
-use Rattle.gf_form.proofs.Common.{ℕ, ℤ, ◌+◌, ◌*◌, ◌/◌, ◌^◌, ◌<◌, ◌≤◌, [], ◌∷◌, ap, sym, ◌∙◌, ◌∣◌}
-use Rattle.gf_form.proofs.Common.{Bool, true, List, ◌++◌, arith, subst, Ratio, meets, pay_at, Entry}
-use Rattle.gf_form.proofs.Common.{false, zero-*ℤ, +ℤ_idl, add-*ℤ, IsExactAt, plus_of, Reached, term_of}
-use Rattle.gf_form.proofs.Common.{Option, dvd_trans, IsFraction, zero_ratio, product_of, met_bounds}
-use Rattle.gf_form.proofs.Common.{*ℤ_comm, *ℤ-zero, HasValue, IsWithin, *ℤ_assoc, times_of, node_term}
-use Rattle.gf_form.proofs.Common.{unsigned_abs, +ℤ_assoc, sum_of_shares, dvd_refl, eqb-true, node_terms, sum_of_entries}
-use Rattle.gf_form.proofs.Common.{if◌then◌else◌, unsigned_abs-mul, dvd-mul_right, mul-le-mul_right}
+use Rattle.gf_form.proofs.Common.{unsigned_abs-mul, mul-le-mul_right, sum_of_shares, if◌then◌else◌}
+use Rattle.gf_form.proofs.Common.{dvd-mul_right, unsigned_abs, IsFraction, zero_ratio, product_of}
+use Rattle.gf_form.proofs.Common.{met_bounds, IsExactAt, dvd_trans, node_term, HasValue, IsWithin}
+use Rattle.gf_form.proofs.Common.{*ℤ_assoc, times_of, +ℤ_assoc, dvd_refl, eqb-true, zero-*ℤ, pay_at}
+use Rattle.gf_form.proofs.Common.{plus_of, Reached, term_of, *ℤ_comm, *ℤ-zero, +ℤ_idl, add-*ℤ, Some}
+use Rattle.gf_form.proofs.Common.{Option, arith, subst, Ratio, meets, Entry, false, refl, ◌+ℤ◌, ◌≡◌}
+use Rattle.gf_form.proofs.Common.{◌*ℤ◌, ◌==◌, Game, ints, Bool, true, List, ◌++◌, ◌⊎◌, inl, inr, []}
+use Rattle.gf_form.proofs.Common.{pos, ◌+◌, ◌*◌, ◌/◌, ◌^◌, ◌<◌, ◌≤◌, ◌∷◌, sym, ◌∙◌, ◌∣◌, ap, ℕ, ℤ}
 use Rattle.std.proofs.lemmas.Nat.Gcd.{dvd-zero, le_of_dvd}
 use Rattle.std.proofs.Math.IntN.{+ℤ_comm}
 use Rattle.std.proofs.Math.Nat.{eq-zero_of_zero-dvd, le-mul_of_pos_right}
@@ -45,12 +45,9 @@ chance_below a b x =
 -- a fraction that is nothing
 no_ratio : (r : Ratio) → IsFraction r → unsigned_abs r.num ≡ 0 → r ≡ zero_ratio
 no_ratio r f none =
-    let least : r.den ≤ 1 =
-    le_of_dvd (omega arith) (f.lowest.2 r.den (subst (λ (n : ℕ). r.den ∣ n) (sym none) (dvd-zero r.den)) (dvd_refl r.den)) in
-    let some = f.den_above_zero in
-    let den : r.den ≡ 1 = omega arith in
-    let num : r.num ≡ pos 0 = omega (arith, ints) in
-    λ i. record { num = num i; den = den i }
+    let least = le_of_dvd (omega arith)
+    (f.lowest.2 r.den (rw none (dvd-zero r.den)) (dvd_refl r.den)) in
+    grind (arith, ints)
 
 -- ---- parts of the common denominator
 
@@ -189,23 +186,13 @@ module _ (g : Game) (player den : ℕ) (den_above : 0 < den) (den_within : den <
     shares_first : (rs : List Reached)
         → shares (own ∷ rs) ≡ pos own.path.weight *ℤ amount +ℤ shares rs
     shares_first rs =
-        ap (λ (e : Entry). sum_of_entries 1 den steps choices (e ∷ node_terms g player rs)) term_is
-        ∙ first_met 1 den steps choices term (node_terms g player rs) met
-        ∙ ap (λ z. z +ℤ shares rs)
-        (*ℤ_assoc (pos own.path.weight) pay.num (pos (den / term.head.den)))
+        cc (pays, met, *ℤ_assoc (pos own.path.weight) pay.num (pos (den / term.head.den)))
 
     bounds_first : (rs : List Reached) → bounds (own ∷ rs) ≡ size + bounds rs
     bounds_first rs =
-        bounds_append g player den steps choices (own ∷ []) rs
-        ∙ ap (λ n. n + bounds rs) (ap (λ (e : Entry). unsigned_abs (sum_of_entries 0 den steps
-        choices (e ∷ []))) term_is
-        ∙ ap unsigned_abs (first_met 0 den steps choices term [] met) ∙ sizes)
-      where
-        sizes : unsigned_abs (pos term.head.size *ℤ pos (den / term.head.den) +ℤ pos 0) ≡ size
-        sizes =
-            let q = den / term.head.den in
-            let amounts = ap (λ n. n * own.path.bound) (unsigned_abs-mul pay.num (pos q)) in
-            omega (arith, amounts)
+        let sizes = unsigned_abs-mul pay.num (pos (den / term.head.den)) in
+        let one = bounds_append g player den steps choices (own ∷ []) rs in
+        grind (arith, first_met, term_is)
 
     pub leaf_valued :
         IsValued (Some pay) own.path.weight own.path.bound own.path.den (own ∷ [])

@@ -1,6 +1,7 @@
 -- Terms of the sums that the players are paid, each with a number for each player.
 use Rattle.std.specs.Prelude.{◌≡◌, ℕ, ℤ, pos, ◌+◌, ◌-◌, ◌*◌, ◌/◌, ◌<◌, ◌≤◌, ◌+ℤ◌, ◌*ℤ◌, Bool, true}
 use Rattle.std.specs.Prelude.{List, [], ◌∷◌, ◌++◌, drop, get_or, length, take, if◌then◌else◌}
+use Rattle.std.specs.Prelude.{suc, zero}
 use Rattle.std.specs.Int.{◌∣◌}
 use Rattle.std.specs.List.{AllByRecursion}
 use Rattle.std.specs.List.Sorted.{IsNonDecreasing}
@@ -21,24 +22,33 @@ pub record Entry : Type 0 where
 abbrev pub number_at : ℕ → Entry → ℤ
 number_at k e = get_or (pos e.head.size ∷ e.row) k (pos 0)
 
--- the terms of these heads, each with this many of the numbers
-abbrev pub entries_of : ℕ → List Head → List ℤ → List Entry
-entries_of players [] numbers = []
-entries_of players (h ∷ hs) numbers =
-    record { head = h; row = take players numbers } ∷ entries_of players hs (drop players numbers)
+-- what the numbers of the term at a place, from 0, are over
+abbrev pub scaled_at : Terms → ℕ → Scaled
+scaled_at t place = get_or t.scaled.items place (record { den = t.den; size = 0 })
 
--- heads of terms that demand this; those of which nothing is noted are over the denominator
-abbrev pub heads_of : ℕ → List ℕ → List Scaled → List Head
-heads_of den [] scaled = []
-heads_of den (d ∷ ds) [] = record { demands = d; den = den; size = 0 } ∷ heads_of den ds []
-heads_of den (d ∷ ds) (s ∷ ss) =
-    record { demands = d; den = s.den; size = s.size } ∷ heads_of den ds ss
+-- the term at a place, from 0
+abbrev pub entry_at : Terms → ℕ → Entry
+entry_at t place = record {
+  head = record {
+    demands = get_or t.demands.items place 0;
+    den = (scaled_at t place).den;
+    size = (scaled_at t place).size;
+  };
+  row = take t.players (drop (place * t.players) t.numbers.items);
+}
 
-abbrev pub heads : Terms → List Head
-heads t = heads_of t.den t.demands.items t.scaled.items
+-- this many of the first terms
+abbrev pub first_entries : Terms → ℕ → List Entry
+first_entries t zero = []
+first_entries t (suc n) = first_entries t n ++ entry_at t n ∷ []
 
 abbrev pub entries : Terms → List Entry
-entries t = entries_of t.players (heads t) t.numbers.items
+entries t = first_entries t (length t.demands.items)
+
+-- what the terms are over is as it was, and that of the next one is known
+pub record IsNoted (old new : Terms) (den size : ℕ) : Type 0 where
+  pub kept : (k : ℕ) → k < length old.demands.items → scaled_at new k ≡ scaled_at old k
+  pub next : scaled_at new (length old.demands.items) ≡ record { den = den; size = size }
 
 -- each term has a number within bounds for each player
 pub record IsShaped (t : Terms) : Type 0 where
@@ -74,15 +84,8 @@ abbrev pub EndsBelow : List ℕ → ℕ → Type 0
 EndsBelow demands n =
     (d : ℕ) → 0 < length demands → get_or demands (length demands - 1) d ≤ n
 
-abbrev pub no_head : Head
-no_head = record { demands = 0; den = 0; size = 0 }
-
 abbrev pub no_entry : Entry
-no_entry = record { head = no_head; row = [] }
-
--- the term at a place, from 0
-abbrev pub entry_at : Terms → ℕ → Entry
-entry_at t place = get_or (entries t) place no_entry
+no_entry = record { head = record { demands = 0; den = 0; size = 0 }; row = [] }
 
 -- the terms from one place up to another
 abbrev pub part : ℕ → ℕ → List Entry → List Entry

@@ -4,22 +4,21 @@ use Rattle.std.specs.List.{AllByRecursion}
 use Rattle.gf_tree.specs.Game.{Game}
 use Rattle.gf_form.specs.inner.rows.Entries.{Entry, entries, sum_of_entries}
 use Rattle.gf_form.specs.inner.rows.SettledRows.{Settles}
-use Rattle.gf_form.specs.declared.rows.terms.Head.{Head}
 use Rattle.gf_form.specs.declared.rows.terms.Terms.{Terms}
 
-abbrev pub sizes_of : List Head → ℕ
+abbrev pub sizes_of : List Entry → ℕ
 sizes_of [] = 0
-sizes_of (h ∷ hs) = h.size + sizes_of hs
-
--- all are over this denominator, and no sum of them is too large
-pub record FitOver (den : ℕ) (heads : List Head) : Type 0 where
-  pub above : 0 < den
-  pub within : den < 2 ^ 127
-  pub dens : AllByRecursion (λ (h : Head). h.den ≡ den) heads
-  pub sizes : sizes_of heads < 2 ^ 127
+sizes_of (e ∷ es) = e.head.size + sizes_of es
 
 abbrev pub IsOver : ℕ → Entry → Type 0
 IsOver den e = e.head.den ≡ den
+
+-- all are over this denominator, and no sum of them is too large
+pub record FitOver (den : ℕ) (es : List Entry) : Type 0 where
+  pub above : 0 < den
+  pub within : den < 2 ^ 127
+  pub dens : AllByRecursion (IsOver den) es
+  pub sizes : sizes_of es < 2 ^ 127
 
 -- the second come to what the first come to for each player, by his place from 0, and are over one
 -- denominator if these are

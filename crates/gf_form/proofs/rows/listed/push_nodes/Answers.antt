@@ -1,6 +1,7 @@
-use Rattle.gf_form.proofs.Common.{◌≡◌, ◌∙◌, ◌<◌, ◌∷◌, ◌++◌, [], ℕ, ℤ, ap, arith, false, get_or}
-use Rattle.gf_form.proofs.Common.{refl, subst, lit<, pos, sym, true, Vec, Global, IsWithin}
-use Rattle.gf_form.proofs.Common.{heads_of, rows_of, Head}
+use Rattle.gf_form.proofs.Common.{IsWithin, rows_of, get_or, Global, arith, false, subst, Entry, []}
+use Rattle.gf_form.proofs.Common.{Terms, ◌++◌, refl, lit<, true, Head, ◌≡◌, ◌∙◌, ◌<◌, ◌∷◌, pos, sym}
+use Rattle.gf_form.proofs.Common.{Vec, ap, ℕ, ℤ}
+use Rattle.gf_form.specs.inner.rows.Entries.{IsNoted}
 use Rattle.gf_form.specs.inner.rows.ListedNodes.{HasShares, IsShareAt}
 use Rattle.gf_form.proofs.lemmas.rows.FlatRows.{Pushed, is_pushed}
 use Rattle.gf_form.proofs.lemmas.rows.ItemRows.{all_by_place, in_bits, one_item, unknown}
@@ -65,17 +66,25 @@ made c =
     let inv = c.loop-place.invariant in
     let row = inv.filling.row in
     let after = c.in_ok-push_head.ensures in
-    let head : Head =
-    record { demands = c.args.demands; den = c.if-fits.den; size = c.loop-place.size } in
-    is_pushed old c.push_head.new.self head row c.requires
+    let noted = subst (λ (t : Terms). IsNoted t c.push_head.new.self c.if-fits.den c.loop-place.size)
+    (λ i. record {
+      players = inv.players i;
+      demands = inv.demands i;
+      scaled = inv.scaled i;
+      den = inv.den i;
+      numbers = c.loop-place.terms.numbers;
+    }) after.noted in
+    let e : Entry = record {
+      head = record { demands = c.args.demands; den = c.if-fits.den; size = c.loop-place.size };
+      row = row;
+    } in
+    is_pushed old c.push_head.new.self e c.requires
     (all_by_place IsWithin row
     (λ k d less. (inv.filling.each k d (omega (arith, less, inv.filling.one_each))).0))
     (inv.filling.one_each
     ∙ omega (arith, c.loop-place-test.false, c.loop-place.auto.place-end))
-    (after.alike.0 ∙ inv.players)
-    (after.heads
-    ∙ (λ i. heads_of (inv.den i) (inv.demands i).items (inv.scaled i).items ++ head ∷ []))
-    (after.demands ∙ (λ i. (inv.demands i).items ++ head.demands ∷ []))
+    (after.alike.0 ∙ inv.players) (record { kept = noted.kept; next = noted.next })
+    (after.demands ∙ (λ i. (inv.demands i).items ++ c.args.demands ∷ []))
     after.scaled
     (ap (λ (v : Vec ℤ Global). v.items) after.numbers ∙ inv.filling.is)
 

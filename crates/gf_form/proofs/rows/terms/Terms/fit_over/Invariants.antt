@@ -1,6 +1,5 @@
-use Rattle.gf_form.proofs.Common.{heads}
 use Rattle.gf_form.proofs.lemmas.rows.PayingTerms.{Fitting}
 use Rattle.gf_form.proofs.rows.terms.Terms.fit_over.Given as goal
 
 abbrev pub invariant-loop-place : goal.invariant-loop-place
-invariant-loop-place l = Fitting l.den l.size (heads l.self) l.place
+invariant-loop-place l = Fitting l.den l.size l.self l.place

@@ -1,5 +1,4 @@
 use Rattle.gf_form.proofs.Common.{◌∙◌, arith}
-use Rattle.gf_form.proofs.lemmas.rows.FlatRows.{entry_demands}
 use Rattle.gf_form.proofs.lemmas.rows.Merges.{both_go, first_merge, free_goes, last_merge, own_goes}
 use Rattle.gf_form.proofs.lemmas.rows.Merges.{demands_read}
 use Rattle.gf_form.proofs.rows.terms.Terms.merge.Goals as goal
@@ -26,7 +25,7 @@ loop-free-preserved-then-stays-goes-2 c =
     c.in_ok-push.ensures.pushed
 
 pub push-requires-else-stays-goes-2-clause-less : goal.push-requires-else-stays-goes-2-clause-less
-push-requires-else-stays-goes-2-clause-less c = grind (arith, entry_demands)
+push-requires-else-stays-goes-2-clause-less c = grind arith
 
 pub loop-free-preserved : goal.loop-free-preserved
 loop-free-preserved c =
@@ -44,7 +43,7 @@ loop-free-2-preserved c =
     )
 
 pub push-requires-in-loop-own-clause-less : goal.push-requires-in-loop-own-clause-less
-push-requires-in-loop-own-clause-less c = grind (arith, entry_demands)
+push-requires-in-loop-own-clause-less c = grind arith
 
 pub loop-own-preserved : goal.loop-own-preserved
 loop-own-preserved c =

@@ -1,9 +1,9 @@
-use Rattle.gf_form.proofs.Common.{◌≡◌, ◌≤◌, ◌-◌, length, AreAlike, heads}
+use Rattle.gf_form.proofs.Common.{◌≡◌, ◌≤◌, ◌-◌, ℕ, length, AreAlike, scaled_at}
 use Rattle.gf_form.proofs.rows.terms.Terms.note.Given as goal
 
 abbrev pub invariant-loop-self : goal.invariant-loop-self
 invariant-loop-self l = record {
-  heads : heads l.self ≡ heads l.fn.self;
+  noted : (k : ℕ) → scaled_at l.self k ≡ scaled_at l.fn.self k;
   within : length l.self.scaled.items ≤ length l.self.demands.items;
   demands : l.self.demands ≡ l.fn.self.demands;
   numbers : l.self.numbers ≡ l.fn.self.numbers;

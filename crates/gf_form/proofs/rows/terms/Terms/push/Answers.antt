@@ -1,6 +1,6 @@
-use Rattle.gf_form.proofs.Common.{◌∙◌, ◌-◌, ◌++◌, ◌∷◌, [], ℤ, Global, List, Vec, ap, arith, sym}
-use Rattle.gf_form.proofs.Common.{get_or_default, entry_at, heads, lowered}
-use Rattle.gf_form.proofs.lemmas.rows.FlatRows.{Pushed, entry_demands, is_pushed, row_in_bound}
+use Rattle.gf_form.proofs.Common.{get_or_default, entry_at, lowered, Global, arith, ◌++◌, List, ◌∙◌}
+use Rattle.gf_form.proofs.Common.{◌-◌, ◌∷◌, Vec, sym, [], ap, ℤ}
+use Rattle.gf_form.proofs.lemmas.rows.FlatRows.{Pushed, is_pushed, row_in_bound}
 use Rattle.gf_form.proofs.lemmas.rows.FlatRows.{row_length}
 use Rattle.gf_form.proofs.rows.terms.Terms.push.Goals as goal
 
@@ -14,23 +14,18 @@ made c =
     let e = entry_at from place in
     let after = c.in_ok-push_like.ensures in
     let demands = c.index.ensures
-    ∙ get_or_default from.demands.items place c.index.result.now 0 within
-    ∙ sym (entry_demands from place within) in
-    is_pushed c.args.self.now c.push_like.new.self (lowered c.args.less e).head e.row
+    ∙ get_or_default from.demands.items place c.index.result.now 0 within in
+    is_pushed c.args.self.now c.push_like.new.self (lowered c.args.less e)
     c.requires.shaped.0 (row_in_bound from place shaped within)
     (row_length from place shaped within ∙ sym c.requires.alike.0) after.alike.0
-    (after.heads ∙ (λ i. heads c.args.self.now ++ record {
-      demands = demands i - c.args.less;
-      den = e.head.den;
-      size = e.head.size;
-    } ∷ []))
+    (record { kept = after.noted.kept; next = after.noted.next })
     (after.demands ∙ (λ i. c.args.self.now.demands.items ++ (demands i - c.args.less) ∷ []))
     after.scaled
     (ap (λ (v : Vec ℤ Global). v.items) after.numbers ∙ c.in_ok-push_few.ensures
     ∙ ap (λ (row : List ℤ). c.args.self.now.numbers.items ++ row) c.row.ensures)
 
 pub overflow_sub-index : goal.overflow_sub-index
-overflow_sub-index c = grind (arith, entry_demands, get_or_default)
+overflow_sub-index c = grind (arith, get_or_default)
 
 pub returns-clause-pushed : goal.returns-clause-pushed
 returns-clause-pushed c = (made c).pushed

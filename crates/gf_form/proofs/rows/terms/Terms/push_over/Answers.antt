@@ -1,6 +1,6 @@
-use Rattle.gf_form.proofs.Common.{◌≡◌, ◌∙◌, ◌<◌, ◌+ℤ◌, ◌*ℤ◌, ap, arith, get_or, length, pos, ℕ, ℤ}
-use Rattle.gf_form.proofs.Common.{sym, true, Vec, Global, get_or_default, entry_at, IsWithin}
-use Rattle.gf_form.proofs.lemmas.rows.FlatRows.{Pushed, entry_demands, is_pushed, row_in_bound}
+use Rattle.gf_form.proofs.Common.{get_or_default, entry_at, IsWithin, get_or, length, Global, arith}
+use Rattle.gf_form.proofs.Common.{◌+ℤ◌, ◌*ℤ◌, true, ◌≡◌, ◌∙◌, ◌<◌, pos, sym, Vec, ap, ℕ, ℤ}
+use Rattle.gf_form.proofs.lemmas.rows.FlatRows.{Pushed, is_pushed, row_in_bound}
 use Rattle.gf_form.proofs.lemmas.rows.FlatRows.{all_sums, row_length, sum_made}
 use Rattle.gf_form.proofs.lemmas.rows.ItemRows.{all_by_place}
 use Rattle.gf_form.proofs.rows.terms.Terms.push_over.Goals.{then-fits, else-fits}
@@ -24,13 +24,21 @@ made c =
     let more = c.in_ok-fits.ensures in
     let after = c.in_ok-push_head.ensures in
     is_pushed c.args.self.now c.push_head.new.self
-    (record { demands = c.index.result.now; den = c.if-fits.den; size = c.args.scale.size })
-    more.row c.requires.shaped.0
+    (record {
+      head = record {
+        demands = c.index.result.now;
+        den = c.if-fits.den;
+        size = c.args.scale.size;
+      };
+      row = more.row;
+    })
+    c.requires.shaped.0
     (all_by_place IsWithin more.row
     (λ k d less. (more.each k d (omega (arith, less, more.one_each))).0))
     (more.one_each ∙ ap length c.row-one.ensures
     ∙ row_length from c.args.first c.requires.shaped.1 c.requires.first ∙ sym c.requires.players)
-    after.alike.0 after.heads after.demands after.scaled
+    after.alike.0 (record { kept = after.noted.kept; next = after.noted.next }) after.demands
+    after.scaled
     (ap (λ (v : Vec ℤ Global). v.items) after.numbers ∙ more.is)
 
 pub returns-clause-sum : goal.returns-clause-sum
@@ -55,8 +63,7 @@ returns-clause-sum c =
       };
       is = (made c).pushed;
       demands = c.index.ensures
-          ∙ get_or_default from.demands.items c.args.first c.index.result.now 0 c.requires.first
-          ∙ sym (entry_demands from c.args.first c.requires.first);
+          ∙ get_or_default from.demands.items c.args.first c.index.result.now 0 c.requires.first;
       adds = λ above.
           sum_made (entry_at from c.args.first) (entry_at from c.args.second) scale
           c.in_ok-fits.fits c.index.result.now more.row
