@@ -5,14 +5,11 @@ pub mod DigitsMade
 pub mod FlatRows
 pub mod GameDigits
 pub mod GameRows
-pub mod IdlePaths
 pub mod ItemRows
-pub mod KeptShares
 pub mod ListedEntries
 pub mod MergedEntries
 pub mod Merges
 pub mod NodeTerms
-pub mod OrderedShares
 pub mod OverOneDenominator
 pub mod PairRows
 pub mod PathsTold
@@ -20,7 +17,6 @@ pub mod PayingTerms
 pub mod ReachedValues
 pub mod RowsMade
 pub mod SettledRows
-pub mod ShareSums
 pub mod SummedNodes
 pub mod UnmetShares
 pub mod ValuedNodes

@@ -6,10 +6,10 @@ use Rattle.gf_form.proofs.Common.{number_at, cases_lt, dvd_refl, IsWithin, all_b
 use Rattle.gf_form.proofs.Common.{entry_at, no_entry, take-suc, IsScale, IsSumOf, entries, length}
 use Rattle.gf_form.proofs.Common.{get_or, Scaled, subst, arith, Entry, Scale, Terms, ◌+ℤ◌, ◌*ℤ◌, []}
 use Rattle.gf_form.proofs.Common.{List, ◌++◌, Bool, true, take, drop, refl, Head, ◌+◌, ◌*◌, ◌<◌, ap}
-use Rattle.gf_form.proofs.Common.{◌≤◌, ◌/◌, ◌∷◌, pos, inl, inr, sym, ◌∙◌, map, ◌∣◌, ℕ, ℤ}
+use Rattle.gf_form.proofs.Common.{◌≤◌, ◌/◌, ◌∷◌, pos, inl, inr, sym, ◌∙◌, map, ℕ, ℤ}
 use Rattle.std.proofs.Math.Seq.{drop-append_seam}
 use Rattle.std.proofs.lemmas.List.{drop-append-le, take-append-le}
-use Rattle.gf_form.specs.inner.rows.Entries.{IsNoted, IsSumAt}
+use Rattle.gf_form.specs.inner.rows.Entries.{IsFactor, IsNoted, IsSumAt}
 use Rattle.gf_form.specs.inner.rows.ItemRows.{HasRow}
 
 pub none_taken : {X : Type 0} (xs : List X) → take 0 xs ≡ []
@@ -31,9 +31,7 @@ first_there t (suc n) k less = elim (cases_lt k n) [
   | inl h ↦ grind (arith, get_or_append_left, first_count, first_there t n k h)
   | inr h ↦
       let is : k ≡ n = omega arith in
-      let es = first_entries t n in
-      ap (λ (i : ℕ). get_or (es ++ entry_at t n ∷ []) i no_entry) (is ∙ sym (first_count t n))
-      ∙ get_or-append_seam es (entry_at t n) [] no_entry ∙ ap (entry_at t) (sym is)
+      cc (first_count t n, get_or-append_seam (first_entries t n) (entry_at t n) [] no_entry)
 ]
 
 pub there : (t : Terms) (place : ℕ) → place < length t.demands.items
@@ -44,9 +42,7 @@ demands_in : (t : Terms) (n : ℕ) → n ≤ length t.demands.items
     → map (λ (e : Entry). e.head.demands) (first_entries t n) ≡ take n t.demands.items
 demands_in t zero within = sym (none_taken t.demands.items)
 demands_in t (suc n) within =
-    map-append (λ (e : Entry). e.head.demands) (first_entries t n) (entry_at t n ∷ [])
-    ∙ ap (λ (ds : List ℕ). ds ++ get_or t.demands.items n 0 ∷ []) (demands_in t n (omega arith))
-    ∙ sym (take-suc t.demands.items n 0 (omega arith))
+    let later = demands_in t n (omega arith) in grind (arith, map-append, take-suc)
 
 all_demands : (t : Terms) → map (λ (e : Entry). e.head.demands) (entries t) ≡ t.demands.items
 all_demands t =
@@ -141,16 +137,12 @@ itself n above = grind arith
 pub same_scale : (a b : Head) (size : ℕ) → a.den ≡ b.den → 0 < a.den → size ≡ a.size + b.size
     → IsScale a b (record { den = a.den; size = size; first = 1; second = 1 })
 same_scale a b size same above is =
-    let own : a.den / a.den ≡ 1 = itself a.den above in
-    let other : a.den / b.den ≡ 1 = ap (λ (n : ℕ). a.den / n) (sym same) ∙ own in
+    let factor : IsFactor a.den a.den 1 =
+    record { above = above; divides = dvd_refl a.den; factor_is = sym (itself a.den above) } in
     record {
-      first = grind (arith, dvd_refl);
-      second = record {
-        above = subst (λ (n : ℕ). 0 < n) same above;
-        divides = subst (λ (n : ℕ). n ∣ a.den) same (dvd_refl a.den);
-        factor_is = sym other;
-      };
-      size = grind arith;
+      first = factor;
+      second = subst (λ (n : ℕ). IsFactor n a.den 1) same factor;
+      size = omega (arith, is);
     }
 
 -- two of which nothing is noted

@@ -11,7 +11,7 @@ use Rattle.std.proofs.Math.Seq.{take-nil}
 use Rattle.gf_form.specs.inner.rows.ListedNodes.{HasShares, IsTermMore, Tells}
 use Rattle.gf_form.proofs.lemmas.rows.Merges.{all_in, below_more, ordered_more}
 use Rattle.gf_form.proofs.lemmas.rows.MergedEntries.{scaled, size_append, sum_append}
-use Rattle.gf_form.proofs.lemmas.rows.ShareSums.{bounds_append, shares_append}
+use Rattle.gf_form.proofs.lemmas.rows.NodeTerms.{bounds_append, shares_append}
 
 -- ---- terms with the same demands, over a multiple of their denominator
 

@@ -1,14 +1,27 @@
--- The shares of nodes, node by node.
-use Rattle.gf_form.proofs.Common.{unsigned_abs-mul, unsigned_abs, map-append, node_terms, IsExactAt}
-use Rattle.gf_form.proofs.Common.{node_term, mul_assoc, all_both, at_place, *ℤ_assoc, one-dvd, ◌+ℤ◌}
-use Rattle.gf_form.proofs.Common.{zero-*ℤ, ArePaid, *ℤ-zero, term_of, Reached, row_at, ne_eqb, List}
-use Rattle.gf_form.proofs.Common.{arith, subst, Ratio, ◌++◌, ◌*ℤ◌, Game, Path, ◌≡◌, pos, ◌+◌, ◌*◌}
-use Rattle.gf_form.proofs.Common.{◌≤◌, ◌∷◌, suc, sym, ◌∙◌, ◌/◌, [], ℕ, ℤ}
+-- The shares of nodes, and sums of them and of their bounds, part by part.
+use Rattle.gf_form.proofs.Common.{unsigned_abs-mul, sum_of_shares, unsigned_abs, map-append, row_at}
+use Rattle.gf_form.proofs.Common.{node_terms, met_bounds, IsExactAt, node_term, mul_assoc, all_both}
+use Rattle.gf_form.proofs.Common.{at_place, *ℤ_assoc, one-dvd, zero-*ℤ, ArePaid, *ℤ-zero, term_of}
+use Rattle.gf_form.proofs.Common.{Reached, ne_eqb, arith, subst, Ratio, ◌+ℤ◌, List, ◌++◌, ◌*ℤ◌, ◌≡◌}
+use Rattle.gf_form.proofs.Common.{Game, Path, pos, ◌+◌, ◌*◌, ◌≤◌, ◌∷◌, suc, sym, ◌∙◌, ◌/◌, [], ℕ, ℤ}
 use Rattle.gf_form.specs.inner.rows.Entries.{IsFactor}
 use Rattle.gf_form.specs.inner.rows.ListedNodes.{HasShares}
 use Rattle.gf_form.specs.inner.rows.Shares.{IsShare}
 use Rattle.gf_form.specs.declared.rows.share.Share.{Share}
-use Rattle.gf_form.proofs.lemmas.rows.ShareSums.{bounds_append, shares_append}
+use Rattle.gf_form.proofs.lemmas.rows.MergedEntries.{size_append, sum_append}
+
+module _ (g : Game) (player den : ℕ) (steps choices : List ℕ) where
+  pub shares_append : (xs ys : List Reached) → sum_of_shares g player den steps choices (xs ++ ys)
+      ≡ sum_of_shares g player den steps choices xs +ℤ sum_of_shares g player den steps choices ys
+  shares_append xs ys =
+      rw map-append (sum_append den steps choices 1 (node_terms g player xs)
+      (node_terms g player ys))
+
+  pub bounds_append : (xs ys : List Reached) → met_bounds g player den steps choices (xs ++ ys)
+      ≡ met_bounds g player den steps choices xs + met_bounds g player den steps choices ys
+  bounds_append xs ys =
+      rw map-append (size_append den steps choices (node_terms g player xs)
+      (node_terms g player ys))
 
 -- nothing is added to a payoff of zero
 pub zero_share : (path : Path) (pay : Ratio) (den : ℕ) (s : Share) → pay.num ≡ pos 0

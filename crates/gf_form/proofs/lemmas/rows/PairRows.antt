@@ -31,10 +31,9 @@ pub one_only : (t : Terms) (start end : ℕ) (only : Only) → end ≤ length t.
     → start < end → end - start ≤ 1 → only.head ≡ (entry_at t start).head
     → only.numbers.now ≡ (entry_at t start).row → IsOnly (part start end (entries t)) only
 one_only t start end only within some one head row den above divides =
-    let es = entries t in
     let count = terms_count t in
-    let e : entry_of only ≡ entry_at t start = λ i. record { head = head i; row = row i } in
-    let all : part start end es ≡ entry_of only ∷ [] = grind (arith, part_next, part_past, there) in
+    let all : part start end (entries t) ≡ entry_of only ∷ [] =
+    grind (arith, part_next, part_past, there) in
     grind arith
 
 -- ---- two terms

@@ -10,7 +10,7 @@ use Rattle.gf_form.proofs.Common.{[], ap, ℕ, ℤ}
 use Rattle.gf_fraction.proofs.Integers.{*ℤ_right_comm}
 use Rattle.gf_form.specs.inner.rows.Paying.{FitOver, IsOver, Kept, SettleAsWell, sizes_of}
 use Rattle.gf_form.proofs.lemmas.rows.FlatRows.{demands_more, itself, terms_count}
-use Rattle.gf_form.proofs.lemmas.rows.MergedEntries.{sum_append}
+use Rattle.gf_form.proofs.lemmas.rows.MergedEntries.{none_first, sum_append}
 use Rattle.gf_form.proofs.lemmas.rows.Merges.{below_more, demands_at, lowered_none, ordered_more}
 
 -- ---- all over one denominator
@@ -60,13 +60,10 @@ module _ (k den most : ℕ) (above : 0 < den) (steps choices : List ℕ) where
       ≡ sum_of_entries k den steps choices es *ℤ pos most
   all_scaled [] all exact = zero-*ℤ (pos den) ∙ sym (zero-*ℤ (pos most))
   all_scaled (e ∷ es) all exact =
-      let met = meets steps choices e.head.demands in
-      let z = number_at k e in
-      let d = e.head.den in
-      add-*ℤ (if met then z *ℤ pos (most / d) else pos 0) (sum_of_entries k most steps choices es)
-      (pos den)
-      ∙ (λ i. one_scaled met z d all.0 exact.0 i +ℤ all_scaled es all.1 exact.1 i)
-      ∙ sym (grind (arith, add-*ℤ))
+      let later = all_scaled es all.1 exact.1 in
+      let first = one_scaled (meets steps choices e.head.demands) (number_at k e) e.head.den all.0
+      exact.0 in
+      grind (arith, add-*ℤ)
 
 -- ---- some of the terms
 
@@ -83,16 +80,10 @@ kept_next es left e f demands numbers den before = record {
 kept_more : (es left : List Entry) (e : Entry) → Kept es left → Kept (es ++ e ∷ []) (left ++ e ∷ [])
 kept_more es left e = kept_next es left e e refl (λ k. refl) refl
 
-none_met : (b : Bool) (z : ℤ) (n : ℕ) → z ≡ pos 0 → (if b then z *ℤ pos n else pos 0) ≡ pos 0
-none_met b z n none = grind arith
-
 kept_zero : (es left : List Entry) (e : Entry) → ((k : ℕ) → number_at (suc k) e ≡ pos 0)
     → Kept es left → Kept (es ++ e ∷ []) left
 kept_zero es left e none before = record {
-  sums = λ k den steps choices.
-      let own = if meets steps choices e.head.demands
-      then number_at (suc k) e *ℤ pos (den / e.head.den) else pos 0 in
-      grind (arith, none_met, sum_append);
+  sums = grind (arith, none_first, sum_append);
   among = λ den all. before.among den (all_parts (IsOver den) es (e ∷ []) all).0;
 }
 

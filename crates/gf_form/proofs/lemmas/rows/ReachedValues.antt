@@ -1,25 +1,24 @@
 -- The value of a tree is the sum of the shares of the nodes that choices reach.
-use Rattle.gf_form.proofs.Common.{◌≡◌, zero, Bool, true, List, ◌++◌, Some, None, refl, drawn, value}
-use Rattle.gf_form.proofs.Common.{ℕ, IsFraction, flatten_all, HasChildren, IsSpellable, child_value}
-use Rattle.gf_form.proofs.Common.{ℤ, and_from, eqb-true, is_sum_at, root_path, AreDigits, IsDigitOf}
-use Rattle.gf_form.proofs.Common.{suc, pos, ◌+◌, ap, ◌==◌, ◌&&◌, Tree, none, more, Game, Node, Path}
-use Rattle.gf_form.proofs.Common.{◌*◌, ◌/◌, ◌^◌, ◌<◌, ◌≤◌, ◌∷◌, set, sym, ◌∙◌, inr}
-use Rattle.gf_form.proofs.Common.{false, unsigned_abs, if◌then◌else◌, AllByRecursion, sum_of_shares}
-use Rattle.gf_form.proofs.Common.{Option, eqb-false, zero_ratio, met_bounds, chances_at, value_over}
-use Rattle.gf_form.proofs.Common.{MatchOption, option_map, paid_at_node, AreExactShares, chance_value}
-use Rattle.gf_form.proofs.Common.{length, get_or, eq-eqb, ne_eqb, branch, SetKey, plus_of, Reached}
-use Rattle.gf_form.proofs.Common.{subst, arith, Ratio, Trees, count, IsGame, set_at, meets, FitsAt}
+use Rattle.gf_form.proofs.Common.{AllByRecursion, AreExactShares, if◌then◌else◌, sum_of_shares, ◌≡◌}
+use Rattle.gf_form.proofs.Common.{unsigned_abs, paid_at_node, chance_value, flatten_all, IsFraction}
+use Rattle.gf_form.proofs.Common.{HasChildren, IsSpellable, child_value, MatchOption, zero_ratio, ℕ}
+use Rattle.gf_form.proofs.Common.{met_bounds, chances_at, value_over, option_map, map-append, drawn}
+use Rattle.gf_form.proofs.Common.{node_terms, is_sum_at, root_path, AreDigits, IsDigitOf, eqb-false}
 use Rattle.gf_form.proofs.Common.{all_parts, payoff_at, below_set, by_action, by_chance, by_choice}
-use Rattle.gf_form.proofs.Common.{HasValue, flatten, steps_of, by_each, over_set, reached, times_of}
-use Rattle.gf_form.proofs.Common.{[], IsExactAt, map-append, node_terms}
+use Rattle.gf_form.proofs.Common.{IsExactAt, and_from, eqb-true, HasValue, steps_of, over_set, zero}
+use Rattle.gf_form.proofs.Common.{times_of, plus_of, Reached, flatten, by_each, reached, Option, ap}
+use Rattle.gf_form.proofs.Common.{length, get_or, eq-eqb, ne_eqb, branch, SetKey, IsGame, set_at, ℤ}
+use Rattle.gf_form.proofs.Common.{FitsAt, value, false, subst, arith, Ratio, Trees, count, meets}
+use Rattle.gf_form.proofs.Common.{Bool, true, List, ◌++◌, Some, None, refl, ◌==◌, ◌&&◌, Tree, none}
+use Rattle.gf_form.proofs.Common.{more, Game, Node, Path, suc, pos, ◌+◌, ◌*◌, ◌/◌, ◌^◌, ◌<◌, ◌≤◌}
+use Rattle.gf_form.proofs.Common.{◌∷◌, set, sym, ◌∙◌, inr, []}
 use Rattle.gf_form.specs.inner.rows.ReachedNodes.{has_room, is_sum}
 use Rattle.gf_form.proofs.lemmas.values.Denominators.{chance_size, payoff_fraction}
 use Rattle.gf_form.proofs.lemmas.values.Denominators.{probability_fraction}
 use Rattle.gf_form.proofs.lemmas.rows.DemandDigits.{met, no_demands, none_met, none_pack}
 use Rattle.gf_form.proofs.lemmas.rows.DemandDigits.{none_within}
-use Rattle.gf_form.proofs.lemmas.rows.IdlePaths.{idle_weightless, unpaid_move, weightless}
 use Rattle.gf_form.proofs.lemmas.values.PaidRows.{paid_is}
-use Rattle.gf_form.proofs.lemmas.rows.ShareSums.{bounds_append}
+use Rattle.gf_form.proofs.lemmas.rows.NodeTerms.{bounds_append}
 use Rattle.gf_form.proofs.lemmas.rows.UnmetShares.{HasDigits, below_by, chosen_digits, meets_digits}
 use Rattle.gf_form.proofs.lemmas.rows.UnmetShares.{IsUnmet, all_unmet, met_with, set_there, unmet}
 use Rattle.gf_form.proofs.lemmas.rows.ValuedNodes.{IsAdded, IsPart, IsValued, child_added}
@@ -27,6 +26,23 @@ use Rattle.gf_form.proofs.lemmas.rows.ValuedNodes.{from_nothing, idle_leaf, idle
 use Rattle.gf_form.proofs.lemmas.rows.ValuedNodes.{move_valued, no_child, none_added, valued_before}
 use Rattle.gf_form.proofs.lemmas.rows.ValuedNodes.{valued_behind, valued_known}
 use Rattle.gf_form.proofs.lemmas.values.ValuesComputed.{zero_fraction}
+
+-- ---- paths below a child of probability 0
+
+weightless : (path : Path) (c : Ratio) → unsigned_abs c.num ≡ 0
+    → (by_chance path c).weight ≡ 0
+weightless path c unlikely = grind arith
+
+idle_weightless : (path : Path) (c : Ratio) → 1 ≤ path.bound → (by_chance path c).bound ≡ 0
+    → (by_chance path c).weight ≡ 0
+idle_weightless path c some idle = grind arith
+
+-- if nothing is added there, a player moves, and there is no outcome
+unpaid_move : (key : SetKey) (own : ℕ) → is_sum_at own (Some key) ≡ false
+    → ¬ (key.player ≡ 0) × (own ≡ 0)
+unpaid_move key own adds = grind arith
+
+-- ---- the value of each subtree
 
 module _ (g : Game) (game : IsGame g) (spellable : IsSpellable g) (steps choose : SetKey → ℕ)
     (actions choices : List ℕ) (digits : AreDigits g steps choose actions choices)

@@ -1,8 +1,9 @@
 -- What is left of terms once an action is chosen, and the profiles that it settles.
-use Rattle.gf_form.proofs.Common.{◌≡◌, ◌+◌, ◌-◌, ◌*◌, List, arith, Game, spans, Entry, Asked, Terms}
-use Rattle.gf_form.proofs.Common.{ℕ, ◌/◌, ◌<◌, ◌≤◌, ◌^◌, ◌⊎◌, inl, inr, [], ◌∷◌, ap, ◌∙◌, Run}
-use Rattle.gf_form.proofs.Common.{get_or, steps_of, mul-div_cancel, mul-le-mul_right, SettleRows, all_choices}
-use Rattle.gf_form.proofs.Common.{subst, cases_lt, product, AreMerged, entries, Settles, SettlesAt}
+use Rattle.gf_form.proofs.Common.{mul-le-mul_right, mul-div_cancel, all_choices, SettleRows, get_or}
+use Rattle.gf_form.proofs.Common.{AreMerged, SettlesAt, steps_of, cases_lt, product, entries, arith}
+use Rattle.gf_form.proofs.Common.{Settles, spans, Entry, Asked, Terms, subst, List, Game, ◌≡◌, ◌+◌}
+use Rattle.gf_form.proofs.Common.{◌-◌, ◌*◌, ◌/◌, ◌<◌, ◌≤◌, ◌^◌, ◌⊎◌, inl, inr, ◌∷◌, ◌∙◌, Run, [], ℕ}
+use Rattle.gf_form.proofs.Common.{ap}
 use Rattle.gf_form.proofs.lemmas.strategies.StrategiesByNumber.{choices_row, positive_parts}
 
 -- ---- profiles at which the choice at the slowest digit is the same
@@ -40,8 +41,7 @@ settled_behind g n ns terms left least number b first before less is from to mer
       ≡ (b + 1) ∷ get_or (all_choices ns) r [] = cc (choices_row n ns b r less to) in
       settled_left g number (product (spans ns)) (b + 1) (steps_of ns)
       (get_or (all_choices ns) r []) (entries terms) (entries left) merged
-      (subst (λ (cs : List ℕ). Settles g number (steps_of (n ∷ ns)) cs (entries terms)) choices
-      before.settles);
+      (rw choices at before.settles);
 }
 
 -- the first of these profiles, and those with the same choice at the slowest digit

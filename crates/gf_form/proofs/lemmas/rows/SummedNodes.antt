@@ -1,15 +1,63 @@
 -- Nodes that differ in weight alone have the shares of their sum.
-use Rattle.gf_form.proofs.Common.{IsNonDecreasingBy, if◌then◌else◌, IsPermutation, map-append, zero}
-use Rattle.gf_form.proofs.Common.{node_terms, AreTermsOf, IsExactAt, node_term, number_at, all_both}
-use Rattle.gf_form.proofs.Common.{all_parts, MatchBool, order_of, Reached, get_or, length, add-*ℤ}
-use Rattle.gf_form.proofs.Common.{pay_at, mod-lt, false, arith, subst, meets, Entry, ◌*ℤ◌, Bool, []}
-use Rattle.gf_form.proofs.Common.{true, List, ◌++◌, refl, ◌+ℤ◌, ints, Game, ◌≡◌, suc, pos, ◌+◌, ◌<◌}
-use Rattle.gf_form.proofs.Common.{◌≤◌, ◌∷◌, sym, ◌∙◌, ◌/◌, ap, ℕ, ℤ, ⊤}
+use Rattle.gf_form.proofs.Common.{All-from_recursion, recursion_from_All, IsNonDecreasingBy, get_or}
+use Rattle.gf_form.proofs.Common.{All-permutation, sum_of_entries, if◌then◌else◌, IsPermutation, []}
+use Rattle.gf_form.proofs.Common.{map-append, node_terms, AreTermsOf, ComeAsWell, IsExactAt, length}
+use Rattle.gf_form.proofs.Common.{node_term, number_at, all_parts, MatchBool, all_both, order_of, ℕ}
+use Rattle.gf_form.proofs.Common.{Reached, add-*ℤ, pay_at, mod-lt, false, arith, subst, meets, zero}
+use Rattle.gf_form.proofs.Common.{Entry, ◌*ℤ◌, Bool, true, List, ◌++◌, refl, ◌+ℤ◌, ints, Game, ◌≡◌}
+use Rattle.gf_form.proofs.Common.{suc, pos, ◌+◌, ◌<◌, ◌≤◌, ◌∷◌, sym, ◌∙◌, ◌/◌, ap, ℤ, ⊤}
 use Rattle.std.specs.List.Retain.{DedupsFrom, IsDeduped}
-use Rattle.std.proofs.lemmas.List.Sorted.{IsPermutation-map}
+use Rattle.std.proofs.lemmas.List.Sorted.{IsPermutation-map, IsPermutation-sym, sum_by-IsPermutation}
 use Rattle.gf_form.specs.inner.rows.SummedNodes.{HaveSharesOf, IsNodeSum, weighing}
 use Rattle.gf_form.proofs.lemmas.rows.MergedEntries.{same_come, sum_append}
-use Rattle.gf_form.proofs.lemmas.rows.OrderedShares.{come_permuted}
+use borrow.Author.Differences.{up, down, same_in, sum_is_lem}
+use Rattle.std.specs.List.{sum_by}
+use Rattle.std.proofs.lemmas.List.Sums.{sum_by-cons}
+
+-- ---- terms in another order
+
+more : (z s : ℤ) (m n : ℕ) → up s + n ≡ m + down s
+    → up (z +ℤ s) + (down z + n) ≡ up z + m + down (z +ℤ s)
+more z s m n h = omega (arith, h, sum_is_lem z s)
+
+same : (s t : ℤ) (m n : ℕ) → up s + n ≡ m + down s → up t + n ≡ m + down t → s ≡ t
+same s t m n h k = same_in s t (omega (arith, h, k))
+
+module _ (k den : ℕ) (steps choices : List ℕ) where
+  abbrev counted : Entry → ℤ
+  counted e = if meets steps choices e.head.demands
+      then number_at k e *ℤ pos (den / e.head.den) else pos 0
+
+  abbrev gains : List Entry → ℕ
+  gains es = sum_by (λ e. up (counted e)) es
+
+  abbrev losses : List Entry → ℕ
+  losses es = sum_by (λ e. down (counted e)) es
+
+  -- the sum of integers as a difference of two sums
+  as_sizes : (es : List Entry) → up (sum_of_entries k den steps choices es) + losses es
+      ≡ gains es + down (sum_of_entries k den steps choices es)
+  as_sizes [] = refl
+  as_sizes (e ∷ es) = omega (
+    arith,
+    more (counted e) (sum_of_entries k den steps choices es) (gains es) (losses es) (as_sizes es),
+    sum_by-cons (λ e. up (counted e)) e es,
+    sum_by-cons (λ e. down (counted e)) e es,
+  )
+
+  sum_permuted : (es fs : List Entry) → IsPermutation es fs
+      → sum_of_entries k den steps choices es ≡ sum_of_entries k den steps choices fs
+  sum_permuted es fs h =
+      same (sum_of_entries k den steps choices es) (sum_of_entries k den steps choices fs)
+      (gains es) (losses es) (as_sizes es) (grind (arith, as_sizes, sum_by-IsPermutation))
+
+come_permuted : (es fs : List Entry) → IsPermutation es fs → ComeAsWell es fs
+come_permuted es fs order den steps choices all = record {
+  exact = let P = IsExactAt den steps choices in
+      recursion_from_All P es
+      (All-permutation P fs es (IsPermutation-sym es fs order) (All-from_recursion P fs all));
+  sums = λ k. sum_permuted k den steps choices es fs order;
+}
 
 -- ---- lists of nodes
 

@@ -13,7 +13,7 @@ use Rattle.gf_form.specs.inner.rows.ReachedNodes.{met_node}
 use Rattle.gf_form.proofs.lemmas.rows.DemandDigits.{AreWithin, digit_is, meets_is, met, met_set}
 use Rattle.gf_form.proofs.lemmas.rows.DemandDigits.{pack, pack_below, set_pack, set_within}
 use Rattle.gf_form.proofs.lemmas.rows.DemandDigits.{met_digit, within_length}
-use Rattle.gf_form.proofs.lemmas.rows.ShareSums.{shares_append}
+use Rattle.gf_form.proofs.lemmas.rows.NodeTerms.{shares_append}
 
 -- a set with this many actions is at a node with children
 pub set_there : (g : Game) (key : SetKey) (m : ℕ)

@@ -16,7 +16,7 @@ use Rattle.gf_form.proofs.lemmas.rows.OverOneDenominator.{own_value, product_ove
 use Rattle.gf_form.proofs.lemmas.rows.OverOneDenominator.{quotient_le, quotient_of_product}
 use Rattle.gf_form.proofs.lemmas.rows.OverOneDenominator.{sum_over, sum_size}
 use Rattle.gf_form.proofs.lemmas.rows.MergedEntries.{first_met}
-use Rattle.gf_form.proofs.lemmas.rows.ShareSums.{bounds_append, shares_append}
+use Rattle.gf_form.proofs.lemmas.rows.NodeTerms.{bounds_append, shares_append}
 use Rattle.gf_form.proofs.lemmas.values.ValuesComputed.{zero_fraction, none_times, plus_zero}
 use Rattle.gf_form.proofs.lemmas.values.ValuesComputed.{times_zero, zero_plus}
 
