@@ -51,7 +51,8 @@ nodes_told g k den steps choices rs e alike says exact =
     es = node_terms g (suc k) rs
 
     same : AllByRecursion (λ (f : Entry). f.head.demands ≡ e.head.demands) es
-    same = all_images (λ (f : Entry). f.head.demands ≡ e.head.demands) (node_term g (suc k)) rs alike
+    same =
+        all_images (λ (f : Entry). f.head.demands ≡ e.head.demands) (node_term g (suc k)) rs alike
 
     by : (b : Bool) → meets steps choices e.head.demands ≡ b
         → Tells g k den steps choices rs (e ∷ [])

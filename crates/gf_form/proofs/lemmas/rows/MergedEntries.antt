@@ -62,6 +62,18 @@ module _ (den : ℕ) (steps choices : List ℕ) where
       + unsigned_abs (sum_of_entries 0 den steps choices ys)
   size_append xs ys = rw (sum_append 0 xs ys, sizes_above xs, sizes_above ys) refl
 
+pub come_both : (es xs fs ys : List Entry) → ComeAsWell es xs → ComeAsWell fs ys
+    → ComeAsWell (es ++ fs) (xs ++ ys)
+come_both es xs fs ys first second den steps choices exact =
+    let P = IsExactAt den steps choices in
+    let add = sum_append den steps choices in
+    let parts = all_parts P xs ys exact in
+    let one = first den steps choices parts.0 in
+    let other = second den steps choices parts.1 in record {
+      exact = all_both P es fs one.exact other.exact;
+      sums = λ k. cc (add k es fs, add k xs ys, one.sums k, other.sums k);
+    }
+
 -- ---- a term in place of two
 
 one_sum : (met : Bool) (x y z : ℤ) → (met ≡ true → z ≡ x +ℤ y)

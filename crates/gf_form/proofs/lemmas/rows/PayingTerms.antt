@@ -156,7 +156,8 @@ module _ (from : Terms) (i : ℕ) (left : Terms) (sorted : AreOrdered from)
             (let le = rises there in omega (arith, le, demands));
       }
 
-  pub same_paying : ((k : ℕ) → number_at (suc k) (entry_at from i) ≡ pos 0) → Paying from (i + 1) left
+  pub same_paying : ((k : ℕ) → number_at (suc k) (entry_at from i) ≡ pos 0)
+      → Paying from (i + 1) left
   same_paying none = grind (arith, one_more, kept_zero, rises)
 
 -- those of terms that were put over one denominator

@@ -2,14 +2,15 @@
 use Rattle.gf_form.proofs.Common.{All-from_recursion, recursion_from_All, IsNonDecreasingBy, get_or}
 use Rattle.gf_form.proofs.Common.{All-permutation, sum_of_entries, if◌then◌else◌, IsPermutation, []}
 use Rattle.gf_form.proofs.Common.{map-append, node_terms, AreTermsOf, ComeAsWell, IsExactAt, length}
-use Rattle.gf_form.proofs.Common.{node_term, number_at, all_parts, MatchBool, all_both, order_of, ℕ}
-use Rattle.gf_form.proofs.Common.{Reached, add-*ℤ, pay_at, mod-lt, false, arith, subst, meets, zero}
-use Rattle.gf_form.proofs.Common.{Entry, ◌*ℤ◌, Bool, true, List, ◌++◌, refl, ◌+ℤ◌, ints, Game, ◌≡◌}
-use Rattle.gf_form.proofs.Common.{suc, pos, ◌+◌, ◌<◌, ◌≤◌, ◌∷◌, sym, ◌∙◌, ◌/◌, ap, ℤ, ⊤}
+use Rattle.gf_form.proofs.Common.{node_term, number_at, MatchBool, order_of, Reached, add-*ℤ, false}
+use Rattle.gf_form.proofs.Common.{pay_at, mod-lt, arith, subst, meets, Entry, zero, ◌*ℤ◌, Bool, ◌≡◌}
+use Rattle.gf_form.proofs.Common.{true, List, ◌++◌, refl, ◌+ℤ◌, ints, Game, suc, pos, ◌+◌, ◌<◌, ◌≤◌}
+use Rattle.gf_form.proofs.Common.{◌∷◌, sym, ◌∙◌, ◌/◌, ap, ℕ, ℤ, ⊤}
 use Rattle.std.specs.List.Retain.{DedupsFrom, IsDeduped}
-use Rattle.std.proofs.lemmas.List.Sorted.{IsPermutation-map, IsPermutation-sym, sum_by-IsPermutation}
+use Rattle.std.proofs.lemmas.List.Sorted.{IsPermutation-map, IsPermutation-sym}
+use Rattle.std.proofs.lemmas.List.Sorted.{sum_by-IsPermutation}
 use Rattle.gf_form.specs.inner.rows.SummedNodes.{HaveSharesOf, IsNodeSum, weighing}
-use Rattle.gf_form.proofs.lemmas.rows.MergedEntries.{same_come, sum_append}
+use Rattle.gf_form.proofs.lemmas.rows.MergedEntries.{come_both, same_come}
 use borrow.Author.Differences.{up, down, same_in, sum_is_lem}
 use Rattle.std.specs.List.{sum_by}
 use Rattle.std.proofs.lemmas.List.Sums.{sum_by-cons}
@@ -73,15 +74,11 @@ have_then rs ss ts first second g player den steps choices exact =
 
 pub have_both : (rs ss ps qs : List Reached) → HaveSharesOf rs ss → HaveSharesOf ps qs
     → HaveSharesOf (rs ++ ps) (ss ++ qs)
-have_both rs ss ps qs first second g player den steps choices exact =
+have_both rs ss ps qs first second g player =
     let terms = node_terms g player in
-    let P = IsExactAt den steps choices in
-    let parts = all_parts P (terms ss) (terms qs) (rw map-append at exact) in
-    let one = first g player den steps choices parts.0 in
-    let other = second g player den steps choices parts.1 in record {
-      exact = rw map-append (all_both P (terms rs) (terms ps) one.exact other.exact);
-      sums = grind (arith, map-append, sum_append);
-    }
+    let f = node_term g player in
+    rw (map-append f rs ps, map-append f ss qs)
+    (come_both (terms rs) (terms ss) (terms ps) (terms qs) (first g player) (second g player))
 
 pub have_permuted : (rs ss : List Reached) → IsPermutation rs ss → HaveSharesOf rs ss
 have_permuted rs ss order g player =
@@ -215,7 +212,8 @@ module _ {F : Type 0} (R : F → Reached → Reached → Bool → F → Reached 
 
 -- the terms of nodes are terms of those whose shares they have
 pub terms_of_sums : (g : Game) (players : ℕ) (rs ss : List Reached) (es : List Entry)
-    → HaveSharesOf rs ss → AreTermsOf g players ss es → AreTermsOf g players rs es
+    → ((k : ℕ) → ComeAsWell (node_terms g (suc k) rs) (node_terms g (suc k) ss))
+    → AreTermsOf g players ss es → AreTermsOf g players rs es
 terms_of_sums g players rs ss es have told k less den steps choices exact =
     let on = told k less den steps choices exact in
-    let come = have g (suc k) den steps choices on.exact in grind arith
+    let come = have k den steps choices on.exact in grind arith

@@ -1,14 +1,14 @@
 -- The digits of the sets along a path, where it goes on below a node, and that nothing is added if
 -- choices do not meet the digits.
-use Rattle.gf_form.proofs.Common.{◌≡◌, ℕ, zero, suc, pos, ◌+◌, ◌^◌, ◌<◌, ◌≤◌, Bool, true, false}
-use Rattle.gf_form.proofs.Common.{List, ◌++◌, Option, Some, None, MatchOption, length, get_or, set}
-use Rattle.gf_form.proofs.Common.{refl, ap, sym, ◌∙◌, arith, ℤ, ◌==◌, ◌&&◌, option_map}
-use Rattle.gf_form.proofs.Common.{if◌then◌else◌, AllByRecursion, eqb-false, eqb-true, mod-eq_of_lt}
-use Rattle.gf_form.proofs.Common.{all_parts, Tree, Trees, count, branch, none, more, flatten}
-use Rattle.gf_form.proofs.Common.{flatten_all, InformationSet, SetKey, Game, HasChildren, Node}
-use Rattle.gf_form.proofs.Common.{set_at, product, meets, spans, steps_of, below_set, by_action}
-use Rattle.gf_form.proofs.Common.{by_choice, by_each, demanded, drawn, over_set, reached}
-use Rattle.gf_form.proofs.Common.{AreDigits, IsDigitOf, sum_of_shares, chances_at, Path, Reached, +ℤ_idl}
+use Rattle.gf_form.proofs.Common.{AllByRecursion, InformationSet, if◌then◌else◌, sum_of_shares, ◌≡◌}
+use Rattle.gf_form.proofs.Common.{mod-eq_of_lt, MatchOption, flatten_all, HasChildren, option_map}
+use Rattle.gf_form.proofs.Common.{chances_at, eqb-false, all_parts, below_set, by_action, by_choice}
+use Rattle.gf_form.proofs.Common.{AreDigits, IsDigitOf, eqb-true, steps_of, demanded, over_set, suc}
+use Rattle.gf_form.proofs.Common.{flatten, product, by_each, reached, Reached, Option, length, zero}
+use Rattle.gf_form.proofs.Common.{get_or, branch, SetKey, set_at, +ℤ_idl, false, arith, Trees, Bool}
+use Rattle.gf_form.proofs.Common.{count, meets, spans, drawn, true, List, ◌++◌, Some, None, refl, ℕ}
+use Rattle.gf_form.proofs.Common.{◌==◌, ◌&&◌, Tree, none, more, Game, Node, Path, pos, ◌+◌, ◌^◌, ap}
+use Rattle.gf_form.proofs.Common.{◌<◌, ◌≤◌, set, sym, ◌∙◌, ℤ}
 use Rattle.gf_form.specs.inner.rows.ReachedNodes.{met_node}
 use Rattle.gf_form.proofs.lemmas.rows.DemandDigits.{AreWithin, digit_is, meets_is, met, met_set}
 use Rattle.gf_form.proofs.lemmas.rows.DemandDigits.{pack, pack_below, set_pack, set_within}

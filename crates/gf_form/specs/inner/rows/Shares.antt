@@ -6,14 +6,15 @@ use Rattle.gf_nfg.specs.Profiles.{product}
 use Rattle.gf_tree.specs.Description.{SetKey, InformationSet}
 use Rattle.gf_tree.specs.Game.{Game, set_at}
 use Rattle.gf_form.specs.inner.rows.Demands.{spans, steps_of}
-use Rattle.gf_form.specs.inner.rows.Entries.{AreExactAt, Entry, IsExactAt, number_at, sum_of_entries}
+use Rattle.gf_form.specs.inner.rows.Entries.{AreExactAt, Entry, IsExactAt, number_at}
+use Rattle.gf_form.specs.inner.rows.Entries.{sum_of_entries}
 use Rattle.gf_form.specs.inner.values.Rows.{paid}
 use Rattle.gf_form.specs.declared.rows.paths.Path.{Path}
 use Rattle.gf_form.specs.declared.rows.paths.Reached.{Reached}
 use Rattle.gf_form.specs.declared.rows.share.Share.{Share}
 
--- What a path adds to a payoff, as a term for one player: probability times payoff. Its size is that
--- of the product even if a probability on the path is 0. Nothing is over any denominator.
+-- What a path adds to a payoff, as a term for one player: probability times payoff. Its size does
+-- not depend on whether probabilities are zero. A payoff of zero is over any denominator.
 abbrev pub term_of : Path → Ratio → Entry
 term_of path pay = record {
   head = record {

@@ -1,6 +1,6 @@
-use Rattle.gf_form.proofs.Common.{◌∙◌, ℕ, List, ap, length, map, subst, sym, length-map}
-use Rattle.gf_form.proofs.Common.{IfOk-weaker, label_of, Game, entries, paid_reached, AreTermsOf}
-use Rattle.gf_form.proofs.Common.{rows_of, ArePaid, choices_by, Reached, Terms}
+use Rattle.gf_form.proofs.Common.{paid_reached, IfOk-weaker, length-map, AreTermsOf, choices_by, ap}
+use Rattle.gf_form.proofs.Common.{label_of, entries, rows_of, ArePaid, Reached, length, subst, List}
+use Rattle.gf_form.proofs.Common.{Terms, Game, ◌∙◌, map, sym, suc, ℕ}
 use Rattle.gf_form.proofs.lemmas.rows.SummedNodes.{terms_of_sums}
 use Rattle.gf_form.proofs.rows.listed.game_terms.Goals as goal
 
@@ -17,7 +17,7 @@ returns-clause-terms c =
     (choices_by g (map (λ own. own.items) c.args.digits.now.steps.items))) (entries terms))
     (λ terms told. terms_of_sums g (length g.players) (paid_reached rows g
     (choices_by g (map (λ own. own.items) c.args.digits.now.steps.items))) nodes (entries terms)
-    c.in_ok-nodes.ensures.shares
+    (λ k. c.in_ok-nodes.ensures.shares g (suc k))
     (subst (λ (n : ℕ). AreTermsOf g n nodes (entries terms))
     (sym (length-map players label_of) ∙ ap length c.players-players.ensures.names)
     (subst (λ (rs : List Reached). AreTermsOf g (length players) rs (entries terms))

@@ -66,7 +66,8 @@ made c =
     let inv = c.loop-place.invariant in
     let row = inv.filling.row in
     let after = c.in_ok-push_head.ensures in
-    let noted = subst (λ (t : Terms). IsNoted t c.push_head.new.self c.if-fits.den c.loop-place.size)
+    let noted = subst
+    (λ (t : Terms). IsNoted t c.push_head.new.self c.if-fits.den c.loop-place.size)
     (λ i. record {
       players = inv.players i;
       demands = inv.demands i;

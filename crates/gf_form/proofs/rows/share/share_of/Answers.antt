@@ -1,5 +1,5 @@
-use Rattle.gf_form.proofs.Common.{◌≡◌, ◌∙◌, ◌*◌, ◌*ℤ◌, ℕ, ℤ, ap, arith, ints, of_z, pos, refl, subst}
-use Rattle.gf_form.proofs.Common.{sym, to_z, w128, unsigned_abs, fits_signed_from_abs, to_z-of_z}
+use Rattle.gf_form.proofs.Common.{fits_signed_from_abs, unsigned_abs, to_z-of_z, arith, subst, ◌*ℤ◌}
+use Rattle.gf_form.proofs.Common.{ints, of_z, refl, to_z, w128, ◌≡◌, ◌∙◌, ◌*◌, pos, sym, ap, ℕ, ℤ}
 use Rattle.std.proofs.Common.{FitsSigned}
 use Rattle.gf_form.specs.inner.rows.Entries.{IsFactor}
 use Rattle.gf_form.proofs.lemmas.rows.NodeTerms.{own_share, zero_share}
