@@ -1,8 +1,8 @@
 //! What the players are paid, as a list of terms: what each adds to their payoffs, and what it
 //! demands of the choices.
 
-ghost use Rattle.std.specs.Prelude.{◌≡◌, ◌+◌, ◌*◌, ◌<◌, ◌≤◌, ◌+ℤ◌, ◌*ℤ◌, ◌++◌, [], ◌∷◌, ℕ, ℤ};
-ghost use Rattle.std.specs.Prelude.{IfOk, IsTrue, List, OnOk, get_or, length, pos, true};
+ghost use Rattle.std.specs.Prelude.{◌≡◌, ◌+◌, ◌<◌, ◌≤◌, ◌++◌, [], ◌∷◌, IfOk, IsTrue, OnOk, get_or};
+ghost use Rattle.std.specs.Prelude.{length};
 ghost use Rattle.std.specs.List.{AllByRecursion};
 ghost use Rattle.gf_fraction.specs.Ratio.{IsWithin};
 ghost use Rattle.gf_form.specs.inner.rows.Entries.{AreAlike, HasSum, IsScale, IsShaped, IsSumAt};

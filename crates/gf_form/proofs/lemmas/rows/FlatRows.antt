@@ -90,7 +90,8 @@ same_first to after (suc n) each =
     λ i. same_first to after n (λ k less. each k (omega arith)) i ++ each n (omega arith) i ∷ []
 
 module _ (to after : Terms) (e : Entry) (shaped : IsShaped to)
-    (within : AllByRecursion IsWithin e.row) (one_each : length e.row ≡ to.players) (players : after.players ≡ to.players)
+    (within : AllByRecursion IsWithin e.row) (one_each : length e.row ≡ to.players)
+    (players : after.players ≡ to.players)
     (noted : IsNoted to after e.head.den e.head.size)
     (demands : after.demands.items ≡ to.demands.items ++ e.head.demands ∷ [])
     (scaled : length after.scaled.items ≤ length after.demands.items)
