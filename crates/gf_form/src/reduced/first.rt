@@ -304,8 +304,8 @@ pub(crate) fn all_reduced(
     let mut labels = Vec::with_capacity(alloc, counts.actions.len())?;
     for place in 0..counts.actions.len() {
         let player = place as u32 + 1;
-        let whole = counts.strategies[place];
-        let (own, names) = own_strategies(alloc, game, player, &counts.actions[place], whole)?;
+        let (actions, whole) = counts.of_player(place);
+        let (own, names) = own_strategies(alloc, game, player, actions, whole)?;
         firsts.push(own)?;
         labels.push(names)?;
     }

@@ -1,67 +1,23 @@
 //! The labels of reduced strategies.
 
-ghost use Rattle.std.specs.Prelude.{◌≡◌, ◌≤◌, ◌<◌, ◌+◌, ◌++◌, [], ◌∷◌, None, Some, IfOk, OnOk};
-ghost use Rattle.std.specs.Prelude.{false, get_or, if◌then◌else◌, length, true, ℕ};
-ghost use Rattle.std.specs.List.{AllByRecursion};
-ghost use Rattle.gf_token.specs.LabelSpelling.{IsLabel};
+ghost use Rattle.std.specs.Prelude.{◌≡◌, ◌≤◌, ◌<◌, ◌+◌, [], IfOk, OnOk, false, get_or, length, true, ℕ};
 ghost use Rattle.gf_tree.specs.Game.{IsGame};
-ghost use Rattle.gf_form.specs.inner.strategies.LabelTexts.{IsPlain, choice_text};
-ghost use Rattle.gf_form.specs.Reduced.{reduced_label, reduced_labels};
+ghost use Rattle.gf_form.specs.Reduced.{reduced_labels};
 ghost use Rattle.gf_form.specs.Strategies.{action_counts};
 ghost use Rattle.gf_form.specs.inner.reduced.OwnDigits.{digits_from};
 ghost use Rattle.gf_form.specs.inner.reduced.Relevance.{FindRelevance};
 ghost use Rattle.gf_form.specs.inner.reduced.Search.{AreFoundTo, AreInTurn, AreLabelledTo};
-ghost use Rattle.gf_form.specs.inner.reduced.Search.{HaveChoices, IsKept, IsLast, IsNextBelow};
-ghost use Rattle.gf_form.specs.inner.reduced.Search.{IsWritten};
-ghost use Rattle.gf_form.specs.inner.reduced.Shown.{shown};
+ghost use Rattle.gf_form.specs.inner.reduced.Search.{HaveChoices, IsNextBelow, IsWritten};
 
 use crate::reduced::digits::OwnDigit;
 use crate::reduced::first::Player;
 use crate::reduced::level::Level;
 use crate::reduced::visits::Visit;
+use crate::strategies::label_text::write_label;
 use crate::strategies::numbered::room_for_choices;
 use gf_nfg::Labels;
 use gf_token::Label;
-use itoa::Buffer;
 use std::alloc::{AllocError, Global};
-
-/// Appends the choice at a set to a text, or `*` if the set is not relevant, and a dash.
-fn write_choice(is_relevant: bool, action: u32, text: &mut Vec<u8>) -> Result<(), AllocError>
-    ensures text { OnOk result (text.new.items ≡ (text.old.items
-        ++ choice_text (if is_relevant then Some action else None)) ++ 45 ∷ []) }
-    ensures plain { OnOk result (AllByRecursion IsPlain text.old.items
-        → AllByRecursion IsPlain text.new.items) }
-{
-    if is_relevant {
-        let mut buffer = Buffer::new();
-        let number = buffer.format(action).as_bytes();
-        text.extend_from_slice(number)?;
-    } else {
-        text.push(b'*')?;
-    }
-    text.push(b'-')?;
-    Ok(())
-}
-
-/// Replaces a text by the label of a reduced strategy: the actions at the relevant sets, and `*` at
-/// the others, joined by `-`.
-#[tactic(auto, using(crate::proofs::lemmas::reduced::SearchLabels::label_steps))]
-fn write_reduced_label(
-    relevant: &[bool],
-    strategy: &[u32],
-    text: &mut Vec<u8>,
-) -> Result<(), AllocError>
-    requires { length relevant.now ≡ length strategy.now }
-    ensures text { OnOk result (text.new.items ≡ reduced_label (shown relevant.now strategy.now)) }
-    ensures label { OnOk result (IsLabel text.new.items) }
-{
-    text.clear();
-    for before in 0..strategy.len() {
-        write_choice(relevant[before], strategy[before], text)?;
-    }
-    text.pop();
-    Ok(())
-}
 
 /// The labels of a player's reduced strategies, one after another. It goes down to the first
 /// strategy that reduces to each, digit by digit, so there is a label below each of its levels.
@@ -118,8 +74,8 @@ impl Labelling {
         number: u32,
     ) -> Result<(), AllocError>
         requires is_game { IsGame player.now.game.now }
-        requires last { IsLast player.now.game.now player.now.number self.old.strategy.items
-            level.now number }
+        requires last { IsWritten player.now.game.now player.now.number [] self.old.strategy.items
+            level.now number 1 }
         requires ordered { AreInTurn numbers.now }
         requires next { IsNextBelow numbers.now self.old.labels (number + 1) }
         requires labelled { AreLabelledTo player.now.game.now player.now.number numbers.now
@@ -129,7 +85,7 @@ impl Labelling {
             numbers.now self.new.labels (number + 1)) }
     {
         level.mark(&mut self.met)?;
-        write_reduced_label(&self.met, &self.strategy, &mut self.text)?;
+        write_label(&self.met, &self.strategy, &mut self.text)?;
         self.labels.push(Label::of_spelling(&self.text))?;
         Ok(())
     }
@@ -153,8 +109,7 @@ impl Labelling {
         requires next { IsNextBelow numbers.now self.old.labels (number + count) }
         requires labelled { AreLabelledTo player.now.game.now player.now.number numbers.now
             self.old.labels number }
-        ensures kept { OnOk result (IsKept digits.now self.old.strategy.items
-            self.new.strategy.items) }
+        ensures kept { OnOk result (self.new.strategy.items ≡ self.old.strategy.items) }
         ensures labelled { OnOk result (AreLabelledTo player.now.game.now player.now.number
             numbers.now self.new.labels (number + count)) }
     {
@@ -162,6 +117,7 @@ impl Labelling {
             return self.push_label(player, numbers, level, number);
         };
         let each = count / digit.actions;
+        let action = self.strategy[digit.place];
         let mut left = match self.spare.pop() {
             Some(level) => level,
             None => Level::none(self.alloc),
@@ -175,6 +131,7 @@ impl Labelling {
             left.choose(level, digit.step, u64::from(before + 1))?;
             self.push_below(player, faster, numbers, &left, first, each)?;
         }
+        self.strategy[digit.place] = action;
         self.spare.push(left)?;
         Ok(())
     }

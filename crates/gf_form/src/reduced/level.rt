@@ -79,9 +79,7 @@ impl Level {
     #[tactic(auto, using(crate::proofs::lemmas::reduced::LevelsChosen::left_steps))]
     fn add_left(&mut self, visits: &[Visit], step: u64, action: u64) -> Result<(), AllocError>
         requires fits { action * step + step < 2 ^ 64 }
-        ensures left { OnOk result (AddsLeft step action visits.now self.old self.new) }
-        ensures counted { OnOk result
-            (length self.new.known.items ≡ length self.old.known.items) }
+        ensures { OnOk result (AddsLeft step action visits.now self.old self.new) }
     {
         for visit in visits {
             let place = visit.set as usize;
@@ -111,9 +109,7 @@ impl Level {
     fn add_chosen(&mut self, visits: &[Visit], step: u64, action: u64) -> Result<(), AllocError>
         requires fits { action * step + step < 2 ^ 64 }
         requires ordered { IsNonDecreasingBy (λ (v : Visit). v.demands) visits.now }
-        ensures left { OnOk result (AddsLeft step action visits.now self.old self.new) }
-        ensures counted { OnOk result
-            (length self.new.known.items ≡ length self.old.known.items) }
+        ensures { OnOk result (AddsLeft step action visits.now self.old self.new) }
     {
         let lowest = action * step;
         let free = count_below(visits, step);

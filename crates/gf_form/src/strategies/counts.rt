@@ -1,10 +1,10 @@
 //! How many actions, strategies and profiles the players of a game have.
 
-ghost use Rattle.std.specs.Prelude.{◌≡◌, ◌<◌, ◌≤◌, IfOk, MatchOption, length, unwrap_or};
+ghost use Rattle.std.specs.Prelude.{◌≡◌, ◌<◌, ◌≤◌, ◌+◌, IfOk, MatchOption, length, unwrap_or};
 ghost use Rattle.gf_token.specs.Positions.{at_position};
 ghost use Rattle.gf_nfg.specs.Limit.{profile_limit};
 ghost use Rattle.gf_nfg.specs.Profiles.{product};
-ghost use Rattle.gf_tree.specs.Game.{IsGame};
+ghost use Rattle.gf_tree.specs.Game.{Game, IsGame};
 ghost use Rattle.gf_form.specs.inner.strategies.Counted.{AreCounts};
 ghost use Rattle.gf_form.specs.Refusal.{HasTooManyProfiles};
 ghost use Rattle.gf_form.specs.Strategies.{action_counts};
@@ -67,6 +67,19 @@ pub(crate) struct Counts {
 }
 
 impl Counts {
+    /// How many actions there are at each set of the player at this place, and how many strategies
+    /// he has.
+    #[tactic(auto, using(crate::proofs::lemmas::strategies::CountsGiven::given_steps))]
+    pub(crate) fn of_player(&self, place: usize) -> (&[u32], u32)
+        requires { (g : Game) × AreCounts g self.now × (place < length self.now.actions.items) }
+        ensures some { 0 < result.1 }
+        ensures counts { (g : Game) → AreCounts g self.now
+            → (result.0.now ≡ action_counts g (place + 1))
+            × (result.1 ≡ product (action_counts g (place + 1))) }
+    {
+        (&self.actions[place], self.strategies[place])
+    }
+
     /// The counts of a game; `None` if it has more profiles than a table may have.
     pub(crate) fn new(alloc: Global, game: &Game<'_>) -> Result<Option<Counts>, AllocError>
         requires { length game.now.players ≤ 4294967295 }

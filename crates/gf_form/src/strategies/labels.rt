@@ -19,8 +19,8 @@ pub(crate) fn all_labels(alloc: Global, counts: &Counts) -> Result<Vec<Labels>, 
 {
     let mut all = Vec::with_capacity(alloc, counts.actions.len())?;
     for place in 0..counts.actions.len() {
-        let whole = counts.strategies[place];
-        all.push(strategy_labels(alloc, &counts.actions[place], whole)?)?;
+        let (own, whole) = counts.of_player(place);
+        all.push(strategy_labels(alloc, own, whole)?)?;
     }
     Ok(all)
 }

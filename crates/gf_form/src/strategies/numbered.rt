@@ -2,13 +2,12 @@
 
 ghost use Rattle.std.specs.Prelude.{◌≡◌, ◌<◌, ◌+◌, ◌-◌, ◌++◌, [], ◌∷◌, ℕ, List, OnOk, IfOk, IfSome};
 ghost use Rattle.std.specs.Prelude.{get_or, length, map};
-ghost use Rattle.gf_token.specs.LabelSpelling.{IsLabel};
 ghost use Rattle.gf_nfg.specs.Profiles.{product};
 ghost use Rattle.gf_form.specs.Strategies.{all_choices, strategy_label};
 
+use crate::strategies::label_text::write_label;
 use gf_nfg::Labels;
 use gf_token::Label;
-use itoa::Buffer;
 use std::alloc::{AllocError, Global};
 
 /// Replaces another strategy by the one with this number, from 0. At sets with this many actions
@@ -31,23 +30,6 @@ pub(crate) fn write_strategy(
         strategy.push(rest / stride + 1)?;
         rest %= stride;
     }
-    Ok(())
-}
-
-/// Replaces a text by the label of a strategy: its actions, joined by `-`.
-#[tactic(auto, using(crate::proofs::lemmas::strategies::StrategiesByNumber::text_steps))]
-fn write_label(strategy: &[u32], text: &mut Vec<u8>) -> Result<(), AllocError>
-    ensures text { OnOk result (text.new.items ≡ strategy_label strategy.now) }
-    ensures label { OnOk result (IsLabel text.new.items) }
-{
-    text.clear();
-    let mut buffer = Buffer::new();
-    for action in strategy {
-        let number = buffer.format(*action).as_bytes();
-        text.extend_from_slice(number)?;
-        text.push(b'-')?;
-    }
-    text.pop();
     Ok(())
 }
 
@@ -75,10 +57,12 @@ fn labels_in_turn(alloc: Global, counts: &[u32], whole: u32) -> Result<Labels, A
 {
     let mut labels = room_for_choices(alloc, whole as usize, counts.len())?;
     let mut strategy = Vec::with_capacity(alloc, counts.len())?;
+    let mut relevant = Vec::new(alloc);
+    relevant.resize(counts.len(), true)?;
     let mut text = Vec::new(alloc);
     for number in 0..whole {
         write_strategy(counts, whole, number, &mut strategy)?;
-        write_label(&strategy, &mut text)?;
+        write_label(&relevant, &strategy, &mut text)?;
         labels.push(Label::of_spelling(&text))?;
     }
     Ok(labels)

@@ -36,10 +36,8 @@ pub(crate) fn write_strategies(
 {
     let mut rest = profile;
     for place in 0..counts.actions.len() {
-        let whole = counts.strategies[place];
-        let number = rest % whole;
-        let own = &mut all[place];
-        write_strategy(&counts.actions[place], whole, number, own)?;
+        let (actions, whole) = counts.of_player(place);
+        write_strategy(actions, whole, rest % whole, &mut all[place])?;
         rest /= whole;
     }
     Ok(())

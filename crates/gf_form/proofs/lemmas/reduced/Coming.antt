@@ -1,28 +1,31 @@
 -- A set is relevant exactly when the choices come to it in the tree. So all sets are relevant of a
 -- player with one strategy, who has one action at each.
-use Rattle.gf_form.proofs.Common.{◌≡◌, option_map_or, is_own_choice, reduced_labels, strategy_label}
-use Rattle.gf_form.proofs.Common.{ℕ, AllByRecursion, InformationSet, join_with_byte, get_or_default}
-use Rattle.gf_form.proofs.Common.{◌+◌, ◌<◌, ◌∷◌, map, Game, Play, zero, suc, ◌*◌, ◌≤◌, sym, ◌∙◌}
-use Rattle.gf_form.proofs.Common.{Bool, ap, arith, subst, Trees, count, plays, get_or, codes, shown}
-use Rattle.gf_form.proofs.Common.{true, List, Some, None, refl, ◌||◌, ◌&&◌, Tree, none, more, Node}
-use Rattle.gf_form.proofs.Common.{false, trees_come, plays_from, length-map, first_uses, strategies}
-use Rattle.gf_form.proofs.Common.{[], option_map, tree_comes, AreFirstsOf, same_choice, all_choices}
-use Rattle.gf_form.proofs.Common.{Option, same_set, has_map, comes_to, Contains, was_used, map_same}
-use Rattle.gf_form.proofs.Common.{MatchOption, flatten, reduced_label, relevant_sets, action_counts}
-use Rattle.gf_form.proofs.Common.{length, branch, SetKey, IsGame, set_at, decimal, product, reduced}
-use Rattle.gf_form.proofs.Common.{list_any, from_node, Described, map_twice, pointwise, choice_at}
-use Rattle.gf_form.proofs.Common.{list_any-append, all_parts, same_set_equality, reduced_strategies}
-use Rattle.gf_form.proofs.Common.{HasChildren, flatten_all, is_relevant, player_keys, player_sets}
-use Rattle.gf_form.proofs.Common.{Has}
+use Rattle.gf_form.proofs.Common.{same_set_equality, sets_by_first_use, list_any-append, trees_come}
+use Rattle.gf_form.proofs.Common.{reduced_labels, strategy_label, AllByRecursion, InformationSet, ℕ}
+use Rattle.gf_form.proofs.Common.{get_or_default, option_map_or, is_own_choice, reduced_label, Game}
+use Rattle.gf_form.proofs.Common.{relevant_sets, action_counts, dvd-mul_right, AreFirstsOf, has_map}
+use Rattle.gf_form.proofs.Common.{same_choice, all_choices, MatchOption, HasChildren, flatten_all}
+use Rattle.gf_form.proofs.Common.{is_relevant, player_keys, player_sets, plays_from, length-map, ap}
+use Rattle.gf_form.proofs.Common.{first_uses, strategies, option_map, tree_comes, get_or-map, arith}
+use Rattle.gf_form.proofs.Common.{from_node, pointwise, choice_at, all_parts, of_filter, used_sets}
+use Rattle.gf_form.proofs.Common.{same_set, comes_to, Contains, was_used, list_any, flatten, get_or}
+use Rattle.gf_form.proofs.Common.{product, reduced, Option, length, branch, SetKey, IsGame, set_at}
+use Rattle.gf_form.proofs.Common.{subst, Trees, count, plays, false, Play, zero, Bool, true, List}
+use Rattle.gf_form.proofs.Common.{Some, None, refl, ◌||◌, ◌&&◌, Tree, none, more, Node, ◌==◌, ◌≡◌}
+use Rattle.gf_form.proofs.Common.{◌+◌, ◌<◌, ◌∷◌, map, suc, ◌≤◌, sym, ◌∙◌, Has, ◌∣◌, []}
 use Rattle.std.proofs.Math.Bool.{and-or_distrib_left}
 use Rattle.gf_form.proofs.lemmas.rows.GameDigits.{among}
 use Rattle.gf_form.proofs.lemmas.strategies.KnownSets.{set_is, own_set}
 use Rattle.gf_form.proofs.lemmas.reduced.Reducing.{first_play, any_has}
 use Rattle.std.specs.List.{filter_map}
-use Rattle.gf_tree.specs.PrefixOrder.{Entry}
 use Rattle.gf_form.proofs.lemmas.strategies.Choices.{length-all_choices}
 use Rattle.gf_form.proofs.lemmas.strategies.Chosen.{among_his, his_actions}
 use Rattle.gf_form.proofs.lemmas.reduced.FirstStrategies.{flags_fit, reduced_shown_at}
+use Rattle.gf_tree.specs.PrefixOrder.{Entry}
+use Rattle.gf_tree.specs.FirstUse.{sets_of}
+use Rattle.std.proofs.Math.Nat.{dvd-mul_left_of_dvd, eq-one_of_dvd-one}
+use Rattle.gf_form.proofs.lemmas.strategies.StrategiesByNumber.{whole_label}
+use Rattle.gf_form.proofs.lemmas.strategies.Lookups.{there}
 
 module _ (g : Game) (game : IsGame g) (choices : SetKey → ℕ) (key : SetKey) where
   -- some of these plays comes to the set so
@@ -98,39 +101,21 @@ module _ (g : Game) (game : IsGame g) (choices : SetKey → ℕ) (key : SetKey) 
 
 -- ---- one action at each set
 
-both_one : (a b : ℕ) → a * b ≡ 1 → (a ≡ 1) × (b ≡ 1)
-both_one zero b e = absurd (omega (arith, e))
-both_one (suc zero) b e = grind arith
-both_one (suc (suc a)) zero e = grind arith
-both_one (suc (suc a)) (suc b) e = grind arith
-
-all_one : (counts : List ℕ) (i : ℕ) → product counts ≡ 1 → i < length counts
-    → get_or counts i 0 ≡ 1
-all_one (n ∷ counts) zero h less = (both_one n (product counts) h).0
-all_one (n ∷ counts) (suc i) h less =
-    all_one counts i (both_one n (product counts) h).1 (omega (arith, less))
-all_one [] i h less = absurd (omega (arith, less))
-
--- ---- the nodes of a set
-
-from_filter_map : {X Y : Type 0} (f : X → Option Y) (xs : List X) (y : Y) → Has (filter_map f xs) y
-    → (x : X) × Has xs x × (f x ≡ Some y)
-from_filter_map f [] y h = absurd h
-from_filter_map {X} {Y} f (x ∷ xs) y h = grind (arith, from_filter_map f xs y)
-
-node_of : (g : Game) → IsGame g → (player : ℕ) (key : SetKey) → Has (player_keys g player) key
-    → (e : Entry Node) × Has (flatten g.tree) e × (e.node.set ≡ Some key)
-node_of g game player key i =
-    let s = own_set g player key i in
-    let known : Has (map (λ (s : Described SetKey InformationSet). s.key) g.sets) key =
-    subst (Has (map (λ (s : Described SetKey InformationSet). s.key) g.sets)) s.2
-    (has_map (λ (s : Described SetKey InformationSet). s.key) g.sets s.0 s.1) in
-    grind (arith, Has, from_filter_map, was_used)
+factor : (counts : List ℕ) (i : ℕ) → i < length counts → get_or counts i 0 ∣ product counts
+factor (n ∷ counts) zero less = dvd-mul_right n (product counts)
+factor (n ∷ counts) (suc i) less =
+    dvd-mul_left_of_dvd (get_or counts i 0) (factor counts i (omega (arith, less))) n
+factor [] i less = absurd (omega (arith, less))
 
 -- ---- choices come to each set whose owner has one action at each of his
 
 abbrev is_there : SetKey → Entry Node → Bool
 is_there key e = option_map_or (same_set key) e.node.set false
+
+used_there : (key : SetKey) (es : List (Entry Node))
+    → list_any (is_there key) es ≡ list_any (same_set key) (filter_map (λ e. e.node.set) es)
+used_there key [] = refl
+used_there key (e ∷ es) = grind (arith, used_there key es)
 
 no_child : (key : SetKey) (ts : Trees Node) → count ts ≡ 0
     → list_any (is_there key) (flatten_all ts) ≡ false
@@ -181,12 +166,6 @@ module _ (g : Game) (choices : SetKey → ℕ) (key : SetKey)
 
 -- ---- the strategy
 
-all_shown : {A : Type 0} (xs : List A) (s : List ℕ) → length xs ≡ length s
-    → shown (map (λ x. true) xs) s ≡ map Some s
-all_shown (x ∷ xs) (a ∷ s) e = cc (all_shown xs s (omega (arith, e)))
-all_shown [] [] e = refl
-all_shown xs s e = grind arith
-
 one_alone : {A : Type 0} (xs : List A) (d : A) → length xs ≡ 1 → xs ≡ get_or xs 0 d ∷ []
 one_alone (x ∷ []) d e = refl
 one_alone xs d e = absurd (omega (arith, e))
@@ -202,24 +181,29 @@ module _ (g : Game) (game : IsGame g) (player : ℕ)
   only_there : Contains (strategies g player) only
   only_there = grind (arith, counted, get_or_default)
 
+  used : (key : SetKey) → Has (player_keys g player) key → Has (used_sets g.tree) key
+  used key i = (of_filter (λ key. key.player == player) (used_sets g.tree) key
+      (was_used same_set (sets_of player (used_sets g.tree)) key
+      (subst (λ keys. Has keys key) (sets_by_first_use g player game) i))).0
+
   all_relevant : (key : SetKey) → Has (player_keys g player) key
       → is_relevant g (choice_at (player_keys g player) only) key ≡ true
   all_relevant key i =
       let his = (own_set g player key i).3 in
       let choices = choice_at (player_keys g player) only in
-      let node = node_of g game player key i in
       relevant_is g game choices key
       ∙ comes_where g choices key (λ own set same known.
       let owner : player ≡ own.player = sym (same ∙ his) in
       let place = among (player_sets g own.player) own set (among_his g own ∙ known) in
-      let actions = sym place.count ∙ all_one (action_counts g own.player) place.place
-      (subst (λ p. product (action_counts g p) ≡ 1) owner one)
+      let actions = sym place.count ∙ eq-one_of_dvd-one (subst (λ n. get_or (action_counts g
+      own.player) place.place 0 ∣ n) (subst (λ p. product (action_counts g p) ≡ 1) owner one)
+      (factor (action_counts g own.player) place.place
       (omega (
         arith,
         place.within,
         length-map (player_sets g own.player)
             (λ s. length s.description.actions),
-      )) in
+      )))) in
       let choice = his_actions g game only own set
       (subst (λ p. Contains (strategies g p) only) owner only_there) known in (
         actions,
@@ -227,34 +211,41 @@ module _ (g : Game) (game : IsGame g) (player : ℕ)
             (omega (arith, choice.0, choice.1, actions)),
       ))
       g.tree game.children
-      ∙ any_has (is_there key) (flatten g.tree) node.0 node.1
-      (ap (λ o. option_map_or (same_set key) o false) node.2 ∙ (same_set_equality key key).1 refl)
+      ∙ used_there key (flatten g.tree)
+      ∙ any_has (same_set key) (used_sets g.tree) key (used key i)
+      ((same_set_equality key key).1 refl)
 
-  all_flags : relevant_sets g player only ≡ map (λ key. true) (player_keys g player)
-  all_flags = grind (arith, all_relevant, map_same)
-
-  only_shown : reduced g player only ≡ map Some only
+  only_shown : reduced_label (reduced g player only) ≡ strategy_label only
   only_shown =
-      let less : 0 < length (strategies g player) = omega (arith, counted) in
-      let flags = length-map (player_keys g player) (λ key. true) in
-      let fit = ap length (sym all_flags) ∙ flags_fit g game player 0 less in
-      reduced_shown_at g game player 0 less
-      ∙ ap (λ (flags : List Bool). shown flags only) all_flags
-      ∙ all_shown (player_keys g player) only (sym flags ∙ fit)
+      let some : 0 < length (strategies g player) = omega (arith, counted) in
+      let keys = player_keys g player in
+      let fit = flags_fit g game player 0 some in
+      ap reduced_label (reduced_shown_at g game player 0 some)
+      ∙ whole_label (relevant_sets g player only) only fit (λ k less.
+      let within : k < length keys = omega (
+        arith,
+        less,
+        fit,
+        length-map keys
+            (is_relevant g (choice_at keys only)),
+      ) in
+      let none : SetKey = record { player = 0; number = 0 } in
+      get_or-map (is_relevant g (choice_at keys only)) keys k none false within
+      ∙ all_relevant (get_or keys k none) (there keys k none within))
 
-  only_reduced : reduced_strategies g player ≡ reduced g player only ∷ []
-  only_reduced =
-      ap (λ (all : List (List ℕ)). first_uses (pointwise same_choice) (map (reduced g player) all))
-      (one_alone (strategies g player) [] counted)
+  alone : strategies g player ≡ only ∷ []
+  alone = one_alone (strategies g player) [] counted
 
   pub only_first : AreFirstsOf g (0 ∷ []) player
-  only_first = (sym only_reduced, (omega (arith, counted), tt))
+  only_first = (
+    sym (ap (λ (all : List (List ℕ)). first_uses (pointwise same_choice)
+        (map (reduced g player) all)) alone),
+    (omega (arith, counted), tt),
+  )
 
   pub only_label : map strategy_label (all_choices (action_counts g player)) ≡ reduced_labels g
       player
   only_label =
-      ap (map strategy_label) (one_alone (strategies g player) [] counted)
-      ∙ ap (λ (bs : List ℕ). bs ∷ []) (sym (ap reduced_label only_shown
-      ∙ ap (join_with_byte 45)
-      (map_twice (λ (choice : Option ℕ). option_map_or decimal choice (codes "*")) Some only)))
-      ∙ sym (ap (map reduced_label) only_reduced)
+      ap (map strategy_label) alone
+      ∙ (λ i. sym only_shown i ∷ [])
+      ∙ ap (map reduced_label) only_first.0

@@ -1,19 +1,19 @@
 -- The first of the strategies that reduce to the same one: it has the first action wherever no
 -- choice matters.
-use Rattle.gf_form.proofs.Common.{◌≡◌, ℕ, zero, suc, ◌+◌, ◌-◌, ◌*◌, ◌<◌, ◌≤◌, Bool, true, false}
-use Rattle.gf_form.proofs.Common.{Option, List, [], ◌∷◌, ◌++◌, Some, None, length, map, get_or, set}
-use Rattle.gf_form.proofs.Common.{take, AreInTurn, refl, sym, ap, subst, ◌∙◌, arith, if◌then◌else◌}
+use Rattle.gf_form.proofs.Common.{◌≡◌, ℕ, zero, suc, ◌+◌, ◌-◌, ◌*◌, ◌<◌, ◌≤◌, Bool, true, false, []}
+use Rattle.gf_form.proofs.Common.{Option, List, ◌∷◌, ◌++◌, Some, None, length, map, get_or, set, ap}
+use Rattle.gf_form.proofs.Common.{take, AreInTurn, refl, sym, subst, ◌∙◌, arith, if◌then◌else◌, Has}
 use Rattle.gf_form.proofs.Common.{list_any, pointwise, false_from_ne_true, length-map, map-append}
-use Rattle.gf_form.proofs.Common.{AllZip-long, product, SetKey, same_set, first_uses, player_keys}
-use Rattle.gf_form.proofs.Common.{Game, IsGame, AreDistinct, map_same, same_set_equality, Has, has}
-use Rattle.gf_form.proofs.Common.{contains, has_map, mapped_from, is_relevant, reduced, filter, not}
-use Rattle.gf_form.proofs.Common.{reduced_strategies, same_choice, relevant_sets, shown, add-one}
-use Rattle.gf_form.proofs.Common.{action_counts, choice_at, strategies, take-suc, AllByRecursion}
-use Rattle.gf_form.proofs.Common.{all_both, AreFoundTo, IsFirst, numbered, is_relevant_at}
-use Rattle.gf_form.proofs.Common.{mul-le-mul_right, get_or-take, get_or_default, length-take-le}
+use Rattle.gf_form.proofs.Common.{product, SetKey, same_set, first_uses, player_keys, Game, IsGame}
+use Rattle.gf_form.proofs.Common.{AreDistinct, map_same, same_set_equality, has, contains, has_map}
+use Rattle.gf_form.proofs.Common.{mapped_from, is_relevant, reduced, filter, not, same_choice}
+use Rattle.gf_form.proofs.Common.{reduced_strategies, relevant_sets, shown, add-one, action_counts}
+use Rattle.gf_form.proofs.Common.{choice_at, strategies, take-suc, AllByRecursion, all_both}
+use Rattle.gf_form.proofs.Common.{AreFoundTo, IsFirst, numbered, is_relevant_at, mul-le-mul_right}
+use Rattle.gf_form.proofs.Common.{get_or-take, get_or_default, length-take-le}
 use Rattle.gf_tree.proofs.lemmas.stores.KnownKeys.{known_more, more_known, used_before}
 use Rattle.gf_form.proofs.lemmas.strategies.Choices.{IsChoice, are_choices, at_its_place, place}
-use Rattle.gf_form.proofs.lemmas.strategies.Choices.{place_at}
+use Rattle.gf_form.proofs.lemmas.strategies.Choices.{choice_length, place_at}
 use Rattle.gf_form.proofs.lemmas.strategies.KnownSets.{own_set}
 use Rattle.gf_form.proofs.lemmas.reduced.ReducedForms.{choices_equality}
 use Rattle.gf_form.proofs.lemmas.reduced.Reducing.{any_has, relevance_same}
@@ -99,10 +99,6 @@ shown_by relevant (k ∷ keys) (a ∷ s) d e =
     )
 
 -- ---- the strategies of a player
-
-pub choice_length : (counts s : List ℕ) → IsChoice counts s → length s ≡ length counts
-choice_length counts s h =
-    sym (AllZip-long (λ action count. (1 ≤ action) × (action ≤ count)) s counts h)
 
 module _ (g : Game) (game : IsGame g) (player : ℕ) where
   abbrev keys : List SetKey

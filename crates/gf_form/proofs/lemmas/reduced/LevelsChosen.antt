@@ -31,25 +31,18 @@ flag_on flags at place inside = grind (arith, get_or-set_at, get_or-set_other, o
 abbrev pub no_visit : Visit
 no_visit = record { demands = 0; set = 0 }
 
--- the level after what is left of the first i visits has been added
-pub record AddedTo (step action : ℕ) (visits : List Visit) (before : Level) (i : ℕ)
-    (after : Level) : Type 0
-  where
-    pub counted : length after.known.items ≡ length before.known.items
-    pub adds : AddsLeft step action (take i visits) before after
-
 module _ (step action : ℕ) (visits : List Visit) (start : Level) (i : ℕ)
     (less : i < length visits) where
   abbrev here : Visit
   here = get_or visits i no_visit
 
-  module _ (left : Level) (before : AddedTo step action visits start i left) where
+  module _ (left : Level) (before : AddsLeft step action (take i visits) start left) where
     -- what one more visit adds
     more : (next : Level) → length next.known.items ≡ length start.known.items
         → ((place : ℕ) (steps choices : List ℕ) → place < length start.known.items
         → ArePositive steps → is_left place steps choices next ≡ (is_left place steps choices left
         || is_met_on place (step ∷ steps) (action ∷ choices) here))
-        → AddedTo step action visits start (i + 1) next
+        → AddsLeft step action (take (i + 1) visits) start next
     more next counted adds = record {
       counted = counted;
       adds = λ place steps choices inside positive.
@@ -64,7 +57,7 @@ module _ (step action : ℕ) (visits : List Visit) (start : Level) (i : ℕ)
 
     -- it is to no set of the level
     pub other_passed : length left.known.items ≤ here.set
-        → AddedTo step action visits start (i + 1) left
+        → AddsLeft step action (take (i + 1) visits) start left
     other_passed past =
         more left before.counted (λ place steps choices inside positive.
         let other : (here.set == place) ≡ false =
@@ -74,14 +67,14 @@ module _ (step action : ℕ) (visits : List Visit) (start : Level) (i : ℕ)
     -- it is to a set that is known to be met
     pub known_passed : (flag : Bool) → here.set < length left.known.items
         → flag ≡ get_or left.known.items here.set flag → flag ≡ true
-        → AddedTo step action visits start (i + 1) left
+        → AddsLeft step action (take (i + 1) visits) start left
     known_passed flag within is known =
         let there = get_or_default left.known.items here.set false flag within in
         more left before.counted (λ place steps choices inside positive. grind arith)
 
     -- it demands another action
     pub none_left : left_of step action here.demands ≡ None
-        → AddedTo step action visits start (i + 1) left
+        → AddsLeft step action (take (i + 1) visits) start left
     none_left none = more left before.counted (λ place steps choices inside positive.
         grind (arith, meets_left step action here.demands steps choices, or-false))
 
@@ -89,7 +82,8 @@ module _ (step action : ℕ) (visits : List Visit) (start : Level) (i : ℕ)
     pub made_known : (next : Level) → here.set < length left.known.items
         → left_of step action here.demands ≡ Some 0
         → next.known.items ≡ set left.known.items here.set true
-        → next.visits.items ≡ left.visits.items → AddedTo step action visits start (i + 1) next
+        → next.visits.items ≡ left.visits.items
+        → AddsLeft step action (take (i + 1) visits) start next
     made_known next within left_is known_is visits_are =
         more next (grind (arith, length-set, before.counted))
         (λ place steps choices inside positive.
@@ -106,16 +100,15 @@ module _ (step action : ℕ) (visits : List Visit) (start : Level) (i : ℕ)
         → next.known.items ≡ left.known.items
         → next.visits.items ≡ left.visits.items
         ++ record { demands = demands; set = here.set } ∷ []
-        → AddedTo step action visits start (i + 1) next
+        → AddsLeft step action (take (i + 1) visits) start next
     one_left next demands left_is known visits_are =
         more next (ap length known ∙ before.counted) (λ place steps choices inside positive.
         grind (arith, list_any-append, meets_left step action here.demands steps choices))
 
 pub all_added : (step action : ℕ) (visits : List Visit) (before : Level) (i : ℕ) (after : Level)
-    → AddedTo step action visits before i after → i ≡ length visits
+    → AddsLeft step action (take i visits) before after → i ≡ length visits
     → AddsLeft step action visits before after
-all_added step action visits before i after added end =
-    rw (end, take-length) at added.adds
+all_added step action visits before i after added end = rw (end, take-length) at added
 
 -- what the steps of the code need
 pub ruleset left_steps = (other_passed, known_passed, none_left, all_added)
@@ -182,17 +175,19 @@ module _ (step action : ℕ) (visits rest : List Visit) (free start count : ℕ)
         )
 
   pub parts_added : (before between after : Level)
-      → length between.known.items ≡ length before.known.items
       → AddsLeft step action (take free visits) before between
       → AddsLeft step action (take count rest) between after
       → AddsLeft step action visits before after
-  parts_added before between after counted first second place steps choices inside positive =
-      grind (
-        arith,
-        first place steps choices inside positive,
-        second place steps choices (omega (arith, inside, counted)) positive,
-        met_in_parts place steps choices,
-      )
+  parts_added before between after first second = record {
+    counted = second.counted ∙ first.counted;
+    adds = λ place steps choices inside positive.
+        grind (
+          arith,
+          first.adds place steps choices inside positive,
+          second.adds place steps choices (omega (arith, inside, first.counted)) positive,
+          met_in_parts place steps choices,
+        );
+  }
 
 -- what is left of all visits of a level, each once and in order
 pub chosen_by : (step action : ℕ) (from begun added left : Level) → begun.visits.items ≡ []
@@ -204,7 +199,7 @@ chosen_by step action from begun added left none known adds same_known same plac
     inside positive =
     grind (
       arith,
-      adds place steps choices (omega (arith, inside, ap length known)) positive,
+      adds.adds place steps choices (omega (arith, inside, ap length known)) positive,
       same (is_met_on place steps choices),
     )
 

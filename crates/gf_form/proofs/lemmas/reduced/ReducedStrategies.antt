@@ -1,28 +1,22 @@
 -- The reduced strategies of a player, each once, with labels that differ; and the profiles of the
 -- reduced form, each once.
-use Rattle.gf_form.proofs.Common.{◌≡◌, ℕ, zero, suc, ◌-◌, ◌^◌, ◌<◌, Bool, List, [], ◌∷◌, Option}
-use Rattle.gf_form.proofs.Common.{Some, None, MatchOption, length, map, get_or, drop, refl, sym, ap}
-use Rattle.gf_form.proofs.Common.{subst, ◌∙◌, arith, inl, inr, ⊤, codes, decimal, if◌then◌else◌}
-use Rattle.gf_form.proofs.Common.{zip, AllByRecursion, Contains, pointwise, decimal_injective}
-use Rattle.gf_form.proofs.Common.{length-map, IsProfile, every_profile, SetKey, player_keys, Game}
-use Rattle.gf_form.proofs.Common.{AreDistinct, first_uses_distinct, Has, contains, choice_text}
-use Rattle.gf_form.proofs.Common.{is_relevant, reduced, reduced_at, reduced_label, reduced_profiles}
-use Rattle.gf_form.proofs.Common.{reduced_strategies, same_choice, action_counts, choice_at}
-use Rattle.gf_form.proofs.Common.{players_of, strategies, strategy_at}
+use Rattle.gf_form.proofs.Common.{◌≡◌, ℕ, zero, suc, ◌-◌, ◌^◌, ◌<◌, Bool, List, [], ◌∷◌, Option, ap}
+use Rattle.gf_form.proofs.Common.{Some, None, MatchOption, length, map, get_or, drop, refl, sym, ⊤}
+use Rattle.gf_form.proofs.Common.{subst, ◌∙◌, arith, codes, decimal, if◌then◌else◌, zip, Contains}
+use Rattle.gf_form.proofs.Common.{AllByRecursion, pointwise, decimal_injective, length-map, SetKey}
+use Rattle.gf_form.proofs.Common.{IsProfile, every_profile, player_keys, Game, AreDistinct, Has}
+use Rattle.gf_form.proofs.Common.{first_uses_distinct, contains, choice_text, is_relevant, reduced}
+use Rattle.gf_form.proofs.Common.{reduced_at, reduced_label, reduced_profiles, reduced_strategies}
+use Rattle.gf_form.proofs.Common.{same_choice, action_counts, choice_at, players_of, strategies}
+use Rattle.gf_form.proofs.Common.{strategy_at, AreDigits}
 use Rattle.gf_form.proofs.lemmas.strategies.Choices.{every_choice}
-use Rattle.gf_form.proofs.lemmas.strategies.StrategyLabels.{AreDigits, AreUndashed, digits_of}
-use Rattle.gf_form.proofs.lemmas.strategies.StrategyLabels.{same_joined, undashed_number, AreSmall}
-use Rattle.gf_form.proofs.lemmas.strategies.StrategyLabels.{small_choice}
-use Rattle.gf_form.proofs.lemmas.strategies.Lookups.{strategy_before}
+use Rattle.gf_form.proofs.lemmas.strategies.StrategyLabels.{AreUndashed, digits_of, same_joined}
+use Rattle.gf_form.proofs.lemmas.strategies.StrategyLabels.{undashed_number, AreSmall, small_choice}
+use Rattle.gf_form.proofs.lemmas.strategies.Lookups.{strategy_before, there}
 use Rattle.gf_form.proofs.lemmas.reduced.ReducedForms.{choices_equality, each_comes, some_full}
 use Rattle.gf_form.proofs.lemmas.reduced.ReducedForms.{some_reduced}
 
 -- ---- places
-
-there : {A : Type 0} (xs : List A) (i : ℕ) (d : A) → i < length xs → Has xs (get_or xs i d)
-there [] i d less = absurd (omega (arith, less))
-there (x ∷ xs) zero d less = inl refl
-there (x ∷ xs) (suc i) d less = inr (there xs i d (omega (arith, less)))
 
 -- if nothing occurs twice, what is at two places is at one place
 one_place : {A : Type 0} (xs : List A) (i j : ℕ) (d : A) → AreDistinct xs → i < length xs

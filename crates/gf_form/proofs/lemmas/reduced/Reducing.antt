@@ -2,28 +2,25 @@
 -- the same payoffs and bottom-up values.
 use Rattle.gf_form.proofs.Common.{arith, list_all, list_any, or_right, same_set, comes_to, in_right}
 use Rattle.gf_form.proofs.Common.{◌≡◌, if◌then◌else◌, option_map_or, is_own_choice, IsTerminalValue}
-use Rattle.gf_form.proofs.Common.{ℕ, ap, inr, Has, has, suc, ◌+◌, ◌-◌, ◌<◌, not, zip, ◌↔◌}
-use Rattle.gf_form.proofs.Common.{Bool, SetKey, agrees, reduced, follows, in_left, has_map, IsValue}
-use Rattle.gf_form.proofs.Common.{true, List, Some, None, map, drop, refl, ◌||◌, Game, Ratio, Trees}
+use Rattle.gf_form.proofs.Common.{ℕ, ap, inr, Has, has, suc, ◌+◌, ◌-◌, ◌<◌, not, zip, ◌↔◌, Bool, []}
+use Rattle.gf_form.proofs.Common.{SetKey, agrees, reduced, follows, in_left, has_map, IsValue, true}
+use Rattle.gf_form.proofs.Common.{List, Some, None, map, drop, refl, ◌||◌, Game, Ratio, Trees, sym}
 use Rattle.gf_form.proofs.Common.{false, subst, plays, length, filter, times, total, payoff, branch}
-use Rattle.gf_form.proofs.Common.{[], sym, ◌∙◌, inl, Step, Play, zero, ◌==◌, Tree, none, more, Node}
-use Rattle.gf_form.proofs.Common.{◌∷◌, choices_by, players_of, strategies, MatchOption, IsMoveValue}
+use Rattle.gf_form.proofs.Common.{◌∙◌, inl, Step, Play, zero, ◌==◌, Tree, none, more, Node, ◌∷◌}
+use Rattle.gf_form.proofs.Common.{choices_by, players_of, strategies, MatchOption, IsMoveValue}
 use Rattle.gf_form.proofs.Common.{Option, numbers_from, strategies_at, full_profiles, IsChanceValue}
-use Rattle.gf_form.proofs.Common.{get_or, and_parts, reduced_by, zero_ratio, plays_from, cases_Bool}
-use Rattle.gf_form.proofs.Common.{Contains, choice_at, eqb-false, is_chosen, MatchBool, from_node}
-use Rattle.gf_form.proofs.Common.{or_left, same_set_equality, length-numbers_from, play_probability}
+use Rattle.gf_form.proofs.Common.{get_or, reduced_by, zero_ratio, plays_from, cases_Bool, Contains}
+use Rattle.gf_form.proofs.Common.{choice_at, eqb-false, is_chosen, MatchBool, from_node, or_left}
+use Rattle.gf_form.proofs.Common.{same_set_equality, length-numbers_from, play_probability, AddsTo}
 use Rattle.gf_form.proofs.Common.{player_keys, is_relevant, strategy_at, play_payoff, IsChildValue}
+use Rattle.gf_form.proofs.Common.{payoff_at, probability, MultipliesTo}
 use Rattle.gf_tree.proofs.lemmas.stores.KnownKeys.{used_before}
 use Rattle.gf_form.proofs.lemmas.form.Forms.{as_many}
 use Rattle.gf_form.proofs.lemmas.strategies.Lookups.{strategy_before}
 use Rattle.gf_form.proofs.lemmas.strategies.Chosen.{profile_strategies}
+use Rattle.std.proofs.Math.Path.{transport, transport⁻¹}
 
 -- ---- tests
-
-pub same_answer : (a b : Bool) → (a ≡ true → b ≡ true) → (b ≡ true → a ≡ true) → a ≡ b
-same_answer true b to from = sym (to refl)
-same_answer false true to from = from refl
-same_answer false false to from = refl
 
 pub any_has : {X : Type 0} (test : X → Bool) (xs : List X) (x : X) → Has xs x → test x ≡ true
     → list_any test xs ≡ true
@@ -96,15 +93,15 @@ module _ (g : Game) (player : ℕ) where
           | inr other ↦ grind arith
         ]
 
-    rest_agrees : (rest : List Step) → AreEqualOn rest
-        → list_all (is_own_choice c player) rest ≡ true
-        → list_all (is_own_choice d player) rest ≡ true
-    rest_agrees [] equal h = refl
-    rest_agrees (s ∷ rest) equal h =
-        let both =
-        and_parts (is_own_choice c player s) (list_all (is_own_choice c player) rest) h in
+    rest_same : (rest : List Step) → AreEqualOn rest
+        → list_all (is_own_choice c player) rest ≡ list_all (is_own_choice d player) rest
+    rest_same [] equal = refl
+    rest_same (s ∷ rest) equal =
         let same = own_same s rest equal s.node.set refl in
-        grind (arith, rest_agrees rest (equal_on s rest equal both.0) both.1)
+        elim (cases_Bool (is_own_choice c player s)) [
+          | inl his ↦ grind (arith, rest_same rest (equal_on s rest equal his))
+          | inr other ↦ grind arith
+        ]
 
     any_same : (p q : Play → Bool) (ps : List Play) → ((x : Play) → Has ps x → p x ≡ q x)
         → list_any p ps ≡ list_any q ps
@@ -116,18 +113,13 @@ module _ (g : Game) (player : ℕ) where
         → (key : SetKey) → key.player ≡ player → is_relevant g c key ≡ is_relevant g d key
     relevance_same same key own = grind (arith, any_same, comes_same, any_has)
 
-  agrees_too : (s t : List ℕ) (play : Play) → reduced g player s ≡ reduced g player t
-      → Has (plays g.tree) play → agrees (chosen s) player play ≡ true
-      → agrees (chosen t) player play ≡ true
-  agrees_too s t play e i h = grind (arith, rest_agrees, same_where_relevant, any_has)
-
   pub reduced_agree : (s t : List ℕ) (play : Play) → reduced g player s ≡ reduced g player t
       → Contains (plays g.tree) play → agrees (choice_at (player_keys g player) s) player play
       ≡ agrees (choice_at (player_keys g player) t) player play
   reduced_agree s t play e i =
-      same_answer (agrees (chosen s) player play) (agrees (chosen t) player play)
-      (agrees_too s t play e (has (plays g.tree) play i))
-      (agrees_too t s play (sym e) (has (plays g.tree) play i))
+      rest_same (chosen s) (chosen t) play.steps (λ key own come.
+      same_where_relevant s t e key (any_has (λ (p : Play). comes_to (chosen s) key p.steps)
+      (plays g.tree) play (has (plays g.tree) play i) come))
 
 -- ---- choices of all players that are equal at the sets to which the first ones come
 
@@ -145,19 +137,21 @@ module _ (c d : SetKey → ℕ) where
       → AreEqualFor rest
   equal_later s rest equal h key above come = grind (arith, own_chosen)
 
-  chosen_too : (s : Step) (rest : List Step) → AreEqualFor (s ∷ rest) → (o : Option SetKey)
-      → s.node.set ≡ o → option_map_or (λ key. key.player == 0 || c key == s.taken) o true ≡ true
-      → option_map_or (λ key. key.player == 0 || d key == s.taken) o true ≡ true
-  chosen_too s rest equal None at h = refl
-  chosen_too s rest equal (Some key) at h = grind (arith, equal key, same_set_equality)
+  chosen_same : (s : Step) (rest : List Step) → AreEqualFor (s ∷ rest) → (o : Option SetKey)
+      → s.node.set ≡ o → option_map_or (λ key. key.player == 0 || c key == s.taken) o true
+      ≡ option_map_or (λ key. key.player == 0 || d key == s.taken) o true
+  chosen_same s rest equal None at = refl
+  chosen_same s rest equal (Some key) at = grind (arith, equal key, same_set_equality)
 
-  follow_too : (steps : List Step) → AreEqualFor steps → list_all (is_chosen c) steps ≡ true
-      → list_all (is_chosen d) steps ≡ true
-  follow_too [] equal h = refl
-  follow_too (s ∷ steps) equal h =
-      let both = and_parts (is_chosen c s) (list_all (is_chosen c) steps) h in
-      let first = chosen_too s steps equal s.node.set refl both.0 in
-      grind (arith, follow_too steps (equal_later s steps equal both.0) both.1)
+  follow_same : (steps : List Step) → AreEqualFor steps
+      → list_all (is_chosen c) steps ≡ list_all (is_chosen d) steps
+  follow_same [] equal = refl
+  follow_same (s ∷ steps) equal =
+      let first = chosen_same s steps equal s.node.set refl in
+      elim (cases_Bool (is_chosen c s)) [
+        | inl his ↦ grind (arith, follow_same steps (equal_later s steps equal his))
+        | inr other ↦ grind arith
+      ]
 
 -- ---- profiles that reduce to the same one
 
@@ -198,11 +192,8 @@ module _ (g : Game) where
       ≡ filter (follows (choices_by g others)) (plays g.tree)
   same_plays all others alike =
       filter_same (follows (choices_by g all)) (follows (choices_by g others)) (plays g.tree)
-      (λ play i. same_answer _ _
-      (follow_too (choices_by g all) (choices_by g others) play.steps
+      (λ play i. follow_same (choices_by g all) (choices_by g others) play.steps
       (equal_for all others alike play i))
-      (follow_too (choices_by g others) (choices_by g all) play.steps
-      (equal_for others all (λ p above. sym (alike p above)) play i)))
 
   -- what the players' strategies reduce to
   abbrev reduce_all : List ℕ → List (List ℕ) → List (List (Option ℕ))
@@ -263,20 +254,14 @@ module _ (g : Game) (c d : SetKey → ℕ) (player : ℕ) where
   abbrev IsChosen : Node → ℕ → Type 0
   IsChosen n k = is_chosen c (record { node = n; taken = k }) ≡ true
 
-  abbrev ValueAt : (SetKey → ℕ) → Node → Trees Node → Ratio → Option SetKey → Type 0
-  ValueAt choices n ts value o = MatchOption o (IsTerminalValue g player n value)
-      (λ key.
-      IsMoveValue g player n key (λ below. IsChanceValue g choices player n 1 zero_ratio ts below)
-      (λ below. IsChildValue g choices player (choices key) ts below) value)
+  abbrev BelowAt : (SetKey → ℕ) → Node → Trees Node → SetKey → Bool → Ratio → Type 0
+  BelowAt choices n ts key b below = MatchBool b (IsChanceValue g choices player n 1 zero_ratio ts
+      below) (IsChildValue g choices player (choices key) ts below)
 
-  abbrev ChanceToo : Node → Trees Node → Type 0
-  ChanceToo n ts =
-      (value : Ratio) → ((k : ℕ) → IsChosen n k) → IsChanceValue g c player n 1 zero_ratio ts value
-      → IsChanceValue g d player n 1 zero_ratio ts value
-
-  abbrev ChildToo : Node → Trees Node → Type 0
-  ChildToo n ts = (position : ℕ) (value : Ratio) → IsChosen n position
-      → IsChildValue g c player position ts value → IsChildValue g d player position ts value
+  abbrev ValueAt : (SetKey → ℕ) → Node → Trees Node → Option SetKey → Ratio → Type 0
+  ValueAt choices n ts o value = MatchOption o (IsTerminalValue g player n value)
+      (λ key. IsMoveValue g player n key (IsChanceValue g choices player n 1 zero_ratio ts)
+      (IsChildValue g choices player (choices key) ts) value)
 
   -- the plays through the first of these children, and through the others
   through : (n : Node) (k : ℕ) (t : Tree Node) (ts : Trees Node) (p : Play) → Has (plays t) p
@@ -304,77 +289,61 @@ module _ (g : Game) (c d : SetKey → ℕ) (player : ℕ) where
   equal_others n k t ts equal p i =
       equal p (in_right (map (from_node n k) (plays t)) (plays_from n (k + 1) ts) p i)
 
-  below_too : (n : Node) (ts : Trees Node) (key : SetKey) (below : Ratio) → n.set ≡ Some key
-      → (0 < key.player → c key ≡ d key) → ChanceToo n ts → ChildToo n ts → (b : Bool)
-      → (key.player == 0) ≡ b
-      → MatchBool b (IsChanceValue g c player n 1 zero_ratio ts below)
-      (IsChildValue g c player (c key) ts below)
-      → MatchBool b (IsChanceValue g d player n 1 zero_ratio ts below)
-      (IsChildValue g d player (d key) ts below)
-  below_too n ts key below at equal chance child true e v = grind arith
-  below_too n ts key below at equal chance child false e v =
-      let personal = eqb-false key.player 0 e in
-      let same = equal (omega (arith, personal)) in
-      grind arith
-
-  node_too : (n : Node) (t : Tree Node) (ts : Trees Node) (value : Ratio)
-      → AreEqualIn (plays_from n 1 (more t ts)) → ChanceToo n (more t ts) → ChildToo n (more t ts)
-      → (o : Option SetKey) → n.set ≡ o → ValueAt c n (more t ts) value o
-      → ValueAt d n (more t ts) value o
-  node_too n t ts value equal chance child None at v = v
-  node_too n t ts value equal chance child (Some key) at v = (
-    v.0,
-    below_too n (more t ts) key v.0 at (equal_here n 1 t ts key equal at) chance child
-        (key.player == 0) refl v.1,
-    v.2,
-  )
+  node_same : (n : Node) (t : Tree Node) (ts : Trees Node) → AreEqualIn (plays_from n 1 (more t ts))
+      → (o : Option SetKey) → n.set ≡ o
+      → (((k : ℕ) → IsChosen n k) → IsChanceValue g c player n 1 zero_ratio (more t ts)
+      ≡ IsChanceValue g d player n 1 zero_ratio (more t ts))
+      → ((position : ℕ) → IsChosen n position → IsChildValue g c player position (more t ts)
+      ≡ IsChildValue g d player position (more t ts))
+      → ValueAt c n (more t ts) o ≡ ValueAt d n (more t ts) o
+  node_same n t ts equal None at chance child = refl
+  node_same n t ts equal (Some key) at chance child =
+      λ i value. (below : Ratio) × by (key.player == 0) refl i below
+      × AddsTo (payoff_at g player n) below value
+    where
+      by : (b : Bool) → (key.player == 0) ≡ b
+          → BelowAt c n (more t ts) key b ≡ BelowAt d n (more t ts) key b
+      by true e = chance (λ k. grind arith)
+      by false e =
+          child (c key) (grind arith)
+          ∙ ap (λ k. IsChildValue g d player k (more t ts))
+          (equal_here n 1 t ts key equal at (omega (arith, eqb-false key.player 0 e)))
 
   mutual
-    value_too : (t : Tree Node) (value : Ratio) → AreEqualIn (plays t) → IsValue g c player t value
-        → IsValue g d player t value
-    value_too (branch n none) value equal v = v
-    value_too (branch n (more t ts)) value equal v =
-        node_too n t ts value equal
-        (λ below every is. chance_too (more t ts) n 1 zero_ratio below equal every is)
-        (λ position below there is.
-        child_too (more t ts) n 1 position position below equal there (omega arith) is)
-        n.set refl v
+    value_same : (t : Tree Node) → AreEqualIn (plays t)
+        → IsValue g c player t ≡ IsValue g d player t
+    value_same (branch n none) equal = refl
+    value_same (branch n (more t ts)) equal =
+        node_same n t ts equal n.set refl (chance_same (more t ts) n 1 zero_ratio equal)
+        (λ position. child_same (more t ts) n 1 position position equal (omega arith))
 
-    chance_too : (ts : Trees Node) (n : Node) (k : ℕ) (sum value : Ratio)
+    chance_same : (ts : Trees Node) (n : Node) (k : ℕ) (sum : Ratio)
         → AreEqualIn (plays_from n k ts) → ((j : ℕ) → IsChosen n j)
-        → IsChanceValue g c player n k sum ts value → IsChanceValue g d player n k sum ts value
-    chance_too none n k sum value equal every v = v
-    chance_too (more t ts) n k sum value equal every v = (
-      v.0,
-      v.1,
-      v.2,
-      value_too t v.0 (equal_first n k t ts equal (every k)) v.3,
-      v.4,
-      v.5,
-      chance_too ts n (k + 1) v.2 value (equal_others n k t ts equal) every v.6,
-    )
+        → IsChanceValue g c player n k sum ts ≡ IsChanceValue g d player n k sum ts
+    chance_same none n k sum equal every = refl
+    chance_same (more t ts) n k sum equal every =
+        λ i value. (x y next : Ratio) × value_same t (equal_first n k t ts equal (every k)) i x
+        × MultipliesTo (probability g (record { node = n; taken = k })) x y × AddsTo sum y next
+        × chance_same ts n (k + 1) next (equal_others n k t ts equal) every i value
 
     -- the child at this position is taken, which is the one of these at that position
-    child_too : (ts : Trees Node) (n : Node) (k taken position : ℕ) (value : Ratio)
-        → AreEqualIn (plays_from n k ts) → IsChosen n taken → suc taken ≡ position + k
-        → IsChildValue g c player position ts value → IsChildValue g d player position ts value
-    child_too (more t ts) n k taken (suc zero) value equal there e v =
+    child_same : (ts : Trees Node) (n : Node) (k taken position : ℕ)
+        → AreEqualIn (plays_from n k ts) → suc taken ≡ position + k → IsChosen n taken
+        → IsChildValue g c player position ts ≡ IsChildValue g d player position ts
+    child_same (more t ts) n k taken (suc zero) equal e there =
         let same : taken ≡ k = omega (arith, e) in
-        value_too t value (equal_first n k t ts equal (subst (λ j. IsChosen n j) same there)) v
-    child_too (more t ts) n k taken (suc (suc position)) value equal there e v =
-        child_too ts n (k + 1) taken (suc position) value (equal_others n k t ts equal) there
-        (omega (arith, e)) v
-    child_too ts n k taken position value equal there e v = absurd v
-
-alike_value : (g : Game) (all others : List (List ℕ)) → AreReducedAlike g all others
-    → (player : ℕ) (value : Ratio) → IsValue g (choices_by g all) player g.tree value
-    → IsValue g (choices_by g others) player g.tree value
-alike_value g all others alike player value v =
-    value_too g (choices_by g all) (choices_by g others) player g.tree value
-    (equal_for g all others alike) v
+        value_same t (equal_first n k t ts equal (subst (λ j. IsChosen n j) same there))
+    child_same (more t ts) n k taken (suc (suc position)) equal e there =
+        child_same ts n (k + 1) taken (suc position) (equal_others n k t ts equal)
+        (omega (arith, e)) there
+    child_same ts n k taken position equal e there = refl
 
 pub reduced_value : (g : Game) (player : ℕ) (p q : List ℕ) (value : Ratio)
     → Contains (full_profiles g) p → Contains (full_profiles g) q → reduced_by g p ≡ reduced_by g q
     → IsValue g (choices_by g (strategies_at g p)) player g.tree value
     ↔ IsValue g (choices_by g (strategies_at g q)) player g.tree value
-reduced_value g player p q value hp hq e = grind (arith, alike_value, reduced_alike)
+reduced_value g player p q value hp hq e =
+    let same = value_same g (choices_by g (strategies_at g p)) (choices_by g (strategies_at g q))
+    player g.tree (equal_for g (strategies_at g p) (strategies_at g q)
+    (reduced_alike g p q hp hq e)) in
+    (transport (λ i. same i value), transport⁻¹ (λ i. same i value))

@@ -1,32 +1,33 @@
 -- The digits of one player's sets, and his visits to these; a search for first strategies, and that
 -- for their labels, before the first choice; and what the player has at the end.
 use Rattle.gf_form.proofs.Common.{◌≡◌, AreOwn, subst, picked, SetKey, IsGame, IsFine, is_met, Level}
-use Rattle.gf_form.proofs.Common.{ℕ, ◌+◌, ◌*◌, ◌^◌, ◌<◌, ◌≤◌, [], ◌∷◌, sym, ◌∙◌, ap, map}
-use Rattle.gf_form.proofs.Common.{zero, length, get_or, ne_eqb, reduced, IsLevel, is_left, numbered}
-use Rattle.gf_form.proofs.Common.{suc, List, ◌++◌, drop, Bool, true, refl, take, ◌==◌, ◌||◌, Game}
-use Rattle.gf_form.proofs.Common.{arith, slice_get-get_or, mul-le-mul_right}
+use Rattle.gf_form.proofs.Common.{ℕ, ◌+◌, ◌*◌, ◌^◌, ◌<◌, ◌≤◌, [], ◌∷◌, sym, ◌∙◌, ap, map, zero, suc}
+use Rattle.gf_form.proofs.Common.{length, get_or, ne_eqb, reduced, IsLevel, is_left, numbered, List}
+use Rattle.gf_form.proofs.Common.{◌++◌, drop, Bool, true, refl, take, ◌==◌, ◌||◌, Game, arith}
+use Rattle.gf_form.proofs.Common.{slice_get-get_or, mul-le-mul_right, false}
 use Rattle.gf_form.proofs.Common.{append_assoc, steps_behind, ArePositive, digits_from, player_keys}
-use Rattle.gf_form.proofs.Common.{mul-le-mul, false, get_or-map, choices_at, strategies, AreFoundTo}
+use Rattle.gf_form.proofs.Common.{mul-le-mul, get_or-map, choices_at, strategies, AreFoundTo, width}
 use Rattle.gf_form.proofs.Common.{product, eqb-false, is_met_on, IsSearched, actions_of, first_uses}
-use Rattle.gf_form.proofs.Common.{width, action_counts, FindRelevance, AreLabelledTo}
+use Rattle.gf_form.proofs.Common.{action_counts, FindRelevance, AreLabelledTo, Visit}
 use Rattle.gf_form.proofs.Common.{OwnDigit, drop-drop, choice_at, IsWritten, pointwise, map_twice}
 use Rattle.gf_form.proofs.Common.{list_any-append, AllByRecursion, reduced_labels, is_relevant_at}
-use Rattle.gf_form.proofs.Common.{or-false, eqb-true, digit_at, Visit, cases_lt, steps_to, steps_of}
-use Rattle.gf_form.proofs.Common.{is_relevant, AreFirstsOf, HaveChoices, IsElsewhere, same_choice}
+use Rattle.gf_form.proofs.Common.{or-false, eqb-true, digit_at, cases_lt, steps_to, steps_of}
+use Rattle.gf_form.proofs.Common.{is_relevant, AreFirstsOf, HaveChoices, same_choice, with_choices}
+use Rattle.gf_form.proofs.Common.{length-append}
 use Rattle.gf_form.proofs.lemmas.rows.DigitPlaces.{steps_long, width_positive}
 use Rattle.gf_form.proofs.lemmas.rows.DigitsMade.{next_is}
 use Rattle.std.proofs.lemmas.List.Folds.{list_any_more}
 use Rattle.gf_form.specs.inner.reduced.Visits.{HoldTheSame}
 use Rattle.gf_form.proofs.lemmas.reduced.LevelsChosen.{no_visit}
-use Rattle.gf_form.proofs.lemmas.reduced.Searches.{digit_inside, alone, place_inside}
+use Rattle.gf_form.proofs.lemmas.reduced.Searches.{digit_inside, place_inside}
 use Rattle.std.proofs.lemmas.Bool.Decides.{nat_tests}
 use Rattle.std.proofs.lemmas.List.{get_or-drop}
 use Rattle.gf_form.proofs.lemmas.rows.DigitChoices.{choice_at_number, picked_at, product_picked}
-use Rattle.gf_form.proofs.lemmas.strategies.Choices.{length-all_choices}
+use Rattle.gf_form.proofs.lemmas.strategies.Choices.{length-all_choices, choice_length, IsChoice}
 use Rattle.gf_form.proofs.lemmas.strategies.CountedActions.{actions_positive, sets_counted}
 use Rattle.gf_form.proofs.lemmas.strategies.CountedActions.{take_past}
 use Rattle.gf_form.proofs.lemmas.strategies.StrategiesByNumber.{all_at}
-use Rattle.gf_form.proofs.lemmas.reduced.FirstStrategies.{choice_length}
+use Rattle.std.proofs.Math.Seq.{set-append_seam}
 
 -- with more than one action, one more is at most the square
 width_square : (counts : List ℕ) → ArePositive counts
@@ -212,16 +213,17 @@ digits_inside : (p : ℕ) (counts : List ℕ) (sets : ℕ) → p + length counts
 digits_inside p [] sets h = tt
 digits_inside p (n ∷ counts) sets h = grind (arith, digits_inside (p + 1) counts sets)
 
--- a set that has no digit has one action
-elsewhere_alone : (p : ℕ) (counts : List ℕ) (k place : ℕ) → place ≡ p + k → k < length counts
-    → IsElsewhere place (digits_from p counts) → get_or counts k 0 ≤ 1
-elsewhere_alone p (n ∷ counts) zero place is less h = grind arith
-elsewhere_alone p (n ∷ counts) (suc k) place is less h =
-    grind (
-      arith,
-      elsewhere_alone (p + 1) counts k place (omega (arith, is)) (omega (arith, less)),
-    )
-elsewhere_alone p [] k place is less h = absurd (omega (arith, less))
+-- any choice is one that has the first action everywhere, but for its choices at the digits
+spread : (p : ℕ) (front counts choice rest : List ℕ) → p ≡ length front → IsChoice counts choice
+    → length rest ≡ length counts → ((k : ℕ) → k < length rest → get_or rest k 0 ≡ 1)
+    → with_choices (digits_from p counts) (picked counts choice) (front ++ rest) ≡ front ++ choice
+spread p front (n ∷ counts) (a ∷ choice) (r ∷ rest) at h long ones =
+    let next = spread (p + 1) (front ++ a ∷ []) counts choice rest (grind (arith, length-append))
+    h.1 (omega (arith, long)) (λ k less. ones (suc k) (omega (arith, less))) in
+    let first = ones 0 (omega arith) in
+    grind (arith, next, first, append_assoc, set-append_seam)
+spread p front [] [] [] at h long ones = refl
+spread p front counts choice rest at h long ones = grind arith
 
 -- ---- before the first choice
 
@@ -317,13 +319,13 @@ module _ (g : Game) (game : IsGame g) (player : ℕ) (digits : List OwnDigit)
           levelled = rw (sym (sets_counted g player)) levelled;
           tells = λ n place from to among. told_by visits held n place place to among refl;
         };
-        wide = wide;
         inside = rw are (digits_inside 0 counts (length strategy) (omega (arith, wide)));
-        chosen = λ n place from to among elsewhere.
-            let within : place < length counts = omega (arith, among, wide) in
-            ones place within
-            ∙ sym (alone g game player n place (omega (arith, to, choices.end)) within
-            (elsewhere_alone 0 counts place place (omega arith) within (rw are at elsewhere)));
+        is = λ n from to.
+            let within : n < product counts = omega (arith, to, whole_counted) in
+            sym ((λ i. with_choices (are i) (choices_are n within i) strategy)
+            ∙ spread 0 [] counts (numbered g player n) strategy refl
+            (choice_at_number counts n within) wide
+            (λ place less. ones place (omega (arith, less, wide))));
       }
 
 -- ---- nothing is found yet

@@ -3,25 +3,20 @@
 use Rattle.gf_form.proofs.Common.{◌≡◌, AllByRecursion, is_relevant_at, if◌then◌else◌, action_counts}
 use Rattle.gf_form.proofs.Common.{ℕ, suc, ◌+◌, ◌<◌, ◌≤◌, ◌∷◌, ◌⊎◌, inl, inr, sym, drop, ◌&&◌, Game}
 use Rattle.gf_form.proofs.Common.{zero, Bool, true, List, refl, ap, arith, ◌==◌, ◌||◌, Level, Visit}
-use Rattle.gf_form.proofs.Common.{false, IsSearched, actions_of, is_settled, length-map, strategies}
-use Rattle.gf_form.proofs.Common.{[], choices_at, IsChosenAt, player_keys, is_relevant, digits_from}
-use Rattle.gf_form.proofs.Common.{length, get_or, IsFine, IsLevel, is_left, IsFirst, IsGame, is_met}
-use Rattle.gf_form.proofs.Common.{subst, IsChosen, OwnDigit, IsToldBy, digit_at, numbered, list_any}
-use Rattle.gf_form.proofs.Common.{◌∙◌, ◌-◌, ◌*◌, ◌/◌, ◌^◌}
-use Rattle.gf_form.proofs.Common.{cases_lt, drop-drop, steps_to, choice_at, can_be_met, AreFoundTo}
-use Rattle.gf_form.proofs.Common.{length-drop, all_choices, ArePositive, HaveChoices, AreFirstBelow}
-use Rattle.gf_form.proofs.Common.{div-lt_iff_lt-mul, mul-div_cancel_left, mul-le-mul_right, product}
-use Rattle.std.proofs.lemmas.List.{get_or-drop}
+use Rattle.gf_form.proofs.Common.{false, IsSearched, actions_of, is_settled, strategies, [], length}
+use Rattle.gf_form.proofs.Common.{choices_at, IsChosenAt, digits_from, get_or, IsFine, IsLevel, ◌∙◌}
+use Rattle.gf_form.proofs.Common.{is_left, IsFirst, IsGame, is_met, subst, IsChosen, OwnDigit, ◌-◌}
+use Rattle.gf_form.proofs.Common.{IsToldBy, digit_at, numbered, list_any, ◌*◌, ◌/◌, ◌^◌, cases_lt}
+use Rattle.gf_form.proofs.Common.{steps_to, can_be_met, AreFoundTo, length-drop, product, nat_lt}
+use Rattle.gf_form.proofs.Common.{all_choices, ArePositive, HaveChoices, AreFirstBelow, add-one}
+use Rattle.gf_form.proofs.Common.{div-lt_iff_lt-mul, mul-div_cancel_left, mul-le-mul_right}
 use Rattle.gf_form.proofs.lemmas.strategies.StrategiesByNumber.{choices_next, choices_row}
 use Rattle.gf_form.proofs.lemmas.strategies.StrategiesByNumber.{positive_parts}
-use Rattle.std.specs.Prelude.{nat_lt}
 use Rattle.std.proofs.lemmas.Bool.Decides.{nat_tests}
 use Rattle.gf_form.proofs.lemmas.rows.DigitChoices.{choice_at_number}
 use Rattle.gf_form.proofs.lemmas.strategies.ActionCounts.{choice_at as action_within}
-use Rattle.gf_form.proofs.lemmas.strategies.Choices.{length-all_choices}
-use Rattle.gf_form.proofs.lemmas.strategies.CountedActions.{sets_counted}
-use Rattle.gf_form.proofs.lemmas.reduced.FirstStrategies.{IsRepeated, flags_fit, passed_by}
-use Rattle.gf_form.proofs.lemmas.reduced.FirstStrategies.{repeated}
+use Rattle.gf_form.proofs.lemmas.strategies.Choices.{length-all_choices, long}
+use Rattle.gf_form.proofs.lemmas.reduced.FirstStrategies.{IsRepeated, passed_by, repeated}
 
 -- after those with the first action at the first digit, another one is chosen there
 other_action : (n : ℕ) (counts : List ℕ) (k : ℕ) → product counts ≤ k → k < n * product counts
@@ -124,23 +119,13 @@ module _ {g : Game} {player number count : ℕ} {d : OwnDigit} {faster : List Ow
 
 -- ---- the digit at a depth
 
-pub record IsHere (all : List OwnDigit) (depth : ℕ) (d : OwnDigit) (faster : List OwnDigit)
-    : Type 0 where
-  pub deep : depth < length all
-  pub rest : drop (depth + 1) all ≡ faster
-  pub is : digit_at all depth ≡ d
-
-pub digit_here : (all : List OwnDigit) (depth : ℕ) (d : OwnDigit) (faster : List OwnDigit)
-    → drop depth all ≡ d ∷ faster → IsHere all depth d faster
-digit_here all depth d faster left =
-    let none : OwnDigit = record { place = 0; step = 0; actions = 0 } in
-    let end : depth + 0 ≡ depth = omega arith in
-    record {
-      deep = omega (arith, ap length left, length-drop depth all);
-      rest = sym (drop-drop 1 depth all) ∙ ap (drop 1) left;
-      is = ap (λ (k : ℕ). digit_at all k) (sym end) ∙ sym (get_or-drop depth all 0 none)
-          ∙ ap (λ (ds : List OwnDigit). get_or ds 0 none) left;
-    }
+digit_here : (all : List OwnDigit) (depth : ℕ) (d : OwnDigit) (faster : List OwnDigit)
+    → drop depth all ≡ d ∷ faster
+    → (depth < length all) × (drop (depth + 1) all ≡ faster) × (digit_at all depth ≡ d)
+digit_here (x ∷ all) (suc depth) d faster left =
+    grind (arith, add-one, digit_here all depth d faster left)
+digit_here (x ∷ all) zero d faster left = grind arith
+digit_here [] depth d faster left = absurd (omega (arith, ap length left, length-drop {A = OwnDigit} depth []))
 
 pub no_digits : (digits : List OwnDigit) → length digits ≡ 0 → digits ≡ []
 no_digits [] e = refl
@@ -162,15 +147,15 @@ next_searched {g} {player} {number} {count} {depth} {all} {faster} {level} {d} b
     let here = digit_here all depth d faster below.rest in
     record {
       all_are = below.all_are;
-      rest = here.rest;
-      deep = omega (arith, here.deep);
+      rest = here.1;
+      deep = omega (arith, here.0);
       choices = next_choices below.choices before less;
       told = next_told_at below.choices before less below.told levelled depth
           (is_settled g player all (depth + 1)) chosen (λ n j from to.
           settled_more (is_relevant_at g player n (digit_at all j).place)
           (get_or (numbered g player n) (digit_at all j).place 0) j depth before
           (λ e. ap (λ (i : ℕ). get_or (numbered g player n) (digit_at all i).place 0) e
-          ∙ ap (λ (d : OwnDigit). get_or (numbered g player n) d.place 0) here.is
+          ∙ ap (λ (d : OwnDigit). get_or (numbered g player n) d.place 0) here.2
           ∙ chosen_there below.choices before less n from to));
     }
 
@@ -236,13 +221,6 @@ module _ (g : Game) (game : IsGame g) (player : ℕ) where
 
   abbrev all : List (List ℕ)
   all = strategies g player
-
-  pub long : (n : ℕ) → n < length all → length (numbered g player n) ≡ length counts
-  long n within =
-      sym (flags_fit g game player n within)
-      ∙ length-map (player_keys g player)
-      (is_relevant g (choice_at (player_keys g player) (numbered g player n)))
-      ∙ sym (sets_counted g player)
 
   -- the only action at a set
   pub alone : (n q : ℕ) → n < length all → q < length counts → get_or counts q 0 ≤ 1
@@ -335,7 +313,8 @@ module _ (g : Game) (game : IsGame g) (player : ℕ) where
         row : ℕ
         row = count / d.actions
 
-        here : IsHere digits depth d faster
+        here : (depth < length digits) × (drop (depth + 1) digits ≡ faster)
+            × (digit_at digits depth ≡ d)
         here = digit_here digits depth d faster below.rest
 
         by : (b : Bool) → get_or met depth false ≡ b
@@ -352,10 +331,10 @@ module _ (g : Game) (game : IsGame g) (player : ℕ) where
             let before_end : n < number + count = omega (arith, to, end) in
             let within : n < length all = omega (arith, before_end, below.choices.end) in
             let flag = unmet_flag (d ∷ faster) level depth number count below met marks n depth
-            (omega (arith, from)) before_end here.deep e in
+            (omega (arith, from)) before_end here.0 e in
             let at : (digit_at digits depth).place ≡ d.place =
-            ap (λ (d : OwnDigit). d.place) here.is in
+            ap (λ (d : OwnDigit). d.place) here.2 in
             repeated g game player n d.place within
-            (subst (λ (q : ℕ). q < length counts) at (place_inside depth here.deep))
+            (subst (λ (q : ℕ). q < length counts) at (place_inside depth here.0))
             (grind (arith, flag, at))
             (moved below.choices n from before_end)))

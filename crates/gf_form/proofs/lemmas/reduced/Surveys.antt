@@ -1,29 +1,22 @@
 -- A player's sets and the positions of their keys; and a survey of a tree, with what it has yet to
 -- find while it goes into branches.
-use Rattle.gf_form.proofs.Common.{◌≡◌, ℕ, zero, suc, List, ◌∷◌, Some, length, arith, ◌==◌}
-use Rattle.gf_form.proofs.Common.{get_or-numbers_from, numbers_from, unwrap_or-slice_get, ◌-◌}
-use Rattle.gf_form.proofs.Common.{at_position, slice_get, get_or, ◌∙◌, SetKey, same_set}
-use Rattle.gf_form.proofs.Common.{AreDistinct, has_at, same_set_equality, choice_at, ◌+◌, ◌*◌, ◌%◌}
-use Rattle.gf_form.proofs.Common.{◌^◌, Bool, true, false, [], ◌++◌, Option, None, refl, ap, Vec}
-use Rattle.gf_form.proofs.Common.{Global, ◌||◌, if◌then◌else◌, eqb-false, eqb-true, list_any}
-use Rattle.gf_form.proofs.Common.{list_any-append, length-append, branches_given, branches_left}
-use Rattle.gf_form.proofs.Common.{game_of_branches, player_keys, Game, IsGame, Node, flatten}
-use Rattle.gf_form.proofs.Common.{flatten_all, child_trees, list_of, root_node, Tree, Trees, branch}
-use Rattle.gf_form.proofs.Common.{none, more, FindsMore, sizes, survey_size, own_step, own_visit}
-use Rattle.gf_form.proofs.Common.{visits_at, visits_below, demanded, Open, Owner, Survey, Visit}
-use Rattle.gf_form.proofs.Common.{first_uses_distinct, sets_by_first_use, subst, sym, used_sets}
-use Rattle.gf_form.proofs.Common.{◌≤◌, IsNonDecreasingBy, mod-lt}
-use Rattle.gf_form.specs.inner.reduced.Visits.{order_of}
+use Rattle.gf_form.proofs.Common.{◌≡◌, ℕ, zero, suc, List, ◌∷◌, Some, length, arith, ◌==◌, ◌-◌, ◌∙◌}
+use Rattle.gf_form.proofs.Common.{get_or-numbers_from, numbers_from, unwrap_or-slice_get, slice_get}
+use Rattle.gf_form.proofs.Common.{at_position, get_or, SetKey, same_set, AreDistinct, has_at, ◌+◌}
+use Rattle.gf_form.proofs.Common.{same_set_equality, choice_at, ◌*◌, ◌%◌, ◌^◌, Bool, true, false}
+use Rattle.gf_form.proofs.Common.{[], ◌++◌, Option, None, refl, ap, Vec, Global, ◌||◌, eqb-false}
+use Rattle.gf_form.proofs.Common.{if◌then◌else◌, eqb-true, list_any, list_any-append, length-append}
+use Rattle.gf_form.proofs.Common.{branches_given, branches_left, game_of_branches, player_keys, sym}
+use Rattle.gf_form.proofs.Common.{Game, IsGame, Node, flatten, flatten_all, child_trees, list_of}
+use Rattle.gf_form.proofs.Common.{root_node, Tree, Trees, branch, none, more, FindsMore, sizes}
+use Rattle.gf_form.proofs.Common.{survey_size, own_step, own_visit, visits_at, visits_below, Open}
+use Rattle.gf_form.proofs.Common.{demanded, Owner, Survey, Visit, first_uses_distinct, subst}
+use Rattle.gf_form.proofs.Common.{sets_by_first_use, used_sets}
 use Rattle.std.proofs.lemmas.Option.{slice_get_within}
 use Rattle.gf_form.proofs.lemmas.values.Walks.{choice_there}
 use Rattle.gf_tree.specs.FirstUse.{sets_of}
 use Rattle.gf_tree.specs.declared.game.branches.Branches.{Branches}
-use Rattle.gf_form.specs.inner.reduced.Survey.{finds, list_visits, open_size, open_visits}
-use Rattle.std.specs.List.{All, dedup, dedup_from}
-use Rattle.std.proofs.lemmas.List.Sorted.{IsNonDecreasingBy-drop}
-use Rattle.std.proofs.lemmas.List.Elements.{All-tail}
-use Rattle.std.proofs.lemmas.Bool.{cond_both}
-use Rattle.std.proofs.lemmas.List.Filters.{All-dedup}
+use Rattle.gf_form.specs.inner.reduced.Survey.{finds, open_size, open_visits, trees_of}
 use Rattle.gf_form.proofs.lemmas.rows.PathsTold.{length-list_of}
 
 -- ---- positions
@@ -68,77 +61,23 @@ keys_distinct g game player = subst AreDistinct (sym (sets_by_first_use g player
 
 -- ---- the visits in a tree by the list of its children
 
-module _ (g : Game) (own : Owner) (demands : ℕ) where
-  below_list : (ts : Trees Node) (step taken k : ℕ) → visits_below g own demands step taken k ts
-      ≡ list_visits g own demands step taken k (list_of ts)
-  below_list none step taken k = refl
-  below_list (more t ts) step taken k = cc (below_list ts step taken (k + 1))
+trees_back : (ts : Trees Node) → trees_of (list_of ts) ≡ ts
+trees_back none = refl
+trees_back (more t ts) = ap (more t) (trees_back ts)
 
-  visits_there : (t : Tree Node) (key : SetKey) → (root_node t).set ≡ Some key
-      → visits_at g own demands t ≡ own_visit g own demands key
-      ++ list_visits g own demands (own_step g own key)
-      (demanded demands (own_step g own key) (length (child_trees t))) 1 (child_trees t)
-  visits_there (branch n ts) key is = grind (arith, below_list, length-list_of)
-
--- ---- each visit once
-
--- what a test finds is found again if neighbours that are equal are kept once
-module _ (same : Visit → Visit → Bool) (equal : (v w : Visit) → same v w ≡ true → v ≡ w)
-    (test : Visit → Bool) where
-  once_from : (v : Visit) (vs : List Visit)
-      → list_any test (dedup_from same v vs) ≡ list_any test (v ∷ vs)
-  once_from v [] = refl
-  once_from v (w ∷ vs) = grind (arith, equal w v, once_from v vs, once_from w vs)
-
-  pub each_once : (vs : List Visit) → list_any test (dedup same vs) ≡ list_any test vs
-  each_once [] = refl
-  each_once (v ∷ vs) = once_from v vs
-
--- and they stay in order of demands
-module _ (same : Visit → Visit → Bool) where
-  abbrev AreOrdered : List Visit → Type 0
-  AreOrdered vs = IsNonDecreasingBy (λ (v : Visit). v.demands) vs
-
-  abbrev IsBefore : Visit → Visit → Type 0
-  IsBefore v w = v.demands ≤ w.demands
-
-  one_before : (v : Visit) (vs : List Visit) → All (IsBefore v) vs → AreOrdered vs
-      → AreOrdered (v ∷ vs)
-  one_before v vs least ordered zero (suc j) d le less = least j d (omega (arith, less))
-  one_before v vs least ordered (suc i) (suc j) d le less =
-      ordered i j d (omega (arith, le)) (omega (arith, less))
-  one_before v vs least ordered i j d le less = grind arith
-
-  ordered_from : (v : Visit) (vs : List Visit) → All (IsBefore v) vs → AreOrdered vs
-      → AreOrdered (dedup_from same v vs)
-  ordered_from v [] least ordered = one_before v [] least ordered
-  ordered_from v (w ∷ vs) least ordered =
-      let next : All (IsBefore w) vs =
-      λ k d less. ordered 0 (suc k) d (omega arith) (omega (arith, less)) in
-      let later = IsNonDecreasingBy-drop (λ (u : Visit). u.demands) 1 (w ∷ vs) ordered in
-      cond_both (same w v) (dedup_from same v vs) (v ∷ dedup_from same w vs) AreOrdered
-      (λ _. ordered_from v vs (All-tail (IsBefore v) w vs least) later)
-      (λ _. one_before v _ (All-dedup same (IsBefore v) (w ∷ vs) least) (ordered_from w vs next later))
-
-  pub each_ordered : (vs : List Visit) → AreOrdered vs → AreOrdered (dedup same vs)
-  each_ordered [] ordered = ordered
-  each_ordered (v ∷ vs) ordered =
-      ordered_from v vs (λ k d less. ordered 0 (suc k) d (omega arith) (omega (arith, less)))
-      (IsNonDecreasingBy-drop (λ (u : Visit). u.demands) 1 (v ∷ vs) ordered)
-
--- visits in the order of the numbers by which they are sorted
-pub by_demands : (vs : List Visit) → IsNonDecreasingBy order_of vs
-    → IsNonDecreasingBy (λ (v : Visit). v.demands) vs
-by_demands vs sorted i j d le less =
-    let up = sorted i j d le less in
-    omega (arith, up, mod-lt)
+visits_there : (g : Game) (own : Owner) (demands : ℕ) (t : Tree Node) (key : SetKey)
+    → (root_node t).set ≡ Some key
+    → visits_at g own demands t ≡ own_visit g own demands key
+    ++ visits_below g own demands (own_step g own key)
+    (demanded demands (own_step g own key) (length (child_trees t))) 1 (trees_of (child_trees t))
+visits_there g own demands (branch n ts) key is = grind (arith, trees_back, length-list_of)
 
 -- ---- a node is opened
 
 first_visits : (own : Owner) (g h : Game) (demands step taken action k : ℕ)
     (ts rest : List (Tree Node)) → h ≡ g → rest ≡ ts → k ≡ 0 → action ≡ taken
-    → list_visits h own demands step action (k + 1) rest
-    ≡ list_visits g own demands step taken 1 ts
+    → visits_below h own demands step action (k + 1) (trees_of rest)
+    ≡ visits_below g own demands step taken 1 (trees_of ts)
 first_visits own g h demands step taken action k ts rest e f i j = rw (e, f, i, j) refl
 
 pub entered : (g : Game) → IsGame g → (own : Owner) (old new : Survey) (t : Tree Node)

@@ -1,12 +1,12 @@
 -- All choices at sets with this many actions each: every one is in the list, once and at its place.
-use Rattle.gf_form.proofs.Common.{◌≡◌, ℕ, zero, suc, ◌+◌, ◌-◌, ◌*◌, ◌/◌, ◌%◌, ◌<◌, ◌≤◌, List, []}
-use Rattle.gf_form.proofs.Common.{◌∷◌, get_or_default, length, map, get_or, refl, ◌∙◌, arith, ◌↔◌}
-use Rattle.gf_form.proofs.Common.{AllByRecursion, AllZip, Contains, flat_map, length-append}
-use Rattle.gf_form.proofs.Common.{length-map, get_or-map, get_or_append_left, recursion_from_All}
-use Rattle.gf_form.proofs.Common.{numbers_from, product, all_choices, div-add-mod, mod-lt}
-use Rattle.gf_form.proofs.Common.{div-lt_iff_lt-mul, mul-le-mul_right, All-from_recursion}
+use Rattle.gf_form.proofs.Common.{get_or_append_left, recursion_from_All, All-from_recursion, arith}
+use Rattle.gf_form.proofs.Common.{div-lt_iff_lt-mul, mul-le-mul_right, All-from_get_or, all_choices}
+use Rattle.gf_form.proofs.Common.{get_or_default, AllByRecursion, length-append, numbers_from, zero}
+use Rattle.gf_form.proofs.Common.{div-add-mod, AllZip-long, length-map, get_or-map, Contains, List}
+use Rattle.gf_form.proofs.Common.{flat_map, product, length, get_or, AllZip, mod-lt, refl, ◌≡◌, suc}
+use Rattle.gf_form.proofs.Common.{◌+◌, ◌-◌, ◌*◌, ◌/◌, ◌%◌, ◌<◌, ◌≤◌, ◌∷◌, map, ◌∙◌, ◌↔◌, sym, [], ℕ}
 use Rattle.std.proofs.lemmas.List.{get_or-append-add}
-use Rattle.std.proofs.lemmas.List.Elements.{All-contains, All-from_get_or}
+use Rattle.std.proofs.lemmas.List.Elements.{All-contains}
 
 -- the choices that begin with one of this many actions
 abbrev turned : ℕ → ℕ → List (List ℕ) → List (List ℕ)
@@ -97,6 +97,14 @@ choice_there (count ∷ counts) i less =
       ((omega arith, omega (arith, within)), others.0),
       grind (arith, others.1, div-add-mod i (product counts)),
     )
+
+pub choice_length : (counts s : List ℕ) → IsChoice counts s → length s ≡ length counts
+choice_length counts s h =
+    sym (AllZip-long (λ action count. (1 ≤ action) × (action ≤ count)) s counts h)
+
+pub long : (counts : List ℕ) (n : ℕ) → n < product counts
+    → length (get_or (all_choices counts) n []) ≡ length counts
+long counts n less = choice_length counts _ (choice_there counts n less).0
 
 pub place_at : (counts : List ℕ) (i : ℕ) → i < length (all_choices counts)
     → place counts (get_or (all_choices counts) i []) ≡ i

@@ -1,9 +1,10 @@
 -- What is counted for each player, by his place from 0.
-use Rattle.gf_form.proofs.Common.{◌≡◌, ◌+◌, ◌<◌, ℕ, List, [], Vec, Global, length, map, get_or}
+use Rattle.gf_form.proofs.Common.{◌≡◌, ◌+◌, ◌<◌, ℕ, List, [], Vec, Global, length, map, get_or, ◌∙◌}
 use Rattle.gf_form.proofs.Common.{arith, get_or_default_zero, get_or-map, length-map, product, Game}
 use Rattle.gf_form.proofs.Common.{AreCounts, action_counts, strategies, Counts}
 use Rattle.gf_form.proofs.lemmas.strategies.Choices.{length-all_choices}
 use Rattle.gf_form.proofs.lemmas.strategies.CountedActions.{as_many_players, of_player}
+use Rattle.gf_form.proofs.lemmas.strategies.CountedActions.{some_strategy}
 
 -- what is read at a place of a list of lists
 pub own_read : (all : List (Vec ℕ Global)) (i : ℕ) (own : Vec ℕ Global) (held : List ℕ)
@@ -30,22 +31,34 @@ module _ (g : Game) (c : Counts) (counts : AreCounts g c) where
       → get_or c.strategies.items i 0 ≡ length (strategies g (i + 1))
   count_of i less = grind (arith, of_player, all_counted)
 
--- what is read of the player at a place: how many strategies he has, and how many actions at each
--- of his sets
-pub record Read (c : Counts) (i whole : ℕ) (own : Vec ℕ Global) (actions : List ℕ) : Type 0 where
-  pub within : i < length c.actions.items
-  pub whole_is : whole ≡ get_or c.strategies.items i whole
-  pub own_is : own ≡ get_or c.actions.items i own
-  pub actions_are : actions ≡ own.items
+  -- what is read of the player at a place
+  pub given : (i whole : ℕ) (own : Vec ℕ Global) (actions : List ℕ) → i < length c.actions.items
+      → own ≡ get_or c.actions.items i own → actions ≡ own.items
+      → whole ≡ get_or c.strategies.items i whole
+      → (actions ≡ action_counts g (i + 1)) × (whole ≡ product (action_counts g (i + 1)))
+  given i whole own actions less own_is actions_are whole_is = (
+    own_read c.actions.items i own actions less own_is actions_are ∙ actions_of i less,
+    grind (
+      arith,
+      get_or_default_zero,
+      count_of,
+      all_counted,
+      strategies_counted,
+      length-all_choices,
+    ),
+  )
 
-module _ (g : Game) (c : Counts) (counts : AreCounts g c) (i whole : ℕ) (own : Vec ℕ Global)
-    (actions : List ℕ) (read : Read c i whole own actions) where
-  pub read_actions : actions ≡ get_or (actions_in c) i []
-  read_actions = own_read c.actions.items i own actions read.within read.own_is read.actions_are
+  pub some_given : (i whole : ℕ) → i < length c.actions.items
+      → whole ≡ get_or c.strategies.items i whole → 0 < whole
+  some_given i whole less is =
+      grind (
+        arith,
+        get_or_default_zero,
+        count_of,
+        all_counted,
+        strategies_counted,
+        some_strategy,
+        counts.is_game,
+      )
 
-  pub read_count : whole ≡ length (strategies g (i + 1))
-  read_count = grind (arith, get_or_default_zero, count_of, length-map)
-
-  -- as many strategies as choices of actions
-  pub read_whole : whole ≡ product actions
-  read_whole = grind (arith, read_count, length-all_choices, actions_of, read_actions)
+pub ruleset given_steps = (given, some_given, all_counted, strategies_counted)

@@ -1,12 +1,11 @@
 -- What is found in a list whose elements all have a property.
-use Rattle.gf_form.proofs.Common.{refl, ◌<◌, length, map, numbers_from, ◌≡◌, ℕ, suc, Bool, true}
-use Rattle.gf_form.proofs.Common.{List, [], ◌∷◌, Option, MatchOption, ap, ◌∙◌, ◌≤◌, ◌-◌, ◌+◌}
-use Rattle.gf_form.proofs.Common.{get_or, arith, option_map, unwrap_or, option_and_then, slice_get}
-use Rattle.gf_form.proofs.Common.{⊤, AllByRecursion, unwrap_or-slice_get, at_position, strategy_at}
-use Rattle.gf_form.proofs.Common.{all_images, all_of_each, subst, AllZip, AllZip-long, positions}
-use Rattle.gf_form.proofs.Common.{get_or-numbers_from, length-numbers_from, flat_map, ◌++◌, ◌↔◌}
-use Rattle.gf_form.proofs.Common.{Some, zero, IsFirstWithout}
-use Rattle.std.specs.List.{find}
+use Rattle.gf_form.proofs.Common.{refl, ◌<◌, length, map, numbers_from, ◌≡◌, ℕ, suc, Bool, true, []}
+use Rattle.gf_form.proofs.Common.{List, ◌∷◌, Option, MatchOption, ap, ◌∙◌, ◌≤◌, ◌-◌, ◌+◌, get_or, ⊤}
+use Rattle.gf_form.proofs.Common.{arith, option_map, unwrap_or, option_and_then, slice_get, subst}
+use Rattle.gf_form.proofs.Common.{AllByRecursion, unwrap_or-slice_get, at_position, strategy_at}
+use Rattle.gf_form.proofs.Common.{all_images, all_of_each, AllZip, AllZip-long, positions, flat_map}
+use Rattle.gf_form.proofs.Common.{get_or-numbers_from, length-numbers_from, ◌++◌, ◌↔◌, Some, zero}
+use Rattle.gf_form.proofs.Common.{IsFirstWithout, find, has, Has, get_or_default}
 
 -- a property of what there is, if there is something
 abbrev pub Each : {A : Type 0} → (A → Type 0) → Option A → Type 0
@@ -44,6 +43,10 @@ each_weaker P Q o weaker h = grind arith
 pub each_or : {A : Type 0} (P : A → Type 0) (o : Option A) (default : A) → P default → Each P o
     → P (unwrap_or o default)
 each_or P o default d h = grind arith
+
+pub there : {A : Type 0} (xs : List A) (i : ℕ) (d : A) → i < length xs → Has xs (get_or xs i d)
+there xs i d less =
+    has xs (get_or xs i d) (i, less, get_or_default xs i (get_or xs i d) d less)
 
 -- ---- positions
 

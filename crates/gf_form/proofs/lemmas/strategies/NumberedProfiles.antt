@@ -1,19 +1,15 @@
 -- The strategies of the profile with a number: those of one player after another, each by what is
 -- left of the number, and how they are written.
 use Rattle.gf_form.proofs.Common.{◌≡◌, ℕ, ◌/◌, ◌%◌, ◌<◌, List, [], ◌∷◌, length, map, get_or, arith}
-use Rattle.gf_form.proofs.Common.{refl, sym, ap, subst, ◌∙◌, add-one, zip, div-lt_iff_lt-mul}
-use Rattle.gf_form.proofs.Common.{mul_comm, unwrap_or-slice_get, product, profiles, Game}
-use Rattle.gf_form.proofs.Common.{action_counts, all_choices, strategies, strategy_at, ◌+◌, ◌≤◌}
-use Rattle.gf_form.proofs.Common.{◌++◌, append_assoc, drop, take, drop_of_length-le, drop-cons}
-use Rattle.gf_form.proofs.Common.{get_or_default_zero, mod-lt, append-nil, length-map, length-set}
-use Rattle.gf_form.proofs.Common.{take_more_set, length-profiles, AreCounts, full_profiles, Counts}
+use Rattle.gf_form.proofs.Common.{refl, sym, ap, subst, ◌∙◌, add-one, zip, div-lt_iff_lt-mul, Game}
+use Rattle.gf_form.proofs.Common.{mul_comm, unwrap_or-slice_get, product, profiles, action_counts}
+use Rattle.gf_form.proofs.Common.{all_choices, strategies, strategy_at, ◌+◌, ◌≤◌, ◌++◌, drop, take}
+use Rattle.gf_form.proofs.Common.{append_assoc, drop_of_length-le, drop-cons, mod-lt, append-nil}
+use Rattle.gf_form.proofs.Common.{length-map, length-set, take_more_set, length-profiles, set}
 use Rattle.gf_form.proofs.lemmas.strategies.Choices.{length-all_choices}
-use Rattle.gf_form.proofs.lemmas.strategies.PickedProfiles.{profiles_next, some_factor}
+use Rattle.gf_form.proofs.lemmas.strategies.PickedProfiles.{profiles_next}
 use Rattle.gf_form.proofs.lemmas.strategies.StrategiesByNumber.{positive_parts}
-use Rattle.std.proofs.Math.ListN.{set}
-use Rattle.gf_form.proofs.lemmas.strategies.CountedActions.{strategy_counts, take_past}
-use Rattle.gf_form.proofs.lemmas.strategies.CountsGiven.{all_counted, read_whole}
-use Rattle.gf_form.proofs.lemmas.strategies.CountsGiven.{strategies_counted}
+use Rattle.gf_form.proofs.lemmas.strategies.CountedActions.{take_past}
 
 -- the strategies of the profile with this number, if players have this many actions at their sets
 abbrev pub numbered : List (List ℕ) → ℕ → List (List ℕ)
@@ -61,22 +57,7 @@ pub last_written : (actions : List (List ℕ)) (number i rest : ℕ) (all : List
 last_written actions number i rest all h past =
     grind (arith, take_past, append-nil, drop_of_length-le)
 
--- each player has a strategy, if there is a profile
-pub some_strategy : (g : Game) (c : Counts) → AreCounts g c → (number i whole : ℕ)
-    → number < length (full_profiles g) → i < length c.actions.items
-    → whole ≡ get_or c.strategies.items i whole → 0 < whole
-some_strategy g c counts number i whole less within is =
-    subst (λ (n : ℕ). 0 < n)
-    (sym (is ∙ get_or_default_zero c.strategies.items i whole inside))
-    (some_factor c.strategies.items number i
-    (omega (arith, less, ap product counts.strategies, length-profiles (strategy_counts g))) inside)
-  where
-    inside : i < length c.strategies.items
-    inside = omega (arith, within, all_counted g c counts, strategies_counted g c counts)
-
 pub ruleset written_steps = (
-  some_strategy,
-  read_whole,
   mod-lt,
   last_written,
   numbered_strategies,

@@ -1,13 +1,13 @@
 -- The profiles of some strategies of each player, and their numbers among all profiles.
 use Rattle.gf_form.proofs.Common.{◌≡◌, IsPicked, Contains, flat_map, mul_comm, IsProfile, AreCounts}
-use Rattle.gf_form.proofs.Common.{ℕ, ap}
-use Rattle.gf_form.proofs.Common.{suc, List, get_or, zero, drop, AllZip, profiles, Counts, AreBelow}
-use Rattle.gf_form.proofs.Common.{◌+◌, ◌-◌, ◌*◌, ◌/◌, ◌%◌, ◌<◌, ◌≤◌, [], ◌∷◌, map, sym, ◌∙◌, Game}
-use Rattle.gf_form.proofs.Common.{ArePicked, all_weaker, positions, product, players_of, strategies}
-use Rattle.gf_form.proofs.Common.{length, length-numbers_from, AreProfileNumbers, numbered_profiles}
-use Rattle.gf_form.proofs.Common.{arith, every_profile, AreStrategies, action_counts, full_profiles}
-use Rattle.gf_form.proofs.Common.{AllByRecursion, mul-le-mul_right, get_or_default, length-profiles}
-use Rattle.gf_form.proofs.Common.{mod-add-div, get_or-map, length-map, numbers_from, strategies_at}
+use Rattle.gf_form.proofs.Common.{ℕ, ap, suc, List, get_or, zero, drop, AllZip, profiles, Counts}
+use Rattle.gf_form.proofs.Common.{AreBelow, ◌+◌, ◌-◌, ◌*◌, ◌/◌, ◌%◌, ◌<◌, ◌≤◌, [], ◌∷◌, map, sym}
+use Rattle.gf_form.proofs.Common.{◌∙◌, Game, ArePicked, all_weaker, positions, product, players_of}
+use Rattle.gf_form.proofs.Common.{strategies, length, length-numbers_from, AreProfileNumbers, arith}
+use Rattle.gf_form.proofs.Common.{numbered_profiles, every_profile, AreStrategies, action_counts}
+use Rattle.gf_form.proofs.Common.{full_profiles, AllByRecursion, mul-le-mul_right, get_or_default}
+use Rattle.gf_form.proofs.Common.{length-profiles, mod-add-div, get_or-map, length-map}
+use Rattle.gf_form.proofs.Common.{numbers_from, strategies_at}
 use Rattle.gf_nfg.specs.ProfilePlaces.{place}
 use Rattle.gf_nfg.proofs.lemmas.tables.Profiles.{are_profiles, place_at}
 use Rattle.gf_form.proofs.lemmas.strategies.Lookups.{in_turn, zip_flat}
@@ -40,13 +40,6 @@ pub profiles_next : (count : ℕ) (counts : List ℕ) (rest : ℕ)
     → 0 < count → rest < count * product counts → get_or (profiles (count ∷ counts)) rest []
     ≡ (rest % count + 1) ∷ get_or (profiles counts) (rest / count) []
 profiles_next count counts rest some below = grind (arith, mul_comm, below, mod-add-div, profile_at)
-
--- what the factors of a number that is above another are
-pub some_factor : (counts : List ℕ) (number i : ℕ) → number < product counts → i < length counts
-    → 0 < get_or counts i 0
-some_factor (c ∷ counts) number (suc i) h less =
-    some_factor counts 0 i (positive_parts c (product counts) number h).1 (omega (arith, less))
-some_factor counts number i h less = grind arith
 
 -- ---- full profiles
 

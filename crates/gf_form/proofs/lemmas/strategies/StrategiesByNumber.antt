@@ -1,20 +1,21 @@
 -- The strategy with a number: one action after another, each by what is left of the number.
-use Rattle.gf_form.proofs.Common.{◌≡◌, suc, ◌+◌, ◌-◌, ◌*◌, ◌/◌, ◌++◌, take, drop, refl, true, ◌==◌}
-use Rattle.gf_form.proofs.Common.{ℕ, AllByRecursion, flat_map-append, length-append, strategy_label}
-use Rattle.gf_form.proofs.Common.{◌%◌, ◌<◌, ◌≤◌, ◌∷◌, map, sym, ap, ◌∙◌, ◌^◌}
-use Rattle.gf_form.proofs.Common.{List, add-one, flat_map, drop-cons, take-suc, all_both, mul_assoc}
-use Rattle.gf_form.proofs.Common.{[], append_assoc, append-nil, map-append, all_choices, All-get_or}
-use Rattle.gf_form.proofs.Common.{length, mul-div_cancel_left, take-append_seam, All-from_recursion}
-use Rattle.gf_form.proofs.Common.{get_or, subst, arith, false, decimal, mod-lt, product, IsPlain}
+use Rattle.gf_form.proofs.Common.{◌≡◌, suc, ◌+◌, ◌*◌, ◌/◌, ◌++◌, take, drop, refl, true, ◌==◌, ℕ}
+use Rattle.gf_form.proofs.Common.{AllByRecursion, strategy_label, ◌%◌, ◌<◌, ◌≤◌, ◌∷◌, map, sym, ap}
+use Rattle.gf_form.proofs.Common.{◌∙◌, ◌^◌, List, add-one, drop-cons, take-suc, all_both, mul_assoc}
+use Rattle.gf_form.proofs.Common.{[], append_assoc, map-append, all_choices, All-get_or, length}
+use Rattle.gf_form.proofs.Common.{mul-div_cancel_left, All-from_recursion, get_or, subst, arith}
+use Rattle.gf_form.proofs.Common.{false, decimal, mod-lt, product, IsPlain, reduced_label, shown}
+use Rattle.gf_form.proofs.Common.{choice_text, map_twice, Bool, Option, Some, None, zero}
+use Rattle.gf_form.proofs.Common.{join_with_byte, if◌then◌else◌}
 use Rattle.std.specs.Str.Parse.{AllDigits}
 use Rattle.std.proofs.lemmas.Bool.Decides.{nat_tests}
 use Rattle.std.proofs.lemmas.Fmt.{decimal_is_IsNumeral_wide}
 use Rattle.gf_token.specs.LabelSpelling.{is_spelling_after, IsLabel}
 use Rattle.gf_form.proofs.lemmas.strategies.CountedActions.{take_past}
-pub use Rattle.gf_form.proofs.lemmas.strategies.Choices.{choices_next, choices_row, positive_parts}
-use Rattle.gf_form.proofs.lemmas.strategies.Choices.{IsChoice, are_choices, at_its_place}
-use Rattle.gf_form.proofs.lemmas.strategies.Choices.{length-all_choices, place, place_at}
+use Rattle.gf_form.proofs.lemmas.strategies.Choices.{IsChoice, are_choices, at_its_place, place}
+use Rattle.gf_form.proofs.lemmas.strategies.Choices.{length-all_choices, place_at, long}
 use Rattle.gf_form.proofs.lemmas.rows.DigitPlaces.{product_joined}
+pub use Rattle.gf_form.proofs.lemmas.strategies.Choices.{choices_next, choices_row, positive_parts}
 
 pub all_at : {A : Type 0} (P : A → Type 0) (xs : List A) (i : ℕ) (d : A) → AllByRecursion P xs
     → i < length xs → P (get_or xs i d)
@@ -73,39 +74,43 @@ goes_on counts number i stride rest count strategy h less is =
 
 -- ---- labels
 
--- each action with a dash after it
-abbrev pub dashed : List ℕ → List ℕ
-dashed strategy = flat_map (λ action. decimal action ++ 45 ∷ []) strategy
+-- the choice at a place
+abbrev pub choice_in : List Bool → List ℕ → ℕ → Option ℕ
+choice_in flags s i = if get_or flags i false then Some (get_or s i 0) else None
 
-pub dashed_more : (strategy : List ℕ) (i action : ℕ) → i < length strategy
-    → action ≡ get_or strategy i 0
-    → (dashed (take i strategy) ++ decimal action) ++ 45 ∷ [] ≡ dashed (take (i + 1) strategy)
-dashed_more strategy i action less is =
-    let taken = take-suc strategy i 0 less in
-    let more = flat_map-append (λ (action : ℕ). decimal action ++ 45 ∷ []) (take i strategy)
-    (action ∷ []) in
-    grind (arith, taken, more, add-one i, append_assoc, append-nil)
+-- one choice more
+pub label_more : (flags : List Bool) (s : List ℕ) (i : ℕ) → i < length s
+    → length flags ≡ length s → 0 < i → reduced_label (take (i + 1) (shown flags s))
+    ≡ (reduced_label (take i (shown flags s)) ++ 45 ∷ []) ++ choice_text (choice_in flags s i)
+label_more (f ∷ flags) (a ∷ s) (suc (suc i)) less same some =
+    grind (arith, append_assoc, label_more flags s (suc i) (omega (arith, less)) (omega (arith, same)))
+label_more (f ∷ g ∷ flags) (a ∷ b ∷ s) (suc zero) less same some = grind (arith, append_assoc)
+label_more flags s i less same some = absurd (grind arith)
 
--- after the last action stands one dash too many
-pub dash_last : (action : ℕ) (strategy : List ℕ)
-    → dashed (action ∷ strategy) ≡ strategy_label (action ∷ strategy) ++ 45 ∷ []
-dash_last action [] = append-nil (decimal action ++ 45 ∷ [])
-dash_last action (next ∷ strategy) = grind (arith, dash_last next strategy, append_assoc)
+pub first_label : (flags : List Bool) (s : List ℕ) (i : ℕ) → i < length s
+    → length flags ≡ length s → i ≡ 0 → reduced_label (take (i + 1) (shown flags s))
+    ≡ choice_text (choice_in flags s i)
+first_label (f ∷ flags) (a ∷ s) zero less same none = refl
+first_label flags s i less same none = absurd (grind arith)
 
--- without that dash it is the label
-pub dash_removed : (strategy bytes new : List ℕ) (n : ℕ) → bytes ≡ dashed strategy
-    → n ≡ length bytes → new ≡ take (n - 1) bytes → new ≡ strategy_label strategy
-dash_removed [] bytes new n is counted rest = grind arith
-dash_removed (action ∷ strategy) bytes new n is counted rest =
-    let label = strategy_label (action ∷ strategy) in
-    let whole : bytes ≡ label ++ 45 ∷ [] = is ∙ dash_last action strategy in
-    let front : n - 1 ≡ length label = grind (arith, length-append label (45 ∷ [])) in
-    rest ∙ (λ i. take (front i) (whole i)) ∙ take-append_seam label (45 ∷ [])
+pub length-shown : (flags : List Bool) (s : List ℕ) → length (shown flags s) ≤ length s
+length-shown (f ∷ flags) (a ∷ s) = omega (arith, length-shown flags s)
+length-shown flags s = grind arith
 
-pub all_taken : {A : Type 0} (P : A → Type 0) (n : ℕ) (xs : List A) → AllByRecursion P xs
-    → AllByRecursion P (take n xs)
-all_taken P (suc n) (x ∷ xs) h = (h.0, all_taken P n xs h.1)
-all_taken P n xs h = grind arith
+-- with all choices it is the label of the strategy
+all_shown : (flags : List Bool) (s : List ℕ) → length flags ≡ length s
+    → ((k : ℕ) → k < length s → get_or flags k false ≡ true) → shown flags s ≡ map Some s
+all_shown (f ∷ flags) (a ∷ s) same all =
+    grind (arith, all 0, all_shown flags s (omega (arith, same)) (λ k less. all (suc k) (omega (arith, less))))
+all_shown [] [] same all = refl
+all_shown flags s same all = grind arith
+
+pub whole_label : (flags : List Bool) (s : List ℕ) → length flags ≡ length s
+    → ((k : ℕ) → k < length s → get_or flags k false ≡ true)
+    → reduced_label (shown flags s) ≡ strategy_label s
+whole_label flags s same all =
+    ap reduced_label (all_shown flags s same all)
+    ∙ ap (join_with_byte 45) (map_twice (λ (choice : Option ℕ). choice_text choice) Some s)
 
 -- ---- the labels so far
 
@@ -148,7 +153,8 @@ plain_label bytes h = plain_behind 34 bytes refl h
 
 -- ---- what the steps of the code need
 
-pub ruleset text_steps =
-    (dashed_more, all_both, plain_number, dash_removed, take_past, plain_label, all_taken)
+pub ruleset choice_steps = (all_both, plain_number)
 
-pub ruleset label_steps = (one_label_more, length-all_choices, take_past)
+pub ruleset text_steps = (label_more, first_label, length-shown, all_both, take_past, plain_label)
+
+pub ruleset label_steps = (one_label_more, length-all_choices, take_past, whole_label, long)

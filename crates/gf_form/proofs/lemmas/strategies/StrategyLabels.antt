@@ -1,17 +1,16 @@
 -- The labels of strategies: they differ, and those of all sets are joined from those of some and of
 -- the others.
-use Rattle.gf_form.proofs.Common.{◌≡◌, ◌+◌, ◌%◌, ◌^◌, List, [], ◌++◌, drop, refl, arith, Some, take}
-use Rattle.gf_form.proofs.Common.{ℕ, ◌<◌, ◌≤◌, ◌∷◌, map, ap, sym, ◌∙◌, suc, ◌*◌}
-use Rattle.gf_form.proofs.Common.{length, get_or, decimal, all_both, all_weaker, slice_get, product}
-use Rattle.gf_form.proofs.Common.{AllByRecursion, join_with_byte, decimal_injective, get_or_default}
-use Rattle.gf_form.proofs.Common.{length-map, all_images, all_choices, strategy_label, append_assoc}
+use Rattle.gf_form.proofs.Common.{decimal_injective, AllByRecursion, join_with_byte, get_or_default}
+use Rattle.gf_form.proofs.Common.{strategy_label, append_assoc, all_choices, all_weaker, length-map}
+use Rattle.gf_form.proofs.Common.{all_images, slice_get, all_both, decimal, product, length, get_or}
+use Rattle.gf_form.proofs.Common.{arith, List, ◌++◌, drop, refl, Some, take, ◌≡◌, ◌+◌, ◌%◌, ◌^◌, []}
+use Rattle.gf_form.proofs.Common.{◌<◌, ◌≤◌, ◌∷◌, map, sym, ◌∙◌, suc, ◌*◌, ap, ℕ}
 use Rattle.std.proofs.lemmas.Fmt.{decimal_by_steps}
-use Rattle.gf_form.proofs.lemmas.strategies.Choices.{IsChoice, every_choice, choices_distinct}
-use Rattle.gf_form.proofs.lemmas.strategies.Choices.{are_choices, length-all_choices}
+use Rattle.gf_form.proofs.lemmas.strategies.Choices.{IsChoice, every_choice, choices_distinct, long}
+use Rattle.gf_form.proofs.lemmas.strategies.Choices.{length-all_choices}
 use Rattle.gf_form.proofs.lemmas.strategies.CountedActions.{take_past}
 use Rattle.gf_form.proofs.lemmas.rows.DigitPlaces.{product_joined}
-use Rattle.gf_form.proofs.lemmas.reduced.FirstStrategies.{choice_length}
-use Rattle.gf_form.proofs.lemmas.strategies.StrategiesByNumber.{all_at, joined_at, one_label_more}
+use Rattle.gf_form.proofs.lemmas.strategies.StrategiesByNumber.{joined_at, one_label_more}
 
 -- none of these bytes is a dash
 abbrev pub AreUndashed : List ℕ → Type 0
@@ -107,10 +106,6 @@ got : (xs : List (List ℕ)) (i : ℕ) (v : List ℕ) → slice_get (map strateg
     → i < length xs → v ≡ strategy_label (get_or xs i [])
 got (x ∷ xs) (suc i) v e less = got xs i v e (omega (arith, less))
 got xs i v e less = grind arith
-
-long : (counts : List ℕ) (n : ℕ) → n < product counts
-    → length (get_or (all_choices counts) n []) ≡ length counts
-long counts n less = grind (arith, choice_length, all_at, are_choices, length-all_choices)
 
 -- labels of strategies, made from this many first ones with all others, and from one more with this
 -- many

@@ -39,11 +39,12 @@ pub record HaveBelow (visits : List Visit) (number count : ℕ) : Type 0 where
       → number ≤ (get_or visits k d).demands
 
 -- the second level has in addition what is left of these visits if this action is chosen
-abbrev pub AddsLeft : ℕ → ℕ → List Visit → Level → Level → Type 0
-AddsLeft step action visits before after = (place : ℕ) (steps choices : List ℕ)
-    → place < length before.known.items → ArePositive steps → is_left place steps choices after
-    ≡ (is_left place steps choices before
-    || is_met place (step ∷ steps) (action ∷ choices) visits)
+pub record AddsLeft (step action : ℕ) (visits : List Visit) (before after : Level) : Type 0 where
+  pub counted : length after.known.items ≡ length before.known.items
+  pub adds : (place : ℕ) (steps choices : List ℕ) → place < length before.known.items
+      → ArePositive steps → is_left place steps choices after
+      ≡ (is_left place steps choices before
+      || is_met place (step ∷ steps) (action ∷ choices) visits)
 
 -- the second level is what is left of the first if this action is chosen
 abbrev pub IsChosen : ℕ → ℕ → Level → Level → Type 0

@@ -1,6 +1,6 @@
 -- A search for the first strategies of a player, digit by digit, and another one for their labels.
 use Rattle.std.specs.Prelude.{◌≡◌, ◌≤◌, ◌<◌, ◌+◌, ◌*◌, ◌^◌, ◌==◌, ◌&&◌, ◌||◌, ℕ, Bool, false}
-use Rattle.std.specs.Prelude.{List, [], ◌∷◌, ⊤, drop, get_or, length, map, nat_lt, take}
+use Rattle.std.specs.Prelude.{List, [], ◌∷◌, ⊤, drop, get_or, length, map, nat_lt, set, take}
 use Rattle.std.specs.List.{AllByRecursion}
 use Rattle.gf_nfg.specs.Profiles.{product}
 use Rattle.std.specs.Cmp.Lexicographic.{pointwise}
@@ -9,7 +9,7 @@ use Rattle.gf_tree.specs.FirstUse.{player_keys}
 use Rattle.gf_tree.specs.Game.{Game}
 use Rattle.gf_form.specs.Reduced.{reduced, reduced_label, same_choice}
 use Rattle.gf_form.specs.Strategies.{action_counts, all_choices, strategies}
-use Rattle.gf_form.specs.inner.reduced.Levels.{IsLevel, can_be_met, is_left}
+use Rattle.gf_form.specs.inner.reduced.Levels.{IsLevel, is_left}
 use Rattle.gf_form.specs.inner.reduced.OwnDigits.{digits_from}
 use Rattle.gf_form.specs.inner.reduced.Shown.{relevant_sets}
 use Rattle.gf_form.specs.inner.reduced.Visits.{is_met}
@@ -36,9 +36,11 @@ pub record IsFine (d : OwnDigit) : Type 0 where
   pub actions : 0 < d.actions
   pub fits : d.actions * d.step + d.step < 2 ^ 64
 
--- the set at a place, from 0, has none of these digits
-abbrev pub IsElsewhere : ℕ → List OwnDigit → Type 0
-IsElsewhere place digits = AllByRecursion (λ d. ¬ (d.place ≡ place)) digits
+-- a strategy with other choices at these digits
+abbrev pub with_choices : List OwnDigit → List ℕ → List ℕ → List ℕ
+with_choices (d ∷ digits) (choice ∷ choices) strategy =
+    with_choices digits choices (set strategy d.place choice)
+with_choices _ _ strategy = strategy
 
 -- those of these visits that are to sets with a digit, each to the place of the digit
 abbrev pub AreOwn : List OwnDigit → List Visit → List Visit → Type 0
@@ -127,32 +129,16 @@ pub record AreFoundTo (g : Game) (player : ℕ) (numbers : List ℕ) (number : �
 
 -- ---- labels
 
--- The digits but these are chosen, by a strategy too, which is right at each set that has none of
--- these.
+-- The digits but these are chosen, by a strategy too, which is right but for its choices at these.
 pub record IsWritten (g : Game) (player : ℕ) (digits : List OwnDigit) (strategy : List ℕ)
     (level : Level) (number count : ℕ) : Type 0
   where
     pub choices : HaveChoices g player digits number count
     pub told : IsToldBy g player digits (is_relevant_at g player) (length (player_keys g player))
         level number count
-    pub wide : length strategy ≡ length (action_counts g player)
     pub inside : AllByRecursion (λ d. d.place < length strategy) digits
-    pub chosen : (n place : ℕ) → number ≤ n → n < number + count → place < length strategy
-        → IsElsewhere place digits → get_or strategy place 0 ≡ get_or (numbered g player n) place 0
-
--- with all digits chosen there is one strategy, and the level tells which sets are relevant
-pub record IsLast (g : Game) (player : ℕ) (strategy : List ℕ) (level : Level) (number : ℕ) : Type 0
-  where
-    pub levelled : IsLevel (length strategy) level
-    pub within : number < length (strategies g player)
-    pub is : strategy ≡ numbered g player number
-    pub met : (place : ℕ) → place < length strategy
-        → is_relevant_at g player number place ≡ can_be_met place level
-
--- a strategy with other choices at these digits alone
-pub record IsKept (digits : List OwnDigit) (old new : List ℕ) : Type 0 where
-  pub wide : length new ≡ length old
-  pub same : (place : ℕ) → IsElsewhere place digits → get_or new place 0 ≡ get_or old place 0
+    pub is : (n : ℕ) → number ≤ n → n < number + count
+        → numbered g player n ≡ with_choices digits (choices_at g player digits n) strategy
 
 -- the labels of the first of the strategies with these numbers, all of which are before a number
 pub record AreLabelledTo (g : Game) (player : ℕ) (numbers : List ℕ) (labels : List (List ℕ))

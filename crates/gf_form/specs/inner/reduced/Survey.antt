@@ -52,20 +52,16 @@ abbrev mutual
       else [])
       ++ visits_below g own demands step taken (k + 1) ts
 
--- the same in a list of children
-abbrev pub list_visits : Game → Owner → ℕ → ℕ → ℕ → ℕ → List (Tree Node) → List Visit
-list_visits g own demands step taken k [] = []
-list_visits g own demands step taken k (t ∷ ts) =
-    (if taken == 0 then visits_at g own ((demands + k * step) % 2 ^ 64) t
-    else if k == taken then visits_at g own demands t
-    else [])
-    ++ list_visits g own demands step taken (k + 1) ts
+-- the children in a list
+abbrev pub trees_of : List (Tree Node) → Trees Node
+trees_of [] = none
+trees_of (t ∷ ts) = more t (trees_of ts)
 
 -- those below an open node, in the branches that are left
 abbrev pub open_visits : Owner → Open → List Visit
 open_visits own o =
-    list_visits (game_of_branches o.rest) own o.demands o.step o.taken (branches_given o.rest + 1)
-    (branches_left o.rest)
+    visits_below (game_of_branches o.rest) own o.demands o.step o.taken (branches_given o.rest + 1)
+    (trees_of (branches_left o.rest))
 
 -- a visit that passes the test was found, or is below an open node
 abbrev pub finds : Owner → (Visit → Bool) → Survey → Bool

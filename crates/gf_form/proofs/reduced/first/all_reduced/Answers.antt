@@ -1,30 +1,23 @@
 use Rattle.gf_form.proofs.Common.{◌<◌, ◌∷◌, ◌∙◌, [], ℕ, List, Vec, Global, ap, arith, length, map}
 use Rattle.gf_form.proofs.Common.{subst, sym, AllZip, map-append, length-numbers_from, AreFirstsOf}
-use Rattle.gf_form.proofs.Common.{reduced_labels, players_of}
-use Rattle.gf_form.proofs.lemmas.strategies.CountedActions.{as_many_players, of_player}
-use Rattle.gf_form.proofs.lemmas.strategies.CountedActions.{one_item_more, take_past}
-use Rattle.gf_form.proofs.lemmas.strategies.CountsGiven.{actions_of, all_counted, read_actions}
-use Rattle.gf_form.proofs.lemmas.strategies.CountsGiven.{read_whole}
+use Rattle.gf_form.proofs.Common.{reduced_labels, players_of, product}
+use Rattle.gf_form.proofs.lemmas.strategies.CountedActions.{as_many_players, of_player, take_past}
+use Rattle.gf_form.proofs.lemmas.strategies.CountedActions.{one_item_more}
+use Rattle.gf_form.proofs.lemmas.strategies.CountsGiven.{all_counted}
 use Rattle.gf_form.proofs.lemmas.reduced.FirstsPicked.{one_player_more}
 use Rattle.gf_form.proofs.reduced.first.all_reduced.Goals as goal
 
+pub of_player-whole-requires : goal.of_player-whole-requires
+of_player-whole-requires c =
+    (c.args.game.now, c.requires.counts, omega (arith, c.loop-place-test.true))
+
 pub own_strategies-requires-clause-counts : goal.own_strategies-requires-clause-counts
 own_strategies-requires-clause-counts c =
-    let g = c.args.game.now in
-    let counts = c.args.counts.now in
-    let place = c.loop-place.place in
-    read_actions g counts c.requires.counts place c.index-whole.result.now
-    c.index.result.now c.deref.result.now
-    (record {
-      within = omega (arith, c.loop-place-test.true);
-      whole_is = c.index-whole.ensures;
-      own_is = c.index.ensures;
-      actions_are = c.deref.ensures.value;
-    })
-    ∙ actions_of g counts c.requires.counts place (omega (arith, c.loop-place-test.true))
+    (c.of_player-whole.ensures.counts c.args.game.now c.requires.counts).0
 
 pub own_strategies-requires-clause-whole : goal.own_strategies-requires-clause-whole
-own_strategies-requires-clause-whole c = grind (arith, read_whole)
+own_strategies-requires-clause-whole c =
+    let own = c.of_player-whole.ensures.counts c.args.game.now c.requires.counts in own.1 ∙ ap product (sym own.0)
 
 pub loop-place-preserved : goal.loop-place-preserved
 loop-place-preserved c =

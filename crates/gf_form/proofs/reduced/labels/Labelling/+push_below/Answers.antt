@@ -1,22 +1,20 @@
-use Rattle.gf_form.proofs.Common.{◌≡◌, ◌+◌, ◌*◌, ◌/◌, ◌∙◌, ℕ, arith, length, subst, ap}
-use Rattle.gf_form.proofs.Common.{on_ok_weaker, IsChosen, IsLevel, AreLabelledTo}
-use Rattle.gf_form.proofs.lemmas.reduced.SearchLabels.{kept_more, last_written, next_written}
+use Rattle.gf_form.proofs.Common.{◌≡◌, ◌+◌, ◌*◌, ◌/◌, ◌∙◌, ℕ, arith, length, subst, ap, IsChosen}
+use Rattle.gf_form.proofs.Common.{IsLevel, AreLabelledTo, length-set}
+use Rattle.gf_form.proofs.lemmas.reduced.SearchLabels.{next_written, set_twice}
+use Rattle.std.proofs.lemmas.List.{set-get_or}
 use Rattle.gf_form.proofs.lemmas.reduced.Searches.{all_rows, no_digits, some_actions, step_fits}
 use Rattle.gf_form.proofs.reduced.labels.Labelling.+push_below.Goals as goal
 
 pub push_label-requires-clause-last : goal.push_label-requires-clause-last
 push_label-requires-clause-last t c =
     let below = rw (no_digits _ c.in_default.ensures.cases) at c.requires.below in
-    (last_written _ c.requires.is_game _ _ _ _ _ below).0
+    rw below.choices.counted at below
 
 pub push_label-requires-clause-next : goal.push_label-requires-clause-next
 push_label-requires-clause-next t c = grind (arith, no_digits)
 
 pub returns-in_default-clause-labelled : goal.returns-in_default-clause-labelled
 returns-in_default-clause-labelled t c = grind (arith, no_digits)
-
-pub returns-in_default-clause-kept : goal.returns-in_default-clause-kept
-returns-in_default-clause-kept t c = grind (arith, on_ok_weaker)
 
 pub nonzero_div-each : goal.nonzero_div-each
 nonzero_div-each t c = grind (arith, some_actions)
@@ -28,17 +26,17 @@ pub push_below-requires : goal.push_below-requires
 push_below-requires t c =
     let below = rw c.in-Some.ensures.cases.0 at c.requires.below in
     let i = c.loop-before.invariant in
-    let kept = rw c.in-Some.ensures.cases.0 at i.1 in
     let left = c.choose.new.self in (
       omega (arith, c.decreases, ap length c.in-Some.ensures.cases.0),
       (
         c.requires.is_game,
         (
-          next_written below kept c.loop-before.before c.loop-before-test.true left
+          rw (i.1 (c.loop-before.before + 1)) (next_written below c.loop-before.before
+              c.loop-before-test.true left
               (subst (λ (sets : ℕ). IsLevel sets left) c.requires.below.told.levelled.counted
               c.in_ok-choose.ensures.level)
               (subst (λ (a : ℕ). IsChosen c.in-Some.digit.now.step a c.args.level.now left)
-              c.from.ensures c.in_ok-choose.ensures.chosen),
+              c.from.ensures c.in_ok-choose.ensures.chosen)),
           (
             c.requires.ordered,
             (c.is_next_below.ensures.below c.if-not-is_next_below.false, i.0),
@@ -51,17 +49,16 @@ pub loop-before-preserved : goal.loop-before-preserved
 loop-before-preserved t c =
     let before = c.loop-before.before in
     let each = c.args.count / c.in-Some.digit.now.actions in
-    let below = rw c.in-Some.ensures.cases.0 at c.requires.below in
-    let kept = rw c.in-Some.ensures.cases.0 at c.loop-before.invariant.1 in
     let row : c.args.number + before * each + each ≡ c.args.number + (before + 1) * each =
     omega arith in (
       subst (AreLabelledTo c.args.player.now.game.now c.args.player.now.number c.args.numbers.now
           c.push_below.new.self.labels) row c.in_ok-push_below.ensures.labelled,
-      rw c.in-Some.ensures.cases.0 (kept_more below kept before _ c.in_ok-push_below.ensures.kept),
+      λ choice. grind (arith, set_twice),
+      grind (arith, length-set),
     )
 
 pub returns-clause-kept : goal.returns-clause-kept
-returns-clause-kept t c = c.loop-before.invariant.1
+returns-clause-kept t c = grind (arith, set-get_or)
 
 pub returns-clause-labelled : goal.returns-clause-labelled
 returns-clause-labelled t c =

@@ -3,8 +3,8 @@ use Rattle.gf_form.proofs.Common.{length-drop, on_ok_weaker}
 use Rattle.gf_form.proofs.lemmas.reduced.LevelsChosen.{parts_added}
 use Rattle.gf_form.proofs.reduced.level.Level.add_chosen.Goals as goal
 
-pub returns-clause-left : goal.returns-clause-left
-returns-clause-left c =
+pub returns : goal.returns
+returns c =
     let visits = c.args.visits.now in
     let start = c.count_below-start.result in
     let rest_is : take (length visits - start) (drop start visits) ≡ drop start visits =
@@ -12,6 +12,5 @@ returns-clause-left c =
     ∙ take-length (drop start visits) in
     on_ok_weaker _ (parts_added c.args.step c.args.action visits _ _ _ _
     c.count_below-free.ensures c.count_below-start.ensures rest_is c.count_below-count.ensures
-    c.args.self.now c.add_left.new.self c.add_left-2.new.self c.in_ok-add_left.ensures.counted
-    c.in_ok-add_left.ensures.left)
-    c.add_left-2.ensures.left
+    c.args.self.now c.add_left.new.self c.add_left-2.new.self c.in_ok-add_left.ensures)
+    c.add_left-2.ensures

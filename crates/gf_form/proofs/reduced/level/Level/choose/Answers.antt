@@ -12,5 +12,5 @@ returns-clause-chosen c =
     c.add_chosen.new.self
     (record { visits = c.keep_each_once.new.visits; known = c.add_chosen.new.self.known })
     c.clear.ensures.items (known_is c)
-    (rw c.deref-2.ensures.value at c.in_ok-add_chosen.ensures.left)
+    (rw c.deref-2.ensures.value at c.in_ok-add_chosen.ensures)
     (λ i. c.add_chosen.new.self.known.items) c.keep_each_once.ensures.same
