@@ -202,7 +202,7 @@ pub fn every_reduced_strategy()
 
 /// Some full profile reduces to each profile of the reduced form, and each full profile reduces to
 /// exactly one profile of the reduced form.
-#[tactic(auto, using(crate::proofs::lemmas::reduced::ReducedStrategies::each_profile))]
+#[tactic(auto, using(crate::proofs::lemmas::reduced::ReducedForms::each_profile))]
 pub fn every_reduced_profile()
     ensures each_comes { (g : Game) (profile : List ℕ) → Contains (reduced_profiles g) profile
         → (full : List ℕ) × Contains (full_profiles g) full

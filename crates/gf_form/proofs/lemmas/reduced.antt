@@ -1,13 +1,11 @@
 pub mod Apart
 pub mod Coming
+pub mod EachOnce
 pub mod FirstStrategies
 pub mod FirstsPicked
 pub mod LevelsChosen
 pub mod ReducedForms
-pub mod ReducedStrategies
 pub mod Reducing
-pub mod SearchLabels
 pub mod SearchStarts
 pub mod Searches
-pub mod Surveys
 pub mod VisitsFound

@@ -103,6 +103,7 @@ impl Search {
     /// Appends the numbers of the first strategies among those with the choices at the first
     /// digits, as many as the depth says; these are the other ones. They have numbers from this one
     /// on, and there are `count` of them.
+    #[tactic(auto, using(crate::proofs::lemmas::reduced::Searches::search_steps))]
     fn push_below(
         &mut self,
         player: &Player<'_, '_>,
@@ -167,6 +168,7 @@ fn digit_of(digits: &[OwnDigit], place: usize) -> Option<usize>
 }
 
 /// The visits to sets with a digit, each to the place of the digit, from 0.
+#[tactic(auto, using(crate::proofs::lemmas::reduced::SearchStarts::added))]
 fn own_visits(
     alloc: Global,
     visits: &[Visit],
@@ -190,6 +192,7 @@ fn own_visits(
 }
 
 /// The numbers of the first strategies of a player, from 0, of whom these are the visits.
+#[tactic(auto, using(crate::proofs::lemmas::reduced::SearchStarts::start_steps))]
 fn first_numbers(
     alloc: Global,
     player: &Player<'_, '_>,
@@ -220,6 +223,7 @@ fn first_numbers(
 /// The numbers of the first strategies that reduce to each reduced strategy of a player, from 0,
 /// and the labels of the reduced ones. Each of his sets has this many actions, and he has `whole`
 /// strategies.
+#[tactic(auto, using(crate::proofs::lemmas::reduced::SearchStarts::start_steps))]
 fn first_strategies(
     alloc: Global,
     game: &Game<'_>,
@@ -248,6 +252,7 @@ fn first_strategies(
 
 /// The same for a player who has one strategy. He has one action at each of his sets, so all of
 /// them are relevant, and there is no need to walk the tree for him.
+#[tactic(auto, using(crate::proofs::lemmas::reduced::Coming::only_label))]
 fn only_strategy(
     alloc: Global,
     game: &Game<'_>,
@@ -287,7 +292,7 @@ fn own_strategies(
 }
 
 /// The numbers of the first strategies of each player, and the labels of his reduced ones.
-#[tactic(auto, using(crate::proofs::lemmas::strategies::CountsGiven::all_counted))]
+#[tactic(auto, using(crate::proofs::lemmas::reduced::FirstsPicked::first_steps))]
 pub(crate) fn all_reduced(
     alloc: Global,
     game: &Game<'_>,

@@ -93,6 +93,7 @@ impl Labelling {
     /// Appends the labels of the strategies with these numbers among those with the choices so far,
     /// at all digits but these. They have numbers from this one on, there are `count` of them, and
     /// one of them at least has a label due.
+    #[tactic(auto, using(crate::proofs::lemmas::reduced::Searches::search_steps))]
     fn push_below(
         &mut self,
         player: &Player<'_, '_>,
@@ -139,6 +140,7 @@ impl Labelling {
 
 /// The labels of a player's reduced strategies, if the first ones that reduce to them have these
 /// numbers among his `whole` strategies, and these are his visits to this many sets.
+#[tactic(auto, using(crate::proofs::lemmas::reduced::SearchStarts::label_steps))]
 pub(crate) fn labels_of(
     alloc: Global,
     player: &Player<'_, '_>,

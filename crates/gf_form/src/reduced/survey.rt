@@ -93,7 +93,7 @@ impl<'g, 'a> Survey<'g, 'a> {
     }
 
     /// Goes into a branch, if the path to it has these demands.
-    #[tactic(auto, using(crate::proofs::lemmas::reduced::Surveys::survey_steps))]
+    #[tactic(auto, using(crate::proofs::lemmas::reduced::VisitsFound::survey_steps))]
     fn enter(
         &mut self,
         owner: &Owner<'_>,
@@ -119,7 +119,7 @@ impl<'g, 'a> Survey<'g, 'a> {
     }
 
     /// Goes into the next branch below a node.
-    #[tactic(auto, using(crate::proofs::lemmas::reduced::Surveys::survey_steps))]
+    #[tactic(auto, using(crate::proofs::lemmas::reduced::VisitsFound::survey_steps))]
     fn go_on(&mut self, owner: &Owner<'_>, mut node: Open<'g, 'a>) -> Result<(), AllocError>
         ensures found { OnOk result
             (FindsMore owner.now self.old self.new (open_visits owner.now node.entry)) }
@@ -139,7 +139,7 @@ impl<'g, 'a> Survey<'g, 'a> {
 }
 
 /// The visits of a player to his sets, whose digits have these steps, each once.
-#[tactic(auto, using(crate::proofs::lemmas::reduced::Surveys::survey_steps))]
+#[tactic(auto, using(crate::proofs::lemmas::reduced::VisitsFound::survey_steps))]
 pub(crate) fn visits_in(
     alloc: Global,
     game: &Game<'_>,

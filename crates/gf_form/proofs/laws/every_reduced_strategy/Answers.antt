@@ -1,5 +1,4 @@
-use Rattle.gf_form.proofs.lemmas.reduced.ReducedForms.{each_comes}
-use Rattle.gf_form.proofs.lemmas.reduced.ReducedStrategies.{each_once, labels_differ}
+use Rattle.gf_form.proofs.lemmas.reduced.ReducedForms.{each_comes, each_once, labels_differ}
 use Rattle.gf_form.proofs.laws.every_reduced_strategy.Goals as goal
 
 pub returns : goal.returns

@@ -1,14 +1,14 @@
 -- Strategies that agree with the same plays reduce to the same one.
 use Rattle.gf_form.proofs.Common.{◌≡◌, ℕ, ◌+◌, ◌<◌, ◌≤◌, Bool, true, false, List, [], ◌∷◌, Some}
-use Rattle.gf_form.proofs.Common.{None, length, map, sym, ◌∙◌, subst, arith, inl, inr, ◌==◌}
+use Rattle.gf_form.proofs.Common.{None, length, map, sym, ◌∙◌, subst, arith, inl, inr, ◌==◌, refl}
 use Rattle.gf_form.proofs.Common.{if◌then◌else◌, AllByRecursion, Contains, list_all, option_map_or}
-use Rattle.gf_form.proofs.Common.{and_from, and_parts, eqb-true, refl, false≢true, all_parts, Tree}
-use Rattle.gf_form.proofs.Common.{Trees, branch, none, more, flatten, flatten_all, SetKey, same_set}
-use Rattle.gf_form.proofs.Common.{Node, Game, IsGame, HasChildren, IsSpellable, player_keys}
-use Rattle.gf_form.proofs.Common.{same_set_equality, Has, contains, has_map, map_same, in_left}
-use Rattle.gf_form.proofs.Common.{in_right, choice_at, strategies, Step, Play, from_node, is_chosen}
-use Rattle.gf_form.proofs.Common.{plays, plays_from, HasActions, is_own_choice, agrees, comes_to}
-use Rattle.gf_form.proofs.Common.{is_relevant, reduced, cases_Bool, tree_comes, trees_come, ◌&&◌}
+use Rattle.gf_form.proofs.Common.{and_from, and_parts, eqb-true, false≢true, all_parts, Tree, Trees}
+use Rattle.gf_form.proofs.Common.{branch, none, more, flatten, flatten_all, SetKey, same_set, Node}
+use Rattle.gf_form.proofs.Common.{Game, IsGame, HasChildren, IsSpellable, player_keys, Has, has_map}
+use Rattle.gf_form.proofs.Common.{same_set_equality, contains, map_same, in_left, in_right, Step}
+use Rattle.gf_form.proofs.Common.{choice_at, strategies, Play, from_node, is_chosen, plays, agrees}
+use Rattle.gf_form.proofs.Common.{plays_from, HasActions, is_own_choice, comes_to, is_relevant}
+use Rattle.gf_form.proofs.Common.{reduced, cases_Bool, tree_comes, trees_come, ◌&&◌}
 use Rattle.gf_form.proofs.lemmas.strategies.Chosen.{his_actions}
 use Rattle.gf_form.proofs.lemmas.values.Following.{play_of, taken_child, some_play_in}
 use Rattle.gf_form.proofs.lemmas.reduced.Coming.{leaf_comes, relevant_is}

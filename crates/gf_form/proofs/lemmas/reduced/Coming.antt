@@ -4,15 +4,15 @@ use Rattle.gf_form.proofs.Common.{same_set_equality, sets_by_first_use, list_any
 use Rattle.gf_form.proofs.Common.{reduced_labels, strategy_label, AllByRecursion, InformationSet, ℕ}
 use Rattle.gf_form.proofs.Common.{get_or_default, option_map_or, is_own_choice, reduced_label, Game}
 use Rattle.gf_form.proofs.Common.{relevant_sets, action_counts, dvd-mul_right, AreFirstsOf, has_map}
-use Rattle.gf_form.proofs.Common.{same_choice, all_choices, MatchOption, HasChildren, flatten_all}
-use Rattle.gf_form.proofs.Common.{is_relevant, player_keys, player_sets, plays_from, length-map, ap}
-use Rattle.gf_form.proofs.Common.{first_uses, strategies, option_map, tree_comes, get_or-map, arith}
-use Rattle.gf_form.proofs.Common.{from_node, pointwise, choice_at, all_parts, of_filter, used_sets}
-use Rattle.gf_form.proofs.Common.{same_set, comes_to, Contains, was_used, list_any, flatten, get_or}
-use Rattle.gf_form.proofs.Common.{product, reduced, Option, length, branch, SetKey, IsGame, set_at}
-use Rattle.gf_form.proofs.Common.{subst, Trees, count, plays, false, Play, zero, Bool, true, List}
-use Rattle.gf_form.proofs.Common.{Some, None, refl, ◌||◌, ◌&&◌, Tree, none, more, Node, ◌==◌, ◌≡◌}
-use Rattle.gf_form.proofs.Common.{◌+◌, ◌<◌, ◌∷◌, map, suc, ◌≤◌, sym, ◌∙◌, Has, ◌∣◌, []}
+use Rattle.gf_form.proofs.Common.{all_choices, MatchOption, HasChildren, flatten_all, is_relevant}
+use Rattle.gf_form.proofs.Common.{player_keys, player_sets, plays_from, length-map, ap, strategies}
+use Rattle.gf_form.proofs.Common.{option_map, tree_comes, get_or-map, arith, from_node, choice_at}
+use Rattle.gf_form.proofs.Common.{all_parts, of_filter, used_sets, same_set, comes_to, Contains, []}
+use Rattle.gf_form.proofs.Common.{was_used, list_any, flatten, get_or, product, reduced, Option}
+use Rattle.gf_form.proofs.Common.{length, branch, SetKey, IsGame, set_at, subst, Trees, count, Play}
+use Rattle.gf_form.proofs.Common.{plays, false, zero, Bool, true, List, Some, None, refl, ◌||◌, ◌≡◌}
+use Rattle.gf_form.proofs.Common.{◌&&◌, Tree, none, more, Node, ◌+◌, ◌<◌, ◌∷◌, map, suc, ◌≤◌, sym}
+use Rattle.gf_form.proofs.Common.{◌∙◌, Has, ◌∣◌}
 use Rattle.std.proofs.Math.Bool.{and-or_distrib_left}
 use Rattle.gf_form.proofs.lemmas.rows.GameDigits.{among}
 use Rattle.gf_form.proofs.lemmas.strategies.KnownSets.{set_is, own_set}
@@ -22,7 +22,6 @@ use Rattle.gf_form.proofs.lemmas.strategies.Choices.{length-all_choices}
 use Rattle.gf_form.proofs.lemmas.strategies.Chosen.{among_his, his_actions}
 use Rattle.gf_form.proofs.lemmas.reduced.FirstStrategies.{flags_fit, reduced_shown_at}
 use Rattle.gf_tree.specs.PrefixOrder.{Entry}
-use Rattle.gf_tree.specs.FirstUse.{sets_of}
 use Rattle.std.proofs.Math.Nat.{dvd-mul_left_of_dvd, eq-one_of_dvd-one}
 use Rattle.gf_form.proofs.lemmas.strategies.StrategiesByNumber.{whole_label}
 use Rattle.gf_form.proofs.lemmas.strategies.Lookups.{there}
@@ -75,7 +74,6 @@ module _ (g : Game) (game : IsGame g) (choices : SetKey → ℕ) (key : SetKey) 
       ≡ option_map_or (λ own. same_set key own || trees_come choices key n 1 (more t ts)) o false
   node_comes_by n t ts None at c below = absurd (omega (arith, c))
   node_comes_by n t ts (Some own) at c below =
-      let here : is_here n ≡ same_set key own = ap (λ o. option_map_or (same_set key) o false) at in
       grind (arith, list_any-append, any_here)
 
   mutual
@@ -142,8 +140,7 @@ module _ (g : Game) (choices : SetKey → ℕ) (key : SetKey)
       ≡ (option_map_or (same_set key) o false || list_any (is_there key) (flatten_all ts))
   node_comes n ts None at c below = sym (no_child key ts c)
   node_comes n ts (Some own) at c below =
-      ap (λ b. same_set key own || b)
-      (below (λ k above less. chosen_child n own (count ts) at c k above (omega (arith, less))))
+      grind (arith, chosen_child)
 
   mutual
     comes_where : (t : Tree Node) → AllByRecursion (HasChildren g) (flatten t)
@@ -170,6 +167,11 @@ one_alone : {A : Type 0} (xs : List A) (d : A) → length xs ≡ 1 → xs ≡ ge
 one_alone (x ∷ []) d e = refl
 one_alone xs d e = absurd (omega (arith, e))
 
+all_one : (counts : List ℕ) (i : ℕ) → product counts ≡ 1 → i < length counts
+    → get_or counts i 0 ≡ 1
+all_one counts i e less =
+    eq-one_of_dvd-one (subst (λ n. get_or counts i 0 ∣ n) e (factor counts i less))
+
 module _ (g : Game) (game : IsGame g) (player : ℕ)
     (one : product (action_counts g player) ≡ 1) where
   abbrev only : List ℕ
@@ -182,9 +184,17 @@ module _ (g : Game) (game : IsGame g) (player : ℕ)
   only_there = grind (arith, counted, get_or_default)
 
   used : (key : SetKey) → Has (player_keys g player) key → Has (used_sets g.tree) key
-  used key i = (of_filter (λ key. key.player == player) (used_sets g.tree) key
-      (was_used same_set (sets_of player (used_sets g.tree)) key
-      (subst (λ keys. Has keys key) (sets_by_first_use g player game) i))).0
+  used key i =
+      grind (arith, of_filter, was_used, sets_by_first_use)
+
+  his_one : (own : SetKey) (set : InformationSet) → own.player ≡ player
+      → set_at g own ≡ Some set
+      → (length set.actions ≡ 1) × (choice_at (player_keys g player) only own ≡ 1)
+  his_one own set same known =
+      let place = among (player_sets g own.player) own set (among_his g own ∙ known) in
+      let actions = all_one (action_counts g own.player) place.place in
+      let choice = his_actions g game only own set in
+      grind (arith, actions, choice, place.count, place.within, one, only_there, length-map)
 
   all_relevant : (key : SetKey) → Has (player_keys g player) key
       → is_relevant g (choice_at (player_keys g player) only) key ≡ true
@@ -192,24 +202,7 @@ module _ (g : Game) (game : IsGame g) (player : ℕ)
       let his = (own_set g player key i).3 in
       let choices = choice_at (player_keys g player) only in
       relevant_is g game choices key
-      ∙ comes_where g choices key (λ own set same known.
-      let owner : player ≡ own.player = sym (same ∙ his) in
-      let place = among (player_sets g own.player) own set (among_his g own ∙ known) in
-      let actions = sym place.count ∙ eq-one_of_dvd-one (subst (λ n. get_or (action_counts g
-      own.player) place.place 0 ∣ n) (subst (λ p. product (action_counts g p) ≡ 1) owner one)
-      (factor (action_counts g own.player) place.place
-      (omega (
-        arith,
-        place.within,
-        length-map (player_sets g own.player)
-            (λ s. length s.description.actions),
-      )))) in
-      let choice = his_actions g game only own set
-      (subst (λ p. Contains (strategies g p) only) owner only_there) known in (
-        actions,
-        subst (λ p. choice_at (player_keys g p) only own ≡ 1) (sym owner)
-            (omega (arith, choice.0, choice.1, actions)),
-      ))
+      ∙ comes_where g choices key (λ own set same known. his_one own set (same ∙ his) known)
       g.tree game.children
       ∙ used_there key (flatten g.tree)
       ∙ any_has (same_set key) (used_sets g.tree) key (used key i)
@@ -222,13 +215,8 @@ module _ (g : Game) (game : IsGame g) (player : ℕ)
       let fit = flags_fit g game player 0 some in
       ap reduced_label (reduced_shown_at g game player 0 some)
       ∙ whole_label (relevant_sets g player only) only fit (λ k less.
-      let within : k < length keys = omega (
-        arith,
-        less,
-        fit,
-        length-map keys
-            (is_relevant g (choice_at keys only)),
-      ) in
+      let flags = length-map keys (is_relevant g (choice_at keys only)) in
+      let within : k < length keys = omega (arith, less, fit, flags) in
       let none : SetKey = record { player = 0; number = 0 } in
       get_or-map (is_relevant g (choice_at keys only)) keys k none false within
       ∙ all_relevant (get_or keys k none) (there keys k none within))
@@ -237,15 +225,10 @@ module _ (g : Game) (game : IsGame g) (player : ℕ)
   alone = one_alone (strategies g player) [] counted
 
   pub only_first : AreFirstsOf g (0 ∷ []) player
-  only_first = (
-    sym (ap (λ (all : List (List ℕ)). first_uses (pointwise same_choice)
-        (map (reduced g player) all)) alone),
-    (omega (arith, counted), tt),
-  )
+  only_first =
+      grind (arith, alone, counted)
 
   pub only_label : map strategy_label (all_choices (action_counts g player)) ≡ reduced_labels g
       player
   only_label =
-      ap (map strategy_label) alone
-      ∙ (λ i. sym only_shown i ∷ [])
-      ∙ ap (map reduced_label) only_first.0
+      grind (arith, alone, only_shown, only_first)

@@ -2,23 +2,22 @@
 -- choice matters.
 use Rattle.gf_form.proofs.Common.{◌≡◌, ℕ, zero, suc, ◌+◌, ◌-◌, ◌*◌, ◌<◌, ◌≤◌, Bool, true, false, []}
 use Rattle.gf_form.proofs.Common.{Option, List, ◌∷◌, ◌++◌, Some, None, length, map, get_or, set, ap}
-use Rattle.gf_form.proofs.Common.{take, AreInTurn, refl, sym, subst, ◌∙◌, arith, if◌then◌else◌, Has}
+use Rattle.gf_form.proofs.Common.{take, AreInTurn, refl, sym, subst, ◌∙◌, arith, if◌then◌else◌, has}
 use Rattle.gf_form.proofs.Common.{list_any, pointwise, false_from_ne_true, length-map, map-append}
-use Rattle.gf_form.proofs.Common.{product, SetKey, same_set, first_uses, player_keys, Game, IsGame}
-use Rattle.gf_form.proofs.Common.{AreDistinct, map_same, same_set_equality, has, contains, has_map}
-use Rattle.gf_form.proofs.Common.{mapped_from, is_relevant, reduced, filter, not, same_choice}
-use Rattle.gf_form.proofs.Common.{reduced_strategies, relevant_sets, shown, add-one, action_counts}
-use Rattle.gf_form.proofs.Common.{choice_at, strategies, take-suc, AllByRecursion, all_both}
-use Rattle.gf_form.proofs.Common.{AreFoundTo, IsFirst, numbered, is_relevant_at, mul-le-mul_right}
-use Rattle.gf_form.proofs.Common.{get_or-take, get_or_default, length-take-le}
+use Rattle.gf_form.proofs.Common.{product, SetKey, first_uses, player_keys, Game, IsGame, map_same}
+use Rattle.gf_form.proofs.Common.{AreDistinct, same_set_equality, contains, has_map, mapped_from}
+use Rattle.gf_form.proofs.Common.{is_relevant, reduced, filter, not, same_choice, relevant_sets}
+use Rattle.gf_form.proofs.Common.{reduced_strategies, shown, add-one, action_counts, choice_at}
+use Rattle.gf_form.proofs.Common.{strategies, take-suc, AllByRecursion, all_both, AreFoundTo}
+use Rattle.gf_form.proofs.Common.{IsFirst, numbered, is_relevant_at, mul-le-mul_right, get_or-take}
+use Rattle.gf_form.proofs.Common.{get_or_default, length-take-le}
 use Rattle.gf_tree.proofs.lemmas.stores.KnownKeys.{known_more, more_known, used_before}
 use Rattle.gf_form.proofs.lemmas.strategies.Choices.{IsChoice, are_choices, at_its_place, place}
 use Rattle.gf_form.proofs.lemmas.strategies.Choices.{choice_length, place_at}
-use Rattle.gf_form.proofs.lemmas.strategies.KnownSets.{own_set}
+use Rattle.gf_form.proofs.lemmas.strategies.KnownSets.{keys_distinct, own_set}
 use Rattle.gf_form.proofs.lemmas.reduced.ReducedForms.{choices_equality}
 use Rattle.gf_form.proofs.lemmas.reduced.Reducing.{any_has, relevance_same}
 use Rattle.gf_form.proofs.lemmas.strategies.StrategiesByNumber.{all_at}
-use Rattle.gf_form.proofs.lemmas.reduced.Surveys.{keys_distinct}
 
 -- ---- first uses
 
@@ -85,18 +84,8 @@ shown_by : (relevant : SetKey → Bool) (keys : List SetKey) (s : List ℕ) → 
 shown_by relevant [] s d e = refl
 shown_by relevant (k ∷ keys) [] d e = absurd (omega (arith, e))
 shown_by relevant (k ∷ keys) (a ∷ s) d e =
-    let here : (if same_set k k then a else choice_at keys s k) ≡ a =
-    ap (λ b. if b then a else choice_at keys s k) ((same_set_equality k k).1 refl) in
-    grind (
-      arith,
-      Has,
-      false_from_ne_true,
-      here,
-      map_same,
-      same_set_equality,
-      shown_by relevant keys
-          s d.1 (omega (arith, e)),
-    )
+    let others = shown_by relevant keys s d.1 (omega (arith, e)) in
+    grind (arith, others, same_set_equality, false_from_ne_true, map_same)
 
 -- ---- the strategies of a player
 
@@ -190,10 +179,8 @@ module _ (g : Game) (game : IsGame g) (player : ℕ) where
   in_turn_more : (numbers : List ℕ) (i : ℕ) → AllByRecursion (λ n. n < i) numbers
       → AreInTurn numbers → AreInTurn (numbers ++ i ∷ [])
   in_turn_more [] i within h = (tt, tt)
-  in_turn_more (n ∷ numbers) i within h = (
-    all_both (λ m. n < m) numbers (i ∷ []) h.0 (within.0, tt),
-    in_turn_more numbers i within.1 h.1,
-  )
+  in_turn_more (n ∷ numbers) i within h =
+      grind (arith, all_both, in_turn_more numbers i within.1 h.1)
 
   wider : (i : ℕ) (numbers : List ℕ) → AllByRecursion (λ number. number < i) numbers
       → AllByRecursion (λ number. number < i + 1) numbers

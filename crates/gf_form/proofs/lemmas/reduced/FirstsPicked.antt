@@ -12,18 +12,21 @@ use Rattle.gf_form.proofs.Common.{get_or_default, AllByRecursion, length-profile
 use Rattle.gf_form.proofs.Common.{AllZip-long, mul-le-mul, AreFirstsOf, ArePayoffsAt, full_profiles}
 use Rattle.gf_form.proofs.Common.{take, get_or-map, length-map, IsFraction, all_weaker, strategy_at}
 use Rattle.gf_form.proofs.Common.{subst, reduced_at, reduced_by, IsFormWith, players_of, strategies}
-use Rattle.gf_form.proofs.Common.{choices_by, strategies_at, IsValue}
+use Rattle.gf_form.proofs.Common.{choices_by, strategies_at, IsValue, IfOk-weaker, on_ok_weaker}
 use Rattle.gf_nfg.specs.Table.{Entry}
 use Rattle.gf_form.specs.inner.reduced.Firsts.{AreFirsts}
-use Rattle.gf_form.proofs.lemmas.strategies.CountedActions.{strategy_counts}
+use Rattle.gf_form.proofs.lemmas.strategies.CountedActions.{product_positive, strategies_positive}
+use Rattle.gf_form.proofs.lemmas.strategies.CountedActions.{strategy_counts, as_many_players}
+use Rattle.gf_form.proofs.lemmas.strategies.CountedActions.{take_past}
 use Rattle.gf_form.proofs.lemmas.reduced.FirstStrategies.{fewer_reduced}
 use Rattle.gf_form.proofs.lemmas.form.FormMade.{full_row, row_fractions}
-use Rattle.gf_form.proofs.lemmas.strategies.Lookups.{all_alike, all_right, first_alike}
-use Rattle.gf_form.proofs.lemmas.strategies.Lookups.{strategy_before, zip_weaker}
+use Rattle.gf_form.proofs.lemmas.strategies.Lookups.{all_alike, all_right, first_alike, zip_weaker}
+use Rattle.gf_form.proofs.lemmas.strategies.Lookups.{strategy_before}
 use Rattle.gf_nfg.proofs.lemmas.tables.Profiles.{are_profiles}
 use Rattle.gf_form.proofs.lemmas.reduced.ReducedForms.{same_row, some_reduced_strategy}
 use Rattle.gf_form.proofs.lemmas.reduced.Reducing.{reduced_value}
 use Rattle.gf_form.proofs.lemmas.rows.RowsMade.{zip_more}
+use Rattle.gf_form.proofs.lemmas.strategies.CountsGiven.{all_counted}
 
 -- ---- numbers of strategies
 
@@ -113,24 +116,14 @@ values_too g p q hp hq e values = all_weaker (HasValueAt g p) (HasValueAt g q)
 paid_over : (g : Game) (ps : List (List ℕ)) (numbers : List ℕ) (rows : List (List Ratio))
     → AllZip (Reduces g) ps numbers → AllZip (ArePayoffsAt g) (numbered_profiles g numbers) rows
     → AllZip (IsPaidAt g) ps rows
-paid_over g (profile ∷ ps) (number ∷ numbers) (row ∷ rows) h k = (
-  record {
-    full = get_or (full_profiles g) number [];
-    there = h.0.there;
-    reduces = h.0.is;
-    paid = k.0;
-  },
-  paid_over g ps numbers rows h.1 k.1,
-)
+paid_over g (profile ∷ ps) (number ∷ numbers) (row ∷ rows) h k =
+    grind (arith, reduces, paid_over g ps numbers rows h.1 k.1)
 paid_over g ps numbers rows h k = grind arith
 
 values_at : (g : Game) (profile : List ℕ) (number : ℕ) → Reduces g profile number
     → HasValues g (get_or (full_profiles g) number []) ↔ HasReducedValues g profile
-values_at g profile number h = (
-  λ values full there e. values_too g (get_or (full_profiles g) number []) full h.there there
-      (h.is ∙ sym e) values,
-  λ values. values (get_or (full_profiles g) number []) h.there h.is,
-)
+values_at g profile number h =
+    grind (arith, values_too)
 
 values_over : (g : Game) (ps : List (List ℕ)) (numbers : List ℕ) → AllZip (Reduces g) ps numbers
     → AllZip (λ full profile. HasValues g full ↔ HasReducedValues g profile)
@@ -167,19 +160,11 @@ module _ (g : Game) (firsts : List (List ℕ)) (numbers : List ℕ)
 
   pub their_numbers : AreProfileNumbers g numbers
   their_numbers =
-      all_right (IsPicked (strategy_counts g) firsts)
-      (λ number. number < length (full_profiles g))
-      (λ profile number one. omega (arith, one.within, length-profiles (strategy_counts g)))
-      (profiles (map length firsts)) numbers theirs.picked
+      grind (arith, all_right, strategy_counts, length-profiles)
 
   pub few_numbers : length numbers ≤ profile_limit
   few_numbers =
-      omega (
-        arith,
-        AllZip-long (Reduces g) (reduced_profiles g) numbers all_reduce,
-        fewer_profiles g theirs.game,
-        theirs.few,
-      )
+      grind (arith, AllZip-long, all_reduce, fewer_profiles)
 
   pub reduced_rows : (payoffs : List Ratio)
       → AreRowsAt (ArePayoffsAt g) (numbered_profiles g numbers) payoffs
@@ -229,3 +214,20 @@ reduced_made g t form = record {
       (paid.reduces ∙ sym e_is) e.payoffs paid.paid)
       t.entries form.payoffs;
 }
+
+pub ruleset number_steps = (
+  are_below,
+  length-map,
+  AllZip-long,
+  product_positive,
+  strategies_positive,
+  length-profiles,
+  their_numbers,
+  few_numbers,
+  reduced_rows,
+  reduced_values,
+  IfOk-weaker,
+  on_ok_weaker,
+)
+
+pub ruleset first_steps = (all_counted, take_past, as_many_players)

@@ -1,12 +1,12 @@
 -- What is left of a player's visits after a choice, visit by visit, and which sets can be met.
-use Rattle.gf_form.proofs.Common.{◌≡◌, ℕ, ◌+◌, ◌*◌, ◌<◌, ◌≤◌, inl, inr, Bool, true, false, List, []}
-use Rattle.gf_form.proofs.Common.{◌∷◌, ◌++◌, Some, None, length, get_or, set, take, drop, ap, sym}
-use Rattle.gf_form.proofs.Common.{◌∙◌, arith, ◌||◌, list_any, option_map_or}
-use Rattle.gf_form.proofs.Common.{or-false, take-length, cases_lt, get_or-set_at, get_or-set_other}
-use Rattle.gf_form.proofs.Common.{get_or-take, get_or_default, length-drop, length-set, length-take}
-use Rattle.gf_form.proofs.Common.{take-append-drop, list_any-append, meets}
-use Rattle.gf_form.proofs.Common.{ArePositive, IsChosen, is_left, left_of, is_met_on, Level, Visit}
-use Rattle.gf_form.proofs.Common.{◌==◌, can_be_met, ne_eqb, false_from_ne_true}
+use Rattle.gf_form.proofs.Common.{◌≡◌, ℕ, ◌+◌, ◌*◌, ◌<◌, ◌≤◌, Bool, true, false, List, [], ◌∷◌, set}
+use Rattle.gf_form.proofs.Common.{◌++◌, Some, None, length, get_or, take, drop, ap, sym, ◌∙◌, arith}
+use Rattle.gf_form.proofs.Common.{◌||◌, list_any, option_map_or, or-false, meets}
+use Rattle.gf_form.proofs.Common.{take-length, get_or-set_at, get_or-set_other, get_or-take, Level}
+use Rattle.gf_form.proofs.Common.{get_or_default, length-drop, length-set, length-take, ArePositive}
+use Rattle.gf_form.proofs.Common.{take-append-drop, list_any-append, Visit}
+use Rattle.gf_form.proofs.Common.{IsChosen, is_left, left_of, is_met_on, ◌==◌, can_be_met, ne_eqb}
+use Rattle.gf_form.proofs.Common.{false_from_ne_true}
 use Rattle.std.proofs.lemmas.List.{get_or-drop}
 use Rattle.std.proofs.lemmas.List.Folds.{Any-from_list_any, list_any_at, list_any_more}
 use Rattle.gf_form.specs.inner.reduced.Levels.{AddsLeft, HaveBelow}
@@ -59,18 +59,14 @@ module _ (step action : ℕ) (visits : List Visit) (start : Level) (i : ℕ)
     pub other_passed : length left.known.items ≤ here.set
         → AddsLeft step action (take (i + 1) visits) start left
     other_passed past =
-        more left before.counted (λ place steps choices inside positive.
-        let other : (here.set == place) ≡ false =
-        ne_eqb here.set place (λ e. omega (arith, e, past, inside, before.counted)) in
-        grind (arith, or-false))
+        grind (arith, more, ne_eqb, or-false)
 
     -- it is to a set that is known to be met
     pub known_passed : (flag : Bool) → here.set < length left.known.items
         → flag ≡ get_or left.known.items here.set flag → flag ≡ true
         → AddsLeft step action (take (i + 1) visits) start left
     known_passed flag within is known =
-        let there = get_or_default left.known.items here.set false flag within in
-        more left before.counted (λ place steps choices inside positive. grind arith)
+        grind (arith, get_or_default, more)
 
     -- it demands another action
     pub none_left : left_of step action here.demands ≡ None
@@ -132,35 +128,12 @@ module _ (step action : ℕ) (visits rest : List Visit) (free start count : ℕ)
     free_before : list_any counts (take start visits) ≡ true
         → list_any counts (take free visits) ≡ true
     free_before some =
-        let found = Any-from_list_any counts (take start visits) some in
-        let k = found.0 in
-        let v = found.1 in
-        let early : k < start = grind (arith, length-take, found.2) in
-        let same : get_or visits k v ≡ v =
-        sym (get_or-take start visits k v early) ∙ found.3 in
-        let inside : k < length visits = omega (arith, early, start_is.bound) in
-        elim (cases_lt k free) [
-          | inl first ↦
-              list_any_at counts (take free visits) k v (grind (arith, length-take))
-              (ap counts (get_or-take free visits k v first ∙ same) ∙ found.4)
-          | inr late ↦
-              absurd (grind (
-                arith,
-                free_is.above k v late inside,
-                start_is.below k v early,
-                found.4,
-              ))
-        ]
+        grind (arith, Any-from_list_any, length-take, get_or-take, list_any_at)
 
     -- and none demands more
     none_behind : list_any counts (drop count rest) ≡ false
-    none_behind = false_from_ne_true _ (λ some.
-        let found = Any-from_list_any counts (drop count rest) some in
-        let k = found.0 in
-        let v = found.1 in
-        let inside : count + k < length rest = grind (arith, length-drop, found.2) in
-        let same : get_or rest (count + k) v ≡ v = sym (get_or-drop count rest k v) ∙ found.3 in
-        grind (arith, count_is.above (count + k) v (omega arith) inside, found.4))
+    none_behind =
+        grind (arith, false_from_ne_true, Any-from_list_any, length-drop, get_or-drop)
 
     met_in_parts : list_any counts visits
         ≡ (list_any counts (take free visits) || list_any counts (take count rest))
@@ -197,11 +170,7 @@ pub chosen_by : (step action : ℕ) (from begun added left : Level) → begun.vi
     → HoldTheSame added.visits.items left.visits.items → IsChosen step action from left
 chosen_by step action from begun added left none known adds same_known same place steps choices
     inside positive =
-    grind (
-      arith,
-      adds.adds place steps choices (omega (arith, inside, ap length known)) positive,
-      same (is_met_on place steps choices),
-    )
+    grind (arith, same (is_met_on place steps choices))
 
 abbrev is_to : ℕ → Visit → Bool
 is_to place v = v.set == place

@@ -185,14 +185,8 @@ digits_fine p (zero ∷ counts) h fits = absurd (omega (arith, h.0))
 digits_fine p (suc zero ∷ counts) h fits = digits_fine (p + 1) counts h.1 fits
 digits_fine p (suc (suc n) ∷ counts) h fits =
     let whole : (suc (suc n) + 1) * width counts ≡ suc (suc n) * width counts + width counts =
-    omega arith in (
-      record {
-        step = width_positive counts;
-        actions = omega arith;
-        fits = omega (arith, fits, whole);
-      },
-      digits_fine (p + 1) counts h.1 (omega (arith, fits, whole)),
-    )
+    omega arith in
+    grind (arith, width_positive, digits_fine (p + 1) counts h.1 (omega (arith, fits, whole)))
 
 -- there are fewer than strategies
 pub few_digits : (p : ℕ) (counts : List ℕ)
@@ -201,12 +195,7 @@ few_digits p [] = omega arith
 few_digits p (zero ∷ counts) = few_digits (p + 1) counts
 few_digits p (suc zero ∷ counts) = few_digits (p + 1) counts
 few_digits p (suc (suc n) ∷ counts) =
-    let two : 2 ≤ suc (suc n) = omega arith in
-    omega (
-      arith,
-      few_digits (p + 1) counts,
-      mul-le-mul_right (product (actions_of (digits_from (p + 1) counts))) two,
-    )
+    grind (arith, mul-le-mul_right, few_digits (p + 1) counts)
 
 digits_inside : (p : ℕ) (counts : List ℕ) (sets : ℕ) → p + length counts ≤ sets
     → AllByRecursion (λ d. d.place < sets) (digits_from p counts)
@@ -364,3 +353,7 @@ module _ (g : Game) (game : IsGame g) (player : ℕ) (numbers : List ℕ) (whole
   pub labels_are : (labels : List (List ℕ)) → AreLabelledTo g player numbers labels whole
       → labels ≡ reduced_labels g player
   labels_are labels labelled = grind (arith, cases_lt, all_at, take_past, map_twice, firsts_are)
+
+pub ruleset start_steps = (actions_positive, width_fits, few_digits, none_found_yet)
+
+pub ruleset label_steps = (none_labelled_yet, labels_are, whole_counted)

@@ -1,5 +1,5 @@
 -- A search for first strategies, choice by choice: what is below the choices so far, and what it
--- finds where it goes no further.
+-- finds where it goes no further. And the labels of those that were found, come to in the same way.
 use Rattle.gf_form.proofs.Common.{◌≡◌, AllByRecursion, is_relevant_at, if◌then◌else◌, action_counts}
 use Rattle.gf_form.proofs.Common.{ℕ, suc, ◌+◌, ◌<◌, ◌≤◌, ◌∷◌, ◌⊎◌, inl, inr, sym, drop, ◌&&◌, Game}
 use Rattle.gf_form.proofs.Common.{zero, Bool, true, List, refl, ap, arith, ◌==◌, ◌||◌, Level, Visit}
@@ -9,14 +9,19 @@ use Rattle.gf_form.proofs.Common.{is_left, IsFirst, IsGame, is_met, subst, IsCho
 use Rattle.gf_form.proofs.Common.{IsToldBy, digit_at, numbered, list_any, ◌*◌, ◌/◌, ◌^◌, cases_lt}
 use Rattle.gf_form.proofs.Common.{steps_to, can_be_met, AreFoundTo, length-drop, product, nat_lt}
 use Rattle.gf_form.proofs.Common.{all_choices, ArePositive, HaveChoices, AreFirstBelow, add-one}
-use Rattle.gf_form.proofs.Common.{div-lt_iff_lt-mul, mul-div_cancel_left, mul-le-mul_right}
-use Rattle.gf_form.proofs.lemmas.strategies.StrategiesByNumber.{choices_next, choices_row}
+use Rattle.gf_form.proofs.Common.{div-lt_iff_lt-mul, mul-div_cancel_left, mul-le-mul_right, ◌++◌}
+use Rattle.gf_form.proofs.Common.{map-append, IsNextBelow, shown, set, length-append, reduced_label}
+use Rattle.gf_form.proofs.Common.{relevant_sets, AreLabelledTo, take_more, AreInTurn, IsWritten}
+use Rattle.gf_form.proofs.Common.{length-set, player_keys, reduced, with_choices, length-map}
+use Rattle.gf_form.proofs.lemmas.strategies.StrategiesByNumber.{choices_next, choices_row, all_at}
 use Rattle.gf_form.proofs.lemmas.strategies.StrategiesByNumber.{positive_parts}
 use Rattle.std.proofs.lemmas.Bool.Decides.{nat_tests}
 use Rattle.gf_form.proofs.lemmas.rows.DigitChoices.{choice_at_number}
 use Rattle.gf_form.proofs.lemmas.strategies.ActionCounts.{choice_at as action_within}
 use Rattle.gf_form.proofs.lemmas.strategies.Choices.{length-all_choices, long}
 use Rattle.gf_form.proofs.lemmas.reduced.FirstStrategies.{IsRepeated, passed_by, repeated}
+use Rattle.gf_form.proofs.lemmas.reduced.FirstStrategies.{flags_fit, reduced_shown_at}
+use Rattle.std.proofs.lemmas.List.{ext_get_or, set-get_or}
 
 -- after those with the first action at the first digit, another one is chosen there
 other_action : (n : ℕ) (counts : List ℕ) (k : ℕ) → product counts ≤ k → k < n * product counts
@@ -125,7 +130,8 @@ digit_here : (all : List OwnDigit) (depth : ℕ) (d : OwnDigit) (faster : List O
 digit_here (x ∷ all) (suc depth) d faster left =
     grind (arith, add-one, digit_here all depth d faster left)
 digit_here (x ∷ all) zero d faster left = grind arith
-digit_here [] depth d faster left = absurd (omega (arith, ap length left, length-drop {A = OwnDigit} depth []))
+digit_here [] depth d faster left =
+    absurd (omega (arith, ap length left, length-drop {A = OwnDigit} depth []))
 
 pub no_digits : (digits : List OwnDigit) → length digits ≡ 0 → digits ≡ []
 no_digits [] e = refl
@@ -338,3 +344,97 @@ module _ (g : Game) (game : IsGame g) (player : ℕ) where
             (subst (λ (q : ℕ). q < length counts) at (place_inside depth here.0))
             (grind (arith, flag, at))
             (moved below.choices n from before_end)))
+
+-- ---- at a digit
+
+pub set_twice : {A : Type 0} (xs : List A) (i : ℕ) (a b : A) → set (set xs i a) i b ≡ set xs i b
+set_twice (x ∷ xs) (suc i) a b = ap (λ ys. x ∷ ys) (set_twice xs i a b)
+set_twice xs i a b = refl
+
+pub next_written : {g : Game} {player number count : ℕ} {d : OwnDigit} {faster : List OwnDigit}
+    {strategy : List ℕ} {level : Level}
+    (below : IsWritten g player (d ∷ faster) strategy level number count) (before : ℕ)
+    → before < d.actions → (left : Level) → IsLevel (length (player_keys g player)) left
+    → IsChosen d.step (before + 1) level left
+    → IsWritten g player faster (set strategy d.place (before + 1)) left
+    (number + before * (count / d.actions)) (count / d.actions)
+next_written {g} {player} {number} {count} {d} {faster} {strategy} below before less left levelled
+    chosen =
+    record {
+      choices = next_choices below.choices before less;
+      told = next_told below.choices before less below.told levelled chosen;
+      inside = subst (λ (n : ℕ). AllByRecursion (λ d. d.place < n) faster)
+          (sym (length-set strategy d.place (before + 1))) below.inside.1;
+      is = λ n from to.
+          below.is n (omega (arith, from)) (omega (arith, to, next_end below.choices before less))
+          ∙ ap (λ (a : ℕ). with_choices faster (choices_at g player faster n)
+          (set strategy d.place a)) (chosen_there below.choices before less n from to);
+    }
+
+-- ---- one label more
+
+in_turn_at : (numbers : List ℕ) (k : ℕ) → AreInTurn numbers → suc k < length numbers
+    → get_or numbers k 0 < get_or numbers (suc k) 0
+in_turn_at (n ∷ numbers) zero h less =
+    all_at (λ m. n < m) numbers 0 0 h.0 (omega (arith, less))
+in_turn_at (n ∷ numbers) (suc k) h less = in_turn_at numbers k h.1 (omega (arith, less))
+in_turn_at [] k h less = absurd (omega (arith, less))
+
+module _ (g : Game) (game : IsGame g) (player : ℕ) (strategy : List ℕ) (level : Level)
+    (number : ℕ) (last : IsWritten g player [] strategy level number 1) where
+  is : numbered g player number ≡ strategy
+  is = last.is number (omega arith) (omega arith)
+
+  within : number < length (strategies g player)
+  within = omega (arith, last.choices.end)
+
+  fit : length (relevant_sets g player (numbered g player number)) ≡ length strategy
+  fit = flags_fit g game player number within ∙ ap length is
+
+  pub known_fit : length level.known.items ≡ length strategy
+  known_fit =
+      grind (arith, length-map, fit)
+
+  pub label_is : (met : List Bool) → length met ≡ length level.known.items
+      → ((place : ℕ) → place < length level.known.items
+      → get_or met place false ≡ can_be_met place level)
+      → reduced_label (shown met strategy)
+      ≡ reduced_label (reduced g player (numbered g player number))
+  label_is met counted marks =
+      ap reduced_label (λ i. shown (flags i) (sym is i))
+      ∙ ap reduced_label (sym (reduced_shown_at g game player number within))
+    where
+      flags : met ≡ relevant_sets g player (numbered g player number)
+      flags = ext_get_or false met (relevant_sets g player (numbered g player number))
+          (counted ∙ known_fit ∙ sym fit)
+          (λ place among. marks place (omega (arith, among, counted))
+          ∙ sym (left_all place level)
+          ∙ sym (last.told.tells number place (omega arith) (omega arith)
+          (omega (arith, among, counted, last.told.levelled.counted))))
+
+pub one_label_more : (g : Game) (player : ℕ) (numbers : List ℕ) (labels next : List (List ℕ))
+    (label : List ℕ) (number : ℕ) → AreInTurn numbers → IsNextBelow numbers labels (number + 1)
+    → AreLabelledTo g player numbers labels number
+    → label ≡ reduced_label (reduced g player (numbered g player number))
+    → next ≡ labels ++ label ∷ [] → AreLabelledTo g player numbers next (number + 1)
+one_label_more g player numbers labels next label number in_turn due labelled label_is next_is =
+    record {
+      are = grind (
+        arith,
+        label_is,
+        labelled.are,
+        is,
+        more,
+        take_more numbers (length labels) 0 due.0,
+        map-append,
+      );
+      next = λ less. grind (arith, more, is, in_turn_at numbers (length labels) in_turn);
+    }
+  where
+    more : length next ≡ length labels + 1
+    more = grind (arith, length-append)
+
+    is : get_or numbers (length labels) 0 ≡ number
+    is = omega (arith, due.0, due.1, labelled.next due.0)
+
+pub ruleset search_steps = (some_actions, step_fits, no_digits, set-get_or)

@@ -92,11 +92,7 @@ choice_there [] i less = grind arith
 choice_there (count ∷ counts) i less =
     let some = (positive_parts count (product counts) i less).1 in
     let others = choice_there counts (i % product counts) (mod-lt i some) in
-    let within = (div-lt_iff_lt-mul some).1 less in
-    rw (choices_next count counts i some less) (
-      ((omega arith, omega (arith, within)), others.0),
-      grind (arith, others.1, div-add-mod i (product counts)),
-    )
+    grind (arith, others, positive_parts, mod-lt, div-lt_iff_lt-mul, choices_next, div-add-mod)
 
 pub choice_length : (counts s : List ℕ) → IsChoice counts s → length s ≡ length counts
 choice_length counts s h =

@@ -1,12 +1,12 @@
 -- The strategies of a profile choose an action at each set, and chance has none.
-use Rattle.gf_form.proofs.Common.{◌≡◌, ℕ, ◌+◌, ◌-◌, ◌<◌, ◌≤◌, Bool, true, List, [], ◌∷◌, Some}
-use Rattle.gf_form.proofs.Common.{length, map, get_or, refl, sym, ◌∙◌, subst, arith, zip, filter}
-use Rattle.gf_form.proofs.Common.{find, AllZip, Contains, get_or_default, IsProfile, every_profile}
-use Rattle.gf_form.proofs.Common.{SetKey, InformationSet, same_set, Described, description_at, Game}
-use Rattle.gf_form.proofs.Common.{IsGame, set_at, player_keys, player_sets, action_counts}
+use Rattle.gf_form.proofs.Common.{◌≡◌, ℕ, ◌+◌, ◌-◌, ◌<◌, ◌≤◌, Bool, true, List, [], ◌∷◌, Some, map}
+use Rattle.gf_form.proofs.Common.{length, get_or, refl, sym, ◌∙◌, subst, arith, zip, filter, find}
+use Rattle.gf_form.proofs.Common.{AllZip, Contains, get_or_default, IsProfile, every_profile, Game}
+use Rattle.gf_form.proofs.Common.{SetKey, InformationSet, same_set, Described, description_at, Node}
+use Rattle.gf_form.proofs.Common.{IsGame, set_at, player_keys, player_sets, action_counts, set_of}
 use Rattle.gf_form.proofs.Common.{strategies, players_of, strategies_at, strategy_at, choice_at}
-use Rattle.gf_form.proofs.Common.{choices_by, full_profiles, HasActions, AllZip-long}
-use Rattle.gf_form.proofs.Common.{length-numbers_from, zero_ratio, set_of, Node, payoff_at}
+use Rattle.gf_form.proofs.Common.{choices_by, full_profiles, HasActions, AllZip-long, zero_ratio}
+use Rattle.gf_form.proofs.Common.{length-numbers_from, payoff_at}
 use Rattle.gf_form.proofs.lemmas.strategies.Choices.{IsChoice, every_choice}
 use Rattle.gf_form.proofs.lemmas.strategies.Lookups.{strategy_before, zip_counted}
 use Rattle.gf_form.proofs.lemmas.strategies.KnownSets.{set_is}
@@ -18,9 +18,7 @@ choice_within : (key : SetKey) (ss : List (Described SetKey InformationSet)) (st
     → description_at same_set ss key ≡ Some set → (1 ≤ choice_at (map (λ s. s.key) ss) strategy key)
     × (choice_at (map (λ s. s.key) ss) strategy key ≤ length set.actions)
 choice_within key (s ∷ ss) (action ∷ others) set h is =
-    let here = h.0 in
-    let later = choice_within key ss others set h.1 in
-    grind (arith, here, later)
+    grind (arith, choice_within key ss others set h.1)
 choice_within key ss others set h is = grind arith
 
 -- a set is found among its owner's

@@ -1,13 +1,13 @@
 -- Numbers of actions, multiplied one after another.
-use Rattle.gf_form.proofs.Common.{◌≡◌, ℕ, zero, suc, ◌+◌, ◌*◌, ◌<◌, ◌≤◌, List, [], ◌∷◌, ◌++◌}
-use Rattle.gf_form.proofs.Common.{length, map, get_or, take, refl, ap, ◌∙◌, add-one, arith, Option}
-use Rattle.gf_form.proofs.Common.{Some, None, MatchOption, Vec, Global, ◌==◌, filter, unwrap_or}
-use Rattle.gf_form.proofs.Common.{AllByRecursion, mul_assoc, mul-le-mul, take-suc, get_or-map}
-use Rattle.gf_form.proofs.Common.{length-map, unwrap_or-slice_get, mul_above, at_position}
-use Rattle.gf_form.proofs.Common.{profile_limit, product, length-profiles, get_or-numbers_from}
-use Rattle.gf_form.proofs.Common.{length-numbers_from, SetKey, InformationSet, IsSet, Described}
-use Rattle.gf_form.proofs.Common.{player_keys, Game, IsGame, action_counts, players_of, strategies}
-use Rattle.gf_form.proofs.Common.{HasTooManyProfiles, ArePositive, All-from_recursion, All-get_or}
+use Rattle.gf_form.proofs.Common.{◌≡◌, ℕ, zero, suc, ◌+◌, ◌*◌, ◌<◌, ◌≤◌, List, [], ◌∷◌, ◌++◌, map}
+use Rattle.gf_form.proofs.Common.{length, get_or, take, refl, ap, ◌∙◌, add-one, arith, Option, Some}
+use Rattle.gf_form.proofs.Common.{None, MatchOption, Vec, Global, ◌==◌, filter, unwrap_or, take-suc}
+use Rattle.gf_form.proofs.Common.{AllByRecursion, mul_assoc, mul-le-mul, get_or-map, length-map}
+use Rattle.gf_form.proofs.Common.{unwrap_or-slice_get, mul_above, at_position, profile_limit, IsSet}
+use Rattle.gf_form.proofs.Common.{product, length-profiles, get_or-numbers_from, SetKey, Described}
+use Rattle.gf_form.proofs.Common.{length-numbers_from, InformationSet, player_keys, Game, IsGame}
+use Rattle.gf_form.proofs.Common.{action_counts, players_of, strategies, HasTooManyProfiles}
+use Rattle.gf_form.proofs.Common.{ArePositive, All-from_recursion, All-get_or}
 use Rattle.std.proofs.Math.Nat.{mul-le-mul_left}
 use Rattle.std.proofs.lemmas.List.{take_all}
 use Rattle.gf_nfg.specs.declared.limit.ProfileCount.{ProfileCount}
@@ -57,8 +57,7 @@ count_at g player before = grind (arith, add-one, unwrap_or-slice_get)
 pub positive_at : (counts : List ℕ) (i : ℕ) → ArePositive counts → i < length counts
     → 0 < get_or counts i 0
 positive_at counts i h less =
-    All-get_or (λ count. 0 < count) counts i 0 less
-    (All-from_recursion (λ count. 0 < count) counts h)
+    grind (arith, All-get_or, All-from_recursion)
 
 -- ---- the players
 

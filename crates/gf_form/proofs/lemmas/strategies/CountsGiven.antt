@@ -31,6 +31,13 @@ module _ (g : Game) (c : Counts) (counts : AreCounts g c) where
       → get_or c.strategies.items i 0 ≡ length (strategies g (i + 1))
   count_of i less = grind (arith, of_player, all_counted)
 
+  read_count : (i whole : ℕ) → i < length c.actions.items
+      → whole ≡ get_or c.strategies.items i whole → whole ≡ length (strategies g (i + 1))
+  read_count i whole less is =
+      let inside : i < length c.strategies.items =
+      omega (arith, less, all_counted, strategies_counted) in
+      cc (get_or_default_zero c.strategies.items i whole inside, is, count_of i less)
+
   -- what is read of the player at a place
   pub given : (i whole : ℕ) (own : Vec ℕ Global) (actions : List ℕ) → i < length c.actions.items
       → own ≡ get_or c.actions.items i own → actions ≡ own.items
@@ -38,27 +45,11 @@ module _ (g : Game) (c : Counts) (counts : AreCounts g c) where
       → (actions ≡ action_counts g (i + 1)) × (whole ≡ product (action_counts g (i + 1)))
   given i whole own actions less own_is actions_are whole_is = (
     own_read c.actions.items i own actions less own_is actions_are ∙ actions_of i less,
-    grind (
-      arith,
-      get_or_default_zero,
-      count_of,
-      all_counted,
-      strategies_counted,
-      length-all_choices,
-    ),
+    grind (arith, read_count, length-all_choices),
   )
 
   pub some_given : (i whole : ℕ) → i < length c.actions.items
       → whole ≡ get_or c.strategies.items i whole → 0 < whole
-  some_given i whole less is =
-      grind (
-        arith,
-        get_or_default_zero,
-        count_of,
-        all_counted,
-        strategies_counted,
-        some_strategy,
-        counts.is_game,
-      )
+  some_given i whole less is = grind (arith, read_count, some_strategy, counts.is_game)
 
 pub ruleset given_steps = (given, some_given, all_counted, strategies_counted)

@@ -1,8 +1,10 @@
 -- The information sets of a game by their keys: what holds for each, and whose they are.
-use Rattle.gf_form.proofs.Common.{◌≡◌, ℕ, Some, length, subst, arith, eqb-true, SetKey}
-use Rattle.gf_form.proofs.Common.{InformationSet, same_set, IsSet, Described, Game, IsGame, set_at}
-use Rattle.gf_form.proofs.Common.{player_keys, same_set_equality, Has, mapped_from, of_filter}
+use Rattle.gf_form.proofs.Common.{◌≡◌, ℕ, Some, length, subst, arith, eqb-true, SetKey, same_set}
+use Rattle.gf_form.proofs.Common.{InformationSet, IsSet, Described, Game, IsGame, set_at, Has, sym}
+use Rattle.gf_form.proofs.Common.{player_keys, same_set_equality, mapped_from, of_filter, used_sets}
+use Rattle.gf_form.proofs.Common.{AreDistinct, first_uses_distinct, sets_by_first_use}
 use Rattle.gf_form.proofs.lemmas.strategies.Lookups.{Each, each_described}
+use Rattle.gf_tree.specs.FirstUse.{sets_of}
 
 pub each_set : (g : Game) → IsGame g → (key : SetKey)
     → Each (IsSet (length g.players) key) (set_at g key)
@@ -16,3 +18,8 @@ set_is g game key set e = subst (Each (IsSet (length g.players) key)) e (each_se
 pub own_set : (g : Game) (player : ℕ) (key : SetKey) → Has (player_keys g player) key
     → (s : Described SetKey InformationSet) × Has g.sets s × (s.key ≡ key) × (key.player ≡ player)
 own_set g player key i = grind (arith, mapped_from, of_filter, eqb-true)
+
+-- they are apart
+pub keys_distinct : (g : Game) → IsGame g → (player : ℕ) → AreDistinct (player_keys g player)
+keys_distinct g game player = subst AreDistinct (sym (sets_by_first_use g player game))
+    (first_uses_distinct same_set same_set_equality (sets_of player (used_sets g.tree)))

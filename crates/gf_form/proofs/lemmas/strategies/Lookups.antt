@@ -119,8 +119,7 @@ pub zip_flat : {A B C D : Type 0} (R : A → B → Type 0) (S : C → D → Type
     (h : B → List D) → ((x : A) (y : B) → R x y → AllZip S (f x) (h y)) → (xs : List A)
     (ys : List B) → AllZip R xs ys → AllZip S (flat_map f xs) (flat_map h ys)
 zip_flat R S f h each (x ∷ xs) (y ∷ ys) all =
-    zip_both S (f x) (flat_map f xs) (h y) (flat_map h ys) (each x y all.0)
-    (zip_flat R S f h each xs ys all.1)
+    grind (arith, zip_both, zip_flat R S f h each xs ys all.1)
 zip_flat R S f h each [] [] all = tt
 zip_flat R S f h each xs ys all = grind arith
 

@@ -1,12 +1,11 @@
 -- The strategy with a number: one action after another, each by what is left of the number.
-use Rattle.gf_form.proofs.Common.{◌≡◌, suc, ◌+◌, ◌*◌, ◌/◌, ◌++◌, take, drop, refl, true, ◌==◌, ℕ}
-use Rattle.gf_form.proofs.Common.{AllByRecursion, strategy_label, ◌%◌, ◌<◌, ◌≤◌, ◌∷◌, map, sym, ap}
-use Rattle.gf_form.proofs.Common.{◌∙◌, ◌^◌, List, add-one, drop-cons, take-suc, all_both, mul_assoc}
-use Rattle.gf_form.proofs.Common.{[], append_assoc, map-append, all_choices, All-get_or, length}
-use Rattle.gf_form.proofs.Common.{mul-div_cancel_left, All-from_recursion, get_or, subst, arith}
-use Rattle.gf_form.proofs.Common.{false, decimal, mod-lt, product, IsPlain, reduced_label, shown}
-use Rattle.gf_form.proofs.Common.{choice_text, map_twice, Bool, Option, Some, None, zero}
-use Rattle.gf_form.proofs.Common.{join_with_byte, if◌then◌else◌}
+use Rattle.gf_form.proofs.Common.{mul-div_cancel_left, All-from_recursion, AllByRecursion, take-suc}
+use Rattle.gf_form.proofs.Common.{strategy_label, reduced_label, if◌then◌else◌, append_assoc, subst}
+use Rattle.gf_form.proofs.Common.{all_choices, choice_text, map-append, All-get_or, drop-cons, ◌++◌}
+use Rattle.gf_form.proofs.Common.{mul_assoc, map_twice, all_both, add-one, decimal, product, length}
+use Rattle.gf_form.proofs.Common.{IsPlain, get_or, mod-lt, Option, arith, false, shown, take, drop}
+use Rattle.gf_form.proofs.Common.{refl, true, ◌==◌, List, Bool, Some, None, zero, ◌≡◌, suc, ◌+◌, ap}
+use Rattle.gf_form.proofs.Common.{◌*◌, ◌/◌, ◌%◌, ◌<◌, ◌≤◌, ◌∷◌, map, sym, ◌∙◌, ◌^◌, [], ℕ}
 use Rattle.std.specs.Str.Parse.{AllDigits}
 use Rattle.std.proofs.lemmas.Bool.Decides.{nat_tests}
 use Rattle.std.proofs.lemmas.Fmt.{decimal_is_IsNumeral_wide}
@@ -83,7 +82,8 @@ pub label_more : (flags : List Bool) (s : List ℕ) (i : ℕ) → i < length s
     → length flags ≡ length s → 0 < i → reduced_label (take (i + 1) (shown flags s))
     ≡ (reduced_label (take i (shown flags s)) ++ 45 ∷ []) ++ choice_text (choice_in flags s i)
 label_more (f ∷ flags) (a ∷ s) (suc (suc i)) less same some =
-    grind (arith, append_assoc, label_more flags s (suc i) (omega (arith, less)) (omega (arith, same)))
+    let before = label_more flags s (suc i) (omega (arith, less)) (omega (arith, same)) in
+    grind (arith, append_assoc, before)
 label_more (f ∷ g ∷ flags) (a ∷ b ∷ s) (suc zero) less same some = grind (arith, append_assoc)
 label_more flags s i less same some = absurd (grind arith)
 
@@ -101,7 +101,9 @@ length-shown flags s = grind arith
 all_shown : (flags : List Bool) (s : List ℕ) → length flags ≡ length s
     → ((k : ℕ) → k < length s → get_or flags k false ≡ true) → shown flags s ≡ map Some s
 all_shown (f ∷ flags) (a ∷ s) same all =
-    grind (arith, all 0, all_shown flags s (omega (arith, same)) (λ k less. all (suc k) (omega (arith, less))))
+    let others =
+    all_shown flags s (omega (arith, same)) (λ k less. all (suc k) (omega (arith, less))) in
+    grind (arith, all 0, others)
 all_shown [] [] same all = refl
 all_shown flags s same all = grind arith
 
@@ -109,8 +111,7 @@ pub whole_label : (flags : List Bool) (s : List ℕ) → length flags ≡ length
     → ((k : ℕ) → k < length s → get_or flags k false ≡ true)
     → reduced_label (shown flags s) ≡ strategy_label s
 whole_label flags s same all =
-    ap reduced_label (all_shown flags s same all)
-    ∙ ap (join_with_byte 45) (map_twice (λ (choice : Option ℕ). choice_text choice) Some s)
+    grind (arith, all_shown, map_twice)
 
 -- ---- the labels so far
 

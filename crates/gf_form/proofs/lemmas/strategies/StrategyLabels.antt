@@ -42,8 +42,7 @@ same_texts : (xs ys : List (List ℕ)) → length xs ≡ length ys → AllByRecu
     → AllByRecursion AreUndashed ys → join_with_byte 45 xs ≡ join_with_byte 45 ys → xs ≡ ys
 same_texts (x ∷ u ∷ xs) (y ∷ v ∷ ys) n hx hy e =
     let parts = cut x y (join_with_byte 45 (u ∷ xs)) (join_with_byte 45 (v ∷ ys)) hx.0 hy.0 e in
-    let others = same_texts (u ∷ xs) (v ∷ ys) (omega (arith, n)) hx.1 hy.1 parts.1 in
-    λ i. parts.0 i ∷ others i
+    grind (arith, cut, same_texts (u ∷ xs) (v ∷ ys) (omega (arith, n)) hx.1 hy.1 parts.1)
 same_texts (x ∷ []) (y ∷ ys) n hx hy e = grind arith
 same_texts [] [] n hx hy e = refl
 same_texts xs ys n hx hy e = absurd (omega (arith, n))

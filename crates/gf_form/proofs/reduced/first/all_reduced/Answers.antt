@@ -53,6 +53,3 @@ returns-clause-firsts c =
       length-numbers_from 1 (length g.players),
     )))
     c.loop-place.invariant.0
-
-pub returns-clause-labels : goal.returns-clause-labels
-returns-clause-labels c = grind (arith, take_past, all_counted, as_many_players)

@@ -1,9 +1,6 @@
-use Rattle.gf_form.proofs.Common.{◌∙◌, ℕ, arith, subst, IsLevel}
-use Rattle.gf_form.proofs.lemmas.reduced.SearchStarts.{few_digits, none_found_yet, searched_all}
+use Rattle.gf_form.proofs.Common.{◌∙◌, ℕ, subst, IsLevel}
+use Rattle.gf_form.proofs.lemmas.reduced.SearchStarts.{searched_all}
 use Rattle.gf_form.proofs.reduced.first.first_numbers.Goals as goal
-
-pub own_visits-requires-clause-few : goal.own_visits-requires-clause-few
-own_visits-requires-clause-few c = grind (arith, few_digits)
 
 pub push_below-requires-clause-below : goal.push_below-requires-clause-below
 push_below-requires-clause-below c =
@@ -18,6 +15,3 @@ push_below-requires-clause-below c =
     (rw c.deref-2.ensures.value at c.in_ok-level.ensures.visits)
     (subst (λ (positions : ℕ). IsLevel positions c.in_ok-level.level)
     (c.len.ensures ∙ c.args.player.now.digits.ok.0) c.in_ok-level.ensures.level))
-
-pub push_below-requires-clause-found : goal.push_below-requires-clause-found
-push_below-requires-clause-found c = grind (arith, none_found_yet)

@@ -1,13 +1,6 @@
-use Rattle.gf_form.proofs.Common.{◌∙◌, ap, arith, product, digits_from}
-use Rattle.gf_form.proofs.lemmas.strategies.CountedActions.{actions_positive}
-use Rattle.gf_form.proofs.lemmas.reduced.SearchStarts.{width_fits, all_choices_had, firsts_are}
+use Rattle.gf_form.proofs.Common.{◌∙◌, ap, product, digits_from}
+use Rattle.gf_form.proofs.lemmas.reduced.SearchStarts.{all_choices_had, firsts_are}
 use Rattle.gf_form.proofs.reduced.first.first_strategies.Goals as goal
-
-pub own_steps-requires-clause-some : goal.own_steps-requires-clause-some
-own_steps-requires-clause-some c = grind (arith, actions_positive)
-
-pub visits_in-requires-clause-fits : goal.visits_in-requires-clause-fits
-visits_in-requires-clause-fits c = grind (arith, width_fits, actions_positive)
 
 pub first_numbers-requires-clause-choices : goal.first_numbers-requires-clause-choices
 first_numbers-requires-clause-choices c =

@@ -1,6 +1,5 @@
-use Rattle.gf_form.proofs.Common.{arith, ◌++◌, ◌∷◌, ◌∙◌, [], ℕ, List, ap, subst, sym, product}
-use Rattle.gf_form.proofs.Common.{AreFirstsOf}
-use Rattle.gf_form.proofs.lemmas.reduced.Coming.{only_first, only_label}
+use Rattle.gf_form.proofs.Common.{◌++◌, ◌∷◌, ◌∙◌, [], ℕ, List, ap, subst, sym, product, AreFirstsOf}
+use Rattle.gf_form.proofs.lemmas.reduced.Coming.{only_first}
 use Rattle.gf_form.proofs.reduced.first.only_strategy.Goals as goal
 
 pub returns-clause-firsts : goal.returns-clause-firsts
@@ -10,6 +9,3 @@ returns-clause-firsts c =
     ∙ ap (λ (numbers : List ℕ). numbers ++ 0 ∷ []) c.in_ok-firsts.ensures.items))
     (only_first c.args.game.now c.requires.is_game c.args.player
     (sym (ap product c.requires.counts) ∙ c.requires.one))
-
-pub returns-clause-labels : goal.returns-clause-labels
-returns-clause-labels c = grind (arith, only_label)

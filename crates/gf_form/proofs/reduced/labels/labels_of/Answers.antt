@@ -18,9 +18,6 @@ push_below-requires-clause-below c =
     (subst (λ (sets : ℕ). IsLevel sets c.in_ok-level.level) c.requires.sets
     c.in_ok-level.ensures.level))
 
-pub push_below-requires-clause-labelled : goal.push_below-requires-clause-labelled
-push_below-requires-clause-labelled c = grind (arith, none_labelled_yet)
-
 pub returns-then-not-is_next_below : goal.returns-then-not-is_next_below
 returns-then-not-is_next_below c =
     let g = c.args.player.now.game.now in
@@ -32,6 +29,3 @@ returns-then-not-is_next_below c =
     c.requires.found _
     (none_labelled_yet g player _ _ _ c.in_ok-labelling.ensures.labels
     (c.is_next_below.ensures.past c.if-not-is_next_below.true))
-
-pub returns : goal.returns
-returns c = grind (arith, labels_are, whole_counted)

@@ -1,7 +1,6 @@
 use Rattle.gf_form.proofs.Common.{◌≡◌, ◌∙◌, [], sym}
 use Rattle.std.proofs.lemmas.List.{nil_from_length}
-use Rattle.gf_form.proofs.lemmas.reduced.Surveys.{went_on}
-use Rattle.gf_form.proofs.lemmas.reduced.VisitsFound.{find_relevance}
+use Rattle.gf_form.proofs.lemmas.reduced.VisitsFound.{went_on, find_relevance}
 use Rattle.gf_form.proofs.reduced.survey.visits_in.Goals as goal
 
 pub loop-node-preserved : goal.loop-node-preserved

@@ -1,5 +1,5 @@
 use Rattle.gf_form.proofs.Common.{survey_size, visits_at}
-use Rattle.gf_form.proofs.lemmas.reduced.Surveys.{FindsAll}
+use Rattle.gf_form.proofs.lemmas.reduced.VisitsFound.{FindsAll}
 use Rattle.gf_form.proofs.reduced.survey.visits_in.Given as goal
 
 abbrev pub invariant-loop-node : goal.invariant-loop-node

@@ -3,7 +3,7 @@ use Rattle.gf_form.proofs.Common.{IsNonDecreasingBy, IsNonDecreasingBy-from_sort
 use Rattle.std.proofs.lemmas.List.Filters.{dedup_is}
 use Rattle.std.proofs.lemmas.List.Sorted.{list_any-IsPermutation}
 use Rattle.gf_form.specs.inner.reduced.Visits.{order_of}
-use Rattle.gf_form.proofs.lemmas.reduced.Surveys.{each_once, each_ordered, by_demands}
+use Rattle.gf_form.proofs.lemmas.reduced.EachOnce.{by_demands, each_once, each_ordered}
 use Rattle.gf_form.proofs.reduced.visits.keep_each_once.Goals as goal
 
 pub returns-clause-same : goal.returns-clause-same
@@ -14,6 +14,7 @@ returns-clause-same c test =
 
 pub returns-clause-ordered : goal.returns-clause-ordered
 returns-clause-ordered c =
-    subst (IsNonDecreasingBy (λ (v : Visit). v.demands)) (sym (dedup_is _ _ _ c.dedup.ensures.filtered))
+    subst (IsNonDecreasingBy (λ (v : Visit). v.demands))
+    (sym (dedup_is _ _ _ c.dedup.ensures.filtered))
     (each_ordered _ _ (by_demands _ (IsNonDecreasingBy-from_sort_by_key order_of _
     c.sort_unstable_by_key.ensures.sorted (λ a r f k. search rules))))

@@ -1,8 +1,7 @@
 use Rattle.gf_form.proofs.Common.{◌≡◌, ◌+◌, ◌*◌, ◌/◌, ◌<◌, ◌∙◌, ℕ, ap, arith, false, length, subst}
 use Rattle.gf_form.proofs.Common.{sym, get_or-take, length-take-le, IsChosenAt, IsLevel, AreFoundTo}
 use Rattle.gf_form.proofs.lemmas.reduced.Searches.{all_found, known_firsts, last_firsts, none_found}
-use Rattle.gf_form.proofs.lemmas.reduced.Searches.{next_searched, no_digits, some_actions}
-use Rattle.gf_form.proofs.lemmas.reduced.Searches.{step_fits}
+use Rattle.gf_form.proofs.lemmas.reduced.Searches.{next_searched, no_digits}
 use Rattle.gf_form.proofs.reduced.first.Search.+push_below.Goals as goal
 
 pub push_all-requires-clause-firsts : goal.push_all-requires-clause-firsts
@@ -43,12 +42,6 @@ returns-then-not-are_set t c =
           c.requires.below met c.in_ok-mark.ensures.marks shut.0 early
           (sym (get_or-take c.args.depth met shut.0 false early) ∙ shut.2) _ c.requires.found;
     }
-
-pub nonzero_div-each : goal.nonzero_div-each
-nonzero_div-each t c = grind (arith, some_actions)
-
-pub choose_at-requires-clause-fits : goal.choose_at-requires-clause-fits
-choose_at-requires-clause-fits t c = grind (arith, step_fits)
 
 pub push_below-requires : goal.push_below-requires
 push_below-requires t c =

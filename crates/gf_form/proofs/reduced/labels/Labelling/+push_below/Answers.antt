@@ -1,26 +1,12 @@
 use Rattle.gf_form.proofs.Common.{◌≡◌, ◌+◌, ◌*◌, ◌/◌, ◌∙◌, ℕ, arith, length, subst, ap, IsChosen}
 use Rattle.gf_form.proofs.Common.{IsLevel, AreLabelledTo, length-set}
-use Rattle.gf_form.proofs.lemmas.reduced.SearchLabels.{next_written, set_twice}
-use Rattle.std.proofs.lemmas.List.{set-get_or}
-use Rattle.gf_form.proofs.lemmas.reduced.Searches.{all_rows, no_digits, some_actions, step_fits}
+use Rattle.gf_form.proofs.lemmas.reduced.Searches.{next_written, set_twice, all_rows, no_digits}
 use Rattle.gf_form.proofs.reduced.labels.Labelling.+push_below.Goals as goal
 
 pub push_label-requires-clause-last : goal.push_label-requires-clause-last
 push_label-requires-clause-last t c =
     let below = rw (no_digits _ c.in_default.ensures.cases) at c.requires.below in
     rw below.choices.counted at below
-
-pub push_label-requires-clause-next : goal.push_label-requires-clause-next
-push_label-requires-clause-next t c = grind (arith, no_digits)
-
-pub returns-in_default-clause-labelled : goal.returns-in_default-clause-labelled
-returns-in_default-clause-labelled t c = grind (arith, no_digits)
-
-pub nonzero_div-each : goal.nonzero_div-each
-nonzero_div-each t c = grind (arith, some_actions)
-
-pub choose-requires-clause-fits : goal.choose-requires-clause-fits
-choose-requires-clause-fits t c = grind (arith, step_fits)
 
 pub push_below-requires : goal.push_below-requires
 push_below-requires t c =
@@ -56,9 +42,6 @@ loop-before-preserved t c =
       λ choice. grind (arith, set_twice),
       grind (arith, length-set),
     )
-
-pub returns-clause-kept : goal.returns-clause-kept
-returns-clause-kept t c = grind (arith, set-get_or)
 
 pub returns-clause-labelled : goal.returns-clause-labelled
 returns-clause-labelled t c =

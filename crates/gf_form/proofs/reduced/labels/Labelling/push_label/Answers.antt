@@ -1,5 +1,5 @@
 use Rattle.gf_form.proofs.Common.{◌∙◌, ap, label_of, reduced_label, shown, length, sym}
-use Rattle.gf_form.proofs.lemmas.reduced.SearchLabels.{known_fit, label_is, one_label_more}
+use Rattle.gf_form.proofs.lemmas.reduced.Searches.{known_fit, label_is, one_label_more}
 use Rattle.gf_form.proofs.reduced.labels.Labelling.push_label.Goals as goal
 
 pub returns-clause-labelled : goal.returns-clause-labelled

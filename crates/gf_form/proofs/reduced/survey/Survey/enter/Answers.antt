@@ -1,5 +1,5 @@
 use Rattle.gf_form.proofs.Common.{◌∙◌, ◌-◌, ap, sym, tree_of, game_of, player_keys, Open}
-use Rattle.gf_form.proofs.lemmas.reduced.Surveys.{entered, place_there}
+use Rattle.gf_form.proofs.lemmas.reduced.VisitsFound.{entered, place_there}
 use Rattle.gf_form.proofs.reduced.survey.Survey.enter.Goals as goal
 
 abbrev node : goal.In_ok-push → Open

@@ -1,5 +1,5 @@
 use Rattle.gf_form.proofs.Common.{◌∙◌, sym, on_ok_weaker, game_of, tree_of}
-use Rattle.gf_form.proofs.lemmas.reduced.Surveys.{found_child}
+use Rattle.gf_form.proofs.lemmas.reduced.VisitsFound.{found_child}
 use Rattle.gf_form.proofs.reduced.survey.Survey.go_on.Goals as goal
 
 pub returns-in-Some-below-clause-found : goal.returns-in-Some-below-clause-found
