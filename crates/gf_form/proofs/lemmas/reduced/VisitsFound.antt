@@ -280,17 +280,7 @@ module _ (g : Game) (game : IsGame g) (own : Owner)
       let here = subst (λ (p : ℕ). IsAmong (player_sets g p) key set)
       (eqb-true key.player own.player his)
       (among (player_sets g key.player) key set (among_his g key ∙ is)) in
-      record {
-        place = here.place;
-        at_place = record {
-          within = grind (arith, length-map, here.within);
-          step_is = cc (his, steps, here.choice own.steps.now);
-          actions_are = here.count;
-        };
-        choice = here.choice;
-        there = here.there;
-        number = number_is keys here.place key (keys_distinct g game own.player) here.there;
-      }
+      grind (arith, here, length-map, number_is, keys_distinct)
 
   -- ---- the visits that come about by a strategy
 

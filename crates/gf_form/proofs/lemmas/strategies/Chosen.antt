@@ -62,9 +62,7 @@ module _ (g : Game) (game : IsGame g) where
       let his = subst (λ p. Contains (strategies g p) (get_or all k [])) player
       (zip_counted (λ strategy player. Contains (strategies g player) strategy) [] all
       (length g.players) h k less) in
-      his_actions (strategy_at all key.player) key set
-      (subst (Contains (strategies g key.player)) (sym (strategy_before all key.player above)) his)
-      is
+      grind (arith, known, k, player, less, his, his_actions, strategy_before)
 
 -- ---- the strategies of a profile
 

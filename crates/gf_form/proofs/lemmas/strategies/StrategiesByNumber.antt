@@ -65,11 +65,7 @@ goes_on counts number i stride rest count strategy h less is =
     let below : rest < count * product others = subst (λ (n : ℕ). rest < n) whole h.below in
     let parts = positive_parts count (product others) rest below in
     let divided = ap (λ (n : ℕ). n / count) whole ∙ mul-div_cancel_left (product others) parts.0 in
-    record {
-      stride_is = divided ∙ ap (λ (n : ℕ). product (drop n counts)) (sym (add-one i));
-      below = mod-lt rest (subst (λ (n : ℕ). 0 < n) (sym divided) parts.1);
-      choice = grind (arith, append_assoc, next, choices_next);
-    }
+    grind (arith, next, whole, below, parts, divided, add-one, mod-lt, append_assoc, choices_next)
 
 -- ---- labels
 
@@ -123,15 +119,7 @@ pub one_label_more : (counts : List ℕ)
 one_label_more counts labels next number label strategy less is label_is labels_are next_is =
     let all = all_choices counts in
     let taken = take-suc all number [] (omega (arith, less, length-all_choices counts)) in
-    cc (
-      next_is,
-      labels_are,
-      label_is,
-      is,
-      taken,
-      add-one number,
-      map-append strategy_label (take number all) (get_or all number [] ∷ []),
-    )
+    grind (arith, all, taken, add-one, map-append)
 
 -- ---- spellings
 
