@@ -54,6 +54,11 @@ check_hash_folders() {
     } >"$scratch/lines"
     run hash "$folder"
     judge "hash of a folder" "$scratch/lines" "$nothing" 0
+    ln -s games "$scratch/linked"
+    run hash "$scratch/linked"
+    sed "s|  $folder/|  $scratch/linked/|" "$scratch/lines" >"$scratch/wanted"
+    judge "hash of a link to a folder" "$scratch/wanted" "$nothing" 0
+    rm "$scratch/linked"
     run hash "$folder/empty"
     judge "hash of an empty folder" "$nothing" "$nothing" 0
     cp "$scratch/five.efg" "$folder/"$'d-\xff.efg'

@@ -5,11 +5,10 @@ use Rattle.gf_canon.specs.CanonicalText.{SpellsWithin}
 use Rattle.gf_canon.specs.Judgement.{MeansFile}
 use Rattle.gf_canon.specs.SameBy.{SameBy}
 use Rattle.gf_canon.specs.declared.sameness.Names.{Names}
-use Rattle.gf_calls.specs.Refused.{IsRefusedAs}
+use Rattle.gf_calls.specs.Refused.{AreRefusedAs}
 use Rattle.gf_calls.specs.declared.fault.FaultNumbers.{FaultNumbers}
 use Rattle.gf_calls.specs.declared.status.Status.{Status}
 use Rattle.gf_calls.specs.declared.status.Status.TheVariants.{Different, Done, Misuse}
-use Rattle.gf_calls.specs.declared.status.Status.TheVariants.{OutOfMemory}
 
 -- the status of the answer whether two files mean the same
 abbrev pub same_status : Bool → Status
@@ -23,16 +22,12 @@ pub record IsSameAnswer (names : Names) (a b : List ℕ) (same : Bool) : Type 0 
   pub right : (x y : GameFile) → SpellsWithin a x → SpellsWithin b y
       → IsTrue same ↔ SameBy names x y
 
--- the answer; or the first file, 0, is refused; or the second, 1; or memory ran out
+-- the answer, or why there is none
 pub data IsCompared (names : Names) (a b : List ℕ) (which : ℕ) (numbers : FaultNumbers)
     (status : Status) : Type 0 where
   compared : (same : Bool) → status ≡ same_status same → IsSameAnswer names a b same
       → IsCompared names a b which numbers status
-  first : IsRefusedAs a status numbers → which ≡ 0 → IsCompared names a b which numbers status
-  second : MeansFile a → IsRefusedAs b status numbers → which ≡ 1
-      → IsCompared names a b which numbers status
-  out_of_memory : status ≡ OutOfMemory → MeansFile a → MeansFile b
-      → IsCompared names a b which numbers status
+  refused : AreRefusedAs a b which status numbers → IsCompared names a b which numbers status
 
 -- the same, with names as the flags say; other flags are not understood
 abbrev pub IsComparedBy : Option Names → List ℕ → List ℕ → ℕ → FaultNumbers → Status → Type 0

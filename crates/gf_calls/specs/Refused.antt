@@ -1,9 +1,9 @@
--- What a call answers if a file is refused.
+-- What a call answers if a file is refused, or one of two.
 use Rattle.std.specs.Prelude.{◌≡◌, ℕ, List}
 use Rattle.gf_token.specs.declared.fault.Fault.{Fault}
 use Rattle.gf_token.specs.declared.fault.Why.{Why}
 use Rattle.gf_token.specs.declared.fault.Why.TheVariants as why
-use Rattle.gf_canon.specs.Judgement.{IsRefusedWith}
+use Rattle.gf_canon.specs.Judgement.{IsRefusedWith, MeansFile}
 use Rattle.gf_calls.specs.Numbers.{fault_numbers}
 use Rattle.gf_calls.specs.declared.fault.FaultNumbers.{FaultNumbers}
 use Rattle.gf_calls.specs.declared.status.Status.{Status}
@@ -20,3 +20,13 @@ pub record IsRefusedAs (bytes : List ℕ) (status : Status) (numbers : FaultNumb
   pub refused : IsRefusedWith bytes fault
   pub is_status : status ≡ refusal_status fault.why
   pub are_numbers : numbers ≡ fault_numbers fault
+
+-- the first of two files, 0, is refused; or it is not, and the second, 1, is; or memory ran out
+-- although both mean files
+pub data AreRefusedAs (a b : List ℕ) (which : ℕ) (status : Status) (numbers : FaultNumbers)
+    : Type 0 where
+  first : IsRefusedAs a status numbers → which ≡ 0 → AreRefusedAs a b which status numbers
+  second : MeansFile a → IsRefusedAs b status numbers → which ≡ 1
+      → AreRefusedAs a b which status numbers
+  out_of_memory : status ≡ OutOfMemory → MeansFile a → MeansFile b
+      → AreRefusedAs a b which status numbers

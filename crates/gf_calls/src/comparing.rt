@@ -1,8 +1,10 @@
 //! The comparison of two files.
 
-ghost use Rattle.std.specs.Prelude.{◌≡◌};
+ghost use Rattle.std.specs.Prelude.{◌≡◌, ℕ, List};
+ghost use Rattle.gf_canon.specs.Sameness.{AreRefusedWith};
 ghost use Rattle.gf_calls.specs.Compared.{IsCompared, IsComparedBy, same_status};
 ghost use Rattle.gf_calls.specs.Numbers.{names_by};
+ghost use Rattle.gf_calls.specs.Refused.{AreRefusedAs};
 
 use crate::fault::{FaultNumbers, tell};
 use crate::flags::names_by;
@@ -20,6 +22,25 @@ fn same_status(same: bool) -> Status
     }
 }
 
+/// Reports why two files are not compared, and which of them is refused: 0 for the first, 1 for the
+/// second.
+pub fn tell_of_two(refusal: SameFault, fault: &mut FaultNumbers, which: &mut u32) -> Status
+    ensures { (a b : List ℕ) → AreRefusedWith a b refusal
+        → AreRefusedAs a b which.new result fault.new }
+{
+    match refusal {
+        SameFault::First(refusal) => {
+            *which = 0;
+            tell(refusal, fault)
+        }
+        SameFault::Second(refusal) => {
+            *which = 1;
+            tell(refusal, fault)
+        }
+        SameFault::Memory => Status::OutOfMemory,
+    }
+}
+
 fn compare_by(
     alloc: Global,
     a: &[u8],
@@ -32,15 +53,7 @@ fn compare_by(
 {
     match same_by(alloc, a, b, names) {
         Ok(same) => same_status(same),
-        Err(SameFault::First(refusal)) => {
-            *which = 0;
-            tell(refusal, fault)
-        }
-        Err(SameFault::Second(refusal)) => {
-            *which = 1;
-            tell(refusal, fault)
-        }
-        Err(SameFault::Memory) => Status::OutOfMemory,
+        Err(refusal) => tell_of_two(refusal, fault, which),
     }
 }
 

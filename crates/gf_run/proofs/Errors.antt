@@ -17,9 +17,3 @@ pub IfOk-then : {T E : Type 0} (r : Result T E) (P Q : T → Type 0) → IfOk r 
     → ((x : T) → P x → Q x) → IfOk r Q
 IfOk-then (Ok x) P Q holds then = then x holds
 IfOk-then (Err e) P Q holds then = tt
-
--- what two facts about the value say together
-pub IfOk-both : {T E : Type 0} (r : Result T E) (P Q R : T → Type 0) → IfOk r P → IfOk r Q
-    → ((x : T) → P x → Q x → R x) → IfOk r R
-IfOk-both (Ok x) P Q R p q both = both x p q
-IfOk-both (Err e) P Q R p q both = tt

@@ -1,6 +1,5 @@
 -- The lines of the pairs of two files that are the same.
-use Rattle.std.proofs.Common.{◌≡◌, ℕ, Bool, true, false, List, [], ◌∷◌, ◌++◌, sym, ap, ◌∙◌}
-use Rattle.std.proofs.Common.{append_assoc, subst}
+use Rattle.std.proofs.Common.{◌≡◌, ℕ, Bool, true, false, List, [], ◌∷◌, ◌++◌, ap, ◌∙◌, refl}
 use Rattle.std.proofs.lemmas.Grind.{flat_map-append}
 use Rattle.std.proofs.lemmas.List.{append-nil}
 use Rattle.std.specs.List.{flat_map}
@@ -11,42 +10,47 @@ use Rattle.gf_canon.specs.Pairs.{ArePairs}
 use Rattle.gf_canon.specs.declared.numbering.pairs.NumberPair.{NumberPair}
 use Rattle.gf_run.specs.SameText.{IsLineAndMap, answer_line, pair_line}
 
--- the answer after these pairs
-abbrev lines : List NumberPair → List ℕ
-lines pairs = answer_line true ++ flat_map pair_line pairs
+pub one_line_more : (told : List NumberPair) (pair : NumberPair)
+    → flat_map pair_line (told ++ pair ∷ []) ≡ flat_map pair_line told ++ pair_line pair
+one_line_more told pair = flat_map-append pair_line told (pair ∷ [])
+    ∙ ap (λ (bytes : List ℕ). flat_map pair_line told ++ bytes) (append-nil (pair_line pair))
 
-pub one_line_more : (told : List NumberPair) (pair : NumberPair) (text : List ℕ)
-    → text ≡ answer_line true ++ flat_map pair_line told
-    → text ++ pair_line pair ≡ answer_line true ++ flat_map pair_line (told ++ pair ∷ [])
-one_line_more told pair text now =
-    ap (λ (bytes : List ℕ). bytes ++ pair_line pair) now
-    ∙ append_assoc (answer_line true) (flat_map pair_line told) (pair_line pair)
-    ∙ ap (λ (bytes : List ℕ). answer_line true ++ (flat_map pair_line told ++ bytes))
-    (sym (append-nil (pair_line pair)))
-    ∙ ap (λ (bytes : List ℕ). answer_line true ++ bytes)
-    (sym (flat_map-append pair_line told (pair ∷ [])))
+-- the pairs of two files that are the same have these lines
+abbrev pub HasLines : GameFile → GameFile → List ℕ → Type 0
+HasLines x y lines = (pairs : List NumberPair) × ArePairs x y pairs
+    × (lines ≡ flat_map pair_line pairs)
 
-no_lines : (text : List ℕ) (pairs : List NumberPair) → pairs ≡ [] → text ≡ lines pairs
-    → text ≡ answer_line true
-no_lines text pairs none is =
-    is ∙ ap (λ (ps : List NumberPair). lines ps) none ∙ append-nil (answer_line true)
+no_lines : (same : Bool) (lines text : List ℕ) → text ≡ answer_line same ++ lines → lines ≡ []
+    → text ≡ answer_line same
+no_lines same lines text is none =
+    is ∙ ap (λ (bytes : List ℕ). answer_line same ++ bytes) none ∙ append-nil (answer_line same)
 
-pub same_text : (x y : GameFile) (text : List ℕ) → SameFile x y → (pairs : List NumberPair)
-    → ArePairs x y pairs → text ≡ lines pairs → IsLineAndMap x y true text
-same_text (extensive g) (extensive h) text same pairs are is =
-    (same, λ r carries. is ∙ ap (λ (ps : List NumberPair). lines ps) (are r carries))
-same_text (extensive g) (strategic u) text same pairs are is = no_lines text pairs are is
-same_text (strategic t) y text same pairs are is = no_lines text pairs are is
+pub line_and_map : (x y : GameFile) (same : Bool) (lines text : List ℕ)
+    → (IsTrue same ↔ SameFile x y) → (same ≡ true → HasLines x y lines)
+    → (same ≡ false → lines ≡ []) → text ≡ answer_line same ++ lines
+    → IsLineAndMap x y same text
+line_and_map (extensive g) (extensive h) true lines text says told untold is =
+    let has = told refl in (
+      says.0 refl,
+      λ r carries. is ∙ ap (λ (bytes : List ℕ). answer_line true ++ bytes)
+          (has.2 ∙ ap (λ (pairs : List NumberPair). flat_map pair_line pairs) (has.1 r carries)),
+    )
+line_and_map (extensive g) (extensive h) false lines text says told untold is =
+    no_lines false lines text is (untold refl)
+line_and_map (extensive g) (strategic u) true lines text says told untold is =
+    absurd (says.0 refl)
+line_and_map (extensive g) (strategic u) false lines text says told untold is =
+    no_lines false lines text is (untold refl)
+line_and_map (strategic t) y true lines text says told untold is =
+    let has = told refl in
+    no_lines true lines text is
+    (has.2 ∙ ap (λ (pairs : List NumberPair). flat_map pair_line pairs) has.1)
+line_and_map (strategic t) y false lines text says told untold is =
+    no_lines false lines text is (untold refl)
 
-pub different_text : (x y : GameFile) (same : Bool) (text : List ℕ) → same ≡ false
-    → text ≡ answer_line false → IsLineAndMap x y same text
-different_text x y true text unlike is = absurd cc
-different_text (extensive g) (extensive h) false text unlike is = is
-different_text (extensive g) (strategic u) false text unlike is = is
-different_text (strategic t) y false text unlike is = is
-
--- the answer that two files differ is right
-pub differs : (x y : GameFile) (found same : Bool) → IsTrue found ↔ SameFile x y
-    → found ≡ false → same ≡ false → IsTrue same ↔ SameFile x y
-differs x y found same says unlike is =
-    subst (λ (b : Bool). IsTrue b ↔ SameFile x y) (unlike ∙ sym is) says
+-- the line and the lines, one after another
+pub two_parts : (same : Bool) (line part lines text : List ℕ) → line ≡ answer_line same
+    → part ≡ lines → text ≡ line ++ (part ++ []) → text ≡ answer_line same ++ lines
+two_parts same line part lines text is_line is_part is =
+    let whole = append-nil part in
+    cc

@@ -1,5 +1,5 @@
 -- The answer about two files that are compared.
-use Rattle.std.proofs.Common.{◌≡◌, ℕ, Bool, false, List, sym, subst}
+use Rattle.std.proofs.Common.{◌≡◌, ℕ, Bool, false, List}
 use Rattle.std.specs.Prelude.{◌↔◌, IsTrue}
 use Rattle.gf_canon.specs.GameFile.{GameFile}
 use Rattle.gf_canon.specs.CanonicalText.{SpellsWithin}
@@ -10,16 +10,14 @@ use Rattle.gf_run.specs.JobRun.{IsAnswerBy}
 use Rattle.gf_run.specs.SameText.{answer_line}
 
 -- without their renumbering
-pub compared : (names : Names) (found same : Bool) (a b text : List ℕ)
-    → ((x y : GameFile) → SpellsWithin a x → SpellsWithin b y → IsTrue found ↔ SameBy names x y)
-    → MeansFile a × MeansFile b → same ≡ found → text ≡ answer_line found
-    → IsAnswerBy false names same a b text
-compared names found same a b text says mean is_found is =
-    subst (λ (s : Bool). IsAnswerBy false names s a b text) (sym is_found) (record {
-      first = mean.0.0;
-      second = mean.1.0;
-      first_spelled = mean.0.1;
-      second_spelled = mean.1.1;
-      same_exactly = says mean.0.0 mean.1.0 mean.0.1 mean.1.1;
-      is_text = is;
-    })
+pub compared : (names : Names) (same : Bool) (a b text : List ℕ)
+    → ((x y : GameFile) → SpellsWithin a x → SpellsWithin b y → IsTrue same ↔ SameBy names x y)
+    → MeansFile a × MeansFile b → text ≡ answer_line same → IsAnswerBy false names same a b text
+compared names same a b text says mean is = record {
+  first = mean.0.0;
+  second = mean.1.0;
+  first_spelled = mean.0.1;
+  second_spelled = mean.1.1;
+  same_exactly = says mean.0.0 mean.1.0 mean.0.1 mean.1.1;
+  is_text = is;
+}

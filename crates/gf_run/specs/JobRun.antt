@@ -5,6 +5,7 @@ use Rattle.std.specs.declared.io.Error.{Error}
 use Rattle.gf_canon.specs.GameFile.{SameFile}
 use Rattle.gf_canon.specs.NamesAside.{IsTextBy}
 use Rattle.gf_canon.specs.SameBy.{SameBy}
+use Rattle.gf_canon.specs.declared.format.Format.{Format}
 use Rattle.gf_canon.specs.declared.sameness.Names.{Names}
 use Rattle.gf_form.specs.declared.forms.Strategies.{Strategies}
 use Rattle.gf_form.specs.declared.forms.Strategies.TheVariants.{Pure, Reduced}
@@ -16,7 +17,6 @@ use Rattle.gf_run.specs.Opening.{IsNotOpened, IsOpened, RunsOver, RunsOverTwo}
 use Rattle.gf_run.specs.Run.{IsRefusal}
 use Rattle.gf_run.specs.RunOfTwo.{AreNotRead, IsFaultOfFiles}
 use Rattle.gf_run.specs.SameText.{IsAnswer, IsLine, IsLineAndMap}
-use Rattle.gf_run.specs.declared.jobs.answer.FileKind.{FileKind}
 use Rattle.gf_run.specs.declared.fault.RunFault.{RunFault}
 use Rattle.gf_run.specs.declared.fault.RunFault.TheVariants.{Read, Write}
 use Rattle.gf_run.specs.declared.fault.Which.TheVariants.{Only, First, Second}
@@ -41,7 +41,7 @@ IsAnswerBy false names = IsAnswer (SameBy names) IsLine
 abbrev pub IsAnswerOf : Job → List ℕ → List ℕ → ℕ → List ℕ → Type 0
 IsAnswerOf (Canon input names) a b status text = (status ≡ 0) × IsTextBy names a text
 IsAnswerOf (Check input) a b status text =
-    (status ≡ 0) × ((kind : FileKind) × IsKindLine kind a text)
+    (status ≡ 0) × ((format : Format) × IsKindLine format a text)
 IsAnswerOf (Table input reduced) a b status text =
     (status ≡ 0) × IsFormText (strategies_of reduced) a text
 IsAnswerOf (Same first second map names) a b status text =

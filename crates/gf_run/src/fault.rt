@@ -5,7 +5,8 @@ ghost use Rattle.gf_run.specs.FaultInput.{is_of_second};
 ghost use Rattle.gf_run.specs.FaultStatus.{answer_status, status_of};
 ghost use Rattle.gf_run.specs.FormFaults.{form_fault};
 ghost use Rattle.gf_run.specs.SameFaults.{fault_of};
-ghost use Rattle.gf_run.specs.declared.fault.RunFault.TheVariants.{Memory, Write};
+ghost use Rattle.gf_run.specs.declared.fault.RunFault.TheVariants.{Memory, Refused, Write};
+ghost use Rattle.gf_run.specs.declared.fault.Which.TheVariants.{Only};
 
 use gf_canon::SameFault;
 use gf_form::FormFault;
@@ -110,6 +111,16 @@ impl From<WriteFault> for RunFault {
 
     fn from(_: WriteFault) -> RunFault {
         RunFault::Write
+    }
+}
+
+/// The refusal of the one input of a run.
+pub(crate) fn refused(fault: Fault) -> RunFault
+    ensures { result ≡ Refused Only fault }
+{
+    RunFault::Refused {
+        which: Which::Only,
+        fault,
     }
 }
 

@@ -1,16 +1,19 @@
 //! Which numbers of two games correspond.
 
-ghost use Rattle.std.specs.Prelude.{◌≡◌, ◌↔◌, ◌++◌, IfOk, IsTrue, List, [], OnOk, false};
+ghost use Rattle.std.specs.Prelude.{◌≡◌, ◌↔◌, ◌++◌, ℕ, IfErr, IfOk, IsTrue, List, [], OnOk, false};
 ghost use Rattle.gf_tree.specs.Game.{IsGame};
 ghost use Rattle.gf_tree.specs.Renumbering.{Renumbering};
 ghost use Rattle.gf_tree.specs.SameGame.{Carries};
 ghost use Rattle.gf_tree.specs.Spellable.{IsSpellable};
-ghost use Rattle.gf_canon.specs.GameFile.{SameFile};
+ghost use Rattle.gf_canon.specs.CanonicalText.{SpellsWithin};
+ghost use Rattle.gf_canon.specs.GameFile.{GameFile, SameFile};
+ghost use Rattle.gf_canon.specs.Judgement.{MeansFile};
 ghost use Rattle.gf_canon.specs.MeaningOf.{file_of};
 ghost use Rattle.gf_canon.specs.Pairs.{ArePairs, outcome_pairs, renumbering_pairs, set_pairs};
+ghost use Rattle.gf_canon.specs.Sameness.{AreRefusedWith};
 
-use crate::meaning::Meaning;
-use crate::sameness::{Names, same_meaning};
+use crate::meaning::{Meaning, read_file};
+use crate::sameness::{Names, SameFault, same_meaning};
 use gf_tree::Game;
 use std::alloc::{AllocError, Global};
 
@@ -148,4 +151,52 @@ pub fn pairs_between<P: ReceivePairs>(
         tell_pairs(g, h, to)?;
     }
     Ok(same)
+}
+
+/// Tells which numbers of a file that was read and of another correspond, as `pairs_of_files` does.
+fn pairs_beside<P: ReceivePairs>(
+    alloc: Global,
+    first: &Meaning<'_>,
+    b: &[u8],
+    to: &mut P,
+) -> Result<bool, SameFault>
+    ensures told { IfOk result (λ same. (y : GameFile) × SpellsWithin b.now y
+        × (IsTrue same ↔ SameFile (file_of first.now) y) × (IsTrue same → P.holds to.old []
+        → (pairs : List NumberPair) × ArePairs (file_of first.now) y pairs
+        × P.holds to.new pairs)) }
+    ensures untold { IfOk result (λ same. same ≡ false → to.new ≡ to.old) }
+    ensures refused { IfErr result (λ fault.
+        (a : List ℕ) → MeansFile a → AreRefusedWith a b.now fault) }
+{
+    match read_file(alloc, b) {
+        Ok(second) => match pairs_between(alloc, first, &second, to) {
+            Ok(same) => Ok(same),
+            Err(AllocError) => Err(SameFault::Memory),
+        },
+        Err(fault) => Err(SameFault::Second(fault)),
+    }
+}
+
+/// Tells which numbers of two files correspond as `pairs_between` does, from their bytes; says
+/// whether they mean the same.
+///
+/// # Errors
+///
+/// Those of `same`.
+pub fn pairs_of_files<P: ReceivePairs>(
+    alloc: Global,
+    a: &[u8],
+    b: &[u8],
+    to: &mut P,
+) -> Result<bool, SameFault>
+    ensures told { IfOk result (λ same. (x y : GameFile) × SpellsWithin a.now x
+        × SpellsWithin b.now y × (IsTrue same ↔ SameFile x y) × (IsTrue same → P.holds to.old []
+        → (pairs : List NumberPair) × ArePairs x y pairs × P.holds to.new pairs)) }
+    ensures untold { IfOk result (λ same. same ≡ false → to.new ≡ to.old) }
+    ensures refused { IfErr result (AreRefusedWith a.now b.now) }
+{
+    match read_file(alloc, a) {
+        Ok(first) => pairs_beside(alloc, &first, b, to),
+        Err(fault) => Err(SameFault::First(fault)),
+    }
 }

@@ -41,7 +41,7 @@ pub fn push_names<R: Read + Drop>(
     Ok(())
 }
 
-/// The path of a folder with a slash at its end.
+/// The path of a folder with a slash at its end, by which a link to a folder can be opened.
 fn with_slash(alloc: Global, folder: &str) -> Result<String, AllocError> {
     let end = if folder.ends_with('/') { "" } else { "/" };
     [folder, end].concat(alloc)

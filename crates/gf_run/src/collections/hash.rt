@@ -7,8 +7,7 @@ ghost use Rattle.gf_run.specs.Input.{IsReadWhole};
 ghost use Rattle.gf_run.specs.Output.{IsWriteFault, IsWritten};
 ghost use Rattle.gf_run.specs.Run.{Answers};
 
-use crate::fault::{RunFault, Which};
-use crate::jobs::answer::refused;
+use crate::fault::{RunFault, Which, refused};
 use crate::streams::sink::{Sink, push_all};
 use crate::streams::source::{Source, load};
 use crate::texts::joined::joined;

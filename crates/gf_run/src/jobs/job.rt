@@ -9,7 +9,7 @@ ghost use Rattle.gf_run.specs.JobRun.{Does, Fails, IsAnswerOf, IsFaultOf};
 ghost use Rattle.gf_run.specs.Output.{IsWriteFault, IsWritten};
 
 use crate::asked::Job;
-use crate::fault::{Failure, RunFault, WriteFault, is_of_second};
+use crate::fault::{Failure, RunFault, WriteFault, answer_status, is_of_second};
 use crate::jobs::answer::answer_of;
 use crate::jobs::ending::tell;
 use crate::opening::inputs::Inputs;
@@ -41,7 +41,7 @@ fn write_answer<W: Sink>(
 {
     match answer_of(alloc, job, texts) {
         Ok(answer) => match push_text(output, answer.text) {
-            Ok(()) => Ok(answer.status),
+            Ok(()) => Ok(answer_status(answer.same)),
             Err(WriteFault) => Err(RunFault::Write),
         },
         Err(fault) => Err(fault),

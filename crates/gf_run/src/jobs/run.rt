@@ -6,16 +6,16 @@ ghost use Rattle.gf_canon.specs.NamesAside.{IsTextBy};
 ghost use Rattle.gf_run.specs.FileKinds.{IsKindLine};
 ghost use Rattle.gf_run.specs.FormText.{IsFormText, ReadsFormUntil};
 ghost use Rattle.gf_run.specs.Input.{IsReadWhole};
-ghost use Rattle.gf_run.specs.JobRun.{strategies_of};
 ghost use Rattle.gf_run.specs.Output.{IsWriteFault, IsWritten};
 ghost use Rattle.gf_run.specs.Run.{Answers, ReadsUntil};
 
 use crate::fault::{RunFault, Which};
-use crate::jobs::answer::{FileKind, canon, kind, kind_line, table};
+use crate::jobs::answer::{canon, format_of, kind_line};
+use crate::jobs::table::table;
 use crate::streams::sink::{Sink, push_all};
 use crate::streams::source::{Source, load};
 use crate::texts::text::push_text;
-use gf_canon::Names;
+use gf_canon::{Format, Names};
 use gf_form::Strategies;
 use std::alloc::Global;
 
@@ -57,7 +57,7 @@ pub fn run_canon<R: Source, W: Sink>(
     Ok(())
 }
 
-/// Returns what the file that it reads holds; writes `tree` or `table` and a line feed.
+/// Returns the format of the file that it reads; writes `tree` or `table` and a line feed.
 ///
 /// No node of a tree is kept, and no text of a game is made. It reads and writes as `run_canon`
 /// does.
@@ -69,21 +69,21 @@ pub fn run_check<R: Source, W: Sink>(
     alloc: Global,
     input: &mut R,
     output: &mut W,
-) -> Result<FileKind, RunFault>
-    ensures done { IfOk result (λ kind. Answers (IsKindLine kind)
+) -> Result<Format, RunFault>
+    ensures done { IfOk result (λ format. Answers (IsKindLine format)
         (IsReadWhole R.remaining R.pull_gives input.old input.new)
         (IsWritten W.contents W.push_gives output.old output.new)) }
     ensures refused { IfErr result (λ fault. ReadsUntil
         R.remaining R.count R.pull_gives IsRefusedWith Which.Only fault input.old input.new) }
     ensures untouched { IfErr result (λ fault. fault ≢ RunFault.Write → output.new ≡ output.old) }
-    ensures cut_off { result ≡ Err RunFault.Write → (kind : FileKind) × Answers (IsKindLine kind)
+    ensures cut_off { result ≡ Err RunFault.Write → (format : Format) × Answers (IsKindLine format)
         (IsReadWhole R.remaining R.pull_gives input.old input.new)
         (IsWriteFault W.contents W.count W.push_gives output.old output.new) }
 {
     let bytes = load(alloc, input, Which::Only)?;
-    let kind = kind(alloc, bytes.as_slice())?;
-    push_all(output, kind_line(kind))?;
-    Ok(kind)
+    let format = format_of(alloc, bytes.as_slice())?;
+    push_all(output, kind_line(format))?;
+    Ok(format)
 }
 
 /// Writes the form of the tree that it reads, or its reduced form; a table as it is.
@@ -91,20 +91,20 @@ fn run_form<R: Source, W: Sink>(
     alloc: Global,
     input: &mut R,
     output: &mut W,
-    reduced: bool,
+    strategies: Strategies,
 ) -> Result<(), RunFault>
-    ensures done { OnOk result (Answers (IsFormText (strategies_of reduced))
+    ensures done { OnOk result (Answers (IsFormText strategies)
         (IsReadWhole R.remaining R.pull_gives input.old input.new)
         (IsWritten W.contents W.push_gives output.old output.new)) }
     ensures refused { IfErr result (λ fault. ReadsFormUntil
-        R.remaining R.count R.pull_gives (strategies_of reduced) fault input.old input.new) }
+        R.remaining R.count R.pull_gives strategies fault input.old input.new) }
     ensures untouched { IfErr result (λ fault. fault ≢ RunFault.Write → output.new ≡ output.old) }
-    ensures cut_off { result ≡ Err RunFault.Write → Answers (IsFormText (strategies_of reduced))
+    ensures cut_off { result ≡ Err RunFault.Write → Answers (IsFormText strategies)
         (IsReadWhole R.remaining R.pull_gives input.old input.new)
         (IsWriteFault W.contents W.count W.push_gives output.old output.new) }
 {
     let bytes = load(alloc, input, Which::Only)?;
-    let answer = table(alloc, bytes.as_slice(), reduced)?;
+    let answer = table(alloc, bytes.as_slice(), strategies)?;
     push_text(output, answer.text)?;
     Ok(())
 }
@@ -136,7 +136,7 @@ pub fn run_table<R: Source, W: Sink>(
         (IsReadWhole R.remaining R.pull_gives input.old input.new)
         (IsWriteFault W.contents W.count W.push_gives output.old output.new) }
 {
-    run_form(alloc, input, output, false)
+    run_form(alloc, input, output, Strategies::Pure)
 }
 
 /// Writes the reduced form of the tree that it reads, by its reduced strategies, as a strategic
@@ -162,5 +162,5 @@ pub fn run_table_reduced<R: Source, W: Sink>(
         (IsReadWhole R.remaining R.pull_gives input.old input.new)
         (IsWriteFault W.contents W.count W.push_gives output.old output.new) }
 {
-    run_form(alloc, input, output, true)
+    run_form(alloc, input, output, Strategies::Reduced)
 }

@@ -1,4 +1,4 @@
-//! A text that is written.
+//! The answer of a job, and how its text is written.
 
 ghost use Rattle.std.specs.Prelude.{OnErr, OnOk};
 ghost use Rattle.gf_run.specs.AnswerText.{bytes_of};
@@ -15,6 +15,15 @@ pub enum Text {
     Line(&'static [u8]),
     /// A text that was made, or that is made piece by piece.
     Made(TextAndPayoffs),
+}
+
+/// The answer of a job.
+#[derive(Drop)]
+pub struct Answer {
+    /// False if two files are compared and differ.
+    pub same: bool,
+    /// What is written.
+    pub text: Text,
 }
 
 /// Writes a text piece by piece. If the writer fails, a prefix of it has been written.

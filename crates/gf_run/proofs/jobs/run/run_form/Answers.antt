@@ -4,7 +4,7 @@ use Rattle.gf_run.proofs.jobs.run.run_form.Goals as goal
 
 pub returns-in_err-push_text-clause-refused : goal.returns-in_err-push_text-clause-refused
 returns-in_err-push_text-clause-refused g c =
-    let text = c.in_ok-answer.ensures.answer.1 in
+    let text = c.in_ok-answer.ensures.text in
     IfErr-only _ _ _ c.from_residual-in_err-push_text.ensures.1
     (inr (
       c.in_ok-bytes.bytes.items,

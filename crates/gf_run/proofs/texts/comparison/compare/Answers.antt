@@ -13,5 +13,5 @@ returns-then-map-clause-mean c = IfOk-then c.compare_with_map.result _ _
 pub returns-clause-answer : goal.returns-clause-answer
 returns-clause-answer c =
     rw c.if-map.false
-    (compared c.args.names c.in_ok-same.same _ c.args.a.now c.args.b.now _ c.in_ok-same.ensures.same
-    c.in_ok-same.ensures.accepted c.in_a_line.ensures.same c.in_a_line.ensures.text)
+    (compared c.args.names c.in_ok-same.same c.args.a.now c.args.b.now _ c.in_ok-same.ensures.same
+    c.in_ok-same.ensures.accepted c.answer_line.ensures)
