@@ -4,5 +4,5 @@
 pub(crate) mod expectation;
 pub(crate) mod payoffs;
 pub(crate) mod positions;
-pub(crate) mod stack;
+pub(crate) mod spare;
 pub(crate) mod walk;

@@ -26,7 +26,7 @@ use crate::strategies::counts::Counts;
 use crate::strategies::profile::{no_actions, write_strategies};
 use crate::values::expectation::expected_with;
 use crate::values::payoffs::Payoffs;
-use crate::values::stack::Values;
+use crate::values::spare::SpareRows;
 use gf_fraction::{Fraction, SharedDenominator};
 use gf_tree::Game;
 use std::alloc::{AllocError, Global};
@@ -61,7 +61,7 @@ pub(crate) struct Written {
     pub rows: Vec<Fraction>,
     /// The strategies of the last profile with a walk.
     pub strategies: Vec<Vec<u32>>,
-    pub values: Values,
+    pub spare_rows: SpareRows,
     /// The denominator of the last pair.
     pub shared: SharedDenominator,
     /// Lists whose room is used again.
@@ -76,7 +76,7 @@ fn row_by_walk(
     payoffs: &Payoffs<'_>,
     profile: u32,
     strategies: &[Vec<u32>],
-    values: &mut Values,
+    spare: &mut SpareRows,
 ) -> Result<Vec<Fraction>, EvalFault>
     requires within { profile < length (full_profiles game.now) }
     requires payoffs { ArePaid game.now (rows_of payoffs.now) }
@@ -89,7 +89,7 @@ fn row_by_walk(
     ensures overflow { IsErrOf result EvalFault.Overflow
         → ¬ (HasValues game.now (get_or (full_profiles game.now) profile [])) }
 {
-    expected_with(alloc, game, payoffs, strategies, values)
+    expected_with(alloc, game, payoffs, strategies, spare)
 }
 
 impl Written {
@@ -109,7 +109,7 @@ impl Written {
             alloc,
             rows: Vec::with_capacity(alloc, profiles as usize * players)?,
             strategies: no_actions(alloc, counts.actions.len())?,
-            values: Values::new(alloc),
+            spare_rows: SpareRows::new(alloc),
             shared: SharedDenominator::new(1),
             spare: Vec::new(alloc),
         })
@@ -132,11 +132,11 @@ impl Written {
             asked.payoffs,
             number,
             &self.strategies,
-            &mut self.values,
+            &mut self.spare_rows,
         ) {
             Ok(row) => {
                 self.rows.extend_from_slice(&row)?;
-                self.values.give_back(row)?;
+                self.spare_rows.give_back(row)?;
                 Ok(())
             }
             Err(EvalFault::Overflow) => Err(FormFault::Overflow {

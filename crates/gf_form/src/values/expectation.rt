@@ -11,7 +11,7 @@ ghost use Rattle.gf_form.specs.Strategies.{AreStrategies, choices_by};
 use crate::fault::EvalFault;
 use crate::rows::write_out;
 use crate::values::payoffs::Payoffs;
-use crate::values::stack::Values;
+use crate::values::spare::SpareRows;
 use crate::values::walk::Walk;
 use gf_fraction::Fraction;
 use gf_tree::Game;
@@ -25,7 +25,7 @@ pub(crate) fn expected_with(
     game: &Game<'_>,
     payoffs: &Payoffs<'_>,
     choices: &[Vec<u32>],
-    values: &mut Values,
+    spare: &mut SpareRows,
 ) -> Result<Vec<Fraction>, EvalFault>
     requires strategies { AreStrategies game.now (map (λ own. own.items) choices.now) }
     requires payoffs { ArePaid game.now (rows_of payoffs.now) }
@@ -45,7 +45,7 @@ pub(crate) fn expected_with(
         payoffs,
         choices,
     };
-    let mut row = match walk.value(alloc, values) {
+    let mut row = match walk.value(alloc, spare) {
         Ok(row) => row,
         Err(fault) => return Err(fault),
     };
@@ -81,6 +81,6 @@ pub fn expected(
 {
     let _players = game.players();
     let payoffs = Payoffs::new(alloc, game)?;
-    let mut values = Values::new(alloc);
-    expected_with(alloc, game, &payoffs, choices, &mut values)
+    let mut spare = SpareRows::new(alloc);
+    expected_with(alloc, game, &payoffs, choices, &mut spare)
 }

@@ -16,7 +16,7 @@ use crate::fault::EvalFault;
 use crate::rows::{pay, weigh};
 use crate::values::payoffs::Payoffs;
 use crate::values::positions::at;
-use crate::values::stack::Values;
+use crate::values::spare::SpareRows;
 use gf_fraction::Fraction;
 use gf_tree::{Branch, Branches, Game};
 use std::alloc::Global;
@@ -123,7 +123,11 @@ impl<'c, 'g, 'a> Walk<'c, 'g, 'a> {
 
     /// Goes into a branch.
     #[tactic(auto, using(crate::proofs::lemmas::values::Walks::enter_steps))]
-    fn enter(&self, branch: Branch<'g, 'a>, values: &mut Values) -> Result<Next<'g, 'a>, EvalFault>
+    fn enter(
+        &self,
+        branch: Branch<'g, 'a>,
+        spare: &mut SpareRows,
+    ) -> Result<Next<'g, 'a>, EvalFault>
         requires some_player { 0 < length self.now.game.now.players }
         requires paid { ArePaid self.now.game.now (rows_of self.now.payoffs.now) }
         requires game { game_of branch ≡ self.now.game.now }
@@ -135,10 +139,10 @@ impl<'c, 'g, 'a> Walk<'c, 'g, 'a> {
     {
         let Some((player, position)) = branch.mover() else {
             let payoffs = self.payoffs.at(branch.outcome_position());
-            return Ok(Next::Value(values.row(payoffs)?));
+            return Ok(Next::Value(spare.row(payoffs)?));
         };
         if player == 0 {
-            return self.draw(branch, branch.child_branches(), values.row(&[])?);
+            return self.draw(branch, branch.child_branches(), spare.row(&[])?);
         }
         let choice = at_set(self.choices, player, position).unwrap_or(0);
         match branch.child(choice as usize) {
@@ -156,7 +160,7 @@ impl<'c, 'g, 'a> Walk<'c, 'g, 'a> {
         &self,
         node: Open<'g, 'a>,
         value: Vec<Fraction>,
-        values: &mut Values,
+        spare: &mut SpareRows,
     ) -> Result<Next<'g, 'a>, EvalFault>
         requires paid { ArePaid self.now.game.now (rows_of self.now.payoffs.now) }
         requires is_open { IsOpen self.now node }
@@ -178,7 +182,7 @@ impl<'c, 'g, 'a> Walk<'c, 'g, 'a> {
                 if let Err(fault) = weigh(&mut sum, chance, &value) {
                     return Err(fault);
                 }
-                values.give_back(value)?;
+                spare.give_back(value)?;
                 self.draw(node, rest, sum)
             }
         }
@@ -189,7 +193,7 @@ impl<'c, 'g, 'a> Walk<'c, 'g, 'a> {
     pub(crate) fn value(
         &self,
         alloc: Global,
-        values: &mut Values,
+        spare: &mut SpareRows,
     ) -> Result<Vec<Fraction>, EvalFault>
         requires some_player { 0 < length self.now.game.now.players }
         requires paid { ArePaid self.now.game.now (rows_of self.now.payoffs.now) }
@@ -200,15 +204,15 @@ impl<'c, 'g, 'a> Walk<'c, 'g, 'a> {
             → Lacks self.now (λ k. tree_value self.now k self.now.game.now.tree) }
     {
         let mut open = Vec::new(alloc);
-        let mut next = self.enter(self.game.root(), values)?;
+        let mut next = self.enter(self.game.root(), spare)?;
         loop {
             next = match next {
                 Next::Child { node, child } => {
                     open.push(node)?;
-                    self.enter(child, values)?
+                    self.enter(child, spare)?
                 }
                 Next::Value(value) => match open.pop() {
-                    Some(node) => self.leave(node, value, values)?,
+                    Some(node) => self.leave(node, value, spare)?,
                     None => return Ok(value),
                 },
             };

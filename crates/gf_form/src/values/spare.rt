@@ -8,17 +8,17 @@ use std::alloc::{AllocError, Global};
 
 /// Rows of values that are no longer needed, whatever they hold.
 #[derive(Drop)]
-pub(crate) struct Values {
+pub(crate) struct SpareRows {
     alloc: Global,
-    spare: Vec<Vec<Fraction>>,
+    rows: Vec<Vec<Fraction>>,
 }
 
-impl Values {
+impl SpareRows {
     /// No rows yet.
-    pub(crate) fn new(alloc: Global) -> Values {
-        Values {
+    pub(crate) fn new(alloc: Global) -> SpareRows {
+        SpareRows {
             alloc,
-            spare: Vec::new(alloc),
+            rows: Vec::new(alloc),
         }
     }
 
@@ -26,7 +26,7 @@ impl Values {
     pub(crate) fn row(&mut self, numbers: &[Fraction]) -> Result<Vec<Fraction>, AllocError>
         ensures { IfOk result (λ row. row.items ≡ numbers.now) }
     {
-        let mut row = match self.spare.pop() {
+        let mut row = match self.rows.pop() {
             Some(row) => row,
             None => Vec::new(self.alloc),
         };
@@ -38,9 +38,9 @@ impl Values {
     /// Gives the room of a row back.
     pub(crate) fn give_back(&mut self, row: Vec<Fraction>) -> Result<(), AllocError>
         // It fails only if there was no room.
-        ensures full { OnErr result (vec_capacity self.old.spare ≤ vec_len self.old.spare) }
+        ensures full { OnErr result (vec_capacity self.old.rows ≤ vec_len self.old.rows) }
     {
-        self.spare.push(row)?;
+        self.rows.push(row)?;
         Ok(())
     }
 }
