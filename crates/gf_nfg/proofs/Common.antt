@@ -38,13 +38,12 @@ pub use Rattle.gf_nfg.specs.declared.reader.receive.Version.TheVariants.{Outcome
 pub use Rattle.gf_nfg.specs.declared.table.heading.Heading.{Heading}
 pub use Rattle.gf_nfg.specs.inner.Classes.{LeadBack, ShareRows}
 pub use Rattle.gf_nfg.specs.inner.ComparedTable.{IsCompared}
-pub use Rattle.gf_nfg.specs.inner.Heard.{Answer, Fails, Goes, HasPassed, HasPassedPlace, at_end}
-pub use Rattle.gf_nfg.specs.inner.Heard.{heard, is_past, read_on, taken, then_on, within}
+pub use Rattle.gf_nfg.specs.inner.Heard.{Answer, heard, is_past, read_on, taken, within}
 pub use Rattle.gf_nfg.specs.inner.Machine.{Content, State, at, chosen, counted, due_at, ended}
 pub use Rattle.gf_nfg.specs.inner.Machine.{finish, listed, next_outcome, nothing, paid, run, start}
 pub use Rattle.gf_nfg.specs.inner.Machine.{step, step_at, strategies_end, with_choices}
 pub use Rattle.gf_nfg.specs.inner.Machine.{with_comment, with_count, with_labels, with_payoffs}
-pub use Rattle.gf_nfg.specs.inner.Machine.{with_players, with_title, ◌>>=◌}
+pub use Rattle.gf_nfg.specs.inner.Machine.{with_players, with_title}
 pub use Rattle.gf_nfg.specs.inner.Meaning.{HasLabels, HasPayoffs, IsComplete, names_in, rows_by}
 pub use Rattle.gf_nfg.specs.inner.Meaning.{strategies_of, table_of}
 pub use Rattle.gf_nfg.specs.inner.PayoffLists.{rows_in}
@@ -61,7 +60,7 @@ pub use Rattle.gf_nfg.specs.inner.TextParts.{names_by, others_text, row_text}
 pub use Rattle.gf_nfg.specs.inner.Told.{Told, told_heading, with_number, with_payoff}
 pub use Rattle.gf_nfg.specs.inner.ToldTable.{HasToldTable, MeansTable}
 pub use Rattle.gf_nfg.specs.inner.ToldText.{AreLaid, HasText, laid_lines}
-pub use Rattle.gf_token.proofs.Places.{first_and_rest, begins_front, one_offending_place, overtaken}
+pub use Rattle.gf_token.proofs.Places.{begins_front, one_offending_place, overtaken}
 pub use Rattle.gf_token.proofs.Places.{PartsBefore, one_code, one_span, parts, same_span, tokens_on}
 pub use Rattle.gf_token.proofs.ReadingIndices.{count_again, count_is, index_again, index_is}
 pub use Rattle.gf_token.proofs.Spelled.{found, same_tokens, spelled_once}
@@ -74,7 +73,7 @@ unfoldable pub use Rattle.gf_token.specs.Indices.{index_of}
 pub use Rattle.gf_token.specs.Label.{label_of}
 pub use Rattle.gf_token.specs.LabelSpelling.{IsLabel, is_spelling, is_spelling_after}
 pub use Rattle.gf_token.specs.NumberWhy.{why_of}
-pub use Rattle.gf_token.specs.Place.{Begins, IsAccepted, IsOffendingPlace, IsSpanOf, MayFollow}
+pub use Rattle.gf_token.specs.Place.{Begins, IsOffendingPlace, IsSpanOf, MayFollow}
 pub use Rattle.gf_token.specs.Place.{tokens_of}
 pub use Rattle.gf_token.specs.Remaining.{AreInOrder, Remaining, StandsBefore}
 pub use Rattle.gf_token.specs.Token.Token.{Bare, Broken, Closing, Comma, Opening, Text}
@@ -90,6 +89,7 @@ pub use Rattle.gf_token.specs.declared.fault.Why.TheVariants.{ZeroDenominator}
 pub use Rattle.gf_token.specs.declared.fault.Why.{Why}
 pub use Rattle.gf_token.specs.declared.label.Label.{Label}
 pub use Rattle.gf_token.specs.inner.Lexing.Mode.{Gap}
+pub use Rattle.gf_token.specs.inner.Machine.{◌>>=◌, Fails, Goes, HasPassedPlace, placed}
 pub use Rattle.std.proofs.Common.{Bool, Err, IfOk, List, None, Ok, Option, Result, Some, [], ap}
 pub use Rattle.std.proofs.Common.{append-nil, append_assoc, arith, drop, false, get_or, inl, inr}
 pub use Rattle.std.proofs.Common.{length, length-append, length-drop, length-take, map, min, nat_eq}

@@ -2,9 +2,11 @@ pub mod Steps
 pub mod Spelled
 pub mod Spans
 pub mod Labels
+pub mod Following
 pub mod Grammar
 pub mod LaidOut
 pub mod Places
+pub mod Reading
 pub mod ReadingIndices
 pub mod ScannedIndices
 pub mod ScannedNumbers
@@ -13,3 +15,4 @@ pub mod SpelledTokens
 pub mod Starts
 pub mod TokensAhead
 pub mod TextsOfLabels
+pub mod Walks

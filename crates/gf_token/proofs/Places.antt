@@ -23,7 +23,7 @@ abbrev pub Parts : {A : Type 0} → List A → List A → List A → List A → 
 Parts xs ys us vs =
     PartsBefore xs ys us vs ⊎ (((xs ≡ us) × (ys ≡ vs)) ⊎ PartsBefore us vs xs ys)
 
-pub first_and_rest : {A : Type 0} (x y : A) (xs ys : List A) → x ∷ xs ≡ y ∷ ys
+first_and_rest : {A : Type 0} (x y : A) (xs ys : List A) → x ∷ xs ≡ y ∷ ys
     → (x ≡ y) × (xs ≡ ys)
 first_and_rest x y xs ys e = (cc, cc)
 

@@ -1,5 +1,5 @@
 -- The span of a token is the slice of the bytes that spells it.
-use Rattle.std.proofs.Common.{◌≡◌, ℕ, ◌+◌, ◌-◌, ◌<◌, ◌≤◌, List, [], ◌∷◌, ◌++◌, length, take}
+use Rattle.std.proofs.Common.{◌≡◌, ℕ, ◌+◌, ◌-◌, ◌<◌, List, [], ◌∷◌, ◌++◌, length, take}
 use Rattle.std.proofs.Common.{drop, refl, sym, ap, subst, ◌∙◌, append_assoc, arith}
 use Rattle.std.specs.Prelude.{slice_range}
 use Rattle.std.proofs.Math.Seq.{take-append_seam, drop-append_seam}
@@ -79,22 +79,3 @@ stands (x ∷ before) after l front bytes at e h =
 pub stands_in : (bytes : List ℕ) (before after : List Lexeme) (l : Lexeme)
     → Spells 0 bytes (before ++ l ∷ after) → StandsIn bytes l
 stands_in bytes before after l h = stands before after l [] bytes 0 refl h
-
-ends_before : (between after : List Lexeme) (l m : Lexeme) (at : ℕ) (bytes : List ℕ)
-    → Spells at bytes (l ∷ (between ++ m ∷ after)) → l.end ≤ m.start
-ends_before [] after l m at bytes h = grind arith
-ends_before (x ∷ between) after l m at bytes h =
-    let next = goes_on_some l.token (x ∷ between) after m
-    (Spells l.end h.0.rest (x ∷ (between ++ m ∷ after))) h.1 in
-    let further = ends_before between after x m l.end h.0.rest next in
-    omega (arith, next.0.start, next.0.end, further)
-
--- tokens start one after another
-pub starts_later : (before between after : List Lexeme) (l m : Lexeme) (at : ℕ) (bytes : List ℕ)
-    → Spells at bytes (before ++ l ∷ (between ++ m ∷ after)) → l.start < m.start
-starts_later [] between after l m at bytes h =
-    let some = some_byte l.token h.0.is_spelled in
-    omega (arith, some, h.0.end, ends_before between after l m at bytes h)
-starts_later (x ∷ before) between after l m at bytes h =
-    starts_later before between after l m x.end h.0.rest (goes_on_some x.token before
-    (between ++ m ∷ after) l (Spells x.end h.0.rest (before ++ l ∷ (between ++ m ∷ after))) h.1)

@@ -1,6 +1,6 @@
 -- What is known about the tokens of an input that are still to come.
 use Rattle.std.proofs.Common.{◌≡◌, ◌<◌, ◌≤◌, ◌+◌, ℕ, Bool, true, List, [], ◌∷◌, ◌++◌, length}
-use Rattle.std.proofs.Common.{sym, ap, subst, append_assoc, arith}
+use Rattle.std.proofs.Common.{sym, ap, subst, append_assoc, arith, zero-add}
 use Rattle.std.proofs.lemmas.List.{length-append}
 use Rattle.gf_token.specs.inner.Finding.{lexed}
 use Rattle.gf_token.specs.Remaining.{AreAhead, AreInOrder, Remaining, StandsBefore, Takes}
@@ -42,9 +42,13 @@ in_order from bytes (l ∷ ls) h =
     behind (Text label) ls end rest h later = later h
     behind (Bare bytes) ls end rest h later = later h
 
+pub all_in_order : (bytes : List ℕ) (ls : List Lexeme) → Spells 0 bytes ls
+    → AreInOrder (length bytes) 0 ls
+all_in_order bytes ls h = rw zero-add at (in_order 0 bytes ls h)
+
 -- ---- a token is taken
 
-behind_first : (end from : ℕ) (before : List Lexeme) (l : Lexeme) (ls : List Lexeme)
+pub behind_first : (end from : ℕ) (before : List Lexeme) (l : Lexeme) (ls : List Lexeme)
     → AreInOrder end from (before ++ l ∷ ls) → (l.start < l.end) × AreInOrder end l.end ls
 behind_first end from [] l ls h = (h.1, h.2)
 behind_first end from (z ∷ zs) l ls h = behind_first end z.end zs l ls h.2
@@ -84,7 +88,7 @@ few_in_order end from (l ∷ ls) h =
     omega (arith, later, near, some)
 
 pub few_ahead : (input : List ℕ) (ls : List Lexeme) → Spells 0 input ls → length ls ≤ length input
-few_ahead input ls h = let few = few_in_order _ 0 ls (in_order 0 input ls h) in omega (arith, few)
+few_ahead input ls h = let few = few_in_order _ 0 ls (all_in_order input ls h) in omega (arith, few)
 
 pub ruleset tokens_steps = (found, all_ahead, few_ahead)
 

@@ -1,3 +1,4 @@
 -- Definitions that only proofs and private contracts use.
 pub mod Finding
 pub mod Lexing
+pub mod Machine

@@ -19,7 +19,7 @@ pub use Rattle.gf_token.specs.Label.{label_of}
 pub use Rattle.gf_token.specs.LabelSpelling.{IsLabel}
 pub use Rattle.gf_token.specs.Next.{is_comma, is_quoted, starts}
 pub use Rattle.gf_token.specs.NumberWhy.{why_of}
-pub use Rattle.gf_token.specs.Place.{Begins, IsAccepted, IsSpanOf, MayFollow, tokens_of}
+pub use Rattle.gf_token.specs.Place.{Begins, IsAccepted, MayFollow, tokens_of}
 pub use Rattle.gf_token.specs.Positions.{at_position}
 pub use Rattle.gf_token.specs.Remaining.{Remaining, StandsBefore}
 pub use Rattle.gf_token.specs.Token.{Lexeme, Token, lexeme}
@@ -34,6 +34,7 @@ pub use Rattle.gf_token.specs.declared.fault.Why.TheVariants.{Expected, SumBelow
 pub use Rattle.gf_token.specs.declared.fault.Why.TheVariants.{Memory, UnknownOutcome, UnknownPlayer}
 pub use Rattle.gf_token.specs.declared.fault.Why.TheVariants.{Mismatch, NoEntry, TooLong}
 pub use Rattle.gf_token.specs.declared.fault.Why.TheVariants.{NegativeProbability, TooManyProfiles}
+pub use Rattle.gf_token.specs.inner.Machine.{placed, ◌>>=◌ as then_run}
 pub use Rattle.gf_tree.specs.Actions.{action_of, actions_of}
 pub use Rattle.gf_tree.specs.Consistent.{AreConsistent, Describes, HasChildrenAsDescribed}
 pub use Rattle.gf_tree.specs.Consistent.{IsConsistent}
@@ -95,7 +96,7 @@ pub use Rattle.gf_tree.specs.declared.game.numbered_node.Numbering.TheVariants.{
 pub use Rattle.gf_tree.specs.declared.reader.Reader.{Reader}
 pub use Rattle.gf_tree.specs.inner.GameParts.{AreNodes, IsHeld, IsListed, Parts, game_with}
 pub use Rattle.gf_tree.specs.inner.KnownOutcomes.{KnownOutcomes}
-pub use Rattle.gf_tree.specs.inner.Machine.{Begun, State, begun, due, nothing, run, step, then_on}
+pub use Rattle.gf_tree.specs.inner.Machine.{Begun, State, begun, due, finish, nothing, run, step}
 pub use Rattle.gf_tree.specs.inner.Machine.{Content, may_end, set_ends, shared, with_node, with_set}
 pub use Rattle.gf_tree.specs.inner.Machine.{Position, behind_outcome, outcome_number, personal_node}
 pub use Rattle.gf_tree.specs.inner.Machine.{after_node, paid, with_action, with_payoff, with_player}
@@ -111,9 +112,8 @@ pub use Rattle.gf_tree.specs.inner.Machine.Position.{InPlayers, NewAction, NewPa
 pub use Rattle.gf_tree.specs.inner.Machine.Position.{KnownAction, KnownProbability, KnownSetOpening}
 pub use Rattle.gf_tree.specs.inner.Machine.Position.{KnownPayoff, PlayerNumber, TerminalName, Title}
 pub use Rattle.gf_tree.specs.inner.Machine.Position.{Letter, NodeDue, SetNumber, Version}
-pub use Rattle.gf_tree.specs.inner.Passed.{HasPassed}
 pub use Rattle.gf_tree.specs.inner.Probability.{Share, same_ratio, share_by, share_of, up_to_one}
-pub use Rattle.gf_tree.specs.inner.ReadGame.{game_in, run_tokens, then_run}
+pub use Rattle.gf_tree.specs.inner.ReadGame.{game_in, run_tokens}
 pub use Rattle.gf_tree.specs.inner.ReaderState.{Answer, Fails, Grows, answer, behind, heard, to_all}
 pub use Rattle.gf_tree.specs.inner.ReaderState.{Goes, HasRead, begun_with, content_of, heading_read}
 pub use Rattle.gf_tree.specs.inner.Skipped.{Begin, sizes_grown, skipped}

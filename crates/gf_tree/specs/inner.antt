@@ -5,7 +5,6 @@ pub mod GameParts
 pub mod KnownOutcomes
 pub mod Machine
 pub mod Numbers
-pub mod Passed
 pub mod Probability
 pub mod ReadGame
 pub mod ReaderState

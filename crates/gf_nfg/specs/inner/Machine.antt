@@ -15,6 +15,7 @@ use Rattle.gf_fraction.specs.Ratio.{Ratio}
 use Rattle.gf_fraction.specs.declared.fraction.NumberFault.{NumberFault}
 use Rattle.gf_fraction.specs.Computed.{number_of}
 use Rattle.gf_token.specs.NumberWhy.{why_of}
+use Rattle.gf_token.specs.inner.Machine as any_format
 use Rattle.gf_token.specs.Indices.{count_of, index_of}
 use Rattle.gf_nfg.specs.inner.Position.{Position, Position as p}
 
@@ -201,15 +202,9 @@ finish s = ended s.content (due_at s.position)
 
 -- ---- the whole
 
-infixl 10 ◌>>=◌
-abbrev pub ◌>>=◌ : {A B : Type 0} → Result A Why → (A → Result B Why) → Result B Why
-(Ok x) >>= f = f x
-(Err why) >>= f = Err why
-
 -- the answer to the tokens to come
 abbrev pub run : State → List Token → Result Content Why
-run s [] = finish s
-run s (t ∷ ts) = step s t >>= λ after. run after ts
+run = any_format.run step finish
 
 abbrev pub start : State
 start = at p.Format nothing

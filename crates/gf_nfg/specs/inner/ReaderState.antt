@@ -6,7 +6,8 @@ use Rattle.gf_token.specs.declared.label.Label.{Label}
 use Rattle.gf_token.specs.declared.fault.Fault.{Fault}
 use Rattle.gf_token.specs.declared.fault.Span.{Span}
 use Rattle.gf_token.specs.Remaining.{Remaining}
-use Rattle.gf_nfg.specs.inner.Heard.{Answer, Fails, heard, read_on, then_on, within}
+use Rattle.gf_token.specs.inner.Machine.{◌>>=◌, Fails, placed}
+use Rattle.gf_nfg.specs.inner.Heard.{Answer, heard, read_on, within}
 use Rattle.gf_nfg.specs.inner.Machine.{Content, at, with_count}
 use Rattle.gf_nfg.specs.inner.Position.{Position, Position as p}
 use Rattle.gf_nfg.specs.inner.Told.{Told}
@@ -58,9 +59,10 @@ answer q r = heard (at q (content_in r.heading)) r.tokens
 abbrev pub settling : Position → ℕ → Span → Reader → Answer
 settling q strategies stands r = record {
   input = r.tokens.input;
-  machine = then_on stands.start stands.end
+  machine =
+      placed stands.start stands.end
       (within (Ok (at q (with_count (content_in r.heading) strategies))))
-      (λ after. read_on (length r.tokens.input) after r.tokens.ahead);
+      >>= λ after. read_on (length r.tokens.input) after r.tokens.ahead;
 }
 
 -- ---- the body

@@ -8,7 +8,6 @@ pub mod Keeps
 pub mod KnownActions
 pub mod Learned
 pub mod Nodes
-pub mod Passed
 pub mod Payoffs
 pub mod Places
 pub mod Remainders

@@ -13,6 +13,7 @@ use Rattle.gf_token.specs.Next.{is_bare_token}
 use Rattle.gf_token.specs.NumberWhy.{why_of}
 use Rattle.gf_token.specs.Indices.{count_of, index_of}
 use Rattle.gf_token.specs.declared.fault.Fault.{Fault}
+use Rattle.gf_token.specs.inner.Machine.{◌>>=◌, placed}
 use Rattle.gf_token.specs.Token.Token.{Opening, Closing, Comma, Text, Bare}
 use Rattle.gf_token.specs.declared.fault.Why.{Why}
 use Rattle.gf_token.specs.declared.fault.Why.TheVariants.{SumBelowOne, NoEntry, Expected}
@@ -373,16 +374,12 @@ step q c t =
 
 -- ---- the whole
 
-abbrev pub refused : ℕ → ℕ → Why → Result Content Fault
-refused start end why = Err (record { span = record { start = start; end = end }; why = why })
-
--- a refusal stands at the token
-abbrev pub then_on : Lexeme → Result State Why → (State → Result Content Fault)
-    → Result Content Fault
-then_on l (Ok s) f = f s
-then_on l (Err why) f = refused l.start l.end why
+-- the answer at the end of the tokens
+abbrev pub finish : Position → Content → Result Content Why
+finish q c = if may_end q c.due then Ok c else Err (due q c.due)
 
 -- the answer to the tokens to come, before the end of an input of this many bytes
 abbrev pub run : ℕ → Position → Content → List Lexeme → Result Content Fault
-run end q c [] = if may_end q c.due then Ok c else refused end end (due q c.due)
-run end q c (l ∷ ls) = then_on l (step q c l.token) (λ s. run end s.position s.content ls)
+run end q c [] = placed end end (finish q c)
+run end q c (l ∷ ls) =
+    placed l.start l.end (step q c l.token) >>= λ s. run end s.position s.content ls

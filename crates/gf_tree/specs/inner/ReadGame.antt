@@ -1,21 +1,18 @@
 -- What the machine of the reader answers to tokens regardless of their places, and the game of what
 -- was read.
-use Rattle.std.specs.Prelude.{List, [], ◌∷◌, Result, Ok, Err, if◌then◌else◌}
+use Rattle.std.specs.Prelude.{List, [], ◌∷◌, Result}
 use Rattle.gf_token.specs.Token.{Token}
 use Rattle.gf_token.specs.declared.fault.Why.{Why}
+use Rattle.gf_token.specs.inner.Machine.{◌>>=◌}
 use Rattle.gf_tree.specs.Game.{Game}
 use Rattle.gf_tree.specs.GameCode.{no_node}
 use Rattle.gf_tree.specs.Grown.{grow, root}
-use Rattle.gf_tree.specs.inner.Machine.{Content, Position, State, due, may_end, step}
-
-abbrev pub then_run : Result State Why → (State → Result Content Why) → Result Content Why
-then_run (Ok s) f = f s
-then_run (Err why) f = Err why
+use Rattle.gf_tree.specs.inner.Machine.{Content, Position, finish, step}
 
 -- the answer to the tokens to come, whatever their places
 abbrev pub run_tokens : Position → Content → List Token → Result Content Why
-run_tokens q c [] = if may_end q c.due then Ok c else Err (due q c.due)
-run_tokens q c (t ∷ ts) = then_run (step q c t) (λ s. run_tokens s.position s.content ts)
+run_tokens q c [] = finish q c
+run_tokens q c (t ∷ ts) = step q c t >>= λ s. run_tokens s.position s.content ts
 
 -- the game of what was read
 abbrev pub game_in : Content → Game

@@ -4,14 +4,14 @@ use Rattle.std.specs.Prelude.{◌≡◌, ◌≤◌, ◌+◌, ◌-◌, ◌++◌, 
 use Rattle.std.specs.Prelude.{map, option_map, MatchResult, Result, Ok, Err}
 use Rattle.gf_token.specs.Label.{label_of}
 use Rattle.gf_token.specs.Positions.{at_position}
-use Rattle.gf_token.specs.Remaining.{IsPlaceIn, Remaining}
+use Rattle.gf_token.specs.Remaining.{Remaining}
 use Rattle.gf_token.specs.declared.token.TextToken.{TextToken}
 use Rattle.gf_token.specs.Token.{Lexeme, lexeme}
 use Rattle.gf_token.specs.Token.Token.{Text}
 use Rattle.gf_token.specs.TokenSpelling.{Spells}
 use Rattle.gf_token.specs.declared.fault.Fault.{Fault}
-use Rattle.gf_token.specs.declared.fault.Span.{Span}
-use Rattle.gf_token.specs.declared.fault.Why.TheVariants.{Memory}
+use Rattle.gf_token.specs.inner.Machine as any_format
+pub use Rattle.gf_token.specs.inner.Machine.{Fails, Goes, HasPassedPlace}
 use Rattle.gf_tree.specs.Description.{InformationSet, SetKey}
 use Rattle.gf_tree.specs.FiniteMap.{Described}
 use Rattle.gf_tree.specs.Game.{Node}
@@ -23,7 +23,6 @@ use Rattle.gf_tree.specs.inner.Machine.{Begun, Content, Position, State, nothing
 use Rattle.gf_tree.specs.inner.Machine.{with_node}
 use Rattle.gf_tree.specs.inner.Machine.Position.{Format, NodeDue}
 use Rattle.gf_tree.specs.declared.game.numbered_node.Numbering.TheVariants.{ByFirstUse}
-use Rattle.gf_tree.specs.inner.Passed.{HasPassed}
 use Rattle.gf_tree.specs.inner.ReadGame.{game_in}
 use Rattle.gf_tree.specs.declared.reader.Reader.{Reader}
 
@@ -48,10 +47,8 @@ content_with r nodes = record (content_of r) {
   nodes = entries_with r.sets.known r.outcomes.known nodes;
 }
 
--- what the machine answers to the tokens to come of an input
-pub record Answer : Type 0 where
-  pub input : List ℕ
-  pub machine : Result Content Fault
+abbrev pub Answer : Type 0
+Answer = any_format.Answer Content
 
 abbrev pub heard : Position → Content → Remaining → Answer
 heard q c t = record { input = t.input; machine = run (length t.input) q c t.ahead }
@@ -187,24 +184,9 @@ pub record HasReadAll {T : Type 0} (holds : T → List Told → Type 0) (before 
   pub whole : before.machine ≡ Ok (content_with r nodes)
   pub has_told : HasTold holds r to nodes
 
--- ---- refusals
+-- ---- calls
 
--- memory ran out at a place of the input that the machine has passed
-pub record HasPassedPlace (before : Answer) (span : Span) : Type 0 where
-  pub place : IsPlaceIn before.input span
-  pub passed : HasPassed before.machine span.start
-
--- the code refuses as the machine does, or for lack of memory if the machine goes on
-pub data Fails (f : Fault) (before : Answer) : Type 0 where
-  of_file : before.machine ≡ Err f → Fails f before
-  of_memory : f.why ≡ Memory → HasPassedPlace before f.span → Fails f before
-
--- the machine answers to the tokens before a call as to those after it
-abbrev pub Goes : {A : Type 0} → Answer → Result A Fault → Answer → Type 0
-Goes before (Ok _) after = before ≡ after
-Goes before (Err f) after = Fails f before
-
--- the same for a call that tells a node, whose set has this position
+-- A call that tells a node, whose set has this position, is as `Goes` says.
 abbrev pub GoesTelling : {A T : Type 0} → (T → T → Heading → List Told → Type 0) → Result A Fault
     → (A → ℕ) → Answer → Reader → Reader → T → T → Type 0
 GoesTelling holds result set before old new from to =

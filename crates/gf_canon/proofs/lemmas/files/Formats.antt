@@ -8,9 +8,10 @@ use Rattle.gf_canon.proofs.Common.{strategic, BeginsWithWord, IsFormatReason, Is
 use Rattle.gf_canon.proofs.Common.{IsWithoutFormat, nat_eq}
 use Rattle.gf_token.specs.Next.{is_bare_token, is_broken, starts}
 use Rattle.gf_token.proofs.Places.{no_file}
+use Rattle.gf_token.proofs.Reading.{begins}
 use Rattle.gf_nfg.specs.inner.Machine.{start}
 use Rattle.gf_nfg.specs.Sentence.{IsStrategicFile}
-use Rattle.gf_nfg.proofs.lemmas.places.Led.{begins as strategic_begins}
+use Rattle.gf_nfg.proofs.lemmas.places.Led.{is_reader}
 use Rattle.gf_tree.specs.Front.{IsExtensiveFile}
 
 -- ---- the word that a file begins with
@@ -68,7 +69,7 @@ not_accepted (t ∷ ts) h = grind arith
 -- some file begins
 some_file : Begins IsInEitherFormat []
 some_file =
-    let b = strategic_begins [] start refl in
+    let b = begins is_reader [] start refl in
     (b.0, inr b.1)
 
 format_reason : (n : ℕ) (ls : List Lexeme)

@@ -9,17 +9,18 @@ use Rattle.gf_canon.proofs.Common.{MeansFile, SpellsWithin, nat_eq}
 use Rattle.gf_token.specs.Code.{code_of}
 use Rattle.gf_token.specs.Next.{is_bare_token}
 use Rattle.gf_token.proofs.Places.{one_offending_place, one_span}
+use Rattle.gf_token.proofs.Reading.{follows}
 use Rattle.gf_nfg.specs.inner.Machine.{start}
 use Rattle.gf_nfg.proofs.lemmas.places.Once.{answered as table_answered}
 use Rattle.gf_nfg.proofs.lemmas.places.Once.{not_both as not_table_and_refused}
 use Rattle.gf_nfg.proofs.lemmas.places.Once.{refused_once as table_refused_once}
-use Rattle.gf_nfg.proofs.lemmas.places.Led.{follows as strategic_follows}
+use Rattle.gf_nfg.proofs.lemmas.places.Led.{is_reader as strategic_reader}
 use Rattle.gf_tree.specs.inner.Machine.{at, nothing}
 use Rattle.gf_tree.specs.inner.Machine.Position.{Format as AtFormat}
 use Rattle.gf_tree.proofs.lemmas.reasons.RefusedOnce.{answered as game_answered}
 use Rattle.gf_tree.proofs.lemmas.reasons.RefusedOnce.{not_both as not_game_and_refused}
 use Rattle.gf_tree.proofs.lemmas.reasons.RefusedOnce.{refused_once as game_refused_once}
-use Rattle.gf_tree.proofs.lemmas.runs.Places.{follows as extensive_follows}
+use Rattle.gf_tree.proofs.lemmas.runs.Places.{is_reader as extensive_reader}
 use Rattle.gf_tree.proofs.lemmas.runs.Tokens.{same_bytes}
 use Rattle.gf_canon.specs.Judgement.IsJudged.{of_extensive, of_neither, of_strategic}
 use Rattle.gf_canon.proofs.lemmas.files.EitherFormat.{extensive_placed, strategic_placed}
@@ -113,14 +114,14 @@ named_format word bytes why span begins named h =
 extensive_format : (bytes : List ℕ) (why : Why) (span : Span) → BeginsWithWord (codes "EFG") bytes
     → IsWithoutFormat why bytes span → ⊥
 extensive_format bytes why span =
-    let file = extensive_follows [] (Bare (codes "EFG")) (at AtFormat nothing) _ refl
+    let file = follows extensive_reader [] (Bare (codes "EFG")) (at AtFormat nothing) _ refl
     refl in
     named_format (codes "EFG") bytes why span (file.0, inl file.1)
 
 strategic_format : (bytes : List ℕ) (why : Why) (span : Span) → BeginsWithWord (codes "NFG") bytes
     → IsWithoutFormat why bytes span → ⊥
 strategic_format bytes why span =
-    let file = strategic_follows [] (Bare (codes "NFG")) start _ refl refl in
+    let file = follows strategic_reader [] (Bare (codes "NFG")) start _ refl refl in
     named_format (codes "NFG") bytes why span (file.0, inr file.1)
 
 one_reason : (why other : Why) (ts : List Token) → IsFormatReason why ts → IsFormatReason other ts

@@ -9,13 +9,15 @@ use Rattle.gf_nfg.proofs.Common.{append_assoc, arith, drop, inl, inr, length, le
 use Rattle.gf_nfg.proofs.Common.{length-take, map, refl, subst, ℕ, suc, sym, take, zero, ◌++◌, ◌-◌}
 use Rattle.gf_nfg.proofs.Common.{◌<◌, ◌∙◌, ◌∷◌, ◌≡◌, ◌≤◌, take_all, take-append_seam, cases_lt}
 use Rattle.gf_nfg.proofs.Common.{length-map, take-append-drop, take-map, take-take, codes, ◌↔◌, ◌⊎◌}
-use Rattle.gf_nfg.proofs.lemmas.places.Led.{begins, last_count, makes_more, products, read_past}
-use Rattle.gf_nfg.proofs.lemmas.places.Led.{stays_within}
+use Rattle.gf_nfg.proofs.lemmas.places.Led.{is_reader, last_count, makes_more, products}
+use Rattle.gf_nfg.proofs.lemmas.places.Led.{read_past, stays_within}
 use Rattle.gf_nfg.proofs.lemmas.runs.Sentence.{kind_of}
 use Rattle.gf_nfg.proofs.lemmas.runs.Strategies.{Kind, Strategies, all_groups, all_in, and_more}
 use Rattle.gf_nfg.proofs.lemmas.runs.Strategies.{and_more_is, behind, each_parts, groups_walk, next}
 use Rattle.gf_nfg.proofs.lemmas.runs.Strategies.{heading, heading_leads, heading_line, with_group}
-use Rattle.gf_nfg.proofs.lemmas.runs.Common.{Leads, leads_more, leads_on, then_ok, walk, walk_split}
+use Rattle.gf_nfg.proofs.lemmas.runs.Common.{Leads, walk}
+use Rattle.gf_token.proofs.Reading.{begins}
+use Rattle.gf_token.proofs.Walks.{then_ok, walk_more, walk_on, walk_split}
 use Rattle.gf_nfg.proofs.lemmas.tables.Rows.{entries_counted}
 
 -- the product passes the limit with the last of these counts, and with none before
@@ -76,12 +78,12 @@ pub record IsLimitToken (ts : List Token) (t : Token) : Type 0 where
 pub limit_token : (ts : List Token) (t : Token) → Passes ts t → IsLimitToken ts t
 limit_token ts t h =
     let whole = ts ++ t ∷ [] in
-    let leads = leads_more ts t h.mid h.after h.leads h.steps in
+    let leads = walk_more step ts t start h.mid h.after h.leads h.steps in
     let within = h.within in
     record {
       grows = makes_more h.mid h.after t h.steps (omega (arith, within));
       past = record {
-        begins = begins whole h.after leads;
+        begins = begins is_reader whole h.after leads;
         past = λ more table sentence.
             let grown = read_past whole h.after leads more table sentence in
             omega (arith, grown);
@@ -125,13 +127,13 @@ passes_given ts t counts g h =
     omega (arith, more, size, fewer, ap length g.are_counts) in
     let begun = heading_leads g.letter g.title g.players g.is_letter in
     let opened : Leads (line ++ Opening ∷ []) (at first c) =
-    rw all (leads_more line Opening _ _ begun refl) in
+    rw all (walk_more step line Opening start _ _ begun refl) in
     let walks = groups_walk k.0 g.strategies g.inner due first (inl refl) c k.1
     (all_mapped (λ (n : ℕ). 0 < n) length g.strategies (rw (← g.are_counts) g.some_strategy)) in
-    let whole = leads_on (line ++ Opening ∷ []) g.inner _ after opened walks in
+    let whole = walk_on step (line ++ Opening ∷ []) g.inner start _ after opened walks in
     let led : Leads (ts ++ t ∷ []) after =
     cc (g.parts, append_assoc line (Opening ∷ []) g.inner, whole) in
-    let m = walk_split ts (t ∷ []) start after led in
+    let m = walk_split step ts (t ∷ []) start after led in
     let n = then_ok (step m.0 t) (λ x. walk x []) after m.2 in
     let steps = n.1 ∙ n.2 in
     let counted : d.counts ≡ counts =

@@ -3,24 +3,30 @@
 use Rattle.gf_nfg.proofs.Common.{IsAcceptedWithinLimit, IsJudged, IsRefusal, IsRefused, IsReason, p}
 use Rattle.gf_nfg.proofs.Common.{profile_limit, BeginsPastLimit, IsBareOrClosing, StaysWithinLimit}
 use Rattle.gf_nfg.proofs.Common.{IsLimitPlace, IsWithinLimit, IsStrategicFile, Table, SpellsTable}
-use Rattle.gf_nfg.proofs.Common.{Reader, Answer, Fails, HasPassed, HasPassedPlace, at_end, heard, ℕ}
-use Rattle.gf_nfg.proofs.Common.{read_on, taken, then_on, within, Content, State, due_at, ended, Ok}
+use Rattle.gf_nfg.proofs.Common.{Reader, Answer, Fails, HasPassedPlace, heard, ℕ, finish}
+use Rattle.gf_nfg.proofs.Common.{read_on, taken, within, Content, State, due_at, ended, Ok}
 use Rattle.gf_nfg.proofs.Common.{nothing, start, step, answer, content_in, PartsBefore, overtaken}
-use Rattle.gf_nfg.proofs.Common.{begins_front, parts, same_span, tokens_on, same_tokens, Begins, []}
-use Rattle.gf_nfg.proofs.Common.{IsAccepted, IsOffendingPlace, IsSpanOf, tokens_of, AreInOrder, Why}
-use Rattle.gf_nfg.proofs.Common.{Remaining, StandsBefore, Broken, Lexeme, Token, lexeme, Spells, ap}
+use Rattle.gf_nfg.proofs.Common.{begins_front, parts, same_span, tokens_on, same_tokens, []}
+use Rattle.gf_nfg.proofs.Common.{IsOffendingPlace, IsSpanOf, tokens_of, AreInOrder, Why}
+use Rattle.gf_nfg.proofs.Common.{Remaining, StandsBefore, Broken, Lexeme, Token, lexeme, Spells}
 use Rattle.gf_nfg.proofs.Common.{Fault, Span, What, Expected, Memory, TooManyProfiles, Err, List}
 use Rattle.gf_nfg.proofs.Common.{Unterminated, Result, append-nil, append_assoc, inl, arith}
-use Rattle.gf_nfg.proofs.Common.{inr, length, refl, subst, sym, ◌++◌, ◌<◌, ◌∷◌, ◌≡◌, ◌≤◌, IfErr}
-use Rattle.gf_nfg.proofs.Common.{map-append, first_and_rest, MayFollow, table_of, ◌⊎◌}
+use Rattle.gf_nfg.proofs.Common.{inr, length, refl, subst, sym, ◌++◌, ◌<◌, ◌∷◌, ◌≡◌, ◌≤◌}
+use Rattle.gf_nfg.proofs.Common.{map-append, table_of, ◌⊎◌, ◌∙◌}
+use Rattle.gf_token.proofs.Following.{refused_why}
+pub use Rattle.gf_token.proofs.Following.{carried}
+use Rattle.gf_token.proofs.Reading.{begins, not_accepted}
+use Rattle.gf_token.proofs.TokensAhead.{all_in_order, behind_first}
+use Rattle.gf_token.proofs.Walks.{GoesThrough, StopsAt, passed, passed_before, place_after, reads}
+use Rattle.gf_token.proofs.Walks.{run_split, run_whole, stopped}
 use Rattle.gf_nfg.proofs.lemmas.tables.Meaning.{within_limit}
-use Rattle.gf_token.proofs.Spans.{starts_later}
-use Rattle.gf_token.specs.declared.fault.What.TheVariants.{End}
 use Rattle.gf_nfg.proofs.lemmas.limit.Counts.{limit_by_files, limit_token}
-use Rattle.gf_nfg.proofs.lemmas.places.Led.{IsRead, Led, begins, bounded, led_more, led_none, past}
-use Rattle.gf_nfg.proofs.lemmas.places.Led.{no_file, read_whole, refused, spelled_as, stays_within}
+use Rattle.gf_nfg.proofs.lemmas.places.Led.{IsRead, IsWithin, is_reader, past, spelled_as, stays}
+use Rattle.gf_nfg.proofs.lemmas.places.Led.{stays_within}
 use Rattle.gf_nfg.proofs.lemmas.places.Reasons.{IsWhole, broken_reason, broken_refused, end_reason}
 use Rattle.gf_nfg.proofs.lemmas.places.Reasons.{reason}
+use Rattle.gf_nfg.proofs.lemmas.runs.Common.{Leads}
+use Rattle.gf_nfg.proofs.lemmas.runs.Sentence.{sentence_found}
 use Rattle.gf_token.proofs.Places.{no_file as refused_no_file}
 
 -- ---- where the profiles pass their limit
@@ -78,31 +84,21 @@ span_of l = record { start = l.start; end = l.end }
 abbrev pub end_of : ℕ → Span
 end_of size = record { start = size; end = size }
 
--- the tokens that led to a state are those before the place, and there the machine refuses
-refusal : (bytes : List ℕ) (s : State) (ls : List Lexeme) (span : Span) (why : Why)
-    (h : Led bytes ls s) → IsSpanOf ls (length bytes) span
-    → IsReason why (tokens_of h.seen) (tokens_of ls)
-    → ¬ (IsAccepted IsStrategicFile (tokens_of h.seen) (tokens_of ls)) → IsRefusal why bytes span
-refusal bytes s ls span why h place reason refused =
-    let off : IsOffendingPlace IsStrategicFile bytes span = record {
-      before = h.seen;
-      after = ls;
-      spelled = h.spelled;
-      place = place;
-      begins = begins (tokens_of h.seen) s h.leads;
-      refused = refused;
-    } in
-    record {
-      place = off;
-      reason = reason;
-      within = nowhere bytes span off (stays_within (tokens_of h.seen) s h.leads h.few);
-    }
-
-limit : (bytes : List ℕ) (rest : List Lexeme) (l : Lexeme) (s after : State)
-    → Led bytes (l ∷ rest) s → step s l.token ≡ Ok after
-    → profile_limit < after.content.profiles → IsLimitPlace bytes (span_of l)
-limit bytes rest l s after h e over =
-    grind (arith, limit_by_files, limit_token (tokens_of h.seen) l.token)
+-- it stands behind the tokens up to which they stay within it
+behind_limit : (bytes : List ℕ) (front back : List Lexeme) (from : ℕ) (limit : Span)
+    → Spells 0 bytes (front ++ back) → StaysWithinLimit (tokens_of front)
+    → AreInOrder (length bytes) from back → IsLimitPlace bytes limit → from ≤ limit.start
+behind_limit bytes front back from limit spelled stays order place =
+    let h = (limit_by_files bytes limit).0 place in
+    let in_order = AreInOrder (length bytes) from in
+    let later = λ (between : List Lexeme).
+    place_after (length bytes) from between (h.lexeme ∷ h.after) limit in
+    elim (parts h.before (h.lexeme ∷ h.after) front back (same_tokens bytes
+    (h.before ++ h.lexeme ∷ h.after) (front ++ back) h.spelled spelled)) [
+      | inl p ↦ absurd (overrun h.before h.after front back h.lexeme h.past h.grows p stays)
+      | inr (inl p) ↦ later [] (subst in_order (sym p.1) order) h.place
+      | inr (inr p) ↦ later (p.0 ∷ p.1) (subst in_order p.3 order) h.place
+    ]
 
 -- no table within the limit passes it
 all_past : (bytes : List ℕ) (span : Span) (t : Table)
@@ -143,167 +139,177 @@ only_memory why bytes span t h k within =
 
 -- ---- what the machine answers to the tokens of an input
 
-refused_by : (why : Why) (bytes : List ℕ) (span : Span) → IsRefusal why bytes span
-    → IsRefused why bytes span
-refused_by why bytes span h = grind arith
-
 -- what is known of an answer: the bytes mean a file within the limit, or they are refused
 abbrev pub IsAnswered : List ℕ → Result Content Fault → Type 0
 IsAnswered bytes (Ok c) = IsRead bytes c × (c.profiles ≤ profile_limit)
 IsAnswered bytes (Err f) = IsRefused f.why bytes f.span
 
-module _ (bytes : List ℕ) where
-  -- the machine goes on behind a token, or it refuses the token
-  abbrev Took : List Lexeme → Lexeme → Result State Why → Type 0
-  Took ls l (Ok after) = Led bytes ls after
-  Took ls l (Err why) = IsRefused why bytes (span_of l)
+refused_by : (why : Why) (bytes : List ℕ) (span : Span) → IsRefusal why bytes span
+    → IsRefused why bytes span
+refused_by why bytes span h = grind arith
 
-  took_step : (s : State) (l : Lexeme) (ls : List Lexeme) (o : Result State Why)
-      → Led bytes (l ∷ ls) s → IsWhole l.token → step s l.token ≡ o → Took ls l (within o)
-  took_step s l ls (Ok after) h whole is =
-      let few = bounded s after l.token is h.few in
-      grind (arith, limit bytes ls l s after h is, past, led_more bytes ls l s after h is)
-  took_step s l ls (Err why) h whole is = refused_by why bytes (span_of l)
-      (refusal bytes s (l ∷ ls) (span_of l) why h (refl, refl)
-      (reason (tokens_of h.seen) (tokens_of ls) s h.leads l.token why whole is)
-      (refused (tokens_of h.seen) l.token s why h.leads is))
+end_refused : (c : Content) (due : What) (why : Why) → ended c due ≡ Err why → why ≡ Expected due
+end_refused c due why e = grind arith
 
-  took : (s : State) (from to : ℕ) (t : Token) (ls : List Lexeme)
-      → Led bytes (lexeme from to t ∷ ls) s → Took ls (lexeme from to t) (taken s t)
-  took s from to Broken ls h =
+end_read : (c r : Content) (due : What) → ended c due ≡ Ok r → c ≡ r
+end_read c r due e = grind arith
+
+past_refused : (s : State) (why : Why) → within (Ok s) ≡ Err why
+    → (why ≡ TooManyProfiles) × (profile_limit < s.content.profiles)
+past_refused s why e = grind (arith, past)
+
+-- after tokens that lead to a state within the limit
+module _ (bytes : List ℕ) (before : List Lexeme) (s : State) (h : Leads (tokens_of before) s)
+    (few : IsWithin s) where
+  refusal : (after : List Lexeme) (span : Span) (stop why : Why) → Spells 0 bytes (before ++ after)
+      → IsSpanOf after (length bytes) span → StopsAt step finish s (tokens_of after) stop
+      → IsReason why (tokens_of before) (tokens_of after) → IsRefused why bytes span
+  refusal after span stop why spelled place stops reason =
+      let off : IsOffendingPlace IsStrategicFile bytes span = record {
+        before = before;
+        after = after;
+        spelled = spelled;
+        place = place;
+        begins = begins is_reader (tokens_of before) s h;
+        refused = not_accepted is_reader (tokens_of before) (tokens_of after) s stop h stops;
+      } in
+      refused_by why bytes span (record {
+        place = off;
+        reason = reason;
+        within = nowhere bytes span off (stays_within (tokens_of before) s h few);
+      })
+
+  at_step : (l : Lexeme) (ls : List Lexeme) (span : Span) (why : Why) (o : Result State Why)
+      → IsWhole l.token → Spells 0 bytes (before ++ l ∷ ls) → IsSpanOf (l ∷ ls) (length bytes) span
+      → step s l.token ≡ o → within o ≡ Err why → IsRefused why bytes span
+  at_step l ls span why (Ok after) whole spelled place is e =
+      let p = past_refused after why e in
+      let k = limit_token (tokens_of before) l.token (record {
+        mid = s;
+        after = after;
+        leads = h;
+        steps = is;
+        within = few;
+        over = p.1;
+      }) in
+      rw p.0 (
+        λ same. absurd cc,
+        (limit_by_files bytes span).1 (record {
+          before = before;
+          lexeme = l;
+          after = ls;
+          spelled = spelled;
+          place = place;
+          grows = k.grows;
+          past = k.past;
+          first = k.first;
+        }),
+      )
+  at_step l ls span why (Err other) whole spelled place is e =
+      let same : other ≡ why = cc in
+      subst (λ (w : Why). IsRefused w bytes span) same (refusal (l ∷ ls) span other other spelled
+      place is (reason (tokens_of before) (tokens_of ls) s h l.token other whole is))
+
+  at_token : (start end : ℕ) (t : Token) (ls : List Lexeme) (span : Span) (why : Why)
+      → Spells 0 bytes (before ++ lexeme start end t ∷ ls)
+      → IsSpanOf (lexeme start end t ∷ ls) (length bytes) span → taken s t ≡ Err why
+      → IsRefused why bytes span
+  at_token start end Broken ls span why spelled place e =
+      let same : Unterminated ≡ why = cc in
       let b = broken_refused s in
-      refused_by Unterminated bytes _ (refusal bytes s (lexeme from to Broken ∷ ls) _ Unterminated h
-      (refl, refl) (broken_reason (tokens_of h.seen) (tokens_of ls))
-      (refused (tokens_of h.seen) Broken s b.0 h.leads b.1))
-  took s from to t ls h = took_step s (lexeme from to t) ls (step s t) h tt refl
+      subst (λ (w : Why). IsRefused w bytes span) same (refusal (lexeme start end Broken ∷ ls) span
+      b.0 Unterminated spelled place b.1 (broken_reason (tokens_of before) (tokens_of ls)))
+  at_token start end t ls span why spelled place e =
+      at_step (lexeme start end t) ls span why (step s t) tt spelled place refl e
 
-  end_answered : (s : State) (due : What) → Led bytes [] s → due_at s.position ≡ due
-      → IsAnswered bytes (at_end (length bytes) (ended s.content due))
-  end_answered s End h e = (read_whole bytes s s.content h (ap (ended s.content) e), h.few)
-  end_answered s due h e =
-      let reason = end_reason (tokens_of h.seen) [] s h.leads due e in
-      let none = no_file (tokens_of h.seen) s (Expected due) h.leads (ap (ended s.content) e) in
-      refused_by (Expected due) bytes (end_of (length bytes))
-      (refusal bytes s [] (end_of (length bytes)) (Expected due) h (refl, refl) reason none)
+  stopped_at : (after : List Lexeme) (span : Span) (why : Why) → Spells 0 bytes (before ++ after)
+      → IsSpanOf after (length bytes) span → StopsAt taken finish s (tokens_of after) why
+      → IsRefused why bytes span
+  stopped_at [] span why spelled place stops =
+      let e = end_refused s.content (due_at s.position) why stops in
+      rw e (refusal [] span why (Expected (due_at s.position)) spelled place stops
+      (end_reason (tokens_of before) [] s h (due_at s.position) refl))
+  stopped_at (l ∷ ls) span why spelled place stops =
+      at_token l.start l.end l.token ls span why spelled place stops
 
-  token_answered : (l : Lexeme) (ls : List Lexeme) (o : Result State Why) → Took ls l o
-      → ((after : State) → Led bytes ls after → IsAnswered bytes (read_on (length bytes) after ls))
-      → IsAnswered bytes (then_on l.start l.end o (λ next. read_on (length bytes) next ls))
-  token_answered l ls o h later = grind arith
-
-  answered_on : (s : State) (ls : List Lexeme) → Led bytes ls s
-      → IsAnswered bytes (read_on (length bytes) s ls)
-  answered_on s [] h = end_answered s (due_at s.position) h refl
-  answered_on s (l ∷ ls) h = token_answered l ls (taken s l.token)
-      (took s l.start l.end l.token ls h) (λ after led. answered_on after ls led)
-
-  pub all_answered : (all : List Lexeme) → Spells 0 bytes all
-      → IsAnswered bytes (read_on (length bytes) start all)
-  all_answered all spelled = answered_on start all (led_none bytes all spelled)
+pub all_answered : (bytes : List ℕ) (all : List Lexeme) → Spells 0 bytes all
+    → IsAnswered bytes (read_on (length bytes) start all)
+all_answered bytes all spelled = by (read_on (length bytes) start all) refl
+  where
+    by : (o : Result Content Fault) → read_on (length bytes) start all ≡ o → IsAnswered bytes o
+    by (Ok c) e =
+        let ts = tokens_of all in
+        let read = (reads taken finish (length bytes) start all c).0 e in
+        let m = run_split taken finish ts [] start c (cc (append-nil ts, read)) in
+        let k = stays ts start m.0 (omega arith) m.1 in
+        let same = end_read m.0.content c (due_at m.0.position) m.2 in
+        let whole = run_whole step finish ts start m.0 k.0 ∙ m.2 in
+        ((all, spelled, sentence_found ts c whole), rw (← same) k.1)
+    by (Err fault) e =
+        let h = stopped taken finish (length bytes) start all fault e in
+        let k = stays (tokens_of h.before) start h.state (omega arith) h.leads in
+        stopped_at bytes h.before h.state k.0 k.1 h.after fault.span fault.why
+        (rw (← h.parts) spelled) h.place h.stops
 
 -- ---- memory
 
--- what is refused after a token begins after its start
-passed_on : (end from start : ℕ) → start < from → (s : State) (ls : List Lexeme)
-    → AreInOrder end from ls → HasPassed (read_on end s ls) start
-passed_on end from start less s [] h = grind arith
-passed_on end from start less s (l ∷ ls) h =
-    let near = h.0 in let some = h.1 in
-    let later = λ (after : State).
-    passed_on end l.end start (omega (arith, less, near, some)) after ls h.2 in
-    grind (arith, later)
-
--- so if the machine goes on after a token, it has passed the token
-passed_before : (t : Remaining) (span : Span) → StandsBefore t span
-    → (s : State) → HasPassed (read_on (length t.input) s t.ahead) span.start
-passed_before t span h s = passed_on (length t.input) span.end span.start h.some s t.ahead h.order
-
-pub carried : {f : Fault} {a b : Answer} → Fails f b → a ≡ b → Fails f a
-carried {f} {a} {b} h e = subst (Fails f) (sym e) h
-
 pub wants_memory : {f : Fault} {span : Span} {t : Remaining} {a : Answer} → StandsBefore t span
     → f ≡ record { span = span; why = Memory } → (s : State) → a ≡ heard s t → Fails f a
-wants_memory {f} {span} {t} {a} stands is s goes = grind (arith, carried, passed_before)
-
--- ---- at a token that it has passed, memory may run out
-
--- these tokens, if there are any, start later
-abbrev StartLater : ℕ → List Lexeme → Type 0
-StartLater from [] = Unit {0}
-StartLater from (l ∷ ls) = from < l.start
-
-start_later : (from size : ℕ) (ls : List Lexeme) (span : Span) → IsSpanOf ls size span
-    → from < span.start → StartLater from ls
-start_later from size ls span place less = grind arith
+wants_memory {f} {span} {t} {a} stands is s goes =
+    grind (arith, carried, passed_before taken finish)
 
 pub refusal_or_limit : (why : Why) (bytes : List ℕ) (s : Span) → ¬ (why ≡ Memory)
     → IsJudged why bytes s
     → IsRefusal why bytes s ⊎ ((why ≡ TooManyProfiles) × IsLimitPlace bytes s)
 refusal_or_limit why bytes s some h = grind arith
 
-module _ (bytes : List ℕ) (before rest : List Lexeme) (l : Lexeme)
-    (spelled : Spells 0 bytes (before ++ l ∷ rest)) where
-  -- if a file begins with some tokens, and those behind them start later
-  goes_on : (front back : List Lexeme) → Spells 0 bytes (front ++ back)
-      → Begins IsStrategicFile (tokens_of front) → StartLater l.start back
-      → MayFollow IsStrategicFile (tokens_of before) l.token
-  goes_on front back other file less =
-      elim (parts before (l ∷ rest) front back
-      (same_tokens bytes (before ++ l ∷ rest) (front ++ back) spelled other)) [
-        | inl p ↦
-            let first = first_and_rest l p.0 rest (p.1 ++ back) p.3 in
-            let ends = begins_front IsStrategicFile (tokens_of before ++ l.token ∷ [])
-            (tokens_of p.1) in
-            grind (arith, tokens_on before p.1 p.0, append_assoc)
-        | inr (inl p) ↦ grind arith
-        | inr (inr p) ↦ grind (arith, starts_later front p.1 rest p.0 l 0 bytes)
-      ]
-
-  accepted : (front back : List Lexeme) → Spells 0 bytes (front ++ back)
-      → Begins IsStrategicFile (tokens_of front) → StartLater l.start back
-      → ((limit : Span) → IsLimitPlace bytes limit → l.start < limit.start)
-      → IsAcceptedWithinLimit bytes (span_of l)
-  accepted front back other file less later = grind (arith, goes_on)
-
-  passed : (o : Result Content Fault) → IsAnswered bytes o → HasPassed o l.start
-      → IsAcceptedWithinLimit bytes (span_of l)
-  passed (Ok c) h less =
-      accepted h.0.0 [] (rw append-nil h.0.1)
-      ([], (table_of c, rw append-nil h.0.2.sentence)) tt
-      (λ other place. absurd (all_past bytes other (table_of c) place
-      (h.0.0, h.0.1, h.0.2.sentence) (within_limit c h.0.2.complete h.1)))
-  passed (Err f) h less = elim (refusal_or_limit f.why bytes f.span h.0 h.1) [
-    | inl k ↦ accepted k.place.before k.place.after k.place.spelled k.place.begins
-        (start_later l.start (length bytes) k.place.after f.span k.place.place less)
-        (λ other place. absurd (k.within other place))
-    | inr k ↦
-        let p = (limit_by_files bytes f.span).0 k.1 in
-        accepted p.before (p.lexeme ∷ p.after) p.spelled
-        (begins_front IsStrategicFile (tokens_of p.before) (p.lexeme.token ∷ []) p.past.begins)
-        (rw (← p.place.0) less)
-        (λ other place. subst (λ (s : Span). l.start < s.start)
-        (one_limit_place bytes f.span other k.1 place) less)
-  ]
-
--- a place of a token that the machine has passed
-memory_judged : (bytes : List ℕ) (all : List Lexeme) → Spells 0 bytes all → (span : Span)
-    → HasPassedPlace (heard start (record { input = bytes; ahead = all })) span
-    → IsAcceptedWithinLimit bytes span
-memory_judged bytes all spelled span h = at_place h.place.1 h.place.2 h.place.3
-  where
-    at_place : (after : List Lexeme) → Spells 0 bytes (h.place.0 ++ after)
-        → IsSpanOf after (length bytes) span → IsAcceptedWithinLimit bytes span
-    at_place [] k place = grind (arith, h.some)
-    at_place (l ∷ after) k place =
-        let answered = all_answered bytes all spelled in
-        let accepted = passed bytes h.place.0 after l k (read_on (length bytes) start all)
-        answered in
-        grind (arith, same_span, h.passed)
-
--- ---- the answer to all tokens
-
 abbrev pub to_all : List ℕ → List Lexeme → Answer
 to_all bytes all = heard start (record { input = bytes; ahead = all })
+
+-- a place that the machine has passed
+memory_judged : (bytes : List ℕ) (all : List Lexeme) → Spells 0 bytes all → (span : Span)
+    → HasPassedPlace (to_all bytes all) span → IsAcceptedWithinLimit bytes span
+memory_judged bytes all spelled span h =
+    let same = same_tokens bytes all (before ++ h.place.1) spelled h.place.2 in
+    let order = all_in_order bytes (before ++ h.place.1) h.place.2 in
+    at_place h.place.1 h.place.2 h.place.3 (passed taken finish (length bytes) 0 before h.place.1
+    span start order h.place.3 (rw (← same) h.passed))
+  where
+    before : List Lexeme
+    before = h.place.0
+
+    at_place : (after : List Lexeme) → Spells 0 bytes (before ++ after)
+        → IsSpanOf after (length bytes) span
+        → GoesThrough taken finish start (tokens_of before) (tokens_of after)
+        → IsAcceptedWithinLimit bytes span
+    at_place [] k place g =
+        let all = rw append-nil at k in
+        let read = (reads taken finish (length bytes) start before g.0).1 g.1 in
+        let a = subst (IsAnswered bytes) read
+        (all_answered bytes before all) in
+        rw (same_span span (end_of (length bytes)) place.0 place.1) (accepted_whole bytes
+        (table_of g.0) (a.0.0, a.0.1, a.0.2.sentence) (within_limit g.0 a.0.2.complete a.1))
+    at_place (l ∷ ls) k place g =
+        let front = before ++ l ∷ [] in
+        let led = stays (tokens_of before ++ l.token ∷ []) start g.0 (omega arith) g.1 in
+        let leads : Leads (tokens_of front) g.0 = rw (tokens_on before [] l) led.0 in
+        let order = behind_first (length bytes) 0 before l ls (all_in_order bytes _ k) in
+        record {
+          place = record {
+            before = before;
+            after = l ∷ ls;
+            spelled = k;
+            place = place;
+            accepted = begins is_reader (tokens_of before ++ l.token ∷ []) g.0 led.0;
+          };
+          within = λ limit is.
+              let near = behind_limit bytes front ls l.end limit
+              (rw (append_assoc before (l ∷ []) ls) k)
+              (stays_within (tokens_of front) g.0 leads led.1) order.1 is in
+              omega (arith, near, order.0, place.0);
+        }
+
+-- ---- the answer to all tokens
 
 pub answer_judged : (bytes : List ℕ) (all : List Lexeme) (fault : Fault) → Spells 0 bytes all
     → Fails fault (to_all bytes all) → IsJudged fault.why bytes fault.span
@@ -316,9 +322,5 @@ answer_read bytes all c spelled e = grind (arith, all_answered)
 pub heard_begun : (r : Reader) (bytes : List ℕ) → r.tokens.input ≡ bytes
     → content_in r.heading ≡ nothing → to_all bytes r.tokens.ahead ≡ answer p.Format r
 heard_begun r bytes input none = grind arith
-
-pub refused_why : {A : Type 0} (f : Fault) (P : Fault → Type 0) (result : Result A Fault)
-    → result ≡ Err f → P f → IfErr result P
-refused_why f P result e h = subst (λ r. IfErr r P) (sym e) h
 
 pub ruleset judged = (refused_why, only_memory, answer_judged, carried, heard_begun)

@@ -1,93 +1,34 @@
--- What may follow tokens that lead the machine somewhere, and what the tokens of an input have led
--- it to. No token makes the number of profiles smaller, so above their limit they stay there.
+-- The machine reads the strategic files. No token makes the number of profiles smaller, so above
+-- their limit they stay there.
 use Rattle.gf_nfg.proofs.Common.{profile_limit, BeginsWithinLimit, IsBareOrClosing, product, Table}
 use Rattle.gf_nfg.proofs.Common.{StaysWithinLimit, IsStrategicFile, Sentence, SpellsTable, is_past}
-use Rattle.gf_nfg.proofs.Common.{Content, State, finish, run, start, step, ◌>>=◌, table_of}
-use Rattle.gf_nfg.proofs.Common.{p, Position, same_tokens, Begins, MayFollow, tokens_of, Lexeme, Ok}
-use Rattle.gf_nfg.proofs.Common.{Token, Spells, Why, Err, List, Result, [], ap, append-nil, arith}
-use Rattle.gf_nfg.proofs.Common.{append_assoc, false, length, refl, subst, sym, true, ℕ, ◌*◌, ◌++◌}
-use Rattle.gf_nfg.proofs.Common.{◌<◌, ◌∙◌, ◌∷◌, ◌≡◌, ◌≤◌, mul_assoc, map-append, is_ok}
+use Rattle.gf_nfg.proofs.Common.{Content, State, finish, run, start, step, taken, within, table_of}
+use Rattle.gf_nfg.proofs.Common.{p, Position, same_tokens, tokens_of, Lexeme, Ok, Err, Broken}
+use Rattle.gf_nfg.proofs.Common.{Token, Spells, Why, List, Result, [], append-nil, arith}
+use Rattle.gf_nfg.proofs.Common.{false, length, subst, sym, true, ℕ, ◌*◌, ◌++◌}
+use Rattle.gf_nfg.proofs.Common.{◌<◌, ◌∙◌, ◌∷◌, ◌≡◌, ◌≤◌, mul_assoc}
+use Rattle.gf_token.specs.inner.Machine as any_format
+use Rattle.gf_token.proofs.Reading.{IsReader}
+use Rattle.gf_token.proofs.Walks.{kept, run_after, run_split, then_ok, walk_more, walk_split}
 use Rattle.gf_nfg.proofs.lemmas.runs.Ends.{ends, reached}
 use Rattle.gf_nfg.proofs.lemmas.runs.Sentence.{Read, one_table, sentence_again, sentence_found}
 use Rattle.gf_nfg.proofs.lemmas.runs.Strategies.{Kind, next}
-use Rattle.gf_nfg.proofs.lemmas.runs.Common.{Leads, leads_more, leads_run, then_ok, walk, walk_run}
-use Rattle.gf_nfg.proofs.lemmas.runs.Common.{walk_split}
+use Rattle.gf_nfg.proofs.lemmas.runs.Common.{Leads, walk}
 use Rattle.gf_nfg.proofs.lemmas.tables.Meaning.{length-entries}
 
--- ---- what may follow
+-- ---- what is read
 
-pub begins : (ts : List Token) (s : State) → Leads ts s → Begins IsStrategicFile ts
-begins ts s h =
-    let e = ends s.position s.content in
-    let all = leads_run ts e.more s h ∙ e.goes_on in
-    (e.more, (table_of e.read, (sentence_found (ts ++ e.more) e.read all).sentence))
-
-pub follows : (ts : List Token) (t : Token) (s after : State) → Leads ts s → step s t ≡ Ok after
-    → MayFollow IsStrategicFile ts t
-follows ts t s after h e = begins (ts ++ t ∷ []) after (leads_more ts t s after h e)
-
-not_ok : (o : Result State Why) (f : State → Result Content Why) (r : Content)
-    → is_ok o ≡ false → (o >>= f) ≡ Ok r → ⊥
-not_ok o f r e h = grind arith
-
--- if the machine refuses some tokens, no file begins with them
-pub stops : (ts us : List Token) (s : State) → Leads ts s → is_ok (walk s us) ≡ false
-    → ¬ (Begins IsStrategicFile (ts ++ us))
-stops ts us s h e = λ b.
-    let p = sentence_again ((ts ++ us) ++ b.0) b.1.0 b.1.1 in
-    not_ok (walk s us) (λ after. run after b.0) p.content e (sym (walk_run us b.0 s)
-    ∙ sym (leads_run ts (us ++ b.0) s h) ∙ ap (run start) (sym (append_assoc ts us b.0)) ∙ p.read)
-
-pub refused : (ts : List Token) (t : Token) (s : State) (why : Why) → Leads ts s
-    → step s t ≡ Err why → ¬ (MayFollow IsStrategicFile ts t)
-refused ts t s why h e = stops ts (t ∷ []) s h (rw e refl)
-
--- what all tokens are answered
-whole_run : (ts : List Token) (s : State) → Leads ts s → run start ts ≡ finish s
-whole_run ts s h = grind (arith, append-nil, leads_run ts [])
-
-pub is_file : (ts : List Token) (s : State) (r : Content) → Leads ts s → finish s ≡ Ok r
-    → Sentence ts (table_of r)
-is_file ts s r h e = (sentence_found ts r (whole_run ts s h ∙ e)).sentence
-
-pub no_file : (ts : List Token) (s : State) (why : Why) → Leads ts s → finish s ≡ Err why
-    → ¬ (IsStrategicFile ts)
-no_file ts s why h e = λ file.
-    let p = sentence_again ts file.0 file.1 in grind (arith, append-nil, leads_run ts [])
-
--- ---- the tokens of an input
-
--- what the tokens before the rest have led the machine to, within the limit
-pub record Led (bytes : List ℕ) (rest : List Lexeme) (s : State) : Type 0 where
-  pub seen : List Lexeme
-  pub spelled : Spells 0 bytes (seen ++ rest)
-  pub leads : Leads (tokens_of seen) s
-  pub few : s.content.profiles ≤ profile_limit
-
-pub led_none : (bytes : List ℕ) (all : List Lexeme) → Spells 0 bytes all → Led bytes all start
-led_none bytes all h = record { seen = []; spelled = h; leads = refl; few = omega arith }
-
-pub led_more : (bytes : List ℕ) (rest : List Lexeme) (l : Lexeme) (s after : State)
-    → Led bytes (l ∷ rest) s → step s l.token ≡ Ok after → after.content.profiles ≤ profile_limit
-    → Led bytes rest after
-led_more bytes rest l s after h e few = record {
-  seen = h.seen ++ l ∷ [];
-  spelled = subst (Spells 0 bytes) (sym (append_assoc h.seen (l ∷ []) rest)) h.spelled;
-  leads = grind (arith, Leads, map-append, leads_more);
-  few = few;
+-- the machine reads the strategic files
+pub is_reader : IsReader step finish start IsStrategicFile
+is_reader = record {
+  is_file = λ ts r e. (table_of r, (sentence_found ts r e).sentence);
+  is_read = λ ts file. let p = sentence_again ts file.0 file.1 in (p.content, p.read);
+  ends = λ ts s h. let e = ends s.position s.content in (e.more, e.read, e.goes_on);
 }
 
 -- what all tokens mean
 abbrev pub IsRead : List ℕ → Content → Type 0
 IsRead bytes c = (ls : List Lexeme) × Spells 0 bytes ls × Read (tokens_of ls) c
-
-pub read_whole : (bytes : List ℕ) (s : State) (r : Content) → Led bytes [] s → finish s ≡ Ok r
-    → IsRead bytes r
-read_whole bytes s r h e = (
-  h.seen,
-  subst (Spells 0 bytes) (append-nil h.seen) h.spelled,
-  sentence_found (tokens_of h.seen) r (whole_run (tokens_of h.seen) s h.leads ∙ e),
-)
 
 -- and so one table at most
 pub spelled_as : (bytes : List ℕ) (all : List Lexeme) (t : Table)
@@ -144,19 +85,40 @@ product_at q c d h e = grind (arith, product_snoc)
 pub products : (ts : List Token) (s after : State) → walk s ts ≡ Ok after
     → s.content.profiles ≡ product s.content.counts
     → after.content.profiles ≡ product after.content.counts
-products [] s after e h = grind arith
-products (t ∷ ts) s after e h =
-    let k = then_ok (step s t) (λ x. walk x ts) after e in
-    products ts k.0 after k.2 (product_at k.0.position s.content k.0.content
-    (subst (IsGrown s) k.1 (grown s t)) h)
+products ts s after e h = kept step (λ x. x.content.profiles ≡ product x.content.counts)
+    (λ x y t k f. product_at y.position x.content y.content (subst (IsGrown x) f (grown x t)) k)
+    ts s after h e
 
-pub bounded : (s after : State) (t : Token) → step s t ≡ Ok after
-    → s.content.profiles ≤ profile_limit
+bounded : (s after : State) (t : Token) → step s t ≡ Ok after → s.content.profiles ≤ profile_limit
     → is_past after.position after.content.profiles ≡ false → after.content.profiles ≤ profile_limit
-bounded s after t e within not = let h = subst (IsGrown s) e (grown s t) in grind arith
+bounded s after t e few not = let h = subst (IsGrown s) e (grown s t) in grind arith
 
 pub past : (q : Position) (n : ℕ) → is_past q n ≡ true → profile_limit < n
 past q n h = grind arith
+
+-- within their limit
+abbrev pub IsWithin : State → Type 0
+IsWithin s = s.content.profiles ≤ profile_limit
+
+within_is : (o : Result State Why) (after : State) → within o ≡ Ok after
+    → (o ≡ Ok after) × (is_past after.position after.content.profiles ≡ false)
+within_is o after e = grind arith
+
+step_taken : (s after : State) (t : Token) → IsWithin s → taken s t ≡ Ok after
+    → (step s t ≡ Ok after) × IsWithin after
+step_taken s after Broken few e = absurd cc
+step_taken s after t few e =
+    let h = within_is (step s t) after e in (h.0, bounded s after t h.0 few h.1)
+
+-- where tokens lead that do not pass it
+pub stays : (ts : List Token) (s after : State) → IsWithin s → any_format.walk taken s ts ≡ Ok after
+    → (walk s ts ≡ Ok after) × IsWithin after
+stays [] s after few e = let same : s ≡ after = cc in (e, subst IsWithin same few)
+stays (t ∷ ts) s after few e =
+    let h = then_ok (taken s t) (λ x. any_format.walk taken x ts) after e in
+    let k = step_taken s h.0 t few h.1 in
+    let m = stays ts h.0 after k.1 h.2 in
+    (rw k.0 m.0, m.1)
 
 -- after one of these no list is open
 settles : (s after : State) (t : Token) → step s t ≡ Ok after → IsBareOrClosing t
@@ -168,16 +130,15 @@ settles s after t e h = grind arith
 -- a walk makes them no fewer
 walk_grows : (ts : List Token) (s after : State) → walk s ts ≡ Ok after
     → s.content.profiles ≤ after.content.profiles
-walk_grows [] s after e = grind arith
-walk_grows (t ∷ ts) s after e =
-    let h = then_ok (step s t) (λ x. walk x ts) after e in
-    omega (arith, step_grows s h.0 t h.1, walk_grows ts h.0 after h.2)
+walk_grows ts s after e = kept step (λ x. s.content.profiles ≤ x.content.profiles)
+    (λ x y t k f. let more = step_grows x y t f in omega (arith, k, more)) ts s after
+    (omega arith) e
 
 -- nor does a run that ends well
 run_grows : (ts : List Token) (s : State) (r : Content) → run s ts ≡ Ok r
     → s.content.profiles ≤ r.profiles
 run_grows ts s r e =
-    let h = then_ok (walk s ts) finish r (cc (e, walk_run ts [] s, append-nil ts)) in
+    let h = run_split step finish ts [] s r (cc (e, append-nil ts)) in
     let less = walk_grows ts s h.0 h.1 in
     grind arith
 
@@ -190,14 +151,16 @@ pub read_past : (ts : List Token) (s : State) → Leads ts s → (more : List To
     → Sentence (ts ++ more) t → s.content.profiles ≤ length t.entries
 read_past ts s h more t sentence =
     let p = sentence_again (ts ++ more) t sentence in
-    let grown = run_grows more s p.content (sym (leads_run ts more s h) ∙ p.read) in
+    let run = sym (run_after step finish ts more start s h) ∙ p.read in
+    let grown = run_grows more s p.content run in
     grind (arith, size_read)
 
 begins_within : (ts : List Token) (s : State) → Leads ts s
     → reached s.position s.content.profiles ≤ profile_limit → BeginsWithinLimit ts
 begins_within ts s h within =
     let e = ends s.position s.content in
-    let all : run start (ts ++ e.more) ≡ Ok e.read = leads_run ts e.more s h ∙ e.goes_on in
+    let all : run start (ts ++ e.more) ≡ Ok e.read =
+    run_after step finish ts e.more start s h ∙ e.goes_on in
     let size = size_read (ts ++ e.more) e.read all in
     grind (arith, sentence_found, e.count)
 
@@ -205,8 +168,8 @@ begins_within ts s h within =
 pub stays_within : (ts : List Token) (s : State) → Leads ts s → s.content.profiles ≤ profile_limit
     → StaysWithinLimit ts
 stays_within ts s h within front back token parts is =
-    let a = walk_split front (token ∷ back) start s (cc (h, parts)) in
+    let a = walk_split step front (token ∷ back) start s (cc (h, parts)) in
     let b = then_ok (step a.0 token) (λ x. walk x back) s a.2 in
     let grown = walk_grows back b.0 s b.2 in
-    begins_within (front ++ token ∷ []) b.0 (leads_more front token a.0 b.0 a.1 b.1)
+    begins_within (front ++ token ∷ []) b.0 (walk_more step front token start a.0 b.0 a.1 b.1)
     (omega (arith, grown, within, settles a.0 b.0 token b.1 is))

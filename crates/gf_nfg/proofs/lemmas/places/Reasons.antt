@@ -4,7 +4,7 @@ use Rattle.gf_nfg.proofs.Common.{IsStrategicFile, false_from_ne_true, number_is,
 use Rattle.gf_nfg.proofs.Common.{HasNumberFault, OutcomeNumber, UnknownOutcome, ZeroDenominator, at}
 use Rattle.gf_nfg.proofs.Common.{NumberFault, Unterminated, count_again, index_again, number_again}
 use Rattle.gf_nfg.proofs.Common.{IsReason, NotANumber, gcd_within, lowest_of, number_of, same_fault}
-use Rattle.gf_nfg.proofs.Common.{MayFollow, Ok, Position, RoleIsDue, nat_tests, pointwise, table_of}
+use Rattle.gf_nfg.proofs.Common.{MayFollow, Ok, Position, RoleIsDue, nat_tests, pointwise, finish}
 use Rattle.gf_nfg.proofs.Common.{BadIndex, Expected, Format, count_is, count_of, index_is, index_of}
 use Rattle.gf_nfg.proofs.Common.{Applies, Content, IsIndex, Version, Why, code_of, counted, step_at}
 use Rattle.gf_nfg.proofs.Common.{Closing, Letter, NoEntry, Opening, Payoff, chosen, due_at, why_of}
@@ -12,9 +12,11 @@ use Rattle.gf_nfg.proofs.Common.{Begins, Broken, Count, IsDue, Option, Ratio, Re
 use Rattle.gf_nfg.proofs.Common.{Comma, Err, State, Suits, Token, arith, ended, false, is_ok, subst}
 use Rattle.gf_nfg.proofs.Common.{Bare, Bool, List, None, Role, Some, Text, What, codes, paid, step}
 use Rattle.gf_nfg.proofs.Common.{inl, inr, map, p, refl, suc, sym, true, zero, ◌++◌, ◌<◌, ◌||◌, ◌∷◌}
-use Rattle.gf_nfg.proofs.Common.{[], ap, ℕ, ◌↔◌, ◌≡◌, ◌≤◌, ◌⊎◌}
-use Rattle.gf_nfg.proofs.lemmas.places.Led.{begins, follows, is_file, refused, stops}
-use Rattle.gf_nfg.proofs.lemmas.runs.Common.{same_bytes, Leads, leads_on, walk}
+use Rattle.gf_nfg.proofs.Common.{[], ap, ℕ, start, ◌↔◌, ◌∙◌, ◌≡◌, ◌≤◌, ◌⊎◌}
+use Rattle.gf_nfg.proofs.lemmas.places.Led.{is_reader}
+use Rattle.gf_token.proofs.Reading.{begins, follows, not_accepted, stops}
+use Rattle.gf_token.proofs.Walks.{run_whole, walk_on}
+use Rattle.gf_nfg.proofs.lemmas.runs.Common.{same_bytes, Leads, walk}
 use Rattle.gf_nfg.proofs.lemmas.runs.Ends.{zero_is_index, zero_is_number, zero_number, zero_text}
 use Rattle.gf_nfg.proofs.lemmas.runs.Strategies.{labels_walk}
 use Rattle.gf_token.specs.declared.fault.What.TheVariants as what
@@ -218,9 +220,11 @@ module _ (ts : List Token) (s : State) (h : Leads ts s) where
   answered : (token : Token) (o : Result State Why) → step s token ≡ o
       → AsRow (Accepts (row_of s) token) (Refuses s.position token) o
       → MayFollow IsStrategicFile ts token ↔ Accepts (row_of s) token
-  answered token (Ok after) e a = (λ f. a, λ accepts. follows ts token s after h e)
-  answered token (Err why) e a =
-      (λ f. absurd (refused ts token s why h e f), λ accepts. absurd (a.0 accepts))
+  answered token (Ok after) e a = (λ f. a, λ accepts. follows is_reader ts token s after h e)
+  answered token (Err why) e a = (
+    λ f. absurd (not_accepted is_reader ts (token ∷ []) s why h e f),
+    λ accepts. absurd (a.0 accepts),
+  )
 
   -- a token may follow exactly when its row accepts it
   pub may_follow : (token : Token)
@@ -245,7 +249,8 @@ module _ (ts : List Token) (s : State) (h : Leads ts s) where
   named_is_due what.Strategies n e = (role_is_due Count n.0, (may_follow Opening).1 n.1)
   named_is_due what.Node n e = absurd n
   named_is_due what.End n e =
-      (table_of s.content, is_file ts s s.content h (ap (ended s.content) e))
+      is_reader.is_file ts s.content
+      (run_whole step finish ts start s h ∙ ap (ended s.content) e)
 
   expected_is_due : IsDue ts (due_at s.position)
   expected_is_due = named_is_due (due_at s.position) (named_at s.position) refl
@@ -389,10 +394,11 @@ module _ (ts after : List Token) (s : State) (h : Leads ts s) where
       let labels : (labels : List (List ℕ)) → Begins IsStrategicFile (ts ++ map Text labels) =
       λ labels.
       let w = labels_follow s.position s.content e labels in
-      begins (ts ++ map Text labels) w.0 (leads_on ts (map Text labels) s w.0 h w.1) in
+      begins is_reader (ts ++ map Text labels) w.0
+      (walk_on step ts (map Text labels) start s w.0 h w.1) in
       grind (arith, may_follow ts s h Closing, lowest_entry ts)
   closing_reason why false e n r =
-      expected_reason Closing why r (none_of_closing ts (stops ts two_texts s h
+      expected_reason Closing why r (none_of_closing ts (stops is_reader ts two_texts s h
       (no_texts_follow s.position s.content (false_from_ne_true (row_of s).closing n) e)))
 
   refused_reason : (t : Token) (why : Why) → IsWhole t → ¬ (Accepts (row_of s) t)

@@ -7,16 +7,10 @@ use Rattle.gf_nfg.proofs.Common.{Ok, Reader, Result, answer, length, lexeme, Fai
 use Rattle.gf_nfg.proofs.Common.{Span, Text, Told, arith, heard, refl, subst, ℕ, Err, [], ap, sym}
 use Rattle.gf_nfg.proofs.Common.{◌-◌, ◌<◌, ◌∙◌, ◌∷◌, ◌≡◌}
 use Rattle.gf_nfg.proofs.lemmas.places.Judged.{carried, wants_memory}
+pub use Rattle.gf_token.proofs.Following.{goes_back, fails_back as ends_back}
 use Rattle.gf_nfg.specs.declared.reader.receive.Version.TheVariants as version
 
 -- ---- answers carried back
-
-module _ {A : Type 0} {r : Result A Fault} {f : Fault} {a : Answer} where
-  pub goes_back : (b : Answer) → r ≡ Err f → Fails f a → Goes a r b
-  goes_back b e h = subst (λ x. Goes a x b) (sym e) h
-
-  pub ends_back : (P : A → Type 0) → r ≡ Err f → Fails f a → MatchResult r P (λ g. Fails g a)
-  ends_back P e h = subst (λ x. MatchResult x P (λ g. Fails g a)) (sym e) h
 
 pub goes_from : {A : Type 0} (r : Result A Fault) (d : Answer) {a b : Answer} → a ≡ b → Goes b r d
     → Goes a r d

@@ -2,6 +2,7 @@
 use Rattle.gf_nfg.proofs.Common.{◌≡◌, arith, length, subst, Token, braced, row_of, IsTable, IsCount}
 use Rattle.gf_nfg.proofs.Common.{ℕ, ◌≤◌, [], ◌∷◌, Ok, map, sym, ◌∙◌, inl, inr, ◌⊎◌, at, p, run, sum}
 use Rattle.gf_nfg.proofs.Common.{◌+◌, ◌*◌, ◌<◌, ◌++◌, refl, Text, Each, Ratio, Table, rows, start}
+use Rattle.gf_nfg.proofs.Common.{finish, step}
 use Rattle.gf_nfg.proofs.Common.{List, AllByRecursion, IsOutcomeBody, counted_labels, strategies_of}
 use Rattle.gf_nfg.proofs.Common.{append_assoc, IsPayoffBody, with_comment, HasPayoffs, IsLabelList}
 use Rattle.gf_nfg.proofs.Common.{Opening, IsComment, all_weaker, length-map, all_images, IsComplete}
@@ -19,7 +20,7 @@ use Rattle.gf_nfg.proofs.lemmas.runs.Strategies.{heading_found, strategies_again
 use Rattle.gf_nfg.proofs.lemmas.runs.Strategies.{AllSome, heading_leads, heading_line, with_counts}
 use Rattle.gf_nfg.proofs.lemmas.runs.Strategies.{IsGroup, Kind, Strategies, heading, labels_in}
 use Rattle.gf_nfg.proofs.lemmas.tables.Profiles.{length-profiles}
-use Rattle.gf_nfg.proofs.lemmas.runs.Common.{leads_run}
+use Rattle.gf_token.proofs.Walks.{run_after}
 
 -- with the body
 abbrev pub filled : Content → List Ratio → List ℕ → Content
@@ -268,8 +269,8 @@ sentence_again ts t s =
     let b = body_again s.body (with_comment c t.comment) (rows t)
     (some_profiles t.strategies h.some_strategy) h.one_payoff_each (rows_count t h) s.is_body in
     let rest = s.comment ++ s.body in
-    let leads = leads_run (heading_line s.letter t.title t.players) (braced inner ++ rest) _
-    (heading_leads s.letter t.title t.players s.is_letter) in
+    let leads = run_after step finish (heading_line s.letter t.title t.players)
+    (braced inner ++ rest) start _ (heading_leads s.letter t.title t.players s.is_letter) in
     let lists = strategies_again k.0 t.strategies inner rest (heading t.title t.players) k.1
     h.some_strategy in
     let seam = append_assoc inner (Closing ∷ []) rest in

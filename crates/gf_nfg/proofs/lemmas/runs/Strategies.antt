@@ -7,7 +7,9 @@ use Rattle.gf_nfg.proofs.Common.{Closing, Content, IsCount, Opening, counted, no
 use Rattle.gf_nfg.proofs.Common.{Bare, Option, State, braced, length, listed, mul-one, start, ◌>>=◌}
 use Rattle.gf_nfg.proofs.Common.{List, Some, Text, Token, arith, codes, inl, inr, refl, zero, ◌++◌}
 use Rattle.gf_nfg.proofs.Common.{Ok, [], ap, at, map, suc, ◌*◌, ◌+◌, ◌<◌, ◌∙◌, ◌∷◌, ◌≡◌, ◌⊎◌}
-use Rattle.gf_nfg.proofs.lemmas.runs.Common.{same_bytes, Leads, walk, walk_run, walk_then}
+use Rattle.gf_nfg.proofs.Common.{finish, step}
+use Rattle.gf_nfg.proofs.lemmas.runs.Common.{same_bytes, Leads, walk}
+use Rattle.gf_token.proofs.Walks.{run_after, walk_on}
 use Rattle.gf_nfg.proofs.lemmas.tables.Lists.{joined, length-counted_labels}
 
 -- ---- groups of tokens, one for each of some items
@@ -124,7 +126,7 @@ pub heading_leads : (letter title : List ℕ) (players : List (List ℕ))
     (at p.BeforeStrategies (heading title players))
 heading_leads letter title players h =
     let c : Content = with_title nothing title in
-    let walks = walk_then (map Text players) (Closing ∷ []) (at p.InPlayers c) _ _
+    let walks = walk_on step (map Text players) (Closing ∷ []) (at p.InPlayers c) _ _
     (players_walk players c) refl in
     grind arith
 
@@ -282,7 +284,7 @@ group_walk ByCounts due q takes c group labels h some =
 group_walk ByLists due q takes c group labels h some =
     let texts = labels_walk labels due 0 c in
     let closed = list_closed due (with_labels c labels) (length labels) some in
-    let whole = walk_then (Opening ∷ map Text labels) (Closing ∷ []) (at q c)
+    let whole = walk_on step (Opening ∷ map Text labels) (Closing ∷ []) (at q c)
     (at (p.InList due (length labels)) (with_labels c labels)) in
     grind arith
 
@@ -306,7 +308,7 @@ groups_walk k (labels ∷ strategies) inner due q takes c h some =
     let d = with_group k c labels in
     let more = groups_walk k strategies h.1 due (next k (and_more strategies due)) (inr refl) d h.4
     some.1 in
-    grind (arith, walk_then, behind_next)
+    grind (arith, walk_on step, behind_next)
 
 closed : (k : Kind) (strategies : Strategies) (rest : List Token) (c : Content)
     → run (at (behind k strategies 0 (p.FirstStrategies 0)) c) (Closing ∷ rest)
@@ -322,4 +324,5 @@ strategies_again k strategies inner rest c h some =
     let more = and_more_is strategies 0 in omega (arith, more) in
     let w = groups_walk k strategies inner 0 (p.FirstStrategies (and_more strategies 0)) (inl refl)
     c h some in
-    grind (arith, walk_run, closed, all_in, all_groups)
+    let goes = run_after step finish inner (Closing ∷ rest) _ _ w in
+    grind (arith, closed, all_in, all_groups)

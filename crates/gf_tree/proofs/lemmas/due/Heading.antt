@@ -10,22 +10,24 @@ use Rattle.gf_tree.specs.inner.Machine.Position.{InPlayers as Players}
 use Rattle.gf_tree.specs.RowPlaces.{InPlayers, ToPlayers, ToTitle}
 use Rattle.gf_tree.proofs.lemmas.due.Rows.{Stands, EndLaw, Law, stands_by}
 use Rattle.gf_tree.proofs.lemmas.runs.Heading.{heading}
-use Rattle.gf_tree.proofs.lemmas.runs.Places.{walk_run, walked, Leads, begins, state_is, walk}
-use Rattle.gf_tree.proofs.lemmas.runs.Places.{walk_more}
+use Rattle.gf_tree.proofs.lemmas.runs.Places.{Leads, is_reader, next, run_led, walk}
+use Rattle.gf_token.proofs.Reading.{begins}
+use Rattle.gf_token.proofs.Walks.{walk_more, walk_on}
 use Rattle.gf_token.specs.declared.fault.What.TheVariants as what
 use Rattle.gf_tree.proofs.lemmas.due.Answers as laws
 
 stands_led : (before : List Token) (q : Position) (c : Content) (row : Row) → Leads before (at q c)
     → Law q c row → EndLaw q c row → Stands before row
 stands_led before q c row l law end =
-    stands_by before q c row (begins before (at q c) l)
-    (λ us. walk_run before us Format nothing (at q c) l) law end
+    stands_by before q c row (begins is_reader before (at q c) l)
+    (run_led before (at q c) l) law end
 
 -- ---- where the heading leads
 
 more_leads : (before first : List Token) (t : Token) (s after : State) → Leads first s
     → step s.position s.content t ≡ Ok after → before ≡ first ++ t ∷ [] → Leads before after
-more_leads before first t s after l e parts = cc (walk_more first t Format nothing s after l e)
+more_leads before first t s after l e parts =
+    cc (walk_more next first t (at Format nothing) s after l e)
 
 to_title : (before : List Token) → ToTitle before → Leads before (at Title nothing)
 to_title before h = by h.1
@@ -42,13 +44,6 @@ to_players : (before : List Token) (h : ToPlayers before)
 to_players before h =
     more_leads before h.0 (Text h.1) (at Title nothing) _ (to_title h.0 h.2) refl h.3
 
-walk_both : (ts us : List Token) (q : Position) (c : Content) (s : State) → walk q c ts ≡ Ok s
-    → walk q c (ts ++ us) ≡ walk s.position s.content us
-walk_both [] us q c s e = ap (λ (x : State). walk x.position x.content us) (state_is (at q c) s e)
-walk_both (t ∷ ts) us q c s e =
-    let h = walked (step q c t) (λ x. walk x.position x.content ts) s e in
-    cc (h.1, walk_both ts us h.0.position h.0.content s h.2)
-
 abbrev ok_players : List (List ℕ) → Content → Result State Why
 ok_players players c = Ok (at Players (record c { players = players }))
 
@@ -62,10 +57,11 @@ in_players : (before : List Token) (players : List (List ℕ)) (h : InPlayers be
     → Leads before (at Players (heading h.1.1 players))
 in_players before players h =
     let c = heading h.1.1 [] in
-    let opened = walk_more h.0 Opening Format nothing (at BeforePlayers c) (at Players c)
+    let opened = walk_more next h.0 Opening (at Format nothing) (at BeforePlayers c) (at Players c)
     (to_players h.0 h.1) refl in
-    rw (← append_assoc h.0 (Opening ∷ []) (map Text players) ∙ sym h.2) (walk_both (h.0 ++ Opening ∷
-    []) (map Text players) Format nothing (at Players c) opened ∙ named players c)
+    rw (← append_assoc h.0 (Opening ∷ []) (map Text players) ∙ sym h.2) (walk_on next
+    (h.0 ++ Opening ∷ []) (map Text players) (at Format nothing) (at Players c) _ opened
+    (named players c))
 
 behind_players : (before : List Token) (players : List (List ℕ)) (h : BehindPlayers before players)
     → Leads before (at AfterPlayers (heading h.1.1.1 players))

@@ -3,13 +3,13 @@
 use Rattle.gf_tree.proofs.Common.{◌≡◌, ◌↔◌, ℕ, Bool, true, false, cond, List, [], ◌∷◌, ◌++◌, Result}
 use Rattle.gf_tree.proofs.Common.{Ok, Err, refl, sym, subst, ◌∙◌, arith, Token, Broken, Begins}
 use Rattle.gf_tree.proofs.Common.{IsAccepted, Why, IsExtensiveFile, run_tokens, then_run, Content}
-use Rattle.gf_tree.proofs.Common.{Position, State, at, nothing, step, Format, Row, Unterminated}
+use Rattle.gf_tree.proofs.Common.{Position, State, nothing, step, Format, Row, Unterminated}
 use Rattle.gf_tree.proofs.Common.{due, may_end, node_or_end, Accepts, Refuses}
 use Rattle.gf_tree.specs.Rows.{RefusesFor, AcceptsToken}
-use Rattle.gf_tree.proofs.lemmas.runs.Places.{Leads, follows, is_file, is_read, no_file}
-use Rattle.gf_tree.proofs.lemmas.runs.Places.{not_follows, walk, walk_run}
-use Rattle.gf_tree.proofs.lemmas.runs.Stops.{StopsAt, not_accepted}
-use Rattle.gf_tree.proofs.lemmas.runs.Tokens.{Reads, run_on}
+use Rattle.gf_token.proofs.Reading.{follows, leads, not_accepted}
+use Rattle.gf_token.proofs.Walks.{run_whole}
+use Rattle.gf_tree.proofs.lemmas.runs.Places.{Leads, StopsAt, at_end, is_reader, next, run_led}
+use Rattle.gf_tree.proofs.lemmas.runs.Tokens.{run_on}
 
 -- ---- what the machine answers, by a row
 
@@ -46,26 +46,6 @@ pub stands_by : (before : List Token) (q : Position) (c : Content) (row : Row)
     → Stands before row
 stands_by before q c row begins answers law end = grind arith
 
--- ---- some tokens lead to a state
-
-first_leads : (o : Result State Why) (t : Token) (ts more : List Token) (q : Position)
-    (c r : Content) → step q c t ≡ o → then_run o (run_on (ts ++ more)) ≡ Ok r
-    → ((s : State) → Reads s.position s.content (ts ++ more) r
-    → (end : State) × (walk s.position s.content ts ≡ Ok end))
-    → (end : State) × (walk q c (t ∷ ts) ≡ Ok end)
-first_leads (Ok s) t ts more q c r is e later = grind arith
-first_leads (Err why) t ts more q c r is e later = absurd cc
-
-leads_on : (ts more : List Token) (q : Position) (c r : Content) → Reads q c (ts ++ more) r
-    → (end : State) × (walk q c ts ≡ Ok end)
-leads_on [] more q c r e = (at q c, refl)
-leads_on (t ∷ ts) more q c r e = first_leads (step q c t) t ts more q c r refl e
-    (λ s h. leads_on ts more s.position s.content r h)
-
-pub leads : (before : List Token) → Begins IsExtensiveFile before → (s : State) × Leads before s
-leads before h =
-    let r = is_read (before ++ h.0) h.1 in leads_on before h.0 Format nothing r.0 r.1
-
 -- ---- at the end nothing is refused as an unterminated text
 
 node_ends : (n : ℕ) → node_or_end n ≡ Unterminated → ⊥
@@ -77,10 +57,10 @@ ends_text q n h = grind (arith, node_ends)
 abbrev refused : Why → Result Content Why
 refused why = Err why
 
-abbrev at_end : Bool → Content → Why → Result Content Why
-at_end b c why = cond b (Ok c) (Err why)
+abbrev end_by : Bool → Content → Why → Result Content Why
+end_by b c why = cond b (Ok c) (Err why)
 
-end_refused : (b : Bool) (c : Content) (why other : Why) → at_end b c why ≡ refused other
+end_refused : (b : Bool) (c : Content) (why other : Why) → end_by b c why ≡ refused other
     → why ≡ other
 end_refused true c why other e = absurd cc
 end_refused false c why other e = cc
@@ -109,29 +89,34 @@ module _ (before : List Token) (s : State) (l : Leads before s) (row : Row) wher
       → ((us : List Token) → then_run o (run_on us) ≡ then_run p (run_on us)) → Answers row t p
       → AnswersAt before s row (t ∷ after)
   at_token t after (Ok x) (Ok y) e alike a =
-      ((λ f. a, λ h. follows before t s x l e), λ n. absurd (n a))
+      ((λ f. a, λ h. follows is_reader before t s x l e), λ n. absurd (n a))
   at_token t after (Ok x) (Err why) e alike a = absurd (not_always x why alike)
   at_token t after (Err why) (Ok y) e alike a = absurd (not_always y why (λ us. sym (alike us)))
   at_token t after (Err why) (Err other) e alike a =
       let same = one_refusal why other (alike []) in (
-        (λ f. absurd (not_follows before t s why l e f), λ h. absurd (a.0 h)),
+        (
+          λ f. absurd (not_accepted is_reader before (t ∷ after) s why l e f),
+          λ h. absurd (a.0 h),
+        ),
         λ n. (why, subst (RefusesFor row t) (sym same) a.1, e),
       )
 
-  at_last : (b t : Bool) (c : Content) (why : Why) → may_end s.position s.content.due ≡ b
-      → at_end b s.content (due s.position s.content.due) ≡ at_end t c why → AnswersEnd row t why
-      → AnswersAt before s row []
-  at_last true true c why e alike a = ((λ f. a, λ h. is_file before s l e), λ n. absurd (n a))
-  at_last true false c why e alike a = absurd cc
-  at_last false true c why e alike a = absurd cc
-  at_last false false c why e alike a = grind (arith, one_refusal, no_file)
+  at_last : (o : Result Content Why) (t : Bool) (c : Content) (why : Why) → at_end s ≡ o
+      → o ≡ end_by t c why → AnswersEnd row t why → AnswersAt before s row []
+  at_last (Ok r) true c why e alike a = (
+    (λ f. a, λ h. is_reader.is_file before r (run_whole next at_end before _ s l ∙ e)),
+    λ n. absurd (n a),
+  )
+  at_last (Ok r) false c why e alike a = absurd cc
+  at_last (Err other) true c why e alike a = absurd cc
+  at_last (Err other) false c why e alike a =
+      grind (arith, one_refusal, not_accepted is_reader before [] s other l e)
 
 by_state : (before after : List Token) (q : Position) (c : Content) (row : Row) (s : State)
     → Leads before s → ((us : List Token) → run_on us s ≡ run_tokens q c us) → Law q c row
     → EndLaw q c row → AnswersAt before s row after
 by_state before [] q c row s l alike law end =
-    at_last before s l row (may_end s.position s.content.due) (may_end q c.due) c (due q c.due) refl
-    (alike []) end
+    at_last before s l row (at_end s) (may_end q c.due) c (due q c.due) refl (alike []) end
 by_state before (t ∷ after) q c row s l alike law end =
     at_token before s l row t after (step s.position s.content t) (step q c t) refl
     (λ us. alike (t ∷ us)) (law t)
@@ -139,22 +124,23 @@ by_state before (t ∷ after) q c row s l alike law end =
 pub answers_at : (before after : List Token) (s : State) (row : Row) → Leads before s
     → Stands before row → AnswersAt before s row after
 answers_at before after s row l h = by_state before after h.position h.content row s l
-    (λ us. sym (walk_run before us Format nothing s l) ∙ h.answers us) h.law h.end
+    (λ us. sym (run_led before s l us) ∙ h.answers us) h.law h.end
 
 pub accepted : (before : List Token) (row : Row) → Stands before row → (after : List Token)
     → IsAccepted IsExtensiveFile before after ↔ Accepts row after
 accepted before row h after =
-    let l = leads before h.begins in (answers_at before after l.0 row l.1 h).0
+    let l = leads is_reader before h.begins in (answers_at before after l.0 row l.1 h).0
 
 one_stop : (after : List Token) (s : State) (why other : Why) → StopsAt s after why
     → StopsAt s after other → why ≡ other
-one_stop [] s why other h k = sym h.1 ∙ k.1
+one_stop [] s why other h k = cc
 one_stop (t ∷ after) s why other h k = cc
 
 pub refused_by : (before after : List Token) (s : State) (why : Why) (row : Row) → Leads before s
     → StopsAt s after why → Stands before row → ¬ (Accepts row after) × Refuses row after why
 refused_by before after s why row l h stands =
     let a = answers_at before after s row l stands in
-    let never = λ (k : Accepts row after). not_accepted before after s why l h (a.0.1 k) in
+    let never = λ (k : Accepts row after).
+    not_accepted is_reader before after s why l h (a.0.1 k) in
     let r = a.1 never in
     (never, subst (λ (w : Why). Refuses row after w) (one_stop after s r.0 why r.2 h) r.1)

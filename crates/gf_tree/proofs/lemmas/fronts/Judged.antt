@@ -5,9 +5,10 @@ use Rattle.gf_tree.proofs.Common.{ints, Token, Lexeme, Closing, Text, Bare, Brok
 use Rattle.gf_tree.proofs.Common.{tokens_of, Begins, Fault, Why, Expected, UnknownPlayer, Mismatch}
 use Rattle.gf_tree.proofs.Common.{NegativeProbability, IsRefusal, or_name, this_number, Row}
 use Rattle.gf_tree.proofs.Common.{IsNoNumber, a_first_name, a_node, an_end, an_outcome, or_comma}
-use Rattle.gf_tree.proofs.Common.{FileFront, State, nothing, run, Format, Ratio, whole, IsNumber}
-use Rattle.gf_tree.proofs.Common.{NumberFault, number_again, Action, InformationSet, SetKey, set_of}
-use Rattle.gf_tree.proofs.Common.{set_with, InActions, IsExtensiveFile, KnowsSet, EndsInNode}
+use Rattle.gf_tree.proofs.Common.{FileFront, State, at, nothing, run, Format, Ratio, whole}
+use Rattle.gf_tree.proofs.Common.{IsNumber, NumberFault, number_again, Action, InformationSet}
+use Rattle.gf_tree.proofs.Common.{SetKey, set_of, set_with, InActions, IsExtensiveFile}
+use Rattle.gf_tree.proofs.Common.{KnowsSet, EndsInNode}
 use Rattle.gf_tree.proofs.Common.{code_of, why_of, Unterminated, BadIndex, SumAboveOne, SumBelowOne}
 use Rattle.gf_tree.proofs.Common.{SumOverflow, NoEntry, this_label, a_new_action, a_new_branch}
 use Rattle.gf_tree.proofs.Common.{Refuses, no_label, Holds, IsReason, DiffersFromOutcome}
@@ -18,13 +19,14 @@ use Rattle.gf_token.specs.declared.fault.Why.TheVariants.{NumberTooLarge, NotDes
 use Rattle.gf_tree.specs.Rows.{Obeys}
 use Rattle.gf_tree.specs.Reason.{StaysBelowOne, IsBadIndex, IsMismatch, IsWrongProbability}
 use Rattle.gf_tree.specs.Reason.{IsFaultyNumber, IsUnknownPlayer}
-use Rattle.gf_tree.proofs.lemmas.due.Rows.{Stands, accepted, answers_at, leads, refused_by}
+use Rattle.gf_tree.proofs.lemmas.due.Rows.{Stands, accepted, answers_at, refused_by}
 use Rattle.gf_tree.proofs.lemmas.fronts.Codes.{IsUpTo, known_left}
 use Rattle.gf_tree.proofs.lemmas.reasons.Nodes.{reasoned}
 use Rattle.gf_tree.proofs.lemmas.reasons.Rows.{Own}
 use Rattle.gf_tree.proofs.lemmas.fronts.CutPlaces.{payoff_place}
-use Rattle.gf_tree.proofs.lemmas.runs.Places.{Leads, begins}
-use Rattle.gf_tree.proofs.lemmas.runs.Stops.{StopsAt, not_accepted, stopped}
+use Rattle.gf_tree.proofs.lemmas.runs.Places.{Leads, StopsAt, as_read, at_end, is_reader, next}
+use Rattle.gf_token.proofs.Reading.{begins, leads, not_accepted}
+use Rattle.gf_token.proofs.Walks.{stopped}
 use Rattle.gf_fraction.specs.Computed.{number_of}
 use Rattle.gf_tree.proofs.lemmas.due.Actions.{a_share, known_action, known_share, new_action}
 use Rattle.gf_tree.proofs.lemmas.due.Actions.{new_branch, new_share, no_action_left}
@@ -83,7 +85,7 @@ Lower before after why = (other : Why) → Holds other before after → IsUpTo w
 
 module _ (before : List Token) (s : State) (why : Why) (l : Leads before s) where
   file : Begins IsExtensiveFile before
-  file = begins before s l
+  file = begins is_reader before s l
 
   told : (after : List Token) → StopsAt s after why → (row : Row) → Stands before row
       → Refuses row after why
@@ -270,7 +272,7 @@ module _ (before : List Token) (s : State) (why : Why) (l : Leads before s) wher
 own : (before after : List Token) (s : State) (why : Why) → Leads before s → StopsAt s after why
     → Own why before after
 own before after s why l h =
-    let r = reasoned before (begins before s l) in
+    let r = reasoned before (begins is_reader before s l) in
     let k = refused_by before after s why r.row l h r.stands in
     r.own after why k.0 k.1
 
@@ -287,7 +289,7 @@ reason before after s why l h =
 -- so a row that stands there says what may follow, and why everything else is refused
 pub obeys : {before : List Token} {row : Row} → Stands before row → Obeys before row
 obeys {before} {row} stands =
-    let l = leads before stands.begins in
+    let l = leads is_reader before stands.begins in
     record {
       accepts = accepted before row stands;
       refuses = λ after n.
@@ -300,7 +302,8 @@ pub refuses : (bytes : List ℕ) (ls : List Lexeme) (fault : Fault)
     → Spells 0 bytes ls → run (length bytes) Format nothing ls ≡ Err fault
     → IsRefusal fault.why bytes fault.span
 refuses bytes ls fault spelled e =
-    let h = stopped (length bytes) Format nothing ls fault e in
+    let h = stopped next at_end (length bytes) (at Format nothing) ls fault
+    (sym (as_read (length bytes) ls Format nothing) ∙ e) in
     let before = tokens_of h.before in
     let after = tokens_of h.after in
     record {
@@ -309,8 +312,8 @@ refuses bytes ls fault spelled e =
         after = h.after;
         spelled = subst (Spells 0 bytes) h.parts spelled;
         place = h.place;
-        begins = begins before h.state h.leads;
-        refused = not_accepted before after h.state fault.why h.leads h.stops;
+        begins = begins is_reader before h.state h.leads;
+        refused = not_accepted is_reader before after h.state fault.why h.leads h.stops;
       };
       reason = reason before after h.state fault.why h.leads h.stops;
     }

@@ -1,19 +1,20 @@
 -- The answer of the machine to the tokens of a file is what the file means: the one game that its
 -- bytes spell, or a refusal where one is due.
-use Rattle.gf_tree.proofs.Common.{◌≡◌, ℕ, List, [], ◌∷◌, ◌++◌, length, Ok, Err, refl, ap, subst}
-use Rattle.gf_tree.proofs.Common.{◌∙◌, Token, Lexeme, Spells, tokens_of, Fault, Span, Why, Game}
+use Rattle.gf_tree.proofs.Common.{◌≡◌, ℕ, List, ◌++◌, length, Ok, Err, refl, ap, subst}
+use Rattle.gf_tree.proofs.Common.{◌∙◌, Lexeme, Spells, tokens_of, Fault, Span, Why, Game}
 use Rattle.gf_tree.proofs.Common.{IsGame, Node, Parts, SpellsGame, game_with, IsRefusal, Kept}
 use Rattle.gf_tree.proofs.Common.{entries_with, game_in, IsSpellable, Content, nothing, run, Format}
-use Rattle.gf_tree.proofs.Common.{Entry, Fills, IsSpanOf, Memory, TooLong, UnknownOutcome}
-use Rattle.gf_tree.proofs.Common.{TooManyProfiles, same_tokens, IsJudged, HasPassed, IsReason}
-use Rattle.gf_tree.proofs.Common.{Fails, to_all}
-use Rattle.gf_tree.specs.inner.ReaderState.Fails.{of_file, of_memory}
-use Rattle.gf_tree.specs.inner.ReaderState.{HasPassedPlace}
+use Rattle.gf_tree.proofs.Common.{arith, Entry, Fills, Memory}
+use Rattle.gf_tree.proofs.Common.{same_tokens, IsJudged, Fails, to_all}
+use Rattle.gf_token.specs.inner.Machine.Fails.{of_file, of_memory}
+use Rattle.gf_token.specs.inner.Machine.{HasPassedPlace}
+use Rattle.gf_token.proofs.Reading.{accepted}
+use Rattle.gf_tree.specs.Judgement.{IsRefused}
 use Rattle.gf_tree.proofs.lemmas.fronts.Judged.{refuses}
 use Rattle.gf_tree.proofs.lemmas.games.Spelled.{spelled_is_spellable}
 use Rattle.gf_tree.proofs.lemmas.runs.Games.{file_found}
-use Rattle.gf_tree.proofs.lemmas.runs.Passed.{accepted}
-use Rattle.gf_tree.proofs.lemmas.runs.Stops.{machine_spells, run_reads}
+use Rattle.gf_tree.proofs.lemmas.runs.Places.{as_read, is_reader, run_reads}
+use Rattle.gf_tree.proofs.lemmas.runs.Stops.{machine_spells}
 use Rattle.gf_tree.proofs.lemmas.Once.{ok_or_err}
 
 -- ---- what is read
@@ -57,58 +58,10 @@ refused_none bytes ls fault g spelled e = λ h.
 
 -- ---- refusals
 
--- a reason lies in the file
-abbrev LiesInFile : Why → Type 0
-LiesInFile Memory = ⊥
-LiesInFile TooLong = ⊥
-LiesInFile UnknownOutcome = ⊥
-LiesInFile TooManyProfiles = ⊥
-LiesInFile why = Unit {0}
-
-lies_in_file : (why : Why) (before after : List Token) → IsReason why before after → LiesInFile why
-lies_in_file Memory before [] h = h.0
-lies_in_file Memory before (t ∷ after) h = h.0
-lies_in_file TooLong before [] h = h.0
-lies_in_file TooLong before (t ∷ after) h = h.0
-lies_in_file UnknownOutcome before [] h = h.0
-lies_in_file UnknownOutcome before (t ∷ after) h = h.0
-lies_in_file TooManyProfiles before [] h = h.0
-lies_in_file TooManyProfiles before (t ∷ after) h = h.0
-lies_in_file _ before after h = tt
-
-refusal_lies : (why : Why) (bytes : List ℕ) (span : Span) → IsRefusal why bytes span
-    → LiesInFile why
-refusal_lies why bytes span h =
-    lies_in_file why (tokens_of h.place.before) (tokens_of h.place.after) h.reason
-
-judged_by : (why : Why) (bytes : List ℕ) (span : Span) → LiesInFile why
-    → IsRefusal why bytes span → IsJudged why bytes span
-judged_by Memory bytes span h refusal = absurd h
-judged_by TooLong bytes span h refusal = absurd h
-judged_by UnknownOutcome bytes span h refusal = absurd h
-judged_by TooManyProfiles bytes span h refusal = absurd h
-judged_by _ bytes span h refusal = refusal
-
-pub refused_judged : (bytes : List ℕ) (ls : List Lexeme) (fault : Fault) → Spells 0 bytes ls
-    → run (length bytes) Format nothing ls ≡ Err fault → IsJudged fault.why bytes fault.span
-refused_judged bytes ls fault spelled e =
-    let refusal = refuses bytes ls fault spelled e in
-    judged_by fault.why bytes fault.span (refusal_lies fault.why bytes fault.span refusal) refusal
-
--- it never refuses for lack of memory
-pub not_memory : (bytes : List ℕ) (ls : List Lexeme) (fault : Fault) → Spells 0 bytes ls
-    → run (length bytes) Format nothing ls ≡ Err fault → ¬ (fault.why ≡ Memory)
-not_memory bytes ls fault spelled e = λ h.
-    subst LiesInFile h
-    (refusal_lies fault.why bytes fault.span (refuses bytes ls fault spelled e))
-
--- if memory runs out at a place that it has passed
-pub memory_judged : (bytes : List ℕ) (before after : List Lexeme) (span : Span)
-    → Spells 0 bytes (before ++ after) → IsSpanOf after (length bytes) span
-    → HasPassed (run (length bytes) Format nothing (before ++ after)) span.start
-    → IsJudged Memory bytes span
-memory_judged bytes before after span spelled place h = accepted bytes before after span spelled
-    place h
+-- it never refuses for lack of memory, nor for a reason that belongs to strategic files
+pub refused_by : (why : Why) (bytes : List ℕ) (span : Span) → IsRefusal why bytes span
+    → IsRefused why bytes span
+refused_by why bytes span h = grind arith
 
 -- ---- the game of what was read, as it is kept
 
@@ -153,12 +106,13 @@ passed_judged : (bytes : List ℕ) (ls : List Lexeme) (span : Span) → Spells 0
 passed_judged bytes ls span spelled h =
     let p = h.place in
     let same : ls ≡ p.0 ++ p.1 = same_tokens bytes ls (p.0 ++ p.1) spelled p.2 in
-    memory_judged bytes p.0 p.1 span p.2 p.3
-    (rw (← same) h.passed)
+    accepted is_reader bytes p.0 p.1 span p.2 p.3
+    (rw (← as_read (length bytes) (p.0 ++ p.1) Format nothing, ← same) h.passed)
 
 pub answer_judged : (bytes : List ℕ) (ls : List Lexeme) (fault : Fault) → Spells 0 bytes ls
     → Fails fault (to_all bytes ls) → IsJudged fault.why bytes fault.span
-answer_judged bytes ls fault spelled (of_file e) = refused_judged bytes ls fault spelled e
+answer_judged bytes ls fault spelled (of_file e) =
+    (refused_by fault.why bytes fault.span (refuses bytes ls fault spelled e)).1
 answer_judged bytes ls fault spelled (of_memory is h) =
     rw is (passed_judged bytes ls fault.span spelled h)
 

@@ -9,16 +9,21 @@ use Rattle.gf_tree.proofs.Common.{Described, description_at, Remaining, Span, Fa
 use Rattle.gf_tree.proofs.Common.{entries_with, Begun, Content, begun, behind_set, nothing, run}
 use Rattle.gf_tree.proofs.Common.{set_ends, Position, State, new_set_ends, with_action, Format}
 use Rattle.gf_tree.proofs.Common.{KnownSetName, NewAction, OutcomeNumber, SetNumber, Why, Lexeme}
+use Rattle.gf_tree.proofs.Common.{set_number}
 use Rattle.gf_tree.proofs.Common.{Bare, Closing, heard, nat_eq, Result, Ok, Err, if◌then◌else◌}
 use Rattle.gf_tree.proofs.Common.{find, with_pending_set, KnownOutcomes, Reader, outcome_with}
-use Rattle.gf_tree.proofs.Common.{StandsBefore, actions_counted, set_known, then_on, with_outcome}
-use Rattle.gf_tree.proofs.Common.{with_set, Memory, SumBelowOne, lexeme, Answer, Fails, Goes, Grows}
+use Rattle.gf_tree.proofs.Common.{StandsBefore, actions_counted, at, placed, set_known}
+use Rattle.gf_tree.proofs.Common.{then_run}
+use Rattle.gf_tree.proofs.Common.{with_outcome, with_set, Memory, SumBelowOne, lexeme, Answer}
+use Rattle.gf_tree.proofs.Common.{Fails, Grows}
 use Rattle.gf_tree.proofs.Common.{answer, begun_with, content_of}
-use Rattle.std.specs.Prelude.{OnOk, IfErr, IfOk, IfNone, MatchResult}
+use Rattle.std.specs.Prelude.{OnOk, IfOk, IfNone, MatchResult}
 use Rattle.std.proofs.lemmas.List.Quantifiers.{position-Some}
 use Rattle.gf_tree.specs.inner.KnownOutcomes.{with_pending_outcome}
 use Rattle.gf_token.specs.ReadAs.{IsReadAs}
-use Rattle.gf_tree.proofs.lemmas.runs.Passed.{passed_before}
+pub use Rattle.gf_token.proofs.Following.{carried, fails_back, goes_back, refused_why}
+use Rattle.gf_token.proofs.Walks.{passed_before}
+use Rattle.gf_tree.proofs.lemmas.runs.Places.{as_read, at_end, next}
 use Rattle.gf_token.specs.declared.token.TextToken.{TextToken}
 use Rattle.gf_tree.specs.inner.AddsUp.{adds_up}
 use Rattle.gf_tree.specs.inner.FoundSet.{FoundOutcome, FoundSet}
@@ -217,7 +222,13 @@ pub set_again : (c : Content) (node : List ℕ) (player n a b : ℕ) (t : List �
     → Some n ≡ count_of t → heard (behind_set node (set_of player n)
     (description_at same_set c.sets (set_of player n))) c rest ≡ after
     → heard (SetNumber node player) c all ≡ after
-set_again c node player n a b t all rest after is number goes = cc (is, number, goes)
+set_again c node player n a b t all rest after is number goes =
+    ap (heard (SetNumber node player) c) is
+    ∙ ap (λ (o : Option ℕ). record {
+      input = rest.input;
+      machine = then_run (placed a b (set_number c node player o))
+          (λ s. run (length rest.input) s.position s.content rest.ahead);
+    }) (sym number) ∙ goes
 
 -- ---- a new set is whole
 
@@ -244,7 +255,7 @@ set_end c d node player n name actions sum a b all rest behind held next is some
     ap (heard (NewAction node (set_of player n) (set_with name actions) sum) c) is
     ∙ ap (λ (o : Result State Why). record {
       input = rest.input;
-      machine = then_on (lexeme a b Closing) o
+      machine = then_run (placed a b o)
           (λ s. run (length rest.input) s.position s.content rest.ahead);
     }) (new_ended c node player n (set_with name actions) held actions sum some acts adds)
     ∙ (λ i. heard (OutcomeNumber (sym begins i)) (sym content i) (sym same i))
@@ -256,17 +267,6 @@ pub goes_on : (result : Result ℕ Fault) (a b : Answer) (f : ℕ → Answer)
     → MatchResult result (λ p. a ≡ f p) (λ g. Fails g a)
 goes_on (Ok p) a b f e h = e ∙ h
 goes_on (Err g) a b f e h = subst (Fails g) (sym e) h
-
-pub carried : {f : Fault} {a b : Answer} → Fails f b → a ≡ b → Fails f a
-carried {f} {a} {b} h e = subst (Fails f) (sym e) h
-
--- if a call has failed
-module _ {A : Type 0} {r : Result A Fault} {f : Fault} {a : Answer} where
-  pub goes_back : (b : Answer) → r ≡ Err f → Fails f a → Goes a r b
-  goes_back b e h = subst (λ x. Goes a x b) (sym e) h
-
-  pub fails_back : (P : A → Type 0) → r ≡ Err f → Fails f a → MatchResult r P (λ g. Fails g a)
-  fails_back P e h = subst (λ x. MatchResult x P (λ g. Fails g a)) (sym e) h
 
 -- ---- an outcome that is known
 
@@ -308,17 +308,16 @@ pub refused_only : (f : Fault) (g : Game) (result : Result Game Fault) → resul
     → f.why ≡ Memory → IsReadAs result g
 refused_only f g result e h = subst (λ r. IsReadAs r g) (sym e) h
 
-pub refused_why : {A : Type 0} (f : Fault) (P : Fault → Type 0) (result : Result A Fault)
-    → result ≡ Err f → P f → IfErr result P
-refused_why f P result e h = subst (λ r. IfErr r P) (sym e) h
-
 -- ---- memory that runs out
 
 -- at a token after which the machine goes on
 pub wants_memory : {f : Fault} {span : Span} {t : Remaining} {a : Answer} → StandsBefore t span
     → f ≡ record { span = span; why = Memory } → (q : Position) (c : Content) → a ≡ heard q c t
     → Fails f a
-wants_memory {f} {span} {t} {a} stands is q c goes = grind (arith, carried, passed_before)
+wants_memory {f} {span} {t} {a} stands is q c goes =
+    let passed = rw (← as_read (length t.input) t.ahead q c) at
+    (passed_before next at_end t span stands (at q c)) in
+    grind (arith, carried)
 
 -- at the label of a player's action
 pub labelled : (t : Remaining) (label : TextToken) (c : Content) (node : List ℕ) (player n : ℕ)

@@ -14,7 +14,7 @@ use Rattle.gf_tree.proofs.lemmas.reader.ToldNodes.{told_of_file}
 use Rattle.gf_tree.proofs.lemmas.runs.Files.{nodes_found}
 use Rattle.gf_tree.proofs.lemmas.runs.Results.{AreOutcomes}
 use Rattle.gf_tree.proofs.lemmas.runs.Sets.{AreSets}
-use Rattle.gf_tree.proofs.lemmas.runs.Stops.{run_reads}
+use Rattle.gf_tree.proofs.lemmas.runs.Places.{run_reads}
 use Rattle.gf_tree.proofs.lemmas.reader.Steps.{refused_why}
 
 -- ---- the heading

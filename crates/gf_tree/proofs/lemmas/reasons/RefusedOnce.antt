@@ -1,13 +1,15 @@
 -- Each list of bytes spells a game, or is refused at one place with one code.
-use Rattle.gf_tree.proofs.Common.{◌≡◌, ℕ, List, length, Result, Ok, Err, refl, sym, subst, arith}
+use Rattle.gf_tree.proofs.Common.{◌≡◌, ℕ, List, length, Result, Ok, Err, refl, arith}
 use Rattle.gf_tree.proofs.Common.{inl, inr, map-append, ◌⊎◌, Lexeme, Spells, tokens_of, Fault, Span}
-use Rattle.gf_tree.proofs.Common.{Why, IsDue, IsExtensiveFile, Game, SpellsGame, IsRefusal, game_in}
-use Rattle.gf_tree.proofs.Common.{Content, nothing, run, Format, code_of, Memory, TooLong}
-use Rattle.gf_tree.proofs.Common.{UnknownOutcome, TooManyProfiles, same_tokens, Holds, IsReason}
+use Rattle.gf_tree.proofs.Common.{Why, IsExtensiveFile, Game, SpellsGame, IsRefusal, game_in}
+use Rattle.gf_tree.proofs.Common.{Memory, TooLong, TooManyProfiles, UnknownOutcome}
+use Rattle.gf_tree.proofs.Common.{Content, nothing, run, Format, code_of}
+use Rattle.gf_tree.proofs.Common.{same_tokens}
 use Rattle.gf_token.proofs.Places.{no_file, one_code, one_offending_place, one_span}
 use Rattle.gf_token.proofs.Spelled.{spelled_once}
 use Rattle.gf_tree.specs.Judgement.{IsRefused}
-use Rattle.gf_tree.proofs.lemmas.reader.Games.{not_memory, read_spells, refused_judged}
+use Rattle.gf_tree.proofs.lemmas.reader.Games.{read_spells, refused_by}
+use Rattle.gf_tree.proofs.lemmas.fronts.Judged.{refuses}
 
 abbrev Answered : List ℕ → Type 0
 Answered bytes =
@@ -24,7 +26,7 @@ answered bytes =
     by ls spelled (Err fault) e = inr (
       fault.why,
       fault.span,
-      (not_memory bytes ls fault spelled e, refused_judged bytes ls fault spelled e),
+      refused_by fault.why bytes fault.span (refuses bytes ls fault spelled e),
     )
 
 -- a refusal for another cause than lack of memory is one at the offending place
@@ -46,11 +48,5 @@ pub refused_once : (bytes : List ℕ) (why other : Why) (span place : Span)
 refused_once bytes why other span place h k =
     let a = refusal why bytes span h in
     let b = refusal other bytes place k in
-    let same = one_offending_place IsExtensiveFile bytes span place a.place b.place in (
-      one_span a.place.after (length bytes) span place a.place.place
-          (rw same.1 b.place.place),
-      one_code (λ code. Holds code (tokens_of a.place.before) (tokens_of a.place.after))
-          (λ what. IsDue (tokens_of a.place.before) what) why other a.reason
-          (rw same.0 (subst (λ (ls : List Lexeme). IsReason other (tokens_of b.place.before)
-          (tokens_of ls)) (sym same.1) b.reason)),
-    )
+    let same = one_offending_place IsExtensiveFile bytes span place a.place b.place in
+    grind (arith, one_span, one_code, tokens_of)

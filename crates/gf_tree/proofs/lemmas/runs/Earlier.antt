@@ -14,7 +14,8 @@ use Rattle.gf_tree.proofs.Common.{NewProbability, KnownSetName, KnownSetOpening,
 use Rattle.gf_tree.proofs.Common.{KnownProbability, OutcomeNumber, NewOutcomeName}
 use Rattle.gf_tree.proofs.Common.{NewOutcomeOpening, NewPayoff, AfterNewPayoff, KnownOutcomeName}
 use Rattle.gf_tree.proofs.Common.{KnownOutcomeOpening, KnownPayoff, AfterKnownPayoff, heard}
-use Rattle.gf_tree.proofs.Common.{outcome_ends, same_number, then_on, new_label, behind}
+use Rattle.gf_tree.proofs.Common.{outcome_ends, same_number, then_run, new_label, behind}
+use Rattle.gf_tree.proofs.Common.{placed}
 use Rattle.gf_fraction.specs.Computed.{number_of}
 use Rattle.gf_token.specs.Indices.{index_of}
 use Rattle.gf_tree.specs.inner.ReaderState.{with_front, with_nodes}
@@ -158,8 +159,8 @@ module _ (ns : List (Entry Node)) where
     where
       by : (o : Result State Why) → ((s : State) → run end s.position (with_front ns s.content) ls
           ≡ with_nodes ns (run end s.position s.content ls))
-          → then_on l (fronted o) (λ s. run end s.position s.content ls)
-          ≡ with_nodes ns (then_on l o (λ s. run end s.position s.content ls))
+          → then_run (placed l.start l.end (fronted o)) (λ s. run end s.position s.content ls)
+          ≡ with_nodes ns (then_run (placed l.start l.end o) (λ s. run end s.position s.content ls))
       by (Ok s) later = later s
       by (Err why) later = refl
 
