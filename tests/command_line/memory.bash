@@ -142,6 +142,28 @@ check_pieces() {
     judge_peak "the hash of a long text" "$most"
 }
 
+# The table of a `labels_file` without sets of one action: nobody is paid anything.
+labels_text() {
+    python3 -c '
+from itertools import product
+labels = " ".join("\"" + "-".join(actions) + "\"" for actions in product("12", repeat=20))
+print(f"NFG 1 R \"\" {{ \"a player\" }}\n{{ {{ {labels} }} }}\n\"\"\n")
+print("0\n" * 2**20, end="")'
+}
+
+# The labels of 2^20 strategies, 42 MiB in a heading, are written from the strategies, which take 47,
+# beside payoffs of 32. The heading is not held whole.
+check_labels_pieces() {
+    labels_file 0 >"$scratch/labels.efg"
+    measured table "$scratch/labels.efg" 2>"$scratch/err" | cmp -s - <(labels_text)
+    if [[ ${PIPESTATUS[*]} == "0 0" && ! -s $scratch/err ]]; then
+        passed=$((passed + 1))
+    else
+        fail "a long heading: $(head -n 1 "$scratch/err")"
+    fi
+    judge_peak "a long heading" 98304
+}
+
 check_memory() {
     local least=1024
     # An empty file takes no memory beyond that of the words. With less the program doesn't get there.
@@ -162,6 +184,7 @@ check_memory() {
     outcome_file 1000 1048576 >"$scratch/giant.nfg"
     check_giant "a giant text" 60 400000 "$scratch/giant.nfg"
     check_pieces
+    check_labels_pieces
     labels_file 20000 >"$scratch/giant.efg"
     check_giant "giant labels" 3 4000000 "$scratch/giant.efg" table
     check_giant "giant labels of the reduced form" 3 4000000 "$scratch/giant.efg" table --reduced
