@@ -9,7 +9,6 @@ use Rattle.std.proofs.lemmas.Int.Digits.{digits_more, digits_value_more, digits_
 use Rattle.std.proofs.lemmas.List.{get_or-drop, length-drop, length-take-le}
 use Rattle.gf_fraction.proofs.SpelledIsFound.{digit_from_ascii}
 use Rattle.gf_token.specs.Indices.{index_of}
-use Rattle.gf_token.specs.inner.Finding.{EndsDigits}
 use Rattle.gf_token.proofs.ReadingIndices.{numeral_of}
 
 -- a digit more
@@ -59,9 +58,10 @@ has_room bytes start at value from within few all is =
     grind (arith, length-take-le, length-drop, digits_value-lt, pow-le-pow_right)
 
 -- what digits by themselves are read as
-pub scanned : (bytes : List ℕ) (start at value : ℕ) → EndsDigits bytes start at
+pub scanned : (bytes : List ℕ) (start at value : ℕ) → start < at → at ≤ length bytes
+    → AllDigits 10 (slice_range bytes start at)
     → value ≡ digits_value 10 (slice_range bytes start at)
     → (if nat_lt value (2 ^ 32) then Some value else None)
     ≡ index_of (slice_range bytes start at)
 unfolding index_of
-scanned bytes start at value d is = grind (arith, length-take-le, length-drop, numeral_of)
+scanned bytes start at value some within digits is = grind (arith, length-take-le, length-drop, numeral_of)

@@ -3,9 +3,9 @@
 use Rattle.std.proofs.Common.{◌∷◌, ◌++◌, ◌≡◌, ℕ, suc, ◌+◌, ◌-◌, ◌<◌, ◌≤◌, ◌^◌, ◌==◌, Bool, true}
 use Rattle.std.proofs.Common.{false, inl, inr}
 use Rattle.std.proofs.Common.{List, length, take, drop, get_or, refl, sym, ap, subst, ◌∙◌, arith}
-use Rattle.std.specs.Prelude.{slice_range}
+use Rattle.std.specs.Prelude.{if◌then◌else◌, nat_lt, slice_range, Option, Some, None}
 use Rattle.std.specs.Int.{from_bool}
-use Rattle.std.specs.Str.Parse.{IsNumeral, digits_value}
+use Rattle.std.specs.Str.Parse.{AllDigits, IsNumeral, digits_value}
 use Rattle.std.proofs.Math.Seq.{take-add}
 use Rattle.std.proofs.lemmas.Bool.{cases_lt}
 use Rattle.std.proofs.lemmas.Bool.Decides.{nat_tests}
@@ -16,14 +16,15 @@ use Rattle.gf_fraction.specs.Ratio.{Ratio, signed, whole}
 use Rattle.gf_fraction.specs.NumberSpelling.{IsNumber, IsSign}
 use Rattle.gf_fraction.proofs.ComputedAnswers.{number_again}
 use Rattle.gf_fraction.proofs.WholeNumbers.{digits_spelled as whole_spelled, is_sign_of, sign_of}
-use Rattle.gf_token.specs.Byte.{is_bare}
+use Rattle.gf_token.specs.Byte.{is_bare, is_space}
 use Rattle.gf_token.specs.Token.{lexeme}
 use Rattle.gf_token.specs.Token.Token.{Bare}
 use Rattle.gf_token.specs.TokenSpelling.{IsSpelled, MayPrecede}
-use Rattle.gf_token.specs.inner.Finding.{EndsDigits, FindsNumber, lexed}
+use Rattle.gf_token.specs.inner.Finding.{EndsDigits, FindsIndex, FindsNumber, lexed}
 use Rattle.gf_token.specs.inner.Lexing.{lex}
 use Rattle.gf_token.specs.inner.Lexing.Mode.{Gap}
 use Rattle.gf_token.proofs.Spelled.{token_again}
+use Rattle.gf_token.proofs.Steps.{gap_more}
 use Rattle.gf_token.proofs.ScannedIndices.{scanned}
 use Rattle.gf_token.proofs.SpelledNumbers.{digits_spelled, number_bare}
 
@@ -83,10 +84,28 @@ finds_number bytes start end r number order within ends =
       number = sym (number_again text r number);
     }
 
-pub digits_found : (bytes : List ℕ) (start at : ℕ) → EndsDigits bytes start at
+pub digits_found : (bytes : List ℕ) (start at : ℕ) → start < at → at ≤ length bytes
+    → AllDigits 10 (slice_range bytes start at)
     → (at < length bytes → is_bare (get_or bytes at 0) ≡ false)
     → lexed bytes start ≡ lexeme start at (Bare (slice_range bytes start at)) ∷ lexed bytes at
-digits_found bytes start at d ends = grind (arith, length_range, finds_bare, digits_spelled)
+digits_found bytes start at some within digits ends =
+    grind (arith, length_range, finds_bare, digits_spelled)
+
+-- digits between two bytes of whitespace are the next token
+pub spaced_found : (bytes : List ℕ) (from end value : ℕ) (index : Option ℕ)
+    → is_space (get_or bytes from 0) ≡ true → from + 1 < end → end < length bytes
+    → AllDigits 10 (slice_range bytes (from + 1) end) → is_bare (get_or bytes end 0) ≡ false
+    → value ≡ digits_value 10 (slice_range bytes (from + 1) end)
+    → index ≡ (if nat_lt value (2 ^ 32) then Some value else None)
+    → FindsIndex bytes from end index
+spaced_found bytes from end value index space some within digits ends valued is = record {
+  begins = some;
+  within = omega (arith, within);
+  found =
+      gap_more bytes from (omega (arith, some, within)) space
+      ∙ digits_found bytes (from + 1) end some (omega (arith, within)) digits (λ _. ends);
+  read = is ∙ scanned bytes (from + 1) end value some (omega (arith, within)) digits valued;
+}
 
 is_45 : (b : ℕ) → (b == 45) ≡ true → b ≡ 45
 is_45 b h = grind (arith, nat_tests)

@@ -4,15 +4,16 @@
 //! memory.
 
 ghost use Rattle.std.specs.Prelude.{◌≡◌, ◌<◌, ◌≤◌, ◌+◌, [], ◌∷◌, length, slice_range};
-ghost use Rattle.std.specs.Prelude.{◌^◌, nat_lt, slice_index, MatchOption, None, Some};
-ghost use Rattle.std.specs.Prelude.{◌==◌, true, false, if◌then◌else◌};
+ghost use Rattle.std.specs.Prelude.{◌^◌, nat_lt, slice_index, IfSome, MatchOption, None};
+ghost use Rattle.std.specs.Prelude.{◌==◌, Some, true, false, if◌then◌else◌};
+ghost use Rattle.std.specs.Bool.{OnTrue};
 ghost use Rattle.std.specs.Int.{from_bool};
 ghost use Rattle.std.specs.Char.{digit_value, is_ascii_digit};
-ghost use Rattle.std.specs.Str.Parse.{digits_value};
+ghost use Rattle.std.specs.Str.Parse.{AllDigits, digits_value};
 ghost use Rattle.gf_fraction.specs.Computed.{number_of};
 ghost use Rattle.gf_token.specs.Byte.{is_space, is_bare};
 ghost use Rattle.gf_token.specs.inner.Finding.{lexed, ClosesText, EndsDigits, EndsGap, Finds};
-ghost use Rattle.gf_token.specs.inner.Finding.{FindsNumber, IsNotShort};
+ghost use Rattle.gf_token.specs.inner.Finding.{FindsIndex, FindsNumber, IsNotShort};
 ghost use Rattle.gf_token.specs.Indices.{index_of};
 ghost use Rattle.gf_token.specs.Label.{label_of};
 ghost use Rattle.gf_token.specs.Next.{starts, is_text_of};
@@ -89,6 +90,27 @@ fn digit_value(byte: u8) -> u64
     u64::from(byte - b'0')
 }
 
+/// Where the digits end that begin at `first`, if they are looked for before `stop`, and their
+/// value.
+#[inline(always)]
+fn digits_before(input: &[u8], first: usize, stop: usize) -> (usize, u64)
+    requires within { (first < stop) × (stop ≤ length input.now) }
+    requires few { stop ≤ first + 19 }
+    requires digit { is_ascii_digit (slice_index input.now first) ≡ true }
+    ensures within { (first < result.0) × (result.0 ≤ stop) }
+    ensures digits { AllDigits 10 (slice_range input.now first result.0) }
+    ensures stops { result.0 < stop → is_ascii_digit (slice_index input.now result.0) ≡ false }
+    ensures value { result.1 ≡ digits_value 10 (slice_range input.now first result.0) }
+{
+    let mut at = first + 1;
+    let mut value = digit_value(input[first]);
+    while at < stop && input[at].is_ascii_digit() {
+        value = value * 10 + digit_value(input[at]);
+        at += 1;
+    }
+    (at, value)
+}
+
 /// Where the digits end that begin at `first`, and their value. At most 19 are read, whose value
 /// always fits.
 #[inline(always)]
@@ -99,13 +121,16 @@ fn digits_end(input: &[u8], first: usize) -> (usize, u64)
     ensures value { result.1 ≡ digits_value 10 (slice_range input.now first result.0) }
 {
     let stop = first + (input.len() - first).min(WORD_DIGITS);
-    let mut at = first + 1;
-    let mut value = digit_value(input[first]);
-    while at < stop && input[at].is_ascii_digit() {
-        value = value * 10 + digit_value(input[at]);
-        at += 1;
-    }
-    (at, value)
+    digits_before(input, first, stop)
+}
+
+/// Whether this byte is a space or a new line.
+#[inline(always)]
+fn is_blank(byte: u8) -> bool
+    ensures space { OnTrue result (is_space byte ≡ true) }
+    ensures over { OnTrue result (is_bare byte ≡ false) }
+{
+    matches!(byte, b' ' | b'\n')
 }
 
 /// Whether no byte of a bare token stands at this place. Most end before a space or a new line.
@@ -116,7 +141,7 @@ fn is_over(input: &[u8], at: usize) -> bool
     ensures more { result ≡ false
         → (at < length input.now) × (is_bare (slice_index input.now at) ≡ true) }
 {
-    at >= input.len() || matches!(input[at], b' ' | b'\n') || !is_bare(input[at])
+    at >= input.len() || is_blank(input[at]) || !is_bare(input[at])
 }
 
 /// Where the bare token ends that begins at `start`, and the index that it spells, if it spells
@@ -140,6 +165,29 @@ pub(crate) fn index_end(input: &[u8], start: usize) -> (usize, Option<u32>)
     }
     let end = bare_end(input, start);
     (end, index_in(&input[start..end]))
+}
+
+/// The greatest number of digits of an index that `spaced_index` reads.
+const SHORT_DIGITS: usize = 8;
+
+/// Where the next bare token ends, and its index, if it is a short index between two blanks, the
+/// first of which is at `from`. Most indices are, and to find them so takes few tests.
+#[inline(always)]
+pub(crate) fn spaced_index(input: &[u8], from: usize) -> Option<(usize, Option<u32>)>
+    ensures { IfSome result (λ r. FindsIndex input.now from r.0 r.1) }
+{
+    if from >= input.len().saturating_sub(SHORT_DIGITS + 1) {
+        return None;
+    }
+    let first = from + 1;
+    if !is_blank(input[from]) || !input[first].is_ascii_digit() {
+        return None;
+    }
+    let (end, value) = digits_before(input, first, first + SHORT_DIGITS);
+    if !is_blank(input[end]) {
+        return None;
+    }
+    Some((end, index_of_value(value)))
 }
 
 /// The index of a value.

@@ -19,7 +19,7 @@ use crate::byte::is_bare;
 use crate::fault::{Fault, Span, Why};
 use crate::label::Label;
 use crate::scan::{
-    bare_end, closing_quote, end_of_label, gap_end, index_end, number_end, token_at,
+    bare_end, closing_quote, end_of_label, gap_end, index_end, number_end, spaced_index, token_at,
 };
 use crate::token::{BareToken, TextToken, Token};
 use gf_fraction::{Fraction, NumberFault};
@@ -94,6 +94,13 @@ impl<'a> Tokens<'a> {
         ensures input { self.new.input ≡ self.old.input }
         ensures place { IfSome result (λ t. StandsBefore self.new t.0.span) }
     {
+        if let Some((end, index)) = spaced_index(self.input, self.at) {
+            let start = self.at + 1;
+            let bytes = &self.input[start..end];
+            self.at = end;
+            let span = Span { start, end };
+            return Some((BareToken { span, bytes }, index));
+        }
         let start = gap_end(self.input, self.at)?;
         if !is_bare(self.input[start]) {
             return None;

@@ -1,12 +1,13 @@
 -- What is found in the bytes from a place on. No public contract cites this file.
 use Rattle.std.specs.Prelude.{◌≡◌, ℕ, ◌+◌, ◌<◌, ◌≤◌, true, false, List, [], ◌∷◌, length, drop}
-use Rattle.std.specs.Prelude.{get_or, slice_range, take, Result, Ok, Err}
+use Rattle.std.specs.Prelude.{get_or, slice_range, take, Option, Result, Ok, Err}
 use Rattle.std.specs.Char.{is_ascii_digit}
 use Rattle.std.specs.Str.Parse.{AllDigits, digits_value}
 use Rattle.gf_fraction.specs.Ratio.{Ratio}
 use Rattle.gf_fraction.specs.Computed.{number_of}
 use Rattle.gf_fraction.specs.ShortNumber.{IsLeft, IsReadOn}
 use Rattle.gf_token.specs.Byte.{is_bare, is_space}
+use Rattle.gf_token.specs.Indices.{index_of}
 use Rattle.gf_token.specs.LabelSpelling.{is_spelling}
 use Rattle.gf_token.specs.Token.{Lexeme, lexeme}
 use Rattle.gf_token.specs.Token.Token.{Bare, Text, Broken}
@@ -34,6 +35,14 @@ pub record FindsNumber (bytes : List ℕ) (start end : ℕ) (r : Ratio) : Type 0
   pub found : lexed bytes start
       ≡ lexeme start end (Bare (slice_range bytes start end)) ∷ lexed bytes end
   pub number : Ok r ≡ number_of (slice_range bytes start end)
+
+-- after a byte of whitespace at `from`, a bare token ends at `end` and is read as this index
+pub record FindsIndex (bytes : List ℕ) (from end : ℕ) (index : Option ℕ) : Type 0 where
+  pub begins : from + 1 < end
+  pub within : end ≤ length bytes
+  pub found : lexed bytes from
+      ≡ lexeme (from + 1) end (Bare (slice_range bytes (from + 1) end)) ∷ lexed bytes end
+  pub read : index ≡ index_of (slice_range bytes (from + 1) end)
 
 -- the digits from place `first` on, of which at most 19 count, end at `at`
 pub record EndsDigits (bytes : List ℕ) (first at : ℕ) : Type 0 where

@@ -3,7 +3,7 @@ use Rattle.std.specs.Char.{is_ascii_digit}
 use Rattle.gf_fraction.proofs.SpelledIsFound.{digit_from_ascii}
 use Rattle.gf_token.proofs.ScannedIndices.{first_digits, first_value, has_room}
 use Rattle.gf_token.proofs.ScannedIndices.{more_digits, more_value}
-use Rattle.gf_token.proofs.scan.digits_end.Goals as goal
+use Rattle.gf_token.proofs.scan.digits_before.Goals as goal
 
 pub loop-at-init : goal.loop-at-init
 loop-at-init c = grind (arith, first_digits, first_value)
@@ -12,16 +12,16 @@ pub overflow_mul-value : goal.overflow_mul-value
 overflow_mul-value c =
     let i = c.loop-at.invariant in
     let room = has_room c.args.input.now c.args.first c.loop-at.at c.loop-at.value
-    (omega (arith, i.begins)) (omega (arith, i.within, c.min.ensures))
-    (omega (arith, i.begins, c.min.ensures, c.loop-at-test.true)) i.digits i.value in
+    (omega (arith, i.begins)) (omega (arith, i.within, c.requires.within))
+    (omega (arith, i.begins, c.requires.few, c.loop-at-test.true)) i.digits i.value in
     omega (arith, room)
 
 pub overflow_add-value : goal.overflow_add-value
 overflow_add-value c =
     let i = c.loop-at.invariant in
     let room = has_room c.args.input.now c.args.first c.loop-at.at c.loop-at.value
-    (omega (arith, i.begins)) (omega (arith, i.within, c.min.ensures))
-    (omega (arith, i.begins, c.min.ensures, c.loop-at-test.true)) i.digits i.value in
+    (omega (arith, i.begins)) (omega (arith, i.within, c.requires.within))
+    (omega (arith, i.begins, c.requires.few, c.loop-at-test.true)) i.digits i.value in
     let digit : is_ascii_digit (get_or c.args.input.now c.loop-at.at 0) ≡ true =
     sym c.is_ascii_digit.ensures.value ∙ c.if-is_ascii_digit.true in
     let small = digit_from_ascii (get_or c.args.input.now c.loop-at.at 0) digit in
@@ -35,7 +35,7 @@ loop-at-preserved c =
     let at = c.loop-at.at in
     let digit : is_ascii_digit (get_or bytes at 0) ≡ true =
     sym c.is_ascii_digit.ensures.value ∙ c.if-is_ascii_digit.true in
-    let within : at < length bytes = omega (arith, c.loop-at-test.true, c.min.ensures) in
+    let within : at < length bytes = omega (arith, c.loop-at-test.true, c.requires.within) in
     let more = more_value bytes first at (omega (arith, i.begins)) within digit in
     record {
       within = omega (arith, c.loop-at-test.true);
