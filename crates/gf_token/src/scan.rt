@@ -111,6 +111,10 @@ fn digits_before(input: &[u8], first: usize, stop: usize) -> (usize, u64)
     (at, value)
 }
 
+/// Few numbers have more digits. If so many bytes are left, no end of the input is looked for among
+/// them.
+const SHORT_DIGITS: usize = 8;
+
 /// Where the digits end that begin at `first`, and their value. At most 19 are read, whose value
 /// always fits.
 #[inline(always)]
@@ -120,8 +124,15 @@ fn digits_end(input: &[u8], first: usize) -> (usize, u64)
     ensures ends { EndsDigits input.now first result.0 }
     ensures value { result.1 ≡ digits_value 10 (slice_range input.now first result.0) }
 {
-    let stop = first + (input.len() - first).min(WORD_DIGITS);
-    digits_before(input, first, stop)
+    let left = input.len() - first;
+    if left > SHORT_DIGITS {
+        let stop = first + SHORT_DIGITS;
+        let (at, value) = digits_before(input, first, stop);
+        if at < stop {
+            return (at, value);
+        }
+    }
+    digits_before(input, first, first + left.min(WORD_DIGITS))
 }
 
 /// Whether this byte is a space or a new line.
@@ -167,11 +178,8 @@ pub(crate) fn index_end(input: &[u8], start: usize) -> (usize, Option<u32>)
     (end, index_in(&input[start..end]))
 }
 
-/// The greatest number of digits of an index that `spaced_index` reads.
-const SHORT_DIGITS: usize = 8;
-
-/// Where the next bare token ends, and its index, if it is a short index between two blanks, the
-/// first of which is at `from`. Most indices are, and to find them so takes few tests.
+/// Where the next token ends, and the index that it spells, if it has few digits and stands between
+/// two blanks, the first of them at `from`. Most indices do, and few tests find these.
 #[inline(always)]
 pub(crate) fn spaced_index(input: &[u8], from: usize) -> Option<(usize, Option<u32>)>
     ensures { IfSome result (λ r. FindsIndex input.now from r.0 r.1) }
