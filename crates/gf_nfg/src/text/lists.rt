@@ -53,18 +53,16 @@ fn write_next(
     if !written.opened {
         out.extend_from_slice(b"{ ")?;
         return Ok(ListsWritten {
-            lists: written.lists,
             opened: true,
-            labels: written.labels,
+            ..written
         });
     }
     if written.labels < lists.count(written.lists) {
         write_label(lists.label(written.lists, written.labels), out)?;
         out.push(b' ')?;
         return Ok(ListsWritten {
-            lists: written.lists,
-            opened: true,
             labels: written.labels + 1,
+            ..written
         });
     }
     out.extend_from_slice(b"} ")?;
@@ -75,8 +73,8 @@ fn write_next(
     })
 }
 
-/// Appends what is left of these lists, each before a space, until there are this many bytes or up
-/// to a label more. Returns how much of them is written then.
+/// Appends what is left of these lists, each before a space, and stops after the brace or the label
+/// that makes up this many bytes. Returns how much of them is written then.
 pub(crate) fn write_lists(
     lists: &Strategies,
     written: ListsWritten,
