@@ -90,6 +90,16 @@ fn digit_value(byte: u8) -> u64
     u64::from(byte - b'0')
 }
 
+/// The value of this byte if it is a digit. Any other byte comes out above 9.
+#[inline(always)]
+fn digit_in(byte: u8) -> Option<u64>
+    ensures { MatchOption result (is_ascii_digit byte ≡ false)
+        (λ digit. (is_ascii_digit byte ≡ true) × (digit ≡ digit_value byte)) }
+{
+    let digit = u64::from(byte).wrapping_sub(48);
+    if digit < 10 { Some(digit) } else { None }
+}
+
 /// Where the digits end that begin at `first`, if they are looked for before `stop`, and their
 /// value.
 #[inline(always)]
@@ -104,8 +114,11 @@ fn digits_before(input: &[u8], first: usize, stop: usize) -> (usize, u64)
 {
     let mut at = first + 1;
     let mut value = digit_value(input[first]);
-    while at < stop && input[at].is_ascii_digit() {
-        value = value * 10 + digit_value(input[at]);
+    while at < stop {
+        let Some(digit) = digit_in(input[at]) else {
+            break;
+        };
+        value = value * 10 + digit;
         at += 1;
     }
     (at, value)

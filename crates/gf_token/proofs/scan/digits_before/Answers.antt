@@ -1,5 +1,4 @@
-use Rattle.std.proofs.Common.{◌≡◌, ◌<◌, length, true, sym, ◌∙◌, arith, get_or}
-use Rattle.std.specs.Char.{is_ascii_digit}
+use Rattle.std.proofs.Common.{◌<◌, length, arith, get_or}
 use Rattle.gf_fraction.proofs.SpelledIsFound.{digit_from_ascii}
 use Rattle.gf_token.proofs.ScannedIndices.{first_digits, first_value, has_room}
 use Rattle.gf_token.proofs.ScannedIndices.{more_digits, more_value}
@@ -22,10 +21,8 @@ overflow_add-value c =
     let room = has_room c.args.input.now c.args.first c.loop-at.at c.loop-at.value
     (omega (arith, i.begins)) (omega (arith, i.within, c.requires.within))
     (omega (arith, i.begins, c.requires.few, c.loop-at-test.true)) i.digits i.value in
-    let digit : is_ascii_digit (get_or c.args.input.now c.loop-at.at 0) ≡ true =
-    sym c.is_ascii_digit.ensures.value ∙ c.if-is_ascii_digit.true in
-    let small = digit_from_ascii (get_or c.args.input.now c.loop-at.at 0) digit in
-    omega (arith, room, small, c.digit_value.ensures)
+    let small = digit_from_ascii (get_or c.args.input.now c.loop-at.at 0) c.in-Some.ensures.0 in
+    omega (arith, room, small, c.in-Some.ensures.1)
 
 pub loop-at-preserved : goal.loop-at-preserved
 loop-at-preserved c =
@@ -33,13 +30,12 @@ loop-at-preserved c =
     let bytes = c.args.input.now in
     let first = c.args.first in
     let at = c.loop-at.at in
-    let digit : is_ascii_digit (get_or bytes at 0) ≡ true =
-    sym c.is_ascii_digit.ensures.value ∙ c.if-is_ascii_digit.true in
+    let digit = c.in-Some.ensures.0 in
     let within : at < length bytes = omega (arith, c.loop-at-test.true, c.requires.within) in
     let more = more_value bytes first at (omega (arith, i.begins)) within digit in
     record {
       within = omega (arith, c.loop-at-test.true);
       begins = omega (arith, i.begins);
       digits = more_digits bytes first at (omega (arith, i.begins)) within digit i.digits;
-      value = omega (arith, more, i.value, c.digit_value.ensures);
+      value = omega (arith, more, i.value, c.in-Some.ensures.1);
     }
