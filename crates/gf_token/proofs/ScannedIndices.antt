@@ -64,4 +64,5 @@ pub scanned : (bytes : List ℕ) (start at value : ℕ) → start < at → at �
     → (if nat_lt value (2 ^ 32) then Some value else None)
     ≡ index_of (slice_range bytes start at)
 unfolding index_of
-scanned bytes start at value some within digits is = grind (arith, length-take-le, length-drop, numeral_of)
+scanned bytes start at value some within digits is =
+    grind (arith, length-take-le, length-drop, numeral_of)
