@@ -4,11 +4,9 @@ pub use Rattle.gf_fraction.proofs.AllElements.{all_mapped, all_parts, all_weaker
 pub use Rattle.gf_fraction.proofs.ComputedAnswers.{number_again, number_is, number_is_computed}
 pub use Rattle.gf_fraction.proofs.ReadingBack.{same_fault, written_is_read}
 unfoldable pub use Rattle.gf_fraction.specs.Computed.{gcd_within, lowest_of, number_of}
-pub use Rattle.gf_fraction.specs.NumberSpelling.{HasNumberFault, Reads}
+pub use Rattle.gf_fraction.specs.NumberSpelling.{HasNumberFault, IsNumber, Reads}
 pub use Rattle.gf_fraction.specs.Ratio.{IsFraction, Ratio, whole}
 pub use Rattle.gf_fraction.specs.declared.fraction.NumberFault.{NumberFault}
-pub use Rattle.gf_nfg.specs.Due.Role.{Count, Format, Letter, OutcomeNumber, Payoff, Version}
-pub use Rattle.gf_nfg.specs.Due.{IsDue, Role, RoleIsDue, Suits}
 pub use Rattle.gf_nfg.specs.Judgement.{IsAcceptedWithinLimit, IsJudged, IsRefusal, IsRefused}
 pub use Rattle.gf_nfg.specs.Limit.{IsWithinLimit, profile_limit}
 pub use Rattle.gf_nfg.specs.LimitByFiles.{BeginsPastLimit, BeginsWithinLimit, IsBareOrClosing}
@@ -17,7 +15,7 @@ pub use Rattle.gf_nfg.specs.LimitPlace.{GivesCounts, IsLimitPlace}
 pub use Rattle.gf_nfg.specs.NamedBy.{named_by}
 pub use Rattle.gf_nfg.specs.ProfilePlaces.{IsProfile, place}
 pub use Rattle.gf_nfg.specs.Profiles.{numbers_from, positions, product, profiles}
-pub use Rattle.gf_nfg.specs.Reason.{Applies, IsReason}
+pub use Rattle.gf_nfg.specs.Reason.{Applies, IsReason, TakesLabels}
 pub use Rattle.gf_nfg.specs.SameTable.{SamePlay, SameTable}
 pub use Rattle.gf_nfg.specs.Sentence.{IsCount, IsLabelList, IsOutcomeBody, IsOutcomeInBraces}
 pub use Rattle.gf_nfg.specs.Sentence.{IsOutcomeNumber, IsPayoff, IsPayoffBody, IsStrategicFile}
@@ -66,8 +64,9 @@ pub use Rattle.gf_token.proofs.ReadingIndices.{count_again, count_is, index_agai
 pub use Rattle.gf_token.proofs.Spelled.{found, same_tokens, spelled_once}
 pub use Rattle.gf_token.proofs.SpelledNumbers.{number_spelled}
 pub use Rattle.gf_token.specs.Code.{code_of}
+pub use Rattle.gf_token.specs.Due.{IndexIsDue, IsDue, NumberIsDue}
 pub use Rattle.gf_token.specs.Grammar.{Each, IsComment, IsPayoffInBraces, braced}
-pub use Rattle.gf_token.specs.Index.{IsIndex}
+pub use Rattle.gf_token.specs.Index.{IsIndex, IsPositive}
 pub use Rattle.gf_token.specs.Indices.{count_of}
 unfoldable pub use Rattle.gf_token.specs.Indices.{index_of}
 pub use Rattle.gf_token.specs.Label.{label_of}

@@ -1,4 +1,3 @@
-pub mod Due
 pub mod Judgement
 pub mod Limit
 pub mod LimitByFiles

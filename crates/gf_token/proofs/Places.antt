@@ -1,5 +1,5 @@
 -- A file is refused at one place, with one code, whatever its format.
-use Rattle.std.proofs.Common.{◌≡◌, ℕ, ◌≤◌, List, [], ◌∷◌, ◌++◌, refl}
+use Rattle.std.proofs.Common.{◌≡◌, ℕ, List, [], ◌∷◌, ◌++◌, refl}
 use Rattle.std.proofs.Common.{sym, ap, subst, ◌∙◌, append_assoc, arith, inl, inr}
 use Rattle.std.specs.Prelude.{◌⊎◌}
 use Rattle.std.proofs.lemmas.List.{append-nil, map-append}
@@ -8,7 +8,6 @@ use Rattle.gf_token.specs.Code.{code_of}
 use Rattle.gf_token.specs.Place.{tokens_of, IsSpanOf, IsAccepted, Begins, IsOffendingPlace}
 use Rattle.gf_token.specs.Reason.{IsReason}
 use Rattle.gf_token.specs.declared.fault.Span.{Span}
-use Rattle.gf_token.specs.declared.fault.What.{What}
 use Rattle.gf_token.specs.declared.fault.Why.{Why}
 use Rattle.gf_token.proofs.Spelled.{same_tokens}
 
@@ -94,13 +93,8 @@ module _ (IsFile : List Token → Type 0) where
 
 -- ---- one code
 
-module _ (Holds : Why → Type 0) (IsDue : What → Type 0) where
-  abbrev Lowest : Why → Type 0
-  Lowest why = Holds why × ((other : Why) → Holds other → code_of why ≤ code_of other)
-
-  abbrev NoneHolds : Type 0
-  NoneHolds = (why : Why) → ¬ (Holds why)
-
-  pub one_code : (why other : Why) → IsReason Holds IsDue why → IsReason Holds IsDue other
+module _ (IsFile : List Token → Type 0) (Holds : Why → List Token → List Token → Type 0) where
+  pub one_code : (why other : Why) (before after : List Token)
+      → IsReason IsFile Holds why before after → IsReason IsFile Holds other before after
       → code_of why ≡ code_of other
-  one_code why other h k = grind arith
+  one_code why other before after h k = grind arith

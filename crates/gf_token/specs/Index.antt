@@ -12,6 +12,10 @@ IsDigits bytes = (0 < length bytes) × AllDigits 10 bytes
 abbrev pub IsIndex : List ℕ → ℕ → Type 0
 IsIndex bytes n = IsDigits bytes × (digits_value 10 bytes ≡ n) × (n < 2 ^ 32)
 
+-- an index above 0
+abbrev pub IsPositive : List ℕ → ℕ → Type 0
+IsPositive bytes n = IsIndex bytes n × (0 < n)
+
 -- why bytes are not an index
 abbrev pub IsNoIndex : List ℕ → IndexFault → Type 0
 IsNoIndex bytes NotDigits = ¬ (IsDigits bytes)

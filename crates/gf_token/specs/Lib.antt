@@ -1,5 +1,6 @@
 pub mod Byte
 pub mod Code
+pub mod Due
 pub mod Grammar
 pub mod HeldTokens
 pub mod Index

@@ -12,8 +12,9 @@ pub use Rattle.gf_fraction.specs.declared.fraction.NumberFault.{NumberFault}
 pub use Rattle.gf_token.proofs.ReadingIndices.{count_again, count_is, index_again, index_is}
 pub use Rattle.gf_token.proofs.Spelled.{same_tokens}
 pub use Rattle.gf_token.specs.Code.{code_of}
+pub use Rattle.gf_token.specs.Due.{IndexIsDue, IsDue, MayBeNext, NumberIsDue}
 pub use Rattle.gf_token.specs.Grammar.{Each, IsComment, IsPayoffInBraces, braced}
-pub use Rattle.gf_token.specs.Index.{IsIndex}
+pub use Rattle.gf_token.specs.Index.{IsIndex, IsPositive}
 pub use Rattle.gf_token.specs.Indices.{count_of}
 pub use Rattle.gf_token.specs.Label.{label_of}
 pub use Rattle.gf_token.specs.LabelSpelling.{IsLabel}
@@ -41,7 +42,6 @@ pub use Rattle.gf_tree.specs.Consistent.{IsConsistent}
 pub use Rattle.gf_tree.specs.Description.{Action, AddToOne, AreActions, InformationSet, IsOutcome}
 pub use Rattle.gf_tree.specs.Description.{IsSet, Outcome, SetKey, outcome_with, same_set, set_of}
 pub use Rattle.gf_tree.specs.Description.{set_with}
-pub use Rattle.gf_tree.specs.Due.{IndexIsDue, IsDue, MayBeNext, NodeIsDue, NumberIsDue}
 pub use Rattle.gf_tree.specs.FileNodes.{file_nodes, use_behind}
 pub use Rattle.gf_tree.specs.FileTree.{FileNode, FileTree, Use, outcome_uses, set_uses}
 pub use Rattle.gf_tree.specs.Fills.{Fills}
@@ -50,7 +50,7 @@ pub use Rattle.gf_tree.specs.FirstUse.{first_use_number, first_use_numbers, outc
 pub use Rattle.gf_tree.specs.FirstUse.{player_keys, sets_of}
 pub use Rattle.gf_tree.specs.Front.{BehindOutcomeNumber, BehindSetNumber, EndsInNode, InActions}
 pub use Rattle.gf_tree.specs.Front.{InPayoffs, IsExtensiveFile, IsNewOutcome, IsNewSet}
-pub use Rattle.gf_tree.specs.Front.{KnowsOutcome, KnowsSet, ToOutcomeNumber, ToPlayerNumber}
+pub use Rattle.gf_tree.specs.Front.{KnowsOutcome, KnowsSet, ToOutcomeNumber}
 pub use Rattle.gf_tree.specs.Front.{ToProbability, ToSetNumber}
 pub use Rattle.gf_tree.specs.Game.{Game, HasChildren, IsGame, Node, outcome_at, set_at}
 pub use Rattle.gf_tree.specs.Game.{used_outcomes, used_sets}
@@ -65,13 +65,13 @@ pub use Rattle.gf_tree.specs.KnownSets.{KnownSets, known_of, number_among, with_
 pub use Rattle.gf_tree.specs.Learned.{Learns, LearnsGame}
 pub use Rattle.gf_tree.specs.Listed.{AreListed, listed_numbers, number_listed}
 pub use Rattle.gf_tree.specs.PrefixOrder.{Entry, flatten, flatten_all}
-pub use Rattle.gf_tree.specs.Reason.{AddUpTo, DiffersFromOutcome, DiffersFromSet, EndsInFirstUse}
-pub use Rattle.gf_tree.specs.Reason.{GoesOnWith, HasSum, Holds, IsNoText, IsReason, IsWrongBehind}
+pub use Rattle.gf_tree.specs.Reason.{AddUpTo, Applies, DiffersFromOutcome, DiffersFromSet}
+pub use Rattle.gf_tree.specs.Reason.{EndsInFirstUse, GoesOnWith, HasSum, IsReason, IsWrongBehind}
 pub use Rattle.gf_tree.specs.Reason.{ListsActions, NewProbabilityIsDue}
 pub use Rattle.gf_tree.specs.Renumbering.{HasOutcome, HasSet, IsRenumbering, Renumbering}
 pub use Rattle.gf_tree.specs.Renumbering.{renumbered, renumbered_node, renumbered_set}
 pub use Rattle.gf_tree.specs.RowPlaces.{BehindComment, BehindNode, BehindPayoff, BehindPlayers}
-pub use Rattle.gf_tree.specs.RowPlaces.{BehindSet, FileFront, ToPayoff}
+pub use Rattle.gf_tree.specs.RowPlaces.{BehindSet, FileFront, ToPayoff, ToPlayerNumber}
 pub use Rattle.gf_tree.specs.Rows.{Accepts, IsNoNumber, Refuses, Row, a_closing, a_first_name}
 pub use Rattle.gf_tree.specs.Rows.{a_letter, a_new_action, a_new_branch, a_node, a_payoff, a_player}
 pub use Rattle.gf_tree.specs.Rows.{a_player_name, a_probability, a_set, a_text, a_word, an_end}
@@ -79,7 +79,7 @@ pub use Rattle.gf_tree.specs.Rows.{an_opening, an_outcome, no_label, or_comma, o
 pub use Rattle.gf_tree.specs.Rows.{this_label, this_number}
 pub use Rattle.gf_tree.specs.SameGame.{Carries, SameGame}
 pub use Rattle.gf_tree.specs.Sentence.{IsAction, IsDescription, IsInformationSet, SpellsMover}
-pub use Rattle.gf_tree.specs.Sentence.{IsNode, IsOutcomeDescription, IsPositive, IsResult, IsStep}
+pub use Rattle.gf_tree.specs.Sentence.{IsNode, IsOutcomeDescription, IsResult, IsStep}
 pub use Rattle.gf_tree.specs.Sentence.{Sentence}
 pub use Rattle.gf_tree.specs.SomeRow.{IsBeforeRow, IsInHeading, IsInNode}
 pub use Rattle.gf_tree.specs.Spellable.{IsSpellable, IsSpellableAction, IsSpellableOutcome}

@@ -1,14 +1,15 @@
 -- The front of an extensive file: its heading, whole nodes one after another, and the front of the
 -- next node. This shape shows what is due after it, and what is wrong there.
-use Rattle.std.specs.Prelude.{◌≡◌, ℕ, List, [], ◌∷◌, ◌++◌, codes, Option}
+use Rattle.std.specs.Prelude.{◌≡◌, ℕ, List, [], ◌∷◌, ◌++◌, Option}
 use Rattle.std.specs.List.{filter_map}
 use Rattle.gf_token.specs.Token.{Token}
 use Rattle.gf_token.specs.Token.Token.{Opening, Text, Bare}
 use Rattle.gf_token.specs.Grammar.{Each, IsPayoffInBraces}
+use Rattle.gf_token.specs.Index.{IsPositive}
 use Rattle.gf_tree.specs.Description.{InformationSet, Outcome, SetKey, set_of}
 use Rattle.gf_tree.specs.FileTree.{Use, FileNode, FileTree}
 use Rattle.gf_tree.specs.Consistent.{Describes, IsConsistent}
-use Rattle.gf_tree.specs.Sentence.{IsAction, SpellsMover, IsPositive, IsStep, Says, Sentence}
+use Rattle.gf_tree.specs.Sentence.{IsAction, SpellsMover, IsStep, Says, Sentence}
 
 -- the language of extensive files
 abbrev pub IsExtensiveFile : List Token → Type 0
@@ -31,10 +32,6 @@ pub record EndsInNode (before : List Token) : Type 0 where
 abbrev pub ToSetNumber : List Token → ℕ → Type 0
 ToSetNumber front player = (letter : List ℕ) × (name : List ℕ) × (mover : List Token)
     × (front ≡ Bare letter ∷ Text name ∷ mover) × SpellsMover letter mover player
-
--- a player's node with its name; his number is next
-abbrev pub ToPlayerNumber : List Token → Type 0
-ToPlayerNumber front = (name : List ℕ) × (front ≡ Bare (codes "p") ∷ Text name ∷ [])
 
 -- everything through the set's number; its name is next, or the number of the outcome
 abbrev pub BehindSetNumber : List Token → SetKey → Type 0

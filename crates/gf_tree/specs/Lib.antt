@@ -5,7 +5,6 @@ pub mod CanonicalGame
 pub mod CarriedParts
 pub mod Consistent
 pub mod Description
-pub mod Due
 pub mod FileNodeOf
 pub mod FileNodes
 pub mod FileTree

@@ -2,44 +2,27 @@
 use Rattle.std.specs.Prelude.{◌≡◌, ◌≢◌, ℕ, pos, ◌<◌, ◌<ℤ◌, ◌⊎◌, List, [], ◌∷◌, ◌++◌, codes, length}
 use Rattle.std.specs.Prelude.{Some}
 use Rattle.gf_token.specs.Token.{Token}
-use Rattle.gf_token.specs.Index.{IsIndex}
-use Rattle.gf_token.specs.Token.Token.{Closing, Text, Bare, Broken}
+use Rattle.gf_token.specs.Token.Token.{Closing, Text, Bare}
+use Rattle.gf_token.specs.Due.{IsDue}
 use Rattle.gf_token.specs.declared.fault.Why.{Why}
-use Rattle.gf_token.specs.declared.fault.Why.TheVariants.{NotDescribed, Mismatch, Unterminated}
-use Rattle.gf_token.specs.declared.fault.Why.TheVariants.{NotANumber, ZeroDenominator}
-use Rattle.gf_token.specs.declared.fault.Why.TheVariants.{NumberTooLarge, BadIndex, UnknownPlayer}
+use Rattle.gf_token.specs.declared.fault.Why.TheVariants.{NotDescribed, Mismatch, UnknownPlayer}
 use Rattle.gf_token.specs.declared.fault.Why.TheVariants.{NegativeProbability, SumAboveOne}
 use Rattle.gf_token.specs.declared.fault.Why.TheVariants.{SumBelowOne, SumOverflow, NoEntry}
 use Rattle.gf_fraction.specs.Fits.{SumFits, AddsTo}
 use Rattle.gf_fraction.specs.Ratio.{Ratio, whole}
-use Rattle.gf_fraction.specs.NumberSpelling.{HasNumberFault, IsNumber}
-use Rattle.gf_fraction.specs.declared.fraction.NumberFault.{NumberFault}
+use Rattle.gf_fraction.specs.NumberSpelling.{IsNumber}
 use Rattle.gf_tree.specs.Description.{Action, InformationSet, Outcome, SetKey, set_of, set_with}
-use Rattle.gf_tree.specs.Sentence.{IsPositive}
 use Rattle.gf_tree.specs.Front.{EndsInNode, BehindSetNumber, InActions, ToProbability, IsNewOutcome}
 use Rattle.gf_tree.specs.Front.{BehindOutcomeNumber, InPayoffs, KnowsSet, IsNewSet, KnowsOutcome}
-use Rattle.gf_tree.specs.Front.{ToPlayerNumber}
-use Rattle.gf_tree.specs.Due.{MayBeNext, NumberIsDue, IndexIsDue, NodeIsDue, IsDue}
+use Rattle.gf_tree.specs.Front.{IsExtensiveFile}
 use Rattle.gf_token.specs.Reason as any_format
-use Rattle.gf_fraction.specs.declared.fraction.NumberFault.TheVariants as number
-
--- ---- numbers and indices
-
--- a payoff or a probability is due, and the bytes are not a number, for this reason
-abbrev pub IsFaultyNumber : List Token → List ℕ → NumberFault → Type 0
-IsFaultyNumber before bytes fault = NumberIsDue before × HasNumberFault bytes fault
-
--- an index is due, and the bytes are not one above 0; where 0 may stand, it is not refused
-abbrev pub IsBadIndex : List Token → List ℕ → Type 0
-IsBadIndex before bytes = IndexIsDue before × ((n : ℕ) → ¬ (IsPositive bytes n))
+use Rattle.gf_token.specs.declared.fault.What.TheVariants as what
 
 -- a player's number is due, and the bytes are an index above the number of players; or a node is
--- due, and a player is to move, but none may
+-- due, and a player is to move, although there are none
 abbrev pub IsUnknownPlayer : List Token → List ℕ → Type 0
-IsUnknownPlayer before bytes =
-    ((f : EndsInNode before) × (n : ℕ) × ToPlayerNumber f.front × IsIndex bytes n
-    × (length f.players < n))
-    ⊎ (NodeIsDue before × ¬ (MayBeNext before (codes "p")) × (bytes ≡ codes "p"))
+IsUnknownPlayer before bytes = any_format.IsUnknownNumber IsExtensiveFile before bytes
+    ⊎ (IsDue IsExtensiveFile before what.Node × (bytes ≡ codes "p"))
 
 -- ---- descriptions
 
@@ -130,37 +113,19 @@ ListsNothing before = (key : SetKey) × (name : List ℕ) × ListsActions before
 
 -- ---- the codes
 
--- when each code except E3 and E9 applies, by the tokens before a place and the one that stands
--- there
-abbrev pub Applies : Why → List Token → Token → Type 0
-Applies Unterminated before Broken = Unit {0}
-Applies NotANumber before (Bare bytes) = IsFaultyNumber before bytes number.NotANumber
-Applies ZeroDenominator before (Bare bytes) = IsFaultyNumber before bytes number.ZeroDenominator
-Applies NumberTooLarge before (Bare bytes) = IsFaultyNumber before bytes number.TooLarge
-Applies BadIndex before (Bare bytes) = IsBadIndex before bytes
-Applies UnknownPlayer before (Bare bytes) = IsUnknownPlayer before bytes
-Applies Mismatch before token = IsMismatch before token
-Applies NegativeProbability before (Bare bytes) =
+-- when each code except E3 applies, by the tokens before a place and those from there on
+abbrev pub Applies : Why → List Token → List Token → Type 0
+Applies UnknownPlayer before (Bare bytes ∷ after) = IsUnknownPlayer before bytes
+Applies NotDescribed before after = EndsInFirstUse before
+Applies Mismatch before (token ∷ after) = IsMismatch before token
+Applies NegativeProbability before (Bare bytes ∷ after) =
     IsWrongProbability NegativeProbability before bytes
-Applies SumAboveOne before (Bare bytes) = IsWrongProbability SumAboveOne before bytes
-Applies SumOverflow before (Bare bytes) = IsWrongProbability SumOverflow before bytes
-Applies SumBelowOne before Closing = StaysBelowOne before
-Applies NoEntry before Closing = ListsNothing before
-Applies _ before token = ⊥
-
--- no text
-abbrev pub IsNoText : List Token → Type 0
-IsNoText (Text label ∷ after) = ⊥
-IsNoText _ = Unit {0}
-
--- The same, by the tokens before a place and those from there on. At the end, a description may be
--- missing, and no other code applies.
-abbrev pub Holds : Why → List Token → List Token → Type 0
-Holds NotDescribed before after = EndsInFirstUse before × IsNoText after
-Holds why before [] = ⊥
-Holds why before (token ∷ after) = Applies why before token
+Applies SumAboveOne before (Bare bytes ∷ after) = IsWrongProbability SumAboveOne before bytes
+Applies SumOverflow before (Bare bytes ∷ after) = IsWrongProbability SumOverflow before bytes
+Applies SumBelowOne before (Closing ∷ after) = StaysBelowOne before
+Applies NoEntry before (Closing ∷ after) = ListsNothing before
+Applies why before after = any_format.Applies IsExtensiveFile why before after
 
 -- the reason at a place of an extensive file
 abbrev pub IsReason : Why → List Token → List Token → Type 0
-IsReason why before after =
-    any_format.IsReason (λ code. Holds code before after) (λ what. IsDue before what) why
+IsReason = any_format.IsReason IsExtensiveFile Applies

@@ -52,6 +52,10 @@ pub record FileFront : Type 0 where
 abbrev pub BehindLetter : List Token → Type 0
 BehindLetter front = (letter : List ℕ) × (front ≡ Bare letter ∷ [])
 
+-- a player's node with its name; his number is next
+abbrev pub ToPlayerNumber : List Token → Type 0
+ToPlayerNumber front = (name : List ℕ) × (front ≡ Bare (codes "p") ∷ Text name ∷ [])
+
 -- the name of a set
 abbrev pub BehindSetName : List Token → SetKey → Type 0
 BehindSetName front key = (first : List Token) × (name : List ℕ) × BehindSetNumber first key

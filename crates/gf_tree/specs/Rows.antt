@@ -7,7 +7,7 @@ use Rattle.gf_fraction.specs.Fits.{AddsTo}
 use Rattle.gf_fraction.specs.NumberSpelling.{HasNumberFault, IsNumber}
 use Rattle.gf_fraction.specs.declared.fraction.NumberFault.{NumberFault}
 use Rattle.gf_token.specs.Token.{Token}
-use Rattle.gf_token.specs.Index.{IsIndex}
+use Rattle.gf_token.specs.Index.{IsIndex, IsPositive}
 use Rattle.gf_token.specs.NumberWhy.{why_of}
 use Rattle.gf_token.specs.Place.{IsAccepted}
 use Rattle.gf_token.specs.Token.Token.{Opening, Closing, Comma, Text, Bare, Broken}
@@ -18,7 +18,6 @@ use Rattle.gf_token.specs.declared.fault.Why.TheVariants.{UnknownPlayer, NotDesc
 use Rattle.gf_token.specs.declared.fault.Why.TheVariants.{SumBelowOne, NoEntry}
 use Rattle.gf_tree.specs.Description.{Action}
 use Rattle.gf_tree.specs.Front.{IsExtensiveFile}
-use Rattle.gf_tree.specs.Sentence.{IsPositive}
 use Rattle.gf_tree.specs.Reason.{IsReason, IsWrongBehind}
 use Rattle.gf_token.specs.declared.fault.What.TheVariants as what
 

@@ -1,19 +1,15 @@
 -- Which lists of tokens are extensive files, and what each of them says.
-use Rattle.std.specs.Prelude.{◌≡◌, ℕ, zero, suc, ◌⊎◌, ◌<◌, List, [], ◌∷◌, ◌++◌, length, map, codes}
+use Rattle.std.specs.Prelude.{◌≡◌, ℕ, zero, suc, ◌⊎◌, List, [], ◌∷◌, ◌++◌, length, map, codes}
 use Rattle.std.specs.Prelude.{Option, Some, None}
 use Rattle.gf_fraction.specs.Ratio.{Ratio}
 use Rattle.gf_fraction.specs.NumberSpelling.{IsNumber}
 use Rattle.gf_token.specs.Token.{Token}
 use Rattle.gf_token.specs.Token.Token.{Text, Bare}
-use Rattle.gf_token.specs.Index.{IsIndex}
+use Rattle.gf_token.specs.Index.{IsIndex, IsPositive}
 use Rattle.gf_token.specs.Grammar.{Each, braced, IsComment, IsPayoffInBraces}
 use Rattle.gf_tree.specs.PrefixOrder.{flatten}
 use Rattle.gf_tree.specs.FileTree.{Use, FileNode, FileTree}
 use Rattle.gf_tree.specs.Description.{Action, InformationSet, Outcome, SetKey}
-
--- an index above 0
-abbrev pub IsPositive : List ℕ → ℕ → Type 0
-IsPositive bytes n = IsIndex bytes n × (0 < n)
 
 -- [Text Opening .. Closing]: a description, or none
 abbrev pub IsDescription : {D : Type 0} → (List Token → D → Type 0) → List Token → Option D → Type 0

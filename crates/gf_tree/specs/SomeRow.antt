@@ -6,12 +6,13 @@ use Rattle.gf_token.specs.Token.{Token}
 use Rattle.gf_token.specs.Token.Token.{Bare}
 use Rattle.gf_tree.specs.Description.{Action, InformationSet, Outcome, SetKey, set_of}
 use Rattle.gf_tree.specs.Front.{BehindOutcomeNumber, BehindSetNumber, InActions, IsNewOutcome}
-use Rattle.gf_tree.specs.Front.{IsNewSet, KnowsOutcome, KnowsSet, ToPlayerNumber, ToProbability}
+use Rattle.gf_tree.specs.Front.{IsNewSet, KnowsOutcome, KnowsSet, ToProbability}
 use Rattle.gf_tree.specs.Front.{ToSetNumber}
 use Rattle.gf_tree.specs.Reason.{GoesOnWith, HasSum}
 use Rattle.gf_tree.specs.RowPlaces.{BehindComment, BehindLetter, BehindNode, BehindOutcomeName}
 use Rattle.gf_tree.specs.RowPlaces.{BehindPayoff, BehindPlayers, BehindSet, BehindSetName}
-use Rattle.gf_tree.specs.RowPlaces.{FileFront, InPlayers, ToPayoff, ToPlayers, ToTitle}
+use Rattle.gf_tree.specs.RowPlaces.{FileFront, InPlayers, ToPayoff, ToPlayerNumber, ToPlayers}
+use Rattle.gf_tree.specs.RowPlaces.{ToTitle}
 
 -- a row of the heading
 pub data IsInHeading (before : List Token) : Type 0 where

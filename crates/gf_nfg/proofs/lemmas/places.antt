@@ -2,3 +2,4 @@ pub mod Judged
 pub mod Led
 pub mod Once
 pub mod Reasons
+pub mod Rows

@@ -1,8 +1,8 @@
 -- Which bare tokens are numbers, indices or neither.
-use Rattle.gf_tree.proofs.Common.{◌≡◌, ℕ, List, [], ◌∷◌, Some, None, Err, refl, sym, subst}
-use Rattle.gf_tree.proofs.Common.{◌∙◌, arith, inl, inr, codes, nat_eq, pointwise, false, true}
-use Rattle.gf_tree.proofs.Common.{◌≢◌, Ratio, IsNumber, number_again, number_is, IsIndex}
-use Rattle.gf_tree.proofs.Common.{index_is, whole, pos, Ok, ◌⊎◌}
+use Rattle.gf_tree.proofs.Common.{◌≡◌, ℕ, List, [], ◌∷◌, Some, None, Err, refl, sym, subst, ◌∙◌}
+use Rattle.gf_tree.proofs.Common.{arith, inl, inr, codes, nat_eq, pointwise, false, true, ◌≢◌}
+use Rattle.gf_tree.proofs.Common.{Ratio, IsNumber, number_again, number_is, IsIndex, index_is}
+use Rattle.gf_tree.proofs.Common.{whole, pos, Ok, ◌⊎◌, ◌++◌}
 use Rattle.std.specs.Char.{is_ascii_digit}
 use Rattle.gf_fraction.proofs.SpelledIsFound.{ascii_from_digit}
 use Rattle.gf_fraction.specs.Computed.{number_of, lowest_of, gcd_within}
@@ -41,13 +41,13 @@ one_read : number_of (codes "1") ≡ Ok (whole (pos 1))
 unfolding number_of lowest_of gcd_within
 one_read = refl
 
-indices : (index_of (codes "1") ≡ Some 1) × (index_of (codes "2") ≡ Some 2)
+indices : (index_of (codes "01") ≡ Some 1) × (index_of (codes "2") ≡ Some 2)
     × (index_of (codes "t") ≡ None)
 unfolding index_of
 indices = (refl, refl, refl)
 
-pub one_index : IsIndex (codes "1") 1
-one_index = index_is (codes "1") 1 indices.0
+pub one_index : IsIndex (codes "01") 1
+one_index = index_is (codes "01") 1 indices.0
 
 pub two_index : IsIndex (codes "2") 2
 two_index = index_is (codes "2") 2 indices.1
@@ -72,20 +72,36 @@ no_letter players b (inl e) = no_number b (codes "c") unread.3 e
 no_letter players b (inr (inl e)) = no_number b (codes "t") unread.5 e
 no_letter players b (inr (inr h)) = no_number b (codes "p") unread.4 h.0
 
--- one of the first three tokens: only 2 is a number, and none is `t`
+-- nor does it begin with 0
+pub letter_from_zero : (players : ℕ) (more : List ℕ)
+    → ¬ (IsNodeLetter players (codes "0" ++ more))
+letter_from_zero players more (inl e) = other_word (codes "0" ++ more) (codes "c") refl e
+letter_from_zero players more (inr (inl e)) = other_word (codes "0" ++ more) (codes "t") refl e
+letter_from_zero players more (inr (inr h)) = other_word (codes "0" ++ more) (codes "p") refl h.0
+
+-- one of the first three tokens: only 2 is a number, none is `t`, and none begins with 0
 abbrev pub IsWord : List ℕ → Type 0
 IsWord b = ((p : Ratio) → IsNumber b p → b ≡ codes "2") × (b ≢ codes "t")
+    × ((more : List ℕ) → b ≢ codes "0" ++ more)
 
-word : (b w : List ℕ) → Unread w → pointwise nat_eq w (codes "t") ≡ false → b ≡ w → IsWord b
-word b w none other e =
-    (λ p is. absurd (no_number b w none e p is), λ t. other_word w (codes "t") other (sym e ∙ t))
+-- it differs from these bytes
+abbrev Differs : List ℕ → List ℕ → Type 0
+Differs w other = pointwise nat_eq w other ≡ false
+
+word : (b w : List ℕ) → Unread w ⊎ (w ≡ codes "2") → Differs w (codes "t")
+    → ((more : List ℕ) → Differs w (codes "0" ++ more)) → b ≡ w → IsWord b
+word b w two other zero e = (
+  λ p is. elim two [ inl none ↦ absurd (no_number b w none e p is) | inr same ↦ e ∙ same ],
+  λ t. other_word w (codes "t") other (sym e ∙ t),
+  λ more z. other_word w (codes "0" ++ more) (zero more) (sym e ∙ z),
+)
 
 pub format_word : (b : List ℕ) → b ≡ codes "EFG" → IsWord b
-format_word b = word b (codes "EFG") unread.0 refl
+format_word b = word b (codes "EFG") (inl unread.0) refl (λ more. refl)
 
 pub version_word : (b : List ℕ) → b ≡ codes "2" → IsWord b
-version_word b e = (λ p is. e, λ t. other_word (codes "2") (codes "t") refl (sym e ∙ t))
+version_word b = word b (codes "2") (inr refl) refl (λ more. refl)
 
 pub letter_word : (b : List ℕ) → (b ≡ codes "R") ⊎ (b ≡ codes "D") → IsWord b
-letter_word b (inl e) = word b (codes "R") unread.1 refl e
-letter_word b (inr e) = word b (codes "D") unread.2 refl e
+letter_word b (inl e) = word b (codes "R") (inl unread.1) refl (λ more. refl) e
+letter_word b (inr e) = word b (codes "D") (inl unread.2) refl (λ more. refl) e

@@ -7,18 +7,17 @@ use Rattle.gf_tree.proofs.Common.{NegativeProbability, IsRefusal, or_name, this_
 use Rattle.gf_tree.proofs.Common.{IsNoNumber, a_first_name, a_node, an_end, an_outcome, or_comma}
 use Rattle.gf_tree.proofs.Common.{FileFront, State, at, nothing, run, Format, Ratio, whole}
 use Rattle.gf_tree.proofs.Common.{IsNumber, NumberFault, number_again, Action, InformationSet}
-use Rattle.gf_tree.proofs.Common.{SetKey, set_of, set_with, InActions, IsExtensiveFile}
-use Rattle.gf_tree.proofs.Common.{KnowsSet, EndsInNode}
-use Rattle.gf_tree.proofs.Common.{code_of, why_of, Unterminated, BadIndex, SumAboveOne, SumBelowOne}
-use Rattle.gf_tree.proofs.Common.{SumOverflow, NoEntry, this_label, a_new_action, a_new_branch}
-use Rattle.gf_tree.proofs.Common.{Refuses, no_label, Holds, IsReason, DiffersFromOutcome}
-use Rattle.gf_tree.proofs.Common.{DiffersFromSet, EndsInFirstUse, IsNoText, IsWrongBehind}
-use Rattle.gf_tree.proofs.Common.{ListsActions, SumFits, HasNumberFault, answer_is, a_player}
+use Rattle.gf_tree.proofs.Common.{SetKey, set_of, set_with, InActions, IsExtensiveFile, KnowsSet}
+use Rattle.gf_tree.proofs.Common.{EndsInNode, code_of, why_of, Unterminated, BadIndex, SumAboveOne}
+use Rattle.gf_tree.proofs.Common.{SumBelowOne, SumOverflow, NoEntry, this_label, a_new_action}
+use Rattle.gf_tree.proofs.Common.{a_new_branch, Refuses, no_label, IsReason, DiffersFromOutcome}
+use Rattle.gf_tree.proofs.Common.{DiffersFromSet, EndsInFirstUse, IsWrongBehind, ListsActions}
+use Rattle.gf_tree.proofs.Common.{SumFits, HasNumberFault, answer_is, Applies}
 use Rattle.gf_token.specs.declared.fault.Why.TheVariants.{NotANumber, ZeroDenominator}
 use Rattle.gf_token.specs.declared.fault.Why.TheVariants.{NumberTooLarge, NotDescribed}
+use Rattle.gf_token.specs.Reason.{IsBadIndex, IsFaultyNumber}
 use Rattle.gf_tree.specs.Rows.{Obeys}
-use Rattle.gf_tree.specs.Reason.{StaysBelowOne, IsBadIndex, IsMismatch, IsWrongProbability}
-use Rattle.gf_tree.specs.Reason.{IsFaultyNumber, IsUnknownPlayer}
+use Rattle.gf_tree.specs.Reason.{StaysBelowOne, IsMismatch, IsWrongProbability, IsUnknownPlayer}
 use Rattle.gf_tree.proofs.lemmas.due.Rows.{Stands, accepted, answers_at, refused_by}
 use Rattle.gf_tree.proofs.lemmas.fronts.Codes.{IsUpTo, known_left}
 use Rattle.gf_tree.proofs.lemmas.reasons.Nodes.{reasoned}
@@ -81,7 +80,7 @@ up_to_overflow sum p _ wrong = absurd wrong
 -- ---- what the machine stops with
 
 abbrev Lower : List Token → List Token → Why → Type 0
-Lower before after why = (other : Why) → Holds other before after → IsUpTo why (code_of other)
+Lower before after why = (other : Why) → Applies other before after → IsUpTo why (code_of other)
 
 module _ (before : List Token) (s : State) (why : Why) (l : Leads before s) where
   file : Begins IsExtensiveFile before
@@ -95,18 +94,16 @@ module _ (before : List Token) (s : State) (why : Why) (l : Leads before s) wher
   up_to other bound e low = subst (λ (w : Why). IsUpTo w bound) (sym e) low
 
   -- in a first use without a description
-  first_use : (after : List Token) → IsNoText after → Refuses a_first_name after why → IsUpTo why 9
-  first_use (Text label ∷ after) plain e = absurd plain
-  first_use (Broken ∷ after) plain e = up_to Unterminated 9 e (omega arith)
-  first_use _ plain e = up_to NotDescribed 9 e (omega arith)
+  first_use : (after : List Token) → Refuses a_first_name after why → IsUpTo why 9
+  first_use (Broken ∷ after) e = up_to Unterminated 9 e (omega arith)
+  first_use _ e = up_to NotDescribed 9 e (omega arith)
 
-  undescribed : (after : List Token) → StopsAt s after why → EndsInFirstUse before × IsNoText after
-      → IsUpTo why 9
-  undescribed after h (k, plain) =
+  undescribed : (after : List Token) → StopsAt s after why → EndsInFirstUse before → IsUpTo why 9
+  undescribed after h k =
       let f = front_of before file k.0 in
       elim k.1 [
-        | inl u ↦ first_use after plain (told after h a_first_name (new_set f u.0 u.1 u.2))
-        | inr u ↦ first_use after plain (told after h a_first_name (new_outcome f u.0 u.1 u.2))
+        | inl u ↦ first_use after (told after h a_first_name (new_set f u.0 u.1 u.2))
+        | inr u ↦ first_use after (told after h a_first_name (new_outcome f u.0 u.1 u.2))
       ]
 
   -- ---- at a bare token
@@ -115,31 +112,33 @@ module _ (before : List Token) (s : State) (why : Why) (l : Leads before s) wher
     says : (row : Row) → Stands before row → row.other_bare b why
     says row stands = told (Bare b ∷ after) h row stands
 
-    no_number : (fault : NumberFault) → IsFaultyNumber before b fault → why ≡ why_of fault
+    no_number : (fault : NumberFault) → IsFaultyNumber IsExtensiveFile before b fault
+        → why ≡ why_of fault
     no_number fault (due, is) =
         let r = reasoned before file in
         is_fault b fault why is (r.told.number due b why (says r.row r.stands))
 
-    bad_index : IsBadIndex before b → why ≡ BadIndex
+    bad_index : IsBadIndex IsExtensiveFile before b → why ≡ BadIndex
     bad_index (due, none) =
         let r = reasoned before file in
         elim (r.told.index due b why (says r.row r.stands)) [
           | inl e ↦ e
-          | inr k ↦ absurd (none k.0 k.1)
+          | inr k ↦ absurd (none k.1.0 k.1.1)
         ]
 
     -- a number above that of the players; or a player's node, although there are none
     unknown_player : IsUnknownPlayer before b → IsUpTo why 8
-    unknown_player (inl d) = elim (says (a_player (length d.0.players))
-        (player (front_of before file d.0) d.2)) [
-          | inl e ↦ up_to BadIndex 8 e.0 (omega arith)
+    unknown_player (inl d) =
+        let r = reasoned before file in
+        elim (r.told.index d.0 b why (says r.row r.stands)) [
+          | inl e ↦ up_to BadIndex 8 e (omega arith)
           | inr e ↦ up_to UnknownPlayer 8 e.0 (omega arith)
         ]
     unknown_player (inr k) =
         let r = reasoned before file in
         elim ((r.told.node k.0).1 b why (says r.row r.stands)) [
           | inl e ↦ up_to UnknownPlayer 8 e.0 (omega arith)
-          | inr e ↦ absurd (e.1 k.2)
+          | inr e ↦ absurd (e.1 k.1)
         ]
 
     wrong_share : (other : Why) (k : IsWrongProbability other before b) → IsOrdered k.0 k.1 why
@@ -239,33 +238,28 @@ module _ (before : List Token) (s : State) (why : Why) (l : Leads before s) wher
 
   -- ---- no lower code applies
 
-  lower_at : (after : List Token) (t : Token) → StopsAt s (t ∷ after) why
-      → Lower before (t ∷ after) why
-  lower_at after Broken h Unterminated k = grind arith
-  lower_at after (Bare b) h NotANumber k =
-      up_to NotANumber 4 (no_number after b h number.NotANumber k) (omega arith)
-  lower_at after (Bare b) h ZeroDenominator k =
-      up_to ZeroDenominator 5 (no_number after b h number.ZeroDenominator k) (omega arith)
-  lower_at after (Bare b) h NumberTooLarge k =
-      up_to NumberTooLarge 6 (no_number after b h number.TooLarge k) (omega arith)
-  lower_at after (Bare b) h BadIndex k = up_to BadIndex 7 (bad_index after b h k) (omega arith)
-  lower_at after (Bare b) h UnknownPlayer k = unknown_player after b h k
-  lower_at after t h NotDescribed k = undescribed (t ∷ after) h k
-  lower_at after t h Mismatch k = up_to Mismatch 10 (mismatch after t h k) (omega arith)
-  lower_at after (Bare b) h NegativeProbability k = negative after b h k
-  lower_at after (Bare b) h SumAboveOne k = let wrong = k.4 in
-      up_to_above k.0 k.1 why wrong.1.0 (wrong_share after b h SumAboveOne k).0
-  lower_at after Closing h SumBelowOne k = up_to SumBelowOne 13 (below_one after h k) (omega arith)
-  lower_at after (Bare b) h SumOverflow k =
-      up_to_overflow k.0 k.1 why (wrong_share after b h SumOverflow k).0
-  lower_at after Closing h NoEntry k =
-      up_to NoEntry 15 (no_entry after h k.0.player k.0.number k.1 k.2) (omega arith)
-  lower_at after t h _ k = absurd k
-
   lower : (after : List Token) → StopsAt s after why → Lower before after why
-  lower [] h NotDescribed k = undescribed [] h k
-  lower [] h _ k = absurd k
-  lower (t ∷ after) h other k = lower_at after t h other k
+  lower (Broken ∷ after) h Unterminated k = grind arith
+  lower (Bare b ∷ after) h NotANumber k =
+      up_to NotANumber 4 (no_number after b h number.NotANumber k) (omega arith)
+  lower (Bare b ∷ after) h ZeroDenominator k =
+      up_to ZeroDenominator 5 (no_number after b h number.ZeroDenominator k) (omega arith)
+  lower (Bare b ∷ after) h NumberTooLarge k =
+      up_to NumberTooLarge 6 (no_number after b h number.TooLarge k) (omega arith)
+  lower (Bare b ∷ after) h BadIndex k = up_to BadIndex 7 (bad_index after b h k) (omega arith)
+  lower (Bare b ∷ after) h UnknownPlayer k = unknown_player after b h k
+  lower after h NotDescribed k = undescribed after h k
+  lower (t ∷ after) h Mismatch k = up_to Mismatch 10 (mismatch after t h k) (omega arith)
+  lower (Bare b ∷ after) h NegativeProbability k = negative after b h k
+  lower (Bare b ∷ after) h SumAboveOne k = let wrong = k.4 in
+      up_to_above k.0 k.1 why wrong.1.0 (wrong_share after b h SumAboveOne k).0
+  lower (Closing ∷ after) h SumBelowOne k =
+      up_to SumBelowOne 13 (below_one after h k) (omega arith)
+  lower (Bare b ∷ after) h SumOverflow k =
+      up_to_overflow k.0 k.1 why (wrong_share after b h SumOverflow k).0
+  lower (Closing ∷ after) h NoEntry k =
+      up_to NoEntry 15 (no_entry after h k.0.player k.0.number k.1 k.2) (omega arith)
+  lower _ h _ k = absurd k
 
 -- ---- the reason
 

@@ -1,20 +1,20 @@
 -- The rows of nodes refuse for reasons, and so does each row after the front of a file.
 use Rattle.gf_tree.proofs.Common.{◌≡◌, ℕ, ◌<◌, List, [], ◌∷◌, ◌++◌, length, Bool, true, false}
-use Rattle.gf_tree.proofs.Common.{codes, Some, None, refl, sym, ap, subst, ◌∙◌, arith, inl}
-use Rattle.gf_tree.proofs.Common.{inr, length-append, same_Some, ◌⊎◌, Ratio, IsNumber, Token}
-use Rattle.gf_tree.proofs.Common.{Closing, Text, Bare, IsIndex, Begins, Why, Expected}
-use Rattle.gf_tree.proofs.Common.{UnknownPlayer, Mismatch, Action, InformationSet, Outcome, SetKey}
-use Rattle.gf_tree.proofs.Common.{set_of, set_with, IsDue, IndexIsDue, NumberIsDue, FileFront}
-use Rattle.gf_tree.proofs.Common.{BehindOutcomeNumber, BehindSetNumber, InActions}
-use Rattle.gf_tree.proofs.Common.{IsExtensiveFile, IsNewOutcome, IsNewSet, KnowsOutcome}
-use Rattle.gf_tree.proofs.Common.{ToOutcomeNumber, IsNoNumber, Row, a_first_name, an_outcome}
-use Rattle.gf_tree.proofs.Common.{or_comma, or_name, this_number, ◌≢◌, append_cancel_left, why_of}
-use Rattle.gf_tree.proofs.Common.{NoEntry, BadIndex, SumBelowOne, BehindPayoff, Comma, Accepts}
-use Rattle.gf_tree.proofs.Common.{append_assoc, whole, pos}
+use Rattle.gf_tree.proofs.Common.{codes, Some, None, refl, sym, ap, subst, ◌∙◌, arith, inl, inr}
+use Rattle.gf_tree.proofs.Common.{length-append, same_Some, ◌⊎◌, Ratio, IsNumber, Token, Closing}
+use Rattle.gf_tree.proofs.Common.{Text, Bare, IsIndex, Begins, Why, Expected, UnknownPlayer}
+use Rattle.gf_tree.proofs.Common.{Mismatch, Action, InformationSet, Outcome, SetKey, set_of}
+use Rattle.gf_tree.proofs.Common.{set_with, IsDue, IndexIsDue, NumberIsDue, FileFront}
+use Rattle.gf_tree.proofs.Common.{BehindOutcomeNumber, BehindSetNumber, InActions, IsExtensiveFile}
+use Rattle.gf_tree.proofs.Common.{IsNewOutcome, IsNewSet, KnowsOutcome, ToOutcomeNumber, IsNoNumber}
+use Rattle.gf_tree.proofs.Common.{Row, a_first_name, an_outcome, or_comma, or_name, this_number}
+use Rattle.gf_tree.proofs.Common.{◌≢◌, append_cancel_left, why_of, NoEntry, BadIndex, SumBelowOne}
+use Rattle.gf_tree.proofs.Common.{BehindPayoff, Comma, Accepts, append_assoc, whole, pos}
 use Rattle.gf_tree.proofs.Common.{NewProbabilityIsDue, GoesOnWith, DiffersFromOutcome}
 use Rattle.gf_tree.proofs.Common.{DiffersFromSet, EndsInFirstUse, ListsActions, BehindNode}
 use Rattle.gf_tree.proofs.Common.{a_closing, a_new_action, a_new_branch, a_payoff, a_player}
 use Rattle.gf_tree.proofs.Common.{a_probability, a_set, no_label, this_label, IsBeforeRow, IsInNode}
+use Rattle.gf_tree.proofs.Common.{IsPositive}
 use Rattle.gf_tree.proofs.lemmas.fronts.CutFiles.{some_row}
 use Rattle.gf_tree.proofs.lemmas.fronts.Cuts.{first_is}
 use Rattle.gf_tree.proofs.lemmas.due.Nodes.{parts}
@@ -68,6 +68,11 @@ known_fewer f n ps outcome p others may h knows values =
     let both = length-append ps (p ∷ others) in
     omega (arith, is, players, sizes, both)
 
+-- an index above a number is above 0
+positive : (b : List ℕ) (least : ℕ) → ((n : ℕ) × IsIndex b n × (least < n))
+    → (n : ℕ) × IsPositive b n
+positive b least k = let above = k.2 in (k.0, (k.1, omega (arith, above)))
+
 module _ (f : FileFront) where
   first_use : ((key : SetKey) × BehindSetNumber f.front key × IsNewSet f.nodes key)
       ⊎ ((number : ℕ) × BehindOutcomeNumber f.front number × IsNewOutcome f.nodes number)
@@ -77,7 +82,7 @@ module _ (f : FileFront) where
       let told = of_none f.before a_first_name s (λ b k. k) in
       grind arith
 
-  outcome_index : IndexIsDue f.before → (b : List ℕ) (why : Why) (after : List Token)
+  outcome_index : IndexIsDue IsExtensiveFile f.before → (b : List ℕ) (why : Why) (after : List Token)
       → ¬ ((n : ℕ) × IsIndex b n) → why ≡ BadIndex → Given f.before (Bare b ∷ after) why
   outcome_index due b why after n e = (BadIndex, e, (due, λ m k. n (m, k.0)))
 
@@ -100,8 +105,8 @@ module _ (f : FileFront) where
       (NoEntry, e, (key, set.name, listed))
 
   -- a number: some bytes are not one, and others are another one
-  number_row : (row : Row) → Stands f.before row → NumberIsDue f.before → IsFor row what.Number
-      → AcceptsNumbers row
+  number_row : (row : Row) → Stands f.before row → NumberIsDue IsExtensiveFile f.before
+      → IsFor row what.Number → AcceptsNumbers row
       → ((b : List ℕ) (why : Why) (after : List Token) → row.other_bare b why
       → IsNoNumber b why ⊎ ((p : Ratio) × IsNumber b p × Own why f.before (Bare b ∷ after)))
       → Reasoned f.before
@@ -211,16 +216,16 @@ module _ (f : FileFront) where
       let first = some_bare f.before (Expected what.Index) _ _ s in
       let some = first.1.1.1 in
       let within = first.1.2 in
-      let one : row.bare (codes "1") =
+      let one : row.bare (codes "01") =
       (1, (one_index, omega arith), omega (arith, some, within)) in
       let only : AcceptsIndices row = λ b k. (k.0, k.1.0) in
       let due = index_due f.before row s only one in
       for_due f.before row what.Index s due (refl, refl, λ why e. e) (λ b why after n e. elim e [
         | inl k ↦ (BadIndex, k.0, (due, k.1))
-        | inr k ↦ (UnknownPlayer, k.0, inl (f.ends, k.1.0, h, k.1.1, k.1.2))
+        | inr k ↦ (UnknownPlayer, k.0, inl (due, positive b (length f.players) k.1))
       ]) (of_indices f.before row s only (λ b why e. elim e [
         | inl k ↦ inl k.0
-        | inr k ↦ let above = k.1.2 in inr (k.1.0, (k.1.1, omega (arith, above)))
+        | inr k ↦ inr (k.0, positive b (length f.players) k.1)
       ]))
   in_node (IsInNode.SetNumber player h) =
       let s = nodes.set_number_due f player h in
@@ -233,7 +238,7 @@ module _ (f : FileFront) where
       let row = or_name set.name an_outcome in
       let s = nodes.known_set f key set h knows in
       let due = index_due f.before row s (λ b k. k) (1, one_index) in
-      reasons f.before row (λ after plain. due)
+      reasons f.before row (λ after. due)
       (λ l after n. differs (Text l) (inl (key, set, knows, inl (h, n))) after) (outcome_index due)
       (λ why after n e. (Expected what.Index, e, due)) s
       (of_indices f.before row s (λ b k. k) (λ b why e. inl e))
@@ -242,7 +247,7 @@ module _ (f : FileFront) where
       let row = a_new_action set.actions in
       let s = actions.new_action f key set h new some in
       let due = some_text f.before row s tt in
-      reasons f.before row (λ after plain. due) (λ l after n. due)
+      reasons f.before row (λ after. due) (λ l after n. due)
       (λ b why after n e. (Expected what.Text, e, due))
       (λ why after n e. no_entry key set h new (no_action set.actions n) why after e) s
       (of_none f.before row s (λ b k. k))
@@ -251,7 +256,7 @@ module _ (f : FileFront) where
       let key = set_of 0 number in
       let s = actions.new_branch f number set sum h new has in
       let due = some_text f.before row s tt in
-      reasons f.before row (λ after plain. due) (λ l after n. due)
+      reasons f.before row (λ after. due) (λ l after n. due)
       (λ b why after n e. (Expected what.Text, e, due)) (λ why after n e. elim e [
         | inl k ↦ no_entry key set h new k.1 why after k.0
         | inr k ↦
@@ -272,11 +277,11 @@ module _ (f : FileFront) where
   in_node (IsInNode.KnownAction key known seen next h knows more) =
       let row = this_label next.label in
       let s = actions.known_action f key known seen next h knows more in
-      let due : IsDue f.before what.Text =
+      let due : IsDue IsExtensiveFile f.before what.Text =
       (next.label, follows f.before row s (Text next.label ∷ []) refl) in
       let same = λ (other : Action) (k : GoesOnWith known seen other).
       one_next seen.actions other next k.0 more.0 known.actions k.1 more.1 in
-      reasons f.before row (λ after plain. due)
+      reasons f.before row (λ after. due)
       (λ l after n. differs (Text l) (inl (
         key,
         known,
@@ -306,9 +311,9 @@ module _ (f : FileFront) where
       ))
   in_node (IsInNode.NoActionLeft key known seen h knows same) =
       let s = actions.no_action_left f key known seen h knows same in
-      let due : IsDue f.before what.Closing =
+      let due : IsDue IsExtensiveFile f.before what.Closing =
       follows f.before no_label s (Closing ∷ []) tt in
-      reasons f.before no_label (λ after plain. due)
+      reasons f.before no_label (λ after. due)
       (λ l after n. differs (Text l) (inl (
         key,
         known,

@@ -4,19 +4,19 @@ use Rattle.gf_tree.proofs.Common.{◌≡◌, ℕ, ◌<◌, List, [], ◌∷◌, 
 use Rattle.gf_tree.proofs.Common.{inr, codes, ◌⊎◌, Ratio, NumberFault, IsNumber, Token, IsAccepted}
 use Rattle.gf_tree.proofs.Common.{Opening, Closing, Comma, Text, Bare, Broken, Why, Expected}
 use Rattle.gf_tree.proofs.Common.{UnknownPlayer, Mismatch, NegativeProbability, Action}
-use Rattle.gf_tree.proofs.Common.{IsExtensiveFile, IsDue, Row, a_letter, a_node, a_text}
-use Rattle.gf_tree.proofs.Common.{a_word, an_end, an_opening, or_name, ◌≢◌, HasNumberFault, why_of}
-use Rattle.gf_tree.proofs.Common.{What, SumAboveOne, SumOverflow, Unterminated, IsInHeading}
-use Rattle.gf_tree.proofs.Common.{NodeIsDue, NumberIsDue, IndexIsDue, MayBeNext, Some, None, pos}
-use Rattle.gf_tree.proofs.Common.{IsIndex, index_is, IsNoNumber, IsPositive, BadIndex, Option}
-use Rattle.gf_tree.proofs.Common.{append-nil, append_assoc, whole, ◌++◌}
-use Rattle.gf_tree.proofs.Common.{Holds, IsNoText, IsWrongBehind, NewProbabilityIsDue}
-use Rattle.gf_tree.proofs.Common.{MayFollow, Accepts, Refuses, a_player_name, or_text}
+use Rattle.gf_tree.proofs.Common.{IsExtensiveFile, IsDue, Row, a_letter, a_node, a_text, a_word}
+use Rattle.gf_tree.proofs.Common.{an_end, an_opening, or_name, ◌≢◌, HasNumberFault, why_of, What}
+use Rattle.gf_tree.proofs.Common.{SumAboveOne, SumOverflow, Unterminated, IsInHeading, NumberIsDue}
+use Rattle.gf_tree.proofs.Common.{IndexIsDue, MayBeNext, Some, None, IsIndex, index_is, IsNoNumber}
+use Rattle.gf_tree.proofs.Common.{IsPositive, BadIndex, Option, append-nil, append_assoc, ◌++◌}
+use Rattle.gf_tree.proofs.Common.{IsWrongBehind, NewProbabilityIsDue, Accepts, Refuses}
+use Rattle.gf_tree.proofs.Common.{a_player_name, or_text, Applies, ap}
 use Rattle.gf_tree.proofs.lemmas.due.Rows.{Stands, accepted}
-use Rattle.gf_tree.proofs.lemmas.due.Answers.{no_index, other_word}
+use Rattle.gf_tree.proofs.lemmas.due.Answers.{no_index}
 use Rattle.gf_tree.proofs.lemmas.due.BareTokens.{IsWord, format_word, letter_word, no_letter}
-use Rattle.gf_tree.proofs.lemmas.due.BareTokens.{one_number, plus_no_index, plus_number, t_no_index}
+use Rattle.gf_tree.proofs.lemmas.due.BareTokens.{plus_no_index, plus_number, t_no_index}
 use Rattle.gf_tree.proofs.lemmas.due.BareTokens.{t_no_number, two_index, version_word}
+use Rattle.gf_tree.proofs.lemmas.due.BareTokens.{letter_from_zero}
 use Rattle.gf_token.specs.Indices.{index_of}
 use Rattle.gf_tree.specs.Rows.{Always, IsNodeLetter, none}
 use Rattle.gf_fraction.specs.declared.fraction.NumberFault.TheVariants as number
@@ -25,8 +25,8 @@ use Rattle.gf_tree.proofs.lemmas.due.Heading as heading
 
 -- the code applies, or what it names is due
 abbrev pub Own : Why → List Token → List Token → Type 0
-Own (Expected w) before after = IsDue before w
-Own why before after = Holds why before after
+Own (Expected w) before after = IsDue IsExtensiveFile before w
+Own why before after = Applies why before after
 
 -- why a row refuses bare tokens: as no number or as another one; as no index above 0, or although
 -- they are one; or as the letter of a node
@@ -36,7 +36,7 @@ OtherNumbers row = (b : List ℕ) (why : Why) → row.other_bare b why
 
 abbrev pub OtherIndices : Row → Type 0
 OtherIndices row = (b : List ℕ) (why : Why) → row.other_bare b why
-    → (why ≡ BadIndex) ⊎ ((n : ℕ) × IsPositive b n)
+    → (why ≡ BadIndex) ⊎ ((why ≡ UnknownPlayer) × ((n : ℕ) × IsPositive b n))
 
 abbrev pub OtherLetters : Row → Type 0
 OtherLetters row = (players : ℕ)
@@ -44,9 +44,9 @@ OtherLetters row = (players : ℕ)
 
 -- what is due determines why a row refuses bare tokens
 pub record Told (before : List Token) (row : Row) : Type 0 where
-  pub number : NumberIsDue before → OtherNumbers row
-  pub index : IndexIsDue before → OtherIndices row
-  pub node : NodeIsDue before → OtherLetters row
+  pub number : NumberIsDue IsExtensiveFile before → OtherNumbers row
+  pub index : IndexIsDue IsExtensiveFile before → OtherIndices row
+  pub node : IsDue IsExtensiveFile before what.Node → OtherLetters row
 
 -- a row comes after these tokens, and its refusals have reasons
 pub record Reasoned (before : List Token) : Type 1 where
@@ -68,7 +68,7 @@ module _ (before : List Token) (row : Row) (s : Stands before row) where
   pub follows : (after : List Token) → Accepts row after → IsAccepted IsExtensiveFile before after
   follows after = (accepted before row s after).1
 
-  takes : (b : List ℕ) → MayBeNext before b → row.bare b
+  takes : (b : List ℕ) → MayBeNext IsExtensiveFile before b → row.bare b
   takes b = (accepted before row s (Bare b ∷ [])).0
 
   -- something is accepted
@@ -87,23 +87,24 @@ module _ (before : List Token) (row : Row) (s : Stands before row) where
 
   -- a number that may follow in each of its spellings
   pub number_due : (b : List ℕ) (p : Ratio) → IsNumber b p
-      → ((x : List ℕ) → IsNumber x p → row.bare x) → NumberIsDue before
+      → ((x : List ℕ) → IsNumber x p → row.bare x) → NumberIsDue IsExtensiveFile before
   number_due b p is all = by (index_of b) refl
     where
-      by : (o : Option ℕ) → index_of b ≡ o → NumberIsDue before
+      by : (o : Option ℕ) → index_of b ≡ o → NumberIsDue IsExtensiveFile before
       by None e = (b, p, follows (Bare b ∷ []) (all b is), is, no_index b e)
       by (Some n) e =
           let plus = plus_number b n p (index_is b n e) is in
           (43 ∷ b, p, follows (Bare (43 ∷ b) ∷ []) (all (43 ∷ b) plus), plus, plus_no_index b)
 
-  pub index_due : AcceptsIndices row → row.bare (codes "1") → IndexIsDue before
+  pub index_due : AcceptsIndices row → row.bare (codes "01") → IndexIsDue IsExtensiveFile before
   index_due only one = (
-    follows (Bare (codes "1") ∷ []) one,
+    (codes "1", follows (Bare (codes "01") ∷ []) one),
     λ d. let k = only d.0 (takes d.0 d.2) in d.4 k.0 k.1,
   )
 
   -- what the row tells, if it is one of numbers, indices, letters of nodes, or words
-  pub of_numbers : NumberIsDue before → AcceptsNumbers row → OtherNumbers row → Told before row
+  pub of_numbers : NumberIsDue IsExtensiveFile before → AcceptsNumbers row → OtherNumbers row
+      → Told before row
   of_numbers due only others = record {
     number = λ d. others;
     index = λ d. absurd (d.1 due);
@@ -121,8 +122,8 @@ module _ (before : List Token) (row : Row) (s : Stands before row) where
       → OtherLetters row → Told before row
   of_letters players only others = record {
     number = λ d. absurd (no_letter players d.0 (only d.0 (takes d.0 d.2)) d.1 d.3);
-    index = λ d. absurd (no_letter players (codes "1") (only (codes "1") (takes (codes "1") d.0))
-        (whole (pos 1)) one_number);
+    index = λ d. absurd (letter_from_zero players d.0.0 (only (codes "0" ++ d.0.0)
+        (takes (codes "0" ++ d.0.0) d.0.1)));
     node = λ m. others;
   }
 
@@ -131,8 +132,8 @@ module _ (before : List Token) (row : Row) (s : Stands before row) where
     number = λ d.
         let e = (words d.0 (takes d.0 d.2)).0 d.1 d.3 in
         absurd (d.4 2 (subst (λ (x : List ℕ). IsIndex x 2) (sym e) two_index));
-    index = λ d. absurd (other_word (codes "1") (codes "2") refl
-        ((words (codes "1") (takes (codes "1") d.0)).0 (whole (pos 1)) one_number));
+    index = λ d. absurd
+        ((words (codes "0" ++ d.0.0) (takes (codes "0" ++ d.0.0) d.0.1)).2 d.0.0 refl);
     node = λ m. absurd ((words (codes "t") (takes (codes "t") m)).1 refl);
   }
 
@@ -150,7 +151,8 @@ some_bare before w P Q s =
 -- ---- codes
 
 pub fault_own : (before after : List Token) (b : List ℕ) (fault : NumberFault)
-    → NumberIsDue before → HasNumberFault b fault → Own (why_of fault) before (Bare b ∷ after)
+    → NumberIsDue IsExtensiveFile before → HasNumberFault b fault
+    → Own (why_of fault) before (Bare b ∷ after)
 fault_own before after b number.NotANumber h is = (h, is)
 fault_own before after b number.ZeroDenominator h is = (h, is)
 fault_own before after b number.TooLarge h is = (h, is)
@@ -178,7 +180,7 @@ module _ (before : List Token) where
   given after why h = subst (λ (w : Why). Own w before after) (sym h.1) h.2
 
   module _ (row : Row)
-      (otherwise : (after : List Token) → IsNoText after → Own row.otherwise before after)
+      (otherwise : (after : List Token) → Own row.otherwise before after)
       (text : (l : List ℕ) (after : List Token) → ¬ (row.text l)
       → Own row.other_text before (Text l ∷ after))
       (bare : (b : List ℕ) (why : Why) (after : List Token) → ¬ (row.bare b)
@@ -187,9 +189,9 @@ module _ (before : List Token) where
       → Given before (Closing ∷ after) why) where
     given_by : (after : List Token) (why : Why) → ¬ (Accepts row after) → Refuses row after why
         → Given before after why
-    given_by [] why n e = (row.otherwise, e, otherwise [] tt)
-    given_by (Opening ∷ after) why n e = (row.otherwise, e, otherwise (Opening ∷ after) tt)
-    given_by (Comma ∷ after) why n e = (row.otherwise, e, otherwise (Comma ∷ after) tt)
+    given_by [] why n e = (row.otherwise, e, otherwise [])
+    given_by (Opening ∷ after) why n e = (row.otherwise, e, otherwise (Opening ∷ after))
+    given_by (Comma ∷ after) why n e = (row.otherwise, e, otherwise (Comma ∷ after))
     given_by (Text l ∷ after) why n e = (row.other_text, e, text l after n)
     given_by (Bare b ∷ after) why n e = bare b why after n e
     given_by (Closing ∷ after) why n e = closing why after n e
@@ -209,40 +211,39 @@ IsFor row w = (row.otherwise ≡ Expected w) × (row.other_text ≡ Expected w)
     × ((why : Why) → row.other_closing why → why ≡ Expected w)
 
 module _ (before : List Token) (row : Row) (w : What) (s : Stands before row) where
-  pub for_due : IsDue before w → IsFor row w
+  pub for_due : IsDue IsExtensiveFile before w → IsFor row w
       → ((b : List ℕ) (why : Why) (after : List Token) → ¬ (row.bare b) → row.other_bare b why
       → Given before (Bare b ∷ after) why)
       → Told before row → Reasoned before
   for_due due is bare told = reasons before row
-      (λ after plain. given before after row.otherwise (Expected w, is.0, due))
+      (λ after. given before after row.otherwise (Expected w, is.0, due))
       (λ l after n. given before (Text l ∷ after) row.other_text (Expected w, is.1, due))
       bare (λ why after n e. (Expected w, is.2 why e, due)) s told
 
-  one_reason : IsDue before w → IsFor row w
+  one_reason : IsDue IsExtensiveFile before w → IsFor row w
       → ((b : List ℕ) (why : Why) → row.other_bare b why → why ≡ Expected w)
       → Told before row → Reasoned before
   one_reason due is bare told =
       for_due due is (λ b why after n e. (Expected w, bare b why e, due)) told
 
 -- the letter of a node: there is no player, although one is to move
-module _ (before : List Token) (players : List (List ℕ))
-    (nobody : length players ≡ 0 → ¬ (MayFollow IsExtensiveFile before (Bare (codes "p"))))
-    (due : NodeIsDue before) where
-  letter_given : (b : List ℕ) (why : Why) (after : List Token)
-      → (a_node (length players)).other_bare b why → Given before (Bare b ∷ after) why
-  letter_given b why after (inl h) = (UnknownPlayer, h.0, inr (due, nobody h.2, h.1))
-  letter_given b why after (inr k) = (Expected what.Node, k.0, due)
+letter_given : (before after : List Token) (players : ℕ) (b : List ℕ) (why : Why)
+    → IsDue IsExtensiveFile before what.Node → (a_node players).other_bare b why
+    → Given before (Bare b ∷ after) why
+letter_given before after players b why due (inl h) = (UnknownPlayer, h.0, inr (due, h.1))
+letter_given before after players b why due (inr k) = (Expected what.Node, k.0, due)
 
 -- ---- the heading
 
 module _ (before : List Token) where
-  word : (row : Row) (w : What) → Stands before row → IsDue before w → IsFor row w
+  word : (row : Row) (w : What) → Stands before row → IsDue IsExtensiveFile before w → IsFor row w
       → ((b : List ℕ) (why : Why) → row.other_bare b why → why ≡ Expected w)
       → ((b : List ℕ) → row.bare b → IsWord b) → Reasoned before
   word row w s due is bare words =
       one_reason before row w s due is bare (of_words before row s words)
 
-  pub some_text : (row : Row) → Stands before row → row.text [] → IsDue before what.Text
+  pub some_text : (row : Row) → Stands before row → row.text []
+      → IsDue IsExtensiveFile before what.Text
   some_text row s h = ([], follows before row s (Text [] ∷ []) h)
 
   -- a row without bare tokens
@@ -268,25 +269,16 @@ module _ (before : List Token) where
   module _ (players : List (List ℕ)) where
     letter_row : (text : List ℕ → Type 0) (other : Why)
         → Stands before (record (a_node (length players)) { text = text; other_text = other })
-        → ((l : List ℕ) (after : List Token) → ¬ (text l) → NodeIsDue before
+        → ((l : List ℕ) (after : List Token) → ¬ (text l) → IsDue IsExtensiveFile before what.Node
         → Own other before (Text l ∷ after)) → Reasoned before
     letter_row text other s own =
         let row = record (a_node (length players)) { text = text; other_text = other } in
-        let due : NodeIsDue before =
+        let due : IsDue IsExtensiveFile before what.Node =
         follows before row s (Bare (codes "t") ∷ []) (inr (inl refl)) in
-        reasons before row (λ after plain. due) (λ l after n. own l after n due)
-        (λ b why after n e. letter_given before players nobody due b why after e)
+        reasons before row (λ after. due) (λ l after n. own l after n due)
+        (λ b why after n e. letter_given before after (length players) b why due e)
         (λ why after n e. (Expected what.Node, e, due)) s
         (of_letters before row s (length players) (λ b h. h) (length players, λ b why e. e))
-      where
-        nobody : length players ≡ 0 → ¬ (MayBeNext before (codes "p"))
-        nobody none m =
-            let row = record (a_node (length players)) { text = text; other_text = other } in
-            elim (takes before row s (codes "p") m) [
-              | inl e ↦ other_word (codes "p") (codes "c") refl e
-              | inr (inl e) ↦ other_word (codes "p") (codes "t") refl e
-              | inr (inr h) ↦ let some = h.1 in omega (arith, none, some)
-            ]
 
     pub node : Stands before (a_node (length players)) → Reasoned before
     node s = letter_row (λ l. ⊥) (Expected what.Node) s (λ l after n due. due)
@@ -311,19 +303,19 @@ module _ (before : List Token) where
   name_or_end name s other =
       let row = or_name name an_end in
       let due : IsExtensiveFile before = follows before row s [] tt in
-      reasons before row (λ after plain. due) other
+      reasons before row (λ after. due) other
       (λ b why after n e. (Expected what.End, e, due))
       (λ why after n e. (Expected what.End, e, due)) s (of_none row s (λ b h. h))
 
   pub in_heading : IsInHeading before → Reasoned before
   in_heading (IsInHeading.Format e) =
-      word (a_word what.Format (codes "EFG")) what.Format (rw e heading.format) e
+      word (a_word what.Format (codes "EFG")) what.Format (rw e heading.format) (ap length e)
       (refl, refl, λ why k. k) (λ b why k. k) format_word
   in_heading (IsInHeading.Version e) =
-      word (a_word what.Version (codes "2")) what.Version (rw e heading.version) e
+      word (a_word what.Version (codes "2")) what.Version (rw e heading.version) (ap length e)
       (refl, refl, λ why k. k) (λ b why k. k) version_word
   in_heading (IsInHeading.Letter e) = word a_letter what.Letter
-      (subst (λ (ts : List Token). Stands ts a_letter) (sym e) heading.letter) e
+      (subst (λ (ts : List Token). Stands ts a_letter) (sym e) heading.letter) (ap length e)
       (refl, refl, λ why k. k) (λ b why k. k) letter_word
   in_heading (IsInHeading.Title h) = text (heading.title before h)
   in_heading (IsInHeading.BeforePlayers h) = opening (heading.before_players before h)
