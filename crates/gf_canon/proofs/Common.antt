@@ -45,8 +45,8 @@ pub use Rattle.gf_token.specs.declared.fault.Fault.{Fault}
 pub use Rattle.gf_token.specs.declared.fault.Span.{Span}
 pub use Rattle.gf_token.specs.declared.fault.What.TheVariants.{Format}
 pub use Rattle.gf_token.specs.declared.fault.Why.{Why}
-pub use Rattle.gf_token.specs.declared.fault.Why.TheVariants.{Expected, Memory, TooLong}
-pub use Rattle.gf_token.specs.declared.fault.Why.TheVariants.{TooManyProfiles, UnknownOutcome}
+pub use Rattle.gf_token.specs.declared.fault.Why.TheVariants.{Expected, Memory}
+pub use Rattle.gf_token.specs.declared.fault.Why.TheVariants.{TooManyProfiles}
 pub use Rattle.gf_token.specs.declared.fault.Why.TheVariants.{Unterminated}
 pub use Rattle.gf_tree.proofs.lemmas.games.Canonical.{canonical_is_game, canonical_twice}
 pub use Rattle.gf_tree.proofs.lemmas.games.Canonical.{carries_to_canonical, outcome_numbers_carried}

@@ -132,7 +132,8 @@ pub use Rattle.gf_tree.proofs.lemmas.stores.Places.{at_index}
 pub use Rattle.gf_tree.specs.Branches.{game_of, tree_of}
 pub use Rattle.gf_tree.specs.BranchesLeft.{branches_given, branches_left, game_of_branches}
 pub use Rattle.gf_tree.specs.Description.{SetKey, InformationSet, IsSet, same_set, set_of, Action}
-pub use Rattle.gf_tree.specs.Description.{AddToOne, Outcome}
+pub use Rattle.gf_tree.specs.Description.{Outcome}
+pub use Rattle.gf_form.proofs.lemmas.values.Lotteries.{AddToOne, listed}
 pub use Rattle.gf_tree.specs.FiniteMap.{Described, first_uses, description_at}
 pub use Rattle.gf_tree.specs.FirstUse.{player_sets, player_keys, outcome_numbers}
 pub use Rattle.gf_tree.specs.Game.{Game, IsGame, Node, used_sets, set_at, outcome_at, HasChildren}

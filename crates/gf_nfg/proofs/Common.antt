@@ -82,7 +82,7 @@ pub use Rattle.gf_token.specs.declared.fault.Fault.{Fault}
 pub use Rattle.gf_token.specs.declared.fault.Span.{Span}
 pub use Rattle.gf_token.specs.declared.fault.What.{What}
 pub use Rattle.gf_token.specs.declared.fault.Why.TheVariants.{BadIndex, Expected, Memory, NoEntry}
-pub use Rattle.gf_token.specs.declared.fault.Why.TheVariants.{NotANumber, TooLong, TooManyProfiles}
+pub use Rattle.gf_token.specs.declared.fault.Why.TheVariants.{NotANumber, TooManyProfiles}
 pub use Rattle.gf_token.specs.declared.fault.Why.TheVariants.{UnknownOutcome, Unterminated}
 pub use Rattle.gf_token.specs.declared.fault.Why.TheVariants.{ZeroDenominator}
 pub use Rattle.gf_token.specs.declared.fault.Why.{Why}

@@ -3,7 +3,7 @@ use Rattle.std.specs.Prelude.{◌≡◌, ℕ, ◌<◌, List}
 use Rattle.gf_token.specs.Place.{tokens_of, IsAcceptedThrough, IsOffendingPlace}
 use Rattle.gf_token.specs.declared.fault.Span.{Span}
 use Rattle.gf_token.specs.declared.fault.Why.{Why}
-use Rattle.gf_token.specs.declared.fault.Why.TheVariants.{TooLong, TooManyProfiles, Memory}
+use Rattle.gf_token.specs.declared.fault.Why.TheVariants.{TooManyProfiles, Memory}
 use Rattle.gf_nfg.specs.LimitPlace.{IsLimitPlace}
 use Rattle.gf_nfg.specs.Reason.{IsReason}
 use Rattle.gf_nfg.specs.Sentence.{IsStrategicFile}
@@ -24,7 +24,6 @@ pub record IsAcceptedWithinLimit (bytes : List ℕ) (span : Span) : Type 0 where
 abbrev pub IsJudged : Why → List ℕ → Span → Type 0
 IsJudged Memory bytes span = IsAcceptedWithinLimit bytes span
 IsJudged TooManyProfiles bytes span = IsLimitPlace bytes span
-IsJudged TooLong bytes span = ⊥
 IsJudged why bytes span = IsRefusal why bytes span
 
 -- a refusal for another reason than lack of memory

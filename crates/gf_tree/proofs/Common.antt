@@ -32,14 +32,14 @@ pub use Rattle.gf_token.specs.declared.fault.What.{What}
 pub use Rattle.gf_token.specs.declared.fault.Why.{Why}
 pub use Rattle.gf_token.specs.declared.fault.Why.TheVariants.{BadIndex, SumAboveOne, Unterminated}
 pub use Rattle.gf_token.specs.declared.fault.Why.TheVariants.{Expected, SumBelowOne, SumOverflow}
-pub use Rattle.gf_token.specs.declared.fault.Why.TheVariants.{Memory, UnknownOutcome, UnknownPlayer}
-pub use Rattle.gf_token.specs.declared.fault.Why.TheVariants.{Mismatch, NoEntry, TooLong}
+pub use Rattle.gf_token.specs.declared.fault.Why.TheVariants.{Memory, UnknownPlayer}
+pub use Rattle.gf_token.specs.declared.fault.Why.TheVariants.{Mismatch, NoEntry}
 pub use Rattle.gf_token.specs.declared.fault.Why.TheVariants.{NegativeProbability, TooManyProfiles}
 pub use Rattle.gf_token.specs.inner.Machine.{placed, ◌>>=◌ as then_run}
 pub use Rattle.gf_tree.specs.Actions.{action_of, actions_of}
 pub use Rattle.gf_tree.specs.Consistent.{AreConsistent, Describes, HasChildrenAsDescribed}
 pub use Rattle.gf_tree.specs.Consistent.{IsConsistent}
-pub use Rattle.gf_tree.specs.Description.{Action, AddToOne, AreActions, InformationSet, IsOutcome}
+pub use Rattle.gf_tree.specs.Description.{Action, AddUpTo, AreActions, InformationSet, IsOutcome}
 pub use Rattle.gf_tree.specs.Description.{IsSet, Outcome, SetKey, outcome_with, same_set, set_of}
 pub use Rattle.gf_tree.specs.Description.{set_with}
 pub use Rattle.gf_tree.specs.FileNodes.{file_nodes, use_behind}
@@ -65,7 +65,7 @@ pub use Rattle.gf_tree.specs.KnownSets.{KnownSets, known_of, number_among, with_
 pub use Rattle.gf_tree.specs.Learned.{Learns, LearnsGame}
 pub use Rattle.gf_tree.specs.Listed.{AreListed, listed_numbers, number_listed}
 pub use Rattle.gf_tree.specs.PrefixOrder.{Entry, flatten, flatten_all}
-pub use Rattle.gf_tree.specs.Reason.{AddUpTo, Applies, DiffersFromOutcome, DiffersFromSet}
+pub use Rattle.gf_tree.specs.Reason.{Applies, DiffersFromOutcome, DiffersFromSet}
 pub use Rattle.gf_tree.specs.Reason.{EndsInFirstUse, GoesOnWith, HasSum, IsReason, IsWrongBehind}
 pub use Rattle.gf_tree.specs.Reason.{ListsActions, NewProbabilityIsDue}
 pub use Rattle.gf_tree.specs.Renumbering.{HasOutcome, HasSet, IsRenumbering, Renumbering}

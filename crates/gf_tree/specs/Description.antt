@@ -1,6 +1,6 @@
 -- Information sets and outcomes: what describes them, and by which numbers a file names them.
 use Rattle.std.specs.Prelude.{◌≡◌, ℕ, zero, suc, pos, ◌≤ℤ◌, ◌<◌, ◌≤◌, ◌==◌, ◌&&◌, Bool, List, []}
-use Rattle.std.specs.Prelude.{◌∷◌, length, map, Option, Some, None}
+use Rattle.std.specs.Prelude.{◌∷◌, length, Option, Some, None}
 use Rattle.std.specs.List.{AllByRecursion}
 use Rattle.gf_fraction.specs.Ratio.{Ratio, whole}
 use Rattle.gf_fraction.specs.Fits.{AddsTo}
@@ -30,21 +30,16 @@ set_of player number = record { player = player; number = number }
 abbrev pub same_set : SetKey → SetKey → Bool
 same_set a b = a.player == b.player && a.number == b.number
 
--- if the probabilities are added to this sum in their order, each sum fits, and the last sum is
--- one; no probability is negative
-abbrev pub AddToOne : Ratio → List Ratio → Type 0
-AddToOne sum [] = sum ≡ whole (pos 1)
-AddToOne sum (p ∷ ps) = (pos 0 ≤ℤ p.num) × ((next : Ratio) × AddsTo sum p next × AddToOne next ps)
+-- each action has a probability, which is not negative; if these are added to a sum in their order,
+-- each sum fits, and this is the last one
+abbrev pub AddUpTo : Ratio → List Action → Ratio → Type 0
+AddUpTo sum [] total = sum ≡ total
+AddUpTo sum (a ∷ actions) total = (p next : Ratio) × (a.probability ≡ Some p) × (pos 0 ≤ℤ p.num)
+    × AddsTo sum p next × AddUpTo next actions total
 
--- each action has a probability, and these add up to one
-abbrev pub IsLottery : List Action → Type 0
-IsLottery actions =
-    (probabilities : List Ratio) × (map (λ a. a.probability) actions ≡ map Some probabilities)
-    × AddToOne (whole (pos 0)) probabilities
-
--- the actions of this player; player 0 is chance
+-- the actions of this player; player 0 is chance, whose probabilities add up to one
 abbrev pub AreActions : ℕ → List Action → Type 0
-AreActions zero actions = IsLottery actions
+AreActions zero actions = AddUpTo (whole (pos 0)) actions (whole (pos 1))
 AreActions (suc player) actions = AllByRecursion (λ a. a.probability ≡ None) actions
 
 -- among this many players: a set of one of them or of chance, with a number from 1 and at least one

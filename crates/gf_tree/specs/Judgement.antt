@@ -3,8 +3,7 @@ use Rattle.std.specs.Prelude.{◌≡◌, ℕ, List}
 use Rattle.gf_token.specs.Place.{tokens_of, IsAcceptedThrough, IsOffendingPlace}
 use Rattle.gf_token.specs.declared.fault.Span.{Span}
 use Rattle.gf_token.specs.declared.fault.Why.{Why}
-use Rattle.gf_token.specs.declared.fault.Why.TheVariants.{Memory, TooLong, UnknownOutcome}
-use Rattle.gf_token.specs.declared.fault.Why.TheVariants.{TooManyProfiles}
+use Rattle.gf_token.specs.declared.fault.Why.TheVariants.{Memory}
 use Rattle.gf_tree.specs.Front.{IsExtensiveFile}
 use Rattle.gf_tree.specs.Reason.{IsReason}
 
@@ -13,13 +12,9 @@ pub record IsRefusal (why : Why) (bytes : List ℕ) (span : Span) : Type 0 where
   pub place : IsOffendingPlace IsExtensiveFile bytes span
   pub reason : IsReason why (tokens_of place.before) (tokens_of place.after)
 
--- A refusal, by its reason. Memory is refused only at a place with nothing else to refuse; three
--- reasons belong to strategic files and to programs, and never to an extensive file.
+-- a refusal, by its reason; memory is refused only at a place with nothing else to refuse
 abbrev pub IsJudged : Why → List ℕ → Span → Type 0
 IsJudged Memory bytes span = IsAcceptedThrough IsExtensiveFile bytes span
-IsJudged TooLong bytes span = ⊥
-IsJudged UnknownOutcome bytes span = ⊥
-IsJudged TooManyProfiles bytes span = ⊥
 IsJudged why bytes span = IsRefusal why bytes span
 
 -- a refusal for another reason than lack of memory

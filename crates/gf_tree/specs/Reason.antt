@@ -11,15 +11,16 @@ use Rattle.gf_token.specs.declared.fault.Why.TheVariants.{SumBelowOne, SumOverfl
 use Rattle.gf_fraction.specs.Fits.{SumFits, AddsTo}
 use Rattle.gf_fraction.specs.Ratio.{Ratio, whole}
 use Rattle.gf_fraction.specs.NumberSpelling.{IsNumber}
-use Rattle.gf_tree.specs.Description.{Action, InformationSet, Outcome, SetKey, set_of, set_with}
+use Rattle.gf_tree.specs.Description.{Action, AddUpTo, InformationSet, Outcome, SetKey, set_of}
+use Rattle.gf_tree.specs.Description.{set_with}
 use Rattle.gf_tree.specs.Front.{EndsInNode, BehindSetNumber, InActions, ToProbability, IsNewOutcome}
 use Rattle.gf_tree.specs.Front.{BehindOutcomeNumber, InPayoffs, KnowsSet, IsNewSet, KnowsOutcome}
 use Rattle.gf_tree.specs.Front.{IsExtensiveFile}
 use Rattle.gf_token.specs.Reason as any_format
 use Rattle.gf_token.specs.declared.fault.What.TheVariants as what
 
--- a player's number is due, and the bytes are an index above the number of players; or a node is
--- due, and a player is to move, although there are none
+-- the number of an unknown player; or a player is to move where a node is due, which is refused if
+-- there are no players
 abbrev pub IsUnknownPlayer : List Token → List ℕ → Type 0
 IsUnknownPlayer before bytes = any_format.IsUnknownNumber IsExtensiveFile before bytes
     ⊎ (IsDue IsExtensiveFile before what.Node × (bytes ≡ codes "p"))
@@ -65,13 +66,6 @@ IsMismatch before token =
     (f : EndsInNode before) × (DiffersFromSet f token ⊎ DiffersFromOutcome f token)
 
 -- ---- probabilities
-
--- if the probabilities of these actions are added to a sum in their order, each sum fits, and this
--- is the last one
-abbrev pub AddUpTo : Ratio → List Action → Ratio → Type 0
-AddUpTo sum [] total = sum ≡ total
-AddUpTo sum (a ∷ actions) total = (p next : Ratio) × (a.probability ≡ Some p) × AddsTo sum p next
-    × AddUpTo next actions total
 
 -- the probabilities of the set's actions have this sum
 abbrev pub HasSum : InformationSet → Ratio → Type 0

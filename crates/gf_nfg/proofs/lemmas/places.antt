@@ -2,4 +2,3 @@ pub mod Judged
 pub mod Led
 pub mod Once
 pub mod Reasons
-pub mod Rows

@@ -3,7 +3,7 @@
 use Rattle.gf_canon.proofs.Common.{arith, ◌≡◌, ℕ, List, [], ◌∷◌, ◌++◌, refl, sym, ap, ◌∙◌, inl, inr}
 use Rattle.gf_canon.proofs.Common.{codes, map-append, append-nil, tokens_of, IsAccepted}
 use Rattle.gf_canon.proofs.Common.{IsAcceptedThrough, IsOffendingPlace, Token, Lexeme, Spells, Span}
-use Rattle.gf_canon.proofs.Common.{Why, TooLong, UnknownOutcome, TooManyProfiles, Memory}
+use Rattle.gf_canon.proofs.Common.{Why, TooManyProfiles, Memory}
 use Rattle.gf_canon.proofs.Common.{BeginsWithWord, IsInEitherFormat, IsPlaced}
 use Rattle.gf_nfg.specs.Sentence.{IsStrategicFile}
 use Rattle.gf_tree.specs.Front.{IsExtensiveFile}
@@ -87,15 +87,12 @@ pub extensive_placed : (why : Why) (bytes : List ℕ) (span : Span)
     → BeginsWithWord (codes "EFG") bytes
     → extensive_file.IsJudged why bytes span → IsPlaced why bytes span
 extensive_placed Memory bytes span named h = accepted extensive_within bytes span h
-extensive_placed TooLong bytes span named h = absurd h
-extensive_placed UnknownOutcome bytes span named h = absurd h
-extensive_placed TooManyProfiles bytes span named h = absurd h
+extensive_placed TooManyProfiles bytes span named h = absurd h.reason.0
 extensive_placed _ bytes span named h = offending extensive_within bytes span named h.place
 
 pub strategic_placed : (why : Why) (bytes : List ℕ) (span : Span)
     → BeginsWithWord (codes "NFG") bytes
     → strategic_file.IsJudged why bytes span → IsPlaced why bytes span
 strategic_placed Memory bytes span named h = accepted strategic_within bytes span h.place
-strategic_placed TooLong bytes span named h = absurd h
 strategic_placed TooManyProfiles bytes span named h = h
 strategic_placed _ bytes span named h = offending strategic_within bytes span named h.place

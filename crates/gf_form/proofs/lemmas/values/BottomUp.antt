@@ -8,7 +8,7 @@ use Rattle.gf_form.proofs.Common.{Bool, true, List, ◌++◌, Some, None, refl, 
 use Rattle.gf_form.proofs.Common.{false, length-map, zero_ratio, equal_refl, plus_assoc, times_comm}
 use Rattle.gf_form.proofs.Common.{MatchOption, option_map, MultipliesTo, numbers_from, IsChildValue}
 use Rattle.gf_form.proofs.Common.{MatchBool, unwrap_or, slice_get, one_ratio, all_parts, plays_from}
-use Rattle.gf_form.proofs.Common.{ap, slice_get-map, unwrap_or-slice_get}
+use Rattle.gf_form.proofs.Common.{ap, listed, slice_get-map, unwrap_or-slice_get}
 use Rattle.gf_form.proofs.Common.{subst, times_plus, times_zero, plus_above, plus_right, append-nil}
 use Rattle.gf_form.proofs.Common.{arith, Ratio, times, total, Trees, count, set_at, plays, payoff}
 use Rattle.gf_form.proofs.Common.{filter, get_or, AddsTo, ◌then◌, branch, SetKey, Action, IsGame}
@@ -157,8 +157,8 @@ module _ (g : Game) (game : IsGame g) (spellable : IsSpellable g) where
       (total (map (λ k. probability g (record { node = n; taken = k })) (numbers_from 1 m)))
   chances_add n key m at chance size =
       let set = known (set_at g key) m size in
-      let lottery = subst (λ p. AreActions p set.0.actions) (eqb-true key.player 0 chance)
-      (set_is g game key set.0 set.1).actions in
+      let lottery = listed set.0.actions zero_ratio (subst (λ p. AreActions p set.0.actions)
+      (eqb-true key.player 0 chance) (set_is g game key set.0 set.1).actions) in
       let ps = lottery.0 in
       let f = λ (k : ℕ). probability g (record { node = n; taken = k }) in
       let as_many : length ps ≡ m = cc (

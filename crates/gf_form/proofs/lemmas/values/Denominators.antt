@@ -3,15 +3,15 @@
 use Rattle.gf_form.proofs.Common.{option_and_then, AllByRecursion, whole_fraction, play_probability}
 use Rattle.gf_form.proofs.Common.{total_above, at_position, IsSpellable, probability, unsigned_abs}
 use Rattle.gf_form.proofs.Common.{Some, IsFraction, zero_ratio, outcome_at, play_payoff, chances_at}
-use Rattle.gf_form.proofs.Common.{Action, IsAbove, SetKey, same_set, action_at, payoff_at, AddToOne}
-use Rattle.gf_form.proofs.Common.{ℕ, arith, ◌==◌, Node, set_at, length, subst, Ratio, IsSet, IsGame}
-use Rattle.gf_form.proofs.Common.{◌≡◌, ⊤, Game, Step, Play, pos, List, ◌∷◌, map, ap, drop, ints}
+use Rattle.gf_form.proofs.Common.{Action, IsAbove, SetKey, same_set, action_at, payoff_at, ℕ, arith}
+use Rattle.gf_form.proofs.Common.{◌==◌, Node, set_at, length, subst, Ratio, IsSet, IsGame, ◌≡◌, ⊤}
+use Rattle.gf_form.proofs.Common.{Game, Step, Play, pos, List, [], ◌∷◌, ints}
 use Rattle.gf_fraction.proofs.Rationals.{ratio_product_above}
 use Rattle.gf_tree.specs.Spellable.{IsSpellableAction, IsSpellableSet, IsSpellableOutcome}
 use Rattle.gf_form.proofs.lemmas.strategies.Lookups.{Each, each_described, each_then, each_weaker}
 use Rattle.gf_form.proofs.lemmas.strategies.Lookups.{each_at, each_or}
 use Rattle.std.specs.Prelude.{◌≤ℤ◌}
-use Rattle.gf_tree.specs.Description.{AreActions, IsLottery}
+use Rattle.gf_tree.specs.Description.{AddUpTo, AreActions}
 use Rattle.gf_form.proofs.lemmas.strategies.KnownSets.{each_set}
 
 -- what is so of the actions of a node's set is so of the one that is taken there
@@ -69,12 +69,11 @@ IsNotNegative r = pos 0 ≤ℤ r.num
 abbrev HasSign : Action → Type 0
 HasSign a = Each IsNotNegative a.probability
 
-lottery_signs : (actions : List Action) (ps : List Ratio) (sum : Ratio)
-    → map (λ a. a.probability) actions ≡ map Some ps → AddToOne sum ps
+lottery_signs : (actions : List Action) (sum total : Ratio) → AddUpTo sum actions total
     → AllByRecursion HasSign actions
-lottery_signs (a ∷ actions) (p ∷ ps) sum e adds =
-    grind (arith, lottery_signs actions ps adds.1.0 (ap (drop 1) e) adds.1.2, ints)
-lottery_signs actions ps sum e adds = grind arith
+lottery_signs [] sum total adds = tt
+lottery_signs (a ∷ actions) sum total adds =
+    (rw adds.2 adds.3, lottery_signs actions adds.1 total adds.5)
 
 sign_sets : (g : Game) → IsGame g → (key : SetKey) → key.player ≡ 0
     → Each (λ set. AllByRecursion HasSign set.actions) (set_at g key)
@@ -82,9 +81,7 @@ sign_sets g game key chance =
     each_weaker (IsSet (length g.players) key) (λ set. AllByRecursion HasSign set.actions)
     (set_at g key)
     (λ set is.
-    let lottery : IsLottery set.actions =
-    subst (λ p. AreActions p set.actions) chance is.actions in
-    lottery_signs set.actions lottery.0 _ lottery.1 lottery.2)
+    lottery_signs set.actions _ _ (subst (λ p. AreActions p set.actions) chance is.actions))
     (each_set g game key)
 
 pub chance_size : (g : Game) → IsGame g → (n : Node) (key : SetKey) (k : ℕ) → n.set ≡ Some key

@@ -208,7 +208,8 @@ module _ (bytes : List ℕ) (before : List Lexeme) (s : State) (h : Leads (token
   at_step l ls span why (Err other) whole spelled place is e =
       let same : other ≡ why = cc in
       subst (λ (w : Why). IsRefused w bytes span) same (refusal (l ∷ ls) span other other spelled
-      place is (reason (tokens_of before) s h (tokens_of ls) l.token other whole is))
+      place is
+      (reason (tokens_of before) s.position s.content h (tokens_of ls) l.token other whole is))
 
   at_token : (start end : ℕ) (t : Token) (ls : List Lexeme) (span : Span) (why : Why)
       → Spells 0 bytes (before ++ lexeme start end t ∷ ls)
@@ -218,7 +219,8 @@ module _ (bytes : List ℕ) (before : List Lexeme) (s : State) (h : Leads (token
       let same : Unterminated ≡ why = cc in
       let b = broken_refused s in
       subst (λ (w : Why). IsRefused w bytes span) same (refusal (lexeme start end Broken ∷ ls) span
-      b.0 Unterminated spelled place b.1 (broken_reason (tokens_of before) s h (tokens_of ls)))
+      b.0 Unterminated spelled place b.1
+      (broken_reason (tokens_of before) s.position s.content h (tokens_of ls)))
   at_token start end t ls span why spelled place e =
       at_step (lexeme start end t) ls span why (step s t) tt spelled place refl e
 
@@ -228,7 +230,7 @@ module _ (bytes : List ℕ) (before : List Lexeme) (s : State) (h : Leads (token
   stopped_at [] span why spelled place stops =
       let e = end_refused s.content (due_at s.position) why stops in
       rw e (refusal [] span why (Expected (due_at s.position)) spelled place stops
-      (end_reason (tokens_of before) s h (due_at s.position) refl))
+      (end_reason (tokens_of before) s.position s.content h (due_at s.position) refl))
   stopped_at (l ∷ ls) span why spelled place stops =
       at_token l.start l.end l.token ls span why spelled place stops
 

@@ -1,28 +1,194 @@
--- What a row accepts tells what is due there. So the code of each refusal is the reason for it.
-use Rattle.gf_nfg.proofs.Common.{Applies, BadIndex, Bare, Begins, Bool, Broken, Closing, Err}
-use Rattle.gf_nfg.proofs.Common.{Expected, HasNumberFault, IndexIsDue, IsDue, IsIndex, IsNumber}
-use Rattle.gf_nfg.proofs.Common.{IsPositive, IsReason, IsStrategicFile, List, MayFollow}
+-- The table of positions: what each row accepts and how it refuses the rest, and that the machine
+-- does so. What a row accepts tells what is due there, so the code of each refusal is the reason
+-- for it.
+use Rattle.gf_nfg.proofs.Common.{Applies, BadIndex, Bare, Begins, Bool, Broken, Closing, Comma}
+use Rattle.gf_nfg.proofs.Common.{Content, Err, Expected, HasNumberFault, IndexIsDue, IsDue, IsIndex}
+use Rattle.gf_nfg.proofs.Common.{IsNumber, IsPositive, IsReason, IsStrategicFile, List, MayFollow}
 use Rattle.gf_nfg.proofs.Common.{NoEntry, None, NotANumber, NumberFault, NumberIsDue, Ok, Opening}
-use Rattle.gf_nfg.proofs.Common.{Option, Position, Ratio, Result, Some, State, TakesLabels, Text}
-use Rattle.gf_nfg.proofs.Common.{Token, UnknownOutcome, Unterminated, What, Why, ZeroDenominator}
-use Rattle.gf_nfg.proofs.Common.{[], ap, arith, code_of, codes, due_at, ended, false}
+use Rattle.gf_nfg.proofs.Common.{Option, Position, Ratio, Reads, Result, Some, State, TakesLabels}
+use Rattle.gf_nfg.proofs.Common.{Text, Token, UnknownOutcome, Unterminated, What, Why}
+use Rattle.gf_nfg.proofs.Common.{ZeroDenominator, [], ap, arith, at, chosen, code_of, codes}
+use Rattle.gf_nfg.proofs.Common.{count_again, count_is, count_of, counted, due_at, ended, false}
 use Rattle.gf_nfg.proofs.Common.{false_from_ne_true, finish, gcd_within, index_again, index_is}
-use Rattle.gf_nfg.proofs.Common.{index_of, inl, inr, length, lowest_of, map, number_again}
-use Rattle.gf_nfg.proofs.Common.{number_is, number_of, p, refl, same_fault, start, step}
-use Rattle.gf_nfg.proofs.Common.{subst, suc, true, why_of, ℕ, ◌++◌, ◌+◌, ◌<◌, ◌↔◌, ◌∙◌, ◌∷◌}
-use Rattle.gf_nfg.proofs.Common.{◌≡◌, ◌≢◌, ◌≤◌, ◌⊎◌}
+use Rattle.gf_nfg.proofs.Common.{index_of, inl, inr, is_ok, length, lowest_of, map, nat_eq}
+use Rattle.gf_nfg.proofs.Common.{nat_tests, number_again, number_is, number_is_computed, number_of}
+use Rattle.gf_nfg.proofs.Common.{p, paid, pointwise, refl, same_fault, start, step, step_at, subst}
+use Rattle.gf_nfg.proofs.Common.{suc, sym, true, why_of, zero, ℕ, ◌++◌, ◌+◌, ◌<◌, ◌||◌, ◌↔◌, ◌∙◌}
+use Rattle.gf_nfg.proofs.Common.{◌∷◌, ◌≡◌, ◌≢◌, ◌≤◌, ◌⊎◌}
 use Rattle.gf_nfg.proofs.lemmas.places.Led.{is_reader}
-use Rattle.gf_nfg.proofs.lemmas.places.Rows.{AcceptsBare, Accepts, AsRow, Refuses, RefusesBare}
-use Rattle.gf_nfg.proofs.lemmas.places.Rows.{RefusesClosing, Role, Row, answers, labels_follow}
-use Rattle.gf_nfg.proofs.lemmas.places.Rows.{no_texts_follow, row_at, two_texts, unfilled}
-use Rattle.gf_nfg.proofs.lemmas.places.Rows.Role.{Count, Format, Letter, OutcomeNumber, Payoff}
-use Rattle.gf_nfg.proofs.lemmas.places.Rows.Role.{Version}
-use Rattle.gf_nfg.proofs.lemmas.runs.Common.{Leads, walk}
-use Rattle.gf_nfg.proofs.lemmas.runs.Ends.{zero_number}
 use Rattle.gf_token.proofs.Reading.{begins, follows, not_accepted, stops}
 use Rattle.gf_token.proofs.Walks.{run_whole, then_ok, walk_on}
+use Rattle.gf_nfg.proofs.lemmas.runs.Common.{same_bytes, Leads, walk}
+use Rattle.gf_nfg.proofs.lemmas.runs.Ends.{zero_number}
+use Rattle.gf_nfg.proofs.lemmas.runs.Strategies.{labels_walk}
 use Rattle.gf_token.specs.declared.fault.What.TheVariants as what
 use Rattle.gf_fraction.specs.declared.fraction.NumberFault.TheVariants as number
+
+-- what a bare token is in a file: one of its first three tokens, a count of strategies, a payoff,
+-- or the number of one of this many outcomes
+pub data Role : Type 0 where
+  Format : Role
+  Version : Role
+  Letter : Role
+  Count : Role
+  Payoff : Role
+  OutcomeNumber : ℕ → Role
+
+-- the bytes can be a token in this role
+abbrev pub Suits : Role → List ℕ → Type 0
+Suits Format bytes = bytes ≡ codes "NFG"
+Suits Version bytes = bytes ≡ codes "1"
+Suits Letter bytes = (bytes ≡ codes "R") ⊎ (bytes ≡ codes "D")
+Suits Count bytes = (n : ℕ) × IsPositive bytes n
+Suits Payoff bytes = (n : Ratio) × IsNumber bytes n
+Suits (OutcomeNumber outcomes) bytes = (n : ℕ) × IsIndex bytes n × (n ≤ outcomes)
+
+-- Which tokens a row accepts, bare ones by their role.
+pub record Row : Type 0 where
+  pub opening : Bool
+  pub closing : Bool
+  pub comma : Bool
+  pub text : Bool
+  pub bare : Option Role
+
+abbrev pub none : Row
+none = record { opening = false; closing = false; comma = false; text = false; bare = None }
+
+abbrev pub only : Role → Row
+only role = record none { bare = Some role }
+
+abbrev a_text : Row
+a_text = record none { text = true }
+
+abbrev an_opening : Row
+an_opening = record none { opening = true }
+
+abbrev a_closing : Row
+a_closing = record none { closing = true }
+
+-- without players no payoff is due
+abbrev a_body : ℕ → Row
+a_body zero = an_opening
+a_body (suc left) = record an_opening { bare = Some Payoff }
+
+-- a closing brace would leave a list of labels empty
+abbrev pub unfilled : Position → Bool
+unfilled (p.InList left zero) = true
+unfilled _ = false
+
+-- the row of a position
+abbrev pub row_at : Position → Row
+row_at p.Format = only Format
+row_at p.Version = only Version
+row_at p.Letter = only Letter
+row_at p.Title = a_text
+row_at p.BeforePlayers = an_opening
+row_at p.InPlayers = record a_text { closing = true }
+row_at p.BeforeStrategies = an_opening
+row_at (p.FirstStrategies zero) = a_closing
+row_at (p.FirstStrategies (suc left)) = record an_opening { bare = Some Count }
+row_at (p.Counts zero) = a_closing
+row_at (p.Counts (suc left)) = only Count
+row_at (p.BeforeList zero) = a_closing
+row_at (p.BeforeList (suc left)) = an_opening
+row_at (p.InList left zero) = a_text
+row_at (p.InList left (suc labels)) = record a_text { closing = true }
+row_at (p.AfterStrategies left) = record (a_body left) { text = true }
+row_at (p.AfterComment left) = a_body left
+row_at (p.FlatPayoffs zero) = none
+row_at (p.FlatPayoffs (suc left)) = only Payoff
+row_at (p.InOutcomes outcomes) = record an_opening { closing = true }
+row_at (p.OutcomeName outcomes) = a_text
+row_at (p.BracedPayoff outcomes zero) = a_closing
+row_at (p.BracedPayoff outcomes (suc left)) = only Payoff
+row_at (p.AfterBracedPayoff outcomes zero) = record a_closing { comma = true }
+row_at (p.AfterBracedPayoff outcomes (suc left)) = record (only Payoff) { comma = true }
+row_at (p.OutcomeNumbers outcomes zero) = none
+row_at (p.OutcomeNumbers outcomes (suc left)) = only (OutcomeNumber outcomes)
+
+abbrev pub AcceptsBare : Option Role → List ℕ → Type 0
+AcceptsBare None bytes = false ≡ true
+AcceptsBare (Some role) bytes = Suits role bytes
+
+abbrev pub Accepts : Row → Token → Type 0
+Accepts row Opening = row.opening ≡ true
+Accepts row Closing = row.closing ≡ true
+Accepts row Comma = row.comma ≡ true
+Accepts row (Text label) = row.text ≡ true
+Accepts row (Bare bytes) = AcceptsBare row.bare bytes
+Accepts row Broken = false ≡ true
+
+abbrev pub RefusesBare : Option Role → What → List ℕ → Why → Type 0
+RefusesBare (Some Payoff) expected bytes why =
+    (fault : NumberFault) × (why ≡ why_of fault) × HasNumberFault bytes fault
+RefusesBare (Some Count) expected bytes why = why ≡ BadIndex
+RefusesBare (Some (OutcomeNumber outcomes)) expected bytes why =
+    ((why ≡ BadIndex) × ((n : ℕ) → ¬ (IsIndex bytes n)))
+    ⊎ ((why ≡ UnknownOutcome) × ((n : ℕ) × IsIndex bytes n × (outcomes < n)))
+RefusesBare _ expected bytes why = why ≡ Expected expected
+
+abbrev pub RefusesClosing : Bool → What → Why → Type 0
+RefusesClosing true expected why = why ≡ NoEntry
+RefusesClosing false expected why = why ≡ Expected expected
+
+abbrev pub Refuses : Position → Token → Why → Type 0
+Refuses q (Bare bytes) why = RefusesBare (row_at q).bare (due_at q) bytes why
+Refuses q Closing why = RefusesClosing (unfilled q) (due_at q) why
+Refuses q _ why = why ≡ Expected (due_at q)
+
+-- a token goes on or is refused, as its row says
+abbrev pub AsRow : Type 0 → (Why → Type 0) → Result State Why → Type 0
+AsRow accepts refuses (Ok after) = accepts
+AsRow accepts refuses (Err why) = ¬ accepts × refuses why
+
+-- ---- what bare tokens are answered
+
+same_word : (b word : List ℕ) → pointwise nat_eq word word ≡ true → b ≡ word
+    → pointwise nat_eq b word ≡ true
+same_word b word h e = subst (λ (x : List ℕ). pointwise nat_eq x word ≡ true) (sym e) h
+
+letter_again : (b : List ℕ) → Suits Letter b
+    → (pointwise nat_eq b (codes "R") || pointwise nat_eq b (codes "D")) ≡ true
+letter_again b h = grind (arith, same_word)
+
+counted_by : (left : ℕ) (c : Content) (b : List ℕ) (o : Option ℕ) → count_of b ≡ o
+    → AsRow (Suits Count b) (λ why. why ≡ BadIndex) (counted left c o)
+counted_by left c b o e = grind (arith, count_is b, count_again b)
+
+paid_by : (q : Position) (c : Content) (b : List ℕ) (o : Result Ratio NumberFault) → number_of b ≡ o
+    → AsRow (Suits Payoff b) (RefusesBare (Some Payoff) what.Number b) (paid q c o)
+paid_by q c b (Ok n) e = (n, number_is b n e)
+paid_by q c b (Err fault) e = (
+  λ suits. let f = number_again b suits.0 suits.1 in absurd cc,
+  (fault, refl, subst (Reads b) e (number_is_computed b)),
+)
+
+chosen_by : (outcomes left : ℕ) (c : Content) (b : List ℕ) (o : Option ℕ) → index_of b ≡ o
+    → AsRow (Suits (OutcomeNumber outcomes) b)
+    (RefusesBare (Some (OutcomeNumber outcomes)) what.Index b) (chosen outcomes left c o)
+chosen_by outcomes left c b o e = grind (arith, nat_tests, index_is b, index_again b)
+
+-- ---- the machine's answers
+
+pub answers : (q : Position) (c : Content) (t : Token)
+    → AsRow (Accepts (row_at q) t) (Refuses q t) (step_at q c t)
+answers p.Format c (Bare b) = grind (arith, same_bytes, same_word)
+answers p.Version c (Bare b) = grind (arith, same_bytes, same_word)
+answers p.Letter c (Bare b) = grind (arith, same_bytes, letter_again)
+answers (p.FirstStrategies (suc left)) c (Bare b) = counted_by left c b (count_of b) refl
+answers (p.Counts (suc left)) c (Bare b) = counted_by left c b (count_of b) refl
+answers (p.AfterStrategies (suc left)) c (Bare b) =
+    paid_by (p.FlatPayoffs left) c b (number_of b) refl
+answers (p.AfterComment (suc left)) c (Bare b) =
+    paid_by (p.FlatPayoffs left) c b (number_of b) refl
+answers (p.FlatPayoffs (suc left)) c (Bare b) = paid_by (p.FlatPayoffs left) c b (number_of b) refl
+answers (p.BracedPayoff outcomes (suc left)) c (Bare b) =
+    paid_by (p.AfterBracedPayoff outcomes left) c b (number_of b) refl
+answers (p.AfterBracedPayoff outcomes (suc left)) c (Bare b) =
+    paid_by (p.AfterBracedPayoff outcomes left) c b (number_of b) refl
+answers (p.OutcomeNumbers outcomes (suc left)) c (Bare b) =
+    chosen_by outcomes left c b (index_of b) refl
+answers q c t = grind arith
 
 -- ---- what is due
 
@@ -32,29 +198,12 @@ IsIndexed (Some Count) = Unit {0}
 IsIndexed (Some (OutcomeNumber outcomes)) = Unit {0}
 IsIndexed _ = ⊥
 
--- this is due in a row, after this many tokens
-abbrev pub Names : Row → ℕ → What → Type 0
-Names row n what.Format = n ≡ 0
-Names row n what.Version = n ≡ 1
-Names row n what.Letter = n ≡ 2
-Names row n what.Text = row.text ≡ true
-Names row n what.Opening = row.opening ≡ true
-Names row n what.Closing = row.closing ≡ true
-Names row n what.Number = row.bare ≡ Some Payoff
-Names row n what.Index = IsIndexed row.bare
-Names row n what.Strategies = IsIndexed row.bare × (row.opening ≡ true)
-Names row n what.Node = ⊥
-Names row n what.End = Unit {0}
-
 -- the position comes after this many tokens
 abbrev pub IsAfter : Position → ℕ → Type 0
 IsAfter p.Format n = n ≡ 0
 IsAfter p.Version n = n ≡ 1
 IsAfter p.Letter n = n ≡ 2
 IsAfter _ n = 2 < n
-
-named_at : (q : Position) (n : ℕ) → IsAfter q n → Names (row_at q) n (due_at q)
-named_at q n h = grind arith
 
 step_after : (s after : State) (t : Token) (n : ℕ) → step s t ≡ Ok after → IsAfter s.position n
     → IsAfter after.position (suc n)
@@ -69,9 +218,6 @@ walk_after [] s after n m size e h =
 walk_after (t ∷ ts) s after n m size e h =
     let k = then_ok (step s t) (λ x. walk x ts) after e in
     walk_after ts k.0 after (suc n) m (omega (arith, size)) k.2 (step_after s k.0 t n k.1 h)
-
-abbrev pub row_of : State → Row
-row_of s = row_at s.position
 
 -- an unterminated text is refused in each state
 pub broken_refused : (s : State) → (why : Why) × (step s Broken ≡ Err why)
@@ -95,26 +241,43 @@ computed : (number_of signed_text ≡ Ok zero_number) × (index_of signed_text �
 unfolding number_of lowest_of gcd_within index_of
 computed = (refl, refl, refl, refl, refl)
 
-no_number : (b word : List ℕ) (n : Ratio) → Unread word → b ≡ word → ¬ (IsNumber b n)
-no_number b word n none e is = let f = number_again b n is in absurd cc
-
 -- what is a number and not an index can only be a payoff
 only_payoff : (o : Option Role) (b : List ℕ) (n : Ratio) → AcceptsBare o b → IsNumber b n
     → ((k : ℕ) → ¬ (IsIndex b k)) → o ≡ Some Payoff
-only_payoff None b n a is none = absurd cc
-only_payoff (Some Format) b n a is none = absurd (no_number b (codes "NFG") n unread.0 a is)
-only_payoff (Some Version) b n a is none =
-    absurd (none 1 (rw a (index_is (codes "1") 1 computed.2)))
-only_payoff (Some Letter) b n (inl a) is none = absurd (no_number b (codes "R") n unread.1 a is)
-only_payoff (Some Letter) b n (inr a) is none = absurd (no_number b (codes "D") n unread.2 a is)
-only_payoff (Some Count) b n a is none = absurd (none a.0 a.1.0)
-only_payoff (Some Payoff) b n a is none = refl
-only_payoff (Some (OutcomeNumber outcomes)) b n a is none = absurd (none a.0 a.1)
+only_payoff o b n a is none =
+    let f = number_again b n is in
+    let one = index_is (codes "1") 1 computed.2 in
+    let words = unread in
+    grind (arith, one, words)
 
 -- no word begins with 0
 no_word : (o : Option Role) (more : List ℕ) → AcceptsBare o (codes "0" ++ more)
     → (o ≡ Some Payoff) ⊎ IsIndexed o
 no_word o more a = grind arith
+
+-- each index may begin with 0
+from_zero : (o : Option Role) → IsIndexed o → (more : List ℕ) × AcceptsBare o (codes "0" ++ more)
+from_zero (Some Count) i =
+    (codes "1", (1, (index_is (codes "01") 1 computed.3, omega arith)))
+from_zero (Some (OutcomeNumber outcomes)) i =
+    (codes "0", (0, index_is (codes "00") 0 computed.4, omega arith))
+from_zero _ i = absurd i
+
+-- ---- texts after a refused brace
+
+-- if a brace would leave a list empty, any labels may follow
+pub labels_follow : (q : Position) (c : Content) → unfilled q ≡ true → (labels : List (List ℕ))
+    → (after : State) × (walk (at q c) (map Text labels) ≡ Ok after)
+labels_follow (p.InList left zero) c e labels = (_, labels_walk labels left 0 c)
+labels_follow _ c e labels = absurd cc
+
+abbrev pub two_texts : List Token
+two_texts = Text [] ∷ Text [] ∷ []
+
+-- otherwise, no two texts may follow
+pub no_texts_follow : (q : Position) (c : Content) → (row_at q).closing ≡ false
+    → unfilled q ≡ false → is_ok (walk (at q c) two_texts) ≡ false
+no_texts_follow q c e f = grind arith
 
 -- ---- what may follow
 
@@ -123,88 +286,60 @@ abbrev pub IsWhole : Token → Type 0
 IsWhole Broken = ⊥
 IsWhole token = Unit {0}
 
--- limits aside, after tokens that lead to a state
-module _ (ts : List Token) (s : State) (h : Leads ts s) where
-  answered : (token : Token) (o : Result State Why) → step s token ≡ o
-      → AsRow (Accepts (row_of s) token) (Refuses s.position token) o
-      → MayFollow IsStrategicFile ts token ↔ Accepts (row_of s) token
-  answered token (Ok after) e a = (λ f. a, λ accepts. follows is_reader ts token s after h e)
+-- limits aside, after tokens that lead to a position
+module _ (ts : List Token) (q : Position) (c : Content) (h : Leads ts (at q c)) where
+  answered : (token : Token) (o : Result State Why) → step_at q c token ≡ o
+      → AsRow (Accepts (row_at q) token) (Refuses q token) o
+      → MayFollow IsStrategicFile ts token ↔ Accepts (row_at q) token
+  answered token (Ok after) e a = (λ f. a, λ accepts. follows is_reader ts token (at q c) after h e)
   answered token (Err why) e a = (
-    λ f. absurd (not_accepted is_reader ts (token ∷ []) s why h e f),
+    λ f. absurd (not_accepted is_reader ts (token ∷ []) (at q c) why h e f),
     λ accepts. absurd (a.0 accepts),
   )
 
   -- a token may follow exactly when its row accepts it
   pub may_follow : (token : Token)
-      → MayFollow IsStrategicFile ts token ↔ Accepts (row_of s) token
-  may_follow token =
-      answered token (step s token) refl (answers s.position s.content token)
-
-  follows_as : (o : Option Role) → (row_of s).bare ≡ o → (b : List ℕ) → AcceptsBare o b
-      → MayFollow IsStrategicFile ts (Bare b)
-  follows_as o e b a = (may_follow (Bare b)).1 (rw e a)
+      → MayFollow IsStrategicFile ts token ↔ Accepts (row_at q) token
+  may_follow token = answered token (step_at q c token) refl (answers q c token)
 
   -- a number is due exactly in the rows of payoffs
-  number_due : (row_of s).bare ≡ Some Payoff → NumberIsDue IsStrategicFile ts
+  number_due : (row_at q).bare ≡ Some Payoff → NumberIsDue IsStrategicFile ts
   number_due e =
-      let is = number_is signed_text zero_number computed.0 in (
-        signed_text,
-        zero_number,
-        follows_as (Some Payoff) e signed_text (zero_number, is),
-        is,
-        λ n k. let f = index_again signed_text n k in let g = computed.1 in absurd cc,
-      )
+      let is = number_is signed_text zero_number computed.0 in
+      let f = index_again signed_text in
+      let may = (may_follow (Bare signed_text)).1 (rw e (zero_number, is)) in
+      (signed_text, zero_number, may, is, λ n k. let g = f n k in let i = computed.1 in absurd cc)
 
-  is_payoff : NumberIsDue IsStrategicFile ts → (row_of s).bare ≡ Some Payoff
-  is_payoff d = only_payoff (row_of s).bare d.0 d.1 ((may_follow (Bare d.0)).0 d.2) d.3 d.4
+  is_payoff : NumberIsDue IsStrategicFile ts → (row_at q).bare ≡ Some Payoff
+  is_payoff d = only_payoff (row_at q).bare d.0 d.1 ((may_follow (Bare d.0)).0 d.2) d.3 d.4
 
   -- and an index in those of counts and of outcome numbers
-  index_due : (o : Option Role) → (row_of s).bare ≡ o → IsIndexed o → IndexIsDue IsStrategicFile ts
-  index_due (Some Count) e i = (
-    (
-      codes "1",
-      follows_as (Some Count) e (codes "01")
-          (1, (index_is (codes "01") 1 computed.3, omega arith)),
-    ),
-    λ d. let f = is_payoff d in absurd cc,
-  )
-  index_due (Some (OutcomeNumber outcomes)) e i = (
-    (
-      codes "0",
-      follows_as (Some (OutcomeNumber outcomes)) e (codes "00")
-          (0, index_is (codes "00") 0 computed.4, omega arith),
-    ),
-    λ d. let f = is_payoff d in absurd cc,
-  )
-  index_due _ e i = absurd i
+  index_due : IsIndexed (row_at q).bare → IndexIsDue IsStrategicFile ts
+  index_due i =
+      let k = from_zero (row_at q).bare i in (
+        (k.0, (may_follow (Bare (codes "0" ++ k.0))).1 k.1),
+        λ d. let payoff = is_payoff d in absurd (subst IsIndexed payoff i),
+      )
 
-  is_indexed : IndexIsDue IsStrategicFile ts → IsIndexed (row_of s).bare
+  is_indexed : IndexIsDue IsStrategicFile ts → IsIndexed (row_at q).bare
   is_indexed d =
-      elim (no_word (row_of s).bare d.0.0 ((may_follow (Bare (codes "0" ++ d.0.0))).0 d.0.1)) [
+      elim (no_word (row_at q).bare d.0.0 ((may_follow (Bare (codes "0" ++ d.0.0))).0 d.0.1)) [
         | inl e ↦ absurd (d.1 (number_due e))
         | inr i ↦ i
       ]
 
-  named_is_due : (w : What) → Names (row_of s) (length ts) w → due_at s.position ≡ w
-      → IsDue IsStrategicFile ts w
-  named_is_due what.Format n e = n
-  named_is_due what.Version n e = n
-  named_is_due what.Letter n e = n
-  named_is_due what.Text n e = ([], (may_follow (Text [])).1 n)
-  named_is_due what.Opening n e = (may_follow Opening).1 n
-  named_is_due what.Closing n e = (may_follow Closing).1 n
-  named_is_due what.Number n e = number_due n
-  named_is_due what.Index n e = index_due (row_of s).bare refl n
-  named_is_due what.Strategies n e =
-      (index_due (row_of s).bare refl n.0, (may_follow Opening).1 n.1)
-  named_is_due what.Node n e = absurd n
-  named_is_due what.End n e =
-      is_reader.is_file ts s.content
-      (run_whole step finish ts start s h ∙ ap (ended s.content) e)
+  text_due : (row_at q).text ≡ true → IsDue IsStrategicFile ts what.Text
+  text_due e = ([], (may_follow (Text [])).1 e)
 
-  expected_is_due : IsDue IsStrategicFile ts (due_at s.position)
-  expected_is_due = named_is_due (due_at s.position)
-      (named_at s.position (length ts) (walk_after ts start s 0 (length ts) (omega arith) h refl)) refl
+  end_due : due_at q ≡ what.End → IsStrategicFile ts
+  end_due e = is_reader.is_file ts c (run_whole step finish ts start (at q c) h ∙ ap (ended c) e)
+
+  expected_is_due : IsDue IsStrategicFile ts (due_at q)
+  expected_is_due =
+      let after = walk_after ts start (at q c) 0 (length ts) (omega arith) h refl in
+      let opening = may_follow Opening in
+      let closing = may_follow Closing in
+      grind (arith, after, text_due, opening, closing, number_due, index_due, end_due)
 
   -- ---- the lowest code
 
@@ -237,34 +372,34 @@ module _ (ts : List Token) (s : State) (h : Leads ts s) where
     pub broken_reason : IsReason Unterminated ts (Broken ∷ after)
     broken_reason = (tt, λ other g. grind arith)
 
-    expected_reason : (t : Token) (why : Why) → why ≡ Expected (due_at s.position)
+    expected_reason : (t : Token) (why : Why) → why ≡ Expected (due_at q)
         → ((other : Why) → ¬ (Applies other ts (t ∷ after))) → IsReason why ts (t ∷ after)
     expected_reason t why e none = rw e (expected_is_due, none)
 
     -- in a row that expects no number
-    word_reason : (b : List ℕ) (why : Why) → (row_of s).bare ≢ Some Payoff
-        → ¬ (IsIndexed (row_of s).bare) → why ≡ Expected (due_at s.position)
+    word_reason : (b : List ℕ) (why : Why) → (row_at q).bare ≢ Some Payoff
+        → ¬ (IsIndexed (row_at q).bare) → why ≡ Expected (due_at q)
         → IsReason why ts (Bare b ∷ after)
     word_reason b why z i e = expected_reason (Bare b) why e (λ other g.
         let number = λ (d : NumberIsDue IsStrategicFile ts). z (is_payoff d) in
         let index = λ (d : IndexIsDue IsStrategicFile ts). i (is_indexed d) in
         grind (arith, number, index))
 
-    bare_reason : (b : List ℕ) (why : Why) (o : Option Role) → (row_of s).bare ≡ o
-        → ¬ (AcceptsBare o b) → RefusesBare o (due_at s.position) b why
+    bare_reason : (b : List ℕ) (why : Why) (o : Option Role) → (row_at q).bare ≡ o
+        → ¬ (AcceptsBare o b) → RefusesBare o (due_at q) b why
         → IsReason why ts (Bare b ∷ after)
     bare_reason b why (Some Count) e n r =
-        let due = index_due (Some Count) e tt in
+        let due = index_due (rw e tt) in
         rw r ((due, λ m k. n (m, k)), lowest_index b due.1)
     bare_reason b why (Some Payoff) e n r =
         let due = number_due e in
         let lowest = lowest_number b r.0 r.2 in
         grind (arith, r)
     bare_reason b why (Some (OutcomeNumber outcomes)) e n (inl r) =
-        let due = index_due (Some (OutcomeNumber outcomes)) e tt in
+        let due = index_due (rw e tt) in
         rw r.0 ((due, λ m k. r.1 m k.0), lowest_index b due.1)
     bare_reason b why (Some (OutcomeNumber outcomes)) e n (inr r) =
-        let due = index_due (Some (OutcomeNumber outcomes)) e tt in
+        let due = index_due (rw e tt) in
         let above = r.1.2 in
         let is : IsPositive b r.1.0 = (r.1.1, omega (arith, above)) in
         rw r.0 ((due, (r.1.0, is)), lowest_outcome b r.1.0 due.1 is)
@@ -276,37 +411,37 @@ module _ (ts : List Token) (s : State) (h : Leads ts s) where
     none_of_closing stop NoEntry g = stop (g ([] ∷ [] ∷ []))
     none_of_closing stop _ g = absurd g
 
-    closing_reason : (why : Why) (empty : Bool) → unfilled s.position ≡ empty
-        → ¬ ((row_of s).closing ≡ true) → RefusesClosing empty (due_at s.position) why
+    closing_reason : (why : Why) (empty : Bool) → unfilled q ≡ empty
+        → ¬ ((row_at q).closing ≡ true) → RefusesClosing empty (due_at q) why
         → IsReason why ts (Closing ∷ after)
     closing_reason why true e n r =
         let takes : TakesLabels ts =
         λ labels.
-        let w = labels_follow s.position s.content e labels in
+        let w = labels_follow q c e labels in
         begins is_reader (ts ++ map Text labels) w.0
-        (walk_on step ts (map Text labels) start s w.0 h w.1) in
+        (walk_on step ts (map Text labels) start (at q c) w.0 h w.1) in
         rw r (takes, lowest_entry)
     closing_reason why false e n r =
-        let none = stops is_reader ts two_texts s h
-        (no_texts_follow s.position s.content (false_from_ne_true (row_of s).closing n) e) in
+        let none = stops is_reader ts two_texts (at q c) h
+        (no_texts_follow q c (false_from_ne_true (row_at q).closing n) e) in
         expected_reason Closing why r (none_of_closing none)
 
-    refused_reason : (t : Token) (why : Why) → IsWhole t → ¬ (Accepts (row_of s) t)
-        → Refuses s.position t why → IsReason why ts (t ∷ after)
-    refused_reason Closing why w n r = closing_reason why (unfilled s.position) refl n r
-    refused_reason (Bare b) why w n r = bare_reason b why (row_of s).bare refl n r
+    refused_reason : (t : Token) (why : Why) → IsWhole t → ¬ (Accepts (row_at q) t)
+        → Refuses q t why → IsReason why ts (t ∷ after)
+    refused_reason Closing why w n r = closing_reason why (unfilled q) refl n r
+    refused_reason (Bare b) why w n r = bare_reason b why (row_at q).bare refl n r
     refused_reason Broken why w n r = absurd w
     refused_reason t why w n r = expected_reason t why r (λ other g. grind arith)
 
-    pub reason : (t : Token) (why : Why) → IsWhole t → step s t ≡ Err why
+    pub reason : (t : Token) (why : Why) → IsWhole t → step_at q c t ≡ Err why
         → IsReason why ts (t ∷ after)
     reason t why whole e =
-        let a = subst (AsRow (Accepts (row_of s) t) (Refuses s.position t)) e
-        (answers s.position s.content t) in
+        let a = subst (AsRow (Accepts (row_at q) t) (Refuses q t)) e
+        (answers q c t) in
         refused_reason t why whole a.0 a.1
 
   -- ---- the end
 
-  pub end_reason : (expected : What) → due_at s.position ≡ expected
+  pub end_reason : (expected : What) → due_at q ≡ expected
       → IsReason (Expected expected) ts []
   end_reason expected e = let due = expected_is_due in grind arith

@@ -1,15 +1,14 @@
 -- Which bare tokens are numbers, indices or neither.
-use Rattle.gf_tree.proofs.Common.{◌≡◌, ℕ, List, [], ◌∷◌, Some, None, Err, refl, sym, subst, ◌∙◌}
-use Rattle.gf_tree.proofs.Common.{arith, inl, inr, codes, nat_eq, pointwise, false, true, ◌≢◌}
-use Rattle.gf_tree.proofs.Common.{Ratio, IsNumber, number_again, number_is, IsIndex, index_is}
-use Rattle.gf_tree.proofs.Common.{whole, pos, Ok, ◌⊎◌, ◌++◌}
+use Rattle.gf_tree.proofs.Common.{◌≡◌, ℕ, List, [], ◌∷◌, Some, None, Err, refl, subst, ◌∙◌, arith}
+use Rattle.gf_tree.proofs.Common.{inl, inr, codes, true, Ratio, IsNumber, number_again, number_is}
+use Rattle.gf_tree.proofs.Common.{IsIndex, index_is, whole, pos, Ok, ◌⊎◌, ◌++◌}
 use Rattle.std.specs.Char.{is_ascii_digit}
 use Rattle.gf_fraction.proofs.SpelledIsFound.{ascii_from_digit}
 use Rattle.gf_fraction.specs.Computed.{number_of, lowest_of, gcd_within}
 use Rattle.gf_fraction.specs.declared.fraction.NumberFault.TheVariants.{NotANumber}
 use Rattle.gf_token.specs.Indices.{index_of}
 use Rattle.gf_tree.specs.Rows.{IsNodeLetter}
-use Rattle.gf_tree.proofs.lemmas.due.Answers.{other_word, no_index}
+use Rattle.gf_tree.proofs.lemmas.due.Answers.{no_index}
 
 -- ---- an index after a plus is a number, and no index
 
@@ -75,33 +74,22 @@ no_letter players b (inr (inr h)) = no_number b (codes "p") unread.4 h.0
 -- nor does it begin with 0
 pub letter_from_zero : (players : ℕ) (more : List ℕ)
     → ¬ (IsNodeLetter players (codes "0" ++ more))
-letter_from_zero players more (inl e) = other_word (codes "0" ++ more) (codes "c") refl e
-letter_from_zero players more (inr (inl e)) = other_word (codes "0" ++ more) (codes "t") refl e
-letter_from_zero players more (inr (inr h)) = other_word (codes "0" ++ more) (codes "p") refl h.0
+letter_from_zero players more h = grind arith
 
--- one of the first three tokens: only 2 is a number, none is `t`, and none begins with 0
+-- one of the first three tokens
 abbrev pub IsWord : List ℕ → Type 0
-IsWord b = ((p : Ratio) → IsNumber b p → b ≡ codes "2") × (b ≢ codes "t")
-    × ((more : List ℕ) → b ≢ codes "0" ++ more)
+IsWord b =
+    (b ≡ codes "EFG") ⊎ ((b ≡ codes "2") ⊎ ((b ≡ codes "R") ⊎ (b ≡ codes "D")))
 
--- it differs from these bytes
-abbrev Differs : List ℕ → List ℕ → Type 0
-Differs w other = pointwise nat_eq w other ≡ false
+-- only 2 is a number
+pub two_word : (b : List ℕ) (p : Ratio) → IsWord b → IsNumber b p → b ≡ codes "2"
+two_word b p (inl e) is = absurd (no_number b (codes "EFG") unread.0 e p is)
+two_word b p (inr (inl e)) is = e
+two_word b p (inr (inr (inl e))) is = absurd (no_number b (codes "R") unread.1 e p is)
+two_word b p (inr (inr (inr e))) is = absurd (no_number b (codes "D") unread.2 e p is)
 
-word : (b w : List ℕ) → Unread w ⊎ (w ≡ codes "2") → Differs w (codes "t")
-    → ((more : List ℕ) → Differs w (codes "0" ++ more)) → b ≡ w → IsWord b
-word b w two other zero e = (
-  λ p is. elim two [ inl none ↦ absurd (no_number b w none e p is) | inr same ↦ e ∙ same ],
-  λ t. other_word w (codes "t") other (sym e ∙ t),
-  λ more z. other_word w (codes "0" ++ more) (zero more) (sym e ∙ z),
-)
+pub t_no_word : ¬ (IsWord (codes "t"))
+t_no_word h = grind arith
 
-pub format_word : (b : List ℕ) → b ≡ codes "EFG" → IsWord b
-format_word b = word b (codes "EFG") (inl unread.0) refl (λ more. refl)
-
-pub version_word : (b : List ℕ) → b ≡ codes "2" → IsWord b
-version_word b = word b (codes "2") (inr refl) refl (λ more. refl)
-
-pub letter_word : (b : List ℕ) → (b ≡ codes "R") ⊎ (b ≡ codes "D") → IsWord b
-letter_word b (inl e) = word b (codes "R") (inl unread.1) refl (λ more. refl) e
-letter_word b (inr e) = word b (codes "D") (inl unread.2) refl (λ more. refl) e
+pub word_from_zero : (more : List ℕ) → ¬ (IsWord (codes "0" ++ more))
+word_from_zero more h = grind arith

@@ -1,16 +1,15 @@
 -- If the front of a file ends in a node, it stands before a row of the table of positions: the node
 -- is cut there.
-use Rattle.gf_tree.proofs.Common.{◌≡◌, ℕ, zero, suc, ◌<◌, List, [], ◌∷◌, ◌++◌, drop, length, map}
-use Rattle.gf_tree.proofs.Common.{Option, Some, None, MatchOption, refl, sym, ap, subst, ◌∙◌}
-use Rattle.gf_tree.proofs.Common.{append_assoc, append-nil, arith, inl, inr, nat_eq, pos, ◌⊎◌}
-use Rattle.gf_tree.proofs.Common.{length-append, Ratio, whole, Token, Each, IsPayoffInBraces}
-use Rattle.gf_tree.proofs.Common.{Opening, Closing, Comma, Text, Bare, Action, AreActions}
-use Rattle.gf_tree.proofs.Common.{InformationSet, IsOutcome, IsSet, Outcome, SetKey, same_set}
-use Rattle.gf_tree.proofs.Common.{set_of, set_with, Use, description_at, BehindOutcomeNumber}
-use Rattle.gf_tree.proofs.Common.{BehindSetNumber, InActions, IsNewSet, KnowsOutcome, KnowsSet}
-use Rattle.gf_tree.proofs.Common.{ToOutcomeNumber, FileFront, IsAction, IsDescription}
-use Rattle.gf_tree.proofs.Common.{IsOutcomeDescription, IsResult, AddToOne, IsInNode, HasSum}
-use Rattle.gf_tree.proofs.Common.{AddUpTo, BehindPayoff, ToPayoff}
+use Rattle.gf_tree.proofs.Common.{◌≡◌, ℕ, zero, suc, ◌<◌, List, [], ◌∷◌, ◌++◌, drop, length, Option}
+use Rattle.gf_tree.proofs.Common.{Some, None, MatchOption, refl, sym, ap, subst, ◌∙◌, append_assoc}
+use Rattle.gf_tree.proofs.Common.{append-nil, arith, inl, inr, nat_eq, pos, ◌⊎◌, length-append}
+use Rattle.gf_tree.proofs.Common.{Ratio, whole, Token, Each, IsPayoffInBraces, Opening, Closing}
+use Rattle.gf_tree.proofs.Common.{Comma, Text, Bare, Action, AreActions, InformationSet, IsOutcome}
+use Rattle.gf_tree.proofs.Common.{IsSet, Outcome, SetKey, same_set, set_of, set_with, Use}
+use Rattle.gf_tree.proofs.Common.{description_at, BehindOutcomeNumber, BehindSetNumber, InActions}
+use Rattle.gf_tree.proofs.Common.{IsNewSet, KnowsOutcome, KnowsSet, ToOutcomeNumber, FileFront}
+use Rattle.gf_tree.proofs.Common.{IsAction, IsDescription, IsOutcomeDescription, IsResult, IsInNode}
+use Rattle.gf_tree.proofs.Common.{HasSum, AddUpTo, BehindPayoff, ToPayoff}
 use Rattle.gf_tree.proofs.lemmas.fronts.Cuts.{Last, Within, cut, each_last, each_more, first_is}
 use Rattle.gf_tree.proofs.lemmas.fronts.Cuts.{none_left, within}
 use Rattle.gf_tree.proofs.lemmas.fronts.Codes.{BeginsBare}
@@ -229,18 +228,16 @@ module _ (f : FileFront) (bare : BeginsBare f.front) where
 -- ---- the actions of a set
 
 -- the probabilities of the first actions have a sum
-prefix_sum : (seen left : List Action) (ps : List Ratio) (sum : Ratio)
-    → map (λ (a : Action). a.probability) (seen ++ left) ≡ map Some ps → AddToOne sum ps
+prefix_sum : (seen left : List Action) (sum all : Ratio) → AddUpTo sum (seen ++ left) all
     → (total : Ratio) × AddUpTo sum seen total
-prefix_sum [] left ps sum e h = (sum, refl)
-prefix_sum (a ∷ seen) left [] sum e h = absurd cc
-prefix_sum (a ∷ seen) left (p ∷ ps) sum e h =
-    grind (arith, first_is, prefix_sum seen left ps h.1.0 (ap (drop 1) e) h.1.2)
+prefix_sum [] left sum all h = (sum, refl)
+prefix_sum (a ∷ seen) left sum all h =
+    let k = prefix_sum seen left h.1 all h.5 in (k.0, (h.0, h.1, h.2, h.3, h.4, k.1))
 
 some_sum : (name : List ℕ) (actions seen left : List Action) → actions ≡ seen ++ left
     → AreActions 0 actions → (sum : Ratio) × HasSum (set_with name seen) sum
-some_sum name actions seen left e h = prefix_sum seen left h.0 (whole (pos 0))
-    (ap (map (λ (a : Action). a.probability)) (sym e) ∙ h.1) h.2
+some_sum name actions seen left e h = prefix_sum seen left (whole (pos 0)) (whole (pos 1))
+    (subst (λ (xs : List Action). AreActions 0 xs) e h)
 
 -- a whole action, or the label of one of chance
 action_front : (player : ℕ) (t : Token) (front rest : List Token) (a : Action)

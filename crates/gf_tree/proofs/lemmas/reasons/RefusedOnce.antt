@@ -2,7 +2,7 @@
 use Rattle.gf_tree.proofs.Common.{◌≡◌, ℕ, List, length, Result, Ok, Err, refl, arith}
 use Rattle.gf_tree.proofs.Common.{inl, inr, map-append, ◌⊎◌, Lexeme, Spells, tokens_of, Fault, Span}
 use Rattle.gf_tree.proofs.Common.{Why, IsExtensiveFile, Game, SpellsGame, IsRefusal, game_in}
-use Rattle.gf_tree.proofs.Common.{Memory, TooLong, TooManyProfiles, UnknownOutcome}
+use Rattle.gf_tree.proofs.Common.{Memory}
 use Rattle.gf_tree.proofs.Common.{Content, nothing, run, Format, code_of}
 use Rattle.gf_tree.proofs.Common.{same_tokens}
 use Rattle.gf_token.proofs.Places.{no_file, one_code, one_offending_place, one_span}
@@ -33,9 +33,6 @@ answered bytes =
 refusal : (why : Why) (bytes : List ℕ) (span : Span) → IsRefused why bytes span
     → IsRefusal why bytes span
 refusal Memory bytes span h = absurd (h.0 refl)
-refusal TooLong bytes span h = absurd h.1
-refusal UnknownOutcome bytes span h = absurd h.1
-refusal TooManyProfiles bytes span h = absurd h.1
 refusal _ bytes span h = h.1
 
 pub not_both : (bytes : List ℕ) (g : Game) (why : Why) (span : Span) → SpellsGame bytes g

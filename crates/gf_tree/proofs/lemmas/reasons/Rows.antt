@@ -13,10 +13,10 @@ use Rattle.gf_tree.proofs.Common.{IsWrongBehind, NewProbabilityIsDue, Accepts, R
 use Rattle.gf_tree.proofs.Common.{a_player_name, or_text, Applies, ap}
 use Rattle.gf_tree.proofs.lemmas.due.Rows.{Stands, accepted}
 use Rattle.gf_tree.proofs.lemmas.due.Answers.{no_index}
-use Rattle.gf_tree.proofs.lemmas.due.BareTokens.{IsWord, format_word, letter_word, no_letter}
-use Rattle.gf_tree.proofs.lemmas.due.BareTokens.{plus_no_index, plus_number, t_no_index}
-use Rattle.gf_tree.proofs.lemmas.due.BareTokens.{t_no_number, two_index, version_word}
-use Rattle.gf_tree.proofs.lemmas.due.BareTokens.{letter_from_zero}
+use Rattle.gf_tree.proofs.lemmas.due.BareTokens.{IsWord, no_letter, plus_no_index, plus_number}
+use Rattle.gf_tree.proofs.lemmas.due.BareTokens.{t_no_index, t_no_number, two_index}
+use Rattle.gf_tree.proofs.lemmas.due.BareTokens.{letter_from_zero, two_word, t_no_word}
+use Rattle.gf_tree.proofs.lemmas.due.BareTokens.{word_from_zero}
 use Rattle.gf_token.specs.Indices.{index_of}
 use Rattle.gf_tree.specs.Rows.{Always, IsNodeLetter, none}
 use Rattle.gf_fraction.specs.declared.fraction.NumberFault.TheVariants as number
@@ -130,11 +130,11 @@ module _ (before : List Token) (row : Row) (s : Stands before row) where
   pub of_words : ((b : List ℕ) → row.bare b → IsWord b) → Told before row
   of_words words = record {
     number = λ d.
-        let e = (words d.0 (takes d.0 d.2)).0 d.1 d.3 in
+        let e = two_word d.0 d.1 (words d.0 (takes d.0 d.2)) d.3 in
         absurd (d.4 2 (subst (λ (x : List ℕ). IsIndex x 2) (sym e) two_index));
-    index = λ d. absurd
-        ((words (codes "0" ++ d.0.0) (takes (codes "0" ++ d.0.0) d.0.1)).2 d.0.0 refl);
-    node = λ m. absurd ((words (codes "t") (takes (codes "t") m)).1 refl);
+    index = λ d. absurd (word_from_zero d.0.0 (words (codes "0" ++ d.0.0)
+        (takes (codes "0" ++ d.0.0) d.0.1)));
+    node = λ m. absurd (t_no_word (words (codes "t") (takes (codes "t") m)));
   }
 
 -- a bare token, if the row accepts nothing else
@@ -310,13 +310,13 @@ module _ (before : List Token) where
   pub in_heading : IsInHeading before → Reasoned before
   in_heading (IsInHeading.Format e) =
       word (a_word what.Format (codes "EFG")) what.Format (rw e heading.format) (ap length e)
-      (refl, refl, λ why k. k) (λ b why k. k) format_word
+      (refl, refl, λ why k. k) (λ b why k. k) (λ b e. inl e)
   in_heading (IsInHeading.Version e) =
       word (a_word what.Version (codes "2")) what.Version (rw e heading.version) (ap length e)
-      (refl, refl, λ why k. k) (λ b why k. k) version_word
+      (refl, refl, λ why k. k) (λ b why k. k) (λ b e. inr (inl e))
   in_heading (IsInHeading.Letter e) = word a_letter what.Letter
       (subst (λ (ts : List Token). Stands ts a_letter) (sym e) heading.letter) (ap length e)
-      (refl, refl, λ why k. k) (λ b why k. k) letter_word
+      (refl, refl, λ why k. k) (λ b why k. k) (λ b e. inr (inr e))
   in_heading (IsInHeading.Title h) = text (heading.title before h)
   in_heading (IsInHeading.BeforePlayers h) = opening (heading.before_players before h)
   in_heading (IsInHeading.Players players h) =

@@ -1,19 +1,18 @@
 -- Runs over the actions of a new information set in braces.
-use Rattle.gf_tree.proofs.Common.{◌≡◌, ℕ, zero, suc, ◌<◌, List, [], ◌∷◌, ◌++◌, length, map, Option}
-use Rattle.gf_tree.proofs.Common.{Some, None, Result, Ok, Err, refl, sym, ap, subst, ◌∙◌}
-use Rattle.gf_tree.proofs.Common.{append_assoc, append-nil, arith, ints, pos, ◌≤ℤ◌, AllByRecursion}
-use Rattle.gf_tree.proofs.Common.{Token, Each, Why, Closing, Text, Bare, Ratio, IsFraction, whole}
-use Rattle.gf_tree.proofs.Common.{AddsTo, Action, InformationSet, SetKey, set_of, AreActions, Share}
+use Rattle.gf_tree.proofs.Common.{◌≡◌, ℕ, zero, suc, ◌<◌, List, [], ◌∷◌, ◌++◌, length, Option, Some}
+use Rattle.gf_tree.proofs.Common.{None, Result, Ok, Err, refl, sym, ap, subst, ◌∙◌, append_assoc}
+use Rattle.gf_tree.proofs.Common.{append-nil, arith, ints, pos, ◌≤ℤ◌, AllByRecursion, Token, Each}
+use Rattle.gf_tree.proofs.Common.{Why, Closing, Text, Bare, Ratio, IsFraction, whole, AddsTo}
+use Rattle.gf_tree.proofs.Common.{Action, InformationSet, SetKey, set_of, AreActions, Share}
 use Rattle.gf_tree.proofs.Common.{share_of, IsAction, with_action, Content, begun, new_set_ends}
 use Rattle.gf_tree.proofs.Common.{set_ends, shared, NewAction, OutcomeNumber, run_tokens, then_run}
-use Rattle.gf_tree.proofs.Common.{AddToOne, with_set}
+use Rattle.gf_tree.proofs.Common.{with_set, AddUpTo}
 use Rattle.gf_tree.proofs.lemmas.runs.Tokens.{Reads, run_on, guard_ok, ratio_is}
 use Rattle.gf_tree.proofs.lemmas.runs.Shares.{share_found, share_again, sum_high}
 
 -- the probabilities of chance after this sum add up to one; a player's actions have none
 abbrev pub AreOthers : ℕ → Ratio → List Action → Type 0
-AreOthers zero sum actions =
-    (ps : List Ratio) × (map (λ a. a.probability) actions ≡ map Some ps) × AddToOne sum ps
+AreOthers zero sum actions = AddUpTo sum actions (whole (pos 1))
 AreOthers (suc player) sum actions = AllByRecursion (λ a. a.probability ≡ None) actions
 
 pub are_others : (player : ℕ) (actions : List Action) → AreActions player actions
@@ -126,11 +125,7 @@ new_found (Text label ∷ Bare b ∷ ts) name zero n set sum c r fraction e =
     let is = share_found sum b s fraction h.1 in
     new_more (Text label ∷ Bare b ∷ []) ts name label 0 n set (Some s.probability) sum s.sum c r
     (b, s.probability, refl, is.number, refl)
-    (λ actions k. (
-      s.probability ∷ k.0,
-      ap (λ (x : List (Option Ratio)). Some s.probability ∷ x) k.1,
-      (is.not_below, (s.sum, is.adds, k.2)),
-    ))
+    (λ actions k. (s.probability, s.sum, refl, is.not_below, is.adds, k))
     (new_found ts name 0 n (with_action set label (Some s.probability)) s.sum c r is.adds.1 h.2)
 new_found (Text label ∷ _) name zero n set sum c r fraction e = absurd cc
 new_found _ name player n set sum c r fraction e = absurd cc
@@ -138,30 +133,24 @@ new_found _ name player n set sum c r fraction e = absurd cc
 -- ---- each new set is read
 
 record FirstShare (sum p : Ratio) (actions : List Action) : Type 0 where
-  not_below : pos 0 ≤ℤ p.num
   next : Ratio
+  not_below : pos 0 ≤ℤ p.num
   adds : AddsTo sum p next
   others : AreOthers 0 next actions
 
 -- the first probability, and that the others add up to one with it
-first_share : (a : Action) (actions : List Action) (p sum : Ratio) (ps : List Ratio)
-    → a.probability ≡ Some p → a.probability ∷ map (λ b. b.probability) actions ≡ map Some ps
-    → AddToOne sum ps → FirstShare sum p actions
-first_share a actions p sum [] e same h = absurd cc
-first_share a actions p sum (q ∷ ps) e same h = grind arith
+first_share : (a : Action) (actions : List Action) (p sum : Ratio) → a.probability ≡ Some p
+    → AreOthers 0 sum (a ∷ actions) → FirstShare sum p actions
+first_share a actions p sum e h = grind arith
 
 -- the sum of the probabilities so far is at most one, if the others add up to one with it
 high : (actions : List Action) (inner : List Token) (sum : Ratio) → IsFraction sum
     → Each (IsAction 0) inner actions → AreOthers 0 sum actions → sum.num ≤ℤ pos sum.den
-high [] inner sum fraction each h = by h.0 h.1 h.2
-  where
-    by : (ps : List Ratio) → [] ≡ map (λ (p : Ratio). Some p) ps → AddToOne sum ps
-        → sum.num ≤ℤ pos sum.den
-    by [] e one = subst (λ (x : Ratio). x.num ≤ℤ pos x.den) (sym one) (omega (arith, ints))
-    by (p ∷ ps) e one = absurd cc
+high [] inner sum fraction each h =
+    subst (λ (x : Ratio). x.num ≤ℤ pos x.den) (sym h) (omega (arith, ints))
 high (a ∷ actions) inner sum fraction each h =
     let p = each.3.1 in
-    let s = first_share a actions p sum h.0 each.3.4 h.1 h.2 in
+    let s = first_share a actions p sum each.3.4 h in
     sum_high sum p s.next each.3.3.fraction.den_above_zero fraction.den_above_zero s.not_below
     s.adds (high actions each.1 s.next s.adds.1 each.4 s.others)
 
@@ -169,13 +158,7 @@ close_by_player : (player : ℕ) (rest : List Token) (name : List ℕ)
     (n : ℕ) (set : InformationSet) (sum : Ratio) (c : Content) → AreOthers player sum []
     → then_run (set_ends c name player n set sum) (run_on rest) ≡ run_tokens
     (OutcomeNumber (begun name (set_of player n) set)) (with_set c (set_of player n) set) rest
-close_by_player zero rest name n set sum c h = by h.0 h.1 h.2
-  where
-    by : (ps : List Ratio) → [] ≡ map (λ (p : Ratio). Some p) ps → AddToOne sum ps
-        → then_run (set_ends c name 0 n set sum) (run_on rest) ≡ run_tokens
-        (OutcomeNumber (begun name (set_of 0 n) set)) (with_set c (set_of 0 n) set) rest
-    by [] e one = rw one refl
-    by (p ∷ ps) e one = absurd cc
+close_by_player zero rest name n set sum c h = rw h refl
 close_by_player (suc player) rest name n set sum c h = refl
 
 close_by_actions : (actions : List Action) (player : ℕ) (rest : List Token)
@@ -200,7 +183,7 @@ new_again [] player inner rest name n set sum c fraction each h some =
 new_again (a ∷ actions) zero inner rest name n set sum c fraction each h some =
     let b = each.3.0 in
     let p = each.3.1 in
-    let s = first_share a actions p sum h.0 each.3.4 h.1 h.2 in
+    let s = first_share a actions p sum each.3.4 h in
     let is : a ≡ record { label = a.label; probability = Some p } =
     λ i. record { label = a.label; probability = each.3.4 i } in
     let all : with_actions (with_action set a.label (Some p)) actions

@@ -1,9 +1,9 @@
 -- Runs over the actions of a known information set in braces.
-use Rattle.gf_tree.proofs.Common.{◌≡◌, ℕ, zero, suc, List, [], ◌∷◌, ◌++◌, map, drop, Option, Some}
-use Rattle.gf_tree.proofs.Common.{None, refl, sym, ap, subst, ◌∙◌, append_assoc, AllByRecursion}
-use Rattle.gf_tree.proofs.Common.{Token, Each, Closing, Text, Bare, Ratio, IsNumber, Action}
-use Rattle.gf_tree.proofs.Common.{AreActions, IsAction, Begun, Content, at, behind_label}
-use Rattle.gf_tree.proofs.Common.{OutcomeNumber, KnownAction, KnownProbability, run_tokens}
+use Rattle.gf_tree.proofs.Common.{◌≡◌, ℕ, zero, suc, List, [], ◌∷◌, ◌++◌, Option, Some, None, refl}
+use Rattle.gf_tree.proofs.Common.{sym, ap, subst, ◌∙◌, append_assoc, AllByRecursion, Token, Each}
+use Rattle.gf_tree.proofs.Common.{Closing, Text, Bare, Ratio, IsNumber, Action, AreActions}
+use Rattle.gf_tree.proofs.Common.{IsAction, Begun, Content, at, behind_label, OutcomeNumber}
+use Rattle.gf_tree.proofs.Common.{KnownAction, KnownProbability, run_tokens, AddUpTo, whole, pos}
 use Rattle.gf_tree.proofs.lemmas.runs.Tokens.{Reads, text_found, text_again}
 use Rattle.gf_tree.proofs.lemmas.runs.Payoffs.{number_found, number_same}
 
@@ -12,17 +12,14 @@ abbrev pub HasProbability : ℕ → Action → Type 0
 HasProbability zero a = (p : Ratio) × (a.probability ≡ Some p)
 HasProbability (suc player) a = a.probability ≡ None
 
-chance_has : (actions : List Action) (ps : List Ratio)
-    → map (λ a. a.probability) actions ≡ map Some ps → AllByRecursion (HasProbability 0) actions
-chance_has [] ps e = tt
-chance_has (a ∷ actions) [] e = absurd cc
-chance_has (a ∷ actions) (p ∷ ps) e =
-    let first : a.probability ≡ Some p = cc in
-    ((p, first), chance_has actions ps (ap (drop 1) e))
+chance_has : (actions : List Action) (sum total : Ratio) → AddUpTo sum actions total
+    → AllByRecursion (HasProbability 0) actions
+chance_has [] sum total h = tt
+chance_has (a ∷ actions) sum total h = ((h.0, h.2), chance_has actions h.1 total h.5)
 
 pub probabilities : (player : ℕ) (actions : List Action) → AreActions player actions
     → AllByRecursion (HasProbability player) actions
-probabilities zero actions h = chance_has actions h.0 h.1
+probabilities zero actions h = chance_has actions (whole (pos 0)) (whole (pos 1)) h
 probabilities (suc player) actions h = h
 
 pub record KnownActions (ts : List Token) (player : ℕ) (actions : List Action) (b : Begun)

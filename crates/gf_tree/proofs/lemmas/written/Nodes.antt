@@ -1,7 +1,7 @@
 -- The tokens of a node in the spelling of canonical text, and that they say this node.
 use Rattle.gf_tree.proofs.Common.{◌≡◌, ℕ, zero, suc, ◌^◌, ◌<◌, List, [], ◌∷◌, ◌++◌, length, map}
-use Rattle.gf_tree.proofs.Common.{drop, Some, None, Option, MatchOption, refl, ap, arith, inl}
-use Rattle.gf_tree.proofs.Common.{codes, AllByRecursion, Ratio, IsFraction, Token, Text, Bare, Each}
+use Rattle.gf_tree.proofs.Common.{Some, None, Option, MatchOption, refl, arith, inl, codes}
+use Rattle.gf_tree.proofs.Common.{AllByRecursion, Ratio, IsFraction, Token, Text, Bare, Each}
 use Rattle.gf_tree.proofs.Common.{braced, IsPayoffInBraces, Action, SetKey, InformationSet, Outcome}
 use Rattle.gf_tree.proofs.Common.{IsSet, AreActions, Use, FileNode, IsDescription, IsAction}
 use Rattle.gf_tree.proofs.Common.{IsInformationSet, SpellsMover, IsStep, IsResult, IsNode}
@@ -11,6 +11,7 @@ use Rattle.gf_tree.proofs.Common.{IsSpellableAction}
 use Rattle.std.proofs.lemmas.List.{append-nil}
 use Rattle.gf_token.proofs.Grammar.{each_group}
 use Rattle.gf_token.proofs.SpelledNumbers.{decimal_is_index}
+use Rattle.gf_tree.proofs.lemmas.runs.KnownActions.{HasProbability, probabilities}
 use Rattle.gf_tree.specs.Description as description
 
 -- ---- tokens
@@ -85,29 +86,24 @@ personal_action : (player : ℕ) (label : List ℕ) (o : Option Ratio) → o ≡
 personal_action player label None e = (refl, refl)
 personal_action player label (Some p) e = absurd cc
 
-lottery_actions : (actions : List Action) (ps : List Ratio)
-    → map (λ a. a.probability) actions ≡ map Some ps → AllByRecursion IsSpellableAction actions
-    → AllByRecursion (λ a. IsAction 0 (action_tokens a) a) actions
-lottery_actions [] ps e h = tt
-lottery_actions (a ∷ actions) [] e h = absurd cc
-lottery_actions (a ∷ actions) (p ∷ ps) e h =
-    let same : a.probability ≡ Some p = cc in (
-      chance_action a.label a.probability p same h.0.1,
-      lottery_actions actions ps (ap (drop 1) e) h.1,
-    )
-
-personal_actions : (player : ℕ) (actions : List Action)
-    → AllByRecursion (λ a. a.probability ≡ None) actions
-    → AllByRecursion (λ a. IsAction (suc player) (action_tokens a) a) actions
-personal_actions player [] h = tt
-personal_actions player (a ∷ actions) h =
-    (personal_action player a.label a.probability h.0, personal_actions player actions h.1)
+each_written : (player : ℕ) (actions : List Action) → AllByRecursion (HasProbability player) actions
+    → AllByRecursion IsSpellableAction actions
+    → AllByRecursion (λ a. IsAction player (action_tokens a) a) actions
+each_written player [] h k = tt
+each_written zero (a ∷ actions) h k = (
+  chance_action a.label a.probability h.0.0 h.0.1 k.0.1,
+  each_written zero actions h.1 k.1,
+)
+each_written (suc player) (a ∷ actions) h k = (
+  personal_action player a.label a.probability h.0,
+  each_written (suc player) actions h.1 k.1,
+)
 
 actions_written : (player : ℕ) (actions : List Action)
     → AreActions player actions → AllByRecursion IsSpellableAction actions
     → AllByRecursion (λ a. IsAction player (action_tokens a) a) actions
-actions_written zero actions h k = lottery_actions actions h.0 h.1 k
-actions_written (suc player) actions h k = personal_actions player actions h
+actions_written player actions h k =
+    each_written player actions (probabilities player actions h) k
 
 set_written : (player : ℕ) (set : InformationSet) → AreActions player set.actions
     → AllByRecursion IsSpellableAction set.actions → IsInformationSet player (set_tokens set) set
