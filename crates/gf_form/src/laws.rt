@@ -152,7 +152,7 @@ pub fn plays_follow_choices()
 {}
 
 /// Chance is not a player: no strategy chooses at its sets, and nothing is paid to it.
-#[tactic(auto, using(crate::proofs::lemmas::strategies::Chosen::chance_is_paid_nothing))]
+#[tactic(auto, using(crate::proofs::lemmas::strategies::Chosen::chance_steps))]
 pub fn chance_is_no_player()
     ensures choices { (g : Game) (all : List (List ℕ)) (number : ℕ)
         → choices_by g all (set_of 0 number) ≡ 0 }

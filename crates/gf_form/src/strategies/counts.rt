@@ -7,7 +7,7 @@ ghost use Rattle.gf_nfg.specs.Profiles.{product};
 ghost use Rattle.gf_tree.specs.Game.{Game, IsGame};
 ghost use Rattle.gf_form.specs.inner.strategies.Counted.{AreCounts};
 ghost use Rattle.gf_form.specs.Refusal.{HasTooManyProfiles};
-ghost use Rattle.gf_form.specs.Strategies.{action_counts};
+ghost use Rattle.gf_form.specs.Strategies.{action_counts, strategies};
 
 use gf_nfg::ProfileCount;
 use gf_tree::Game;
@@ -15,6 +15,7 @@ use std::alloc::{AllocError, Global};
 
 /// How many actions there are at a player's set, by its position from 1 among his; 0 if he has no
 /// such set.
+#[tactic(auto, using(crate::proofs::lemmas::strategies::ActionCounts::count_steps))]
 pub(crate) fn action_count(game: &Game<'_>, player: u32, position: usize) -> usize
     requires is_game { IsGame game.now }
     ensures { result ≡ unwrap_or (at_position (action_counts game.now player) position) 0 }
@@ -38,9 +39,9 @@ fn own_counts(
 ) -> Result<Option<(Vec<u32>, ProfileCount)>, AllocError>
     requires is_game { IsGame game.now }
     ensures { IfOk result (λ own. MatchOption own
-        (profile_limit < product (action_counts game.now player))
+        (profile_limit < length (strategies game.now player))
         (λ own. (own.0.items ≡ action_counts game.now player)
-        × (own.1.count ≡ product (action_counts game.now player)))) }
+        × (own.1.count ≡ length (strategies game.now player)))) }
 {
     let count = game.set_count(player);
     let mut actions = Vec::with_capacity(alloc, count)?;

@@ -87,19 +87,19 @@ fn room_for(alloc: Global, firsts: &Labels, others: &Labels) -> Result<Labels, A
 {
     let count = firsts.len().saturating_mul(others.len());
     let before = firsts.size().saturating_mul(others.len());
-    let behind = others.size().saturating_mul(firsts.len());
+    let after = others.size().saturating_mul(firsts.len());
     let mut labels = Labels::new(alloc);
-    labels.reserve(count, before.saturating_add(behind).saturating_add(count))?;
+    labels.reserve(count, before.saturating_add(after).saturating_add(count))?;
     Ok(labels)
 }
 
 /// The labels of all strategies, from those at the first sets and those at the others.
 #[tactic(auto, using(crate::proofs::lemmas::strategies::StrategyLabels::joined_steps))]
 fn joined_labels(alloc: Global, firsts: &Labels, others: &Labels) -> Result<Labels, AllocError>
-    ensures { IfOk result (λ labels. (counts behind : List ℕ) → 0 < length counts
-        → 0 < length behind → firsts.now ≡ map strategy_label (all_choices counts)
-        → others.now ≡ map strategy_label (all_choices behind)
-        → labels ≡ map strategy_label (all_choices (counts ++ behind))) }
+    ensures { IfOk result (λ labels. (counts later : List ℕ) → 0 < length counts
+        → 0 < length later → firsts.now ≡ map strategy_label (all_choices counts)
+        → others.now ≡ map strategy_label (all_choices later)
+        → labels ≡ map strategy_label (all_choices (counts ++ later))) }
 {
     let mut labels = room_for(alloc, firsts, others)?;
     for first in 0..firsts.len() {
@@ -127,9 +127,9 @@ pub(crate) fn strategy_labels(
         return labels_in_turn(alloc, counts, whole);
     }
     match (strategy_count(first), strategy_count(others)) {
-        (Some(before), Some(behind)) => {
+        (Some(before), Some(after)) => {
             let firsts = labels_in_turn(alloc, first, before)?;
-            let others = labels_in_turn(alloc, others, behind)?;
+            let others = labels_in_turn(alloc, others, after)?;
             joined_labels(alloc, &firsts, &others)
         }
         _ => labels_in_turn(alloc, counts, whole),

@@ -5,7 +5,8 @@ use Rattle.gf_form.proofs.Common.{product, Table, IsTableOf, length-profiles, le
 use Rattle.gf_form.proofs.Common.{Game, AreRowsAt, ArePayoffsAt, IsFormWith, players_of}
 use Rattle.gf_form.specs.inner.rows.FitsTable.{FitsTable}
 use Rattle.gf_form.proofs.lemmas.strategies.CountedActions.{as_many_players}
-use Rattle.gf_form.proofs.lemmas.form.Forms.{as_many, some_labels, form_profiles}
+use Rattle.gf_form.proofs.lemmas.form.Forms.{as_many, form_profiles}
+use Rattle.gf_form.proofs.lemmas.strategies.Lookups.{all_mapped}
 use Rattle.gf_form.proofs.lemmas.rows.RowsMade.{form_by_rows, rows_counted, rows_fractions}
 
 -- ---- rows of payoffs
@@ -26,26 +27,25 @@ row_fractions g profile row h = all_first IsFraction _ row (players_of g) h
 -- ---- labels and rows of a form
 
 module _ (labels : ℕ → List (List ℕ)) (R : List ℕ → List Ratio → Type 0) (g : Game)
-    (all : List (List (List ℕ))) (payoffs : List Ratio) (named : all ≡ map labels (players_of g))
+    (all : List (List (List ℕ))) (payoffs : List Ratio) (ps : List (List ℕ))
+    (same : form_profiles labels g ≡ ps) (named : all ≡ map labels (players_of g))
     (each : (p : List ℕ) (row : List Ratio) → R p row → length row ≡ length g.players)
-    (right : AreRowsAt R (form_profiles labels g) payoffs) where
-  profiles_counted : product (map length all) ≡ length (form_profiles labels g)
-  profiles_counted = cc (named, length-profiles (map length (map labels (players_of g))))
+    (right : AreRowsAt R ps payoffs) where
+  profiles_counted : product (map length all) ≡ length ps
+  profiles_counted = cc (named, same, length-profiles (map length (map labels (players_of g))))
 
-  pub fits_table : ((player : ℕ) → 0 < length (labels player))
-      → length (form_profiles labels g) ≤ profile_limit
+  pub fits_table : ((player : ℕ) → 0 < length (labels player)) → length ps ≤ profile_limit
       → ((p : List ℕ) (row : List Ratio) → R p row → AllByRecursion IsFraction row)
       → FitsTable (length g.players) all payoffs
   fits_table some few fractions = record {
     one_list_each = ap length named ∙ as_many_players g labels;
-    some_strategy = grind (arith, some_labels labels some (players_of g));
+    some_strategy = grind (arith, all_mapped (λ own. 0 < length own) labels (players_of g) some);
     profiles = omega (arith, profiles_counted, few);
-    fractions = rows_fractions R fractions (form_profiles labels g) payoffs right;
-    rows = rows_counted R (length g.players) each (form_profiles labels g) payoffs right
+    fractions = rows_fractions R fractions ps payoffs right;
+    rows = rows_counted R (length g.players) each ps payoffs right
         ∙ ap (λ (n : ℕ). n * length g.players) (sym profiles_counted);
   }
 
   pub form_made : (t : Table) → IsTableOf t g.title g.comment g.players all payoffs
       → IsFormWith labels R g t
-  form_made t made =
-      grind (arith, form_by_rows R labels g t payoffs each (grind arith) right)
+  form_made t made = form_by_rows R labels g t payoffs each (rw (← named) made) (rw same right)

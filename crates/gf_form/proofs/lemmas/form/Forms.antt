@@ -7,7 +7,7 @@ use Rattle.gf_form.proofs.Common.{map_twice, Has, contains, has, each, mapped_fr
 use Rattle.gf_form.proofs.Common.{ArePayoffsAt, IsFormWith, IsStrategicForm, PaysFractions}
 use Rattle.gf_form.proofs.Common.{strategy_labels, choices_by, full_profiles, players_of}
 use Rattle.gf_form.proofs.Common.{strategies_at, ◌<◌, ◌∙◌, IfOk-weaker, all_images, IsTable}
-use Rattle.gf_form.proofs.Common.{length-numbers_from, IsGame, all_of_each, AllZip-long}
+use Rattle.gf_form.proofs.Common.{length-numbers_from, IsGame, all_of_each, AllZip-long, drop}
 use Rattle.gf_nfg.specs.Table.{Entry}
 use Rattle.gf_form.specs.StrategicForm.{PaysFraction}
 use Rattle.gf_form.proofs.lemmas.strategies.CountedActions.{some_strategy}
@@ -27,10 +27,9 @@ same_entries : (R : List ℕ → List Ratio → Type 0) (es fs : List Entry)
     → AllByRecursion (λ e. R e.profile e.payoffs) fs → es ≡ fs
 same_entries R (e ∷ es) (f ∷ fs) q one h k =
     let profile : e.profile ≡ f.profile = cc in
-    let rest : map (λ e. e.profile) es ≡ map (λ e. e.profile) fs = cc in
-    let payoffs = one e.profile (inl refl) e.payoffs f.payoffs h.0
-    (subst (λ p. R p f.payoffs) (sym profile) k.0) in
-    let others = same_entries R es fs rest (λ p i. one p (inr i)) h.1 k.1 in
+    let others = same_entries R es fs (ap (drop 1) q) (λ p i. one p (inr i)) h.1 k.1 in
+    let right = rw (← profile) at k.0 in
+    let payoffs = one e.profile (inl refl) e.payoffs f.payoffs h.0 right in
     λ i. record { profile = profile i; payoffs = payoffs i } ∷ others i
 same_entries R [] [] q one h k = refl
 same_entries R es fs q one h k = absurd (grind arith)
@@ -124,23 +123,17 @@ all_profiles g = grind (arith, length-map, map_twice)
 pub strategic_form_exists : (g : Game) → ((t : Table) × IsStrategicForm g t) ↔ PaysFractions g
 strategic_form_exists g = (
   λ form profile i.
-      let row =
-      rows_of_form (strategy_labels g) (ArePayoffsAt g) g form.0 form.1 profile
-      (subst (λ ps. Has ps profile) (sym (all_profiles g)) (has (full_profiles g) profile i)) in
+      let row = rows_of_form (strategy_labels g) (ArePayoffsAt g) g form.0 form.1 profile
+      (rw (all_profiles g) (has (full_profiles g) profile i)) in
       of_row g (choices_by g (strategies_at g profile)) row.0 (players_of g) row.1,
   λ pays. some_form_by (strategy_labels g) (ArePayoffsAt g) g (λ profile i.
       row_of g (choices_by g (strategies_at g profile)) (players_of g)
-      (pays profile
-      (contains (full_profiles g) profile (subst (λ ps. Has ps profile) (all_profiles g) i)))),
+      (pays profile (contains (full_profiles g) profile (rw (all_profiles g) at i)))),
 )
 
 pub as_many : {A B : Type 0} (R : A → B → Type 0) (xs : List A) (ys : List B) → AllZip R xs ys
     → length xs ≡ length ys
 as_many R xs ys h = sym (AllZip-long R xs ys h)
-
-pub some_labels : (labels : ℕ → List (List ℕ)) → ((player : ℕ) → 0 < length (labels player))
-    → (players : List ℕ) → AllByRecursion (λ own. 0 < length own) (map labels players)
-some_labels labels some players = all_mapped (λ own. 0 < length own) labels players some
 
 module _ (labels : ℕ → List (List ℕ)) (R : List ℕ → List Ratio → Type 0) (g : Game) (t : Table)
     (form : IsFormWith labels R g t) where
@@ -151,7 +144,8 @@ module _ (labels : ℕ → List (List ℕ)) (R : List ℕ → List Ratio → Typ
   pub table_by : ((player : ℕ) → 0 < length (labels player))
       → ((e : Entry) → Has t.entries e → length e.payoffs ≡ length (players_of g)) → IsTable t
   table_by some each_row =
-      grind (arith, length-map, as_players, some_strategy, some_labels, all_images, all_of_each)
+      let lists = all_mapped (λ own. 0 < length own) labels (players_of g) some in
+      grind (arith, length-map, as_players, lists, all_images, all_of_each)
 
 pub form_is_table : (g : Game) → IsGame g → (t : Table) → IsStrategicForm g t → IsTable t
 form_is_table g game t form =

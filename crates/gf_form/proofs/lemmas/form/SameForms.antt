@@ -1,22 +1,21 @@
 -- Games that are the same have the same payoffs, bottom-up values and forms, by pure and by reduced
 -- strategies, and none for the same reason.
-use Rattle.gf_form.proofs.Common.{◌≡◌, same_set, SameGame, map_same, HasValues, profiles, pointwise}
-use Rattle.gf_form.proofs.Common.{ℕ, carried_is_renumbered, HasTooManyProfiles, AreReducedPayoffsAt}
-use Rattle.gf_form.proofs.Common.{List, Some, refl, Node, Game, held, Bool, true, None, ◌==◌, ◌&&◌}
-use Rattle.gf_form.proofs.Common.{◌∷◌, SetKey, IsGame, set_at, payoff, length, false, Option, plays}
-use Rattle.gf_form.proofs.Common.{arith, if◌then◌else◌, IsRenumbering, filter_of_map, strategies_at}
-use Rattle.gf_form.proofs.Common.{map, sym, inl, inr, ◌↔◌, Has, ◌∙◌, zip, ◌<◌, [], ◌||◌, not, Step}
-use Rattle.gf_form.proofs.Common.{AllZip, same_set_equality, reduced_strategies, ReducedOverflowsAt}
-use Rattle.gf_form.proofs.Common.{Ratio, profile_limit, full_profiles, option_map_or, IsReducedForm}
-use Rattle.gf_form.proofs.Common.{IsFraction, ap, outcome_at, strategy_at, is_relevant, same_choice}
-use Rattle.gf_form.proofs.Common.{IsEqual, flatten, IsValue, Contains, list_any, comes_to, reduced}
-use Rattle.gf_form.proofs.Common.{subst, renumbered, same_tests, sets_apart, strategies, players_of}
-use Rattle.gf_form.proofs.Common.{Table, choices_by, IsFormWith, option_map, first_uses, reduced_at}
-use Rattle.gf_form.proofs.Common.{InformationSet, renumbered_set, IsStrategicForm, strategy_labels}
-use Rattle.gf_form.proofs.Common.{Described, used_sets, map_twice, choice_at, positions, reduced_by}
-use Rattle.gf_form.proofs.Common.{Renumbering, player_sets, player_keys, all_of_each, reduced_label}
-use Rattle.gf_form.proofs.Common.{renumbered_node, ArePayoffsAt, reduced_profiles, HasReducedValues}
-use Rattle.gf_form.proofs.Common.{strategy_label, IsFirstWithout, AllByRecursion, reduced_labels}
+use Rattle.gf_form.proofs.Common.{carried_is_renumbered, AreReducedPayoffsAt, reduced_strategies, ℕ}
+use Rattle.gf_form.proofs.Common.{ReducedOverflowsAt, same_set_equality, HasReducedValues, same_set}
+use Rattle.gf_form.proofs.Common.{IsStrategicForm, strategy_labels, renumbered_node, InformationSet}
+use Rattle.gf_form.proofs.Common.{renumbered_set, strategy_label, IsFirstWithout, AllByRecursion}
+use Rattle.gf_form.proofs.Common.{reduced_labels, if◌then◌else◌, IsRenumbering, filter_of_map, List}
+use Rattle.gf_form.proofs.Common.{strategies_at, full_profiles, option_map_or, IsReducedForm, false}
+use Rattle.gf_form.proofs.Common.{reduced_label, ArePayoffsAt, is_relevant, same_choice, IsFraction}
+use Rattle.gf_form.proofs.Common.{Renumbering, player_sets, player_keys, all_of_each, renumbered}
+use Rattle.gf_form.proofs.Common.{same_tests, sets_apart, strategies, players_of, choices_by, plays}
+use Rattle.gf_form.proofs.Common.{IsFormWith, option_map, first_uses, reduced_at, reduced_by, arith}
+use Rattle.gf_form.proofs.Common.{HasValues, pointwise, Described, used_sets, map_twice, choice_at}
+use Rattle.gf_form.proofs.Common.{positions, SameGame, map_same, profiles, Contains, list_any, Some}
+use Rattle.gf_form.proofs.Common.{comes_to, IsEqual, flatten, IsValue, reduced, SetKey, IsGame, ◌≡◌}
+use Rattle.gf_form.proofs.Common.{payoff, length, AllZip, Ratio, subst, Table, refl, Node, Game, []}
+use Rattle.gf_form.proofs.Common.{held, Bool, true, None, ◌==◌, ◌&&◌, ◌||◌, Step, ◌∷◌, map, inl, ap}
+use Rattle.gf_form.proofs.Common.{inr, ◌↔◌, Has, ◌∙◌, zip, not}
 use Rattle.std.proofs.Math.Path.{subst₂, transport, transport⁻¹}
 use Rattle.gf_tree.specs.PrefixOrder.{Entry}
 use Rattle.gf_tree.proofs.lemmas.games.Carried.{entry_used}
@@ -32,10 +31,6 @@ any_carried : {X Y : Type 0} (f : X → Y) (p : Y → Bool) (q : X → Bool) (P 
 any_carried f p q P same [] h = refl
 any_carried f p q P same (x ∷ xs) h =
     λ i. same x h.0 i || any_carried f p q P same xs h.1 i
-
--- types that are equal hold alike
-alike_types : {A B : Type 0} → A ≡ B → B ↔ A
-alike_types p = (transport⁻¹ p, transport p)
 
 -- a form of a game is one of another that has the same title, comment and players
 form_again : (labels : ℕ → List (List ℕ)) (R : List ℕ → List Ratio → Type 0) (g h : Game)
@@ -70,6 +65,11 @@ module _ (g : Game) (r : Renumbering) (game : IsGame g) (is : IsRenumbering g r)
       → Has (used_sets g.tree) key
   key_used player key i = grind (arith, own_set, entry_used)
 
+  tests_carried : (k key : SetKey) → Has (used_sets g.tree) k → Has (used_sets g.tree) key
+      → same_set (renumbered_set r k) (renumbered_set r key) ≡ same_set k key
+  tests_carried k key i j = same_tests same_set same_set same_set_equality same_set_equality
+      (renumbered_set r) k key (sets_apart g r is k key i j)
+
   -- what a player's strategy chooses at a set
   pub strategy_carried : (player : ℕ) (strategy : List ℕ) (key : SetKey)
       → Has (used_sets g.tree) key
@@ -77,8 +77,7 @@ module _ (g : Game) (r : Renumbering) (game : IsGame g) (is : IsRenumbering g r)
       ≡ choice_at (player_keys g player) strategy key
   strategy_carried player strategy key used =
       rw keys_carried (choice_carried (renumbered_set r) (player_keys g player) strategy key
-      (λ k i. same_tests same_set same_set same_set_equality same_set_equality (renumbered_set r) k
-      key (sets_apart g r is k key (key_used player k i) used)))
+      (λ k i. tests_carried k key (key_used player k i) used))
 
   choices_carried : (all : List (List ℕ)) (key : SetKey) → Has (used_sets g.tree) key
       → choices_by h all (renumbered_set r key) ≡ choices_by g all key
@@ -123,7 +122,7 @@ module _ (g : Game) (r : Renumbering) (game : IsGame g) (is : IsRenumbering g r)
   pub strategies_at_carried : (profile : List ℕ) → strategies_at h profile ≡ strategies_at g profile
   strategies_at_carried profile = grind (arith, strategies_carried)
 
-  profiles_carried : full_profiles h ≡ full_profiles g
+  pub profiles_carried : full_profiles h ≡ full_profiles g
   profiles_carried =
       λ i. profiles (map (λ player. length (strategies_carried player i)) (players_of g))
 
@@ -178,21 +177,16 @@ module _ (g : Game) (r : Renumbering) (game : IsGame g) (is : IsRenumbering g r)
     abbrev d : SetKey → ℕ
     d key = choice_at (player_keys h player) strategy key
 
-    meets_carried : (key : SetKey) → Has (used_sets g.tree) key → (o : Option SetKey)
-        → ((k : SetKey) → o ≡ Some k → Has (used_sets g.tree) k)
-        → option_map_or (same_set (renumbered_set r key)) (option_map (renumbered_set r) o) false
-        ≡ option_map_or (same_set key) o false
-    meets_carried key used None all = refl
-    meets_carried key used (Some k) all =
-        same_tests same_set same_set same_set_equality same_set_equality (renumbered_set r) key k
-        (sets_apart g r is key k used (all k refl))
+    meets_carried : (key : SetKey) (n : Node) → Has (used_sets g.tree) key → HasUsed n
+        → option_map_or (same_set (renumbered_set r key)) (option_map (renumbered_set r) n.set)
+        false ≡ option_map_or (same_set key) n.set false
+    meets_carried key n used all = grind (arith, tests_carried)
 
-    own_carried : (owner taken : ℕ) (o : Option SetKey)
-        → ((k : SetKey) → o ≡ Some k → Has (used_sets g.tree) k)
+    own_carried : (owner taken : ℕ) (n : Node) → HasUsed n
         → option_map_or (λ k. not (k.player == owner) || d k == taken)
-        (option_map (renumbered_set r) o) true
-        ≡ option_map_or (λ k. not (k.player == owner) || c k == taken) o true
-    own_carried owner taken o all = grind (arith, strategy_carried)
+        (option_map (renumbered_set r) n.set) true
+        ≡ option_map_or (λ k. not (k.player == owner) || c k == taken) n.set true
+    own_carried owner taken n all = grind (arith, strategy_carried)
 
     comes_carried : (key : SetKey) → Has (used_sets g.tree) key → (steps : List Step)
         → OnSteps HasUsed steps
@@ -200,8 +194,8 @@ module _ (g : Game) (r : Renumbering) (game : IsGame g) (is : IsRenumbering g r)
         ≡ comes_to c key steps
     comes_carried key used [] all = refl
     comes_carried key used (s ∷ steps) all =
-        λ i. meets_carried key used s.node.set all.0 i
-        || (own_carried key.player s.taken s.node.set all.0 i
+        λ i. meets_carried key s.node used all.0 i
+        || (own_carried key.player s.taken s.node all.0 i
         && comes_carried key used steps all.1 i)
 
     relevant_carried : (key : SetKey) → Has (used_sets g.tree) key
@@ -227,19 +221,15 @@ module _ (g : Game) (r : Renumbering) (game : IsGame g) (is : IsRenumbering g r)
 
   pub reduced_strategies_carried : (player : ℕ)
       → reduced_strategies h player ≡ reduced_strategies g player
-  reduced_strategies_carried player =
-      ap (first_uses (pointwise same_choice))
-      (ap (map (reduced h player)) (strategies_carried player)
-      ∙ map_same (reduced h player) (reduced g player) (strategies g player)
-      (λ strategy i. reduced_carried player strategy))
+  reduced_strategies_carried player = λ i. first_uses (pointwise same_choice)
+      (map (λ strategy. reduced_carried player strategy i) (strategies_carried player i))
 
   pub reduced_by_carried : (profile : List ℕ) → reduced_by h profile ≡ reduced_by g profile
   reduced_by_carried profile = λ i. map (λ p. reduced_carried p.0 p.1 i)
       (zip (players_of g) (strategies_at_carried profile i))
 
   reduced_at_carried : (profile : List ℕ) → reduced_at h profile ≡ reduced_at g profile
-  reduced_at_carried profile = λ i. map (λ p. strategy_at (reduced_strategies_carried p.0 i) p.1)
-      (zip (players_of g) profile)
+  reduced_at_carried profile = grind (arith, reduced_strategies_carried)
 
   reduced_right_carried : AreReducedPayoffsAt h ≡ AreReducedPayoffsAt g
   reduced_right_carried = λ i profile payoffs. (full : List ℕ) → Contains (profiles_carried i) full
@@ -266,26 +256,23 @@ module _ (g h : Game) (game : IsGame g) (game' : IsGame h) (same : SameGame g h)
   over : (P : Game → Type 0) → P (renumbered same.0 g) → P h
   over P = subst P (carried_is_renumbered same.0 g h game game' same.1)
 
+  -- types that are equal hold alike
+  alike_in : (P : Game → Type 0) → P (renumbered same.0 g) ≡ P g → P g ↔ P h
+  alike_in P e = over (λ x. P g ↔ P x) (transport⁻¹ e, transport e)
+
   pub same_values : (all : List (List ℕ)) (player : ℕ) (value : Ratio)
       → IsValue g (choices_by g all) player g.tree value
       ↔ IsValue h (choices_by h all) player h.tree value
-  same_values all player value =
-      over (λ x. IsValue g (choices_by g all) player g.tree value
-      ↔ IsValue x (choices_by x all) player x.tree value)
-      (alike_types (value_carried g same.0 game same.1.renumbering all player value))
+  same_values all player value = alike_in (λ x. IsValue x (choices_by x all) player x.tree value)
+      (value_carried g same.0 game same.1.renumbering all player value)
 
   pub same_forms : (t : Table) → IsStrategicForm g t ↔ IsStrategicForm h t
   same_forms t = over (λ x. IsStrategicForm g t ↔ IsStrategicForm x t)
       (strategic_carried g same.0 game same.1.renumbering t)
 
-  pub same_count : HasTooManyProfiles g ↔ HasTooManyProfiles h
-  same_count = over (λ x. HasTooManyProfiles g ↔ HasTooManyProfiles x)
-      (alike_types (ap (λ ps. profile_limit < length ps)
-      (profiles_carried g same.0 game same.1.renumbering)))
-
   pub same_overflow : (position : ℕ) → OverflowsAt g position ↔ OverflowsAt h position
-  same_overflow position = over (λ x. OverflowsAt g position ↔ OverflowsAt x position)
-      (alike_types (overflow_carried g same.0 game same.1.renumbering position))
+  same_overflow position = alike_in (λ x. OverflowsAt x position)
+      (overflow_carried g same.0 game same.1.renumbering position)
 
   pub same_reduced_forms : (t : Table) → IsReducedForm g t ↔ IsReducedForm h t
   same_reduced_forms t = over (λ x. IsReducedForm g t ↔ IsReducedForm x t)
@@ -293,9 +280,8 @@ module _ (g h : Game) (game : IsGame g) (game' : IsGame h) (same : SameGame g h)
 
   pub same_reduced_overflow : (position : ℕ)
       → ReducedOverflowsAt g position ↔ ReducedOverflowsAt h position
-  same_reduced_overflow position =
-      over (λ x. ReducedOverflowsAt g position ↔ ReducedOverflowsAt x position)
-      (alike_types (reduced_overflow_carried g same.0 game same.1.renumbering position))
+  same_reduced_overflow position = alike_in (λ x. ReducedOverflowsAt x position)
+      (reduced_overflow_carried g same.0 game same.1.renumbering position)
 
 pub ruleset same_by_pure = (
   carried_is_renumbered,
@@ -303,7 +289,7 @@ pub ruleset same_by_pure = (
   strategies_carried,
   strategies_at_carried,
   same_values,
-  same_count,
+  profiles_carried,
   same_overflow,
 )
 

@@ -1,11 +1,11 @@
 -- How many actions there are at a player's set, by its position among his.
-use Rattle.gf_form.proofs.Common.{◌≡◌, Some, None, refl, subst, arith, ◌==◌, IsGame, set_at, has_at}
-use Rattle.gf_form.proofs.Common.{ℕ, Option, get_or, SetKey, same_set, set_of, used_sets, of_filter}
-use Rattle.gf_form.proofs.Common.{zero, length-numbers_from, first_uses_distinct, same_set_equality}
-use Rattle.gf_form.proofs.Common.{suc, ◌+◌, ◌<◌, ◌≤◌, [], map, sym, ◌∙◌, Game}
-use Rattle.gf_form.proofs.Common.{List, slice_get-map, InformationSet, AreStrategies, action_counts}
-use Rattle.gf_form.proofs.Common.{length, option_map, slice_get, length-map, Described, players_of}
-use Rattle.gf_form.proofs.Common.{AllZip-long, at_position, player_keys, player_sets, AreDistinct}
+use Rattle.gf_form.proofs.Common.{length-numbers_from, first_uses_distinct, same_set_equality, Some}
+use Rattle.gf_form.proofs.Common.{option_and_then, InformationSet, slice_get-map, AreStrategies, []}
+use Rattle.gf_form.proofs.Common.{action_counts, AllZip-long, at_position, player_keys, player_sets}
+use Rattle.gf_form.proofs.Common.{AreDistinct, option_map, length-map, players_of, used_sets, subst}
+use Rattle.gf_form.proofs.Common.{of_filter, slice_get, Described, same_set, IsGame, set_at, has_at}
+use Rattle.gf_form.proofs.Common.{Option, get_or, SetKey, set_of, length, arith, None, refl, ◌==◌}
+use Rattle.gf_form.proofs.Common.{zero, Game, List, ◌≡◌, suc, ◌+◌, ◌<◌, ◌≤◌, map, sym, ◌∙◌, ℕ}
 use Rattle.gf_tree.proofs.lemmas.games.Lookups.{entry_at}
 use Rattle.gf_form.proofs.lemmas.strategies.Choices.{IsChoice}
 use Rattle.gf_form.proofs.lemmas.strategies.Lookups.{zip_at, zip_by_places, zip_counted}
@@ -25,36 +25,22 @@ his_set g game player s k is =
     same_set_equality (used_sets g.tree)) in
     grind (arith, entry_at same_set same_set_equality g.sets s distinct there.0)
 
--- the set at a position, by its number, and how many actions it has
-pub record IsThere (g : Game) (player position number : ℕ) : Type 0 where
-  pub set : InformationSet
-  pub found : set_at g (set_of player number) ≡ Some set
-  pub count : at_position (action_counts g player) position ≡ Some (length set.actions)
-
-pub set_there : (g : Game) → IsGame g → (player position number : ℕ)
-    → at_position (map (λ key. key.number) (player_keys g player)) position ≡ Some number
-    → IsThere g player position number
-set_there g game player zero number h = absurd cc
-set_there g game player (suc k) number h =
-    by (slice_get (player_sets g player) k) refl
-    (grind (arith, slice_get-map))
+-- how many actions there are at the set at a position, by its number
+pub count_there : (g : Game) → IsGame g → (player position : ℕ)
+    → at_position (action_counts g player) position
+    ≡ option_and_then (λ number. option_map (λ set. length set.actions)
+    (set_at g (set_of player number)))
+    (at_position (map (λ key. key.number) (player_keys g player)) position)
+count_there g game player zero = refl
+count_there g game player (suc k) =
+    grind (arith, slice_get-map, by (slice_get (player_sets g player) k) refl)
   where
     by : (o : Option Known) → slice_get (player_sets g player) k ≡ o
-        → option_map (λ (s : SetKey). s.number) (option_map (λ (s : Known). s.key) o) ≡ Some number
-        → IsThere g player (suc k) number
-    by None is e = absurd cc
-    by (Some s) is e =
-        let same : s.key.number ≡ number = cc in
-        record {
-          set = s.description;
-          found = cc (same, his_set g game player s k is);
-          count = grind (arith, slice_get-map, is);
-        }
-
-pub none_there : (g : Game) (player position : ℕ)
-    → at_position (map (λ key. key.number) (player_keys g player)) position ≡ None
-    → at_position (action_counts g player) position ≡ None
-none_there g player position h = grind (arith, slice_get-map)
+        → option_map (λ (s : Known). length s.description.actions) o
+        ≡ option_and_then (λ (s : Known). option_map (λ (set : InformationSet). length set.actions)
+        (set_at g (set_of player s.key.number))) o
+    by None is = refl
+    by (Some s) is = grind (arith, his_set g game player s k is)
 
 -- ---- lists place by place
 
@@ -85,5 +71,7 @@ as_many_strategies g all h =
 pub strategy_of : (g : Game) (all : List (List ℕ)) (k : ℕ) → AreStrategies g all → k < length all
     → IsChoice (action_counts g (k + 1)) (get_or all k [])
 strategy_of g all k h less = grind (arith, zip_counted)
+
+pub ruleset count_steps = (count_there, length-map)
 
 pub ruleset strategy_steps = (are_all, as_many_strategies, length-map)

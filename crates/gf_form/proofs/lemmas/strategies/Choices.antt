@@ -1,48 +1,44 @@
 -- All choices at sets with this many actions each: every one is in the list, once and at its place.
-use Rattle.gf_form.proofs.Common.{get_or_append_left, recursion_from_All, All-from_recursion, arith}
-use Rattle.gf_form.proofs.Common.{div-lt_iff_lt-mul, mul-le-mul_right, All-from_get_or, all_choices}
-use Rattle.gf_form.proofs.Common.{get_or_default, AllByRecursion, length-append, numbers_from, zero}
-use Rattle.gf_form.proofs.Common.{div-add-mod, AllZip-long, length-map, get_or-map, Contains, List}
-use Rattle.gf_form.proofs.Common.{flat_map, product, length, get_or, AllZip, mod-lt, refl, ◌≡◌, suc}
-use Rattle.gf_form.proofs.Common.{◌+◌, ◌-◌, ◌*◌, ◌/◌, ◌%◌, ◌<◌, ◌≤◌, ◌∷◌, map, ◌∙◌, ◌↔◌, sym, [], ℕ}
-use Rattle.std.proofs.lemmas.List.{get_or-append-add}
+use Rattle.gf_form.proofs.Common.{recursion_from_All, All-from_recursion, arith, div-lt_iff_lt-mul}
+use Rattle.gf_form.proofs.Common.{mul-le-mul_right, All-from_get_or, all_choices, get_or_default}
+use Rattle.gf_form.proofs.Common.{AllByRecursion, div-add-mod, AllZip-long, length-map, get_or-map}
+use Rattle.gf_form.proofs.Common.{Contains, List, product, length, get_or, AllZip, mod-lt, refl}
+use Rattle.gf_form.proofs.Common.{◌≡◌, ◌+◌, ◌-◌, ◌*◌, ◌/◌, ◌%◌, ◌<◌, ◌≤◌, ◌∷◌, map, ◌∙◌, ◌↔◌, sym}
+use Rattle.gf_form.proofs.Common.{[], ℕ, positions, length-numbers_from, get_or-numbers_from}
 use Rattle.std.proofs.lemmas.List.Elements.{All-contains}
+use Rattle.gf_form.proofs.lemmas.strategies.Lookups.{row_at, row_count}
 
--- the choices that begin with one of this many actions
-abbrev turned : ℕ → ℕ → List (List ℕ) → List (List ℕ)
-turned first n all = flat_map (λ action. map (λ others. action ∷ others) all) (numbers_from first n)
+-- the choices that begin with an action
+abbrev begun : List (List ℕ) → ℕ → List (List ℕ)
+begun all action = map (λ others. action ∷ others) all
 
-length-turned : (first n : ℕ) (all : List (List ℕ)) → length (turned first n all) ≡ n * length all
-length-turned first zero all = omega arith
-length-turned first (suc n) all =
-    grind (arith, length-append, length-map, length-turned (first + 1) n all)
+as_many : (all : List (List ℕ)) (action : ℕ) → length (begun all action) ≡ length all
+as_many all action = length-map all (λ others. action ∷ others)
 
 pub length-all_choices : (counts : List ℕ) → length (all_choices counts) ≡ product counts
 length-all_choices [] = refl
-length-all_choices (count ∷ counts) = grind (arith, length-turned, length-all_choices counts)
-
--- ---- what stands at a place
-
-turned_at : (first n before k : ℕ) (all : List (List ℕ)) → before < n → k < length all
-    → get_or (turned first n all) (before * length all + k) []
-    ≡ (first + before) ∷ get_or all k []
-turned_at first zero before k all within less = absurd (omega arith)
-turned_at first (suc n) zero k all within less =
-    let at : 0 * length all + k ≡ k = omega arith in
-    let here : first ≡ first + 0 = omega arith in
-    grind (arith, at, here, get_or_append_left, get_or-map, length-map)
-turned_at first (suc n) (suc before) k all within less =
-    let next : first + 1 + before ≡ first + suc before = omega arith in
-    let at : suc before * length all + k ≡ length all + (before * length all + k) = omega arith in
-    let others = turned_at (first + 1) n before k all (omega (arith, within)) less in
-    grind (arith, at, next, others, get_or-append-add, length-map)
+length-all_choices (count ∷ counts) =
+    let all = all_choices counts in
+    let rows = row_count (begun all) (length all) (as_many all) (positions count) in
+    cc (rows, length-numbers_from 1 count, length-all_choices counts)
 
 -- an action at the first set, and a choice at the others
 pub choices_row : (n : ℕ) (counts : List ℕ) (before k : ℕ) → before < n → k < product counts
     → get_or (all_choices (n ∷ counts)) (before * product counts + k) []
     ≡ (before + 1) ∷ get_or (all_choices counts) k []
 choices_row n counts before k within less =
-    grind (arith, length-all_choices counts, turned_at 1 n before k (all_choices counts))
+    let all = all_choices counts in
+    let row = row_at (begun all) (length all) (as_many all) (positions n) before k 0 [] in
+    let next : 1 + before ≡ before + 1 = omega arith in
+    grind (
+      arith,
+      row,
+      next,
+      get_or-map,
+      get_or-numbers_from,
+      length-all_choices counts,
+      length-numbers_from,
+    )
 
 pub positive_parts : (m n k : ℕ) → k < m * n → (0 < m) × (0 < n)
 positive_parts m n k h = grind arith
@@ -117,26 +113,15 @@ pub choices_distinct : (counts : List ℕ) (i j : ℕ) (d : List ℕ)
     → i < length (all_choices counts) → j < length (all_choices counts)
     → get_or (all_choices counts) i d ≡ get_or (all_choices counts) j d → i ≡ j
 choices_distinct counts i j d hi hj e =
-    let all = all_choices counts in
-    cc (
-      place_at counts i hi,
-      place_at counts j hj,
-      e,
-      get_or_default all i d [] hi,
-      get_or_default all j d [] hj,
-    )
+    let same = get_or_default (all_choices counts) in
+    cc (place_at counts i hi, place_at counts j hj, same i d [] hi, same j d [] hj)
 
 pub every_choice : (counts choice : List ℕ)
     → Contains (all_choices counts) choice ↔ IsChoice counts choice
 every_choice counts choice = (
-  λ h. All-contains (IsChoice counts) (all_choices counts) choice
-      (All-from_recursion (IsChoice counts) (all_choices counts) (are_choices counts)) h,
+  grind (arith, All-contains, All-from_recursion, are_choices),
   λ h.
       let at = at_its_place counts choice h in
-      let less : place counts choice < length (all_choices counts) =
-      omega (arith, at.0, length-all_choices counts) in (
-        place counts choice,
-        less,
-        get_or_default (all_choices counts) (place counts choice) choice [] less ∙ at.1,
-      ),
+      let less = rw (← length-all_choices counts) at at.0 in
+      (place counts choice, less, get_or_default (all_choices counts) _ choice [] less ∙ at.1),
 )

@@ -1,12 +1,11 @@
 -- The strategies of a profile choose an action at each set, and chance has none.
-use Rattle.gf_form.proofs.Common.{◌≡◌, ℕ, ◌+◌, ◌-◌, ◌<◌, ◌≤◌, Bool, true, List, [], ◌∷◌, Some, map}
-use Rattle.gf_form.proofs.Common.{length, get_or, refl, sym, ◌∙◌, subst, arith, zip, filter, find}
-use Rattle.gf_form.proofs.Common.{AllZip, Contains, get_or_default, IsProfile, every_profile, Game}
-use Rattle.gf_form.proofs.Common.{SetKey, InformationSet, same_set, Described, description_at, Node}
-use Rattle.gf_form.proofs.Common.{IsGame, set_at, player_keys, player_sets, action_counts, set_of}
-use Rattle.gf_form.proofs.Common.{strategies, players_of, strategies_at, strategy_at, choice_at}
-use Rattle.gf_form.proofs.Common.{choices_by, full_profiles, HasActions, AllZip-long, zero_ratio}
-use Rattle.gf_form.proofs.Common.{length-numbers_from, payoff_at}
+use Rattle.gf_form.proofs.Common.{length-numbers_from, get_or_default, InformationSet, player_keys}
+use Rattle.gf_form.proofs.Common.{description_at, every_profile, action_counts, strategies_at, Bool}
+use Rattle.gf_form.proofs.Common.{full_profiles, player_sets, strategy_at, AllZip-long, strategies}
+use Rattle.gf_form.proofs.Common.{players_of, choices_by, HasActions, zero_ratio, IsProfile, length}
+use Rattle.gf_form.proofs.Common.{Described, choice_at, payoff_at, Contains, same_set, filter, true}
+use Rattle.gf_form.proofs.Common.{AllZip, SetKey, IsGame, set_at, arith, List, Some, refl, find, []}
+use Rattle.gf_form.proofs.Common.{Game, Node, ◌≡◌, ◌+◌, ◌-◌, ◌<◌, ◌≤◌, ◌∷◌, map, ◌∙◌, zip, ℕ}
 use Rattle.gf_form.proofs.lemmas.strategies.Choices.{IsChoice, every_choice}
 use Rattle.gf_form.proofs.lemmas.strategies.Lookups.{strategy_before, zip_counted}
 use Rattle.gf_form.proofs.lemmas.strategies.KnownSets.{set_is}
@@ -59,9 +58,7 @@ module _ (g : Game) (game : IsGame g) where
         AllZip-long _ all (players_of g) h,
         length-numbers_from 1 (length g.players),
       ) in
-      let his = subst (λ p. Contains (strategies g p) (get_or all k [])) player
-      (zip_counted (λ strategy player. Contains (strategies g player) strategy) [] all
-      (length g.players) h k less) in
+      let his = rw player at (zip_counted _ [] all (length g.players) h k less) in
       grind (arith, known, k, player, less, his, his_actions, strategy_before)
 
 -- ---- the strategies of a profile
@@ -70,8 +67,7 @@ pub strategy_there : {A : Type 0} (xs : List (List A)) (s : ℕ) → 1 ≤ s →
     → Contains xs (strategy_at xs s)
 strategy_there xs s above within =
     let less : s - 1 < length xs = omega arith in
-    subst (Contains xs) (sym (strategy_before xs s above))
-    (s - 1, less, get_or_default xs (s - 1) (get_or xs (s - 1) []) [] less)
+    rw (strategy_before xs s above) (s - 1, less, get_or_default xs (s - 1) _ [] less)
 
 are_strategies : (g : Game) (players profile : List ℕ)
     → IsProfile (map (λ player. length (strategies g player)) players) profile
@@ -85,13 +81,11 @@ pub profile_strategies : (g : Game) (profile : List ℕ) → Contains (full_prof
     (players_of g)
 profile_strategies g profile h = grind (arith, are_strategies, every_profile)
 
-nothing_chosen : (keys : List SetKey) (key : SetKey) → choice_at keys [] key ≡ 0
+pub nothing_chosen : (keys : List SetKey) (key : SetKey) → choice_at keys [] key ≡ 0
 nothing_chosen [] key = refl
 nothing_chosen (k ∷ keys) key = refl
 
-pub chance_chooses_nothing : (g : Game) (all : List (List ℕ)) (number : ℕ)
-    → choices_by g all (set_of 0 number) ≡ 0
-chance_chooses_nothing g all number = nothing_chosen (player_keys g 0) (set_of 0 number)
-
 pub chance_is_paid_nothing : (g : Game) (n : Node) → payoff_at g 0 n ≡ zero_ratio
 chance_is_paid_nothing g n = grind arith
+
+pub ruleset chance_steps = (nothing_chosen, chance_is_paid_nothing)

@@ -1,16 +1,14 @@
 -- Numbers of actions, multiplied one after another.
-use Rattle.gf_form.proofs.Common.{◌≡◌, ℕ, zero, suc, ◌+◌, ◌*◌, ◌<◌, ◌≤◌, List, [], ◌∷◌, ◌++◌, map}
-use Rattle.gf_form.proofs.Common.{length, get_or, take, refl, ap, ◌∙◌, add-one, arith, Option, Some}
-use Rattle.gf_form.proofs.Common.{None, MatchOption, Vec, Global, ◌==◌, filter, unwrap_or, take-suc}
-use Rattle.gf_form.proofs.Common.{AllByRecursion, mul_assoc, mul-le-mul, get_or-map, length-map}
-use Rattle.gf_form.proofs.Common.{unwrap_or-slice_get, mul_above, at_position, profile_limit, IsSet}
-use Rattle.gf_form.proofs.Common.{product, length-profiles, get_or-numbers_from, SetKey, Described}
-use Rattle.gf_form.proofs.Common.{length-numbers_from, InformationSet, player_keys, Game, IsGame}
-use Rattle.gf_form.proofs.Common.{action_counts, players_of, strategies, HasTooManyProfiles}
-use Rattle.gf_form.proofs.Common.{ArePositive, All-from_recursion, All-get_or}
+use Rattle.gf_form.proofs.Common.{unwrap_or-slice_get, get_or-numbers_from, length-numbers_from, []}
+use Rattle.gf_form.proofs.Common.{HasTooManyProfiles, All-from_recursion, length-profiles, take-suc}
+use Rattle.gf_form.proofs.Common.{AllByRecursion, InformationSet, profile_limit, action_counts, ◌≡◌}
+use Rattle.gf_form.proofs.Common.{at_position, player_keys, ArePositive, get_or-map, length-map, ap}
+use Rattle.gf_form.proofs.Common.{players_of, strategies, All-get_or, unwrap_or, mul_assoc, add-one}
+use Rattle.gf_form.proofs.Common.{mul_above, Described, product, length, get_or, filter, SetKey, ℕ}
+use Rattle.gf_form.proofs.Common.{IsGame, arith, IsSet, zero, List, ◌++◌, take, ◌==◌, Game, suc}
+use Rattle.gf_form.proofs.Common.{◌+◌, ◌*◌, ◌<◌, ◌≤◌, ◌∷◌, map, ◌∙◌}
 use Rattle.std.proofs.Math.Nat.{mul-le-mul_left}
-use Rattle.std.proofs.lemmas.List.{take_all}
-use Rattle.gf_nfg.specs.declared.limit.ProfileCount.{ProfileCount}
+pub use Rattle.std.proofs.lemmas.List.{take_all as take_past}
 use Rattle.gf_form.proofs.lemmas.strategies.Choices.{length-all_choices}
 use Rattle.gf_form.proofs.lemmas.strategies.Lookups.{all_mapped}
 
@@ -26,16 +24,13 @@ pub product_positive : (counts : List ℕ) → ArePositive counts → 0 < produc
 product_positive [] h = omega arith
 product_positive (c ∷ counts) h = mul_above c (product counts) h.0 (product_positive counts h.1)
 
-product_part : (counts : List ℕ) (i : ℕ) → ArePositive counts
-    → product (take i counts) ≤ product counts
-product_part counts zero h = product_positive counts h
-product_part [] (suc i) h = omega arith
-product_part (c ∷ counts) (suc i) h = mul-le-mul_left c (product_part counts i h.1)
-
 pub product_within : (counts : List ℕ) (i : ℕ) → ArePositive counts → i < length counts
     → product (take i counts) * get_or counts i 0 ≤ product counts
-product_within counts i positive h =
-    omega (arith, product_part counts (suc i) positive, product_more counts i h)
+product_within (c ∷ counts) (suc i) h less =
+    grind (arith, mul_assoc, mul-le-mul_left c (product_within counts i h.1 (omega (arith, less))))
+product_within (c ∷ counts) zero h less =
+    omega (arith, mul-le-mul_left c (product_positive counts h.1))
+product_within [] i h less = absurd (omega arith)
 
 -- ---- the sets of a player
 
@@ -92,32 +87,16 @@ pub one_item_more : {A : Type 0} (all kept next : List A) (i : ℕ) (item d : A)
     → item ≡ get_or all i d → kept ≡ take i all → next ≡ kept ++ item ∷ [] → next ≡ take (i + 1) all
 one_item_more all kept next i item d h is kept_is next_is = cc (take-suc all i d h, add-one i)
 
+-- and the next one
+pub next_player : {A : Type 0} (g : Game) (f : ℕ → A) (before : ℕ) → before < length g.players
+    → take (before + 1) (map f (players_of g))
+    ≡ take before (map f (players_of g)) ++ f (before + 1) ∷ []
+next_player g f before less =
+    grind (arith, as_many_players g f, of_player g f before (f 0) less, add-one, take-suc)
+
 pub sets_counted : (g : Game) (player : ℕ)
     → length (action_counts g player) ≡ length (player_keys g player)
 sets_counted g player = grind (arith, length-map)
-
-pub take_past : {A : Type 0} (i : ℕ) (xs : List A) → length xs ≤ i → take i xs ≡ xs
-take_past i xs h = take_all i xs h
-
--- ---- what is counted of a player
-
-abbrev pub OwnCounts : Game → ℕ → Option (Vec ℕ Global × ProfileCount) → Type 0
-OwnCounts g player o = MatchOption o (profile_limit < product (action_counts g player))
-    (λ own. (own.0.items ≡ action_counts g player)
-    × (own.1.count ≡ product (action_counts g player)))
-
-pub no_counts : (g : Game) (player : ℕ) (o : Option (Vec ℕ Global × ProfileCount))
-    → OwnCounts g player o → o ≡ None → profile_limit < length (strategies g player)
-no_counts g player o h e = grind (arith, length-all_choices)
-
-pub some_counts : (g : Game) (player : ℕ) (o : Option (Vec ℕ Global × ProfileCount))
-    (own : Vec ℕ Global) (count : ProfileCount) → OwnCounts g player o → o ≡ Some (own, count)
-    → (own.items ≡ action_counts g player) × (count.count ≡ length (strategies g player))
-some_counts g player o own count h e = grind (arith, length-all_choices, length-map)
-
-pub strategies_at_place : (g : Game) (before : ℕ) → before < length g.players
-    → get_or (strategy_counts g) before 0 ≡ length (strategies g (before + 1))
-strategies_at_place g before less = grind (arith, of_player)
 
 -- so many strategies of the players so far and of the next one
 pub too_many : (g : Game) → IsGame g → (before made own : ℕ) → before < length g.players
@@ -125,20 +104,12 @@ pub too_many : (g : Game) → IsGame g → (before made own : ℕ) → before < 
     → profile_limit < made * own → HasTooManyProfiles g
 too_many g game before made own less made_is own_is past =
     let within = product_within (strategy_counts g) before (strategies_positive g game) in
-    grind (arith, within, strategies_at_place, as_many_players, length-profiles)
-
--- and of the next one alone
-pub too_many_alone : (g : Game) → IsGame g → (before made : ℕ) → before < length g.players
-    → made ≡ product (take before (strategy_counts g)) → 0 < made
-    → profile_limit < length (strategies g (before + 1)) → HasTooManyProfiles g
-too_many_alone g game before made less made_is some past =
-    let own = length (strategies g (before + 1)) in
-    let more : 1 * own ≤ made * own = mul-le-mul some (omega arith) in
-    too_many g game before made own less made_is refl (omega (arith, more, past))
+    grind (arith, within, of_player, as_many_players, length-profiles)
 
 pub ruleset product_steps = (product_more, add-one)
 
 pub ruleset count_steps = (
+  length-all_choices,
   positive_at,
   actions_positive,
   count_at,

@@ -5,7 +5,9 @@ use Rattle.gf_form.proofs.Common.{arith, option_map, unwrap_or, option_and_then,
 use Rattle.gf_form.proofs.Common.{AllByRecursion, unwrap_or-slice_get, at_position, strategy_at}
 use Rattle.gf_form.proofs.Common.{all_images, all_of_each, AllZip, AllZip-long, positions, flat_map}
 use Rattle.gf_form.proofs.Common.{get_or-numbers_from, length-numbers_from, ◌++◌, ◌↔◌, Some, zero}
-use Rattle.gf_form.proofs.Common.{IsFirstWithout, find, has, Has, get_or_default}
+use Rattle.gf_form.proofs.Common.{IsFirstWithout, find, has, Has, get_or_default, length-append}
+use Rattle.gf_form.proofs.Common.{get_or_append_left, ◌*◌}
+use Rattle.std.proofs.lemmas.List.{get_or-append-add}
 
 -- a property of what there is, if there is something
 abbrev pub Each : {A : Type 0} → (A → Type 0) → Option A → Type 0
@@ -68,6 +70,24 @@ in_turn f k (x ∷ xs) d each =
     let others = in_turn f (k + 1) xs d (λ i h. let next : k + 1 + i ≡ k + suc i = omega arith in
     ap f next ∙ each (suc i) (omega arith)) in
     λ i. here i ∷ others i
+
+-- ---- lists of one length, one after another
+
+pub row_count : {A B : Type 0} (f : A → List B) (n : ℕ) → ((x : A) → length (f x) ≡ n)
+    → (xs : List A) → length (flat_map f xs) ≡ length xs * n
+row_count f n each [] = omega arith
+row_count f n each (x ∷ xs) = grind (arith, length-append, each x, row_count f n each xs)
+
+pub row_at : {A B : Type 0} (f : A → List B) (n : ℕ) → ((x : A) → length (f x) ≡ n) → (xs : List A)
+    (i j : ℕ) (d : A) (e : B) → i < length xs → j < n
+    → get_or (flat_map f xs) (i * n + j) e ≡ get_or (f (get_or xs i d)) j e
+row_at f n each (x ∷ xs) (suc i) j d e less within =
+    let at : suc i * n + j ≡ n + (i * n + j) = omega arith in
+    let others = row_at f n each xs i j d e (omega (arith, less)) within in
+    grind (arith, at, each x, others, get_or-append-add)
+row_at f n each (x ∷ xs) zero j d e less within =
+    let at : 0 * n + j ≡ j = omega arith in grind (arith, at, each x, get_or_append_left)
+row_at f n each [] i j d e less within = absurd (omega arith)
 
 -- ---- lists place by place
 

@@ -1,17 +1,17 @@
 -- The profiles of some strategies of each player, and their numbers among all profiles.
-use Rattle.gf_form.proofs.Common.{◌≡◌, IsPicked, Contains, flat_map, mul_comm, IsProfile, AreCounts}
-use Rattle.gf_form.proofs.Common.{ℕ, ap, suc, List, get_or, zero, drop, AllZip, profiles, Counts}
-use Rattle.gf_form.proofs.Common.{AreBelow, ◌+◌, ◌-◌, ◌*◌, ◌/◌, ◌%◌, ◌<◌, ◌≤◌, [], ◌∷◌, map, sym}
-use Rattle.gf_form.proofs.Common.{◌∙◌, Game, ArePicked, all_weaker, positions, product, players_of}
-use Rattle.gf_form.proofs.Common.{strategies, length, length-numbers_from, AreProfileNumbers, arith}
-use Rattle.gf_form.proofs.Common.{numbered_profiles, every_profile, AreStrategies, action_counts}
-use Rattle.gf_form.proofs.Common.{full_profiles, AllByRecursion, mul-le-mul_right, get_or_default}
-use Rattle.gf_form.proofs.Common.{length-profiles, mod-add-div, get_or-map, length-map}
-use Rattle.gf_form.proofs.Common.{numbers_from, strategies_at}
-use Rattle.gf_nfg.specs.ProfilePlaces.{place}
-use Rattle.gf_nfg.proofs.lemmas.tables.Profiles.{are_profiles, place_at}
-use Rattle.gf_form.proofs.lemmas.strategies.Lookups.{in_turn, zip_flat}
-use Rattle.gf_form.proofs.lemmas.strategies.Choices.{IsChoice, every_choice}
+use Rattle.gf_form.proofs.Common.{length-numbers_from, get_or-numbers_from, AreProfileNumbers, List}
+use Rattle.gf_form.proofs.Common.{numbered_profiles, take-append-drop, length-profiles, mod-add-div}
+use Rattle.gf_form.proofs.Common.{AllByRecursion, get_or_default, AreStrategies, action_counts, ◌≡◌}
+use Rattle.gf_form.proofs.Common.{full_profiles, strategies_at, numbers_from, all_weaker, AreCounts}
+use Rattle.gf_form.proofs.Common.{players_of, get_or-map, length-map, ArePicked, get_or, positions}
+use Rattle.gf_form.proofs.Common.{IsPicked, flat_map, mul_comm, profiles, zero, AreBelow, product}
+use Rattle.gf_form.proofs.Common.{AllZip, Counts, length, arith, drop, Game, suc, take, ◌+◌, ◌*◌}
+use Rattle.gf_form.proofs.Common.{◌/◌, ◌%◌, ◌<◌, ◌≤◌, ◌∷◌, map, ◌∙◌, ap, [], ℕ, mul-le-mul_right, ⊤}
+use Rattle.gf_form.proofs.Common.{all_of_each}
+use Rattle.gf_form.proofs.lemmas.rows.DigitPlaces.{product_joined}
+use Rattle.gf_form.proofs.lemmas.strategies.Lookups.{in_turn, row_at, zip_by_places, zip_flat}
+use Rattle.gf_form.proofs.lemmas.strategies.Lookups.{zip_weaker}
+use Rattle.gf_form.proofs.lemmas.strategies.Choices.{every_choice}
 use Rattle.gf_form.proofs.lemmas.strategies.Chosen.{profile_strategies}
 use Rattle.gf_form.proofs.lemmas.strategies.StrategiesByNumber.{all_at, positive_parts}
 
@@ -21,20 +21,16 @@ profile_at : (count : ℕ) (counts : List ℕ) (number rest : ℕ) → number < 
     → rest < product counts → get_or (profiles (count ∷ counts)) (number + count * rest) []
     ≡ (number + 1) ∷ get_or (profiles counts) rest []
 profile_at count counts number rest less below =
-    let all = profiles (count ∷ counts) in
     let others = get_or (profiles counts) rest [] in
-    let profile = (number + 1) ∷ others in
-    let inside : rest < length (profiles counts) = omega (arith, below, length-profiles counts) in
-    let above : 1 ≤ number + 1 = omega arith in
-    let upto : number + 1 ≤ count = omega (arith, less) in
-    let there = (every_profile (count ∷ counts) profile).1 (
-      (above, upto),
-      all_at (IsProfile counts) (profiles counts) rest [] (are_profiles counts) inside,
-    ) in
-    let here : number + 1 - 1 ≡ number = omega arith in
-    let at = sym (λ i. here i + count * place_at counts rest [] inside i) ∙ sym (ap (place (count ∷
-    counts)) there.2) ∙ place_at (count ∷ counts) there.0 profile there.1 in
-    ap (λ (n : ℕ). get_or all n []) at ∙ get_or_default all there.0 [] profile there.1 ∙ there.2
+    let row = row_at (λ (others : List ℕ). map (λ s. s ∷ others) (positions count)) count
+    (λ others. length-map (positions count) (λ s. s ∷ others) ∙ length-numbers_from 1 count)
+    (profiles counts) rest number [] [] (omega (arith, below, length-profiles counts)) less in
+    let first = get_or-map (λ (s : ℕ). s ∷ others) (positions count) number 0 []
+    (omega (arith, less, length-numbers_from 1 count)) in
+    let strategy : get_or (positions count) number 0 ≡ number + 1 =
+    omega (arith, get_or-numbers_from 1 count number 0 less) in
+    let at : number + count * rest ≡ rest * count + number = omega arith in
+    rw at (row ∙ first ∙ ap (λ (s : ℕ). s ∷ others) strategy)
 
 pub profiles_next : (count : ℕ) (counts : List ℕ) (rest : ℕ)
     → 0 < count → rest < count * product counts → get_or (profiles (count ∷ counts)) rest []
@@ -44,18 +40,13 @@ profiles_next count counts rest some below = grind (arith, mul_comm, below, mod-
 -- ---- full profiles
 
 -- their strategies have an action for each set
-chosen : (g : Game) (all : List (List ℕ)) (players : List ℕ)
-    → AllZip (λ strategy player. Contains (strategies g player) strategy) all players
-    → AllZip (λ strategy player. IsChoice (action_counts g player) strategy) all players
-chosen g (strategy ∷ all) (player ∷ players) h =
-    ((every_choice (action_counts g player) strategy).0 h.0, chosen g all players h.1)
-chosen g all players h = grind arith
-
 pub are_strategies : (g : Game) (number : ℕ) → number < length (full_profiles g)
     → AreStrategies g (strategies_at g (get_or (full_profiles g) number []))
 are_strategies g number within =
     let profile = get_or (full_profiles g) number [] in
-    chosen g (strategies_at g profile) (players_of g) (profile_strategies g profile
+    zip_weaker (λ _. ⊤) _ _ (λ strategy player _ there. (every_choice (action_counts g player)
+    strategy).0 there) (strategies_at g profile) (players_of g)
+    (all_of_each (λ _. ⊤) (strategies_at g profile) (λ _ _. tt)) (profile_strategies g profile
     (number, within, get_or_default (full_profiles g) number profile [] within))
 
 -- ---- their numbers
@@ -64,36 +55,33 @@ sum_below : (count rest size number : ℕ) → rest < size → number < count
     → number + count * rest < count * size
 sum_below count rest size number less below = grind arith
 
--- one player more, with his strategies from a place on, before a profile of the others
-more_picked : (count : ℕ) (counts all : List ℕ) (picked : List (List ℕ)) (others : List ℕ)
-    (rest : ℕ) → IsPicked counts picked others rest → (own : List ℕ) (k : ℕ)
-    → AllByRecursion (λ number. number < count) own
-    → ((i : ℕ) → get_or all (k + i) 0 ≡ get_or own i 0)
-    → AllZip (IsPicked (count ∷ counts) (all ∷ picked))
-    (map (λ s. s ∷ others) (numbers_from (k + 1) (length own)))
-    (map (λ number. number + count * rest) own)
-more_picked count counts all picked others rest one [] k below h = tt
-more_picked count counts all picked others rest one (number ∷ own) k below h =
-    let here : k + 1 - 1 ≡ k + 0 = omega arith in
-    let first = ap (λ (n : ℕ). get_or all n 0) here ∙ h 0 in (
-      record {
-        within = sum_below count rest (product counts) number one.within below.0;
-        is = profile_at count counts number rest below.0 one.within
-            ∙ (λ i. (sym first i + 1) ∷ one.is i);
-      },
-      more_picked count counts all picked others rest one own (k + 1) below.1
-          (λ j. let next : k + 1 + j ≡ k + suc j = omega arith in
-          ap (λ (n : ℕ). get_or all n 0) next ∙ h (suc j)),
-    )
+-- one player more, with his strategy at a place, before a profile of the others
+one_picked : (count : ℕ) (counts own : List ℕ) (picked : List (List ℕ)) (others : List ℕ)
+    (rest k : ℕ) → IsPicked counts picked others rest → get_or own k 0 < count
+    → IsPicked (count ∷ counts) (own ∷ picked) ((1 + k) ∷ others) (get_or own k 0 + count * rest)
+one_picked count counts own picked others rest k one less = record {
+  within = sum_below count rest (product counts) (get_or own k 0) one.within less;
+  is = grind (arith, profile_at, one.is);
+}
+
+-- with each of his strategies
+more_picked : (count : ℕ) (counts own : List ℕ) (picked : List (List ℕ)) (others : List ℕ)
+    (rest : ℕ) → AllByRecursion (λ number. number < count) own → IsPicked counts picked others rest
+    → AllZip (IsPicked (count ∷ counts) (own ∷ picked))
+    (map (λ s. s ∷ others) (positions (length own))) (map (λ number. number + count * rest) own)
+more_picked count counts own picked others rest below one =
+    zip_by_places (IsPicked (count ∷ counts) (own ∷ picked)) [] 0 _ _
+    (grind (arith, length-map, length-numbers_from)) (λ k less.
+    let inside : k < length own = grind (arith, length-map, length-numbers_from) in
+    let here = all_at (λ number. number < count) own k 0 below inside in
+    let there : k < length (positions (length own)) = grind (arith, length-numbers_from) in
+    rw (
+      get_or-map (λ (s : ℕ). s ∷ others) (positions (length own)) k 0 [] there,
+      get_or-numbers_from 1 (length own) k 0 inside,
+      get_or-map (λ (number : ℕ). number + count * rest) own k 0 0 inside,
+    ) (one_picked count counts own picked others rest k one here))
 
 -- ---- one player after another
-
-pub player_at : (counts : List ℕ) (picked : List (List ℕ)) (i : ℕ) → AreBelow counts picked
-    → i < length counts → AllByRecursion (λ number. number < get_or counts i 0) (get_or picked i [])
-    × AreBelow (drop (suc i) counts) (drop (suc i) picked)
-player_at (count ∷ counts) (own ∷ picked) (suc i) h less =
-    player_at counts picked i h.1 (omega (arith, less))
-player_at counts picked i h less = grind arith
 
 pub next_picked : (counts : List ℕ) (picked : List (List ℕ)) (i : ℕ) (others : List ℕ)
     → AreBelow counts picked → i < length counts
@@ -107,19 +95,19 @@ next_picked (count ∷ counts) (own ∷ picked) zero others h less are =
     zip_flat (IsPicked counts picked) (IsPicked (count ∷ counts) (own ∷ picked))
     (λ profile. map (λ s. s ∷ profile) (positions (length own)))
     (λ rest. map (λ number. number + count * rest) own)
-    (λ profile rest one. more_picked count counts own picked profile rest one own 0 h.0
-    (λ j. let same : 0 + j ≡ j = omega arith in ap (λ (n : ℕ). get_or own n 0) same))
+    (λ profile rest one. more_picked count counts own picked profile rest h.0 one)
     (profiles (map length picked)) others are
 next_picked counts picked i others h less are = absurd (grind arith)
 
 pub no_less : (counts : List ℕ) (i : ℕ) → 0 < product counts
     → product (drop i counts) ≤ product counts
-no_less counts zero some = omega arith
-no_less [] (suc i) some = omega arith
-no_less (c ∷ counts) (suc i) some =
-    let parts = positive_parts c (product counts) 0 some in
-    let one : 1 * product counts ≤ c * product counts = mul-le-mul_right (product counts) parts.0 in
-    omega (arith, no_less counts i parts.1, one)
+no_less counts i some =
+    let first = product (take i counts) in
+    let later = product (drop i counts) in
+    let whole : first * later ≡ product counts =
+    cc (product_joined (take i counts) (drop i counts), take-append-drop i counts) in
+    let parts = positive_parts first later 0 (omega (arith, whole)) in
+    omega (arith, whole, mul-le-mul_right later parts.0)
 
 pub sums_fit : (count rest size most : ℕ) (own : List ℕ) → rest < size → count * size < most
     → AllByRecursion (λ number. number < count) own

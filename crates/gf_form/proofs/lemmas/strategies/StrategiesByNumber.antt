@@ -6,9 +6,9 @@ use Rattle.gf_form.proofs.Common.{mul_assoc, map_twice, all_both, add-one, decim
 use Rattle.gf_form.proofs.Common.{IsPlain, get_or, mod-lt, Option, arith, false, shown, take, drop}
 use Rattle.gf_form.proofs.Common.{refl, true, ◌==◌, List, Bool, Some, None, zero, ◌≡◌, suc, ◌+◌, ap}
 use Rattle.gf_form.proofs.Common.{◌*◌, ◌/◌, ◌%◌, ◌<◌, ◌≤◌, ◌∷◌, map, sym, ◌∙◌, ◌^◌, [], ℕ}
-use Rattle.std.specs.Str.Parse.{AllDigits}
+use Rattle.gf_form.proofs.Common.{all_weaker}
 use Rattle.std.proofs.lemmas.Bool.Decides.{nat_tests}
-use Rattle.std.proofs.lemmas.Fmt.{decimal_is_IsNumeral_wide}
+use Rattle.std.proofs.lemmas.Fmt.{decimal_by_steps}
 use Rattle.gf_token.specs.LabelSpelling.{is_spelling_after, IsLabel}
 use Rattle.gf_form.proofs.lemmas.strategies.CountedActions.{take_past}
 use Rattle.gf_form.proofs.lemmas.strategies.Choices.{IsChoice, are_choices, at_its_place, place}
@@ -123,22 +123,26 @@ one_label_more counts labels next number label strategy less is label_is labels_
 
 -- ---- spellings
 
-pub plain_digits : (bytes : List ℕ) → AllDigits 10 bytes → AllByRecursion IsPlain bytes
-plain_digits [] h = tt
-plain_digits (b ∷ bytes) h = grind (arith, nat_tests, plain_digits bytes h.1)
+abbrev IsDigit : ℕ → Type 0
+IsDigit b = (48 ≤ b) × (b < 58)
+
+pub digits_of : (n : ℕ) → n < 2 ^ 64 → AllByRecursion IsDigit (decimal n)
+digits_of n h =
+    decimal_by_steps (λ _ ds. AllByRecursion IsDigit ds) (λ k few. (omega (arith, few), tt))
+    (λ k ds _ p. all_both IsDigit ds ((48 + k % 10) ∷ []) p (omega (arith, mod-lt), tt)) n h
 
 pub plain_number : (n : ℕ) → n < 2 ^ 32 → AllByRecursion IsPlain (decimal n)
 plain_number n h =
-    let wide : 2 ^ 32 ≤ 10 ^ 64 = omega arith in
-    plain_digits (decimal n) (decimal_is_IsNumeral_wide n (omega (arith, h, wide))).0.1
+    all_weaker IsDigit IsPlain (λ b d. grind (arith, nat_tests)) (decimal n)
+    (digits_of n (omega (arith, h)))
 
-plain_behind : (before : ℕ) (bytes : List ℕ) → (before == 92) ≡ false
+plain_after : (before : ℕ) (bytes : List ℕ) → (before == 92) ≡ false
     → AllByRecursion IsPlain bytes → is_spelling_after before bytes ≡ true
-plain_behind before [] e h = rw e refl
-plain_behind before (b ∷ bytes) e h = grind (arith, plain_behind b bytes h.0.1 h.1)
+plain_after before [] e h = rw e refl
+plain_after before (b ∷ bytes) e h = grind (arith, plain_after b bytes h.0.1 h.1)
 
 pub plain_label : (bytes : List ℕ) → AllByRecursion IsPlain bytes → IsLabel bytes
-plain_label bytes h = plain_behind 34 bytes refl h
+plain_label bytes h = plain_after 34 bytes refl h
 
 -- ---- what the steps of the code need
 

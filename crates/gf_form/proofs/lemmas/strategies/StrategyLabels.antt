@@ -1,28 +1,20 @@
 -- The labels of strategies: they differ, and those of all sets are joined from those of some and of
 -- the others.
-use Rattle.gf_form.proofs.Common.{decimal_injective, AllByRecursion, join_with_byte, get_or_default}
-use Rattle.gf_form.proofs.Common.{strategy_label, append_assoc, all_choices, all_weaker, length-map}
-use Rattle.gf_form.proofs.Common.{all_images, slice_get, all_both, decimal, product, length, get_or}
-use Rattle.gf_form.proofs.Common.{arith, List, ◌++◌, drop, refl, Some, take, ◌≡◌, ◌+◌, ◌%◌, ◌^◌, []}
-use Rattle.gf_form.proofs.Common.{◌<◌, ◌≤◌, ◌∷◌, map, sym, ◌∙◌, suc, ◌*◌, ap, ℕ}
-use Rattle.std.proofs.lemmas.Fmt.{decimal_by_steps}
+use Rattle.gf_form.proofs.Common.{decimal_injective, AllByRecursion, join_with_byte, strategy_label}
+use Rattle.gf_form.proofs.Common.{append_assoc, all_choices, all_weaker, length-map, all_images}
+use Rattle.gf_form.proofs.Common.{slice_get, decimal, product, length, get_or, arith, List, ◌++◌}
+use Rattle.gf_form.proofs.Common.{drop, refl, Some, take, ◌≡◌, ◌+◌, ◌^◌, [], ◌<◌, ◌∷◌, map, sym}
+use Rattle.gf_form.proofs.Common.{◌∙◌, suc, ◌*◌, ap, ℕ}
 use Rattle.gf_form.proofs.lemmas.strategies.Choices.{IsChoice, every_choice, choices_distinct, long}
-use Rattle.gf_form.proofs.lemmas.strategies.Choices.{length-all_choices}
+use Rattle.gf_form.proofs.lemmas.strategies.Choices.{are_choices, length-all_choices}
 use Rattle.gf_form.proofs.lemmas.strategies.CountedActions.{take_past}
 use Rattle.gf_form.proofs.lemmas.rows.DigitPlaces.{product_joined}
-use Rattle.gf_form.proofs.lemmas.strategies.StrategiesByNumber.{joined_at, one_label_more}
+pub use Rattle.gf_form.proofs.lemmas.strategies.StrategiesByNumber.{digits_of}
+use Rattle.gf_form.proofs.lemmas.strategies.StrategiesByNumber.{all_at, joined_at, one_label_more}
 
 -- none of these bytes is a dash
 abbrev pub AreUndashed : List ℕ → Type 0
 AreUndashed bytes = AllByRecursion (λ b. ¬ (b ≡ 45)) bytes
-
-abbrev pub AreDigits : List ℕ → Type 0
-AreDigits bytes = AllByRecursion (λ b. 48 ≤ b) bytes
-
-pub digits_of : (n : ℕ) → n < 2 ^ 64 → AreDigits (decimal n)
-digits_of n h =
-    decimal_by_steps (λ _ ds. AreDigits ds) (λ k _. (omega arith, tt))
-    (λ k ds _ p. all_both (λ b. 48 ≤ b) ds ((48 + k % 10) ∷ []) p (omega arith, tt)) n h
 
 pub undashed_number : (n : ℕ) → n < 2 ^ 64 → AreUndashed (decimal n)
 undashed_number n h = grind (arith, all_weaker, digits_of)
@@ -84,13 +76,12 @@ pub labels_differ : (counts : List ℕ) (i j : ℕ) → AreSmall counts → i < 
     → j < length (all_choices counts) → strategy_label (get_or (all_choices counts) i [])
     ≡ strategy_label (get_or (all_choices counts) j []) → i ≡ j
 labels_differ counts i j small hi hj e =
-    let s = get_or (all_choices counts) i [] in
-    let t = get_or (all_choices counts) j [] in
-    let hs = small_choice counts s small
-    ((every_choice counts s).0 (i, hi, get_or_default (all_choices counts) i s [] hi)) in
-    let ht = small_choice counts t small
-    ((every_choice counts t).0 (j, hj, get_or_default (all_choices counts) j t [] hj)) in
-    choices_distinct counts i j [] hi hj (same_label s t (hs.1 ∙ sym ht.1) hs.0 ht.0 e)
+    let all = all_choices counts in
+    let at = λ (k : ℕ) (less : k < length all). small_choice counts (get_or all k []) small
+    (all_at (IsChoice counts) all k [] (are_choices counts) less) in
+    let s = at i hi in
+    let t = at j hj in
+    choices_distinct counts i j [] hi hj (same_label _ _ (s.1 ∙ sym t.1) s.0 t.0 e)
 
 -- ---- texts
 

@@ -1,5 +1,4 @@
-use Rattle.gf_form.proofs.Common.{◌≤◌, ℕ, List, arith, length, subst, sym, IfOk-weaker}
-use Rattle.gf_form.proofs.Common.{profile_limit, IsPaidAt, AreRowsAt, reduced_labels}
+use Rattle.gf_form.proofs.Common.{arith, IfOk-weaker, IsPaidAt, reduced_labels}
 use Rattle.gf_form.proofs.lemmas.reduced.FirstsPicked.{fewer_profiles, paid_fractions, paid_full}
 use Rattle.gf_form.proofs.lemmas.reduced.FirstsPicked.{reduced_made, some_reduced_label}
 use Rattle.gf_form.proofs.lemmas.reduced.ReducedForms.{reduced_form_profiles}
@@ -10,22 +9,14 @@ pub table_with-requires-clause-fits : goal.table_with-requires-clause-fits
 table_with-requires-clause-fits c =
     let g = c.args.game.now in
     let game = c.requires.is_game in
-    fits_table (reduced_labels g) (IsPaidAt g) g c.args.labels.items c.args.rows.items
-    c.requires.labels (paid_full g)
-    (subst (λ (ps : List (List ℕ)). AreRowsAt (IsPaidAt g) ps c.args.rows.items)
-    (sym (reduced_form_profiles g)) c.requires.rows)
-    (some_reduced_label g game)
-    (subst (λ (ps : List (List ℕ)). length ps ≤ profile_limit) (sym (reduced_form_profiles g))
-    (omega (arith, fewer_profiles g game, c.requires.few)))
-    (paid_fractions g)
+    fits_table (reduced_labels g) (IsPaidAt g) g _ _ _ (reduced_form_profiles g) c.requires.labels
+    (paid_full g) c.requires.rows (some_reduced_label g game)
+    (omega (arith, fewer_profiles g game, c.requires.few)) (paid_fractions g)
 
 pub returns : goal.returns
 returns c =
     let g = c.args.game.now in
     IfOk-weaker c.table_with.result _ _
-    (λ t made. reduced_made g t (form_made (reduced_labels g) (IsPaidAt g) g c.args.labels.items
-    c.args.rows.items c.requires.labels (paid_full g)
-    (subst (λ (ps : List (List ℕ)). AreRowsAt (IsPaidAt g) ps c.args.rows.items)
-    (sym (reduced_form_profiles g)) c.requires.rows)
-    t made))
+    (λ t made. reduced_made g t (form_made (reduced_labels g) (IsPaidAt g) g _ _ _
+    (reduced_form_profiles g) c.requires.labels (paid_full g) c.requires.rows t made))
     c.table_with.ensures

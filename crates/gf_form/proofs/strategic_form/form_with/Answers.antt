@@ -1,5 +1,4 @@
-use Rattle.gf_form.proofs.Common.{arith, sym, length-map, IfOk-weaker, ArePayoffsAt}
-use Rattle.gf_form.proofs.Common.{strategy_labels}
+use Rattle.gf_form.proofs.Common.{arith, length-map, IfOk-weaker, ArePayoffsAt, strategy_labels}
 use Rattle.gf_form.proofs.lemmas.form.FormMade.{fits_table, form_made, full_row, row_fractions}
 use Rattle.gf_form.proofs.lemmas.strategies.CountedActions.{some_strategy}
 use Rattle.gf_form.proofs.lemmas.form.Forms.{all_profiles}
@@ -8,17 +7,14 @@ use Rattle.gf_form.proofs.strategic_form.form_with.Goals as goal
 pub table_with-requires-clause-fits : goal.table_with-requires-clause-fits
 table_with-requires-clause-fits c =
     let g = c.args.game.now in
-    fits_table (strategy_labels g) (ArePayoffsAt g) g _ _
-    (c.in_ok-labels.ensures g c.requires.counts)
-    (full_row g) (rw (sym (all_profiles g)) at c.requires.rows)
+    fits_table (strategy_labels g) (ArePayoffsAt g) g _ _ _ (all_profiles g)
+    (c.in_ok-labels.ensures g c.requires.counts) (full_row g) c.requires.rows
     (λ player. grind (arith, length-map, some_strategy, c.requires.counts.is_game))
-    (rw all_profiles c.requires.counts.within)
-    (row_fractions g)
+    c.requires.counts.within (row_fractions g)
 
 pub returns : goal.returns
 returns c =
     let g = c.args.game.now in
     IfOk-weaker c.table_with.result _ _
-    (form_made (strategy_labels g) (ArePayoffsAt g) g _ _
-    (c.in_ok-labels.ensures g c.requires.counts)
-    (full_row g) (rw (all_profiles g) c.requires.rows)) c.table_with.ensures
+    (form_made (strategy_labels g) (ArePayoffsAt g) g _ _ _ (all_profiles g)
+    (c.in_ok-labels.ensures g c.requires.counts) (full_row g) c.requires.rows) c.table_with.ensures

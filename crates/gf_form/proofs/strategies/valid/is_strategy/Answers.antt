@@ -1,11 +1,7 @@
-use Rattle.gf_form.proofs.Common.{ℕ, zero, suc, ◌≡◌, ◌≤◌, arith, refl, cases_lt, length-map}
+use Rattle.gf_form.proofs.Common.{arith, cases_lt, length-map}
 use Rattle.gf_form.proofs.lemmas.strategies.ActionCounts.{choice_at, choice_by_places}
 use Rattle.gf_form.proofs.lemmas.strategies.CountedActions.{count_at}
 use Rattle.gf_form.proofs.strategies.valid.is_strategy.Goals as goal
-
-ne_zero : (n : ℕ) → (n ≡ 0 → ⊥) → 1 ≤ n
-ne_zero zero h = absurd (h refl)
-ne_zero (suc n) h = omega arith
 
 pub returns : goal.returns
 returns c = grind (arith, choice_by_places, length-map)
@@ -19,4 +15,4 @@ returns-then-action-eq0 c = (
 )
 
 pub loop-before-preserved : goal.loop-before-preserved
-loop-before-preserved c = grind (arith, cases_lt, ne_zero, count_at)
+loop-before-preserved c = grind (arith, cases_lt, count_at)
