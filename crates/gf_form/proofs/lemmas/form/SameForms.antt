@@ -85,22 +85,18 @@ module _ (g : Game) (r : Renumbering) (game : IsGame g) (is : IsRenumbering g r)
 
   -- ---- nodes
 
-  node_alike : (all : List (List ℕ)) (player : ℕ) (e : Entry Node) → Has (flatten g.tree) e
-      → IsAlike g h (choices_by g all) (choices_by h all) player (renumbered_node r) e.node
-  node_alike all player e i =
+  alike : (all : List (List ℕ)) (player : ℕ) → AreAlike g h (choices_by g all) (choices_by h all)
+      player (renumbered_node r) (flatten g.tree)
+  alike all player = all_of_each
+      (λ e. IsAlike g h (choices_by g all) (choices_by h all) player (renumbered_node r) e.node)
+      (flatten g.tree) (λ e i.
       let used = λ (key : SetKey). held (λ n. n.set) (flatten g.tree) e key i in
       let paid = λ (number : ℕ). held (λ n. n.outcome) (flatten g.tree) e number i in record {
         chosen = λ k. grind (arith, choices_carried all, used);
         chance = λ k. grind (arith, set_at_image g r game is, used);
         pays = grind (arith, outcome_at_image g r game is, paid);
         moves = grind (arith, choices_carried all, used);
-      }
-
-  alike : (all : List (List ℕ)) (player : ℕ) → AreAlike g h (choices_by g all) (choices_by h all)
-      player (renumbered_node r) (flatten g.tree)
-  alike all player = all_of_each
-      (λ e. IsAlike g h (choices_by g all) (choices_by h all) player (renumbered_node r) e.node)
-      (flatten g.tree) (node_alike all player)
+      })
 
   pub payoff_carried : (all : List (List ℕ)) (player : ℕ)
       → payoff h (choices_by h all) player ≡ payoff g (choices_by g all) player

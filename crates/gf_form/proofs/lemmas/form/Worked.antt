@@ -1,12 +1,11 @@
 -- Worked games, which files can hold: their plays and payoffs, and what is left out of their
 -- strategies.
-use Rattle.gf_form.proofs.Common.{◌≡◌, AllByRecursion, whole_fraction, strategies_at, full_profiles}
-use Rattle.gf_form.proofs.Common.{ℕ, length, IsGame, ending, get_or, nat_lt, payoff, List}
-use Rattle.gf_form.proofs.Common.{overflowing, IsFraction, choices_by, reduced_at, [], balancing}
-use Rattle.gf_form.proofs.Common.{IsEqual, IsValue, reduced_by, ◌∷◌, pos, ◌+◌, ◌<◌, true, None}
-use Rattle.gf_form.proofs.Common.{◌*ℤ◌, ◌++◌, refl, codes, Game, arith, Ratio, whole, value}
-use Rattle.gf_form.proofs.Common.{IsSpellable, contradicted, IsReducedForm, unlikely}
-use Rattle.gf_form.proofs.Common.{lowest_of-fraction, IsStrategicForm, IsPaidAt}
+use Rattle.gf_form.proofs.Common.{lowest_of-fraction, IsStrategicForm, AllByRecursion, contradicted}
+use Rattle.gf_form.proofs.Common.{whole_fraction, strategies_at, full_profiles, IsReducedForm, List}
+use Rattle.gf_form.proofs.Common.{overflowing, IsSpellable, IsFraction, choices_by, reduced_at, ◌≡◌}
+use Rattle.gf_form.proofs.Common.{reduced_by, balancing, unlikely, IsPaidAt, IsEqual, IsValue, true}
+use Rattle.gf_form.proofs.Common.{length, IsGame, ending, get_or, nat_lt, payoff, codes, arith, ◌∷◌}
+use Rattle.gf_form.proofs.Common.{Ratio, whole, value, ◌*ℤ◌, ◌++◌, refl, Game, pos, ◌+◌, ◌<◌, [], ℕ}
 use Rattle.std.specs.Fmt.{digits}
 use Rattle.gf_fraction.specs.Computed.{gcd_within, lowest_of, number_of, sum_of, product_of}
 use Rattle.gf_token.specs.Indices.{index_of}
@@ -73,17 +72,13 @@ form_of_bonus = grind (arith, three_halves, equal, small, part_fraction)
 abbrev HasNone : Game → List (List ℕ) → Type 0
 HasNone g all = ¬ ((value : Ratio) × IsValue g (choices_by g all) 1 g.tree value)
 
--- no value is computed
-undefined : (g : Game) (all : List (List ℕ)) → IsHeld g
-    → value g (choices_by g all) 1 g.tree ≡ None → HasNone g all
-undefined g all is none = none_computed g is.1 (choices_by g all) 1 g.tree none
-
 pub no_values : HasNone overflowing second × HasNone unlikely only × HasNone balancing only
 unfolding sum_of product_of lowest_of gcd_within
 no_values = (
-  undefined overflowing second worked_games.0 refl,
-  undefined unlikely only worked_games.1.0 refl,
-  undefined balancing only worked_games.1.1.0 refl,
+  none_computed overflowing worked_games.0.1 (choices_by overflowing second) 1
+      overflowing.tree refl,
+  none_computed unlikely worked_games.1.0.1 (choices_by unlikely only) 1 unlikely.tree refl,
+  none_computed balancing worked_games.1.1.0.1 (choices_by balancing only) 1 balancing.tree refl,
 )
 
 -- ---- the action that ends the play

@@ -1,12 +1,11 @@
 -- Numbers of actions, multiplied one after another.
 use Rattle.gf_form.proofs.Common.{unwrap_or-slice_get, get_or-numbers_from, length-numbers_from, []}
-use Rattle.gf_form.proofs.Common.{HasTooManyProfiles, All-from_recursion, length-profiles, take-suc}
-use Rattle.gf_form.proofs.Common.{AllByRecursion, InformationSet, profile_limit, action_counts, ◌≡◌}
+use Rattle.gf_form.proofs.Common.{All-from_recursion, AllByRecursion, InformationSet, action_counts}
 use Rattle.gf_form.proofs.Common.{at_position, player_keys, ArePositive, get_or-map, length-map, ap}
 use Rattle.gf_form.proofs.Common.{players_of, strategies, All-get_or, unwrap_or, mul_assoc, add-one}
-use Rattle.gf_form.proofs.Common.{mul_above, Described, product, length, get_or, filter, SetKey, ℕ}
-use Rattle.gf_form.proofs.Common.{IsGame, arith, IsSet, zero, List, ◌++◌, take, ◌==◌, Game, suc}
-use Rattle.gf_form.proofs.Common.{◌+◌, ◌*◌, ◌<◌, ◌≤◌, ◌∷◌, map, ◌∙◌}
+use Rattle.gf_form.proofs.Common.{mul_above, Described, take-suc, product, length, get_or, filter}
+use Rattle.gf_form.proofs.Common.{SetKey, IsGame, arith, IsSet, zero, List, ◌++◌, take, ◌==◌, Game}
+use Rattle.gf_form.proofs.Common.{◌≡◌, suc, ◌+◌, ◌*◌, ◌<◌, ◌≤◌, ◌∷◌, map, ◌∙◌, ℕ}
 use Rattle.std.proofs.Math.Nat.{mul-le-mul_left}
 pub use Rattle.std.proofs.lemmas.List.{take_all as take_past}
 use Rattle.gf_form.proofs.lemmas.strategies.Choices.{length-all_choices}
@@ -98,13 +97,13 @@ pub sets_counted : (g : Game) (player : ℕ)
     → length (action_counts g player) ≡ length (player_keys g player)
 sets_counted g player = grind (arith, length-map)
 
--- so many strategies of the players so far and of the next one
-pub too_many : (g : Game) → IsGame g → (before made own : ℕ) → before < length g.players
-    → made ≡ product (take before (strategy_counts g)) → own ≡ length (strategies g (before + 1))
-    → profile_limit < made * own → HasTooManyProfiles g
-too_many g game before made own less made_is own_is past =
+-- the strategies of the players so far and of the next one
+pub fits_so_far : (g : Game) (before : ℕ) → IsGame g → before < length g.players
+    → product (take before (strategy_counts g)) * length (strategies g (before + 1))
+    ≤ product (strategy_counts g)
+fits_so_far g before game less =
     let within = product_within (strategy_counts g) before (strategies_positive g game) in
-    grind (arith, within, of_player, as_many_players, length-profiles)
+    grind (arith, within, of_player, as_many_players)
 
 pub ruleset product_steps = (product_more, add-one)
 

@@ -1,19 +1,17 @@
 -- The profiles of some strategies of each player, and their numbers among all profiles.
 use Rattle.gf_form.proofs.Common.{length-numbers_from, get_or-numbers_from, AreProfileNumbers, List}
-use Rattle.gf_form.proofs.Common.{numbered_profiles, take-append-drop, length-profiles, mod-add-div}
-use Rattle.gf_form.proofs.Common.{AllByRecursion, get_or_default, AreStrategies, action_counts, ◌≡◌}
-use Rattle.gf_form.proofs.Common.{full_profiles, strategies_at, numbers_from, all_weaker, AreCounts}
-use Rattle.gf_form.proofs.Common.{players_of, get_or-map, length-map, ArePicked, get_or, positions}
-use Rattle.gf_form.proofs.Common.{IsPicked, flat_map, mul_comm, profiles, zero, AreBelow, product}
-use Rattle.gf_form.proofs.Common.{AllZip, Counts, length, arith, drop, Game, suc, take, ◌+◌, ◌*◌}
-use Rattle.gf_form.proofs.Common.{◌/◌, ◌%◌, ◌<◌, ◌≤◌, ◌∷◌, map, ◌∙◌, ap, [], ℕ, mul-le-mul_right, ⊤}
-use Rattle.gf_form.proofs.Common.{all_of_each}
-use Rattle.gf_form.proofs.lemmas.rows.DigitPlaces.{product_joined}
+use Rattle.gf_form.proofs.Common.{numbered_profiles, length-profiles, mod-add-div, AllByRecursion}
+use Rattle.gf_form.proofs.Common.{get_or_default, AreStrategies, action_counts, ◌≡◌, full_profiles}
+use Rattle.gf_form.proofs.Common.{strategies_at, numbers_from, all_weaker, AreCounts, players_of}
+use Rattle.gf_form.proofs.Common.{get_or-map, length-map, ArePicked, get_or, positions, IsPicked}
+use Rattle.gf_form.proofs.Common.{flat_map, mul_comm, profiles, zero, AreBelow, product, AllZip}
+use Rattle.gf_form.proofs.Common.{Counts, length, arith, drop, Game, suc, ◌+◌, ◌*◌, ◌/◌, ◌%◌, ◌<◌}
+use Rattle.gf_form.proofs.Common.{◌≤◌, ◌∷◌, map, ◌∙◌, ap, [], ℕ, ⊤, all_of_each}
 use Rattle.gf_form.proofs.lemmas.strategies.Lookups.{in_turn, row_at, zip_by_places, zip_flat}
 use Rattle.gf_form.proofs.lemmas.strategies.Lookups.{zip_weaker}
 use Rattle.gf_form.proofs.lemmas.strategies.Choices.{every_choice}
 use Rattle.gf_form.proofs.lemmas.strategies.Chosen.{profile_strategies}
-use Rattle.gf_form.proofs.lemmas.strategies.StrategiesByNumber.{all_at, positive_parts}
+use Rattle.gf_form.proofs.lemmas.strategies.StrategiesByNumber.{all_at}
 
 -- ---- the profile with a number
 
@@ -99,16 +97,6 @@ next_picked (count ∷ counts) (own ∷ picked) zero others h less are =
     (profiles (map length picked)) others are
 next_picked counts picked i others h less are = absurd (grind arith)
 
-pub no_less : (counts : List ℕ) (i : ℕ) → 0 < product counts
-    → product (drop i counts) ≤ product counts
-no_less counts i some =
-    let first = product (take i counts) in
-    let later = product (drop i counts) in
-    let whole : first * later ≡ product counts =
-    cc (product_joined (take i counts) (drop i counts), take-append-drop i counts) in
-    let parts = positive_parts first later 0 (omega (arith, whole)) in
-    omega (arith, whole, mul-le-mul_right later parts.0)
-
 pub sums_fit : (count rest size most : ℕ) (own : List ℕ) → rest < size → count * size < most
     → AllByRecursion (λ number. number < count) own
     → AllByRecursion (λ number. number + count * rest < most) own
@@ -122,8 +110,7 @@ pub all_numbered : (g : Game) → numbered_profiles g (numbers_from 0 (length (f
     ≡ full_profiles g
 all_numbered g =
     in_turn (λ number. get_or (full_profiles g) number []) 0 (full_profiles g) []
-    (λ i _. let same : 0 + i ≡ i = omega arith in
-    ap (λ (n : ℕ). get_or (full_profiles g) n []) same)
+    (λ i _. grind arith)
 
 all_below : (first n last : ℕ) → first + n ≤ last
     → AllByRecursion (λ number. number < last) (numbers_from first n)

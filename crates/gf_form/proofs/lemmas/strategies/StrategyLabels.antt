@@ -1,10 +1,10 @@
 -- The labels of strategies: they differ, and those of all sets are joined from those of some and of
 -- the others.
 use Rattle.gf_form.proofs.Common.{decimal_injective, AllByRecursion, join_with_byte, strategy_label}
-use Rattle.gf_form.proofs.Common.{append_assoc, all_choices, all_weaker, length-map, all_images}
-use Rattle.gf_form.proofs.Common.{slice_get, decimal, product, length, get_or, arith, List, ◌++◌}
-use Rattle.gf_form.proofs.Common.{drop, refl, Some, take, ◌≡◌, ◌+◌, ◌^◌, [], ◌<◌, ◌∷◌, map, sym}
-use Rattle.gf_form.proofs.Common.{◌∙◌, suc, ◌*◌, ap, ℕ}
+use Rattle.gf_form.proofs.Common.{append_assoc, all_choices, all_weaker, length-map, slice_get}
+use Rattle.gf_form.proofs.Common.{decimal, product, length, get_or, arith, List, ◌++◌, drop, refl}
+use Rattle.gf_form.proofs.Common.{Some, take, ◌≡◌, ◌+◌, ◌^◌, [], ◌<◌, ◌∷◌, map, sym, ◌∙◌, suc, ◌*◌}
+use Rattle.gf_form.proofs.Common.{ap, ℕ}
 use Rattle.gf_form.proofs.lemmas.strategies.Choices.{IsChoice, every_choice, choices_distinct, long}
 use Rattle.gf_form.proofs.lemmas.strategies.Choices.{are_choices, length-all_choices}
 use Rattle.gf_form.proofs.lemmas.strategies.CountedActions.{take_past}
@@ -30,33 +30,21 @@ cut (x ∷ xs) (y ∷ ys) us vs hx hy e =
 cut [] [] us vs hx hy e = (refl, ap (drop 1) e)
 cut xs ys us vs hx hy e = absurd (grind (arith, head_same))
 
-same_texts : (xs ys : List (List ℕ)) → length xs ≡ length ys → AllByRecursion AreUndashed xs
-    → AllByRecursion AreUndashed ys → join_with_byte 45 xs ≡ join_with_byte 45 ys → xs ≡ ys
-same_texts (x ∷ u ∷ xs) (y ∷ v ∷ ys) n hx hy e =
-    let parts = cut x y (join_with_byte 45 (u ∷ xs)) (join_with_byte 45 (v ∷ ys)) hx.0 hy.0 e in
-    grind (arith, cut, same_texts (u ∷ xs) (v ∷ ys) (omega (arith, n)) hx.1 hy.1 parts.1)
-same_texts (x ∷ []) (y ∷ ys) n hx hy e = grind arith
-same_texts [] [] n hx hy e = refl
-same_texts xs ys n hx hy e = absurd (omega (arith, n))
-
--- and so are items that are told from their texts
+-- items that are told from their texts are told from these joined
 module _ {X : Type 0} (text : X → List ℕ) (IsFine : X → Type 0)
     (undashed : (x : X) → IsFine x → AreUndashed (text x))
     (one : (x y : X) → IsFine x → IsFine y → text x ≡ text y → x ≡ y) where
-  same_items : (xs ys : List X) → AllByRecursion IsFine xs → AllByRecursion IsFine ys
-      → map text xs ≡ map text ys → xs ≡ ys
-  same_items (x ∷ xs) (y ∷ ys) hx hy e = grind (arith, same_items xs ys hx.1 hy.1 (ap (drop 1) e))
-  same_items [] [] hx hy e = refl
-  same_items xs ys hx hy e = absurd (grind arith)
-
-  all_undashed : (xs : List X) → AllByRecursion IsFine xs → AllByRecursion AreUndashed (map text xs)
-  all_undashed xs h = all_images AreUndashed text xs
-      (all_weaker IsFine (λ x. AreUndashed (text x)) undashed xs h)
-
   pub same_joined : (xs ys : List X) → length xs ≡ length ys → AllByRecursion IsFine xs
       → AllByRecursion IsFine ys
       → join_with_byte 45 (map text xs) ≡ join_with_byte 45 (map text ys) → xs ≡ ys
-  same_joined xs ys n hx hy e = grind (arith, same_items, same_texts, length-map, all_undashed)
+  same_joined (x ∷ u ∷ xs) (y ∷ v ∷ ys) n hx hy e =
+      let parts = cut (text x) (text y) (join_with_byte 45 (map text (u ∷ xs)))
+      (join_with_byte 45 (map text (v ∷ ys))) (undashed x hx.0) (undashed y hy.0) e in
+      let others = same_joined (u ∷ xs) (v ∷ ys) (omega (arith, n)) hx.1 hy.1 parts.1 in
+      λ i. one x y hx.0 hy.0 parts.0 i ∷ others i
+  same_joined (x ∷ []) (y ∷ []) n hx hy e = λ i. one x y hx.0 hy.0 e i ∷ []
+  same_joined [] [] n hx hy e = refl
+  same_joined xs ys n hx hy e = absurd (omega (arith, n))
 
 abbrev pub AreSmall : List ℕ → Type 0
 AreSmall ns = AllByRecursion (λ n. n < 2 ^ 64) ns

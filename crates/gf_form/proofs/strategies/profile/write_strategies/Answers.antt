@@ -1,4 +1,4 @@
-use Rattle.gf_form.proofs.Common.{arith, length-map, Vec, Global, map, ℕ}
+use Rattle.gf_form.proofs.Common.{arith, length-map}
 use Rattle.std.proofs.lemmas.List.{map-set}
 use Rattle.gf_form.proofs.lemmas.strategies.CountsGiven.{actions_in, actions_of}
 use Rattle.gf_form.proofs.lemmas.strategies.NumberedProfiles.{one_written}
@@ -13,8 +13,6 @@ loop-place-preserved c =
     let counts = c.requires.within.1 in
     let given = c.of_player-whole.ensures.counts c.requires.within.0 counts in
     let own = actions_of _ _ counts c.loop-place.place (omega (arith, c.loop-place-test.true)) in
-    let more = one_written (actions_in c.args.counts.now) c.args.profile c.loop-place.place
-    c.loop-place.rest c.of_player-whole.result.1
-    (map (λ (own : Vec ℕ Global). own.items) c.loop-place.all.items)
-    c.write_strategy.new.strategy.items in
-    rw map-set (grind (arith, given, own, more, length-map, c.in_ok-write_strategy.ensures))
+    rw map-set (one_written (actions_in c.args.counts.now) _ _ c.loop-place.rest _ _ _
+    (grind (arith, length-map)) (cc (given.0, given.1, own))
+    (cc (given.0, own, c.in_ok-write_strategy.ensures)) c.loop-place.invariant)

@@ -1,8 +1,10 @@
 use Rattle.gf_form.proofs.Common.{drop_of_length-le, length-map, drop-cons, product, Global, length}
-use Rattle.gf_form.proofs.Common.{arith, List, drop, ◌≡◌, ◌-◌, ◌<◌, suc, Vec, map, ap, [], ℕ}
+use Rattle.gf_form.proofs.Common.{arith, List, drop, ◌≡◌, ◌-◌, ◌<◌, suc, Vec, map, [], ℕ, take}
+use Rattle.gf_form.proofs.Common.{take-append-drop}
+use Rattle.gf_form.proofs.lemmas.rows.DigitPlaces.{product_joined}
 use Rattle.gf_form.proofs.lemmas.strategies.CountsGiven.{own_read}
 use Rattle.gf_form.proofs.lemmas.strategies.Lookups.{all_right, zip_at}
-use Rattle.gf_form.proofs.lemmas.strategies.PickedProfiles.{next_picked, no_less}
+use Rattle.gf_form.proofs.lemmas.strategies.PickedProfiles.{next_picked}
 use Rattle.gf_form.proofs.strategies.profile_numbers.profile_numbers.Goals as goal
 
 abbrev lists : List (Vec ℕ Global) → List (List ℕ)
@@ -26,10 +28,11 @@ with_player-requires-clause-others c =
     let next : c.loop-place.place ≡ suc i = omega (arith, c.loop-place-test.true) in
     let below = all_right _ (λ rest. rest < product (drop (suc i) counts)) (λ _ _ one. one.within)
     _ _ (rw next at c.loop-place.invariant) in
-    let all = no_less counts i c.requires.some in (
+    let whole = product_joined (take i counts) (drop i counts) in
+    let own = drop-cons counts i 0 less in (
       product (drop (suc i) counts),
       rw c.deref-in-loop-place.ensures.value below,
-      omega (arith, ap product (drop-cons counts i 0 less), all, c.requires.few),
+      grind (arith, own, whole, take-append-drop, c.requires.few, c.requires.some),
     )
 
 pub loop-place-preserved : goal.loop-place-preserved
