@@ -207,13 +207,9 @@ module _ (g : Game) (r : Renumbering) (game : IsGame g) (is : IsRenumbering g r)
     shown_carried key i = grind (arith, key_used, relevant_carried, strategy_carried)
 
     pub reduced_carried : reduced h player strategy ≡ reduced g player strategy
-    reduced_carried =
-        let shown_by = λ (key : SetKey). if is_relevant h d key then Some (d key) else None in
-        ap (map shown_by) (keys_carried player)
-        ∙ map_twice shown_by (renumbered_set r) (player_keys g player)
-        ∙ map_same (λ key. shown_by (renumbered_set r key))
-        (λ key. if is_relevant g c key then Some (c key) else None) (player_keys g player)
-        shown_carried
+    reduced_carried = ap (map _) (keys_carried player)
+        ∙ map_twice _ (renumbered_set r) (player_keys g player)
+        ∙ map_same _ _ (player_keys g player) shown_carried
 
   pub reduced_strategies_carried : (player : ℕ)
       → reduced_strategies h player ≡ reduced_strategies g player

@@ -81,7 +81,7 @@ at_its_place [] [] h = (omega arith, refl)
 at_its_place counts s h = grind arith
 
 -- and nothing else stands there
-choice_there : (counts : List ℕ) (i : ℕ) → i < product counts
+pub choice_there : (counts : List ℕ) (i : ℕ) → i < product counts
     → IsChoice counts (get_or (all_choices counts) i [])
     × (place counts (get_or (all_choices counts) i []) ≡ i)
 choice_there [] i less = grind arith

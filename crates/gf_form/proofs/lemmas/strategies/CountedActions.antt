@@ -86,7 +86,7 @@ pub one_item_more : {A : Type 0} (all kept next : List A) (i : ℕ) (item d : A)
     → item ≡ get_or all i d → kept ≡ take i all → next ≡ kept ++ item ∷ [] → next ≡ take (i + 1) all
 one_item_more all kept next i item d h is kept_is next_is = cc (take-suc all i d h, add-one i)
 
--- and the next one
+-- what is so of the players up to the next one
 pub next_player : {A : Type 0} (g : Game) (f : ℕ → A) (before : ℕ) → before < length g.players
     → take (before + 1) (map f (players_of g))
     ≡ take before (map f (players_of g)) ++ f (before + 1) ∷ []
@@ -97,7 +97,7 @@ pub sets_counted : (g : Game) (player : ℕ)
     → length (action_counts g player) ≡ length (player_keys g player)
 sets_counted g player = grind (arith, length-map)
 
--- the strategies of the players so far and of the next one
+-- the profiles of the players so far and of the next one are no more than all
 pub fits_so_far : (g : Game) (before : ℕ) → IsGame g → before < length g.players
     → product (take before (strategy_counts g)) * length (strategies g (before + 1))
     ≤ product (strategy_counts g)

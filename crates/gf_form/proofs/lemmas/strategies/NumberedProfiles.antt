@@ -1,8 +1,8 @@
 -- The strategies of the profile with a number: those of one player after another, each by what is
 -- left of the number, and how they are written.
 use Rattle.gf_form.proofs.Common.{◌≡◌, ℕ, ◌/◌, ◌%◌, ◌<◌, List, [], ◌∷◌, length, map, get_or, arith}
-use Rattle.gf_form.proofs.Common.{refl, sym, ap, subst, ◌∙◌, add-one, zip, div-lt_iff_lt-mul, Game}
-use Rattle.gf_form.proofs.Common.{mul_comm, unwrap_or-slice_get, product, profiles, action_counts}
+use Rattle.gf_form.proofs.Common.{refl, sym, subst, add-one, zip, div-lt_iff_lt-mul, Game, mul_comm}
+use Rattle.gf_form.proofs.Common.{unwrap_or-slice_get, product, profiles, action_counts}
 use Rattle.gf_form.proofs.Common.{all_choices, strategies, strategy_at, ◌+◌, ◌≤◌, ◌++◌, drop, take}
 use Rattle.gf_form.proofs.Common.{append_assoc, drop_of_length-le, drop-cons, mod-lt, append-nil}
 use Rattle.gf_form.proofs.Common.{length-map, length-set, take_more_set, length-profiles, set}
@@ -30,13 +30,10 @@ numbered_strategies g (player ∷ players) number less =
     let is : product own ≡ length all = sym (length-all_choices own) in
     let parts = positive_parts (length all) (product counts) number less in
     let swapped = subst (λ (n : ℕ). number < n) (mul_comm (length all) (product counts)) less in
-    let later : number / length all < product counts = (div-lt_iff_lt-mul parts.0).1 swapped in
-    let first = sym (grind (arith, add-one, unwrap_or-slice_get)) in
-    (λ i. get_or all (number % is i) [] ∷ numbered (map (action_counts g) players) (number / is i))
-    ∙ (λ i. first i ∷ numbered_strategies g players (number / length all) later i)
-    ∙ ap (λ (profile : List ℕ). map (λ p. strategy_at (strategies g p.0) p.1)
-    (zip (player ∷ players) profile))
-    (sym (profiles_next (length all) counts number parts.0 less))
+    let later = (div-lt_iff_lt-mul parts.0).1 swapped in
+    let others = numbered_strategies g players (number / length all) later in
+    let next = profiles_next (length all) counts number parts.0 less in
+    grind (arith, is, next, others, add-one, unwrap_or-slice_get)
 
 -- those of the players so far are written
 pub record Written (actions : List (List ℕ)) (number i rest : ℕ) (all : List (List ℕ)) : Type

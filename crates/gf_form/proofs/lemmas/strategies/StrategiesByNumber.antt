@@ -11,8 +11,8 @@ use Rattle.std.proofs.lemmas.Bool.Decides.{nat_tests}
 use Rattle.std.proofs.lemmas.Fmt.{decimal_by_steps}
 use Rattle.gf_token.specs.LabelSpelling.{is_spelling_after, IsLabel}
 use Rattle.gf_form.proofs.lemmas.strategies.CountedActions.{take_past}
-use Rattle.gf_form.proofs.lemmas.strategies.Choices.{IsChoice, are_choices, at_its_place, place}
-use Rattle.gf_form.proofs.lemmas.strategies.Choices.{length-all_choices, place_at, long}
+use Rattle.gf_form.proofs.lemmas.strategies.Choices.{IsChoice, choice_there, at_its_place, place}
+use Rattle.gf_form.proofs.lemmas.strategies.Choices.{length-all_choices, long}
 use Rattle.gf_form.proofs.lemmas.rows.DigitPlaces.{product_joined}
 pub use Rattle.gf_form.proofs.lemmas.strategies.Choices.{choices_next, choices_row, positive_parts}
 
@@ -35,14 +35,10 @@ pub joined_at : (xs ys : List ℕ) (i j : ℕ) → i < product xs → j < produc
     × (get_or (all_choices (xs ++ ys)) (i * product ys + j) []
     ≡ get_or (all_choices xs) i [] ++ get_or (all_choices ys) j [])
 joined_at xs ys i j hi hj =
-    let f = get_or (all_choices xs) i [] in
-    let b = get_or (all_choices ys) j [] in
-    let in_xs : i < length (all_choices xs) = omega (arith, hi, length-all_choices xs) in
-    let in_ys : j < length (all_choices ys) = omega (arith, hj, length-all_choices ys) in
-    let both = both_choices xs ys f b
-    (all_at (IsChoice xs) (all_choices xs) i [] (are_choices xs) in_xs)
-    (all_at (IsChoice ys) (all_choices ys) j [] (are_choices ys) in_ys) in
-    let number = both.1 ∙ (λ k. place_at xs i in_xs k * product ys + place_at ys j in_ys k) in
+    let f = choice_there xs i hi in
+    let b = choice_there ys j hj in
+    let both = both_choices xs ys _ _ f.0 b.0 in
+    let number = both.1 ∙ (λ k. f.1 k * product ys + b.1 k) in
     grind (arith, at_its_place, number)
 
 -- ---- one action after another

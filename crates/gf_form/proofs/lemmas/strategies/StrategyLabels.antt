@@ -6,11 +6,11 @@ use Rattle.gf_form.proofs.Common.{decimal, product, length, get_or, arith, List,
 use Rattle.gf_form.proofs.Common.{Some, take, ◌≡◌, ◌+◌, ◌^◌, [], ◌<◌, ◌∷◌, map, sym, ◌∙◌, suc, ◌*◌}
 use Rattle.gf_form.proofs.Common.{ap, ℕ}
 use Rattle.gf_form.proofs.lemmas.strategies.Choices.{IsChoice, every_choice, choices_distinct, long}
-use Rattle.gf_form.proofs.lemmas.strategies.Choices.{are_choices, length-all_choices}
+use Rattle.gf_form.proofs.lemmas.strategies.Choices.{choice_there, length-all_choices}
 use Rattle.gf_form.proofs.lemmas.strategies.CountedActions.{take_past}
 use Rattle.gf_form.proofs.lemmas.rows.DigitPlaces.{product_joined}
 pub use Rattle.gf_form.proofs.lemmas.strategies.StrategiesByNumber.{digits_of}
-use Rattle.gf_form.proofs.lemmas.strategies.StrategiesByNumber.{all_at, joined_at, one_label_more}
+use Rattle.gf_form.proofs.lemmas.strategies.StrategiesByNumber.{joined_at, one_label_more}
 
 -- none of these bytes is a dash
 abbrev pub AreUndashed : List ℕ → Type 0
@@ -19,16 +19,13 @@ AreUndashed bytes = AllByRecursion (λ b. ¬ (b ≡ 45)) bytes
 pub undashed_number : (n : ℕ) → n < 2 ^ 64 → AreUndashed (decimal n)
 undashed_number n h = grind (arith, all_weaker, digits_of)
 
-head_same : (x y : ℕ) (xs ys : List ℕ) → x ∷ xs ≡ y ∷ ys → x ≡ y
-head_same x y xs ys e = ap (λ (zs : List ℕ). get_or zs 0 0) e
-
 -- what stands before the first dash, and after it
 cut : (xs ys us vs : List ℕ) → AreUndashed xs → AreUndashed ys → xs ++ 45 ∷ us ≡ ys ++ 45 ∷ vs
     → (xs ≡ ys) × (us ≡ vs)
 cut (x ∷ xs) (y ∷ ys) us vs hx hy e =
-    grind (arith, head_same, cut xs ys us vs hx.1 hy.1 (ap (drop 1) e))
+    grind (arith, cut xs ys us vs hx.1 hy.1 (ap (drop 1) e))
 cut [] [] us vs hx hy e = (refl, ap (drop 1) e)
-cut xs ys us vs hx hy e = absurd (grind (arith, head_same))
+cut xs ys us vs hx hy e = absurd (grind arith)
 
 -- items that are told from their texts are told from these joined
 module _ {X : Type 0} (text : X → List ℕ) (IsFine : X → Type 0)
@@ -64,9 +61,8 @@ pub labels_differ : (counts : List ℕ) (i j : ℕ) → AreSmall counts → i < 
     → j < length (all_choices counts) → strategy_label (get_or (all_choices counts) i [])
     ≡ strategy_label (get_or (all_choices counts) j []) → i ≡ j
 labels_differ counts i j small hi hj e =
-    let all = all_choices counts in
-    let at = λ (k : ℕ) (less : k < length all). small_choice counts (get_or all k []) small
-    (all_at (IsChoice counts) all k [] (are_choices counts) less) in
+    let at = λ (k : ℕ) (less : k < length (all_choices counts)). small_choice counts _ small
+    (choice_there counts k (rw length-all_choices at less)).0 in
     let s = at i hi in
     let t = at j hj in
     choices_distinct counts i j [] hi hj (same_label _ _ (s.1 ∙ sym t.1) s.0 t.0 e)
