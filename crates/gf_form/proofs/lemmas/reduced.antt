@@ -1,6 +1,5 @@
 pub mod Apart
 pub mod Coming
-pub mod EachOnce
 pub mod FirstStrategies
 pub mod FirstsPicked
 pub mod LevelsChosen

@@ -1,13 +1,14 @@
 //! What is left of a player's visits after choices at the slower digits.
 
-ghost use Rattle.std.specs.Prelude.{◌≡◌, ◌<◌, ◌+◌, ◌*◌, ◌^◌, false, [], IfOk, OnOk, get_or, length};
-ghost use Rattle.std.specs.Prelude.{ℕ};
+ghost use Rattle.std.specs.Prelude.{◌≡◌, ◌<◌, ◌+◌, ◌*◌, ◌^◌, true, false, [], ℕ, length, get_or};
+ghost use Rattle.std.specs.Prelude.{IfOk, MatchOption, OnOk};
 ghost use Rattle.std.specs.List.Sorted.{IsNonDecreasingBy};
-ghost use Rattle.gf_form.specs.inner.reduced.Levels.{AddsLeft, HaveBelow, IsChosen};
-ghost use Rattle.gf_form.specs.inner.reduced.Levels.{IsChosenAt, IsLevel, can_be_met, left_of};
+ghost use Rattle.gf_form.specs.inner.reduced.Levels.{AddsLeft, AreParts, AreTaken, HaveBelow};
+ghost use Rattle.gf_form.specs.inner.reduced.Levels.{IsChosen, IsChosenAt, IsLevel, Takes, can_be_met};
+ghost use Rattle.gf_form.specs.inner.reduced.Levels.{left_of};
 ghost use Rattle.gf_form.specs.inner.reduced.Visits.{HoldTheSame};
 
-use crate::reduced::visits::{Visit, keep_each_once};
+use crate::reduced::visits::{Visit, drop_repeats, put_in_order};
 use std::alloc::{AllocError, Global};
 
 /// The visits that the choices so far allow.
@@ -18,6 +19,17 @@ pub(crate) struct Level {
     pub visits: Vec<Visit>,
     /// Whether each set is known to be met, whatever is chosen at the digits that are left.
     pub known: Vec<bool>,
+}
+
+/// The visits that count if an action is chosen at the slowest digit, in order of demands.
+#[derive(Drop)]
+struct Parts<'v> {
+    /// Those that demand nothing there.
+    free: &'v [Visit],
+    /// Those that demand the action there.
+    own: &'v [Visit],
+    /// What the action adds to their demands.
+    lowest: u64,
 }
 
 /// The demands that are left if this action is chosen at the slowest digit, with this step; `None`
@@ -42,6 +54,58 @@ fn count_below(visits: &[Visit], number: u64) -> usize
     ensures { HaveBelow visits.now number result }
 {
     visits.partition_point(|visit| visit.demands < number)
+}
+
+/// The visits that count if this action is chosen at the slowest digit, with this step.
+fn parts_of(visits: &[Visit], step: u64, action: u64) -> Parts<'_>
+    requires fits { action * step + step < 2 ^ 64 }
+    requires ordered { IsNonDecreasingBy (λ (v : Visit). v.demands) visits.now }
+    ensures { AreParts step action visits.now result }
+{
+    let lowest = action * step;
+    let (free, _) = visits.split_at(count_below(visits, step));
+    let (_, rest) = visits.split_at(count_below(visits, lowest));
+    let (own, _) = rest.split_at(count_below(rest, lowest + step));
+    Parts { free, own, lowest }
+}
+
+impl Parts<'_> {
+    /// Takes the first visit that demands the action.
+    fn next_own(&mut self) -> Option<Visit>
+        ensures { MatchOption result (length self.old.own.now ≡ 0)
+            (λ visit. Takes visit self.old self.new) }
+    {
+        let Some((visit, rest)) = self.own.split_first() else {
+            return None;
+        };
+        self.own = rest;
+        Some(*visit)
+    }
+
+    /// Whether a visit that demands the action comes before this one, which does not.
+    fn has_before(&self, visit: Visit) -> bool
+        ensures { result ≡ true → 0 < length self.now.own.now }
+    {
+        let Some(own) = self.own.first() else {
+            return false;
+        };
+        let demands = own.demands.saturating_sub(self.lowest);
+        demands < visit.demands || demands == visit.demands && own.set < visit.set
+    }
+
+    /// Takes the visit that comes next, by what is left of the demands, and then by set.
+    fn next(&mut self) -> Option<Visit>
+        ensures { MatchOption result (AreTaken self.old) (λ visit. Takes visit self.old self.new) }
+    {
+        let Some((visit, rest)) = self.free.split_first() else {
+            return self.next_own();
+        };
+        if self.has_before(*visit) {
+            return self.next_own();
+        }
+        self.free = rest;
+        Some(*visit)
+    }
 }
 
 impl Level {
@@ -70,54 +134,36 @@ impl Level {
         let mut level = Level::none(alloc);
         level.visits.extend_from_slice(visits)?;
         level.known.resize(sets, false)?;
-        keep_each_once(&mut level.visits);
+        put_in_order(&mut level.visits);
         Ok(level)
     }
 
-    /// Adds what is left of these visits, to sets of the level, if this action is chosen at the
-    /// slowest digit, with this step.
+    /// Adds what is left of a visit, if it is to a set of the level, and this action is chosen at
+    /// the slowest digit, with this step.
     #[tactic(auto, using(crate::proofs::lemmas::reduced::LevelsChosen::left_steps))]
-    fn add_left(&mut self, visits: &[Visit], step: u64, action: u64) -> Result<(), AllocError>
+    fn add_left(&mut self, visit: Visit, step: u64, action: u64) -> Result<(), AllocError>
         requires fits { action * step + step < 2 ^ 64 }
-        ensures { OnOk result (AddsLeft step action visits.now self.old self.new) }
+        ensures { OnOk result (AddsLeft step action visit self.old self.new) }
     {
-        for visit in visits {
-            let place = visit.set as usize;
-            if place >= self.known.len() {
-                continue;
-            }
-            if self.known[place] {
-                continue;
-            }
-            let Some(demands) = left_of(visit.demands, step, action) else {
-                continue;
-            };
-            if demands == 0 {
-                self.known[place] = true;
-                continue;
-            }
-            self.visits.push(Visit {
-                demands,
-                set: visit.set,
-            })?;
+        let place = visit.set as usize;
+        if place >= self.known.len() {
+            return Ok(());
         }
+        if self.known[place] {
+            return Ok(());
+        }
+        let Some(demands) = left_of(visit.demands, step, action) else {
+            return Ok(());
+        };
+        if demands == 0 {
+            self.known[place] = true;
+            return Ok(());
+        }
+        self.visits.push(Visit {
+            demands,
+            set: visit.set,
+        })?;
         Ok(())
-    }
-
-    /// The same for visits in order of demands. Goes through those alone that demand nothing at
-    /// the digit or the action.
-    fn add_chosen(&mut self, visits: &[Visit], step: u64, action: u64) -> Result<(), AllocError>
-        requires fits { action * step + step < 2 ^ 64 }
-        requires ordered { IsNonDecreasingBy (λ (v : Visit). v.demands) visits.now }
-        ensures { OnOk result (AddsLeft step action visits.now self.old self.new) }
-    {
-        let lowest = action * step;
-        let free = count_below(visits, step);
-        let start = count_below(visits, lowest);
-        self.add_left(&visits[..free], step, action)?;
-        let rest = &visits[start..];
-        let count = count_below(rest, lowest + step);
-        self.add_left(&rest[..count], step, action)
     }
 
     /// Replaces this by what is left of another level if this action is chosen at its slowest
@@ -131,8 +177,12 @@ impl Level {
         self.visits.clear();
         self.known.clear();
         self.known.extend_from_slice(&from.known)?;
-        self.add_chosen(&from.visits, step, action)?;
-        keep_each_once(&mut self.visits);
+        let mut parts = parts_of(&from.visits, step, action);
+        while let Some(visit) = parts.next() {
+            self.add_left(visit, step, action)?;
+        }
+        drop_repeats(&mut self.visits);
+        put_in_order(&mut self.visits);
         Ok(())
     }
 

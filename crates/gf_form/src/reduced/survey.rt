@@ -9,11 +9,11 @@ ghost use Rattle.gf_tree.specs.PrefixOrder.{flatten};
 ghost use Rattle.gf_form.specs.Strategies.{action_counts};
 ghost use Rattle.gf_form.specs.inner.reduced.Relevance.{FindRelevance};
 ghost use Rattle.gf_form.specs.inner.reduced.Survey.{FindsMore, open_size, open_visits};
-ghost use Rattle.gf_form.specs.inner.reduced.Survey.{survey_size, visits_at};
+ghost use Rattle.gf_form.specs.inner.reduced.Survey.{step_to, survey_size, visit_to, visits_at};
 ghost use Rattle.gf_form.specs.inner.rows.DigitSteps.{steps_behind, width};
 
 use crate::reduced::digits::step_at;
-use crate::reduced::visits::{Visit, keep_each_once};
+use crate::reduced::visits::{Visit, drop_repeats, put_in_order};
 use crate::rows::digits::demanded;
 use gf_tree::{Branch, Branches, Game};
 use std::alloc::{AllocError, Global};
@@ -76,12 +76,9 @@ impl<'g, 'a> Survey<'g, 'a> {
         demands: u64,
     ) -> Result<u64, AllocError>
         ensures nodes { self.new.nodes ≡ self.old.nodes }
-        ensures own { IfOk result (λ step. mover.0 ≡ owner.now.player
-            → (self.new.visits.items
-            ≡ self.old.visits.items ++ record { demands = demands; set = mover.1 - 1 } ∷ [])
-            × (step ≡ get_or owner.now.steps.now (mover.1 - 1) 0)) }
-        ensures other { IfOk result (λ step. ¬ (mover.0 ≡ owner.now.player)
-            → (self.new.visits ≡ self.old.visits) × (step ≡ 0)) }
+        ensures visits { OnOk result (self.new.visits.items ≡ self.old.visits.items
+            ++ visit_to owner.now demands mover.0 (mover.1 - 1)) }
+        ensures step { IfOk result (λ step. step ≡ step_to owner.now mover.0 (mover.1 - 1)) }
     {
         let (player, position) = mover;
         if player != owner.player {
@@ -161,6 +158,7 @@ pub(crate) fn visits_in(
         survey.go_on(&owner, node)?;
     }
     let mut visits = survey.visits;
-    keep_each_once(&mut visits);
+    put_in_order(&mut visits);
+    drop_repeats(&mut visits);
     Ok(visits)
 }

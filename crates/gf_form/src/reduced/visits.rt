@@ -24,12 +24,18 @@ impl Visit {
     }
 }
 
-/// Keeps each of these visits once, in order of demands. They are not hashed, since a file could
-/// choose visits that collide.
-pub(crate) fn keep_each_once(visits: &mut Vec<Visit>)
+/// Puts visits in order of demands, and those with the same demands in order of sets. Takes one pass
+/// if they are in order. They are not hashed, since a file could choose visits that collide.
+pub(crate) fn put_in_order(visits: &mut Vec<Visit>)
     ensures same { HoldTheSame visits.old.items visits.new.items }
     ensures ordered { IsNonDecreasingBy (λ (v : Visit). v.demands) visits.new.items }
 {
     visits.sort_unstable_by_key(|visit| visit.order());
+}
+
+/// Drops each visit that repeats the one before it.
+pub(crate) fn drop_repeats(visits: &mut Vec<Visit>)
+    ensures { HoldTheSame visits.old.items visits.new.items }
+{
     visits.dedup();
 }

@@ -1,18 +1,18 @@
 -- Strategies that agree with the same plays reduce to the same one.
-use Rattle.gf_form.proofs.Common.{◌≡◌, ℕ, ◌+◌, ◌<◌, ◌≤◌, Bool, true, false, List, [], ◌∷◌, Some}
-use Rattle.gf_form.proofs.Common.{None, length, map, sym, ◌∙◌, subst, arith, inl, inr, ◌==◌, refl}
-use Rattle.gf_form.proofs.Common.{if◌then◌else◌, AllByRecursion, Contains, list_all, option_map_or}
-use Rattle.gf_form.proofs.Common.{and_from, and_parts, eqb-true, false≢true, all_parts, Tree, Trees}
-use Rattle.gf_form.proofs.Common.{branch, none, more, flatten, flatten_all, SetKey, same_set, Node}
-use Rattle.gf_form.proofs.Common.{Game, IsGame, HasChildren, IsSpellable, player_keys, Has, has_map}
-use Rattle.gf_form.proofs.Common.{same_set_equality, contains, map_same, in_left, in_right, Step}
-use Rattle.gf_form.proofs.Common.{choice_at, strategies, Play, from_node, is_chosen, plays, agrees}
-use Rattle.gf_form.proofs.Common.{plays_from, HasActions, is_own_choice, comes_to, is_relevant}
-use Rattle.gf_form.proofs.Common.{reduced, cases_Bool, tree_comes, trees_come, ◌&&◌}
+use Rattle.gf_form.proofs.Common.{same_set_equality, AllByRecursion, if◌then◌else◌, option_map_or}
+use Rattle.gf_form.proofs.Common.{is_own_choice, flatten_all, HasChildren, IsSpellable, player_keys}
+use Rattle.gf_form.proofs.Common.{is_relevant, false≢true, strategies, plays_from, HasActions, Bool}
+use Rattle.gf_form.proofs.Common.{cases_Bool, tree_comes, trees_come, and_parts, all_parts, flatten}
+use Rattle.gf_form.proofs.Common.{choice_at, from_node, is_chosen, Contains, list_all, and_from, []}
+use Rattle.gf_form.proofs.Common.{eqb-true, same_set, contains, map_same, in_right, comes_to, false}
+use Rattle.gf_form.proofs.Common.{has_map, in_left, reduced, length, branch, SetKey, IsGame, agrees}
+use Rattle.gf_form.proofs.Common.{subst, arith, Trees, plays, true, List, Some, None, ◌==◌, refl, ℕ}
+use Rattle.gf_form.proofs.Common.{Tree, none, more, Node, Game, Step, Play, ◌&&◌, ◌≡◌, ◌+◌, ◌<◌}
+use Rattle.gf_form.proofs.Common.{◌≤◌, ◌∷◌, map, sym, ◌∙◌, inl, inr, Has}
 use Rattle.gf_form.proofs.lemmas.strategies.Chosen.{his_actions}
-use Rattle.gf_form.proofs.lemmas.values.Following.{play_of, taken_child, some_play_in}
-use Rattle.gf_form.proofs.lemmas.reduced.Coming.{leaf_comes, relevant_is}
-use Rattle.gf_form.proofs.lemmas.reduced.Reducing.{any_has, own_chosen}
+use Rattle.gf_form.proofs.lemmas.values.Following.{some_play_in, taken_child, play_of}
+use Rattle.gf_form.proofs.lemmas.reduced.Coming.{relevant_is, leaf_comes}
+use Rattle.gf_form.proofs.lemmas.reduced.Reducing.{is_chance, own_right, any_has}
 use Rattle.gf_form.proofs.lemmas.strategies.KnownSets.{own_set, set_is}
 
 -- ---- a choice for everybody
@@ -43,7 +43,12 @@ module _ (g : Game) (game : IsGame g) (spellable : IsSpellable g) (player : ℕ)
   steps_own : (steps : List Step) → list_all (is_chosen everybody) steps ≡ true
       → list_all (is_own_choice c player) steps ≡ true
   steps_own (s ∷ steps) h =
-      grind (arith, own_chosen everybody player s.node.set s.taken above, steps_own steps)
+      let bound : is_chance player ≡ false = grind arith in
+      grind (
+        arith,
+        own_right is_chance everybody everybody player s.node.set s.taken bound,
+        steps_own steps,
+      )
   steps_own [] h = refl
 
   abbrev Agrees : Play → Type 0

@@ -1,15 +1,16 @@
 -- What is left of a player's visits after a choice, visit by visit, and which sets can be met.
-use Rattle.gf_form.proofs.Common.{◌≡◌, ℕ, ◌+◌, ◌*◌, ◌<◌, ◌≤◌, Bool, true, false, List, [], ◌∷◌, set}
-use Rattle.gf_form.proofs.Common.{◌++◌, Some, None, length, get_or, take, drop, ap, sym, ◌∙◌, arith}
-use Rattle.gf_form.proofs.Common.{◌||◌, list_any, option_map_or, or-false, meets}
-use Rattle.gf_form.proofs.Common.{take-length, get_or-set_at, get_or-set_other, get_or-take, Level}
-use Rattle.gf_form.proofs.Common.{get_or_default, length-drop, length-set, length-take, ArePositive}
-use Rattle.gf_form.proofs.Common.{take-append-drop, list_any-append, Visit}
-use Rattle.gf_form.proofs.Common.{IsChosen, is_left, left_of, is_met_on, ◌==◌, can_be_met, ne_eqb}
-use Rattle.gf_form.proofs.Common.{false_from_ne_true}
+use Rattle.gf_form.proofs.Common.{false_from_ne_true, get_or-set_other, take-append-drop, is_met_on}
+use Rattle.gf_form.proofs.Common.{list_any-append, get_or_default, option_map_or, get_or-set_at, []}
+use Rattle.gf_form.proofs.Common.{take-length, get_or-take, length-drop, length-take, ArePositive}
+use Rattle.gf_form.proofs.Common.{length-set, can_be_met, list_any, or-false, IsChosen, is_left, ap}
+use Rattle.gf_form.proofs.Common.{left_of, length, get_or, ne_eqb, false, arith, meets, Level, Bool}
+use Rattle.gf_form.proofs.Common.{Visit, true, List, ◌++◌, Some, None, take, drop, ◌||◌, ◌==◌, refl}
+use Rattle.gf_form.proofs.Common.{◌≡◌, ◌+◌, ◌*◌, ◌<◌, ◌≤◌, ◌∷◌, set, sym, ◌∙◌, ℕ}
 use Rattle.std.proofs.lemmas.List.{get_or-drop}
-use Rattle.std.proofs.lemmas.List.Folds.{Any-from_list_any, list_any_at, list_any_more}
-use Rattle.gf_form.specs.inner.reduced.Levels.{AddsLeft, HaveBelow}
+use Rattle.std.proofs.lemmas.List.Folds.{Any-from_list_any, list_any_more, list_any_at}
+use Rattle.gf_form.specs.inner.reduced.Levels.{HaveBelow, AddsLeft, AreTaken, AreParts, Takes}
+use Rattle.gf_form.specs.inner.reduced.Levels.{is_in}
+use Rattle.gf_form.specs.declared.reduced.level.Parts.{Parts}
 use Rattle.gf_form.specs.inner.reduced.Visits.{HoldTheSame}
 use Rattle.std.proofs.Math.Bool.{or-true}
 
@@ -31,83 +32,64 @@ flag_on flags at place inside = grind (arith, get_or-set_at, get_or-set_other, o
 abbrev pub no_visit : Visit
 no_visit = record { demands = 0; set = 0 }
 
-module _ (step action : ℕ) (visits : List Visit) (start : Level) (i : ℕ)
-    (less : i < length visits) where
-  abbrev here : Visit
-  here = get_or visits i no_visit
+-- ---- one visit
 
-  module _ (left : Level) (before : AddsLeft step action (take i visits) start left) where
-    -- what one more visit adds
-    more : (next : Level) → length next.known.items ≡ length start.known.items
-        → ((place : ℕ) (steps choices : List ℕ) → place < length start.known.items
-        → ArePositive steps → is_left place steps choices next ≡ (is_left place steps choices left
-        || is_met_on place (step ∷ steps) (action ∷ choices) here))
-        → AddsLeft step action (take (i + 1) visits) start next
-    more next counted adds = record {
-      counted = counted;
-      adds = λ place steps choices inside positive.
-          grind (
-            arith,
-            adds place steps choices inside positive,
-            before.adds place steps choices inside positive,
-            list_any_more (is_met_on place (step ∷ steps) (action ∷ choices)) visits i no_visit
-                less,
-          );
-    }
+module _ (step action : ℕ) (v : Visit) (before : Level) where
+  -- it is to no set of the level
+  pub other_passed : length before.known.items ≤ v.set
+      → AddsLeft step action v before before
+  other_passed past = record {
+    counted = refl;
+    adds = λ place steps choices inside positive. grind (arith, ne_eqb, or-false);
+  }
 
-    -- it is to no set of the level
-    pub other_passed : length left.known.items ≤ here.set
-        → AddsLeft step action (take (i + 1) visits) start left
-    other_passed past =
-        grind (arith, more, ne_eqb, or-false)
+  -- it is to a set that is known to be met
+  pub known_passed : (flag : Bool) → v.set < length before.known.items
+      → flag ≡ get_or before.known.items v.set flag → flag ≡ true
+      → AddsLeft step action v before before
+  known_passed flag within is known = record {
+    counted = refl;
+    adds = λ place steps choices inside positive. grind (arith, get_or_default);
+  }
 
-    -- it is to a set that is known to be met
-    pub known_passed : (flag : Bool) → here.set < length left.known.items
-        → flag ≡ get_or left.known.items here.set flag → flag ≡ true
-        → AddsLeft step action (take (i + 1) visits) start left
-    known_passed flag within is known =
-        grind (arith, get_or_default, more)
+  -- it demands another action
+  pub none_left : left_of step action v.demands ≡ None
+      → AddsLeft step action v before before
+  none_left none = record {
+    counted = refl;
+    adds = λ place steps choices inside positive.
+        grind (arith, meets_left step action v.demands steps choices, or-false);
+  }
 
-    -- it demands another action
-    pub none_left : left_of step action here.demands ≡ None
-        → AddsLeft step action (take (i + 1) visits) start left
-    none_left none = more left before.counted (λ place steps choices inside positive.
-        grind (arith, meets_left step action here.demands steps choices, or-false))
-
-    -- nothing more is demanded
-    pub made_known : (next : Level) → here.set < length left.known.items
-        → left_of step action here.demands ≡ Some 0
-        → next.known.items ≡ set left.known.items here.set true
-        → next.visits.items ≡ left.visits.items
-        → AddsLeft step action (take (i + 1) visits) start next
-    made_known next within left_is known_is visits_are =
-        more next (grind (arith, length-set, before.counted))
-        (λ place steps choices inside positive.
+  -- nothing more is demanded
+  pub made_known : (next : Level) → v.set < length before.known.items
+      → left_of step action v.demands ≡ Some 0
+      → next.known.items ≡ set before.known.items v.set true
+      → next.visits.items ≡ before.visits.items → AddsLeft step action v before next
+  made_known next within left_is known_is visits_are = record {
+    counted = grind (arith, length-set);
+    adds = λ place steps choices inside positive.
         grind (
           arith,
-          flag_on left.known.items here.set place within,
-          meets_left step action here.demands steps choices,
+          flag_on before.known.items v.set place within,
+          meets_left step action v.demands steps choices,
           meets_none steps choices positive,
-        ))
+        );
+  }
 
-    -- something more is demanded
-    pub one_left : (next : Level) (demands : ℕ)
-        → left_of step action here.demands ≡ Some demands
-        → next.known.items ≡ left.known.items
-        → next.visits.items ≡ left.visits.items
-        ++ record { demands = demands; set = here.set } ∷ []
-        → AddsLeft step action (take (i + 1) visits) start next
-    one_left next demands left_is known visits_are =
-        more next (ap length known ∙ before.counted) (λ place steps choices inside positive.
-        grind (arith, list_any-append, meets_left step action here.demands steps choices))
-
-pub all_added : (step action : ℕ) (visits : List Visit) (before : Level) (i : ℕ) (after : Level)
-    → AddsLeft step action (take i visits) before after → i ≡ length visits
-    → AddsLeft step action visits before after
-all_added step action visits before i after added end = rw (end, take-length) at added
+  -- something more is demanded
+  pub one_left : (next : Level) (demands : ℕ) → left_of step action v.demands ≡ Some demands
+      → next.known.items ≡ before.known.items
+      → next.visits.items ≡ before.visits.items ++ record { demands = demands; set = v.set } ∷ []
+      → AddsLeft step action v before next
+  one_left next demands left_is known visits_are = record {
+    counted = ap length known;
+    adds = λ place steps choices inside positive.
+        grind (arith, list_any-append, meets_left step action v.demands steps choices);
+  }
 
 -- what the steps of the code need
-pub ruleset left_steps = (other_passed, known_passed, none_left, all_added)
+pub ruleset left_steps = (other_passed, known_passed, none_left, one_left)
 
 -- ---- the visits that count at an action
 
@@ -147,30 +129,56 @@ module _ (step action : ℕ) (visits rest : List Visit) (free start count : ℕ)
           free_before,
         )
 
-  pub parts_added : (before between after : Level)
-      → AddsLeft step action (take free visits) before between
-      → AddsLeft step action (take count rest) between after
-      → AddsLeft step action visits before after
-  parts_added before between after first second = record {
-    counted = second.counted ∙ first.counted;
-    adds = λ place steps choices inside positive.
-        grind (
-          arith,
-          first.adds place steps choices inside positive,
-          second.adds place steps choices (omega (arith, inside, first.counted)) positive,
-          met_in_parts place steps choices,
-        );
+  pub parts_are : (parts : Parts) → parts.free.now ≡ take free visits
+      → parts.own.now ≡ take count rest → AreParts step action visits parts
+  parts_are parts free_now own_now place steps choices =
+      grind (arith, met_in_parts place steps choices)
+
+-- ---- a level while visits are taken
+
+-- what is left of a level is in another one, or in the parts
+pub record IsPartly (step action : ℕ) (from : Level) (parts : Parts) (left : Level) : Type 0 where
+  pub counted : length left.known.items ≡ length from.known.items
+  pub adds : (place : ℕ) (steps choices : List ℕ) → place < length from.known.items
+      → ArePositive steps → (is_left place steps choices left
+      || is_in (is_met_on place (step ∷ steps) (action ∷ choices)) parts)
+      ≡ is_left place (step ∷ steps) (action ∷ choices) from
+
+module _ (step action : ℕ) (from : Level) (parts : Parts) (left : Level) where
+  pub none_taken : AreParts step action from.visits.items parts
+      → left.known.items ≡ from.known.items → left.visits.items ≡ []
+      → IsPartly step action from parts left
+  none_taken are known none = record {
+    counted = ap length known;
+    adds = λ place steps choices inside positive. grind (arith, are place steps choices);
   }
 
--- what is left of all visits of a level, each once and in order
-pub chosen_by : (step action : ℕ) (from begun added left : Level) → begun.visits.items ≡ []
-    → begun.known.items ≡ from.known.items
-    → AddsLeft step action from.visits.items begun added
-    → left.known.items ≡ added.known.items
-    → HoldTheSame added.visits.items left.visits.items → IsChosen step action from left
-chosen_by step action from begun added left none known adds same_known same place steps choices
-    inside positive =
-    grind (arith, same (is_met_on place steps choices))
+  module _ (h : IsPartly step action from parts left) where
+    pub one_taken : (v : Visit) (rest : Parts) (next : Level) → Takes v parts rest
+        → AddsLeft step action v left next → IsPartly step action from rest next
+    one_taken v rest next takes added = record {
+      counted = added.counted ∙ h.counted;
+      adds = λ place steps choices inside positive.
+          grind (
+            arith,
+            h.adds place steps choices inside positive,
+            added.adds place steps choices (omega (arith, inside, h.counted)) positive,
+            takes.taken (is_met_on place (step ∷ steps) (action ∷ choices)),
+          );
+    }
+
+    pub all_taken : AreTaken parts → (next : Level) → next.known.items ≡ left.known.items
+        → HoldTheSame left.visits.items next.visits.items → IsChosen step action from next
+    all_taken none next known same place steps choices inside positive =
+        grind (
+          arith,
+          or-false,
+          h.adds place steps choices inside positive,
+          none (is_met_on place (step ∷ steps) (action ∷ choices)),
+          same (is_met_on place steps choices),
+        )
+
+-- ---- marks
 
 abbrev is_to : ℕ → Visit → Bool
 is_to place v = v.set == place

@@ -1,24 +1,24 @@
 -- Strategies that reduce to the same one agree with the same plays, and full profiles that do have
 -- the same payoffs and bottom-up values.
-use Rattle.gf_form.proofs.Common.{arith, list_all, list_any, or_right, same_set, comes_to, in_right}
-use Rattle.gf_form.proofs.Common.{◌≡◌, if◌then◌else◌, option_map_or, is_own_choice, IsTerminalValue}
-use Rattle.gf_form.proofs.Common.{ℕ, ap, inr, Has, has, suc, ◌+◌, ◌-◌, ◌<◌, not, zip, ◌↔◌, Bool, []}
-use Rattle.gf_form.proofs.Common.{SetKey, agrees, reduced, follows, in_left, has_map, IsValue, true}
-use Rattle.gf_form.proofs.Common.{List, Some, None, map, drop, refl, ◌||◌, Game, Ratio, Trees, sym}
-use Rattle.gf_form.proofs.Common.{false, subst, plays, length, filter, times, total, payoff, branch}
-use Rattle.gf_form.proofs.Common.{◌∙◌, inl, Step, Play, zero, ◌==◌, Tree, none, more, Node, ◌∷◌}
-use Rattle.gf_form.proofs.Common.{choices_by, players_of, strategies, MatchOption, IsMoveValue}
-use Rattle.gf_form.proofs.Common.{Option, numbers_from, strategies_at, full_profiles, IsChanceValue}
-use Rattle.gf_form.proofs.Common.{get_or, reduced_by, zero_ratio, plays_from, cases_Bool, Contains}
-use Rattle.gf_form.proofs.Common.{choice_at, eqb-false, is_chosen, MatchBool, from_node, or_left}
-use Rattle.gf_form.proofs.Common.{same_set_equality, length-numbers_from, play_probability, AddsTo}
-use Rattle.gf_form.proofs.Common.{player_keys, is_relevant, strategy_at, play_payoff, IsChildValue}
-use Rattle.gf_form.proofs.Common.{payoff_at, probability, MultipliesTo}
+use Rattle.gf_form.proofs.Common.{length-numbers_from, same_set_equality, play_probability, reduced}
+use Rattle.gf_form.proofs.Common.{IsTerminalValue, if◌then◌else◌, option_map_or, is_own_choice, ◌≡◌}
+use Rattle.gf_form.proofs.Common.{strategies_at, full_profiles, IsChanceValue, numbers_from, SetKey}
+use Rattle.gf_form.proofs.Common.{IsChildValue, MultipliesTo, MatchOption, IsMoveValue, player_keys}
+use Rattle.gf_form.proofs.Common.{is_relevant, strategy_at, play_payoff, probability, choices_by, ℕ}
+use Rattle.gf_form.proofs.Common.{players_of, strategies, reduced_by, zero_ratio, plays_from, arith}
+use Rattle.gf_form.proofs.Common.{cases_Bool, choice_at, eqb-false, is_chosen, MatchBool, from_node}
+use Rattle.gf_form.proofs.Common.{payoff_at, list_all, list_any, or_right, same_set, comes_to, Bool}
+use Rattle.gf_form.proofs.Common.{in_right, Contains, eqb-true, follows, in_left, has_map, IsValue}
+use Rattle.gf_form.proofs.Common.{or_left, agrees, length, filter, payoff, branch, Option, get_or}
+use Rattle.gf_form.proofs.Common.{AddsTo, Ratio, Trees, false, subst, plays, times, total, true, ap}
+use Rattle.gf_form.proofs.Common.{List, Some, None, drop, refl, ◌||◌, Game, Step, Play, zero, ◌==◌}
+use Rattle.gf_form.proofs.Common.{Tree, none, more, Node, inr, Has, has, suc, ◌+◌, ◌-◌, ◌<◌, not}
+use Rattle.gf_form.proofs.Common.{zip, ◌↔◌, map, sym, ◌∙◌, inl, ◌∷◌, []}
 use Rattle.gf_tree.proofs.lemmas.stores.KnownKeys.{used_before}
 use Rattle.gf_form.proofs.lemmas.form.Forms.{as_many}
 use Rattle.gf_form.proofs.lemmas.strategies.Lookups.{strategy_before}
 use Rattle.gf_form.proofs.lemmas.strategies.Chosen.{profile_strategies}
-use Rattle.std.proofs.Math.Path.{transport, transport⁻¹}
+use Rattle.std.proofs.Math.Path.{transport⁻¹, transport}
 
 -- ---- tests
 
@@ -47,6 +47,53 @@ none_chosen (k ∷ keys) (action ∷ strategy) key h =
     grind (arith, same_set_equality, none_chosen keys strategy key)
 none_chosen keys strategy key h = grind arith
 
+-- ---- along a play
+
+-- choices that are equal at the sets to which the first ones come, of players who are not free to
+-- choose anything
+module _ (free : ℕ → Bool) (c d : SetKey → ℕ) where
+  abbrev AreEqualOn : List Step → Type 0
+  AreEqualOn steps = (key : SetKey) → free key.player ≡ false → comes_to c key steps ≡ true
+      → c key ≡ d key
+
+  -- a move is free, or as chosen
+  abbrev is_right : (SetKey → ℕ) → Step → Bool
+  is_right choices s =
+      option_map_or (λ key. free key.player || choices key == s.taken) s.node.set true
+
+  pub own_right : (p : ℕ) (o : Option SetKey) (k : ℕ) → free p ≡ false
+      → option_map_or (λ key. free key.player || c key == k) o true ≡ true
+      → option_map_or (λ key. not (key.player == p) || c key == k) o true ≡ true
+  own_right p None k bound h = refl
+  own_right p (Some key) k bound h = grind (arith, eqb-true)
+
+  pub equal_later : (s : Step) (rest : List Step) → AreEqualOn (s ∷ rest) → is_right c s ≡ true
+      → AreEqualOn rest
+  equal_later s rest equal h key bound come = grind (arith, own_right)
+
+  step_same : (s : Step) (rest : List Step) → AreEqualOn (s ∷ rest) → (o : Option SetKey)
+      → s.node.set ≡ o → option_map_or (λ key. free key.player || c key == s.taken) o true
+      ≡ option_map_or (λ key. free key.player || d key == s.taken) o true
+  step_same s rest equal None at = refl
+  step_same s rest equal (Some key) at = grind (arith, equal key, same_set_equality)
+
+  pub all_same : (steps : List Step) → AreEqualOn steps
+      → list_all (is_right c) steps ≡ list_all (is_right d) steps
+  all_same [] equal = refl
+  all_same (s ∷ rest) equal =
+      let same = step_same s rest equal s.node.set refl in
+      elim (cases_Bool (is_right c s)) [
+        | inl his ↦ grind (arith, all_same rest (equal_later s rest equal his))
+        | inr other ↦ grind arith
+      ]
+
+-- all players but one
+abbrev is_other : ℕ → ℕ → Bool
+is_other player p = not (p == player)
+
+abbrev pub is_chance : ℕ → Bool
+is_chance p = p == 0
+
 module _ (g : Game) (player : ℕ) where
   abbrev pub chosen : List ℕ → SetKey → ℕ
   chosen strategy key = choice_at (player_keys g player) strategy key
@@ -63,43 +110,17 @@ module _ (g : Game) (player : ℕ) where
             ∙ sym (none_chosen (player_keys g player) t key other)
       ]
 
-  -- ---- along a play
-
   module _ (c d : SetKey → ℕ) where
-    -- equal at his sets to which these choices come
-    abbrev AreEqualOn : List Step → Type 0
-    AreEqualOn steps = (key : SetKey) → key.player ≡ player → comes_to c key steps ≡ true
-        → c key ≡ d key
-
-    own_same : (s : Step) (rest : List Step) → AreEqualOn (s ∷ rest)
-        → (o : Option SetKey) → s.node.set ≡ o
-        → option_map_or (λ key. not (key.player == player) || c key == s.taken) o true
-        ≡ option_map_or (λ key. not (key.player == player) || d key == s.taken) o true
-    own_same s rest equal None at = refl
-    own_same s rest equal (Some key) at = grind (arith, equal key, same_set_equality)
-
-    equal_on : (s : Step) (rest : List Step) → AreEqualOn (s ∷ rest)
-        → is_own_choice c player s ≡ true → AreEqualOn rest
-    equal_on s rest equal h key own come = grind (arith, equal key)
-
-    comes_same : (key : SetKey) → key.player ≡ player → (rest : List Step) → AreEqualOn rest
-        → comes_to c key rest ≡ comes_to d key rest
+    comes_same : (key : SetKey) → key.player ≡ player → (rest : List Step)
+        → AreEqualOn (is_other player) c d rest → comes_to c key rest ≡ comes_to d key rest
     comes_same key own [] equal = refl
     comes_same key own (s ∷ rest) equal =
-        let same = own_same s rest equal s.node.set refl in
+        let same = step_same (is_other player) c d s rest equal s.node.set refl in
         elim (cases_Bool (is_own_choice c player s)) [
           | inl his ↦
-              let later = comes_same key own rest (equal_on s rest equal his) in grind arith
-          | inr other ↦ grind arith
-        ]
-
-    rest_same : (rest : List Step) → AreEqualOn rest
-        → list_all (is_own_choice c player) rest ≡ list_all (is_own_choice d player) rest
-    rest_same [] equal = refl
-    rest_same (s ∷ rest) equal =
-        let same = own_same s rest equal s.node.set refl in
-        elim (cases_Bool (is_own_choice c player s)) [
-          | inl his ↦ grind (arith, rest_same rest (equal_on s rest equal his))
+              let later =
+              comes_same key own rest (equal_later (is_other player) c d s rest equal his) in
+              grind arith
           | inr other ↦ grind arith
         ]
 
@@ -117,41 +138,9 @@ module _ (g : Game) (player : ℕ) where
       → Contains (plays g.tree) play → agrees (choice_at (player_keys g player) s) player play
       ≡ agrees (choice_at (player_keys g player) t) player play
   reduced_agree s t play e i =
-      rest_same (chosen s) (chosen t) play.steps (λ key own come.
+      all_same (is_other player) (chosen s) (chosen t) play.steps (λ key bound come.
       same_where_relevant s t e key (any_has (λ (p : Play). comes_to (chosen s) key p.steps)
       (plays g.tree) play (has (plays g.tree) play i) come))
-
--- ---- choices of all players that are equal at the sets to which the first ones come
-
-pub own_chosen : (c : SetKey → ℕ) (p : ℕ) (o : Option SetKey) (k : ℕ) → 0 < p
-    → option_map_or (λ key. key.player == 0 || c key == k) o true ≡ true
-    → option_map_or (λ key. not (key.player == p) || c key == k) o true ≡ true
-own_chosen c p None k above h = refl
-own_chosen c p (Some key) k above h = grind arith
-
-module _ (c d : SetKey → ℕ) where
-  abbrev AreEqualFor : List Step → Type 0
-  AreEqualFor steps = (key : SetKey) → 0 < key.player → comes_to c key steps ≡ true → c key ≡ d key
-
-  equal_later : (s : Step) (rest : List Step) → AreEqualFor (s ∷ rest) → is_chosen c s ≡ true
-      → AreEqualFor rest
-  equal_later s rest equal h key above come = grind (arith, own_chosen)
-
-  chosen_same : (s : Step) (rest : List Step) → AreEqualFor (s ∷ rest) → (o : Option SetKey)
-      → s.node.set ≡ o → option_map_or (λ key. key.player == 0 || c key == s.taken) o true
-      ≡ option_map_or (λ key. key.player == 0 || d key == s.taken) o true
-  chosen_same s rest equal None at = refl
-  chosen_same s rest equal (Some key) at = grind (arith, equal key, same_set_equality)
-
-  follow_same : (steps : List Step) → AreEqualFor steps
-      → list_all (is_chosen c) steps ≡ list_all (is_chosen d) steps
-  follow_same [] equal = refl
-  follow_same (s ∷ steps) equal =
-      let first = chosen_same s steps equal s.node.set refl in
-      elim (cases_Bool (is_chosen c s)) [
-        | inl his ↦ grind (arith, follow_same steps (equal_later s steps equal his))
-        | inr other ↦ grind arith
-      ]
 
 -- ---- profiles that reduce to the same one
 
@@ -177,8 +166,10 @@ module _ (g : Game) where
       grind (arith, his_comes all key steps)
 
   equal_for : (all others : List (List ℕ)) → AreReducedAlike all others → (play : Play)
-      → Has (plays g.tree) play → AreEqualFor (choices_by g all) (choices_by g others) play.steps
-  equal_for all others alike play i key above come =
+      → Has (plays g.tree) play
+      → AreEqualOn is_chance (choices_by g all) (choices_by g others) play.steps
+  equal_for all others alike play i key bound come =
+      let above : 0 < key.player = grind (arith, eqb-false) in
       grind (arith, same_where_relevant, any_has, his_comes)
 
   filter_same : (p q : Play → Bool) (ps : List Play) → ((x : Play) → Has ps x → p x ≡ q x)
@@ -192,7 +183,7 @@ module _ (g : Game) where
       ≡ filter (follows (choices_by g others)) (plays g.tree)
   same_plays all others alike =
       filter_same (follows (choices_by g all)) (follows (choices_by g others)) (plays g.tree)
-      (λ play i. follow_same (choices_by g all) (choices_by g others) play.steps
+      (λ play i. all_same is_chance (choices_by g all) (choices_by g others) play.steps
       (equal_for all others alike play i))
 
   -- what the players' strategies reduce to
@@ -249,7 +240,7 @@ first_play (branch n (more t ts)) =
 
 module _ (g : Game) (c d : SetKey → ℕ) (player : ℕ) where
   abbrev AreEqualIn : List Play → Type 0
-  AreEqualIn ps = (p : Play) → Has ps p → AreEqualFor c d p.steps
+  AreEqualIn ps = (p : Play) → Has ps p → AreEqualOn is_chance c d p.steps
 
   abbrev IsChosen : Node → ℕ → Type 0
   IsChosen n k = is_chosen c (record { node = n; taken = k }) ≡ true
@@ -271,17 +262,17 @@ module _ (g : Game) (c d : SetKey → ℕ) (player : ℕ) where
       (has_map (from_node n k) (plays t) p i)
 
   equal_here : (n : Node) (k : ℕ) (t : Tree Node) (ts : Trees Node) (key : SetKey)
-      → AreEqualIn (plays_from n k (more t ts)) → n.set ≡ Some key → 0 < key.player
-      → c key ≡ d key
-  equal_here n k t ts key equal at above =
+      → AreEqualIn (plays_from n k (more t ts)) → n.set ≡ Some key
+      → is_chance key.player ≡ false → c key ≡ d key
+  equal_here n k t ts key equal at bound =
       let p = first_play t in
-      equal (from_node n k p.0) (through n k t ts p.0 p.1) key above
+      equal (from_node n k p.0) (through n k t ts p.0 p.1) key bound
       (grind (arith, same_set_equality))
 
   equal_first : (n : Node) (k : ℕ) (t : Tree Node) (ts : Trees Node)
       → AreEqualIn (plays_from n k (more t ts)) → IsChosen n k → AreEqualIn (plays t)
   equal_first n k t ts equal chosen p i =
-      equal_later c d (record { node = n; taken = k }) p.steps
+      equal_later is_chance c d (record { node = n; taken = k }) p.steps
       (equal (from_node n k p) (through n k t ts p i)) chosen
 
   equal_others : (n : Node) (k : ℕ) (t : Tree Node) (ts : Trees Node)
@@ -307,7 +298,7 @@ module _ (g : Game) (c d : SetKey → ℕ) (player : ℕ) where
       by false e =
           child (c key) (grind arith)
           ∙ ap (λ k. IsChildValue g d player k (more t ts))
-          (equal_here n 1 t ts key equal at (omega (arith, eqb-false key.player 0 e)))
+          (equal_here n 1 t ts key equal at e)
 
   mutual
     value_same : (t : Tree Node) → AreEqualIn (plays t)

@@ -1,38 +1,39 @@
 -- A survey of a tree, with what it has yet to find while it goes into branches; and what demands
 -- say of one of a player's sets, and what another action there adds to them: so the visits of a
 -- player in a tree show which of his sets are relevant.
-use Rattle.gf_form.proofs.Common.{ap, ◌*◌, ◌%◌, ◌<◌, ◌≤◌, [], set, sym, ◌∙◌, ◌^◌, none, more, ◌≡◌}
-use Rattle.gf_form.proofs.Common.{append-nil, AreActions, option_map, HasChildren, flatten_all, ℕ}
-use Rattle.gf_form.proofs.Common.{picked, Option, SetKey, IsGame, set_at, branch, Survey, has_at}
-use Rattle.gf_form.proofs.Common.{◌+◌, true, false, arith, width, subst, Trees, count, Owner, Visit}
-use Rattle.gf_form.proofs.Common.{Bool, option_map_or, InformationSet, is_own_choice, FindRelevance}
-use Rattle.gf_form.proofs.Common.{List, refl, ◌==◌, ◌&&◌, Some, None, ◌||◌, ◌++◌, Game, Node, Tree}
-use Rattle.gf_form.proofs.Common.{length, get_or, demanded, list_any, same_set, own_step, slice_get}
-use Rattle.gf_form.proofs.Common.{if◌then◌else◌, AllByRecursion, list_any-append, same_set_equality}
-use Rattle.gf_form.proofs.Common.{mod-eq_of_lt, eqb-true, steps_behind, action_counts, visits_below}
-use Rattle.gf_form.proofs.Common.{eqb-false, own_steps, length-map, flatten, tree_comes, trees_come}
-use Rattle.gf_form.proofs.Common.{AllZip-long, MatchOption, player_keys, player_sets, numbers_from}
-use Rattle.gf_form.proofs.Common.{IsDigitOf, all_parts, choice_at, own_visit, visits_at, is_met_on}
-use Rattle.gf_form.proofs.Common.{zero, suc, ◌∷◌, ◌-◌, get_or-numbers_from, unwrap_or-slice_get}
-use Rattle.gf_form.proofs.Common.{at_position, AreDistinct, Vec, Global, length-append, child_trees}
-use Rattle.gf_form.proofs.Common.{branches_given, branches_left, game_of_branches, list_of, sizes}
-use Rattle.gf_form.proofs.Common.{root_node, FindsMore, survey_size, Open}
+use Rattle.gf_form.proofs.Common.{get_or-numbers_from, unwrap_or-slice_get, same_set_equality, none}
+use Rattle.gf_form.proofs.Common.{game_of_branches, list_any-append, InformationSet, AllByRecursion}
+use Rattle.gf_form.proofs.Common.{branches_given, option_map_or, is_own_choice, FindRelevance, more}
+use Rattle.gf_form.proofs.Common.{if◌then◌else◌, action_counts, length-append, branches_left, false}
+use Rattle.gf_form.proofs.Common.{mod-eq_of_lt, steps_behind, visits_below, numbers_from, slice_get}
+use Rattle.gf_form.proofs.Common.{HasChildren, flatten_all, AllZip-long, MatchOption, player_keys}
+use Rattle.gf_form.proofs.Common.{player_sets, at_position, AreDistinct, child_trees, survey_size}
+use Rattle.gf_form.proofs.Common.{append-nil, AreActions, option_map, length-map, tree_comes, arith}
+use Rattle.gf_form.proofs.Common.{trees_come, eqb-false, own_steps, IsDigitOf, all_parts, choice_at}
+use Rattle.gf_form.proofs.Common.{own_visit, visits_at, is_met_on, root_node, FindsMore, demanded}
+use Rattle.gf_form.proofs.Common.{list_any, same_set, own_step, eqb-true, flatten, list_of, picked}
+use Rattle.gf_form.proofs.Common.{Option, SetKey, IsGame, set_at, branch, Survey, has_at, length, ℕ}
+use Rattle.gf_form.proofs.Common.{get_or, Global, width, subst, Trees, count, Owner, Visit, sizes}
+use Rattle.gf_form.proofs.Common.{true, Bool, List, refl, ◌==◌, ◌&&◌, Some, None, ◌||◌, ◌++◌, Game}
+use Rattle.gf_form.proofs.Common.{Node, Tree, zero, Open, ◌*◌, ◌%◌, ◌<◌, ◌≤◌, set, sym, ◌∙◌, ◌^◌}
+use Rattle.gf_form.proofs.Common.{◌≡◌, ◌+◌, suc, ◌∷◌, ◌-◌, Vec, ap, []}
 use Rattle.std.proofs.Math.Nat.{div-zero}
-use Rattle.gf_form.proofs.lemmas.rows.DemandDigits.{AreWithin as DigitsWithin, digit_is, meets_is}
-use Rattle.gf_form.proofs.lemmas.rows.DemandDigits.{met, met_digit, met_set, no_demands, none_met}
-use Rattle.gf_form.proofs.lemmas.rows.DemandDigits.{none_pack, none_within, pack, pack_below}
-use Rattle.gf_form.proofs.lemmas.rows.DemandDigits.{set_pack, set_within, within_length}
+use Rattle.gf_form.proofs.lemmas.rows.DemandDigits.{AreWithin as DigitsWithin, within_length, pack}
+use Rattle.gf_form.proofs.lemmas.rows.DemandDigits.{none_within, no_demands, pack_below, set_within}
+use Rattle.gf_form.proofs.lemmas.rows.DemandDigits.{met_digit, none_pack, digit_is, meets_is, met}
+use Rattle.gf_form.proofs.lemmas.rows.DemandDigits.{none_met, set_pack, met_set}
 use Rattle.gf_form.proofs.lemmas.rows.DigitPlaces.{as_many_picked, own_alone, own_digit}
 use Rattle.gf_form.proofs.lemmas.strategies.Lookups.{zip_at}
 use Rattle.gf_form.proofs.lemmas.reduced.Coming.{relevant_is}
 use Rattle.gf_form.proofs.lemmas.rows.GameDigits.{IsAmong, among}
 use Rattle.gf_form.proofs.lemmas.rows.UnmetShares.{set_there}
 use Rattle.gf_form.proofs.lemmas.strategies.Chosen.{among_his}
-use Rattle.gf_form.proofs.lemmas.strategies.KnownSets.{own_set, keys_distinct}
+use Rattle.gf_form.proofs.lemmas.strategies.KnownSets.{keys_distinct, own_set}
 use Rattle.std.proofs.lemmas.Option.{slice_get_within}
 use Rattle.gf_form.proofs.lemmas.values.Walks.{choice_there}
 use Rattle.gf_tree.specs.declared.game.branches.Branches.{Branches}
-use Rattle.gf_form.specs.inner.reduced.Survey.{finds, open_size, open_visits, trees_of}
+use Rattle.gf_form.specs.inner.reduced.Survey.{open_visits, open_size, trees_of, visit_to, step_to}
+use Rattle.gf_form.specs.inner.reduced.Survey.{finds}
 use Rattle.gf_form.proofs.lemmas.rows.PathsTold.{length-list_of}
 
 -- ---- positions
@@ -90,43 +91,35 @@ first_visits : (own : Owner) (g h : Game) (demands step taken action k : ℕ)
     ≡ visits_below g own demands step taken 1 (trees_of ts)
 first_visits own g h demands step taken action k ts rest e f i j = rw (e, f, i, j) refl
 
+met_there : (g : Game) → IsGame g → (own : Owner) (demands : ℕ) (key : SetKey) (set : ℕ)
+    → slice_get (player_keys g key.player) set ≡ Some key → (b : Bool)
+    → (key.player == own.player) ≡ b
+    → (visit_to own demands key.player set ≡ own_visit g own demands key)
+    × (step_to own key.player set ≡ own_step g own key)
+met_there g game own demands key set there true e =
+    let is = eqb-true key.player own.player e in
+    let distinct = keys_distinct g game key.player in
+    let step = said_there (player_keys g key.player) own.steps.now set key distinct there in
+    let number = number_is (player_keys g key.player) set key distinct there in
+    (grind arith, grind arith)
+met_there g game own demands key set there false e = (grind arith, grind arith)
+
 pub entered : (g : Game) → IsGame g → (own : Owner) (old new : Survey) (t : Tree Node)
     (key : SetKey) (set : ℕ) (o : Open) → (root_node t).set ≡ Some key
     → slice_get (player_keys g key.player) set ≡ Some key
-    → (key.player ≡ own.player
-    → (new.visits.items ≡ old.visits.items ++ record { demands = o.demands; set = set } ∷ [])
-    × (o.step ≡ get_or own.steps.now set 0))
-    → (¬ (key.player ≡ own.player) → (new.visits.items ≡ old.visits.items) × (o.step ≡ 0))
+    → new.visits.items ≡ old.visits.items ++ visit_to own o.demands key.player set
+    → o.step ≡ step_to own key.player set
     → new.nodes.items ≡ old.nodes.items ++ o ∷ [] → game_of_branches o.rest ≡ g
     → branches_left o.rest ≡ child_trees t → branches_given o.rest ≡ 0
     → o.taken ≡ demanded o.demands o.step (length (child_trees t))
     → FindsMore own old new (visits_at g own o.demands t)
-entered g game own old new t key set o at there his other opened same_game left given taken test =
-    by (key.player == own.player) refl
-  where
-    all : o.step ≡ own_step g own key
-        → list_any test new.visits.items
-        ≡ (list_any test old.visits.items || list_any test (own_visit g own o.demands key))
-        → finds own test new ≡ (finds own test old || list_any test (visits_at g own o.demands t))
-    all step_is found =
-        let all_there = visits_there g own o.demands t key at in
-        let below = first_visits own g (game_of_branches o.rest) o.demands o.step
-        (demanded o.demands o.step (length (child_trees t))) o.taken (branches_given o.rest)
-        (child_trees t) (branches_left o.rest) same_game left given taken in
-        grind (arith, list_any-append, opened, below)
-
-    by : (b : Bool) → (key.player == own.player) ≡ b
-        → finds own test new ≡ (finds own test old || list_any test (visits_at g own o.demands t))
-    by true e =
-        let is = eqb-true key.player own.player e in
-        let distinct = keys_distinct g game key.player in
-        let step = said_there (player_keys g key.player) own.steps.now set key distinct there in
-        let number = number_is (player_keys g key.player) set key distinct there in
-        let now = his is in
-        all (grind arith) (grind (arith, list_any-append))
-    by false e =
-        let same = other (eqb-false key.player own.player e) in
-        all (grind arith) (grind arith)
+entered g game own old new t key set o at there visits step opened same_game left given taken test =
+    let met = met_there g game own o.demands key set there (key.player == own.player) refl in
+    let all_there = visits_there g own o.demands t key at in
+    let below = first_visits own g (game_of_branches o.rest) o.demands o.step
+    (demanded o.demands o.step (length (child_trees t))) o.taken (branches_given o.rest)
+    (child_trees t) (branches_left o.rest) same_game left given taken in
+    grind (arith, list_any-append, opened, below)
 
 -- ---- the next child
 

@@ -1,12 +1,11 @@
 -- What is left of a player's visits after choices at the slower digits.
-use Rattle.std.specs.Prelude.{◌≡◌, ◌≤◌, ◌<◌, ◌-◌, ◌*◌, ◌+◌, ◌==◌, ◌&&◌, ◌||◌, ℕ, Bool, false}
-use Rattle.std.specs.Prelude.{List}
-use Rattle.std.specs.Prelude.{◌∷◌, Option, Some, None, get_or, length, nat_le, nat_lt}
-use Rattle.std.specs.Prelude.{if◌then◌else◌}
+use Rattle.std.specs.Prelude.{if◌then◌else◌, Option, get_or, length, nat_le, nat_lt, false, ◌==◌, ℕ}
+use Rattle.std.specs.Prelude.{◌&&◌, ◌||◌, Bool, List, Some, None, ◌≡◌, ◌≤◌, ◌<◌, ◌-◌, ◌*◌, ◌+◌, ◌∷◌}
 use Rattle.std.specs.List.{AllByRecursion, list_any}
 use Rattle.std.specs.List.Sorted.{IsNonDecreasingBy}
-use Rattle.gf_form.specs.inner.reduced.Visits.{is_met}
+use Rattle.gf_form.specs.inner.reduced.Visits.{is_met_on, is_met}
 use Rattle.gf_form.specs.declared.reduced.level.Level.{Level}
+use Rattle.gf_form.specs.declared.reduced.level.Parts.{Parts}
 use Rattle.gf_form.specs.declared.reduced.visits.Visit.{Visit}
 
 -- the demands that are left if this action is chosen at the slowest digit, with this step; none if
@@ -38,13 +37,32 @@ pub record HaveBelow (visits : List Visit) (number count : ℕ) : Type 0 where
   pub above : (k : ℕ) (d : Visit) → count ≤ k → k < length visits
       → number ≤ (get_or visits k d).demands
 
--- the second level has in addition what is left of these visits if this action is chosen
-pub record AddsLeft (step action : ℕ) (visits : List Visit) (before after : Level) : Type 0 where
+-- a visit that passes the test is in one of the parts
+abbrev pub is_in : (Visit → Bool) → Parts → Bool
+is_in test parts = list_any test parts.free.now || list_any test parts.own.now
+
+abbrev pub AreTaken : Parts → Type 0
+AreTaken parts = (test : Visit → Bool) → is_in test parts ≡ false
+
+-- this visit is taken from the parts
+pub record Takes (v : Visit) (old new : Parts) : Type 0 where
+  pub taken : (test : Visit → Bool) → is_in test old ≡ (test v || is_in test new)
+  pub fewer : length new.free.now + length new.own.now
+      < length old.free.now + length old.own.now
+
+-- of these visits, those that are met if this action is chosen are in the parts
+abbrev pub AreParts : ℕ → ℕ → List Visit → Parts → Type 0
+AreParts step action visits parts = (place : ℕ) (steps choices : List ℕ)
+    → is_in (is_met_on place (step ∷ steps) (action ∷ choices)) parts
+    ≡ is_met place (step ∷ steps) (action ∷ choices) visits
+
+-- the second level has in addition what is left of this visit if this action is chosen
+pub record AddsLeft (step action : ℕ) (v : Visit) (before after : Level) : Type 0 where
   pub counted : length after.known.items ≡ length before.known.items
   pub adds : (place : ℕ) (steps choices : List ℕ) → place < length before.known.items
       → ArePositive steps → is_left place steps choices after
       ≡ (is_left place steps choices before
-      || is_met place (step ∷ steps) (action ∷ choices) visits)
+      || is_met_on place (step ∷ steps) (action ∷ choices) v)
 
 -- the second level is what is left of the first if this action is chosen
 abbrev pub IsChosen : ℕ → ℕ → Level → Level → Type 0

@@ -1,15 +1,15 @@
 -- The visits of a player in a tree, and what a survey has yet to find of them.
-use Rattle.std.specs.Prelude.{◌≡◌, ◌+◌, ◌*◌, ◌%◌, ◌^◌, ◌==◌, ◌||◌, ◌++◌, ℕ, Bool, List, [], ◌∷◌}
-use Rattle.std.specs.Prelude.{length, if◌then◌else◌}
+use Rattle.std.specs.Prelude.{if◌then◌else◌, get_or, length, ◌==◌, ◌||◌, ◌++◌, Bool, List, ◌≡◌, ◌+◌}
+use Rattle.std.specs.Prelude.{◌*◌, ◌%◌, ◌^◌, ◌∷◌, [], ℕ}
 use Rattle.std.specs.List.{list_any}
 use Rattle.std.specs.Option.{option_map_or}
 use Rattle.gf_nfg.specs.Profiles.{numbers_from}
-use Rattle.gf_tree.specs.BranchesLeft.{branches_given, branches_left, game_of_branches}
+use Rattle.gf_tree.specs.BranchesLeft.{game_of_branches, branches_given, branches_left}
 use Rattle.gf_tree.specs.Description.{SetKey}
 use Rattle.gf_tree.specs.FirstUse.{player_keys}
 use Rattle.gf_tree.specs.Game.{Game, Node}
 use Rattle.gf_tree.specs.PrefixOrder.{flatten}
-use Rattle.gf_tree.specs.Tree.{Tree, Trees, count}
+use Rattle.gf_tree.specs.Tree.{Trees, count, Tree}
 use Rattle.gf_tree.specs.Tree.Tree.{branch}
 use Rattle.gf_tree.specs.Tree.Trees.{none, more}
 use Rattle.gf_form.specs.inner.rows.ReachedNodes.{demanded}
@@ -19,20 +19,25 @@ use Rattle.gf_form.specs.declared.reduced.survey.Owner.{Owner}
 use Rattle.gf_form.specs.declared.reduced.survey.Survey.{Survey}
 use Rattle.gf_form.specs.declared.reduced.visits.Visit.{Visit}
 
--- the step of the digit at a set of the player's; 0 at any other
+-- the step of the digit at the set of a player at this place, if he is the owner; 0 if not
+abbrev pub step_to : Owner → ℕ → ℕ → ℕ
+step_to own player set = if player == own.player then get_or own.steps.now set 0 else 0
+
 abbrev pub own_step : Game → Owner → SetKey → ℕ
 own_step g own key =
     if key.player == own.player
     then choice_at (player_keys g own.player) own.steps.now key
     else 0
 
--- the visit to a set, if it is the player's
+-- the visit to the set of a player at this place, if he is the owner
+abbrev pub visit_to : Owner → ℕ → ℕ → ℕ → List Visit
+visit_to own demands player set =
+    if player == own.player then record { demands = demands; set = set } ∷ [] else []
+
 abbrev pub own_visit : Game → Owner → ℕ → SetKey → List Visit
 own_visit g own demands key =
     let keys = player_keys g own.player in
-    if key.player == own.player
-    then record { demands = demands; set = choice_at keys (numbers_from 0 (length keys)) key } ∷ []
-    else []
+    visit_to own demands key.player (choice_at keys (numbers_from 0 (length keys)) key)
 
 abbrev mutual
   -- the visits in a tree, if the path to it has these demands

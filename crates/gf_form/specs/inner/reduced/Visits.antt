@@ -1,7 +1,6 @@
 -- The visits of a player to his sets, and which of them come about by his own choices.
-use Rattle.std.specs.Prelude.{◌≡◌, ◌≤◌, ◌+◌, ◌*◌, ◌%◌, ◌^◌, ◌==◌, ◌&&◌, ℕ, Bool}
-use Rattle.std.specs.Prelude.{List}
-use Rattle.std.specs.List.{AllZip, list_any}
+use Rattle.std.specs.Prelude.{◌==◌, ◌&&◌, Bool, List, ◌≡◌, ◌≤◌, ◌+◌, ◌*◌, ◌%◌, ◌^◌, ℕ}
+use Rattle.std.specs.List.{list_any, AllZip}
 use Rattle.gf_form.specs.inner.rows.Demands.{meets}
 use Rattle.gf_form.specs.declared.reduced.visits.Visit.{Visit}
 

@@ -13,5 +13,6 @@ returns c =
     let s = c.loop-node.survey in
     let none : s.nodes.items ≡ [] =
     nil_from_length s.nodes.items (sym s.nodes.ok.0 ∙ c.in_default.ensures.cases.0) in
-    find_relevance c.args.game.now c.requires.is_game _
-    c.requires.steps c.requires.fits s _ none c.loop-node.invariant c.keep_each_once.ensures.same
+    find_relevance c.args.game.now c.requires.is_game _ c.requires.steps c.requires.fits s _ none
+    c.loop-node.invariant
+    (λ test. c.drop_repeats.ensures test ∙ c.put_in_order.ensures.same test)

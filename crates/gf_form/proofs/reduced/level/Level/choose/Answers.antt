@@ -1,16 +1,18 @@
-use Rattle.gf_form.proofs.Common.{◌≡◌, arith}
-use Rattle.gf_form.proofs.lemmas.reduced.LevelsChosen.{chosen_by}
+use Rattle.gf_form.proofs.Common.{arith, refl, ◌∙◌}
+use Rattle.gf_form.proofs.lemmas.reduced.LevelsChosen.{none_taken, all_taken, one_taken}
 use Rattle.gf_form.proofs.reduced.level.Level.choose.Goals as goal
 
-known_is : (c : goal.After-keep_each_once) → c.extend_from_slice.new.self.items ≡ c.args.from.now.known.items
-known_is c = grind arith
+pub loop-visit-init : goal.loop-visit-init
+loop-visit-init c =
+    none_taken c.args.step c.args.action c.args.from.now c.parts_of-parts.result _
+    (rw c.deref-2.ensures.value at c.parts_of-parts.ensures) (grind arith) c.clear.ensures.items
+
+pub loop-visit-preserved : goal.loop-visit-preserved
+loop-visit-preserved c =
+    one_taken _ _ _ _ _ c.loop-visit.invariant _ _ _ c.in-Some.ensures c.in_ok-add_left.ensures
 
 pub returns-clause-chosen : goal.returns-clause-chosen
 returns-clause-chosen c =
-    chosen_by c.args.step c.args.action c.args.from.now
-    (record { visits = c.clear.new.self; known = c.extend_from_slice.new.self })
-    c.add_chosen.new.self
-    (record { visits = c.keep_each_once.new.visits; known = c.add_chosen.new.self.known })
-    c.clear.ensures.items (known_is c)
-    (rw c.deref-2.ensures.value at c.in_ok-add_chosen.ensures)
-    (λ i. c.add_chosen.new.self.known.items) c.keep_each_once.ensures.same
+    all_taken _ _ _ _ _ c.loop-visit.invariant c.in_default.ensures
+    (record { visits = c.put_in_order.new.visits; known = c.loop-visit.self.known }) refl
+    (λ test. c.put_in_order.ensures.same test ∙ c.drop_repeats.ensures test)

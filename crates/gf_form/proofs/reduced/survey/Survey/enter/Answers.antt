@@ -1,5 +1,5 @@
-use Rattle.gf_form.proofs.Common.{◌∙◌, ◌-◌, ap, sym, tree_of, game_of, player_keys, Open}
-use Rattle.gf_form.proofs.lemmas.reduced.VisitsFound.{entered, place_there}
+use Rattle.gf_form.proofs.Common.{player_keys, tree_of, game_of, Open, ◌-◌, sym}
+use Rattle.gf_form.proofs.lemmas.reduced.VisitsFound.{place_there, entered}
 use Rattle.gf_form.proofs.reduced.survey.Survey.enter.Goals as goal
 
 abbrev node : goal.In_ok-push → Open
@@ -19,8 +19,7 @@ returns-clause-found c =
     (tree_of c.args.branch) m.0 (c.in-Some.mover.1 - 1) (node c) m.1
     (place_there (player_keys (game_of c.args.branch) m.0.player) c.in-Some.mover.1 m.0
     (cc (m.2, m.3)))
-    (λ his. met.own (sym m.2 ∙ his))
-    (λ other. let same = met.other (λ e. other (m.2 ∙ e)) in (ap (λ vs. vs.items) same.0, same.1))
+    (rw (sym m.2) at met.visits) (rw (sym m.2) at met.step)
     (cc (c.in_ok-push.ensures.items, met.nodes))
     c.child_branches.ensures.game c.child_branches.ensures.trees c.child_branches.ensures.none
     (cc (c.demanded.ensures, c.children.ensures))
