@@ -44,8 +44,8 @@ pub use Rattle.gf_form.specs.inner.reduced.OwnDigits.{digits_from, own_steps}
 pub use Rattle.gf_form.specs.inner.reduced.Relevance.{FindRelevance}
 pub use Rattle.gf_form.specs.inner.reduced.Search.{AreFirstBelow, AreFoundTo, AreInTurn, IsFine}
 pub use Rattle.gf_form.specs.inner.reduced.Search.{IsFirst, AreLabelledTo, AreOwn, HaveChoices}
-pub use Rattle.gf_form.specs.inner.reduced.Search.{steps_to, with_choices}
-pub use Rattle.gf_form.specs.inner.reduced.Search.{IsNextBelow, IsSearched, IsToldBy, IsWritten}
+pub use Rattle.gf_form.specs.inner.reduced.Search.{steps_to}
+pub use Rattle.gf_form.specs.inner.reduced.Search.{IsNextBelow, IsSearched, IsToldBy, IsShown}
 pub use Rattle.gf_form.specs.inner.reduced.Search.{actions_of, digit_at, is_relevant_at, is_settled}
 pub use Rattle.gf_form.specs.inner.reduced.Search.{numbered, choices_at}
 pub use Rattle.gf_form.specs.inner.reduced.Shown.{relevant_sets, shown}

@@ -24,7 +24,7 @@ use std::alloc::{AllocError, Global};
 
 /// What each player is paid at each profile of the reduced form, where these are the numbers of the
 /// first strategies of each player.
-#[tactic(auto, using(crate::proofs::lemmas::reduced::FirstsPicked::number_steps))]
+#[tactic(auto, using(crate::proofs::lemmas::reduced::FirstStrategies::number_steps))]
 fn reduced_rows(
     alloc: Global,
     game: &Game<'_>,

@@ -1,7 +1,5 @@
-pub mod Apart
 pub mod Coming
 pub mod FirstStrategies
-pub mod FirstsPicked
 pub mod LevelsChosen
 pub mod ReducedForms
 pub mod Reducing

@@ -1,8 +1,7 @@
 //! The reduced strategies of a player. Among the strategies that reduce to the same one, only the
 //! first has the first action at each set that is not relevant under it.
 
-ghost use Rattle.std.specs.Prelude.{◌≡◌, ◌≤◌, ◌<◌, ◌+◌, ◌^◌, ℕ, List, false, true, IfOk};
-ghost use Rattle.std.specs.Prelude.{MatchOption};
+ghost use Rattle.std.specs.Prelude.{◌≡◌, ◌≤◌, ◌<◌, ◌+◌, ◌^◌, ℕ, false, true, IfOk};
 ghost use Rattle.std.specs.Prelude.{OnOk, get_or, if◌then◌else◌, length, map};
 ghost use Rattle.gf_nfg.specs.Profiles.{product};
 ghost use Rattle.gf_tree.specs.Game.{IsGame};
@@ -11,7 +10,7 @@ ghost use Rattle.gf_form.specs.inner.reduced.Firsts.{AreFirsts, AreFirstsOf};
 ghost use Rattle.gf_form.specs.inner.reduced.OwnDigits.{digits_from};
 ghost use Rattle.gf_form.specs.inner.reduced.Relevance.{FindRelevance};
 ghost use Rattle.gf_form.specs.inner.reduced.Search.{AreFirstBelow, AreFoundTo, AreOwn};
-ghost use Rattle.gf_form.specs.inner.reduced.Search.{HaveChoices, IsSearched, digit_at};
+ghost use Rattle.gf_form.specs.inner.reduced.Search.{HaveChoices, IsSearched};
 ghost use Rattle.gf_form.specs.Reduced.{reduced_labels};
 ghost use Rattle.gf_form.specs.Strategies.{action_counts, players_of, strategies};
 
@@ -31,6 +30,10 @@ use std::alloc::{AllocError, Global};
 pub(crate) struct Player<'q, 'a> {
     pub game: &'q Game<'a>,
     pub number: u32,
+    /// How many actions there are at each of his sets.
+    pub counts: &'q [u32],
+    /// How many strategies he has.
+    pub whole: u32,
     pub digits: Vec<OwnDigit>,
 }
 
@@ -153,40 +156,26 @@ impl Search {
     }
 }
 
-/// The position, from 0, of the digit of the set at a place; `None` if it has none.
-fn digit_of(digits: &[OwnDigit], place: usize) -> Option<usize>
-    ensures { MatchOption result
-        ((k : ℕ) → k < length digits.now → ¬ ((digit_at digits.now k).place ≡ place))
-        (λ k. (k < length digits.now) × ((digit_at digits.now k).place ≡ place)) }
-{
-    for position in 0..digits.len() {
-        if digits[position].place == place {
-            return Some(position);
-        }
-    }
-    None
-}
-
 /// The visits to sets with a digit, each to the place of the digit, from 0.
-#[tactic(auto, using(crate::proofs::lemmas::reduced::SearchStarts::added))]
+#[tactic(auto, using(crate::proofs::lemmas::reduced::SearchStarts::own_visit_steps))]
 fn own_visits(
     alloc: Global,
     visits: &[Visit],
     digits: &[OwnDigit],
 ) -> Result<Vec<Visit>, AllocError>
-    requires digits { (counts : List ℕ) × (digits.now ≡ digits_from 0 counts) }
-    requires few { length digits.now < 2 ^ 32 }
+    requires { length digits.now < 2 ^ 32 }
     ensures { IfOk result (λ own. AreOwn digits.now visits.now own.items) }
 {
     let mut own = Vec::new(alloc);
     for visit in visits {
-        let Some(position) = digit_of(digits, visit.set as usize) else {
-            continue;
-        };
-        own.push(Visit {
-            demands: visit.demands,
-            set: position as u32,
-        })?;
+        for position in 0..digits.len() {
+            if digits[position].place == visit.set as usize {
+                own.push(Visit {
+                    demands: visit.demands,
+                    set: position as u32,
+                })?;
+            }
+        }
     }
     Ok(own)
 }
@@ -197,16 +186,15 @@ fn first_numbers(
     alloc: Global,
     player: &Player<'_, '_>,
     visits: &[Visit],
-    whole: u32,
 ) -> Result<Vec<u32>, AllocError>
     requires is_game { IsGame player.now.game.now }
     requires digits { player.now.digits.items
         ≡ digits_from 0 (action_counts player.now.game.now player.now.number) }
     requires choices { HaveChoices player.now.game.now player.now.number player.now.digits.items 0
-        whole }
+        player.now.whole }
     requires visits { FindRelevance player.now.game.now player.now.number visits.now }
     ensures { IfOk result (λ numbers. AreFoundTo player.now.game.now player.now.number
-        numbers.items whole) }
+        numbers.items player.now.whole) }
 {
     let own = own_visits(alloc, visits, &player.digits)?;
     let level = Level::of_visits(alloc, &own, player.digits.len())?;
@@ -216,7 +204,7 @@ fn first_numbers(
         numbers: Vec::new(alloc),
         spare: Vec::new(alloc),
     };
-    search.push_below(player, &player.digits, &level, 0, 0, whole)?;
+    search.push_below(player, &player.digits, &level, 0, 0, player.whole)?;
     Ok(search.numbers)
 }
 
@@ -243,10 +231,12 @@ fn first_strategies(
     let player = Player {
         game,
         number: player,
+        counts,
+        whole,
         digits,
     };
-    let numbers = first_numbers(alloc, &player, &visits, whole)?;
-    let labels = labels_of(alloc, &player, &visits, &numbers, whole, counts.len())?;
+    let numbers = first_numbers(alloc, &player, &visits)?;
+    let labels = labels_of(alloc, &player, &visits, &numbers)?;
     Ok((numbers, labels))
 }
 
@@ -292,7 +282,7 @@ fn own_strategies(
 }
 
 /// The numbers of the first strategies of each player, and the labels of his reduced ones.
-#[tactic(auto, using(crate::proofs::lemmas::reduced::FirstsPicked::first_steps))]
+#[tactic(auto, using(crate::proofs::lemmas::reduced::FirstStrategies::first_steps))]
 pub(crate) fn all_reduced(
     alloc: Global,
     game: &Game<'_>,

@@ -1,20 +1,22 @@
 //! The labels of reduced strategies.
 
-ghost use Rattle.std.specs.Prelude.{◌≡◌, ◌≤◌, ◌<◌, ◌+◌, [], IfOk, OnOk, false, get_or, length, true, ℕ};
+ghost use Rattle.std.specs.Prelude.{◌≡◌, ◌≤◌, ◌<◌, ◌+◌, [], IfOk, OnOk, false, true, get_or};
+ghost use Rattle.std.specs.Prelude.{length};
+ghost use Rattle.gf_nfg.specs.Profiles.{product};
 ghost use Rattle.gf_tree.specs.Game.{IsGame};
 ghost use Rattle.gf_form.specs.Reduced.{reduced_labels};
 ghost use Rattle.gf_form.specs.Strategies.{action_counts};
 ghost use Rattle.gf_form.specs.inner.reduced.OwnDigits.{digits_from};
 ghost use Rattle.gf_form.specs.inner.reduced.Relevance.{FindRelevance};
 ghost use Rattle.gf_form.specs.inner.reduced.Search.{AreFoundTo, AreInTurn, AreLabelledTo};
-ghost use Rattle.gf_form.specs.inner.reduced.Search.{HaveChoices, IsNextBelow, IsWritten};
+ghost use Rattle.gf_form.specs.inner.reduced.Search.{HaveChoices, IsNextBelow, IsShown};
 
 use crate::reduced::digits::OwnDigit;
 use crate::reduced::first::Player;
 use crate::reduced::level::Level;
 use crate::reduced::visits::Visit;
 use crate::strategies::label_text::write_label;
-use crate::strategies::numbered::room_for_choices;
+use crate::strategies::numbered::{room_for_choices, write_strategy};
 use gf_nfg::Labels;
 use gf_token::Label;
 use std::alloc::{AllocError, Global};
@@ -24,7 +26,7 @@ use std::alloc::{AllocError, Global};
 #[derive(Drop)]
 struct Labelling {
     alloc: Global,
-    /// The choices so far, and anything at the digits that are left.
+    /// The strategy whose label was made last.
     strategy: Vec<u32>,
     /// Whether each set is met.
     met: Vec<bool>,
@@ -37,16 +39,11 @@ struct Labelling {
 impl Labelling {
     /// No labels yet, but room for this many, for a player with this many sets.
     fn new(alloc: Global, count: usize, sets: usize) -> Result<Labelling, AllocError>
-        ensures wide { IfOk result (λ l. length l.strategy.items ≡ sets) }
-        ensures strategy { IfOk result (λ l. (place : ℕ) → place < sets
-            → get_or l.strategy.items place 0 ≡ 1) }
-        ensures labels { IfOk result (λ l. l.labels ≡ []) }
+        ensures { IfOk result (λ l. l.labels ≡ []) }
     {
-        let mut strategy = Vec::new(alloc);
-        strategy.resize(sets, 1)?;
         Ok(Labelling {
             alloc,
-            strategy,
+            strategy: Vec::new(alloc),
             met: Vec::new(alloc),
             text: Vec::new(alloc),
             labels: room_for_choices(alloc, count, sets)?,
@@ -64,7 +61,7 @@ impl Labelling {
         next < numbers.len() && numbers[next] < number
     }
 
-    /// Appends the label of the strategy, which has this number and meets the sets that the level
+    /// Appends the label of the strategy with this number, which meets the sets that the level
     /// tells.
     fn push_label(
         &mut self,
@@ -74,16 +71,18 @@ impl Labelling {
         number: u32,
     ) -> Result<(), AllocError>
         requires is_game { IsGame player.now.game.now }
-        requires last { IsWritten player.now.game.now player.now.number [] self.old.strategy.items
-            level.now number 1 }
+        requires counts { player.now.counts.now
+            ≡ action_counts player.now.game.now player.now.number }
+        requires whole { player.now.whole ≡ product player.now.counts.now }
+        requires last { IsShown player.now.game.now player.now.number [] level.now number 1 }
         requires ordered { AreInTurn numbers.now }
         requires next { IsNextBelow numbers.now self.old.labels (number + 1) }
         requires labelled { AreLabelledTo player.now.game.now player.now.number numbers.now
             self.old.labels number }
-        ensures strategy { self.new.strategy ≡ self.old.strategy }
         ensures labelled { OnOk result (AreLabelledTo player.now.game.now player.now.number
             numbers.now self.new.labels (number + 1)) }
     {
+        write_strategy(player.counts, player.whole, number, &mut self.strategy)?;
         level.mark(&mut self.met)?;
         write_label(&self.met, &self.strategy, &mut self.text)?;
         self.labels.push(Label::of_spelling(&self.text))?;
@@ -104,13 +103,15 @@ impl Labelling {
         count: u32,
     ) -> Result<(), AllocError>
         requires is_game { IsGame player.now.game.now }
-        requires below { IsWritten player.now.game.now player.now.number digits.now
-            self.old.strategy.items level.now number count }
+        requires counts { player.now.counts.now
+            ≡ action_counts player.now.game.now player.now.number }
+        requires whole { player.now.whole ≡ product player.now.counts.now }
+        requires below { IsShown player.now.game.now player.now.number digits.now level.now number
+            count }
         requires ordered { AreInTurn numbers.now }
         requires next { IsNextBelow numbers.now self.old.labels (number + count) }
         requires labelled { AreLabelledTo player.now.game.now player.now.number numbers.now
             self.old.labels number }
-        ensures kept { OnOk result (self.new.strategy.items ≡ self.old.strategy.items) }
         ensures labelled { OnOk result (AreLabelledTo player.now.game.now player.now.number
             numbers.now self.new.labels (number + count)) }
     {
@@ -118,7 +119,6 @@ impl Labelling {
             return self.push_label(player, numbers, level, number);
         };
         let each = count / digit.actions;
-        let action = self.strategy[digit.place];
         let mut left = match self.spare.pop() {
             Some(level) => level,
             None => Level::none(self.alloc),
@@ -128,43 +128,42 @@ impl Labelling {
             if !self.is_next_below(numbers, first + each) {
                 continue;
             }
-            self.strategy[digit.place] = before + 1;
             left.choose(level, digit.step, u64::from(before + 1))?;
             self.push_below(player, faster, numbers, &left, first, each)?;
         }
-        self.strategy[digit.place] = action;
         self.spare.push(left)?;
         Ok(())
     }
 }
 
 /// The labels of a player's reduced strategies, if the first ones that reduce to them have these
-/// numbers among his `whole` strategies, and these are his visits to this many sets.
+/// numbers, and these are his visits.
 #[tactic(auto, using(crate::proofs::lemmas::reduced::SearchStarts::label_steps))]
 pub(crate) fn labels_of(
     alloc: Global,
     player: &Player<'_, '_>,
     visits: &[Visit],
     numbers: &[u32],
-    whole: u32,
-    sets: usize,
 ) -> Result<Labels, AllocError>
     requires is_game { IsGame player.now.game.now }
+    requires counts { player.now.counts.now ≡ action_counts player.now.game.now player.now.number }
+    requires whole { player.now.whole ≡ product player.now.counts.now }
     requires digits { player.now.digits.items
         ≡ digits_from 0 (action_counts player.now.game.now player.now.number) }
     requires choices { HaveChoices player.now.game.now player.now.number player.now.digits.items 0
-        whole }
+        player.now.whole }
     requires visits { FindRelevance player.now.game.now player.now.number visits.now }
-    requires found { AreFoundTo player.now.game.now player.now.number numbers.now whole }
-    requires sets { sets ≡ length (action_counts player.now.game.now player.now.number) }
+    requires found { AreFoundTo player.now.game.now player.now.number numbers.now
+        player.now.whole }
     ensures { IfOk result
         (λ labels. labels ≡ reduced_labels player.now.game.now player.now.number) }
 {
+    let sets = player.counts.len();
     let level = Level::of_visits(alloc, visits, sets)?;
     let mut labelling = Labelling::new(alloc, numbers.len(), sets)?;
-    if !labelling.is_next_below(numbers, whole) {
+    if !labelling.is_next_below(numbers, player.whole) {
         return Ok(labelling.labels);
     }
-    labelling.push_below(player, &player.digits, numbers, &level, 0, whole)?;
+    labelling.push_below(player, &player.digits, numbers, &level, 0, player.whole)?;
     Ok(labelling.labels)
 }

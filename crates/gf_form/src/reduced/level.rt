@@ -4,7 +4,7 @@ ghost use Rattle.std.specs.Prelude.{◌≡◌, ◌<◌, ◌+◌, ◌*◌, ◌^�
 ghost use Rattle.std.specs.Prelude.{IfOk, MatchOption, OnOk};
 ghost use Rattle.std.specs.List.Sorted.{IsNonDecreasingBy};
 ghost use Rattle.gf_form.specs.inner.reduced.Levels.{AddsLeft, AreParts, AreTaken, HaveBelow};
-ghost use Rattle.gf_form.specs.inner.reduced.Levels.{IsChosen, IsChosenAt, IsLevel, Takes, can_be_met};
+ghost use Rattle.gf_form.specs.inner.reduced.Levels.{IsChosen, IsChosenAt, IsLevel, Marks, Takes};
 ghost use Rattle.gf_form.specs.inner.reduced.Levels.{left_of};
 ghost use Rattle.gf_form.specs.inner.reduced.Visits.{HoldTheSame};
 
@@ -210,9 +210,7 @@ impl Level {
     /// Replaces flags by whether each set can be met.
     #[tactic(auto, using(crate::proofs::lemmas::reduced::LevelsChosen::mark_steps))]
     pub(crate) fn mark(&self, met: &mut Vec<bool>) -> Result<(), AllocError>
-        ensures counted { OnOk result (length met.new.items ≡ length self.now.known.items) }
-        ensures marks { OnOk result ((place : ℕ) → place < length self.now.known.items
-            → get_or met.new.items place false ≡ can_be_met place self.now) }
+        ensures { OnOk result (Marks self.now met.new.items) }
     {
         met.clear();
         met.extend_from_slice(&self.known)?;

@@ -24,7 +24,7 @@ impl Visit {
     }
 }
 
-/// Puts visits in order of demands, and those with the same demands in order of sets. Takes one pass
+/// Puts visits in order of demands, and those with the same demands in order of sets: in one pass
 /// if they are in order. They are not hashed, since a file could choose visits that collide.
 pub(crate) fn put_in_order(visits: &mut Vec<Visit>)
     ensures same { HoldTheSame visits.old.items visits.new.items }

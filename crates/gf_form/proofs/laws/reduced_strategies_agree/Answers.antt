@@ -1,4 +1,4 @@
-use Rattle.gf_form.proofs.lemmas.reduced.Apart.{agree_reduced}
+use Rattle.gf_form.proofs.lemmas.reduced.Coming.{agree_reduced}
 use Rattle.gf_form.proofs.lemmas.reduced.Reducing.{reduced_agree}
 use Rattle.gf_form.proofs.laws.reduced_strategies_agree.Goals as goal
 

@@ -18,7 +18,7 @@ use Rattle.gf_tree.proofs.lemmas.games.Worked.{game_read, meant, ok_game}
 use Rattle.gf_fraction.proofs.WholeNumbers.{part_fraction}
 use Rattle.gf_tree.specs.WorkedTrees.{bonus}
 use Rattle.gf_form.specs.WorkedForms.{bonus_form, second, only, ending_form, ending_reduced}
-use Rattle.gf_form.proofs.lemmas.reduced.FirstsPicked.{reduced_made}
+use Rattle.gf_form.proofs.lemmas.reduced.FirstStrategies.{reduced_made}
 use Rattle.gf_form.proofs.lemmas.values.ValuesComputed.{none_computed}
 
 abbrev IsHeld : Game → Type 0

@@ -1,23 +1,43 @@
 -- The first of the strategies that reduce to the same one: it has the first action wherever no
--- choice matters.
-use Rattle.gf_form.proofs.Common.{◌≡◌, ℕ, zero, suc, ◌+◌, ◌-◌, ◌*◌, ◌<◌, ◌≤◌, Bool, true, false, []}
-use Rattle.gf_form.proofs.Common.{Option, List, ◌∷◌, ◌++◌, Some, None, length, map, get_or, set, ap}
-use Rattle.gf_form.proofs.Common.{take, AreInTurn, refl, sym, subst, ◌∙◌, arith, if◌then◌else◌, has}
-use Rattle.gf_form.proofs.Common.{list_any, pointwise, false_from_ne_true, length-map, map-append}
-use Rattle.gf_form.proofs.Common.{product, SetKey, first_uses, player_keys, Game, IsGame, map_same}
-use Rattle.gf_form.proofs.Common.{AreDistinct, same_set_equality, contains, has_map, mapped_from}
-use Rattle.gf_form.proofs.Common.{is_relevant, reduced, filter, not, same_choice, relevant_sets}
-use Rattle.gf_form.proofs.Common.{reduced_strategies, shown, add-one, action_counts, choice_at}
-use Rattle.gf_form.proofs.Common.{strategies, take-suc, AllByRecursion, all_both, AreFoundTo}
-use Rattle.gf_form.proofs.Common.{IsFirst, numbered, is_relevant_at, mul-le-mul_right, get_or-take}
-use Rattle.gf_form.proofs.Common.{get_or_default, length-take-le}
-use Rattle.gf_tree.proofs.lemmas.stores.KnownKeys.{known_more, more_known, used_before}
-use Rattle.gf_form.proofs.lemmas.strategies.Choices.{IsChoice, are_choices, at_its_place, place}
-use Rattle.gf_form.proofs.lemmas.strategies.Choices.{choice_length, place_at}
+-- choice matters. And the profiles of first strategies are those of the reduced form, in its order.
+use Rattle.gf_form.proofs.Common.{AreReducedPayoffsAt, unwrap_or-slice_get, false_from_ne_true, Vec}
+use Rattle.gf_form.proofs.Common.{reduced_strategies, ReducedOverflowsAt, same_set_equality, Global}
+use Rattle.gf_form.proofs.Common.{AreProfileNumbers, numbered_profiles, mul-le-mul_right, AreInTurn}
+use Rattle.gf_form.proofs.Common.{reduced_profiles, HasReducedValues, length-profiles, numbers_from}
+use Rattle.gf_form.proofs.Common.{numbers_joined, AllByRecursion, is_relevant_at, get_or_default, ℕ}
+use Rattle.gf_form.proofs.Common.{length-take-le, reduced_labels, IsFirstWithout, if◌then◌else◌, []}
+use Rattle.gf_form.proofs.Common.{relevant_sets, action_counts, profile_limit, IsReducedForm, false}
+use Rattle.gf_form.proofs.Common.{full_profiles, strategies_at, ArePayoffsAt, on_ok_weaker, product}
+use Rattle.gf_form.proofs.Common.{player_keys, AreDistinct, mapped_from, is_relevant, same_choice}
+use Rattle.gf_form.proofs.Common.{get_or-take, AllZip-long, AreFirstsOf, strategy_at, IfOk-weaker}
+use Rattle.gf_form.proofs.Common.{length-map, map-append, first_uses, strategies, AreFoundTo, subst}
+use Rattle.gf_form.proofs.Common.{mul-le-mul, get_or-map, IsFraction, all_weaker, reduced_at, arith}
+use Rattle.gf_form.proofs.Common.{reduced_by, IsFormWith, players_of, choices_by, pointwise, Option}
+use Rattle.gf_form.proofs.Common.{choice_at, ArePicked, IsProfile, AreRowsAt, HasValues, list_any}
+use Rattle.gf_form.proofs.Common.{map_same, contains, take-suc, all_both, numbered, AreBelow, shown}
+use Rattle.gf_form.proofs.Common.{IsPicked, Contains, profiles, IsPaidAt, has_map, reduced, add-one}
+use Rattle.gf_form.proofs.Common.{IsFirst, full_at, IsValue, length, get_or, SetKey, IsGame, filter}
+use Rattle.gf_form.proofs.Common.{AllZip, Ratio, Table, zero, Bool, true, List, ◌++◌, Some, None}
+use Rattle.gf_form.proofs.Common.{take, refl, Game, ◌≡◌, suc, ◌+◌, ◌-◌, ◌*◌, ◌<◌, ◌≤◌, ◌∷◌, map, ap}
+use Rattle.gf_form.proofs.Common.{set, sym, ◌∙◌, has, not, ◌↔◌, zip}
+use Rattle.gf_tree.proofs.lemmas.stores.KnownKeys.{used_before, known_more, more_known}
+use Rattle.gf_form.proofs.lemmas.strategies.Choices.{choice_length, at_its_place, are_choices}
+use Rattle.gf_form.proofs.lemmas.strategies.Choices.{IsChoice, place_at, place}
 use Rattle.gf_form.proofs.lemmas.strategies.KnownSets.{keys_distinct, own_set}
-use Rattle.gf_form.proofs.lemmas.reduced.ReducedForms.{choices_equality}
-use Rattle.gf_form.proofs.lemmas.reduced.Reducing.{any_has, relevance_same}
+use Rattle.gf_form.proofs.lemmas.reduced.ReducedForms.{some_reduced_strategy, choices_equality}
+use Rattle.gf_form.proofs.lemmas.reduced.ReducedForms.{same_row}
+use Rattle.gf_form.proofs.lemmas.reduced.Reducing.{relevance_same, reduced_value, any_has}
 use Rattle.gf_form.proofs.lemmas.strategies.StrategiesByNumber.{all_at}
+use Rattle.gf_nfg.specs.Table.{Entry}
+use Rattle.gf_form.specs.inner.reduced.Firsts.{AreFirsts}
+use Rattle.gf_form.proofs.lemmas.strategies.CountedActions.{strategies_positive, product_positive}
+use Rattle.gf_form.proofs.lemmas.strategies.CountedActions.{strategy_counts, as_many_players}
+use Rattle.gf_form.proofs.lemmas.form.FormMade.{row_fractions, full_row}
+use Rattle.gf_form.proofs.lemmas.strategies.Lookups.{strategy_before, first_alike, zip_weaker}
+use Rattle.gf_form.proofs.lemmas.strategies.Lookups.{all_alike, all_right}
+use Rattle.gf_nfg.proofs.lemmas.tables.Profiles.{are_profiles}
+use Rattle.gf_form.proofs.lemmas.rows.RowsMade.{zip_more}
+use Rattle.gf_form.proofs.lemmas.strategies.CountsGiven.{all_counted}
 
 -- ---- first uses
 
@@ -264,3 +284,209 @@ module _ (g : Game) (game : IsGame g) (player : ℕ) where
       (passed_by numbers i m h (omega (arith, within))
       (λ n from to. again n from (omega (arith, to))))
       (again (i + m) (omega arith) (omega arith)))
+
+-- ---- numbers of strategies
+
+pub are_below : (g : Game) (players : List ℕ) (firsts : List (List ℕ))
+    → AllZip (AreFirstsOf g) firsts players
+    → AreBelow (map (λ player. length (strategies g player)) players) firsts
+are_below g (player ∷ players) (own ∷ firsts) h = (h.0.1, are_below g players firsts h.1)
+are_below g [] [] h = tt
+are_below g players firsts h = grind arith
+
+-- there are as many as reduced strategies
+counted_of : (g : Game) (players : List ℕ) (firsts : List (List ℕ))
+    → AllZip (AreFirstsOf g) firsts players
+    → map length firsts ≡ map (λ player. length (reduced_strategies g player)) players
+counted_of g (player ∷ players) (own ∷ firsts) h =
+    grind (arith, length-map, counted_of g players firsts h.1)
+counted_of g [] [] h = refl
+counted_of g players firsts h = grind arith
+
+fewer_of : (g : Game) → IsGame g → (players : List ℕ)
+    → product (map (λ player. length (reduced_strategies g player)) players)
+    ≤ product (map (λ player. length (strategies g player)) players)
+fewer_of g game [] = omega arith
+fewer_of g game (player ∷ players) =
+    mul-le-mul (fewer_reduced g game player) (fewer_of g game players)
+
+-- no more profiles than those of all strategies
+pub fewer_profiles : (g : Game) → IsGame g → length (reduced_profiles g) ≤ length (full_profiles g)
+fewer_profiles g game = grind (arith, fewer_of, length-profiles, strategy_counts)
+
+-- what the first players have
+abbrev pub HavePlayers : Game → ℕ → List (Vec ℕ Global) → List (List (List ℕ)) → Type 0
+HavePlayers g place firsts labels =
+    AllZip (AreFirstsOf g) (map (λ own. own.items) firsts) (numbers_from 1 place)
+    × (labels ≡ map (reduced_labels g) (numbers_from 1 place))
+
+pub one_player_more : (g : Game) (place : ℕ) (firsts next : List (Vec ℕ Global))
+    (own : Vec ℕ Global) (labels more : List (List (List ℕ))) (names : List (List ℕ))
+    → HavePlayers g place firsts labels → AreFirstsOf g own.items (place + 1)
+    → names ≡ reduced_labels g (place + 1) → next ≡ firsts ++ own ∷ []
+    → more ≡ labels ++ names ∷ [] → HavePlayers g (place + 1) next more
+one_player_more g place firsts next own labels more names h own_are names_are next_is more_is =
+    let numbers = numbers_joined 1 place 1 in (
+      grind (arith, numbers, zip_more, map-append),
+      grind (arith, numbers, map-append),
+    )
+
+-- ---- what profiles reduce to
+
+reduces : (g : Game) (players : List ℕ) (firsts : List (List ℕ)) (profile : List ℕ)
+    → AllZip (AreFirstsOf g) firsts players → IsProfile (map length firsts) profile
+    → map (λ p. reduced g p.0 p.1)
+    (zip players (map (λ p. strategy_at (strategies g p.0) p.1)
+    (zip players (full_at firsts profile))))
+    ≡ map (λ p. strategy_at (reduced_strategies g p.0) p.1) (zip players profile)
+reduces g (player ∷ players) (own ∷ firsts) (s ∷ profile) h k =
+    let all = strategies g player in
+    let number = get_or own (s - 1) 0 in
+    let within : s - 1 < length own = omega (arith, k.0.0, k.0.1) in
+    let strategy : strategy_at all (number + 1) ≡ get_or all number [] =
+    ap (strategy_at all) (add-one number) ∙ unwrap_or-slice_get all number [] in
+    let first : reduced g player (strategy_at all (number + 1))
+    ≡ strategy_at (reduced_strategies g player) s =
+    ap (reduced g player) strategy
+    ∙ sym (get_or-map (λ number. reduced g player (get_or all number [])) own (s - 1) 0 [] within)
+    ∙ ap (λ (rs : List (List (Option ℕ))). get_or rs (s - 1) []) h.0.0
+    ∙ sym (strategy_before (reduced_strategies g player) s k.0.0) in
+    λ i. first i ∷ reduces g players firsts profile h.1 k.1 i
+reduces g players firsts profile h k = grind arith
+
+-- ---- their numbers among all profiles
+
+-- the profile with the number reduces to this one
+record Reduces (g : Game) (profile : List ℕ) (number : ℕ) : Type 0 where
+  there : Contains (full_profiles g) (get_or (full_profiles g) number [])
+  is : reduced_by g (get_or (full_profiles g) number []) ≡ reduced_at g profile
+
+-- the player has a bottom-up value at the profile
+abbrev HasValueAt : Game → List ℕ → ℕ → Type 0
+HasValueAt g profile player =
+    (value : Ratio) × IsValue g (choices_by g (strategies_at g profile)) player g.tree value
+
+values_too : (g : Game) (p q : List ℕ) → Contains (full_profiles g) p
+    → Contains (full_profiles g) q → reduced_by g p ≡ reduced_by g q → HasValues g p → HasValues g q
+values_too g p q hp hq e values = all_weaker (HasValueAt g p) (HasValueAt g q)
+    (λ player h. (h.0, (reduced_value g player p q h.0 hp hq e).0 h.1)) (players_of g) values
+
+-- the profiles with these numbers, in place of those that they reduce to
+paid_over : (g : Game) (ps : List (List ℕ)) (numbers : List ℕ) (rows : List (List Ratio))
+    → AllZip (Reduces g) ps numbers → AllZip (ArePayoffsAt g) (numbered_profiles g numbers) rows
+    → AllZip (IsPaidAt g) ps rows
+paid_over g (profile ∷ ps) (number ∷ numbers) (row ∷ rows) h k =
+    grind (arith, reduces, paid_over g ps numbers rows h.1 k.1)
+paid_over g ps numbers rows h k = grind arith
+
+values_at : (g : Game) (profile : List ℕ) (number : ℕ) → Reduces g profile number
+    → HasValues g (get_or (full_profiles g) number []) ↔ HasReducedValues g profile
+values_at g profile number h =
+    grind (arith, values_too)
+
+values_over : (g : Game) (ps : List (List ℕ)) (numbers : List ℕ) → AllZip (Reduces g) ps numbers
+    → AllZip (λ full profile. HasValues g full ↔ HasReducedValues g profile)
+    (numbered_profiles g numbers) ps
+values_over g (profile ∷ ps) (number ∷ numbers) h =
+    (values_at g profile number h.0, values_over g ps numbers h.1)
+values_over g [] [] h = tt
+values_over g ps numbers h = grind arith
+
+-- the numbers are those of the profiles of first strategies
+pub record AreTheirs (g : Game) (firsts : List (List ℕ)) (numbers : List ℕ) : Type 0 where
+  pub game : IsGame g
+  pub few : length (full_profiles g) ≤ profile_limit
+  pub are : AreFirsts g firsts
+  pub picked : ArePicked (strategy_counts g) firsts numbers
+
+module _ (g : Game) (firsts : List (List ℕ)) (numbers : List ℕ)
+    (theirs : AreTheirs g firsts numbers) where
+  all_reduce : AllZip (Reduces g) (reduced_profiles g) numbers
+  all_reduce =
+      subst (λ (ps : List (List ℕ)). AllZip (Reduces g) ps numbers)
+      (ap profiles (counted_of g (players_of g) firsts theirs.are))
+      (zip_weaker (IsProfile (map length firsts)) (IsPicked (strategy_counts g) firsts) (Reduces g)
+      (λ profile number valid one.
+      let within : number < length (full_profiles g) =
+      omega (arith, one.within, length-profiles (strategy_counts g)) in
+      let p = get_or (full_profiles g) number [] in
+      record {
+        there = (number, within, get_or_default (full_profiles g) number p [] within);
+        is = ap (λ (full : List ℕ). reduced_by g full) one.is
+            ∙ reduces g (players_of g) firsts profile theirs.are valid;
+      })
+      (profiles (map length firsts)) numbers (are_profiles (map length firsts)) theirs.picked)
+
+  pub their_numbers : AreProfileNumbers g numbers
+  their_numbers =
+      grind (arith, all_right, strategy_counts, length-profiles)
+
+  pub few_numbers : length numbers ≤ profile_limit
+  few_numbers =
+      grind (arith, AllZip-long, all_reduce, fewer_profiles)
+
+  pub reduced_rows : (payoffs : List Ratio)
+      → AreRowsAt (ArePayoffsAt g) (numbered_profiles g numbers) payoffs
+      → AreRowsAt (IsPaidAt g) (reduced_profiles g) payoffs
+  reduced_rows payoffs h = grind (arith, paid_over, all_reduce)
+
+  their_values : AllZip (λ full profile. HasValues g full ↔ HasReducedValues g profile)
+      (numbered_profiles g numbers) (reduced_profiles g)
+  their_values = values_over g (reduced_profiles g) numbers all_reduce
+
+  pub reduced_values : AllByRecursion (HasValues g) (numbered_profiles g numbers)
+      → AllByRecursion (HasReducedValues g) (reduced_profiles g)
+  reduced_values = all_alike (HasValues g) (HasReducedValues g) (numbered_profiles g numbers)
+      (reduced_profiles g) their_values
+
+  pub reduced_overflow : (position : ℕ)
+      → IsFirstWithout (HasValues g) (numbered_profiles g numbers) position
+      → ReducedOverflowsAt g position
+  reduced_overflow position = first_alike (HasValues g) (HasReducedValues g)
+      (numbered_profiles g numbers) (reduced_profiles g) position their_values
+
+-- ---- the form
+
+pub some_reduced_label : (g : Game) → IsGame g → (player : ℕ)
+    → 0 < length (reduced_labels g player)
+some_reduced_label g game player = grind (arith, length-map, some_reduced_strategy)
+
+pub paid_full : (g : Game) (profile : List ℕ) (row : List Ratio) → IsPaidAt g profile row
+    → length row ≡ length g.players
+paid_full g profile row h = full_row g h.full row h.paid
+
+pub paid_fractions : (g : Game) (profile : List ℕ) (row : List Ratio) → IsPaidAt g profile row
+    → AllByRecursion IsFraction row
+paid_fractions g profile row h = row_fractions g h.full row h.paid
+
+pub reduced_made : (g : Game) (t : Table) → IsFormWith (reduced_labels g) (IsPaidAt g) g t
+    → IsReducedForm g t
+reduced_made g t form = record {
+  title = form.title;
+  comment = form.comment;
+  players = form.players;
+  strategies = form.strategies;
+  profiles = form.profiles;
+  payoffs = all_weaker (λ (e : Entry). IsPaidAt g e.profile e.payoffs)
+      (λ (e : Entry). AreReducedPayoffsAt g e.profile e.payoffs)
+      (λ e paid full there e_is. same_row g paid.full full paid.there there
+      (paid.reduces ∙ sym e_is) e.payoffs paid.paid)
+      t.entries form.payoffs;
+}
+
+pub ruleset number_steps = (
+  are_below,
+  length-map,
+  AllZip-long,
+  product_positive,
+  strategies_positive,
+  length-profiles,
+  their_numbers,
+  few_numbers,
+  reduced_rows,
+  reduced_values,
+  IfOk-weaker,
+  on_ok_weaker,
+)
+
+pub ruleset first_steps = (all_counted, as_many_players)

@@ -1,15 +1,15 @@
 -- What is left of a player's visits after a choice, visit by visit, and which sets can be met.
+use Rattle.gf_form.specs.inner.reduced.Levels.{HaveBelow, AddsLeft, AreTaken, AreParts, Marks}
+use Rattle.gf_form.specs.inner.reduced.Levels.{Takes, is_in}
 use Rattle.gf_form.proofs.Common.{false_from_ne_true, get_or-set_other, take-append-drop, is_met_on}
 use Rattle.gf_form.proofs.Common.{list_any-append, get_or_default, option_map_or, get_or-set_at, []}
 use Rattle.gf_form.proofs.Common.{take-length, get_or-take, length-drop, length-take, ArePositive}
-use Rattle.gf_form.proofs.Common.{length-set, can_be_met, list_any, or-false, IsChosen, is_left, ap}
-use Rattle.gf_form.proofs.Common.{left_of, length, get_or, ne_eqb, false, arith, meets, Level, Bool}
-use Rattle.gf_form.proofs.Common.{Visit, true, List, ◌++◌, Some, None, take, drop, ◌||◌, ◌==◌, refl}
-use Rattle.gf_form.proofs.Common.{◌≡◌, ◌+◌, ◌*◌, ◌<◌, ◌≤◌, ◌∷◌, set, sym, ◌∙◌, ℕ}
-use Rattle.std.proofs.lemmas.List.{get_or-drop}
+use Rattle.gf_form.proofs.Common.{length-set, list_any, or-false, IsChosen, is_left, left_of, false}
+use Rattle.gf_form.proofs.Common.{length, get_or, ne_eqb, arith, meets, Level, Visit, Bool, true, ℕ}
+use Rattle.gf_form.proofs.Common.{List, ◌++◌, Some, None, take, drop, ◌||◌, ◌==◌, refl, ◌≡◌, ◌+◌}
+use Rattle.gf_form.proofs.Common.{◌*◌, ◌<◌, ◌≤◌, ◌∷◌, set, sym, ◌∙◌, ap}
+use Rattle.std.proofs.lemmas.List.{get_or-drop, set_past}
 use Rattle.std.proofs.lemmas.List.Folds.{Any-from_list_any, list_any_more, list_any_at}
-use Rattle.gf_form.specs.inner.reduced.Levels.{HaveBelow, AddsLeft, AreTaken, AreParts, Takes}
-use Rattle.gf_form.specs.inner.reduced.Levels.{is_in}
 use Rattle.gf_form.specs.declared.reduced.level.Parts.{Parts}
 use Rattle.gf_form.specs.inner.reduced.Visits.{HoldTheSame}
 use Rattle.std.proofs.Math.Bool.{or-true}
@@ -25,7 +25,7 @@ meets_left : (step action demands : ℕ) (steps choices : List ℕ)
     ≡ option_map_or (meets steps choices) (left_of step action demands) false
 meets_left step action demands steps choices = grind arith
 
-flag_on : (flags : List Bool) (at place : ℕ) → at < length flags
+flag_on : (flags : List Bool) (at place : ℕ) → place < length flags
     → get_or (set flags at true) place false ≡ (get_or flags place false || at == place)
 flag_on flags at place inside = grind (arith, get_or-set_at, get_or-set_other, or-true, or-false)
 
@@ -71,7 +71,7 @@ module _ (step action : ℕ) (v : Visit) (before : Level) where
     adds = λ place steps choices inside positive.
         grind (
           arith,
-          flag_on before.known.items v.set place within,
+          flag_on before.known.items v.set place inside,
           meets_left step action v.demands steps choices,
           meets_none steps choices positive,
         );
@@ -192,15 +192,15 @@ pub record MarkedTo (level : Level) (i : ℕ) (met : List Bool) : Type 0 where
 
 module _ (level : Level) (i : ℕ) (met : List Bool) (before : MarkedTo level i met) where
   pub marked_more : (next : List Bool) → i < length level.visits.items
-      → (get_or level.visits.items i no_visit).set < length met
       → next ≡ set met (get_or level.visits.items i no_visit).set true
       → MarkedTo level (i + 1) next
-  marked_more next less within is = record {
+  marked_more next less is = record {
     counted = grind (arith, length-set, before.counted);
     marked = λ place inside.
         grind (
           arith,
-          flag_on met (get_or level.visits.items i no_visit).set place within,
+          flag_on met (get_or level.visits.items i no_visit).set place
+              (omega (arith, inside, before.counted)),
           before.marked place inside,
           list_any_more (is_to place) level.visits.items i no_visit less,
         );
@@ -209,21 +209,12 @@ module _ (level : Level) (i : ℕ) (met : List Bool) (before : MarkedTo level i 
   -- a visit to no set of the level
   pub marked_past : i < length level.visits.items
       → length met ≤ (get_or level.visits.items i no_visit).set → MarkedTo level (i + 1) met
-  marked_past less past = record {
-    counted = before.counted;
-    marked = λ place inside.
-        let other : is_to place (get_or level.visits.items i no_visit) ≡ false =
-        ne_eqb _ place (λ e. omega (arith, e, past, inside, before.counted)) in
-        grind (
-          arith,
-          or-false,
-          before.marked place inside,
-          list_any_more (is_to place) level.visits.items i no_visit less,
-        );
-  }
+  marked_past less past = marked_more met less (sym (set_past met _ true past))
 
-  pub all_marked : i ≡ length level.visits.items → (place : ℕ) → place < length level.known.items
-      → get_or met place false ≡ can_be_met place level
-  all_marked end place inside = grind (arith, before.marked place inside, take-length)
+  pub all_marked : i ≡ length level.visits.items → Marks level met
+  all_marked end = record {
+    counted = before.counted;
+    marked = λ place inside. grind (arith, before.marked place inside, take-length);
+  }
 
 pub ruleset mark_steps = (marked_more, marked_past, all_marked)

@@ -1,31 +1,31 @@
 -- The reduced form of a game: some full profile reduces to each of its profiles, and each full
 -- profile reduces to one; it is a table. Each reduced strategy is there once, with a label of its
 -- own, and so is each profile.
-use Rattle.gf_form.proofs.Common.{◌≡◌, ℕ, ◌≤◌, List, [], ◌∷◌, Option, None, length, map, refl, sym}
-use Rattle.gf_form.proofs.Common.{get_or, get_or_default, ◌+◌, ap, ◌∙◌, subst, arith, ◌↔◌, zip, Has}
-use Rattle.gf_form.proofs.Common.{Decides, Contains, pointwise, length-map, Ratio, IsProfile, Table}
-use Rattle.gf_form.proofs.Common.{profiles, every_profile, Game, is_used, was_used, map_same, has}
-use Rattle.gf_form.proofs.Common.{map_twice, contains, has_map, mapped_from, AreReducedPayoffsAt, ⊤}
-use Rattle.gf_form.proofs.Common.{IsReducedForm, reduced, reduced_at, reduced_by, reduced_labels}
-use Rattle.gf_form.proofs.Common.{reduced_strategies, same_choice, reduced_profiles, ArePayoffsAt}
-use Rattle.gf_form.proofs.Common.{PaysFractions, choices_by, full_profiles, players_of, strategies}
-use Rattle.gf_form.proofs.Common.{strategies_at, strategy_at, ◌<◌, Bool, IsTable, first_uses, each}
-use Rattle.gf_form.proofs.Common.{IsGame, reduced_label, ◌-◌, zero, suc, ◌^◌, Some, MatchOption}
-use Rattle.gf_form.proofs.Common.{drop, codes, decimal, if◌then◌else◌, AllByRecursion, SetKey}
-use Rattle.gf_form.proofs.Common.{decimal_injective, player_keys, AreDistinct, first_uses_distinct}
-use Rattle.gf_form.proofs.Common.{choice_text, is_relevant, action_counts, choice_at, AreDigits}
+use Rattle.gf_form.proofs.Common.{AreReducedPayoffsAt, first_uses_distinct, reduced_strategies, ◌≡◌}
+use Rattle.gf_form.proofs.Common.{decimal_injective, reduced_profiles, get_or_default, ArePayoffsAt}
+use Rattle.gf_form.proofs.Common.{reduced_labels, AllByRecursion, every_profile, IsReducedForm, ◌≤◌}
+use Rattle.gf_form.proofs.Common.{PaysFractions, full_profiles, strategies_at, reduced_label, subst}
+use Rattle.gf_form.proofs.Common.{if◌then◌else◌, action_counts, mapped_from, same_choice, pointwise}
+use Rattle.gf_form.proofs.Common.{strategy_at, MatchOption, player_keys, AreDistinct, choice_text}
+use Rattle.gf_form.proofs.Common.{is_relevant, length-map, reduced_at, reduced_by, choices_by, List}
+use Rattle.gf_form.proofs.Common.{players_of, strategies, first_uses, IsProfile, map_twice, Decides}
+use Rattle.gf_form.proofs.Common.{choice_at, AreDigits, Contains, profiles, was_used, map_same, ◌∷◌}
+use Rattle.gf_form.proofs.Common.{contains, is_used, has_map, reduced, IsTable, decimal, Option, []}
+use Rattle.gf_form.proofs.Common.{length, get_or, IsGame, SetKey, arith, Ratio, Table, codes, None}
+use Rattle.gf_form.proofs.Common.{refl, Game, Bool, each, zero, Some, drop, map, sym, ◌+◌, ◌∙◌, ◌↔◌}
+use Rattle.gf_form.proofs.Common.{zip, Has, has, ◌<◌, ◌-◌, suc, ◌^◌, ap, ℕ, ⊤}
 use Rattle.std.proofs.lemmas.Slice.Eq.{slice_eq-Decides}
 use Rattle.gf_form.proofs.lemmas.strategies.Chosen.{strategy_there}
 use Rattle.gf_form.proofs.lemmas.strategies.Lookups.{strategy_before, there}
-use Rattle.gf_form.proofs.lemmas.form.Forms.{form_profiles, of_row, one_form_by, one_row, row_of}
-use Rattle.gf_form.proofs.lemmas.form.Forms.{one_strategic_form, rows_of_form, some_form_by}
-use Rattle.gf_form.proofs.lemmas.form.Forms.{same_row as same_pays, as_many, table_by}
+use Rattle.gf_form.proofs.lemmas.form.Forms.{same_row as same_pays, one_strategic_form, one_form_by}
+use Rattle.gf_form.proofs.lemmas.form.Forms.{form_profiles, rows_of_form, some_form_by, table_by}
+use Rattle.gf_form.proofs.lemmas.form.Forms.{one_row, as_many, of_row, row_of}
 use Rattle.gf_form.proofs.lemmas.reduced.Reducing.{reduced_pay}
 use Rattle.gf_nfg.specs.Table.{Entry}
 use Rattle.gf_form.proofs.lemmas.strategies.CountedActions.{some_strategy}
 use Rattle.gf_form.proofs.lemmas.strategies.Choices.{every_choice}
-use Rattle.gf_form.proofs.lemmas.strategies.StrategyLabels.{AreUndashed, digits_of, same_joined}
-use Rattle.gf_form.proofs.lemmas.strategies.StrategyLabels.{undashed_number, AreSmall, small_choice}
+use Rattle.gf_form.proofs.lemmas.strategies.StrategyLabels.{undashed_number, small_choice, AreSmall}
+use Rattle.gf_form.proofs.lemmas.strategies.StrategyLabels.{AreUndashed, same_joined, digits_of}
 
 -- ---- positions
 

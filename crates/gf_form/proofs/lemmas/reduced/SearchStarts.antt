@@ -1,33 +1,30 @@
 -- The digits of one player's sets, and his visits to these; a search for first strategies, and that
 -- for their labels, before the first choice; and what the player has at the end.
-use Rattle.gf_form.proofs.Common.{◌≡◌, AreOwn, subst, picked, SetKey, IsGame, IsFine, is_met, Level}
-use Rattle.gf_form.proofs.Common.{ℕ, ◌+◌, ◌*◌, ◌^◌, ◌<◌, ◌≤◌, [], ◌∷◌, sym, ◌∙◌, ap, map, zero, suc}
-use Rattle.gf_form.proofs.Common.{length, get_or, ne_eqb, reduced, IsLevel, is_left, numbered, List}
-use Rattle.gf_form.proofs.Common.{◌++◌, drop, Bool, true, refl, take, ◌==◌, ◌||◌, Game, arith}
-use Rattle.gf_form.proofs.Common.{slice_get-get_or, mul-le-mul_right, false}
-use Rattle.gf_form.proofs.Common.{append_assoc, steps_behind, ArePositive, digits_from, player_keys}
-use Rattle.gf_form.proofs.Common.{mul-le-mul, get_or-map, choices_at, strategies, AreFoundTo, width}
-use Rattle.gf_form.proofs.Common.{product, eqb-false, is_met_on, IsSearched, actions_of, first_uses}
-use Rattle.gf_form.proofs.Common.{action_counts, FindRelevance, AreLabelledTo, Visit}
-use Rattle.gf_form.proofs.Common.{OwnDigit, drop-drop, choice_at, IsWritten, pointwise, map_twice}
-use Rattle.gf_form.proofs.Common.{list_any-append, AllByRecursion, reduced_labels, is_relevant_at}
-use Rattle.gf_form.proofs.Common.{or-false, eqb-true, digit_at, cases_lt, steps_to, steps_of}
-use Rattle.gf_form.proofs.Common.{is_relevant, AreFirstsOf, HaveChoices, same_choice, with_choices}
-use Rattle.gf_form.proofs.Common.{length-append}
-use Rattle.gf_form.proofs.lemmas.rows.DigitPlaces.{steps_long, width_positive}
+use Rattle.gf_form.proofs.Common.{slice_get-get_or, mul-le-mul_right, list_any-append, append_assoc}
+use Rattle.gf_form.proofs.Common.{AllByRecursion, reduced_labels, is_relevant_at, action_counts, []}
+use Rattle.gf_form.proofs.Common.{FindRelevance, AreLabelledTo, steps_behind, ArePositive, numbered}
+use Rattle.gf_form.proofs.Common.{digits_from, player_keys, is_relevant, AreFirstsOf, HaveChoices}
+use Rattle.gf_form.proofs.Common.{same_choice, mul-le-mul, get_or-map, choices_at, strategies, ◌&&◌}
+use Rattle.gf_form.proofs.Common.{AreFoundTo, IsSearched, actions_of, first_uses, is_met_on, nat_lt}
+use Rattle.gf_form.proofs.Common.{drop-drop, choice_at, pointwise, map_twice, OwnDigit, or-false, ℕ}
+use Rattle.gf_form.proofs.Common.{digit_at, cases_lt, steps_to, steps_of, reduced, IsLevel, is_left}
+use Rattle.gf_form.proofs.Common.{product, IsShown, AreOwn, picked, SetKey, IsGame, IsFine, is_met}
+use Rattle.gf_form.proofs.Common.{length, get_or, subst, Level, arith, false, width, Visit, zero}
+use Rattle.gf_form.proofs.Common.{List, ◌++◌, drop, refl, take, ◌||◌, Game, ◌≡◌, ◌+◌, ◌*◌, ◌^◌, ◌<◌}
+use Rattle.gf_form.proofs.Common.{◌≤◌, ◌∷◌, sym, ◌∙◌, map, suc, ap}
+use Rattle.gf_form.proofs.lemmas.rows.DigitPlaces.{width_positive, steps_long}
 use Rattle.gf_form.proofs.lemmas.rows.DigitsMade.{next_is}
 use Rattle.std.proofs.lemmas.List.Folds.{list_any_more}
 use Rattle.gf_form.specs.inner.reduced.Visits.{HoldTheSame}
 use Rattle.gf_form.proofs.lemmas.reduced.LevelsChosen.{no_visit}
-use Rattle.gf_form.proofs.lemmas.reduced.Searches.{digit_inside, place_inside}
+use Rattle.gf_form.proofs.lemmas.reduced.Searches.{place_inside}
 use Rattle.std.proofs.lemmas.Bool.Decides.{nat_tests}
 use Rattle.std.proofs.lemmas.List.{get_or-drop}
-use Rattle.gf_form.proofs.lemmas.rows.DigitChoices.{choice_at_number, picked_at, product_picked}
-use Rattle.gf_form.proofs.lemmas.strategies.Choices.{length-all_choices, choice_length, IsChoice}
+use Rattle.gf_form.proofs.lemmas.rows.DigitChoices.{choice_at_number, product_picked, picked_at}
+use Rattle.gf_form.proofs.lemmas.strategies.Choices.{length-all_choices, choice_length}
 use Rattle.gf_form.proofs.lemmas.strategies.CountedActions.{actions_positive, sets_counted}
 use Rattle.gf_form.proofs.lemmas.strategies.CountedActions.{take_past}
 use Rattle.gf_form.proofs.lemmas.strategies.StrategiesByNumber.{all_at}
-use Rattle.std.proofs.Math.Seq.{set-append_seam}
 
 -- with more than one action, one more is at most the square
 width_square : (counts : List ℕ) → ArePositive counts
@@ -93,66 +90,42 @@ digit_past counts i made next less one is before =
 
 pub ruleset own_digit_steps = (width_fits, steps_long, digit_more, digit_past)
 
--- digits with one place are one
-one_digit : (p : ℕ) (counts : List ℕ) (i j : ℕ) → i < length (digits_from p counts)
-    → j < length (digits_from p counts)
-    → (digit_at (digits_from p counts) i).place ≡ (digit_at (digits_from p counts) j).place
-    → i ≡ j
-one_digit p (suc (suc n) ∷ counts) zero zero hi hj e = omega arith
-one_digit p (suc (suc n) ∷ counts) zero (suc j) hi hj e =
-    absurd (omega (arith, e, (digit_inside (p + 1) counts j (omega (arith, hj))).0))
-one_digit p (suc (suc n) ∷ counts) (suc i) zero hi hj e =
-    absurd (omega (arith, e, (digit_inside (p + 1) counts i (omega (arith, hi))).0))
-one_digit p (suc (suc n) ∷ counts) (suc i) (suc j) hi hj e =
-    ap suc (one_digit (p + 1) counts i j (omega (arith, hi)) (omega (arith, hj)) e)
-one_digit p (suc zero ∷ counts) i j hi hj e = one_digit (p + 1) counts i j hi hj e
-one_digit p (zero ∷ counts) i j hi hj e = one_digit (p + 1) counts i j hi hj e
-one_digit p [] i j hi hj e = absurd (omega (arith, hi))
-
 -- ---- visits in turn
 
-module _ (digits : List OwnDigit) (counts : List ℕ) (are : digits ≡ digits_from 0 counts)
-    (visits own : List Visit) (i : ℕ) (less : i < length visits)
-    (before : AreOwn digits (take i visits) own) where
+-- the visits before this one are there, and it is if it is to the set of one of the first k digits
+abbrev pub AreOwnTo : List OwnDigit → List Visit → ℕ → ℕ → List Visit → Type 0
+AreOwnTo digits visits i k own = (j : ℕ) (steps choices : List ℕ) → j < length digits
+    → is_met j steps choices own
+    ≡ (is_met (digit_at digits j).place steps choices (take i visits) || (nat_lt j k
+    && is_met_on (digit_at digits j).place steps choices (get_or visits i no_visit)))
+
+module _ (digits : List OwnDigit) (visits own : List Visit) (i : ℕ) (less : i < length visits) where
   abbrev here : Visit
   here = get_or visits i no_visit
 
-  -- to a set without a digit
-  pub passed : ((k : ℕ) → k < length digits → ¬ ((digit_at digits k).place ≡ here.set))
-      → AreOwn digits (take (i + 1) visits) own
-  passed elsewhere j steps choices inside =
-      let other : (here.set == (digit_at digits j).place) ≡ false =
-      ne_eqb _ _ (λ e. elsewhere j inside (sym e)) in
-      grind (
-        arith,
-        before j steps choices inside,
-        list_any_more (is_met_on (digit_at digits j).place steps choices) visits i no_visit less,
-        or-false,
-      )
+  pub none_looked_at : AreOwn digits (take i visits) own → AreOwnTo digits visits i 0 own
+  none_looked_at before j steps choices inside = grind (arith, before j steps choices, or-false)
 
-  -- to the set of a digit
-  pub added : (k : ℕ) (next : List Visit) → k < length digits
-      → (digit_at digits k).place ≡ here.set
-      → next ≡ own ++ record { demands = here.demands; set = k } ∷ []
-      → AreOwn digits (take (i + 1) visits) next
-  added k next there place_is next_is j steps choices inside =
-      grind (
-        arith,
-        before j steps choices inside,
-        list_any_more (is_met_on (digit_at digits j).place steps choices) visits i no_visit less,
-        list_any-append,
-        or-false,
-        same_set (j == k) refl,
-      )
-    where
-      same_set : (b : Bool) → (j == k) ≡ b → (k == j) ≡ (here.set == (digit_at digits j).place)
-      same_set true e = grind (arith, eqb-true)
-      same_set false e =
-          let other : ¬ (j ≡ k) = eqb-false j k e in
-          let apart : ¬ ((digit_at digits j).place ≡ (digit_at digits k).place) =
-          λ q. other (one_digit 0 counts j k (rw are at inside) (rw are at there) (rw are at q)) in
-          ne_eqb k j (λ q. other (sym q))
-          ∙ sym (ne_eqb here.set (digit_at digits j).place (λ q. apart (sym (place_is ∙ q))))
+  module _ (k : ℕ) (before : AreOwnTo digits visits i k own) where
+    pub all_looked_at : k ≡ length digits → AreOwn digits (take (i + 1) visits) own
+    all_looked_at all j steps choices inside =
+        grind (
+          arith,
+          nat_tests,
+          before j steps choices inside,
+          list_any_more (is_met_on (digit_at digits j).place steps choices) visits i no_visit less,
+        )
+
+    pub passed : ¬ ((digit_at digits k).place ≡ here.set) → AreOwnTo digits visits i (k + 1) own
+    passed other j steps choices inside = grind (arith, nat_tests, before j steps choices inside)
+
+    pub added : (next : List Visit) → (digit_at digits k).place ≡ here.set
+        → next ≡ own ++ record { demands = here.demands; set = k } ∷ []
+        → AreOwnTo digits visits i (k + 1) next
+    added next place_is next_is j steps choices inside =
+        grind (arith, nat_tests, before j steps choices inside, list_any-append, or-false)
+
+pub ruleset own_visit_steps = (none_looked_at, all_looked_at, passed, added)
 
 -- ---- what the digits are together
 
@@ -196,23 +169,6 @@ few_digits p (zero ∷ counts) = few_digits (p + 1) counts
 few_digits p (suc zero ∷ counts) = few_digits (p + 1) counts
 few_digits p (suc (suc n) ∷ counts) =
     grind (arith, mul-le-mul_right, few_digits (p + 1) counts)
-
-digits_inside : (p : ℕ) (counts : List ℕ) (sets : ℕ) → p + length counts ≤ sets
-    → AllByRecursion (λ d. d.place < sets) (digits_from p counts)
-digits_inside p [] sets h = tt
-digits_inside p (n ∷ counts) sets h = grind (arith, digits_inside (p + 1) counts sets)
-
--- any choice is one that has the first action everywhere, but for its choices at the digits
-spread : (p : ℕ) (front counts choice rest : List ℕ) → p ≡ length front → IsChoice counts choice
-    → length rest ≡ length counts → ((k : ℕ) → k < length rest → get_or rest k 0 ≡ 1)
-    → with_choices (digits_from p counts) (picked counts choice) (front ++ rest) ≡ front ++ choice
-spread p front (n ∷ counts) (a ∷ choice) (r ∷ rest) at h long ones =
-    let next = spread (p + 1) (front ++ a ∷ []) counts choice rest (grind (arith, length-append))
-    h.1 (omega (arith, long)) (λ k less. ones (suc k) (omega (arith, less))) in
-    let first = ones 0 (omega arith) in
-    grind (arith, next, first, append_assoc, set-append_seam)
-spread p front [] [] [] at h long ones = refl
-spread p front counts choice rest at h long ones = grind arith
 
 -- ---- before the first choice
 
@@ -298,23 +254,14 @@ module _ (g : Game) (game : IsGame g) (player : ℕ) (digits : List OwnDigit)
         };
       }
 
-      pub written_all : (strategy : List ℕ) → length strategy ≡ length counts
-          → ((place : ℕ) → place < length counts → get_or strategy place 0 ≡ 1)
-          → HoldTheSame visits level.visits.items → IsLevel (length counts) level
-          → IsWritten g player digits strategy level 0 whole
-      written_all strategy wide ones held levelled = record {
+      pub shown_all : HoldTheSame visits level.visits.items → IsLevel (length counts) level
+          → IsShown g player digits level 0 whole
+      shown_all held levelled = record {
         choices = choices;
         told = record {
           levelled = rw (sym (sets_counted g player)) levelled;
           tells = λ n place from to among. told_by visits held n place place to among refl;
         };
-        inside = rw are (digits_inside 0 counts (length strategy) (omega (arith, wide)));
-        is = λ n from to.
-            let within : n < product counts = omega (arith, to, whole_counted) in
-            sym ((λ i. with_choices (are i) (choices_are n within i) strategy)
-            ∙ spread 0 [] counts (numbered g player n) strategy refl
-            (choice_at_number counts n within) wide
-            (λ place less. ones place (omega (arith, less, wide))));
       }
 
 -- ---- nothing is found yet

@@ -1,27 +1,28 @@
 -- A search for first strategies, choice by choice: what is below the choices so far, and what it
 -- finds where it goes no further. And the labels of those that were found, come to in the same way.
-use Rattle.gf_form.proofs.Common.{◌≡◌, AllByRecursion, is_relevant_at, if◌then◌else◌, action_counts}
-use Rattle.gf_form.proofs.Common.{ℕ, suc, ◌+◌, ◌<◌, ◌≤◌, ◌∷◌, ◌⊎◌, inl, inr, sym, drop, ◌&&◌, Game}
-use Rattle.gf_form.proofs.Common.{zero, Bool, true, List, refl, ap, arith, ◌==◌, ◌||◌, Level, Visit}
-use Rattle.gf_form.proofs.Common.{false, IsSearched, actions_of, is_settled, strategies, [], length}
-use Rattle.gf_form.proofs.Common.{choices_at, IsChosenAt, digits_from, get_or, IsFine, IsLevel, ◌∙◌}
-use Rattle.gf_form.proofs.Common.{is_left, IsFirst, IsGame, is_met, subst, IsChosen, OwnDigit, ◌-◌}
-use Rattle.gf_form.proofs.Common.{IsToldBy, digit_at, numbered, list_any, ◌*◌, ◌/◌, ◌^◌, cases_lt}
-use Rattle.gf_form.proofs.Common.{steps_to, can_be_met, AreFoundTo, length-drop, product, nat_lt}
-use Rattle.gf_form.proofs.Common.{all_choices, ArePositive, HaveChoices, AreFirstBelow, add-one}
-use Rattle.gf_form.proofs.Common.{div-lt_iff_lt-mul, mul-div_cancel_left, mul-le-mul_right, ◌++◌}
-use Rattle.gf_form.proofs.Common.{map-append, IsNextBelow, shown, set, length-append, reduced_label}
-use Rattle.gf_form.proofs.Common.{relevant_sets, AreLabelledTo, take_more, AreInTurn, IsWritten}
-use Rattle.gf_form.proofs.Common.{length-set, player_keys, reduced, with_choices, length-map}
-use Rattle.gf_form.proofs.lemmas.strategies.StrategiesByNumber.{choices_next, choices_row, all_at}
-use Rattle.gf_form.proofs.lemmas.strategies.StrategiesByNumber.{positive_parts}
+use Rattle.gf_form.proofs.Common.{mul-div_cancel_left, div-lt_iff_lt-mul, mul-le-mul_right, IsLevel}
+use Rattle.gf_form.proofs.Common.{length-take-le, AllByRecursion, is_relevant_at, if◌then◌else◌, ap}
+use Rattle.gf_form.proofs.Common.{action_counts, AreFirstBelow, length-append, reduced_label, arith}
+use Rattle.gf_form.proofs.Common.{relevant_sets, AreLabelledTo, get_or-take, digits_from, take_more}
+use Rattle.gf_form.proofs.Common.{length-drop, all_choices, ArePositive, HaveChoices, IsNextBelow}
+use Rattle.gf_form.proofs.Common.{player_keys, IsSearched, actions_of, is_settled, strategies, take}
+use Rattle.gf_form.proofs.Common.{choices_at, IsChosenAt, can_be_met, AreFoundTo, map-append, Level}
+use Rattle.gf_form.proofs.Common.{length-map, AreInTurn, IsChosen, OwnDigit, IsToldBy, digit_at, []}
+use Rattle.gf_form.proofs.Common.{numbered, list_any, cases_lt, steps_to, is_left, IsFirst, product}
+use Rattle.gf_form.proofs.Common.{add-one, IsShown, reduced, length, get_or, IsFine, IsGame, is_met}
+use Rattle.gf_form.proofs.Common.{nat_lt, Visit, false, subst, shown, drop, ◌&&◌, Game, zero, Bool}
+use Rattle.gf_form.proofs.Common.{true, List, refl, ◌==◌, ◌||◌, ◌++◌, ◌≡◌, suc, ◌+◌, ◌<◌, ◌≤◌, ◌∷◌}
+use Rattle.gf_form.proofs.Common.{◌⊎◌, inl, inr, sym, ◌∙◌, ◌-◌, ◌*◌, ◌/◌, ◌^◌, set, ℕ}
+use Rattle.gf_form.specs.inner.reduced.Levels.{Marks}
+use Rattle.gf_form.proofs.lemmas.strategies.StrategiesByNumber.{positive_parts, choices_next}
+use Rattle.gf_form.proofs.lemmas.strategies.StrategiesByNumber.{choices_row, all_at}
 use Rattle.std.proofs.lemmas.Bool.Decides.{nat_tests}
 use Rattle.gf_form.proofs.lemmas.rows.DigitChoices.{choice_at_number}
 use Rattle.gf_form.proofs.lemmas.strategies.ActionCounts.{choice_at as action_within}
 use Rattle.gf_form.proofs.lemmas.strategies.Choices.{length-all_choices, long}
-use Rattle.gf_form.proofs.lemmas.reduced.FirstStrategies.{IsRepeated, passed_by, repeated}
-use Rattle.gf_form.proofs.lemmas.reduced.FirstStrategies.{flags_fit, reduced_shown_at}
-use Rattle.std.proofs.lemmas.List.{ext_get_or, set-get_or}
+use Rattle.gf_form.proofs.lemmas.reduced.FirstStrategies.{reduced_shown_at, IsRepeated, passed_by}
+use Rattle.gf_form.proofs.lemmas.reduced.FirstStrategies.{flags_fit, repeated}
+use Rattle.std.proofs.lemmas.List.{ext_get_or}
 
 -- after those with the first action at the first digit, another one is chosen there
 other_action : (n : ℕ) (counts : List ℕ) (k : ℕ) → product counts ≤ k → k < n * product counts
@@ -211,10 +212,8 @@ digit_there p [] (suc k) less several = absurd (omega (arith, less))
 
 -- its set is one of the player's
 pub digit_inside : (p : ℕ) (counts : List ℕ) (j : ℕ) → j < length (digits_from p counts)
-    → (p + j ≤ (digit_at (digits_from p counts) j).place)
-    × ((digit_at (digits_from p counts) j).place < p + length counts)
-digit_inside p (n ∷ counts) zero less =
-    grind (arith, digit_inside (p + 1) counts 0)
+    → (digit_at (digits_from p counts) j).place < p + length counts
+digit_inside p (n ∷ counts) zero less = grind (arith, digit_inside (p + 1) counts 0)
 digit_inside p (n ∷ counts) (suc j) less =
     grind (arith, digit_inside (p + 1) counts j, digit_inside (p + 1) counts (suc j))
 digit_inside p [] j less = absurd (omega (arith, less))
@@ -237,7 +236,7 @@ module _ (g : Game) (game : IsGame g) (player : ℕ) where
   module _ (digits : List OwnDigit) (are : digits ≡ digits_from 0 counts) where
     pub place_inside : (j : ℕ) → j < length digits → (digit_at digits j).place < length counts
     place_inside j less =
-        let inside = (digit_inside 0 counts j (rw are at less)).1 in rw are (omega (arith, inside))
+        let inside = digit_inside 0 counts j (rw are at less) in rw are (omega (arith, inside))
 
     settled_first : (depth n : ℕ) → n < length all
         → ((j : ℕ) → j < length digits → is_settled g player digits depth n j ≡ true)
@@ -257,7 +256,7 @@ module _ (g : Game) (game : IsGame g) (player : ℕ) where
         repeated g game player n (digit_at digits j).place within (place_inside j less)
         (grind (arith, flag)) (grind (arith, nat_tests, flag))
 
-    module _ (left : List OwnDigit) (level : Level) (depth number count : ℕ)
+    module _ {left : List OwnDigit} {level : Level} {depth number count : ℕ}
         (below : IsSearched g player digits left level depth number count) where
       within_all : (n : ℕ) → n < number + count → n < length all
       within_all n to = omega (arith, to, below.choices.end)
@@ -270,51 +269,68 @@ module _ (g : Game) (game : IsGame g) (player : ℕ) where
           (λ j early. below.told.tells n j from to early
           ∙ grind (arith, known j, below.told.levelled.counted))
 
-      module _ (met : List Bool)
-          (marks : (place : ℕ) → place < length level.known.items
-          → get_or met place false ≡ can_be_met place level) where
+      module _ {met : List Bool} (marks : Marks level met) where
         unmet_flag : (n j : ℕ) → number ≤ n → n < number + count → j < length digits
             → get_or met j false ≡ false → is_settled g player digits depth n j ≡ false
         unmet_flag n j from to among unmet =
             below.told.tells n j from to among
             ∙ unmet_left j _ _ level
-            (sym (marks j (omega (arith, among, below.told.levelled.counted))) ∙ unmet)
+            (sym (marks.marked j (omega (arith, among, below.told.levelled.counted))) ∙ unmet)
+
+        early_within : (j : ℕ) → j < length (take depth met) → (j < depth) × (j < length digits)
+        early_within j inside =
+            let wide = marks.counted ∙ below.told.levelled.counted in
+            let early : j < depth =
+            omega (
+              arith,
+              inside,
+              length-take-le depth met (omega (arith, wide, below.deep)),
+            ) in
+            (early, omega (arith, early, below.deep))
 
         -- none is found if a set cannot be met at which a digit is chosen
-        pub none_found : (j : ℕ) → j < depth → get_or met j false ≡ false → (numbers : List ℕ)
+        pub none_found : (j : ℕ) × (j < length (take depth met))
+            × (get_or (take depth met) j false ≡ false) → (numbers : List ℕ)
             → AreFoundTo g player numbers number → AreFoundTo g player numbers (number + count)
-        none_found j early unmet numbers found =
-            let among : j < length digits = omega (arith, early, below.deep) in
+        none_found (j, inside, shut) numbers found =
+            let among = early_within j inside in
             passed_by g game player numbers number count found below.choices.end
-            (λ n from to. unsettled depth n j (within_all n to) among
-            (unmet_flag n j from to among unmet) early)
+            (λ n from to. unsettled depth n j (within_all n to) among.1
+            (unmet_flag n j from to among.1
+            (sym (get_or-take depth met j false among.0) ∙ shut)) among.0)
 
         -- if no digit is left, and all sets are met, the only one is found
-        pub last_firsts : left ≡ [] → ((k : ℕ) → k < depth → get_or met k false ≡ true)
+        pub last_firsts : left ≡ []
+            → ((k : ℕ) → k < length (take depth met) → get_or (take depth met) k false ≡ true)
             → AreFirstBelow g player number count
         last_firsts none all_met n from to =
             let end : length digits ≤ depth =
             omega (arith, ap length (below.rest ∙ none), length-drop depth digits) in
+            let wide = marks.counted ∙ below.told.levelled.counted in
             settled_first depth n (within_all n to)
             (λ j early. below.told.tells n j from to early
             ∙ ap (λ (ds : List OwnDigit).
             is_left j (steps_to ds) (choices_at g player ds n) level) none
             ∙ left_all j level
-            ∙ sym (marks j (omega (arith, early, below.told.levelled.counted)))
-            ∙ all_met j (omega (arith, early, end)))
+            ∙ sym (marks.marked j (omega (arith, early, below.told.levelled.counted)))
+            ∙ sym (get_or-take depth met j false (omega (arith, early, end)))
+            ∙ all_met j (omega (
+              arith,
+              early,
+              end,
+              length-take-le depth met (omega (arith, wide, below.deep)),
+            )))
 
     -- all are found if only the first action was tried at a digit whose set cannot be met
-    pub all_found : (d : OwnDigit) (faster : List OwnDigit) (level : Level)
-        (depth number count tried : ℕ)
-        → IsSearched g player digits (d ∷ faster) level depth number count → (met : List Bool)
-        → ((place : ℕ) → place < length level.known.items
-        → get_or met place false ≡ can_be_met place level)
-        → tried ≡ (if get_or met depth false then d.actions else 1)
-        → (numbers : List ℕ)
+    pub all_found : {d : OwnDigit} {faster : List OwnDigit} {level : Level}
+        {depth number count : ℕ}
+        (below : IsSearched g player digits (d ∷ faster) level depth number count)
+        {met : List Bool} (marks : Marks level met) (tried : ℕ)
+        → tried ≡ (if get_or met depth false then d.actions else 1) → (numbers : List ℕ)
         → AreFoundTo g player numbers (number + tried * (count / d.actions))
         → AreFoundTo g player numbers (number + count)
-    all_found d faster level depth number count tried below met marks tried_is numbers found =
-        by (get_or met depth false) refl
+    all_found {d} {faster} {level} {depth} {number} {count} below {met} marks tried tried_is numbers
+        found = by (get_or met depth false) refl
       where
         row : ℕ
         row = count / d.actions
@@ -336,8 +352,7 @@ module _ (g : Game) (game : IsGame g) (player : ℕ) where
             (λ n from to.
             let before_end : n < number + count = omega (arith, to, end) in
             let within : n < length all = omega (arith, before_end, below.choices.end) in
-            let flag = unmet_flag (d ∷ faster) level depth number count below met marks n depth
-            (omega (arith, from)) before_end here.0 e in
+            let flag = unmet_flag below marks n depth (omega (arith, from)) before_end here.0 e in
             let at : (digit_at digits depth).place ≡ d.place =
             ap (λ (d : OwnDigit). d.place) here.2 in
             repeated g game player n d.place within
@@ -347,29 +362,15 @@ module _ (g : Game) (game : IsGame g) (player : ℕ) where
 
 -- ---- at a digit
 
-pub set_twice : {A : Type 0} (xs : List A) (i : ℕ) (a b : A) → set (set xs i a) i b ≡ set xs i b
-set_twice (x ∷ xs) (suc i) a b = ap (λ ys. x ∷ ys) (set_twice xs i a b)
-set_twice xs i a b = refl
-
-pub next_written : {g : Game} {player number count : ℕ} {d : OwnDigit} {faster : List OwnDigit}
-    {strategy : List ℕ} {level : Level}
-    (below : IsWritten g player (d ∷ faster) strategy level number count) (before : ℕ)
+pub next_shown : {g : Game} {player number count : ℕ} {d : OwnDigit} {faster : List OwnDigit}
+    {level : Level} (below : IsShown g player (d ∷ faster) level number count) (before : ℕ)
     → before < d.actions → (left : Level) → IsLevel (length (player_keys g player)) left
     → IsChosen d.step (before + 1) level left
-    → IsWritten g player faster (set strategy d.place (before + 1)) left
-    (number + before * (count / d.actions)) (count / d.actions)
-next_written {g} {player} {number} {count} {d} {faster} {strategy} below before less left levelled
-    chosen =
-    record {
-      choices = next_choices below.choices before less;
-      told = next_told below.choices before less below.told levelled chosen;
-      inside = subst (λ (n : ℕ). AllByRecursion (λ d. d.place < n) faster)
-          (sym (length-set strategy d.place (before + 1))) below.inside.1;
-      is = λ n from to.
-          below.is n (omega (arith, from)) (omega (arith, to, next_end below.choices before less))
-          ∙ ap (λ (a : ℕ). with_choices faster (choices_at g player faster n)
-          (set strategy d.place a)) (chosen_there below.choices before less n from to);
-    }
+    → IsShown g player faster left (number + before * (count / d.actions)) (count / d.actions)
+next_shown below before less left levelled chosen = record {
+  choices = next_choices below.choices before less;
+  told = next_told below.choices before less below.told levelled chosen;
+}
 
 -- ---- one label more
 
@@ -380,37 +381,28 @@ in_turn_at (n ∷ numbers) zero h less =
 in_turn_at (n ∷ numbers) (suc k) h less = in_turn_at numbers k h.1 (omega (arith, less))
 in_turn_at [] k h less = absurd (omega (arith, less))
 
-module _ (g : Game) (game : IsGame g) (player : ℕ) (strategy : List ℕ) (level : Level)
-    (number : ℕ) (last : IsWritten g player [] strategy level number 1) where
-  is : numbered g player number ≡ strategy
-  is = last.is number (omega arith) (omega arith)
-
-  within : number < length (strategies g player)
+module _ (g : Game) (game : IsGame g) (player : ℕ) (level : Level) (number : ℕ)
+    (last : IsShown g player [] level number 1) where
+  pub within : number < length (strategies g player)
   within = omega (arith, last.choices.end)
 
-  fit : length (relevant_sets g player (numbered g player number)) ≡ length strategy
-  fit = flags_fit g game player number within ∙ ap length is
+  pub known_fit : length level.known.items ≡ length (numbered g player number)
+  known_fit = grind (arith, length-map, flags_fit g game player number within)
 
-  pub known_fit : length level.known.items ≡ length strategy
-  known_fit =
-      grind (arith, length-map, fit)
-
-  pub label_is : (met : List Bool) → length met ≡ length level.known.items
-      → ((place : ℕ) → place < length level.known.items
-      → get_or met place false ≡ can_be_met place level)
-      → reduced_label (shown met strategy)
+  pub label_is : (met : List Bool) → Marks level met
+      → reduced_label (shown met (numbered g player number))
       ≡ reduced_label (reduced g player (numbered g player number))
-  label_is met counted marks =
-      ap reduced_label (λ i. shown (flags i) (sym is i))
+  label_is met marks =
+      ap (λ (fs : List Bool). reduced_label (shown fs (numbered g player number))) flags
       ∙ ap reduced_label (sym (reduced_shown_at g game player number within))
     where
       flags : met ≡ relevant_sets g player (numbered g player number)
       flags = ext_get_or false met (relevant_sets g player (numbered g player number))
-          (counted ∙ known_fit ∙ sym fit)
-          (λ place among. marks place (omega (arith, among, counted))
+          (marks.counted ∙ known_fit ∙ sym (flags_fit g game player number within))
+          (λ place among. marks.marked place (omega (arith, among, marks.counted))
           ∙ sym (left_all place level)
           ∙ sym (last.told.tells number place (omega arith) (omega arith)
-          (omega (arith, among, counted, last.told.levelled.counted))))
+          (omega (arith, among, marks.counted, last.told.levelled.counted))))
 
 pub one_label_more : (g : Game) (player : ℕ) (numbers : List ℕ) (labels next : List (List ℕ))
     (label : List ℕ) (number : ℕ) → AreInTurn numbers → IsNextBelow numbers labels (number + 1)
@@ -437,4 +429,4 @@ one_label_more g player numbers labels next label number in_turn due labelled la
     is : get_or numbers (length labels) 0 ≡ number
     is = omega (arith, due.0, due.1, labelled.next due.0)
 
-pub ruleset search_steps = (some_actions, step_fits, no_digits, set-get_or)
+pub ruleset search_steps = (some_actions, step_fits, no_digits)

@@ -1,6 +1,6 @@
 use Rattle.gf_form.proofs.Common.{arith, IfOk-weaker, IsPaidAt, reduced_labels}
-use Rattle.gf_form.proofs.lemmas.reduced.FirstsPicked.{fewer_profiles, paid_fractions, paid_full}
-use Rattle.gf_form.proofs.lemmas.reduced.FirstsPicked.{reduced_made, some_reduced_label}
+use Rattle.gf_form.proofs.lemmas.reduced.FirstStrategies.{fewer_profiles, paid_fractions, paid_full}
+use Rattle.gf_form.proofs.lemmas.reduced.FirstStrategies.{reduced_made, some_reduced_label}
 use Rattle.gf_form.proofs.lemmas.reduced.ReducedForms.{reduced_form_profiles}
 use Rattle.gf_form.proofs.lemmas.form.FormMade.{fits_table, form_made}
 use Rattle.gf_form.proofs.reduced_form.form_with.Goals as goal

@@ -1,5 +1,5 @@
-use Rattle.gf_form.proofs.Common.{ℕ, List, Vec, Global, map}
-use Rattle.gf_form.proofs.lemmas.reduced.FirstsPicked.{AreTheirs, reduced_overflow}
+use Rattle.gf_form.proofs.Common.{Global, List, Vec, map, ℕ}
+use Rattle.gf_form.proofs.lemmas.reduced.FirstStrategies.{reduced_overflow, AreTheirs}
 use Rattle.gf_form.proofs.reduced_form.reduced_rows.Goals.{After-deref-2}
 use Rattle.gf_form.proofs.reduced_form.reduced_rows.Goals as goal
 

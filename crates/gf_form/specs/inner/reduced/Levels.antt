@@ -1,9 +1,11 @@
 -- What is left of a player's visits after choices at the slower digits.
-use Rattle.std.specs.Prelude.{if◌then◌else◌, Option, get_or, length, nat_le, nat_lt, false, ◌==◌, ℕ}
-use Rattle.std.specs.Prelude.{◌&&◌, ◌||◌, Bool, List, Some, None, ◌≡◌, ◌≤◌, ◌<◌, ◌-◌, ◌*◌, ◌+◌, ◌∷◌}
+use Rattle.std.specs.Prelude.{◌≡◌, ◌≤◌, ◌<◌, ◌-◌, ◌*◌, ◌+◌, ◌==◌, ◌&&◌, ◌||◌, ℕ, Bool, false}
+use Rattle.std.specs.Prelude.{List}
+use Rattle.std.specs.Prelude.{◌∷◌, Option, Some, None, get_or, length, nat_le, nat_lt}
+use Rattle.std.specs.Prelude.{if◌then◌else◌}
 use Rattle.std.specs.List.{AllByRecursion, list_any}
 use Rattle.std.specs.List.Sorted.{IsNonDecreasingBy}
-use Rattle.gf_form.specs.inner.reduced.Visits.{is_met_on, is_met}
+use Rattle.gf_form.specs.inner.reduced.Visits.{is_met, is_met_on}
 use Rattle.gf_form.specs.declared.reduced.level.Level.{Level}
 use Rattle.gf_form.specs.declared.reduced.level.Parts.{Parts}
 use Rattle.gf_form.specs.declared.reduced.visits.Visit.{Visit}
@@ -81,3 +83,9 @@ IsChosenAt spared step action from left = (place : ℕ) (steps choices : List �
 abbrev pub can_be_met : ℕ → Level → Bool
 can_be_met place l = get_or l.known.items place false
     || list_any (λ v. v.set == place) l.visits.items
+
+-- the flags tell whether each set can be met
+pub record Marks (l : Level) (met : List Bool) : Type 0 where
+  pub counted : length met ≡ length l.known.items
+  pub marked : (place : ℕ) → place < length l.known.items
+      → get_or met place false ≡ can_be_met place l

@@ -1,6 +1,6 @@
 -- A search for the first strategies of a player, digit by digit, and another one for their labels.
 use Rattle.std.specs.Prelude.{◌≡◌, ◌≤◌, ◌<◌, ◌+◌, ◌*◌, ◌^◌, ◌==◌, ◌&&◌, ◌||◌, ℕ, Bool, false}
-use Rattle.std.specs.Prelude.{List, [], ◌∷◌, ⊤, drop, get_or, length, map, nat_lt, set, take}
+use Rattle.std.specs.Prelude.{List, [], ◌∷◌, ⊤, drop, get_or, length, map, nat_lt, take}
 use Rattle.std.specs.List.{AllByRecursion}
 use Rattle.gf_nfg.specs.Profiles.{product}
 use Rattle.std.specs.Cmp.Lexicographic.{pointwise}
@@ -35,12 +35,6 @@ pub record IsFine (d : OwnDigit) : Type 0 where
   pub step : 0 < d.step
   pub actions : 0 < d.actions
   pub fits : d.actions * d.step + d.step < 2 ^ 64
-
--- a strategy with other choices at these digits
-abbrev pub with_choices : List OwnDigit → List ℕ → List ℕ → List ℕ
-with_choices (d ∷ digits) (choice ∷ choices) strategy =
-    with_choices digits choices (set strategy d.place choice)
-with_choices _ _ strategy = strategy
 
 -- those of these visits that are to sets with a digit, each to the place of the digit
 abbrev pub AreOwn : List OwnDigit → List Visit → List Visit → Type 0
@@ -129,16 +123,13 @@ pub record AreFoundTo (g : Game) (player : ℕ) (numbers : List ℕ) (number : �
 
 -- ---- labels
 
--- The digits but these are chosen, by a strategy too, which is right but for its choices at these.
-pub record IsWritten (g : Game) (player : ℕ) (digits : List OwnDigit) (strategy : List ℕ)
-    (level : Level) (number count : ℕ) : Type 0
+-- The digits but these are chosen, and the level tells which sets are relevant.
+pub record IsShown (g : Game) (player : ℕ) (digits : List OwnDigit) (level : Level)
+    (number count : ℕ) : Type 0
   where
     pub choices : HaveChoices g player digits number count
     pub told : IsToldBy g player digits (is_relevant_at g player) (length (player_keys g player))
         level number count
-    pub inside : AllByRecursion (λ d. d.place < length strategy) digits
-    pub is : (n : ℕ) → number ≤ n → n < number + count
-        → numbered g player n ≡ with_choices digits (choices_at g player digits n) strategy
 
 -- the labels of the first of the strategies with these numbers, all of which are before a number
 pub record AreLabelledTo (g : Game) (player : ℕ) (numbers : List ℕ) (labels : List (List ℕ))

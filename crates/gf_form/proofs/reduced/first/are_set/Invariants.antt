@@ -1,4 +1,4 @@
-use Rattle.gf_form.proofs.Common.{◌≡◌, ◌<◌, ℕ, true, false, get_or}
+use Rattle.gf_form.proofs.Common.{get_or, false, true, ◌≡◌, ◌<◌, ℕ}
 use Rattle.gf_form.proofs.reduced.first.are_set.Given as goal
 
 abbrev pub invariant-loop-flag : goal.invariant-loop-flag

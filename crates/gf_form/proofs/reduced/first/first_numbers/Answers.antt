@@ -1,4 +1,4 @@
-use Rattle.gf_form.proofs.Common.{◌∙◌, ℕ, subst, IsLevel}
+use Rattle.gf_form.proofs.Common.{IsLevel, subst, ◌∙◌, ℕ}
 use Rattle.gf_form.proofs.lemmas.reduced.SearchStarts.{searched_all}
 use Rattle.gf_form.proofs.reduced.first.first_numbers.Goals as goal
 
@@ -8,8 +8,8 @@ push_below-requires-clause-below c =
     let game = c.requires.is_game in
     let player = c.args.player.now.number in
     let digits = c.args.player.now.digits.items in
-    rw c.deref-3.ensures.value (searched_all g game player digits c.requires.digits c.args.whole
-    c.requires.choices c.args.visits.now c.requires.visits c.in_ok-level.level
+    rw c.deref-3.ensures.value (searched_all g game player digits c.requires.digits
+    c.args.player.now.whole c.requires.choices c.args.visits.now c.requires.visits c.in_ok-level.level
     c.in_ok-level.ensures.unknown c.in_ok-own.own.items
     (rw c.deref.ensures.value at c.in_ok-own.ensures)
     (rw c.deref-2.ensures.value at c.in_ok-level.ensures.visits)

@@ -1,4 +1,4 @@
-use Rattle.gf_form.proofs.Common.{◌∙◌, ap, product, digits_from}
+use Rattle.gf_form.proofs.Common.{digits_from, product, ◌∙◌, ap}
 use Rattle.gf_form.proofs.lemmas.reduced.SearchStarts.{all_choices_had, firsts_are}
 use Rattle.gf_form.proofs.reduced.first.first_strategies.Goals as goal
 

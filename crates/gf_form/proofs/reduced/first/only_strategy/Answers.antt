@@ -1,4 +1,4 @@
-use Rattle.gf_form.proofs.Common.{◌++◌, ◌∷◌, ◌∙◌, [], ℕ, List, ap, subst, sym, product, AreFirstsOf}
+use Rattle.gf_form.proofs.Common.{AreFirstsOf, product, subst, ◌++◌, List, ◌∷◌, ◌∙◌, sym, [], ap, ℕ}
 use Rattle.gf_form.proofs.lemmas.reduced.Coming.{only_first}
 use Rattle.gf_form.proofs.reduced.first.only_strategy.Goals as goal
 

@@ -1,4 +1,4 @@
-use Rattle.gf_form.proofs.Common.{◌+◌, ◌*◌, length, AreFoundTo}
+use Rattle.gf_form.proofs.Common.{AreFoundTo, length, ◌+◌, ◌*◌}
 use Rattle.gf_form.proofs.reduced.first.Search.+push_below.Given as goal
 
 abbrev pub decreases-push_below : goal.decreases-push_below

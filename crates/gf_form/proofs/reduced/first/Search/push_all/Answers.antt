@@ -1,4 +1,4 @@
-use Rattle.gf_form.proofs.Common.{◌≡◌, ◌+◌, arith, subst, AreFoundTo}
+use Rattle.gf_form.proofs.Common.{AreFoundTo, arith, subst, ◌≡◌, ◌+◌}
 use Rattle.gf_form.proofs.lemmas.reduced.FirstStrategies.{first_kept}
 use Rattle.gf_form.proofs.reduced.first.Search.push_all.Goals as goal
 

@@ -1,4 +1,4 @@
-use Rattle.gf_form.proofs.Common.{◌+◌, AreFoundTo}
+use Rattle.gf_form.proofs.Common.{AreFoundTo, ◌+◌}
 use Rattle.gf_form.proofs.reduced.first.Search.push_all.Given as goal
 
 abbrev pub invariant-loop-before : goal.invariant-loop-before

@@ -1,6 +1,6 @@
-use Rattle.gf_form.proofs.Common.{◌≡◌, ◌+◌, ◌*◌, ◌/◌, ◌∙◌, ℕ, arith, length, subst, ap, IsChosen}
-use Rattle.gf_form.proofs.Common.{IsLevel, AreLabelledTo, length-set}
-use Rattle.gf_form.proofs.lemmas.reduced.Searches.{next_written, set_twice, all_rows, no_digits}
+use Rattle.gf_form.proofs.Common.{AreLabelledTo, IsChosen, IsLevel, length, arith, subst, ◌≡◌, ◌+◌}
+use Rattle.gf_form.proofs.Common.{◌*◌, ◌/◌, ◌∙◌, ap, ℕ}
+use Rattle.gf_form.proofs.lemmas.reduced.Searches.{next_shown, no_digits, all_rows}
 use Rattle.gf_form.proofs.reduced.labels.Labelling.+push_below.Goals as goal
 
 pub push_label-requires-clause-last : goal.push_label-requires-clause-last
@@ -10,25 +10,17 @@ push_label-requires-clause-last t c =
 
 pub push_below-requires : goal.push_below-requires
 push_below-requires t c =
-    let below = rw c.in-Some.ensures.cases.0 at c.requires.below in
-    let i = c.loop-before.invariant in
-    let left = c.choose.new.self in (
+    let r = c.requires in
+    let left = c.choose.new.self in
+    let next = next_shown (rw c.in-Some.ensures.cases.0 at r.below) c.loop-before.before
+    c.loop-before-test.true left
+    (subst (λ (sets : ℕ). IsLevel sets left) r.below.told.levelled.counted
+    c.in_ok-choose.ensures.level)
+    (subst (λ (a : ℕ). IsChosen c.in-Some.digit.now.step a c.args.level.now left) c.from.ensures
+    c.in_ok-choose.ensures.chosen) in
+    let due = c.is_next_below.ensures.below c.if-not-is_next_below.false in (
       omega (arith, c.decreases, ap length c.in-Some.ensures.cases.0),
-      (
-        c.requires.is_game,
-        (
-          rw (i.1 (c.loop-before.before + 1)) (next_written below c.loop-before.before
-              c.loop-before-test.true left
-              (subst (λ (sets : ℕ). IsLevel sets left) c.requires.below.told.levelled.counted
-              c.in_ok-choose.ensures.level)
-              (subst (λ (a : ℕ). IsChosen c.in-Some.digit.now.step a c.args.level.now left)
-              c.from.ensures c.in_ok-choose.ensures.chosen)),
-          (
-            c.requires.ordered,
-            (c.is_next_below.ensures.below c.if-not-is_next_below.false, i.0),
-          ),
-        ),
-      ),
+      (r.is_game, (r.counts, (r.whole, (next, (r.ordered, (due, c.loop-before.invariant)))))),
     )
 
 pub loop-before-preserved : goal.loop-before-preserved
@@ -36,20 +28,18 @@ loop-before-preserved t c =
     let before = c.loop-before.before in
     let each = c.args.count / c.in-Some.digit.now.actions in
     let row : c.args.number + before * each + each ≡ c.args.number + (before + 1) * each =
-    omega arith in (
-      subst (AreLabelledTo c.args.player.now.game.now c.args.player.now.number c.args.numbers.now
-          c.push_below.new.self.labels) row c.in_ok-push_below.ensures.labelled,
-      λ choice. grind (arith, set_twice),
-      grind (arith, length-set),
-    )
+    omega arith in
+    subst (AreLabelledTo c.args.player.now.game.now c.args.player.now.number c.args.numbers.now
+    c.push_below.new.self.labels) row c.in_ok-push_below.ensures.labelled
 
-pub returns-clause-labelled : goal.returns-clause-labelled
-returns-clause-labelled t c =
+pub returns : goal.returns
+returns t c =
     let end : c.loop-before.before ≡ c.in-Some.digit.now.actions =
     omega (arith, c.loop-before-test.false, c.loop-before.auto.before-end) in
     let each = c.args.count / c.in-Some.digit.now.actions in
     let below = rw c.in-Some.ensures.cases.0 at c.requires.below in
-    let rows = all_rows below.choices in
-    subst (AreLabelledTo c.args.player.now.game.now c.args.player.now.number c.args.numbers.now
-    c.loop-before.self.labels)
-    (ap (λ (b : ℕ). c.args.number + b * each) end ∙ rows) c.loop-before.invariant.0
+    let rows = all_rows below.choices in record {
+      labelled = subst (AreLabelledTo c.args.player.now.game.now c.args.player.now.number
+          c.args.numbers.now c.loop-before.self.labels)
+          (ap (λ (b : ℕ). c.args.number + b * each) end ∙ rows) c.loop-before.invariant;
+    }
