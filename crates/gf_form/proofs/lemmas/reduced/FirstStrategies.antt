@@ -1,5 +1,6 @@
 -- The first of the strategies that reduce to the same one: it has the first action wherever no
 -- choice matters. And the profiles of first strategies are those of the reduced form, in its order.
+use Rattle.std.proofs.lemmas.List.Sums.{count_by-le-length, length-filter}
 use Rattle.gf_form.proofs.Common.{AreReducedPayoffsAt, unwrap_or-slice_get, false_from_ne_true, Vec}
 use Rattle.gf_form.proofs.Common.{reduced_strategies, ReducedOverflowsAt, same_set_equality, Global}
 use Rattle.gf_form.proofs.Common.{AreProfileNumbers, numbered_profiles, mul-le-mul_right, AreInTurn}
@@ -16,10 +17,10 @@ use Rattle.gf_form.proofs.Common.{reduced_by, IsFormWith, players_of, choices_by
 use Rattle.gf_form.proofs.Common.{choice_at, ArePicked, IsProfile, AreRowsAt, HasValues, list_any}
 use Rattle.gf_form.proofs.Common.{map_same, contains, take-suc, all_both, numbered, AreBelow, shown}
 use Rattle.gf_form.proofs.Common.{IsPicked, Contains, profiles, IsPaidAt, has_map, reduced, add-one}
-use Rattle.gf_form.proofs.Common.{IsFirst, full_at, IsValue, length, get_or, SetKey, IsGame, filter}
-use Rattle.gf_form.proofs.Common.{AllZip, Ratio, Table, zero, Bool, true, List, ◌++◌, Some, None}
-use Rattle.gf_form.proofs.Common.{take, refl, Game, ◌≡◌, suc, ◌+◌, ◌-◌, ◌*◌, ◌<◌, ◌≤◌, ◌∷◌, map, ap}
-use Rattle.gf_form.proofs.Common.{set, sym, ◌∙◌, has, not, ◌↔◌, zip}
+use Rattle.gf_form.proofs.Common.{IsFirst, full_at, IsValue, length, get_or, SetKey, IsGame, AllZip}
+use Rattle.gf_form.proofs.Common.{Ratio, Table, zero, Bool, true, List, ◌++◌, Some, None, take, ◌≡◌}
+use Rattle.gf_form.proofs.Common.{refl, Game, suc, ◌+◌, ◌-◌, ◌*◌, ◌<◌, ◌≤◌, ◌∷◌, map, set, sym, ◌∙◌}
+use Rattle.gf_form.proofs.Common.{has, not, ◌↔◌, zip, ap}
 use Rattle.gf_tree.proofs.lemmas.stores.KnownKeys.{used_before, known_more, more_known}
 use Rattle.gf_form.proofs.lemmas.strategies.Choices.{choice_length, at_its_place, are_choices}
 use Rattle.gf_form.proofs.lemmas.strategies.Choices.{IsChoice, place_at, place}
@@ -41,16 +42,11 @@ use Rattle.gf_form.proofs.lemmas.strategies.CountsGiven.{all_counted}
 
 -- ---- first uses
 
-fewer_filtered : {A : Type 0} (test : A → Bool) (xs : List A)
-    → length (filter test xs) ≤ length xs
-fewer_filtered test [] = omega arith
-fewer_filtered test (x ∷ xs) = grind (arith, fewer_filtered test xs)
-
 fewer_uses : {K : Type 0} (same : K → K → Bool) (ks : List K)
     → length (first_uses same ks) ≤ length ks
 fewer_uses same [] = omega arith
 fewer_uses same (k ∷ ks) =
-    omega (arith, fewer_uses same ks, fewer_filtered (λ j. not (same k j)) (first_uses same ks))
+    grind (arith, length-filter, count_by-le-length, fewer_uses same ks)
 
 -- ---- strategies by flags
 

@@ -24,15 +24,6 @@ use Rattle.gf_form.proofs.lemmas.reduced.FirstStrategies.{reduced_shown_at, IsRe
 use Rattle.gf_form.proofs.lemmas.reduced.FirstStrategies.{flags_fit, repeated}
 use Rattle.std.proofs.lemmas.List.{ext_get_or}
 
--- after those with the first action at the first digit, another one is chosen there
-other_action : (n : ℕ) (counts : List ℕ) (k : ℕ) → product counts ≤ k → k < n * product counts
-    → ¬ (get_or (get_or (all_choices (n ∷ counts)) k []) 0 0 ≡ 1)
-other_action n counts k from before first =
-    let some = (positive_parts n (product counts) k before).1 in
-    let head = ap (λ (l : List ℕ). get_or l 0 0) (choices_next n counts k some before) in
-    let low : k / product counts < 1 = omega (arith, sym head ∙ first) in
-    omega (arith, from, (div-lt_iff_lt-mul some).0 low)
-
 steps_positive : (digits : List OwnDigit) → AllByRecursion IsFine digits
     → ArePositive (steps_to digits)
 steps_positive [] h = tt
@@ -64,10 +55,14 @@ module _ {g : Game} {player number count : ℕ} {d : OwnDigit} {faster : List Ow
       → ¬ (get_or (numbered g player n) d.place 0 ≡ 1)
   moved n from before first =
       let k = n - number in
-      let at = ap (λ (l : List ℕ). get_or l 0 0) (h.chosen k n (omega (arith, from))
-      (omega (arith, from, before))) in
-      other_action d.actions (actions_of faster) k (omega (arith, each_is, from))
-      (omega (arith, from, before, h.counted)) (sym at ∙ first)
+      let actions = actions_of faster in
+      let past : product actions ≤ k = omega (arith, each_is, from) in
+      let within : k < d.actions * product actions = omega (arith, from, before, h.counted) in
+      let some = (positive_parts d.actions (product actions) k within).1 in
+      let head = ap (λ (l : List ℕ). get_or l 0 0) (h.chosen k n (omega (arith, from))
+      (omega (arith, from, before)) ∙ choices_next d.actions actions k some within) in
+      let low : k / product actions < 1 = omega (arith, sym head ∙ first) in
+      omega (arith, past, (div-lt_iff_lt-mul some).0 low)
 
   module _ (before : ℕ) (less : before < d.actions) where
     row_end : before * each + each ≤ count
