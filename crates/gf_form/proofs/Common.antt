@@ -74,7 +74,6 @@ pub use Rattle.gf_form.specs.inner.rows.SettledRows.{asked_profiles}
 pub use Rattle.gf_form.specs.inner.rows.Shares.{IsDigitOf, AreDigits, FitsAt, AreExactShares}
 pub use Rattle.gf_form.specs.inner.rows.Shares.{met_bounds, node_term, node_terms, pay_at, term_of}
 pub use Rattle.gf_form.specs.inner.rows.Shares.{sum_of_shares}
-pub use Rattle.gf_form.specs.inner.rows.SummedNodes.{order_of}
 pub use Rattle.gf_form.specs.inner.strategies.Counted.{AreCounts}
 pub use Rattle.gf_form.specs.inner.strategies.LabelTexts.{choice_text, IsPlain}
 pub use Rattle.gf_form.specs.inner.strategies.ProfileNumbers.{AreProfileNumbers, AreBelow}

@@ -9,7 +9,6 @@ pub mod ItemRows
 pub mod ListedEntries
 pub mod MergedEntries
 pub mod Merges
-pub mod NodeTerms
 pub mod OverOneDenominator
 pub mod PairRows
 pub mod PathsTold

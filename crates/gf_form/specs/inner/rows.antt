@@ -2,6 +2,7 @@ pub mod Demands
 pub mod DigitSteps
 pub mod Entries
 pub mod FitsTable
+pub mod FollowedNodes
 pub mod GameDigits
 pub mod ItemRows
 pub mod KeptNodes

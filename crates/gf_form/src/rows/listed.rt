@@ -7,7 +7,9 @@ ghost use Rattle.std.specs.List.Sorted.{IsNonDecreasingBy};
 ghost use Rattle.gf_tree.specs.Game.{Game};
 ghost use Rattle.gf_form.specs.inner.rows.Entries.{AreOrdered, IsShaped, entries};
 ghost use Rattle.gf_form.specs.inner.rows.KeptNodes.{paid_reached};
-ghost use Rattle.gf_form.specs.inner.rows.ListedNodes.{AreTermsOf, HasShares, IsTermMore};
+ghost use Rattle.gf_form.specs.inner.rows.ListedNodes.{AreTermsOf, HasShares, IsShareAt};
+ghost use Rattle.gf_form.specs.inner.rows.ListedNodes.{IsTermMore};
+ghost use Rattle.gf_form.specs.inner.rows.ItemRows.{HasRow};
 ghost use Rattle.gf_form.specs.inner.values.PaidRows.{rows_of};
 ghost use Rattle.gf_form.specs.inner.rows.Paying.{FitOver};
 ghost use Rattle.gf_form.specs.inner.values.Rows.{ArePaid};
@@ -19,7 +21,7 @@ use crate::rows::paths::{Path, Reached};
 use crate::rows::share::{Share, payoff_at, share_of};
 use crate::rows::shares::paid_sums;
 use crate::rows::sums::{combined, multiple};
-use crate::rows::terms::{Head, Terms};
+use crate::rows::terms::{Head, Scaled, Terms};
 use crate::values::payoffs::Payoffs;
 use gf_fraction::Fraction;
 use gf_tree::Game;
@@ -88,6 +90,35 @@ fn shares_of(nodes: &[Reached], payoffs: &Payoffs<'_>, place: usize, den: u128) 
     Some(sum)
 }
 
+/// Appends what these nodes add for each player, over this denominator if it serves; says what the
+/// numbers are over.
+fn push_shares(
+    numbers: &mut Vec<i128>,
+    nodes: &[Reached],
+    payoffs: &Payoffs<'_>,
+    players: usize,
+    den: u128,
+) -> Result<Scaled, AllocError>
+    ensures { IfOk result (λ over. HasRow (IsShareAt (rows_of payoffs.now) nodes.now over) players
+        numbers.old.items numbers.new.items) }
+{
+    let mut over = Scaled { den, size: 0 };
+    for place in 0..players {
+        let number = match shares_of(nodes, payoffs, place, over.den) {
+            Some(sum) => {
+                over.size = over.size.max(sum.bound);
+                sum.amount
+            }
+            None => {
+                over.den = 0;
+                0
+            }
+        };
+        numbers.push(number)?;
+    }
+    Ok(over)
+}
+
 /// Appends the term of nodes that have these demands, over this denominator if it serves.
 fn push_nodes(
     terms: &mut Terms,
@@ -103,19 +134,12 @@ fn push_nodes(
     ensures players { terms.new.players ≡ terms.old.players }
 {
     let den = common_denominator(nodes, payoffs, common).unwrap_or(0);
-    let mut fits = true;
-    let mut size: u128 = 0;
-    for place in 0..terms.players {
-        if let Some(sum) = shares_of(nodes, payoffs, place, den) {
-            size = size.max(sum.bound);
-            terms.numbers.push(sum.amount)?;
-        } else {
-            fits = false;
-            terms.numbers.push(0)?;
-        }
-    }
-    let den = if fits { den } else { 0 };
-    terms.push_head(Head { demands, den, size })?;
+    let over = push_shares(&mut terms.numbers, nodes, payoffs, terms.players, den)?;
+    terms.push_head(Head {
+        demands,
+        den: over.den,
+        size: over.size,
+    })?;
     Ok(())
 }
 

@@ -10,9 +10,9 @@ ghost use Rattle.gf_tree.specs.Branches.{game_of, tree_of};
 ghost use Rattle.gf_tree.specs.Subtrees.{child_trees, root_node};
 ghost use Rattle.gf_form.specs.inner.rows.PathsLeft.{nodes_behind, nodes_beneath, nodes_by};
 ghost use Rattle.gf_form.specs.inner.rows.PathsLeft.{nodes_left};
-ghost use Rattle.gf_form.specs.inner.rows.PathsLeft.{open_nodes, steps_of_paths, taken, turns_left};
+ghost use Rattle.gf_form.specs.inner.rows.PathsLeft.{open_nodes, steps_of_paths, turns_left};
 ghost use Rattle.gf_form.specs.inner.rows.ReachedNodes.{by_chance, by_choice, is_sum, met_node};
-ghost use Rattle.gf_form.specs.inner.rows.ReachedNodes.{reached, root_path};
+ghost use Rattle.gf_form.specs.inner.rows.ReachedNodes.{reached, root_path, taken};
 ghost use Rattle.gf_form.specs.Strategies.{choices_by};
 
 use crate::rows::digits::{Digits, demanded};
@@ -242,9 +242,10 @@ impl<'d, 'g, 'a> Paths<'d, 'g, 'a> {
     fn follow(&mut self, branch: Branch<'g, 'a>, path: Path, step: u64) -> Result<(), AllocError>
         requires { self.old.next ≡ None }
         ensures same { steps_of_paths self.new ≡ steps_of_paths self.old }
-        ensures left { OnOk result (nodes_by (steps_of_paths self.old) branch.entry path step
+        ensures left { OnOk result (nodes_by (game_of branch.entry)
+            (choices_by (game_of branch.entry) (steps_of_paths self.old)) path step
             (taken path step (length (child_trees (tree_of branch.entry))))
-            ++ nodes_behind self.old ≡ nodes_left self.new) }
+            (child_trees (tree_of branch.entry)) ++ nodes_behind self.old ≡ nodes_left self.new) }
 
         // It fails only if there was no room.
         ensures full { OnErr result (vec_capacity self.old.«open» ≤ vec_len self.old.«open») }

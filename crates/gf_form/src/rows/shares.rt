@@ -3,7 +3,7 @@
 ghost use Rattle.std.specs.Prelude.{◌≡◌, IfOk, false, map, true};
 ghost use Rattle.std.specs.List.Sorted.{IsNonDecreasingBy};
 ghost use Rattle.gf_form.specs.inner.rows.KeptNodes.{paid_reached};
-ghost use Rattle.gf_form.specs.inner.rows.SummedNodes.{HaveSharesOf, IsNodeSum, order_of};
+ghost use Rattle.gf_form.specs.inner.rows.SummedNodes.{HaveSharesOf, IsNodeSum};
 ghost use Rattle.gf_form.specs.inner.values.PaidRows.{rows_of};
 ghost use Rattle.gf_form.specs.Strategies.{choices_by};
 ghost use Rattle.gf_form.specs.declared.rows.paths.Reached.{Reached};
@@ -20,9 +20,7 @@ const RADIX: u128 = 1 << 32;
 impl Reached {
     /// A number that orders nodes by demands, those with the same demands by outcome, and those
     /// with the same outcome by denominator, as far as its last digits go.
-    fn order(self) -> u128
-        ensures { result ≡ order_of self }
-    {
+    fn order(self) -> u128 {
         let demands = self.path.demands as u128;
         let outcome = self.outcome as u128;
         (demands * RADIX + outcome) * RADIX + self.path.den % RADIX
@@ -70,11 +68,9 @@ fn paid_nodes(
     Ok(nodes)
 }
 
-/// Adds up neighbours that differ in weight alone, among nodes in order of demands.
+/// Adds up neighbours that differ in weight alone.
 fn add_up(nodes: &mut Vec<Reached>)
-    requires { IsNonDecreasingBy (λ (r : Reached). r.path.demands) nodes.old.items }
-    ensures shares { HaveSharesOf nodes.old.items nodes.new.items }
-    ensures ordered { IsNonDecreasingBy (λ (r : Reached). r.path.demands) nodes.new.items }
+    ensures { HaveSharesOf nodes.old.items nodes.new.items }
 {
     nodes.dedup_by(|node, last| last.absorbs(*node));
 }
@@ -94,5 +90,6 @@ pub(crate) fn paid_sums(
     let mut nodes = paid_nodes(alloc, game, digits, payoffs)?;
     nodes.sort_unstable_by_key(|node| node.order());
     add_up(&mut nodes);
+    nodes.sort_unstable_by_key(|node| node.path.demands);
     Ok(nodes)
 }

@@ -1,17 +1,32 @@
--- The terms of nodes say what the nodes add.
+-- What nodes add, part by part, and that their terms say it.
 use Rattle.gf_form.proofs.Common.{IsNonDecreasingBy, mul-le-mul_right, unsigned_abs-mul, AreExactAt}
-use Rattle.gf_form.proofs.Common.{sum_of_entries, AllByRecursion, get_or_default, node_terms, arith}
-use Rattle.gf_form.proofs.Common.{map-append, all_images, AreOrdered, AreTermsOf, node_term, get_or}
-use Rattle.gf_form.proofs.Common.{number_at, EndsBelow, dvd_trans, all_parts, IsExactAt, IsShaped}
-use Rattle.gf_form.proofs.Common.{all_both, Reached, ArePaid, zero-*ℤ, entries, length, add-*ℤ, ◌≡◌}
-use Rattle.gf_form.proofs.Common.{Ratio, meets, Entry, Terms, false, subst, take, Game, refl, drop}
-use Rattle.gf_form.proofs.Common.{◌*ℤ◌, Bool, true, List, ◌++◌, pos, suc, ◌+◌, ◌/◌, ◌<◌, ◌≤◌, ◌∷◌}
-use Rattle.gf_form.proofs.Common.{sym, ◌∙◌, ◌∣◌, ◌-◌, [], ap, ℕ}
+use Rattle.gf_form.proofs.Common.{sum_of_entries, AllByRecursion, get_or_default, sum_of_shares, []}
+use Rattle.gf_form.proofs.Common.{node_terms, map-append, all_images, AreOrdered, AreTermsOf, arith}
+use Rattle.gf_form.proofs.Common.{met_bounds, node_term, number_at, EndsBelow, dvd_trans, all_parts}
+use Rattle.gf_form.proofs.Common.{IsExactAt, IsShaped, all_both, Reached, ArePaid, zero-*ℤ, entries}
+use Rattle.gf_form.proofs.Common.{get_or, length, add-*ℤ, Ratio, meets, Entry, Terms, false, subst}
+use Rattle.gf_form.proofs.Common.{take, Game, refl, drop, ◌*ℤ◌, Bool, true, List, ◌++◌, ◌+ℤ◌, ◌≡◌}
+use Rattle.gf_form.proofs.Common.{pos, suc, ◌+◌, ◌/◌, ◌<◌, ◌≤◌, ◌∷◌, sym, ◌∙◌, ◌∣◌, ◌-◌, ap, ℕ}
 use Rattle.std.proofs.Math.Seq.{take-nil}
-use Rattle.gf_form.specs.inner.rows.ListedNodes.{HasShares, IsTermMore, Tells}
-use Rattle.gf_form.proofs.lemmas.rows.Merges.{all_in, below_more, ordered_more}
-use Rattle.gf_form.proofs.lemmas.rows.MergedEntries.{scaled, size_append, sum_append}
-use Rattle.gf_form.proofs.lemmas.rows.NodeTerms.{bounds_append, shares_append}
+use Rattle.gf_form.specs.inner.rows.ListedNodes.{IsTermMore, HasShares, Tells}
+use Rattle.gf_form.proofs.lemmas.rows.Merges.{ordered_more, below_more, all_in}
+use Rattle.gf_form.proofs.lemmas.rows.MergedEntries.{size_append, sum_append, scaled}
+use Rattle.gf_form.proofs.lemmas.rows.FlatRows.{demands_more}
+
+-- ---- the shares of nodes
+
+module _ (g : Game) (player den : ℕ) (steps choices : List ℕ) where
+  pub shares_append : (xs ys : List Reached) → sum_of_shares g player den steps choices (xs ++ ys)
+      ≡ sum_of_shares g player den steps choices xs +ℤ sum_of_shares g player den steps choices ys
+  shares_append xs ys =
+      rw map-append (sum_append den steps choices 1 (node_terms g player xs)
+      (node_terms g player ys))
+
+  pub bounds_append : (xs ys : List Reached) → met_bounds g player den steps choices (xs ++ ys)
+      ≡ met_bounds g player den steps choices xs + met_bounds g player den steps choices ys
+  bounds_append xs ys =
+      rw map-append (size_append den steps choices (node_terms g player xs)
+      (node_terms g player ys))
 
 -- ---- terms with the same demands, over a multiple of their denominator
 
@@ -140,6 +155,9 @@ module _ (rows : List (List Ratio)) (players : ℕ) (rs : List Reached)
       let le = sorted at end d (omega (arith, onward)) there in
       grind (arith, get_or_default)
 
+  grown : new.demands.items ≡ old.demands.items ++ more.term.head.demands ∷ []
+  grown = demands_more old new more.term more.is
+
   pub nodes_listed : IsShaped new → new.players ≡ old.players
       → Listing rows players rs end new
   nodes_listed shaped same = record {
@@ -147,14 +165,14 @@ module _ (rows : List (List Ratio)) (players : ℕ) (rs : List Reached)
         (sym joined)
         (subst (AreTermsOf g players (take at rs ++ group)) (sym more.is)
         (nodes_more g players (take at rs) group (entries old) more.term all_alike
-        (λ above k there. more.says g are above k (omega (arith, there, before.players_are)))
+        (λ above k there. more.says k (omega (arith, there, before.players_are)) above g are)
         (before.told g are)));
-    ordered = ordered_more old.demands.items new.demands.items more.term.head.demands more.grown
+    ordered = ordered_more old.demands.items new.demands.items more.term.head.demands grown
         before.ordered
         (λ d some. let le = before.next no_node less d some in
         omega (arith, le, is, more.demands_are));
     next = λ d there. below_more old.demands.items new.demands.items more.term.head.demands
-        (get_or rs end d).path.demands more.grown (up d there);
+        (get_or rs end d).path.demands grown (up d there);
     shaped = shaped;
     players_are = same ∙ before.players_are;
   }

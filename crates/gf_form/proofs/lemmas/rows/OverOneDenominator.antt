@@ -1,16 +1,16 @@
 -- Fractions with their numerators over one denominator for all: sums and products of them fit if
 -- the numerators are within bounds.
-use Rattle.gf_form.proofs.Common.{◌≡◌, ℕ, ℤ, suc, zero, pos, ◌+◌, ◌*◌, ◌/◌, ◌%◌, ◌^◌, ◌<◌, ◌≤◌}
-use Rattle.gf_form.proofs.Common.{arith, refl, ap, sym, subst, ◌∙◌, Some, ◌*ℤ◌, ◌+ℤ◌, unsigned_abs}
-use Rattle.gf_form.proofs.Common.{◌∣◌, ints, unsigned_abs-mul, div-mul_cancel, dvd-mul_left, mod-lt}
-use Rattle.gf_form.proofs.Common.{pos_of_dvd_of_pos, Ratio, HasValue, IsFraction, IsWithin, IsEqual}
-use Rattle.gf_form.proofs.Common.{plus, times, IsLcm, IsProduct, IsSum, SumFits, scaled_num}
-use Rattle.gf_form.proofs.Common.{product_of, ◌then◌, back, lowest_of-fraction, product_of-some}
-use Rattle.gf_form.proofs.Common.{sum_of-some, *ℤ-cancel_right, *ℤ_assoc, add-*ℤ, mul_pos_right}
-use Rattle.gf_form.proofs.Common.{mul_above, equal_refl, plus_both, IsLcm-from_gcd}
+use Rattle.gf_form.proofs.Common.{lowest_of-fraction, pos_of_dvd_of_pos, unsigned_abs-mul, HasValue}
+use Rattle.gf_form.proofs.Common.{product_of-some, *ℤ-cancel_right, div-mul_cancel, IsLcm-from_gcd}
+use Rattle.gf_form.proofs.Common.{dvd-mul_right, mul_pos_right, unsigned_abs, dvd-mul_left, IsEqual}
+use Rattle.gf_form.proofs.Common.{sum_of-some, IsFraction, scaled_num, product_of, equal_refl, zero}
+use Rattle.gf_form.proofs.Common.{dvd_trans, IsProduct, mul_above, plus_both, IsWithin, *ℤ_assoc, ℕ}
+use Rattle.gf_form.proofs.Common.{SumFits, mod-lt, ◌then◌, add-*ℤ, sum_of, arith, subst, Ratio, ◌≡◌}
+use Rattle.gf_form.proofs.Common.{times, IsLcm, IsSum, refl, Some, ◌*ℤ◌, ◌+ℤ◌, ints, plus, back, ap}
+use Rattle.gf_form.proofs.Common.{suc, pos, ◌+◌, ◌*◌, ◌/◌, ◌%◌, ◌^◌, ◌<◌, ◌≤◌, sym, ◌∙◌, ◌∣◌, ℤ}
 use Rattle.std.specs.Int.{IsGcd}
-use Rattle.std.proofs.lemmas.Nat.Gcd.{IsGcd-from_mod, IsGcd-from_zero, IsGcd-swap, le_of_dvd}
-use Rattle.gf_fraction.specs.Computed.{lowest_of, sum_of}
+use Rattle.std.proofs.lemmas.Nat.Gcd.{IsGcd-from_zero, IsGcd-from_mod, IsGcd-swap, le_of_dvd}
+use Rattle.gf_fraction.specs.Computed.{lowest_of}
 use Rattle.gf_fraction.proofs.ComputedArithmetic.{lowest_of-value}
 use Rattle.gf_fraction.proofs.Divisors.{dvd_of_dvd-mul}
 use Rattle.gf_fraction.proofs.Integers.{*-cancel_right}
@@ -28,13 +28,10 @@ quotient_le d s above h = grind arith
 
 pub quotient_of_product : (d b s : ℕ) → 0 < s → d * b ∣ s → b * (s / (d * b)) ≡ s / d
 quotient_of_product d b s above h =
-    let whole : s / (d * b) * (d * b) ≡ s = div-mul_cancel (d * b) h in
     let some : 0 < d * b = pos_of_dvd_of_pos h above in
-    let part : d ∣ s =
-    subst (λ k. d ∣ k) whole
-    (subst (λ k. d ∣ k) (omega arith) (dvd-mul_left d (s / (d * b) * b))) in
+    let part : d ∣ s = dvd_trans d (dvd-mul_right d b) h in
     *-cancel_right (b * (s / (d * b))) (s / d) d (mul_pos_left d b (d * b) refl some)
-    (omega (arith, whole, div-mul_cancel d part))
+    (omega (arith, div-mul_cancel (d * b) h, div-mul_cancel d part))
 
 -- by way of a multiple
 pub quotient_through : (d m s : ℕ) → 0 < d → d ∣ m → m ∣ s → d ∣ s → s / d ≡ m / d * (s / m)
@@ -75,6 +72,10 @@ over_is x n s above v h =
     *ℤ-cancel_right (x.num *ℤ pos (s / x.den)) n x.den above
     (cc (*ℤ_assoc x.num (pos (s / x.den)) (pos x.den), div-mul_cancel x.den h))
 
+scaled_part : (x : Ratio) (m : ℤ) (d s : ℕ) → 0 < x.den → HasValue x m s → x.den ∣ d → d ∣ s
+    → x.den ∣ s → scaled_num x d *ℤ pos (s / d) ≡ m
+scaled_part x m d s above v xd ds xs = grind (arith, *ℤ_assoc, quotient_through, over_is)
+
 -- over what is left of a denominator after a part of it
 pub own_value : (x : Ratio) (by s : ℕ) → 0 < s → by * x.den ∣ s
     → HasValue x (x.num *ℤ pos (s / (by * x.den))) (s / by)
@@ -97,26 +98,17 @@ module _ (x y : Ratio) (m n : ℤ) (s : ℕ) (hx : IsFraction x) (hy : IsFractio
   fits : SumFits x y
   fits =
       let g = gcd_there (suc y.den) x.den y.den (omega arith) in
-      let some = pos_of_dvd_of_pos g.1.1 hy.den_above_zero in
       let d = x.den * (y.den / g.0) in
-      let lcm : IsLcm x.den y.den d = IsLcm-from_gcd x.den y.den g.0 some g.1 in
+      let lcm : IsLcm x.den y.den d =
+      IsLcm-from_gcd x.den y.den g.0 (pos_of_dvd_of_pos g.1.1 hy.den_above_zero) g.1 in
       let xs = den_divides x m s hx vx in
       let ys = den_divides y n s hy vy in
       let ds : d ∣ s = lcm.least s xs ys in
       let q = s / d in
       let q_above : 0 < q = quotient_above d s above ds in
-      let left : scaled_num x d *ℤ pos q ≡ m =
-      *ℤ_assoc x.num (pos (d / x.den)) (pos q)
-      ∙ ap (λ k. x.num *ℤ pos k)
-      (sym (quotient_through x.den d s hx.den_above_zero lcm.left ds xs))
-      ∙ over_is x m s hx.den_above_zero vx xs in
-      let right : scaled_num y d *ℤ pos q ≡ n =
-      *ℤ_assoc y.num (pos (d / y.den)) (pos q)
-      ∙ ap (λ k. y.num *ℤ pos k)
-      (sym (quotient_through y.den d s hy.den_above_zero lcm.right ds ys))
-      ∙ over_is y n s hy.den_above_zero vy ys in
-      let both : (scaled_num x d +ℤ scaled_num y d) *ℤ pos q ≡ m +ℤ n =
-      add-*ℤ (scaled_num x d) (scaled_num y d) (pos q) ∙ (λ i. left i +ℤ right i) in
+      let left = scaled_part x m d s hx.den_above_zero vx lcm.left ds xs in
+      let right = scaled_part y n d s hy.den_above_zero vy lcm.right ds ys in
+      let both = add-*ℤ (scaled_num x d) (scaled_num y d) (pos q) ∙ (λ i. left i +ℤ right i) in
       record {
         den = d;
         least = lcm;

@@ -1,5 +1,5 @@
 -- The terms of nodes that choices can reach.
-use Rattle.std.specs.Prelude.{◌≡◌, ℕ, ℤ, suc, ◌<◌, ◌≤◌, Bool, List, [], ◌∷◌, ◌++◌, true}
+use Rattle.std.specs.Prelude.{◌≡◌, ℕ, ℤ, suc, ◌<◌, ◌≤◌, List, [], ◌∷◌, ◌++◌}
 use Rattle.std.specs.Prelude.{unsigned_abs}
 use Rattle.gf_fraction.specs.Ratio.{IsWithin, Ratio}
 use Rattle.gf_tree.specs.Game.{Game}
@@ -7,6 +7,7 @@ use Rattle.gf_form.specs.inner.rows.Entries.{AreExactAt, Entry, entries, number_
 use Rattle.gf_form.specs.inner.values.Rows.{ArePaid}
 use Rattle.gf_form.specs.inner.rows.Shares.{AreExactShares, met_bounds, sum_of_shares}
 use Rattle.gf_form.specs.declared.rows.paths.Reached.{Reached}
+use Rattle.gf_form.specs.declared.rows.terms.Scaled.{Scaled}
 use Rattle.gf_form.specs.declared.rows.terms.Terms.{Terms}
 
 -- over this denominator, the shares of these nodes come to this number for the player, by his place
@@ -16,19 +17,18 @@ pub record HasShares (g : Game) (rs : List Reached) (k den size : ℕ) (number :
   pub number_is : number ≡ sum_of_shares g (suc k) den [] [] rs
   pub bound : met_bounds g (suc k) den [] [] rs ≤ size
 
--- the same for a number in bounds, if it is known to fit
-abbrev pub IsShareAt : List (List Ratio) → List Reached → ℕ → ℕ → Bool → ℕ → ℤ → Type 0
-IsShareAt rows rs den size fits k number = IsWithin number
-    × (fits ≡ true → (g : Game) → ArePaid g rows → HasShares g rs k den size number)
+-- the same for a number in bounds, if the denominator is known to serve
+abbrev pub IsShareAt : List (List Ratio) → List Reached → Scaled → ℕ → ℤ → Type 0
+IsShareAt rows rs over k number = IsWithin number
+    × (0 < over.den → (g : Game) → ArePaid g rows → HasShares g rs k over.den over.size number)
 
 -- one more term, which has these demands, and says what these nodes add if it is known to fit
 pub record IsTermMore (rows : List (List Ratio)) (demands : ℕ) (rs : List Reached) (old new : Terms)
     : Type 0 where
   pub term : Entry
   pub is : entries new ≡ entries old ++ term ∷ []
-  pub grown : new.demands.items ≡ old.demands.items ++ term.head.demands ∷ []
   pub demands_are : term.head.demands ≡ demands
-  pub says : (g : Game) → ArePaid g rows → 0 < term.head.den → (k : ℕ) → k < old.players
+  pub says : (k : ℕ) → k < old.players → 0 < term.head.den → (g : Game) → ArePaid g rows
       → HasShares g rs k term.head.den term.head.size (number_at (suc k) term)
 
 -- over this denominator and at these choices, the terms come to the shares of a player, by his

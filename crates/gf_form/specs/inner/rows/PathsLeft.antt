@@ -6,13 +6,12 @@ use Rattle.gf_tree.specs.Branches.{game_of, tree_of}
 use Rattle.gf_tree.specs.BranchesLeft.{branches_given, branches_left, game_of_branches}
 use Rattle.gf_tree.specs.Description.{SetKey}
 use Rattle.gf_tree.specs.Game.{Game, Node}
-use Rattle.gf_tree.specs.Subtrees.{child_trees}
 use Rattle.gf_tree.specs.Tree.{Tree}
 use Rattle.gf_tree.specs.Tree.Tree.{branch}
 use Rattle.gf_tree.specs.declared.game.branch.Branch.{Branch}
-use Rattle.gf_form.specs.inner.values.ValueLeft.{branch_chances}
-use Rattle.gf_form.specs.inner.rows.ReachedNodes.{below_set, by_choice, demanded, drawn}
-use Rattle.gf_form.specs.inner.rows.ReachedNodes.{over_set, reached}
+use Rattle.gf_form.specs.inner.values.ValueLeft.{branch_chances, trees_of}
+use Rattle.gf_form.specs.inner.rows.ReachedNodes.{below_set, by_choice, by_each, drawn, over_set}
+use Rattle.gf_form.specs.inner.rows.ReachedNodes.{reached}
 use Rattle.gf_form.specs.Strategies.{choices_by}
 use Rattle.gf_form.specs.declared.rows.paths.Open.{Open}
 use Rattle.gf_form.specs.declared.rows.paths.Open.TheVariants.{Chance, Choice}
@@ -28,39 +27,25 @@ branch_nodes all path b = reached (game_of b) (choices_by (game_of b) all) path 
 abbrev pub nodes_beneath : Game → (SetKey → ℕ) → Path → Tree Node → List Reached
 nodes_beneath g steps path (branch n ts) = over_set n.set (below_set g steps path n ts)
 
--- those of these children, by the path to each; the first one has position k
-abbrev pub each_nodes : Game → (SetKey → ℕ) → (ℕ → Path) → ℕ → List (Tree Node) → List Reached
-each_nodes g steps paths k [] = []
-each_nodes g steps paths k (t ∷ ts) =
-    reached g steps (paths k) t ++ each_nodes g steps paths (k + 1) ts
-
 -- those of this tree, if there is one
 abbrev pub option_nodes : Game → (SetKey → ℕ) → Path → Option (Tree Node) → List Reached
 option_nodes g steps path None = []
 option_nodes g steps path (Some t) = reached g steps path t
 
--- the action that is taken at a set with this many actions whose digit has this step; 0 if any
--- action will do
-abbrev pub taken : Path → ℕ → ℕ → ℕ
-taken path step actions = if step == 0 then 1 else demanded path.demands step actions
-
--- the nodes below a player's node, if this action is taken
-abbrev pub nodes_by : List (List ℕ) → Branch → Path → ℕ → ℕ → List Reached
-nodes_by all b path step action =
-    if action == 0
-    then each_nodes (game_of b) (choices_by (game_of b) all) (by_choice path step) 1
-    (child_trees (tree_of b))
-    else option_nodes (game_of b) (choices_by (game_of b) all) path
-    (at_position (child_trees (tree_of b)) action)
+-- those below a player's node with these children, if this action is taken, or any if it is 0
+abbrev pub nodes_by : Game → (SetKey → ℕ) → Path → ℕ → ℕ → List (Tree Node) → List Reached
+nodes_by g steps path step action ts =
+    if action == 0 then by_each g steps (by_choice path step) 1 (trees_of ts)
+    else option_nodes g steps path (at_position ts action)
 
 -- those below the children that are left at an open node
 abbrev pub open_nodes : List (List ℕ) → Open → List Reached
 open_nodes all (Chance node rest path) =
-    each_nodes (game_of_branches rest) (choices_by (game_of_branches rest) all)
-    (drawn path (branch_chances node)) (branches_given rest + 1) (branches_left rest)
+    by_each (game_of_branches rest) (choices_by (game_of_branches rest) all)
+    (drawn path (branch_chances node)) (branches_given rest + 1) (trees_of (branches_left rest))
 open_nodes all (Choice rest path step) =
-    each_nodes (game_of_branches rest) (choices_by (game_of_branches rest) all)
-    (by_choice path step) (branches_given rest + 1) (branches_left rest)
+    by_each (game_of_branches rest) (choices_by (game_of_branches rest) all)
+    (by_choice path step) (branches_given rest + 1) (trees_of (branches_left rest))
 
 -- among the open nodes, the last one comes first
 abbrev pub below : List (List ℕ) → List Open → List Reached → List Reached

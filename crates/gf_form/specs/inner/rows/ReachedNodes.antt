@@ -47,6 +47,11 @@ by_choice path step position = record {
 abbrev pub demanded : ℕ → ℕ → ℕ → ℕ
 demanded demands step actions = demands / step % (actions + 1)
 
+-- the action that is taken at a set with this many actions whose digit has this step; 0 if any
+-- will do
+abbrev pub taken : Path → ℕ → ℕ → ℕ
+taken path step actions = if step == 0 then 1 else demanded path.demands step actions
+
 -- the path on which nobody has chosen
 abbrev pub root_path : Path
 root_path = record { weight = 1; bound = 1; den = 1; demands = 0 }
@@ -63,26 +68,25 @@ is_sum g n = is_sum_at (paid_at_node g n) n.set
 abbrev pub is_idle : Path → Bool
 is_idle path = path.bound == 0
 
--- whether a path starts anew at a node
-abbrev pub starts_anew : Game → Path → Node → Bool
-starts_anew g path n = is_idle path && is_sum g n
+-- the node at the end of a path that is idle or is not, and at which something is added or is not
+abbrev pub met_if : Bool → Bool → Path → ℕ → Reached
+met_if idle adds path own = record {
+  path = record {
+    weight = path.weight;
+    bound = if idle && adds then 1 else path.bound;
+    den = if idle && adds then 1 else path.den;
+    demands = path.demands;
+  };
+  outcome = if idle then (if adds then own else 0) else own;
+}
+
+-- the node at the end of a path, which starts anew there if it is idle and something is added
+abbrev pub met_node : Game → Path → Node → Reached
+met_node g path n = met_if (is_idle path) (is_sum g n) path (paid_at_node g n)
 
 -- a path from its last node on
 abbrev pub onward : Game → Path → Node → Path
-onward g path n = record {
-  weight = path.weight;
-  bound = if starts_anew g path n then 1 else path.bound;
-  den = if starts_anew g path n then 1 else path.den;
-  demands = path.demands;
-}
-
--- the node at the end of a path
-abbrev pub met_node : Game → Path → Node → Reached
-met_node g path n = record {
-  path = onward g path n;
-  outcome =
-      if is_idle path then (if is_sum g n then paid_at_node g n else 0) else paid_at_node g n;
-}
+onward g path n = (met_node g path n).path
 
 abbrev pub over_set : Option SetKey → (SetKey → List Reached) → List Reached
 over_set None below = []
@@ -99,10 +103,9 @@ abbrev mutual
       met_node g path n ∷ over_set n.set
       (λ key. if key.player == 0
       then by_each g steps (drawn (onward g path n) (chances_at g n)) 1 ts
-      else if steps key == 0 then by_action g steps (onward g path n) 1 ts
-      else if demanded path.demands (steps key) (count ts) == 0
+      else if taken path (steps key) (count ts) == 0
       then by_each g steps (by_choice (onward g path n) (steps key)) 1 ts
-      else by_action g steps (onward g path n) (demanded path.demands (steps key) (count ts)) ts)
+      else by_action g steps (onward g path n) (taken path (steps key) (count ts)) ts)
 
   -- below these children, by the path to each; the first one has position k
   pub by_each : Game → (SetKey → ℕ) → (ℕ → Path) → ℕ → Trees Node → List Reached
@@ -118,11 +121,15 @@ abbrev mutual
   by_action g steps path (suc (suc position)) (more t ts) =
       by_action g steps path (suc position) ts
 
+-- those below a player's node with these children, whose set has a digit with this step, if this
+-- action is taken, or any if it is 0
+abbrev pub by_taken : Game → (SetKey → ℕ) → Path → ℕ → ℕ → Trees Node → List Reached
+by_taken g steps path step action ts =
+    if action == 0 then by_each g steps (by_choice path step) 1 ts
+    else by_action g steps path action ts
+
 -- those below a node of this set, where the path goes on so
 abbrev pub below_set : Game → (SetKey → ℕ) → Path → Node → Trees Node → SetKey → List Reached
 below_set g steps path n ts key =
     if key.player == 0 then by_each g steps (drawn path (chances_at g n)) 1 ts
-    else if steps key == 0 then by_action g steps path 1 ts
-    else if demanded path.demands (steps key) (count ts) == 0
-    then by_each g steps (by_choice path (steps key)) 1 ts
-    else by_action g steps path (demanded path.demands (steps key) (count ts)) ts
+    else by_taken g steps path (steps key) (taken path (steps key) (count ts)) ts

@@ -1,13 +1,9 @@
 -- Nodes that differ in weight alone, added up.
-use Rattle.std.specs.Prelude.{◌≡◌, ℕ, ◌+◌, ◌*◌, ◌%◌, ◌^◌, List}
+use Rattle.std.specs.Prelude.{◌≡◌, ℕ, ◌+◌, List}
 use Rattle.gf_tree.specs.Game.{Game}
 use Rattle.gf_form.specs.inner.rows.Entries.{ComeAsWell}
 use Rattle.gf_form.specs.inner.rows.Shares.{node_terms}
 use Rattle.gf_form.specs.declared.rows.paths.Reached.{Reached}
-
--- orders nodes by demands
-abbrev pub order_of : Reached → ℕ
-order_of r = (r.path.demands * 2 ^ 32 + r.outcome % 2 ^ 32) * 2 ^ 32 + r.path.den % 2 ^ 32
 
 -- the same node with another weight
 abbrev pub weighing : Reached → ℕ → ℕ → Reached

@@ -1,11 +1,27 @@
-use Rattle.gf_form.proofs.Common.{◌≡◌, ◌∙◌, ◌+ℤ◌, ◌*ℤ◌, List, arith, length, pos, subst, sym, take}
-use Rattle.gf_form.proofs.Common.{take-length, take_more, *ℤ-one, Ratio, Reached, rows_of, term_of}
+use Rattle.gf_form.proofs.Common.{take-length, node_terms, map-append, take_more, IsExactAt, length}
+use Rattle.gf_form.proofs.Common.{node_term, at_place, all_both, Reached, rows_of, term_of, ArePaid}
+use Rattle.gf_form.proofs.Common.{*ℤ-one, row_at, arith, subst, Ratio, ◌+ℤ◌, ◌*ℤ◌, List, take, Game}
+use Rattle.gf_form.proofs.Common.{◌++◌, ◌≡◌, ◌∙◌, pos, sym, ◌∷◌, suc, ◌+◌, [], ℕ, ℤ}
 use Rattle.gf_form.specs.inner.rows.ListedNodes.{HasShares}
 use Rattle.gf_form.specs.inner.rows.Shares.{IsShare}
 use Rattle.gf_form.proofs.lemmas.rows.ItemRows.{in_bits}
-use Rattle.gf_form.proofs.lemmas.rows.ListedEntries.{no_node, node_at}
-use Rattle.gf_form.proofs.lemmas.rows.NodeTerms.{one_share_more}
+use Rattle.gf_form.proofs.lemmas.rows.ListedEntries.{shares_append, bounds_append, no_node, node_at}
+use Rattle.gf_form.specs.declared.rows.share.Share.{Share}
 use Rattle.gf_form.proofs.rows.listed.shares_of.Goals as goal
+
+module _ (g : Game) (rows : List (List Ratio)) (are : ArePaid g rows) (k den : ℕ) where
+  one_share_more : (rs : List Reached) (r : Reached) (bound next : ℕ) (amount total : ℤ)
+      (s : Share) → IsShare (term_of r.path (at_place (row_at rows r.outcome) k)) den s
+      → total ≡ amount +ℤ s.amount → next ≡ bound + s.bound
+      → HasShares g rs k den bound amount → HasShares g (rs ++ r ∷ []) k den next total
+  one_share_more rs r bound next amount total s is total_is next_is before =
+      let own = subst (λ (pay : Ratio). IsShare (term_of r.path pay) den s)
+      (are.paid_is r.outcome k) is in record {
+        exact = rw map-append (all_both (IsExactAt den [] []) (node_terms g (suc k) rs)
+            (node_term g (suc k) r ∷ []) before.exact (own.exact, tt));
+        number_is = grind (arith, shares_append);
+        bound = grind (arith, bounds_append);
+      }
 
 pub loop-node-preserved : goal.loop-node-preserved
 loop-node-preserved c =

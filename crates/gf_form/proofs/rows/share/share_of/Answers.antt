@@ -1,9 +1,38 @@
-use Rattle.gf_form.proofs.Common.{fits_signed_from_abs, unsigned_abs, to_z-of_z, arith, subst, ◌*ℤ◌}
-use Rattle.gf_form.proofs.Common.{ints, of_z, refl, to_z, w128, ◌≡◌, ◌∙◌, ◌*◌, pos, sym, ap, ℕ, ℤ}
+use Rattle.gf_form.proofs.Common.{fits_signed_from_abs, unsigned_abs-mul, unsigned_abs, to_z-of_z}
+use Rattle.gf_form.proofs.Common.{mul_assoc, *ℤ_assoc, term_of, *ℤ-zero, one-dvd, zero-*ℤ, ne_eqb}
+use Rattle.gf_form.proofs.Common.{arith, subst, Ratio, ◌*ℤ◌, ints, of_z, refl, to_z, w128, Path, ap}
+use Rattle.gf_form.proofs.Common.{◌≡◌, ◌∙◌, ◌*◌, pos, sym, ◌/◌, ℕ, ℤ}
 use Rattle.std.proofs.Common.{FitsSigned}
 use Rattle.gf_form.specs.inner.rows.Entries.{IsFactor}
-use Rattle.gf_form.proofs.lemmas.rows.NodeTerms.{own_share, zero_share}
+use Rattle.gf_form.specs.inner.rows.Shares.{IsShare}
+use Rattle.gf_form.specs.declared.rows.share.Share.{Share}
 use Rattle.gf_form.proofs.rows.share.share_of.Goals as goal
+
+-- nothing is added to a payoff of zero
+zero_share : (path : Path) (pay : Ratio) (den : ℕ) (s : Share) → pay.num ≡ pos 0
+    → s.amount ≡ pos 0 → s.bound ≡ 0 → IsShare (term_of path pay) den s
+zero_share path pay den s nothing amount_is bound_is =
+    rw nothing (record {
+      exact = λ _. (omega arith, one-dvd den);
+      amount_is = amount_is ∙ sym (cc (*ℤ-zero (pos path.weight), zero-*ℤ (pos (den / 1))));
+      bound_is = bound_is ∙ omega arith;
+    })
+
+own_share : (path : Path) (pay : Ratio) (den factor : ℕ) (s : Share)
+    → ¬ (unsigned_abs pay.num ≡ 0) → IsFactor (path.den * pay.den) den factor
+    → s.amount ≡ pos path.weight *ℤ (pay.num *ℤ pos factor)
+    → s.bound ≡ path.bound * unsigned_abs (pay.num *ℤ pos factor)
+    → IsShare (term_of path pay) den s
+own_share path pay den factor s some is amount_is bound_is =
+    rw (ne_eqb (unsigned_abs pay.num) 0 some) (record {
+      exact = λ _. (is.above, is.divides);
+      amount_is = cc (*ℤ_assoc (pos path.weight) pay.num (pos factor), is.factor_is);
+      bound_is = cc (
+        unsigned_abs-mul pay.num (pos factor),
+        mul_assoc path.bound (unsigned_abs pay.num) factor,
+        is.factor_is,
+      );
+    })
 
 -- what fits 128 bits is kept
 
