@@ -90,6 +90,8 @@ pub(crate) fn paid_sums(
     let mut nodes = paid_nodes(alloc, game, digits, payoffs)?;
     nodes.sort_unstable_by_key(|node| node.order());
     add_up(&mut nodes);
+
+    // They are still in order, so this takes one pass.
     nodes.sort_unstable_by_key(|node| node.path.demands);
     Ok(nodes)
 }

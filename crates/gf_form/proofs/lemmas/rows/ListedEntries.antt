@@ -59,9 +59,6 @@ nodes_told : (g : Game) (k den : ℕ) (steps choices : List ℕ) (rs : List Reac
 nodes_told g k den steps choices rs e alike says exact =
     by (meets steps choices e.head.demands) refl
   where
-    m : ℕ
-    m = e.head.den
-
     es : List Entry
     es = node_terms g (suc k) rs
 
@@ -74,16 +71,12 @@ nodes_told g k den steps choices rs e alike says exact =
     by true met =
         let at = exact met in
         let h = says at.0 in
-        let n = all_met den steps choices e.head.demands m at.0 at.1 met es same h.exact in
-        let most = mul-le-mul_right (den / m) h.bound in
-        record {
-          exact = n.0;
-          sums = grind (arith, h.number_is, n.1);
-          bounds = grind (arith, n.1, unsigned_abs-mul);
-        }
+        let n = all_met den steps choices e.head.demands e.head.den at.0 at.1 met es same h.exact in
+        let most = mul-le-mul_right (den / e.head.den) h.bound in
+        grind (arith, h.number_is, n.1, unsigned_abs-mul)
     by false unmet =
         let n = all_unmet den steps choices e.head.demands unmet es same in
-        record { exact = n.0; sums = rw unmet (n.1 1); bounds = rw (unmet, n.1 0) (omega arith) }
+        grind (arith, n.1)
 
 -- ---- lists of them
 
@@ -96,12 +89,10 @@ nodes_more g players rs group es e alike says before k less den steps choices ex
     let both = all_parts (IsExactAt den steps choices) es (e ∷ []) exact in
     let told = before k less den steps choices both.0 in
     let here = nodes_told g k den steps choices group e alike (λ above. says above k less)
-    both.1.0 in record {
-      exact = rw map-append (all_both (IsExactAt den steps choices) (node_terms g (suc k) rs)
-          (node_terms g (suc k) group) told.exact here.exact);
-      sums = grind (arith, shares_append, sum_append);
-      bounds = grind (arith, bounds_append, size_append);
-    }
+    both.1.0 in
+    let all = all_both (IsExactAt den steps choices) (node_terms g (suc k) rs)
+    (node_terms g (suc k) group) told.exact here.exact in
+    grind (arith, shares_append, sum_append, bounds_append, size_append, map-append)
 
 -- what the code reads at a place
 abbrev pub no_node : Reached

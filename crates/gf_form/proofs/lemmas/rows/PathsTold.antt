@@ -1,10 +1,9 @@
 -- The nodes that choices can reach, given by a walk through branches.
-use Rattle.gf_form.proofs.Common.{false_from_ne_true, append_assoc, at_position, child_trees, arith}
-use Rattle.gf_form.proofs.Common.{choices_by, chances_at, root_node, by_action, by_choice, eqb-true}
-use Rattle.gf_form.proofs.Common.{over_set, reached, Reached, list_of, by_each, eq-eqb, branch, ◌≡◌}
-use Rattle.gf_form.proofs.Common.{SetKey, length, Option, Trees, count, drawn, none, more, Game, []}
-use Rattle.gf_form.proofs.Common.{Node, Path, List, ◌++◌, Some, None, refl, Tree, ◌+◌, ◌∷◌, sym, ap}
-use Rattle.gf_form.proofs.Common.{suc, ℕ}
+use Rattle.gf_form.proofs.Common.{append_assoc, at_position, child_trees, choices_by, chances_at, ℕ}
+use Rattle.gf_form.proofs.Common.{root_node, by_action, by_choice, reached, Reached, list_of, arith}
+use Rattle.gf_form.proofs.Common.{by_each, eq-eqb, branch, SetKey, length, Option, Trees, count, []}
+use Rattle.gf_form.proofs.Common.{drawn, none, more, Game, Node, Path, List, ◌++◌, Some, None, refl}
+use Rattle.gf_form.proofs.Common.{Tree, ◌≡◌, ◌+◌, ◌∷◌, sym, suc, ap}
 use Rattle.gf_form.proofs.lemmas.values.Walks.{trees_of_list, choice_is}
 use Rattle.gf_tree.specs.declared.game.branch.Branch.{Branch}
 use Rattle.gf_form.specs.inner.rows.PathsLeft.{nodes_beneath, option_nodes, next_nodes, open_nodes}
@@ -26,28 +25,17 @@ module _ (g : Game) (steps : SetKey → ℕ) (path : Path) where
   action_list (more t ts) (suc (suc position)) = action_list ts (suc position)
   action_list ts position = grind arith
 
-  over_some : (o : Option SetKey) (nodes : SetKey → List Reached) (key : SetKey) → o ≡ Some key
-      → over_set o nodes ≡ nodes key
-  over_some o nodes key is = grind arith
-
   pub lot_beneath : (t : Tree Node) (key : SetKey) → (root_node t).set ≡ Some key → key.player ≡ 0
       → nodes_beneath g steps path t
       ≡ by_each g steps (drawn path (chances_at g (root_node t))) 1 (trees_of (child_trees t))
-  lot_beneath (branch n ts) key is chance = grind (arith, over_some, eq-eqb, trees_of_list)
+  lot_beneath (branch n ts) key is chance = grind (arith, eq-eqb, trees_of_list)
 
   pub choice_beneath : (t : Tree Node) (key : SetKey) (step : ℕ) → (root_node t).set ≡ Some key
       → ¬ (key.player ≡ 0) → steps key ≡ step
       → nodes_beneath g steps path t
       ≡ nodes_by g steps path step (taken path step (length (child_trees t))) (child_trees t)
-  choice_beneath (branch n ts) key step is personal here = grind (
-    arith,
-    over_some,
-    false_from_ne_true,
-    eqb-true,
-    trees_of_list,
-    length-list_of,
-    action_list,
-  )
+  choice_beneath (branch n ts) key step is personal here =
+      grind (arith, is, trees_of_list, length-list_of, action_list)
 
 -- ---- what is open
 

@@ -2,13 +2,13 @@
 use Rattle.gf_form.proofs.Common.{AllByRecursion, InformationSet, if◌then◌else◌, sum_of_shares, ◌≡◌}
 use Rattle.gf_form.proofs.Common.{paid_at_node, chance_value, append_assoc, flatten_all, IsFraction}
 use Rattle.gf_form.proofs.Common.{HasChildren, IsSpellable, child_value, MatchOption, zero_ratio, ℕ}
-use Rattle.gf_form.proofs.Common.{chances_at, value_over, option_map, append-nil, is_sum_at, pay_at}
+use Rattle.gf_form.proofs.Common.{chances_at, value_over, option_map, append-nil, is_sum_at, Option}
 use Rattle.gf_form.proofs.Common.{root_path, AreDigits, eqb-false, by_chance, all_parts, payoff_at}
 use Rattle.gf_form.proofs.Common.{eqb-true, HasValue, steps_of, over_set, Reached, flatten, reached}
-use Rattle.gf_form.proofs.Common.{Option, length, branch, SetKey, IsGame, set_at, FitsAt, drawn, []}
-use Rattle.gf_form.proofs.Common.{value, false, subst, arith, Ratio, Trees, count, zero, Bool, true}
-use Rattle.gf_form.proofs.Common.{List, ◌++◌, Some, None, refl, ◌==◌, Tree, none, more, Game, Node}
-use Rattle.gf_form.proofs.Common.{Path, suc, ◌+◌, ◌/◌, ◌≤◌, ◌∷◌, sym}
+use Rattle.gf_form.proofs.Common.{length, branch, SetKey, IsGame, set_at, FitsAt, drawn, value, suc}
+use Rattle.gf_form.proofs.Common.{false, subst, arith, Ratio, Trees, count, zero, Bool, true, List}
+use Rattle.gf_form.proofs.Common.{◌++◌, Some, None, refl, ◌==◌, Tree, none, more, Game, Node, Path}
+use Rattle.gf_form.proofs.Common.{◌+◌, ◌/◌, ◌≤◌, ◌∷◌, sym, []}
 use Rattle.gf_form.specs.inner.rows.FollowedNodes.{below_followed, all_followed, one_followed}
 use Rattle.gf_form.specs.inner.rows.FollowedNodes.{met_nodes, followed}
 use Rattle.gf_form.specs.inner.rows.ReachedNodes.{met_if, is_sum}
@@ -17,9 +17,9 @@ use Rattle.gf_form.proofs.lemmas.values.Denominators.{chance_size}
 use Rattle.gf_form.proofs.lemmas.rows.DemandDigits.{none_within, no_demands, none_pack, none_met}
 use Rattle.gf_form.proofs.lemmas.values.PaidRows.{paid_is}
 use Rattle.gf_form.proofs.lemmas.rows.UnmetShares.{set_there, tree_kept, met_fits, met_sum}
-use Rattle.gf_form.proofs.lemmas.rows.ValuedNodes.{nothing_valued, times_valued, leaf_valued}
-use Rattle.gf_form.proofs.lemmas.rows.ValuedNodes.{fits_parts, sum_valued, idle_leaf, idle_move}
-use Rattle.gf_form.proofs.lemmas.rows.ValuedNodes.{IsValued}
+use Rattle.gf_form.proofs.lemmas.values.ValuesComputed.{zero_fraction}
+use Rattle.gf_form.proofs.lemmas.rows.ValuedNodes.{times_valued, zero_valued, none_shared, IsValued}
+use Rattle.gf_form.proofs.lemmas.rows.ValuedNodes.{leaf_valued, fits_parts, sum_valued, idle_move}
 
 -- if nothing is added there, a player moves, and there is no outcome
 unpaid_move : (key : SetKey) (own : ℕ) → is_sum_at own (Some key) ≡ false
@@ -50,24 +50,15 @@ module _ (g : Game) (game : IsGame g) (spellable : IsSpellable g) (choose : SetK
       → IfFits (value_over (payoff_at g player n) o (value_below n ts)) path
       (record { path = path; outcome = paid_at_node g n } ∷ over_set o
       (below_followed g choose n ts path))
-  awake_valued n ts path some below o at =
-      rw (← paid_is g player n) (by o at)
-    where
-      own : Reached
-      own = record { path = path; outcome = paid_at_node g n }
-
-      own_pays : IsFraction (pay_at g player own)
-      own_pays = subst IsFraction (sym (paid_is g player n)) (payoff_fraction g spellable player n)
-
-      by : (o : Option SetKey) → n.set ≡ o
-          → IfFits (value_over (pay_at g player own) o (value_below n ts)) path
-          (own ∷ over_set o (below_followed g choose n ts path))
-      by None at fits = leaf_valued _ _ _ own own_pays fits
-      by (Some key) at fits =
-          let rs = below_followed g choose n ts path key in
-          let both = fits_parts _ _ _ (own ∷ []) rs fits in
-          sum_valued _ _ _ (own ∷ []) rs some fits (leaf_valued _ _ _ own own_pays both.0)
-          (below path key at (λ _. some) both.1)
+  awake_valued n ts path some below None at fits =
+      leaf_valued _ _ _ _ (paid_is g player n) (payoff_fraction g spellable player n) fits
+  awake_valued n ts path some below (Some key) at fits =
+      let own : Reached = record { path = path; outcome = paid_at_node g n } in
+      let rs = below_followed g choose n ts path key in
+      let both = fits_parts _ _ _ (own ∷ []) rs fits in
+      sum_valued _ _ _ (own ∷ []) rs some fits
+      (leaf_valued _ _ _ own (paid_is g player n) (payoff_fraction g spellable player n) both.0)
+      (below path key at (λ _. some) both.1)
 
   node_valued : (n : Node) (ts : Trees Node) (path : Path) → Below n ts
       → (o : Option SetKey) → n.set ≡ o → (idle : Bool) → (path.bound == 0) ≡ idle
@@ -80,8 +71,10 @@ module _ (g : Game) (game : IsGame g) (spellable : IsSpellable g) (choose : SetK
       awake_valued n ts path (omega (arith, above)) below o at
   node_valued n ts path below None at true idle true is = absurd cc
   node_valued n ts path below None at true idle false is = λ fits.
-      idle_leaf _ _ _ (met_if true false path (paid_at_node g n)) refl (eqb-true path.bound 0 idle)
-      (payoff_fraction g spellable player n)
+      let unbound = eqb-true path.bound 0 idle in
+      let own = met_if true false path (paid_at_node g n) in
+      zero_valued _ _ _ own.path (own ∷ []) (payoff_fraction g spellable player n)
+      (λ some. absurd (omega (arith, some, unbound))) (none_shared g player den own refl [])
   node_valued n ts path below (Some key) at true idle true is = λ fits.
       let unbound = eqb-true path.bound 0 idle in
       let on = awake_valued n ts (met_if true true path 0).path (omega arith) below (Some key) at fits
@@ -117,7 +110,7 @@ module _ (g : Game) (game : IsGame g) (spellable : IsSpellable g) (choose : SetK
         node_valued n ts path
         (λ p key at some. either p (key.player == 0) key.player refl
         (λ chance fits. lot_valued ts n key 1 p [] at chance children.1 (some chance)
-        (nothing_valued _ _ _ p) fits)
+        (zero_valued _ _ _ p [] zero_fraction (λ _. refl) refl) fits)
         (λ personal. let there = chosen n ts key at personal children.0 in
         action_valued ts (choose key) p there.0 there.1 children.1))
         n.set refl (path.bound == 0) refl (is_sum g n) refl
@@ -148,13 +141,12 @@ module _ (g : Game) (game : IsGame g) (spellable : IsSpellable g) (choose : SetK
     action_valued : (ts : Trees Node) (position : ℕ) (path : Path) → 1 ≤ position
         → position ≤ count ts → AllByRecursion (HasChildren g) (flatten_all ts)
         → IfFits (child_value g choose player position ts) path (one_followed g choose path position ts)
-    action_valued none position path some within children = absurd (omega arith)
-    action_valued (more t ts) zero path some within children = absurd (omega arith)
     action_valued (more t ts) (suc zero) path some within children =
         valued t path (all_parts (HasChildren g) (flatten t) (flatten_all ts) children).0
     action_valued (more t ts) (suc (suc position)) path some within children =
         action_valued ts (suc position) path (omega arith) (omega (arith, within))
         (all_parts (HasChildren g) (flatten t) (flatten_all ts) children).1
+    action_valued ts position path some within children = grind arith
 
 -- the player counts from 1
 pub reached_value : (g : Game) → IsGame g → IsSpellable g → (steps choose : SetKey → ℕ)

@@ -1,5 +1,5 @@
--- The digits of the sets along a path, and the nodes below it whose demands choices meet: those that
--- the choices reach, if they meet the digits.
+-- The digits of the sets along a path, and the nodes below it whose demands choices meet: those
+-- that the choices reach, if they meet the digits.
 use Rattle.gf_form.proofs.Common.{AllByRecursion, InformationSet, sum_of_entries, if◌then◌else◌, []}
 use Rattle.gf_form.proofs.Common.{mod-eq_of_lt, MatchOption, flatten_all, HasChildren, option_map}
 use Rattle.gf_form.proofs.Common.{chances_at, append-nil, node_terms, AreExactAt, eqb-false, ne_eqb}

@@ -6,9 +6,9 @@ use Rattle.gf_form.proofs.Common.{met_bounds, node_terms, map-append, IsExactAt,
 use Rattle.gf_form.proofs.Common.{node_term, all_parts, by_chance, eqb-false, mul_above, HasValue}
 use Rattle.gf_form.proofs.Common.{IsWithin, *ℤ_assoc, times_of, dvd_refl, eqb-true, plus_of, pay_at}
 use Rattle.gf_form.proofs.Common.{Reached, *ℤ_comm, *ℤ-zero, +ℤ_idl, add-*ℤ, Option, FitsAt, sum_of}
-use Rattle.gf_form.proofs.Common.{arith, Ratio, false, Some, refl, ◌+ℤ◌, Path, ◌*ℤ◌, ◌==◌, Game, []}
-use Rattle.gf_form.proofs.Common.{ints, Bool, true, List, ◌++◌, ◌≡◌, ◌⊎◌, inl, inr, pos, ◌+◌, ◌*◌}
-use Rattle.gf_form.proofs.Common.{◌/◌, ◌^◌, ◌<◌, ◌≤◌, ◌∷◌, sym, ◌∙◌, ◌∣◌, ap, ℕ, ℤ}
+use Rattle.gf_form.proofs.Common.{subst, arith, Ratio, false, Some, refl, ◌+ℤ◌, Path, ◌*ℤ◌, ◌==◌, ℕ}
+use Rattle.gf_form.proofs.Common.{Game, ints, Bool, true, List, ◌++◌, ◌≡◌, ◌⊎◌, inl, inr, pos, ◌+◌}
+use Rattle.gf_form.proofs.Common.{◌*◌, ◌/◌, ◌^◌, ◌<◌, ◌≤◌, ◌∷◌, sym, ◌∙◌, ◌∣◌, [], ap, ℤ}
 use Rattle.std.proofs.lemmas.Nat.Gcd.{le_of_dvd, dvd-zero}
 use Rattle.std.proofs.Math.IntN.{+ℤ_comm}
 use Rattle.std.proofs.Math.Nat.{eq-zero_of_zero-dvd, le-mul_of_pos_right}
@@ -37,13 +37,6 @@ within_part z b limit some le h =
 
 sum_below : (x y : ℤ) (b : ℕ) → unsigned_abs (x +ℤ y) * b ≤ unsigned_abs x * b + unsigned_abs y * b
 sum_below x y b = omega (arith, mul-le-mul_right b (sum_size x y))
-
--- a share of chance, in size
-chance_below : (a b : ℕ) (x : ℤ) → unsigned_abs (pos a *ℤ x) * b ≤ unsigned_abs x * (b * a)
-chance_below a b x =
-    let size : unsigned_abs (pos a *ℤ x) ≡ a * unsigned_abs x = unsigned_abs-mul (pos a) x in
-    let times = ap (λ k. k * b) size in
-    omega (arith, times)
 
 -- a payoff with a bound, in size
 own_below : (n : ℤ) (b q : ℕ)
@@ -116,19 +109,20 @@ module _ (g : Game) (player den : ℕ) where
 
   pub fits_parts : (xs ys : List Reached) → Fits (xs ++ ys) → Fits xs × Fits ys
   fits_parts xs ys fits =
-      let lists = bounds_append g player den [] [] xs ys in
       let exacts = all_parts (IsExactAt den [] []) (node_terms g player xs) (node_terms g player ys)
       (rw map-append at fits.exact) in
-      grind arith
+      grind (arith, bounds_append)
 
-  pub nothing_valued : (path : Path) → IsValued (Some zero_ratio) path []
-  nothing_valued path = record {
-    ratio = zero_ratio;
+  -- where nothing is added, the value counts for nothing, or is zero
+  pub zero_valued : {pay : Ratio} (path : Path) (rs : List Reached) → IsFraction pay
+      → (1 ≤ path.bound → pay ≡ zero_ratio) → shares rs ≡ pos 0 → IsValued (Some pay) path rs
+  zero_valued {pay} path rs f zero nothing = record {
+    ratio = pay;
     value_is = refl;
-    fraction = zero_fraction;
+    fraction = f;
     amount = pos 0;
-    amount_is = λ some. inr (refl, refl);
-    shares_are = sym (*ℤ-zero (pos path.weight));
+    amount_is = λ some. inr (zero some, refl);
+    shares_are = nothing ∙ sym (*ℤ-zero (pos path.weight));
     size = omega arith;
   }
 
@@ -180,8 +174,8 @@ module _ (g : Game) (player den : ℕ) where
           own_value pay own.path.den den fits.den_above_zero h.1,
         )
 
-    pub leaf_valued : IsValued (Some pay) own.path (own ∷ [])
-    leaf_valued =
+    own_valued : IsValued (Some pay) own.path (own ∷ [])
+    own_valued =
         let q = den / (node_term g player own).head.den in
         record {
           ratio = pay;
@@ -194,23 +188,17 @@ module _ (g : Game) (player den : ℕ) where
           size = own_below pay.num own.path.bound q;
         }
 
+  pub leaf_valued : {pay : Ratio} (own : Reached) → pay_at g player own ≡ pay → IsFraction pay
+      → Fits (own ∷ []) → IsValued (Some pay) own.path (own ∷ [])
+  leaf_valued own pays f fits =
+      subst (λ (p : Ratio). IsValued (Some p) own.path (own ∷ [])) pays
+      (own_valued own (subst IsFraction (sym pays) f) fits)
+
   -- ---- a node on an idle path, which pays nothing
 
   module _ (own : Reached) (nothing : pay_at g player own ≡ zero_ratio) where
-    none_shared : (rs : List Reached) → shares (own ∷ rs) ≡ shares rs
+    pub none_shared : (rs : List Reached) → shares (own ∷ rs) ≡ shares rs
     none_shared rs = grind (arith, none_first, *ℤ-zero)
-
-    pub idle_leaf : {pay : Ratio} → own.path.bound ≡ 0 → IsFraction pay
-        → IsValued (Some pay) own.path (own ∷ [])
-    idle_leaf {pay} idle f = record {
-      ratio = pay;
-      value_is = refl;
-      fraction = f;
-      amount = pos 0;
-      amount_is = λ some. absurd (omega (arith, some, idle));
-      shares_are = none_shared [] ∙ sym (*ℤ-zero (pos own.path.weight));
-      size = omega arith;
-    }
 
     -- it adds nothing to the value of a child
     pub idle_move : {below : Option Ratio} {rs : List Reached} → own.path.bound ≡ 0
@@ -220,18 +208,15 @@ module _ (g : Game) (player den : ℕ) where
   -- ---- a child of a chance move
 
   -- numbers of a path that are not known stand for any, since the value is zero there
-  known : (room : Bool) (value : Option Ratio) (weight bound by demands : ℕ) (xs : List Reached)
-      → 0 < den
+  known : (room : Bool) {value : Option Ratio} {xs : List Reached} (on : Path) → 0 < den
       → IsValued value (record {
-        weight = if room then weight else 0;
-        bound = if room then bound else 1;
-        den = if room then by else 0;
-        demands = demands;
-      }) xs
-      → IsValued value (record { weight = weight; bound = bound; den = by; demands = demands }) xs
-  known true value weight bound by demands xs above h = h
-  known false value weight bound by demands xs above h =
-      grind (arith, eq-zero_of_zero-dvd, zero-*ℤ)
+        weight = if room then on.weight else 0;
+        bound = if room then on.bound else 1;
+        den = if room then on.den else 0;
+        demands = on.demands;
+      }) xs → IsValued value on xs
+  known true on above h = h
+  known false on above h = grind (arith, eq-zero_of_zero-dvd, zero-*ℤ)
 
   module _ (c : Ratio) (fc : IsFraction c) (sign : c.num ≡ pos (unsigned_abs c.num)) (path : Path)
       (some : 1 ≤ path.bound) {value : Option Ratio} {xs : List Reached} (fits : Fits xs)
@@ -248,14 +233,15 @@ module _ (g : Game) (player den : ℕ) where
     }
 
     h : IsValued value on xs
-    h = known (has_room path c) value (path.weight * a) (path.bound * a) (path.den * c.den)
-        path.demands xs fits.den_above_zero child
+    h = known (has_room path c) on fits.den_above_zero child
 
     abbrev part : ℤ
     part = c.num *ℤ h.amount
 
     part_below : unsigned_abs part * path.bound ≤ bounds xs
-    part_below = grind (arith, chance_below)
+    part_below =
+        let times = ap (λ k. k * path.bound) (unsigned_abs-mul c.num h.amount) in
+        omega (arith, times, h.size)
 
     product : (r : Ratio) × (product_of c h.ratio ≡ Some r) × IsFraction r
         × IsPart den path.den r part

@@ -1,7 +1,7 @@
 use Rattle.gf_form.proofs.Common.{take-length, node_terms, map-append, take_more, IsExactAt, length}
 use Rattle.gf_form.proofs.Common.{node_term, at_place, all_both, Reached, rows_of, term_of, ArePaid}
-use Rattle.gf_form.proofs.Common.{*ℤ-one, row_at, arith, subst, Ratio, ◌+ℤ◌, ◌*ℤ◌, List, take, Game}
-use Rattle.gf_form.proofs.Common.{◌++◌, ◌≡◌, ◌∙◌, pos, sym, ◌∷◌, suc, ◌+◌, [], ℕ, ℤ}
+use Rattle.gf_form.proofs.Common.{row_at, arith, subst, Ratio, ints, ◌+ℤ◌, List, take, Game, ◌++◌}
+use Rattle.gf_form.proofs.Common.{◌≡◌, sym, ◌∷◌, suc, ◌+◌, [], ℕ, ℤ}
 use Rattle.gf_form.specs.inner.rows.ListedNodes.{HasShares}
 use Rattle.gf_form.specs.inner.rows.Shares.{IsShare}
 use Rattle.gf_form.proofs.lemmas.rows.ItemRows.{in_bits}
@@ -9,19 +9,15 @@ use Rattle.gf_form.proofs.lemmas.rows.ListedEntries.{shares_append, bounds_appen
 use Rattle.gf_form.specs.declared.rows.share.Share.{Share}
 use Rattle.gf_form.proofs.rows.listed.shares_of.Goals as goal
 
-module _ (g : Game) (rows : List (List Ratio)) (are : ArePaid g rows) (k den : ℕ) where
-  one_share_more : (rs : List Reached) (r : Reached) (bound next : ℕ) (amount total : ℤ)
-      (s : Share) → IsShare (term_of r.path (at_place (row_at rows r.outcome) k)) den s
-      → total ≡ amount +ℤ s.amount → next ≡ bound + s.bound
-      → HasShares g rs k den bound amount → HasShares g (rs ++ r ∷ []) k den next total
-  one_share_more rs r bound next amount total s is total_is next_is before =
-      let own = subst (λ (pay : Ratio). IsShare (term_of r.path pay) den s)
-      (are.paid_is r.outcome k) is in record {
-        exact = rw map-append (all_both (IsExactAt den [] []) (node_terms g (suc k) rs)
-            (node_term g (suc k) r ∷ []) before.exact (own.exact, tt));
-        number_is = grind (arith, shares_append);
-        bound = grind (arith, bounds_append);
-      }
+one_share_more : (g : Game) (rows : List (List Ratio)) (k den : ℕ) (rs : List Reached) (r : Reached) (bound next : ℕ) (amount total : ℤ)
+    (s : Share) → ArePaid g rows → IsShare (term_of r.path (at_place (row_at rows r.outcome) k)) den s
+    → total ≡ amount +ℤ s.amount → next ≡ bound + s.bound
+    → HasShares g rs k den bound amount → HasShares g (rs ++ r ∷ []) k den next total
+one_share_more g rows k den rs r bound next amount total s are is total_is next_is before =
+    let own = rw (are.paid_is r.outcome k) at is in
+    let all = all_both (IsExactAt den [] []) (node_terms g (suc k) rs)
+    (node_term g (suc k) r ∷ []) before.exact (own.exact, tt) in
+    grind (arith, shares_append, bounds_append, map-append)
 
 pub loop-node-preserved : goal.loop-node-preserved
 loop-node-preserved c =
@@ -36,15 +32,14 @@ loop-node-preserved c =
     let first = in_bits sum.amount inv.0 in
     let second = in_bits share.amount c.in_ok-share.ensures.within in
     let total : amount ≡ sum.amount +ℤ share.amount =
-    c.in_ok-amount.ensures.sum ∙ (λ i. first i *ℤ pos 1 +ℤ second i *ℤ pos 1)
-    ∙ (λ i. *ℤ-one sum.amount i +ℤ *ℤ-one share.amount i) in
+    omega (arith, ints, c.in_ok-amount.ensures.sum, first, second) in
     rw (in_bits amount small) (
       small,
       λ g are. subst (λ (rs : List Reached). HasShares g rs c.args.place c.args.den
           c.in_ok-bound.bound amount)
           (sym (take_more nodes at no_node c.loop-node-test.true))
-          (one_share_more g (rows_of c.args.payoffs.now) are c.args.place c.args.den
-          (take at nodes) r sum.bound c.in_ok-bound.bound sum.amount amount share
+          (one_share_more g (rows_of c.args.payoffs.now) c.args.place c.args.den
+          (take at nodes) r sum.bound c.in_ok-bound.bound sum.amount amount share are
           (subst (λ (pay : Ratio). IsShare (term_of r.path pay) c.args.den share)
           c.payoff_at-payoff.ensures c.in_ok-share.ensures.share)
           total c.in_ok-bound.ensures.1 (inv.1 g are)),
