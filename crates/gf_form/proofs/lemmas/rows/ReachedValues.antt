@@ -77,8 +77,8 @@ module _ (g : Game) (game : IsGame g) (spellable : IsSpellable g) (choose : SetK
       (λ some. absurd (omega (arith, some, unbound))) (none_shared g player den own refl [])
   node_valued n ts path below (Some key) at true idle true is = λ fits.
       let unbound = eqb-true path.bound 0 idle in
-      let on = awake_valued n ts (met_if true true path 0).path (omega arith) below (Some key) at fits
-      in
+      let anew = (met_if true true path 0).path in
+      let on = awake_valued n ts anew (omega arith) below (Some key) at fits in
       grind arith
   node_valued n ts path below (Some key) at true idle false is = λ fits.
       let unbound = eqb-true path.bound 0 idle in
@@ -140,7 +140,8 @@ module _ (g : Game) (game : IsGame g) (spellable : IsSpellable g) (choose : SetK
 
     action_valued : (ts : Trees Node) (position : ℕ) (path : Path) → 1 ≤ position
         → position ≤ count ts → AllByRecursion (HasChildren g) (flatten_all ts)
-        → IfFits (child_value g choose player position ts) path (one_followed g choose path position ts)
+        → IfFits (child_value g choose player position ts) path
+        (one_followed g choose path position ts)
     action_valued (more t ts) (suc zero) path some within children =
         valued t path (all_parts (HasChildren g) (flatten t) (flatten_all ts) children).0
     action_valued (more t ts) (suc (suc position)) path some within children =

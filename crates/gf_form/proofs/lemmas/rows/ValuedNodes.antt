@@ -202,7 +202,8 @@ module _ (g : Game) (player den : ℕ) where
 
     -- it adds nothing to the value of a child
     pub idle_move : {below : Option Ratio} {rs : List Reached} → own.path.bound ≡ 0
-        → IsValued below own.path rs → IsValued (plus_of (Some zero_ratio) below) own.path (own ∷ rs)
+        → IsValued below own.path rs
+        → IsValued (plus_of (Some zero_ratio) below) own.path (own ∷ rs)
     idle_move idle h = grind (arith, zero_plus, none_shared)
 
   -- ---- a child of a chance move

@@ -1,5 +1,5 @@
--- The nodes that choices reach in a tree, in prefix order, by the choices alone; and those of a list
--- whose demands are met.
+-- The nodes that choices reach in a tree, in prefix order, by the choices alone; and those of a
+-- list whose demands are met.
 use Rattle.std.specs.Prelude.{ℕ, suc, zero, ◌+◌, ◌==◌, List, [], ◌∷◌, ◌++◌, if◌then◌else◌}
 use Rattle.gf_tree.specs.Description.{SetKey}
 use Rattle.gf_tree.specs.Game.{Game, Node}

@@ -9,8 +9,9 @@ use Rattle.gf_form.proofs.lemmas.rows.ListedEntries.{shares_append, bounds_appen
 use Rattle.gf_form.specs.declared.rows.share.Share.{Share}
 use Rattle.gf_form.proofs.rows.listed.shares_of.Goals as goal
 
-one_share_more : (g : Game) (rows : List (List Ratio)) (k den : ℕ) (rs : List Reached) (r : Reached) (bound next : ℕ) (amount total : ℤ)
-    (s : Share) → ArePaid g rows → IsShare (term_of r.path (at_place (row_at rows r.outcome) k)) den s
+one_share_more : (g : Game) (rows : List (List Ratio)) (k den : ℕ) (rs : List Reached)
+    (r : Reached) (bound next : ℕ) (amount total : ℤ) (s : Share) → ArePaid g rows
+    → IsShare (term_of r.path (at_place (row_at rows r.outcome) k)) den s
     → total ≡ amount +ℤ s.amount → next ≡ bound + s.bound
     → HasShares g rs k den bound amount → HasShares g (rs ++ r ∷ []) k den next total
 one_share_more g rows k den rs r bound next amount total s are is total_is next_is before =
