@@ -6,7 +6,7 @@ ghost use Rattle.gf_form.specs.inner.reduced.Levels.{ArePositive};
 ghost use Rattle.gf_form.specs.inner.reduced.OwnDigits.{digits_from};
 ghost use Rattle.gf_form.specs.inner.rows.DigitSteps.{steps_behind};
 
-use crate::rows::digits::{steps_within, values_with};
+use crate::rows::digits::put_digits;
 use std::alloc::{AllocError, Global};
 
 /// The digit of a set.
@@ -28,8 +28,9 @@ pub(crate) fn own_steps(alloc: Global, counts: &[u32]) -> Result<Vec<u64>, Alloc
     requires few { product counts.now < 2 ^ 32 }
     ensures { IfOk result (λ steps. steps.items ≡ steps_behind 1 counts.now) }
 {
-    let values = values_with(counts, 1).unwrap();
-    steps_within(alloc, counts, values)
+    let mut digits = Vec::new(alloc);
+    let (steps, _) = put_digits(alloc, counts, 1, &mut digits)?.unwrap();
+    Ok(steps)
 }
 
 /// The step of the digit of the set at this place; 0 if there is no such set.

@@ -1,13 +1,11 @@
 //! Sets at which a player has a choice, as the digits of a number: 0 if any action will do, and
 //! otherwise the action's position.
 
-ghost use Rattle.std.specs.Prelude.{◌≡◌, ◌<◌, ◌≤◌, ◌*◌, ◌^◌, ◌++◌, ℕ, IfOk, IfSome, MatchOption};
-ghost use Rattle.std.specs.Prelude.{OnOk, length, map};
-ghost use Rattle.gf_nfg.specs.Profiles.{product};
+ghost use Rattle.std.specs.Prelude.{◌≡◌, ◌≤◌, ◌^◌, ◌++◌, ◌∷◌, ℕ, List, IfOk, IfSome, MatchOption};
 ghost use Rattle.gf_tree.specs.Game.{Game, IsGame};
 ghost use Rattle.gf_form.specs.inner.strategies.Counted.{AreCounts};
-ghost use Rattle.gf_form.specs.inner.rows.DigitSteps.{all_steps, picked, steps_behind, width};
-ghost use Rattle.gf_form.specs.inner.rows.GameDigits.{HasDigits};
+ghost use Rattle.gf_form.specs.inner.rows.DigitSteps.{steps_behind, width};
+ghost use Rattle.gf_form.specs.inner.rows.GameDigits.{AreDigitsOf, HasDigits};
 ghost use Rattle.gf_form.specs.inner.rows.ReachedNodes.{demanded};
 
 use crate::strategies::counts::Counts;
@@ -38,81 +36,61 @@ pub(crate) fn demanded(demands: u64, step: u64, actions: usize) -> u64
     }
 }
 
-/// How many values the digits of a player's sets have together with those of the players before
-/// him, which have `faster` values; `None` above the greatest number.
-#[tactic(auto, using(crate::proofs::lemmas::rows::DigitsMade::value_steps))]
-pub(crate) fn values_with(actions: &[u32], faster: u64) -> Option<u64>
-    ensures { MatchOption result (2 ^ 64 ≤ width actions.now * faster)
-        (λ values. (values ≡ width actions.now * faster) × (values < 2 ^ 64)) }
+/// Puts the digit of a set with this many actions before faster ones, which have this many values
+/// together. Returns its step, and how many values they all have; `None` above the greatest number.
+/// A set with one action has no digit, and its step is 0.
+#[tactic(auto, using(crate::proofs::lemmas::rows::DigitsMade::set_steps))]
+fn put_digit(
+    actions: u32,
+    values: u64,
+    digits: &mut Vec<Digit>,
+) -> Result<Option<(u64, u64)>, AllocError>
+    ensures { IfOk result (λ put. (later : List ℕ) → AreDigitsOf later digits.old.items values
+        → MatchOption put (2 ^ 64 ≤ width (actions ∷ later))
+        (λ put. AreDigitsOf (actions ∷ later) digits.new.items put.1
+        × (steps_behind 1 (actions ∷ later) ≡ put.0 ∷ steps_behind 1 later))) }
 {
-    let mut values = faster;
-    for count in actions {
-        if *count > 1 {
-            values = values.checked_mul(u64::from(*count) + 1)?;
-        }
+    if actions < 2 {
+        return Ok(Some((0, values)));
     }
-    Some(values)
+    let Some(more) = values.checked_mul(u64::from(actions) + 1) else {
+        return Ok(None);
+    };
+    digits.insert(
+        0,
+        Digit {
+            step: values,
+            actions,
+        },
+    )?;
+    Ok(Some((values, more)))
 }
 
-/// The step of each of a player's sets, if his digits and those of the players before him have this
-/// many values together.
-pub(crate) fn steps_within(
+/// Puts the digits of a player's sets before faster ones, which have this many values together.
+/// Returns the step of each set, and how many values they all have; `None` above the greatest
+/// number.
+pub(crate) fn put_digits(
     alloc: Global,
     actions: &[u32],
     values: u64,
-) -> Result<Vec<u64>, AllocError>
-    ensures { IfOk result (λ steps. (faster : ℕ) → values ≡ width actions.now * faster
-        → steps.items ≡ steps_behind faster actions.now) }
+    digits: &mut Vec<Digit>,
+) -> Result<Option<(Vec<u64>, u64)>, AllocError>
+    ensures { IfOk result (λ put. (later : List ℕ) → AreDigitsOf later digits.old.items values
+        → MatchOption put (2 ^ 64 ≤ width (actions.now ++ later))
+        (λ put. AreDigitsOf (actions.now ++ later) digits.new.items put.1
+        × (put.0.items ++ steps_behind 1 later ≡ steps_behind 1 (actions.now ++ later)))) }
 {
     let mut steps = Vec::with_capacity(alloc, actions.len())?;
-    let mut step = values;
-    for count in actions {
-        if *count > 1 {
-            step /= u64::from(*count) + 1;
-            steps.push(step)?;
-        } else {
-            steps.push(0)?;
-        }
-    }
-    Ok(steps)
-}
-
-/// The steps of all players' sets; `None` if the digits have too many values together.
-fn steps_of_all(alloc: Global, counts: &Counts) -> Result<Option<Vec<Vec<u64>>>, AllocError>
-    ensures { IfOk result (λ made. IfSome made (λ steps.
-        (map (λ own. own.items) steps.items
-        ≡ all_steps 1 (map (λ own. own.items) counts.now.actions.items))
-        × (product (map width (map (λ own. own.items) counts.now.actions.items)) < 2 ^ 64))) }
-{
-    let mut steps = Vec::with_capacity(alloc, counts.actions.len())?;
-    let mut values = 1;
-    for own in &counts.actions {
-        let Some(more) = values_with(own, values) else {
+    let mut all = values;
+    for place in (0..actions.len()).rev() {
+        let Some((step, more)) = put_digit(actions[place], all, digits)? else {
             return Ok(None);
         };
-        values = more;
-        steps.push(steps_within(alloc, own, values)?)?;
+        all = more;
+        steps.push(step)?;
     }
-    Ok(Some(steps))
-}
-
-/// Appends the digits of a player's sets, with these steps.
-fn push_digits(actions: &[u32], steps: &[u64], digits: &mut Vec<Digit>) -> Result<(), AllocError>
-    requires { length steps.now ≡ length actions.now }
-    ensures steps { OnOk result (map (λ digit. digit.step) digits.new.items
-        ≡ map (λ digit. digit.step) digits.old.items ++ picked actions.now steps.now) }
-    ensures actions { OnOk result (map (λ digit. digit.actions) digits.new.items
-        ≡ map (λ digit. digit.actions) digits.old.items ++ picked actions.now actions.now) }
-{
-    for place in 0..actions.len() {
-        if actions[place] > 1 {
-            digits.push(Digit {
-                step: steps[place],
-                actions: actions[place],
-            })?;
-        }
-    }
-    Ok(())
+    steps.reverse();
+    Ok(Some((steps, all)))
 }
 
 /// The digits of a game.
@@ -127,17 +105,19 @@ pub(crate) struct Digits {
 
 impl Digits {
     /// The digits of a game with this many actions; `None` if they have too many values together.
-    #[tactic(auto, using(crate::proofs::lemmas::rows::DigitsMade::digits_steps))]
     pub(crate) fn new(alloc: Global, counts: &Counts) -> Result<Option<Digits>, AllocError>
         ensures { IfOk result (λ made. IfSome made (λ digits. (g : Game) → IsGame g
             → AreCounts g counts.now → HasDigits g digits)) }
     {
-        let Some(steps) = steps_of_all(alloc, counts)? else {
-            return Ok(None);
-        };
+        let mut steps = Vec::with_capacity(alloc, counts.actions.len())?;
         let mut digits = Vec::new(alloc);
-        for place in (0..counts.actions.len()).rev() {
-            push_digits(&counts.actions[place], &steps[place], &mut digits)?;
+        let mut values = 1;
+        for own in &counts.actions {
+            let Some((own_steps, more)) = put_digits(alloc, own, values, &mut digits)? else {
+                return Ok(None);
+            };
+            values = more;
+            steps.push(own_steps)?;
         }
         Ok(Some(Digits { steps, digits }))
     }

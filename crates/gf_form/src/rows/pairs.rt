@@ -1,13 +1,13 @@
 //! Rows at the fastest digit: what a term that demands nothing and one that demands the action come
 //! to together.
 
-ghost use Rattle.std.specs.Prelude.{◌≡◌, ◌+◌, ◌<◌, ◌≤◌, ◌^◌, ◌+ℤ◌, ◌*ℤ◌, ℕ, IfOk, IfSome, get_or};
-ghost use Rattle.std.specs.Prelude.{[], ◌∷◌, false, length, pos, true};
-ghost use Rattle.gf_form.specs.inner.rows.Entries.{AreChosen, AreWithin, IsShaped, entries, part};
-ghost use Rattle.gf_form.specs.inner.rows.Pairs.{ComeToPair, HasPairRow, IsOnly};
+ghost use Rattle.std.specs.Prelude.{◌≡◌, ◌<◌, ◌≤◌, ◌^◌, IfOk, IfSome};
+ghost use Rattle.std.specs.Prelude.{false, length, true};
+ghost use Rattle.gf_form.specs.inner.rows.Entries.{AreWithin, IsShaped, entries, part};
+ghost use Rattle.gf_form.specs.inner.rows.Pairs.{HasPairRow, IsOnly, IsPair};
 
 use crate::rows::chosen::Chosen;
-use crate::rows::sums::{Scale, combined, scale_of};
+use crate::rows::sums::{Scale, combined, number_at, scale_of};
 use crate::rows::terms::{Head, Terms};
 use gf_fraction::{Fraction, SharedDenominator};
 use std::alloc::AllocError;
@@ -31,17 +31,6 @@ pub(crate) struct Pair<'t> {
     /// such term.
     pub first: &'t [i128],
     pub second: &'t [i128],
-}
-
-/// The number at a place, from 0; zero if there is none.
-#[inline(always)]
-fn number_at(numbers: &[i128], place: usize) -> i128
-    ensures { result ≡ get_or numbers.now place (pos 0) }
-{
-    match numbers.get(place) {
-        Some(number) => *number,
-        None => 0,
-    }
 }
 
 /// Makes it this denominator. Quick if it is that already.
@@ -121,11 +110,7 @@ impl Terms {
     pub(crate) fn pair(&self, chosen: Chosen) -> Option<Pair<'_>>
         requires shaped { IsShaped self.now }
         requires within { AreWithin self.now.demands.items chosen }
-        ensures last { IfSome result (λ pair. (action : ℕ) → 1 ≤ action
-            → AreChosen self.now.demands.items 1 action chosen
-            → ComeToPair (1 ∷ []) (action ∷ []) (entries self.now) pair) }
-        ensures all { IfSome result (λ pair. chosen.free ≡ length self.now.demands.items
-            → chosen.end ≤ chosen.start → ComeToPair [] [] (entries self.now) pair) }
+        ensures { IfSome result (IsPair self.now chosen) }
     {
         let den = if chosen.start < chosen.end {
             self.head(chosen.start).den

@@ -1,6 +1,6 @@
 //! Sums of terms over different denominators.
 
-ghost use Rattle.std.specs.Prelude.{◌≡◌, ◌*ℤ◌, ◌+ℤ◌, IfSome, pos};
+ghost use Rattle.std.specs.Prelude.{◌≡◌, ◌*ℤ◌, ◌+ℤ◌, IfSome, get_or, pos};
 ghost use Rattle.gf_fraction.specs.Ratio.{IsWithin};
 ghost use Rattle.gf_form.specs.inner.rows.Entries.{IsFactor, IsScale};
 
@@ -81,6 +81,17 @@ pub(crate) fn scale_of(a: Head, b: Head) -> Option<Scale>
         });
     }
     scale_of_different(a, b)
+}
+
+/// The number at a place, from 0; zero if there is none.
+#[inline(always)]
+pub(crate) fn number_at(numbers: &[i128], place: usize) -> i128
+    ensures { result ≡ get_or numbers.now place (pos 0) }
+{
+    match numbers.get(place) {
+        Some(number) => *number,
+        None => 0,
+    }
 }
 
 /// A number times a factor; `None` if it does not fit.

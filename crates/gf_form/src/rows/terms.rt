@@ -3,13 +3,11 @@
 
 ghost use Rattle.std.specs.Prelude.{◌≡◌, ◌+◌, ◌<◌, ◌≤◌, ◌++◌, [], ◌∷◌, IfOk, IsTrue, OnOk, get_or};
 ghost use Rattle.std.specs.Prelude.{length};
-ghost use Rattle.std.specs.List.{AllByRecursion};
-ghost use Rattle.gf_fraction.specs.Ratio.{IsWithin};
 ghost use Rattle.gf_form.specs.inner.rows.Entries.{AreAlike, HasSum, IsScale, IsShaped, IsSumAt};
 ghost use Rattle.gf_form.specs.inner.rows.Entries.{IsNoted, entries, entry_at, lowered, scaled_at};
 ghost use Rattle.gf_form.specs.inner.rows.ItemRows.{HasRow};
 
-use crate::rows::sums::{Scale, combined, scale_of};
+use crate::rows::sums::{Scale, combined, number_at, scale_of};
 use std::alloc::{AllocError, Global};
 
 /// What a term demands, and what its numbers are over.
@@ -62,16 +60,15 @@ fn push_numbers(
     by_first: u128,
     by_second: u128,
 ) -> Result<bool, AllocError>
-    requires alike { length first.now ≡ length second.now }
-    requires first { AllByRecursion IsWithin first.now }
-    requires second { AllByRecursion IsWithin second.now }
     ensures { IfOk result (λ fits. HasRow (IsSumAt first.now second.now by_first by_second fits)
         (length first.now) numbers.old.items numbers.new.items) }
 {
     numbers.reserve(first.len())?;
     let mut fits = true;
     for place in 0..first.len() {
-        match combined(first[place], by_first, second[place], by_second) {
+        let one = number_at(first, place);
+        let other = number_at(second, place);
+        match combined(one, by_first, other, by_second) {
             Some(number) => numbers.push_reserved(number),
             None => {
                 fits = false;

@@ -1,7 +1,7 @@
 //! The payoffs at the profiles of a table, from the terms of which they are sums.
 
-ghost use Rattle.std.specs.Prelude.{◌≡◌, ◌+◌, ◌*◌, ◌/◌, ◌<◌, ◌≤◌, ◌^◌, [], ◌∷◌, ℕ, IfOk, IfSome};
-ghost use Rattle.std.specs.Prelude.{IsErrOf, OnOk};
+ghost use Rattle.std.specs.Prelude.{◌≡◌, ◌+◌, ◌*◌, ◌/◌, ◌<◌, ◌≤◌, ◌^◌, [], ◌∷◌, ℕ, List, IfOk};
+ghost use Rattle.std.specs.Prelude.{IfSome, IsErrOf, OnOk};
 ghost use Rattle.std.specs.Prelude.{get_or, length, map, true};
 ghost use Rattle.gf_nfg.specs.Profiles.{product};
 ghost use Rattle.gf_form.specs.inner.rows.Demands.{spans};
@@ -11,8 +11,7 @@ ghost use Rattle.gf_form.specs.Refusal.{HasValues};
 ghost use Rattle.gf_form.specs.inner.values.Rows.{ArePaid};
 ghost use Rattle.gf_form.specs.inner.rows.Pairs.{IsPaidPair};
 ghost use Rattle.gf_form.specs.inner.rows.SettledRows.{AreDue, AreTermsFor, AreWritten};
-ghost use Rattle.gf_form.specs.inner.rows.SettledRows.{IsAsked, IsRightlyRefused, SettleAlike};
-ghost use Rattle.gf_form.specs.inner.rows.SettledRows.{SettleRows};
+ghost use Rattle.gf_form.specs.inner.rows.SettledRows.{IsAsked, IsRightlyRefused, SettleRows};
 ghost use Rattle.gf_form.specs.StrategicForm.{ArePayoffsAt};
 ghost use Rattle.gf_form.specs.Strategies.{full_profiles, strategies_at};
 ghost use Rattle.gf_form.specs.inner.rows.GameDigits.{HaveSteps, actions_at};
@@ -193,8 +192,8 @@ impl Written {
         self.push_walked(asked, before)
     }
 
-    /// Appends the rows of these profiles, at each of which the terms come to what is paid: copies
-    /// of one, which is worked out once.
+    /// Appends the rows of these profiles, by at most one term, which demands nothing: copies of
+    /// one, which is worked out once.
     fn push_alike(
         &mut self,
         asked: &Asked<'_, '_, '_>,
@@ -203,7 +202,9 @@ impl Written {
     ) -> Result<(), FormFault>
         requires due { AreDue asked.now run self.old }
         requires terms { AreTermsFor asked.now terms.now }
-        requires settles { SettleAlike asked.now terms.now run }
+        requires settles { (actions : List ℕ) × SettleRows asked.now actions terms.now run }
+        requires alike { (length terms.now.demands.items ≤ 1)
+            × (get_or terms.now.demands.items 0 0 ≡ 0) }
         ensures written { OnOk result (AreWritten asked.now run.to self.new) }
         ensures refused { IsRightlyRefused asked.now result }
     {
@@ -236,7 +237,8 @@ impl Written {
     ) -> Result<(), FormFault>
         requires due { AreDue asked.now run self.old }
         requires terms { AreTermsFor asked.now terms.now }
-        requires settles { (actions : ℕ) × SettleRows asked.now (actions ∷ []) terms.now run }
+        requires settles { (actions : List ℕ) × (length actions ≡ 1)
+            × SettleRows asked.now actions terms.now run }
         ensures written { OnOk result (AreWritten asked.now run.to self.new) }
         ensures refused { IsRightlyRefused asked.now result }
     {
@@ -285,8 +287,8 @@ impl Written {
         if terms.demand_nothing() {
             return self.push_alike(asked, terms, run);
         }
-        let [slowest, faster @ ..] = digits else {
-            return self.push_alike(asked, terms, run);
+        let Some((slowest, faster)) = digits.split_first() else {
+            return self.push_all_walked(asked, run.from, run.to);
         };
         if faster.is_empty() {
             return self.push_last(asked, terms, run);

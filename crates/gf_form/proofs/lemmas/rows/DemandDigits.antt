@@ -1,10 +1,11 @@
 -- Demands by their digits, the slowest first: which digit a demand has at a set, what another
 -- action there changes, and which choices meet it.
 use Rattle.gf_form.proofs.Common.{◌≡◌, div-mul_cancel, dvd-mul_left, mod-eq_of_lt, mul-le-mul_right}
-use Rattle.gf_form.proofs.Common.{ℕ, ◌<◌, ◌≤◌, ◌∷◌, set, map, ap, inl, inr, ⊤, ◌∣◌}
-use Rattle.gf_form.proofs.Common.{zero, and_parts, cases_lt, mul_above, product, steps_of, demanded}
-use Rattle.gf_form.proofs.Common.{suc, ◌+◌, ◌*◌, ◌/◌, true, List, [], refl, ◌==◌, ◌&&◌, ◌||◌, spans}
-use Rattle.gf_form.proofs.Common.{Bool, length, get_or, arith, subst, eq-eqb, lt-ltb, ne_eqb, meets}
+use Rattle.gf_form.proofs.Common.{ℕ, ◌<◌, ◌≤◌, ◌∷◌, set, map, ap, inl, inr, ◌∣◌, zero, and_parts}
+use Rattle.gf_form.proofs.Common.{cases_lt, mul_above, product, steps_of, demanded, suc, ◌+◌, ◌*◌}
+use Rattle.gf_form.proofs.Common.{◌/◌, true, List, [], refl, ◌==◌, ◌&&◌, ◌||◌, spans, Bool, length}
+use Rattle.gf_form.proofs.Common.{get_or, arith, subst, eq-eqb, lt-ltb, ne_eqb, meets, AllZip}
+use Rattle.gf_form.proofs.Common.{AllZip-long}
 use Rattle.std.proofs.lemmas.Bool.{le-leb, le-ltb, lt-leb}
 use Rattle.std.proofs.lemmas.Nat.{div-mul-add}
 use Rattle.std.proofs.Math.Nat.{add-mul-mod_self_right, dvd-mul_left_of_dvd, mul-add-div}
@@ -13,10 +14,7 @@ use Rattle.std.proofs.Math.Nat.{add-mul-mod_self_right, dvd-mul_left_of_dvd, mul
 
 -- a digit for each set, which is 0 or one of this many actions
 abbrev pub AreWithin : List ℕ → List ℕ → Type 0
-AreWithin [] [] = ⊤
-AreWithin (n ∷ ns) (d ∷ ds) = (d ≤ n) × AreWithin ns ds
-AreWithin [] (d ∷ ds) = ⊥
-AreWithin (n ∷ ns) [] = ⊥
+AreWithin actions ds = AllZip (λ n d. d ≤ n) actions ds
 
 -- the number that has these digits
 abbrev pub pack : List ℕ → List ℕ → ℕ
@@ -38,8 +36,7 @@ pack_below (n ∷ faster) (d ∷ ds) h =
 pack_below actions ds h = grind arith
 
 pub within_length : (actions ds : List ℕ) → AreWithin actions ds → length ds ≡ length actions
-within_length (n ∷ faster) (d ∷ ds) h = ap suc (within_length faster ds h.1)
-within_length actions ds h = grind arith
+within_length actions ds h = AllZip-long (λ n d. d ≤ n) actions ds h
 
 -- ---- the digit at a place
 
@@ -117,13 +114,11 @@ meets_first p r c (suc d) steps cs h = elim (cases_lt c (suc d)) [
 
 pub meets_is : (actions choices ds : List ℕ) → length choices ≡ length actions
     → AreWithin actions ds → meets (steps_of actions) choices (pack actions ds) ≡ met choices ds
-meets_is [] [] [] e h = refl
 meets_is (n ∷ faster) (c ∷ cs) (d ∷ ds) e h =
     grind (arith, meets_first, pack_below, meets_is faster cs ds (omega (arith, e)) h.1)
 meets_is [] (c ∷ cs) ds e h = absurd (omega arith)
 meets_is (n ∷ faster) [] ds e h = absurd (omega arith)
-meets_is [] [] (d ∷ ds) e h = absurd h
-meets_is (n ∷ faster) (c ∷ cs) [] e h = absurd h
+meets_is actions choices ds e h = grind arith
 
 -- an action is demanded where any would do
 pub met_set : (choices ds : List ℕ) (place k : ℕ) → length choices ≡ length ds → place < length ds

@@ -1,11 +1,12 @@
 -- The choices of the profile with a number: they have that number among all choices at the digits.
 use Rattle.gf_form.proofs.Common.{◌≡◌, ℕ, zero, suc, ◌+◌, ◌*◌, ◌/◌, ◌%◌, ◌<◌, List, [], ◌∷◌, ◌++◌}
-use Rattle.gf_form.proofs.Common.{map, get_or, refl, ◌∙◌, arith, AllByRecursion, AllZip}
-use Rattle.gf_form.proofs.Common.{mod-add-div, mul_comm, AllZip-long, product, at_digits, picked}
-use Rattle.gf_form.proofs.Common.{all_choices, mod-eq_of_lt, mod-lt, ArePositive}
+use Rattle.gf_form.proofs.Common.{map, get_or, refl, ◌∙◌, arith, mod-add-div, mul_comm, product}
+use Rattle.gf_form.proofs.Common.{in_order, picked, all_choices, mod-eq_of_lt, mod-lt, ArePositive}
+use Rattle.gf_form.proofs.Common.{length, sym, ◌≤◌}
 use Rattle.gf_form.proofs.lemmas.strategies.Choices.{IsChoice, are_choices, length-all_choices}
+use Rattle.gf_form.proofs.lemmas.strategies.Choices.{long}
 use Rattle.gf_form.proofs.lemmas.strategies.CountedActions.{product_positive}
-use Rattle.gf_form.proofs.lemmas.rows.DigitPlaces.{HasShape, product_joined}
+use Rattle.gf_form.proofs.lemmas.rows.DigitPlaces.{product_joined}
 use Rattle.gf_form.proofs.lemmas.strategies.NumberedProfiles.{numbered}
 use Rattle.gf_form.proofs.lemmas.strategies.StrategiesByNumber.{all_at, choices_next, joined_at}
 
@@ -43,60 +44,30 @@ picked_at (suc (suc n) ∷ counts) number h less =
 
 -- ---- all players
 
-abbrev pub AllPositive : List (List ℕ) → Type 0
-AllPositive counts = AllByRecursion ArePositive counts
+pub product_in_order : (counts : List (List ℕ))
+    → product (in_order counts) ≡ product (map product counts)
+product_in_order [] = refl
+product_in_order (own ∷ others) =
+    grind (arith, product_joined, mul_comm, product_in_order others)
 
--- a choice of each player
-abbrev pub AreChoices : List (List ℕ) → List (List ℕ) → Type 0
-AreChoices counts choices = AllZip IsChoice counts choices
-
-pub have_shape : (counts choices : List (List ℕ)) → AreChoices counts choices
-    → HasShape counts choices
-have_shape (own ∷ others) (choice ∷ choices) h =
-    grind (arith, AllZip-long, have_shape others choices h.1)
-have_shape counts choices h = grind arith
-
-pub product_at_digits : (counts : List (List ℕ)) → AllPositive counts
-    → product (at_digits counts counts) ≡ product (map product counts)
-product_at_digits [] h = refl
-product_at_digits (own ∷ others) h =
-    product_joined (at_digits others others) (picked own own)
-    ∙ (λ i. product_at_digits others h.1 i * product_picked own h.0 i)
-    ∙ mul_comm (product (map product others)) (product own)
-
--- ---- the profile with a number
-
--- what is left of the number for the players after him
-record Left (own : List ℕ) (others : List (List ℕ)) (number : ℕ) : Type 0 where
-  here : number % product own < product own
-  behind : number / product own < product (map product others)
-
-left : (own : List ℕ) (others : List (List ℕ)) (number : ℕ)
-    → number < product (map product (own ∷ others)) → Left own others number
+-- the number of a player's strategy, and what is left of the number for those after him
+left : (own others number : ℕ) → number < own * others → (number % own < own)
+    × (number / own < others)
 left own others number less = grind arith
 
-pub numbered_choices : (counts : List (List ℕ)) (number : ℕ)
-    → number < product (map product counts) → AreChoices counts (numbered counts number)
-numbered_choices [] number less = tt
-numbered_choices (own ∷ others) number less =
-    let parts = left own others number less in (
-      choice_at_number own (number % product own) parts.here,
-      numbered_choices others (number / product own) parts.behind,
-    )
-
-pub numbered_at_digits : (counts : List (List ℕ)) (number : ℕ) → AllPositive counts
+-- the strategies of the profile with a number: they have that number among all choices
+pub in_order_numbered : (counts : List (List ℕ)) (number : ℕ)
     → number < product (map product counts)
-    → get_or (all_choices (at_digits counts counts)) number []
-    ≡ at_digits counts (numbered counts number)
-numbered_at_digits [] number positive less = grind arith
-numbered_at_digits (own ∷ others) number positive less =
+    → (map length (numbered counts number) ≡ map length counts)
+    × (in_order (numbered counts number) ≡ get_or (all_choices (in_order counts)) number [])
+in_order_numbered [] number less = grind arith
+in_order_numbered (own ∷ others) number less =
     let p = product own in
-    let parts = left own others number less in
-    let same = product_picked own positive.0 in
-    let sum : number / p * product (picked own own) + number % p ≡ number =
-    rw same (omega (arith, mod-add-div number p)) in
-    let joined = (joined_at (at_digits others others) (picked own own) (number / p) (number % p)
-    (rw (product_at_digits others positive.1) parts.behind) (rw same parts.here)).1 in
-    rw sum at joined
-    ∙ (λ i. numbered_at_digits others (number / p) positive.1 parts.behind i
-    ++ picked_at own (number % p) positive.0 parts.here i)
+    let parts = left p (product (map product others)) number less in
+    let later = in_order_numbered others (number / p) parts.1 in
+    let joined = (joined_at (in_order others) own (number / p) (number % p)
+    (omega (arith, parts.1, product_in_order others)) parts.0).1 in
+    let sum : number / p * p + number % p ≡ number = omega (arith, mod-add-div number p) in (
+      (λ i. long own (number % p) parts.0 i ∷ later.0 i),
+      (λ i. later.1 i ++ get_or (all_choices own) (number % p) []) ∙ sym (rw sum at joined),
+    )

@@ -1,23 +1,22 @@
 -- What is made from the numbers of actions are the digits of the game.
-use Rattle.gf_form.proofs.Common.{◌≡◌, suc, ◌-◌, ◌<◌, ◌≤◌, cond, List, ◌++◌, Some, refl, find, Game}
-use Rattle.gf_form.proofs.Common.{ℕ, Bool, true, subst, arith, IsGame, set_at, spans, width, Digits}
-use Rattle.gf_form.proofs.Common.{◌^◌, ◌∷◌, map, sym, ap, ◌∙◌}
-use Rattle.gf_form.proofs.Common.{false, digit_actions, action_counts, full_profiles, strategies_at}
-use Rattle.gf_form.proofs.Common.{[], option_map, append-nil, AllZip-long, player_sets, all_choices}
-use Rattle.gf_form.proofs.Common.{length, slice_get, length-map, choices_by, players_of, strategies}
-use Rattle.gf_form.proofs.Common.{get_or, product, SetKey, same_set, steps_of, IsDigitOf, choice_at}
-use Rattle.gf_form.proofs.Common.{get_or_default, length-profiles, InformationSet, description_at}
-use Rattle.gf_form.proofs.Common.{none-some, Described, all_steps, at_digits, HasDigits, AreDigits}
-use Rattle.gf_form.specs.inner.rows.GameDigits.{digit_steps}
-use Rattle.std.proofs.lemmas.List.Elements.{AllZip-get_or}
-use Rattle.gf_form.proofs.lemmas.strategies.Choices.{IsChoice, length-all_choices}
+use Rattle.gf_form.proofs.Common.{length-profiles, get_or_default, InformationSet, description_at}
+use Rattle.gf_form.proofs.Common.{digit_actions, action_counts, full_profiles, strategies_at}
+use Rattle.gf_form.proofs.Common.{steps_behind, player_sets, all_choices, AreDigitsOf, ArePositive}
+use Rattle.gf_form.proofs.Common.{option_map, length-map, choices_by, players_of, strategies, arith}
+use Rattle.gf_form.proofs.Common.{AreStepsOf, get_or-map, slice_get, choice_at, none-some, same_set}
+use Rattle.gf_form.proofs.Common.{Described, HasDigits, AreDigits, in_order, all_both, product, ◌≡◌}
+use Rattle.gf_form.proofs.Common.{IsGame, set_at, Digits, length, get_or, SetKey, picked, false, []}
+use Rattle.gf_form.proofs.Common.{cond, List, Some, refl, find, Game, Bool, true, suc, ◌-◌, ◌<◌, ℕ}
+use Rattle.gf_form.proofs.Common.{◌∷◌, map, sym, ◌∙◌, append-nil, ap, ◌≤◌}
+use Rattle.gf_form.proofs.lemmas.strategies.Choices.{IsChoice, choice_length, length-all_choices}
 use Rattle.gf_form.proofs.lemmas.strategies.Chosen.{among_his, have_actions, profile_strategies}
-use Rattle.gf_form.proofs.lemmas.strategies.CountedActions.{actions_positive, of_player}
-use Rattle.gf_form.proofs.lemmas.strategies.CountedActions.{strategy_counts}
-use Rattle.gf_form.proofs.lemmas.rows.DigitChoices.{AllPositive, AreChoices, choice_at_number}
-use Rattle.gf_form.proofs.lemmas.rows.DigitChoices.{have_shape, numbered_at_digits}
-use Rattle.gf_form.proofs.lemmas.rows.DigitChoices.{numbered_choices, product_at_digits}
-use Rattle.gf_form.proofs.lemmas.rows.DigitPlaces.{all_steps_are, alone, digit_of, values_at_digits}
+use Rattle.gf_form.proofs.lemmas.strategies.CountedActions.{actions_positive, as_many_players}
+use Rattle.gf_form.proofs.lemmas.strategies.CountedActions.{of_player, strategy_counts}
+use Rattle.gf_form.proofs.lemmas.rows.DigitChoices.{choice_at_number, in_order_numbered, picked_at}
+use Rattle.gf_form.proofs.lemmas.rows.DigitChoices.{product_in_order, product_picked}
+use Rattle.gf_form.proofs.lemmas.rows.DigitPlaces.{at_spot, length-in_order, own_alone, own_digit}
+use Rattle.gf_form.proofs.lemmas.rows.DigitPlaces.{spot}
+use Rattle.gf_form.proofs.lemmas.strategies.ActionCounts.{choice_at as choice_bounds}
 use Rattle.gf_form.proofs.lemmas.strategies.KnownSets.{set_is}
 use Rattle.gf_form.proofs.lemmas.strategies.Lookups.{strategy_before}
 use Rattle.gf_form.proofs.lemmas.strategies.NumberedProfiles.{numbered, numbered_strategies}
@@ -64,46 +63,33 @@ among (s ∷ ss) key set is = by (same_set s.key key) refl (among ss key set) is
           choice = behind other later.place later.choice;
         }
 
--- ---- the choices at the digits
-
-choice_bounds : (counts choice : List ℕ) → IsChoice counts choice → (place : ℕ)
-    → place < length counts
-    → (1 ≤ get_or choice place 0) × (get_or choice place 0 ≤ get_or counts place 0)
-choice_bounds counts choice h place less =
-    let R = λ (action count : ℕ). (1 ≤ action) × (action ≤ count) in
-    AllZip-get_or R choice counts place 0 0 h (omega (arith, less, AllZip-long R choice counts h))
-
-same_digit : (actions more choices others : List ℕ) (step by count many choice taken : ℕ)
-    → actions ≡ more → choices ≡ others → step ≡ by → count ≡ many → choice ≡ taken
-    → IsDigitOf actions choices step count choice → IsDigitOf more others by many taken
-same_digit actions more choices others step by count many choice taken a c s n t d = grind arith
-
 -- ---- the game
 
--- what is made from the numbers of actions at each player's sets
-pub record AreMade (counts : List (List ℕ)) (d : Digits) : Type 0 where
-  pub steps : map (λ own. own.items) d.steps.items ≡ all_steps 1 counts
-  pub digit_steps_are : digit_steps d ≡ at_digits counts (all_steps 1 counts)
-  pub digit_actions_are : digit_actions d ≡ at_digits counts counts
-  pub values : product (map width counts) < 2 ^ 64
-
--- a player's set: what is said of it stands at its place among his, and he among the players
+-- a player's set: its place among those of all
 record IsHis (g : Game) (counted : List (List ℕ)) (key : SetKey) (set : InformationSet)
     : Type 0 where
   place : ℕ
-  within : place < length (get_or counted (key.player - 1) [])
-  count : get_or (get_or counted (key.player - 1) []) place 0 ≡ length set.actions
-  said : (all : List (List ℕ)) → get_or (get_or all (key.player - 1) []) place 0
-      ≡ choices_by g all key
+  within : place < length (in_order counted)
+  count : get_or (in_order counted) place 0 ≡ length set.actions
+  said : (all : List (List ℕ)) → map length all ≡ map length counted
+      → get_or (in_order all) place 0 ≡ choices_by g all key
   some_action : 0 < length set.actions
 
-module _ (g : Game) (game : IsGame g) where
+module _ (g : Game) (game : IsGame g) (d : Digits) (values : ℕ) where
   abbrev counted : List (List ℕ)
   counted = map (action_counts g) (players_of g)
 
-  positive_for : (players : List ℕ) → AllPositive (map (action_counts g) players)
+  abbrev sets : List ℕ
+  sets = in_order counted
+
+  abbrev steps : List (List ℕ)
+  steps = map (λ own. own.items) d.steps.items
+
+  positive_for : (players : List ℕ) → ArePositive (in_order (map (action_counts g) players))
   positive_for [] = tt
-  positive_for (player ∷ players) = (actions_positive g game player, positive_for players)
+  positive_for (player ∷ players) =
+      all_both (λ count. 0 < count) (in_order (map (action_counts g) players))
+      (action_counts g player) (positive_for players) (actions_positive g game player)
 
   products_for : (players : List ℕ) → map product (map (action_counts g) players)
       ≡ map (λ player. length (strategies g player)) players
@@ -119,15 +105,33 @@ module _ (g : Game) (game : IsGame g) where
   his key set is above =
       let known = set_is g game key set is in
       let here = among (player_sets g key.player) key set (among_his g key ∙ is) in
-      grind (arith, of_player, length-map, strategy_before)
+      let i = key.player - 1 in
+      let own : get_or counted i [] ≡ action_counts g key.player = grind (arith, of_player) in
+      let inside : i < length counted =
+      omega (arith, known.player, above, as_many_players g (action_counts g)) in
+      let wide : here.place < get_or (map length counted) i 0 = omega (
+        arith,
+        here.within,
+        ap length own,
+        get_or-map length counted i [] 0 inside,
+        length-map (player_sets g key.player) (λ s. length s.description.actions),
+      ) in
+      record {
+        place = spot (map length counted) i here.place;
+        within = (at_spot counted i here.place wide).0;
+        count = (at_spot counted i here.place wide).1 ∙ grind (arith, own);
+        said = λ all same. ((rw same at (at_spot all i here.place)) wide).1
+            ∙ grind (arith, here.choice, strategy_before);
+        some_action = known.some_action;
+      }
 
-  within : (d : Digits) → AreMade counted d → product (spans (digit_actions d)) < 2 ^ 64
-  within d made = grind (arith, values_at_digits)
-
-  module _ (d : Digits) (made : AreMade counted d) (number : ℕ)
-      (less : number < length (full_profiles g)) where
+  module _ (digits : AreDigitsOf sets d.digits.items values) (made : AreStepsOf counted steps)
+      (number : ℕ) (less : number < length (full_profiles g)) where
     abbrev profile : List (List ℕ)
     profile = strategies_at g (get_or (full_profiles g) number [])
+
+    abbrev choices : List ℕ
+    choices = get_or (all_choices (digit_actions d)) number []
 
     below : number < product (map product counted)
     below = omega (arith, less, as_many_choices)
@@ -135,24 +139,30 @@ module _ (g : Game) (game : IsGame g) where
     numbered_is : numbered counted number ≡ profile
     numbered_is = grind (arith, numbered_strategies, below, products_for)
 
-    are : AreChoices counted profile
-    are = subst (AreChoices counted) numbered_is (numbered_choices counted number below)
+    chosen : (map length profile ≡ map length counted)
+        × (in_order profile ≡ get_or (all_choices sets) number [])
+    chosen = rw numbered_is at (in_order_numbered counted number below)
 
-    choices_are : get_or (all_choices (digit_actions d)) number [] ≡ at_digits counted profile
-    choices_are = grind (arith, numbered_at_digits, positive_for, below, numbered_is)
+    choices_are : choices ≡ picked sets (in_order profile)
+    choices_are = grind (arith, picked_at, positive_for, below, chosen, product_in_order)
 
-    choice : IsChoice (digit_actions d) (get_or (all_choices (digit_actions d)) number [])
-    choice = grind (arith, choice_at_number, below, product_at_digits, positive_for)
+    choice : IsChoice (digit_actions d) choices
+    choice = grind (arith, choice_at_number, below, product_picked, product_in_order, positive_for)
 
-    digits_are : AreDigits g (choices_by g (map (λ own. own.items) d.steps.items))
-        (choices_by g profile) (digit_actions d) (get_or (all_choices (digit_actions d)) number [])
+    bounds : (place : ℕ) → place < length (digit_actions d)
+        → (1 ≤ get_or choices place 0) × (get_or choices place 0 ≤ get_or (digit_actions d) place 0)
+    bounds place within = choice_bounds choices (digit_actions d) place choice
+        (omega (arith, within, choice_length (digit_actions d) choices choice))
+
+    long : length (in_order profile) ≡ length sets
+    long = grind (arith, length-in_order, chosen)
+
+    digits_are : AreDigits g (choices_by g steps) (choices_by g profile) (digit_actions d) choices
     digits_are = record {
-      within = within d made;
-      one_each = sym (AllZip-long (λ action count. (1 ≤ action) × (action ≤ count))
-          (get_or (all_choices (digit_actions d)) number []) (digit_actions d) choice);
-      some = λ place within. (choice_bounds (digit_actions d)
-          (get_or (all_choices (digit_actions d)) number []) choice place within).0;
-      valid = grind (arith, choice_bounds, choice);
+      within = grind arith;
+      one_each = choice_length (digit_actions d) choices choice;
+      some = λ place within. (bounds place within).0;
+      valid = λ place within. (bounds place within).1;
       chosen = λ key set is personal. have_actions g game profile
           (profile_strategies g (get_or (full_profiles g) number []) (
             number,
@@ -162,32 +172,31 @@ module _ (g : Game) (game : IsGame g) where
           key set is (omega (arith, personal));
       alone = λ key set is personal none.
           let h = his key set is (omega (arith, personal)) in
-          let few = alone counted 1 (key.player - 1) h.place (omega arith)
-          (cc (h.said (map (λ own. own.items) d.steps.items))) in
+          let few = own_alone sets 1 h.place (omega arith)
+          (cc (h.said steps made.as_many, made.each)) in
           omega (arith, few, h.count, h.some_action);
       several = λ key set is personal some.
           let h = his key set is (omega (arith, personal)) in
-          let step = ap (λ (all : List (List ℕ)). get_or (get_or all (key.player - 1) []) h.place 0)
-          (sym made.steps) ∙ h.said (map (λ own. own.items) d.steps.items) in
-          same_digit (at_digits counted counted ++ []) (digit_actions d)
-          (at_digits counted profile ++ []) (get_or (all_choices (digit_actions d)) number [])
-          (get_or (get_or (all_steps 1 counted) (key.player - 1) []) h.place 0)
-          (choices_by g (map (λ own. own.items) d.steps.items) key)
-          (get_or (get_or counted (key.player - 1) []) h.place 0) (length set.actions)
-          (get_or (get_or profile (key.player - 1) []) h.place 0) (choices_by g profile key)
-          (append-nil (at_digits counted counted) ∙ sym made.digit_actions_are)
-          (append-nil (at_digits counted profile) ∙ sym choices_are) step h.count
-          (h.said profile)
-          (grind (arith, digit_of, have_shape, are));
+          let step : get_or (steps_behind 1 sets) h.place 0 ≡ choices_by g steps key =
+          cc (h.said steps made.as_many, made.each) in
+          let digit = own_digit sets (in_order profile) [] [] 1 h.place refl long h.within
+          (λ none. some (sym step ∙ none)) in
+          rw (
+            append-nil (picked sets sets),
+            append-nil (picked sets (in_order profile)),
+            sym digits.actions_are,
+            sym choices_are,
+            step,
+            h.count,
+            h.said profile chosen.0,
+          ) at digit;
     }
 
-  pub has_digits : (d : Digits) → AreMade counted d → HasDigits g d
-  has_digits d made = record {
-    steps = made.digit_steps_are
-        ∙ sym (append-nil (at_digits counted (all_steps 1 counted)))
-        ∙ all_steps_are counted [] 1 refl
-        ∙ ap steps_of (append-nil (at_digits counted counted) ∙ sym made.digit_actions_are);
-    within = within d made;
-    as_many = grind (arith, product_at_digits, positive_for, as_many_choices);
-    choices = λ number less. digits_are d made number less;
+  pub has_digits : AreDigitsOf sets d.digits.items values → AreStepsOf counted steps
+      → HasDigits g d
+  has_digits digits made = record {
+    steps = grind arith;
+    within = grind arith;
+    as_many = grind (arith, product_picked, product_in_order, positive_for, as_many_choices);
+    choices = λ number less. digits_are digits made number less;
   }

@@ -2,9 +2,9 @@
 use Rattle.gf_form.proofs.Common.{AllByRecursion, sum_of_entries, if◌then◌else◌, unsigned_abs, ◌+ℤ◌}
 use Rattle.gf_form.proofs.Common.{AreExactAt, ComeAsWell, dvd_trans, all_parts, AreMerged, +ℤ_assoc}
 use Rattle.gf_form.proofs.Common.{IsExactAt, number_at, all_both, *ℤ_assoc, zero-*ℤ, IsSumOf, false}
-use Rattle.gf_form.proofs.Common.{lowered, +ℤ_idl, lt-ltb, add-*ℤ, ComeTo, subst, arith, meets, ◌≡◌}
-use Rattle.gf_form.proofs.Common.{Entry, ◌*ℤ◌, Bool, true, List, ◌++◌, refl, ints, pos, ◌+◌, ◌-◌, ℕ}
-use Rattle.gf_form.proofs.Common.{◌*◌, ◌/◌, ◌<◌, ◌≤◌, ◌∷◌, sym, map, ◌⊎◌, ◌∣◌, [], ap, ℤ}
+use Rattle.gf_form.proofs.Common.{lowered, +ℤ_idl, add-*ℤ, ComeTo, arith, meets, ◌≡◌, Entry, ◌*ℤ◌}
+use Rattle.gf_form.proofs.Common.{Bool, true, List, ◌++◌, refl, ints, pos, ◌+◌, ◌-◌, ℕ, ◌*◌, ◌/◌}
+use Rattle.gf_form.proofs.Common.{◌<◌, ◌≤◌, ◌∷◌, sym, map, ◌⊎◌, ◌∣◌, [], ap, ℤ}
 use Rattle.gf_form.proofs.lemmas.rows.OverOneDenominator.{quotient_through}
 
 false_true : ¬ (false ≡ true)
@@ -109,43 +109,39 @@ module _ (den : ℕ) (steps choices : List ℕ) (a b sum : Entry)
 
 -- ---- while terms are merged
 
--- what terms come to, as those that are made and two kinds of those that are still to come
-pub record Parts (den : ℕ) (step action : ℕ) (steps choices : List ℕ)
-    (terms left more others : List Entry) : Type 0 where
-  pub exact : AreExactAt den (step ∷ steps) (action ∷ choices) terms
-  pub sums : (k : ℕ) → sum_of_entries k den (step ∷ steps) (action ∷ choices) terms
-      ≡ sum_of_entries k den steps choices left
-      +ℤ (sum_of_entries k den steps choices more +ℤ sum_of_entries k den steps choices others)
-
+-- what is left of terms, as those that are made and two kinds of those that are still to come
 abbrev pub Merging : ℕ → ℕ → List Entry → List Entry → List Entry → List Entry → Type 0
-Merging step action terms left more others = (den : ℕ) (steps choices : List ℕ)
-    → AreExactAt den steps choices left → AreExactAt den steps choices more
-    → AreExactAt den steps choices others
-    → Parts den step action steps choices terms left more others
+Merging step action terms left more others = AreMerged step action terms (left ++ (more ++ others))
 
 -- one more is made of some that come first
 pub take_next : (step action : ℕ) (terms left more others xs ys : List Entry) (t : Entry)
     → ComeAsWell (xs ++ ys) (t ∷ []) → Merging step action terms left (xs ++ more) (ys ++ others)
     → Merging step action terms (left ++ t ∷ []) more others
-take_next step action terms left more others xs ys t come before den steps choices done exact_more
-    exact_others =
+take_next step action terms left more others xs ys t come before den steps choices exact =
     let P = IsExactAt den steps choices in
     let add = sum_append den steps choices in
-    let both = all_parts P left (t ∷ []) done in
-    let own = come den steps choices both.1 in
+    let done = all_parts P (left ++ t ∷ []) (more ++ others) exact in
+    let made = all_parts P left (t ∷ []) done.0 in
+    let rest = all_parts P more others done.1 in
+    let own = come den steps choices made.1 in
     let each = all_parts P xs ys own.exact in
-    let parts = before den steps choices both.0 (all_both P xs more each.0 exact_more)
-    (all_both P ys others each.1 exact_others) in record {
+    let parts = before den steps choices (all_both P left ((xs ++ more) ++ (ys ++ others)) made.0
+    (all_both P (xs ++ more) (ys ++ others) (all_both P xs more each.0 rest.0)
+    (all_both P ys others each.1 rest.1))) in record {
       exact = parts.exact;
       sums = λ k. omega (
         arith,
         ints,
         parts.sums k,
         own.sums k,
-        add k left (t ∷ []),
+        add k left ((xs ++ more) ++ (ys ++ others)),
+        add k (xs ++ more) (ys ++ others),
         add k xs more,
         add k ys others,
         add k xs ys,
+        add k (left ++ t ∷ []) (more ++ others),
+        add k left (t ∷ []),
+        add k more others,
       );
     }
 
@@ -163,21 +159,10 @@ abbrev pub IsOther : ℕ → ℕ → Entry → Type 0
 IsOther step action e = (step ≤ e.head.demands)
     × (e.head.demands < action * step ⊎ action * step + step ≤ e.head.demands)
 
-abbrev demanding : (Entry → ℕ) → Entry → Entry
-demanding d e = record {
-  head = record { demands = d e; den = e.head.den; size = e.head.size };
-  row = e.row;
-}
-
-map_same : (es : List Entry) → map (demanding (λ e. e.head.demands)) es ≡ es
-map_same [] = refl
-map_same (e ∷ es) = ap (λ (xs : List Entry). e ∷ xs) (map_same es)
-
 module _ (step action : ℕ) (steps choices : List ℕ) where
-  free_met : (e : Entry) → IsFree step e
-      → meets (step ∷ steps) (action ∷ choices) e.head.demands
-      ≡ meets steps choices e.head.demands
-  free_met e free = rw (lt-ltb e.head.demands step free) refl
+  free_met : (e : Entry) → IsFree step e → meets (step ∷ steps) (action ∷ choices) e.head.demands
+      ≡ meets steps choices (e.head.demands - 0)
+  free_met e free = grind arith
 
   own_met : (e : Entry) → 1 ≤ action → IsOwn step action e
       → meets (step ∷ steps) (action ∷ choices) e.head.demands
@@ -192,13 +177,13 @@ module _ (step action : ℕ) (steps choices : List ℕ) where
     abbrev Come : List Entry → List Entry → Type 0
     Come es others = ComeTo den (step ∷ steps) (action ∷ choices) es steps choices others
 
-    -- the same terms with other demands that are met as theirs are
-    come_same : (d : Entry → ℕ)
+    -- the same terms with lower demands that are met as theirs are
+    come_lowered : (less : ℕ)
         → ((e : Entry) → P e → meets (step ∷ steps) (action ∷ choices) e.head.demands
-        ≡ meets steps choices (d e)) → (es : List Entry) → AllByRecursion P es
-        → AreExactAt den steps choices (map (demanding d) es) → Come es (map (demanding d) es)
-    come_same d met [] all h = record { exact = tt; sums = λ k. refl }
-    come_same d met (e ∷ es) all h = grind (arith, come_same d met es all.1 h.1)
+        ≡ meets steps choices (e.head.demands - less)) → (es : List Entry) → AllByRecursion P es
+        → AreExactAt den steps choices (map (lowered less) es) → Come es (map (lowered less) es)
+    come_lowered less met [] all h = record { exact = tt; sums = λ k. refl }
+    come_lowered less met (e ∷ es) all h = grind (arith, come_lowered less met es all.1 h.1)
 
     come_none : ((e : Entry) → P e
         → meets (step ∷ steps) (action ∷ choices) e.head.demands ≡ false) → (es : List Entry)
@@ -216,22 +201,18 @@ pub record Ranges (step action : ℕ) (terms free between own rest : List Entry)
 
 pub first_parts : (step action : ℕ) (terms free between own rest : List Entry) → 1 ≤ action
     → Ranges step action terms free between own rest
-    → Merging step action terms [] free (map (lowered (action * step)) own)
-first_parts step action terms free between own rest some ranges den steps choices none exact_free
-    exact_own =
+    → AreMerged step action terms (map (lowered 0) free ++ map (lowered (action * step)) own)
+first_parts step action terms free between own rest some ranges den steps choices exact =
     let both = all_both (IsExactAt den (step ∷ steps) (action ∷ choices)) in
     let sum = λ (k : ℕ). sum_append den (step ∷ steps) (action ∷ choices) k in
-    let come = come_same step action steps choices den in
+    let add = λ (k : ℕ). sum_append den steps choices k (map (lowered 0) free) in
+    let come = come_lowered step action steps choices den in
     let other = come_none step action steps choices den (IsOther step action)
     (other_unmet step action steps choices) in
-    let frees = subst (Come step action steps choices den (IsFree step) free) (map_same free)
-    (come (IsFree step) (λ e. e.head.demands) (free_met step action steps choices) free
-    ranges.are_free (subst (AreExactAt den steps choices) (sym (map_same free)) exact_free)) in
-    let owns = come (IsOwn step action) (λ e. e.head.demands - action * step)
-    (λ e. own_met step action steps choices e some) own ranges.are_own exact_own in
+    let parts = all_parts (IsExactAt den steps choices) (map (lowered 0) free)
+    (map (lowered (action * step)) own) exact in
+    let frees = come (IsFree step) 0 (free_met step action steps choices) free ranges.are_free
+    parts.0 in
+    let owns = come (IsOwn step action) (action * step)
+    (λ e. own_met step action steps choices e some) own ranges.are_own parts.1 in
     grind arith
-
--- nothing is left to be merged
-pub all_merged : (step action : ℕ) (terms left : List Entry)
-    → Merging step action terms left [] [] → AreMerged step action terms left
-all_merged step action terms left done den steps choices exact = grind arith

@@ -1,17 +1,17 @@
 -- Terms that fit together over one denominator, and those of them that add something.
 use Rattle.gf_form.proofs.Common.{*ℤ-cancel_right, sum_of_entries, AllByRecursion, div-mul_cancel}
 use Rattle.gf_form.proofs.Common.{if◌then◌else◌, first_entries, unsigned_abs, AreExactAt, all_parts}
-use Rattle.gf_form.proofs.Common.{AreOrdered, EndsBelow, number_at, SettlesAt, dvd_refl, all_both}
-use Rattle.gf_form.proofs.Common.{*ℤ_assoc, AreAlike, IsShaped, entry_at, zero-*ℤ, entries, lowered}
-use Rattle.gf_form.proofs.Common.{add-one, length, add-*ℤ, Global, arith, meets, Entry, Terms, refl}
-use Rattle.gf_form.proofs.Common.{subst, Game, ints, ◌+ℤ◌, ◌*ℤ◌, Bool, true, List, ◌++◌, zero, ◌≡◌}
-use Rattle.gf_form.proofs.Common.{pos, ◌+◌, ◌*◌, ◌/◌, ◌<◌, ◌≤◌, ◌^◌, ◌∷◌, sym, ◌∙◌, ◌∣◌, suc, Vec}
-use Rattle.gf_form.proofs.Common.{[], ap, ℕ, ℤ}
+use Rattle.gf_form.proofs.Common.{AreOrdered, number_at, SettlesAt, dvd_refl, all_both, *ℤ_assoc}
+use Rattle.gf_form.proofs.Common.{AreAlike, IsShaped, entry_at, zero-*ℤ, entries, lowered, add-one}
+use Rattle.gf_form.proofs.Common.{length, add-*ℤ, Global, arith, meets, Entry, Terms, refl, subst}
+use Rattle.gf_form.proofs.Common.{Game, ints, ◌+ℤ◌, ◌*ℤ◌, Bool, true, List, ◌++◌, zero, ◌≡◌, pos}
+use Rattle.gf_form.proofs.Common.{◌+◌, ◌*◌, ◌/◌, ◌<◌, ◌≤◌, ◌^◌, ◌∷◌, sym, ◌∙◌, ◌∣◌, suc, Vec, []}
+use Rattle.gf_form.proofs.Common.{ap, ℕ, ℤ}
 use Rattle.gf_fraction.proofs.Integers.{*ℤ_right_comm}
 use Rattle.gf_form.specs.inner.rows.Paying.{FitOver, IsOver, Kept, SettleAsWell, sizes_of}
 use Rattle.gf_form.proofs.lemmas.rows.FlatRows.{demands_more, itself, terms_count}
 use Rattle.gf_form.proofs.lemmas.rows.MergedEntries.{none_first, sum_append}
-use Rattle.gf_form.proofs.lemmas.rows.Merges.{below_more, demands_at, lowered_none, ordered_more}
+use Rattle.gf_form.proofs.lemmas.rows.Merges.{MayCome, lowered_none, ordered_more, skips, waits}
 
 -- ---- all over one denominator
 
@@ -122,7 +122,7 @@ pub record Paying (from : Terms) (i : ℕ) (left : Terms) : Type 0 where
   pub shaped : IsShaped left
   pub alike : AreAlike left from
   pub ordered : AreOrdered left
-  pub next : i < length from.demands.items → EndsBelow left.demands.items (demands_at from i)
+  pub may : MayCome from left 0 i (length from.demands.items)
 
 pub first_paying : (from left : Terms) → entries left ≡ [] → IsShaped left
     → AreAlike left from → Paying from 0 left
@@ -133,32 +133,25 @@ module _ (from : Terms) (i : ℕ) (left : Terms) (sorted : AreOrdered from)
   one_more : first_entries from (i + 1) ≡ first_entries from i ++ entry_at from i ∷ []
   one_more = ap (first_entries from) (add-one i)
 
-  rises : i + 1 < length from.demands.items → demands_at from i ≤ demands_at from (i + 1)
-  rises there = sorted i (i + 1) 0 (omega arith) there
-
   pub more_paying : (after : Terms) → entries after ≡ entries left
       ++ lowered 0 (entry_at from i) ∷ []
       → AreAlike after left → IsShaped after → Paying from (i + 1) after
   more_paying after is alike shaped =
-      let e = entry_at from i in
-      let grown = demands_more left after (lowered 0 e) is in
-      let demands : (lowered 0 e).head.demands ≡ demands_at from i =
-      grind (arith, lowered_none) in
+      let grown = demands_more left after (lowered 0 (entry_at from i)) is in
       record {
-        kept = grind (arith, one_more, lowered_none, kept_more);
+        kept = rw (one_more, is, lowered_none (entry_at from i))
+            (kept_more (first_entries from i) (entries left) (entry_at from i) before.kept);
         shaped = shaped;
         alike = (alike.0 ∙ before.alike.0, alike.1 ∙ before.alike.1);
-        ordered = ordered_more left.demands.items after.demands.items (lowered 0 e).head.demands
-            grown before.ordered
-            (λ d some. let le = before.next less d some in omega (arith, le, demands));
-        next = λ there. below_more left.demands.items after.demands.items (lowered 0 e).head.demands
-            (demands_at from (i + 1)) grown
-            (let le = rises there in omega (arith, le, demands));
+        ordered = ordered_more left.demands.items after.demands.items _ grown before.ordered
+            (before.may.rises less);
+        may = skips sorted (waits grown before.may (λ _. omega arith)) less;
       }
 
   pub same_paying : ((k : ℕ) → number_at (suc k) (entry_at from i) ≡ pos 0)
       → Paying from (i + 1) left
-  same_paying none = grind (arith, one_more, kept_zero, rises)
+  same_paying none =
+      let may = skips sorted before.may less in grind (arith, one_more, kept_zero)
 
 -- those of terms that were put over one denominator
 pub last_paying : (from plain left : Terms) (i den : ℕ) → i ≡ length plain.demands.items

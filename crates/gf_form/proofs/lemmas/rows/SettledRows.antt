@@ -20,9 +20,9 @@ pub choice_of : (n count least number : ℕ) → least ≤ number → number - l
     (least + (number - least) / count * count)
 choice_of n count least number from to = grind arith
 
-settled_left : (g : Game) (number step action : ℕ) (steps choices : List ℕ) (es left : List Entry)
-    → AreMerged step action es left → Settles g number (step ∷ steps) (action ∷ choices) es
-    → Settles g number steps choices left
+pub settled_left : (g : Game) (number step action : ℕ) (steps choices : List ℕ)
+    (es left : List Entry) → AreMerged step action es left
+    → Settles g number (step ∷ steps) (action ∷ choices) es → Settles g number steps choices left
 settled_left g number step action steps choices es left merged settles k less den above within exact
     small = grind arith
 

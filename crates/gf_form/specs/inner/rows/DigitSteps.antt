@@ -1,4 +1,4 @@
--- The digits of the sets of all players, by how many actions there are at each.
+-- The digits of sets, by how many actions there are at each.
 use Rattle.std.specs.Prelude.{ℕ, suc, ◌*◌, List, [], ◌∷◌, ◌++◌}
 use Rattle.gf_nfg.specs.Profiles.{product}
 use Rattle.gf_form.specs.inner.rows.Demands.{spans}
@@ -9,25 +9,19 @@ picked (suc (suc n) ∷ counts) (x ∷ xs) = x ∷ picked counts xs
 picked (n ∷ counts) (x ∷ xs) = picked counts xs
 picked _ _ = []
 
--- the same for all players, in the order of the digits, from the slowest on: the last player's sets
--- come first
-abbrev pub at_digits : List (List ℕ) → List (List ℕ) → List ℕ
-at_digits (counts ∷ others) (xs ∷ more) = at_digits others more ++ picked counts xs
-at_digits _ _ = []
+-- What there is at all players' sets, in the order of their digits, from the slowest on: the last
+-- player's sets come first.
+abbrev pub in_order : List (List ℕ) → List ℕ
+in_order [] = []
+in_order (own ∷ others) = in_order others ++ own
 
--- how many values the digits of a player's sets have together
+-- how many values the digits of these sets have together
 abbrev pub width : List ℕ → ℕ
 width counts = product (spans (picked counts counts))
 
--- The step of the digit of each of a player's sets, if the digits of the players before him have
+-- The step of the digit of each of these sets, if the digits that are faster than all of them have
 -- this many values together; 0 if there is no digit.
 abbrev pub steps_behind : ℕ → List ℕ → List ℕ
 steps_behind faster [] = []
 steps_behind faster (suc (suc n) ∷ later) = (width later * faster) ∷ steps_behind faster later
 steps_behind faster (n ∷ later) = 0 ∷ steps_behind faster later
-
--- those of all players' sets
-abbrev pub all_steps : ℕ → List (List ℕ) → List (List ℕ)
-all_steps faster [] = []
-all_steps faster (counts ∷ others) =
-    steps_behind faster counts ∷ all_steps (width counts * faster) others

@@ -3,6 +3,7 @@ use Rattle.std.specs.Prelude.{◌≡◌, ℕ, ◌<◌, ◌^◌, List, [], length
 use Rattle.gf_nfg.specs.Profiles.{product}
 use Rattle.gf_tree.specs.Game.{Game}
 use Rattle.gf_form.specs.inner.rows.Demands.{spans, steps_of}
+use Rattle.gf_form.specs.inner.rows.DigitSteps.{in_order, picked, steps_behind, width}
 use Rattle.gf_form.specs.inner.rows.Shares.{AreDigits}
 use Rattle.gf_form.specs.Strategies.{all_choices, choices_by, full_profiles, strategies_at}
 use Rattle.gf_form.specs.declared.rows.digits.Digit.{Digit}
@@ -15,6 +16,18 @@ actions_at digits = map (λ d. d.actions) digits
 -- each digit has the step that the faster ones give it
 abbrev pub HaveSteps : List Digit → Type 0
 HaveSteps digits = map (λ d. d.step) digits ≡ steps_of (actions_at digits)
+
+-- these are the digits of sets with this many actions each, and they have so many values together
+pub record AreDigitsOf (counts : List ℕ) (digits : List Digit) (values : ℕ) : Type 0 where
+  pub actions_are : actions_at digits ≡ picked counts counts
+  pub steps_are : map (λ d. d.step) digits ≡ steps_of (picked counts counts)
+  pub values_are : values ≡ width counts
+  pub fits : values < 2 ^ 64
+
+-- these are the steps of the sets of all players, who have this many actions at each
+pub record AreStepsOf (counts steps : List (List ℕ)) : Type 0 where
+  pub each : in_order steps ≡ steps_behind 1 (in_order counts)
+  pub as_many : map length steps ≡ map length counts
 
 -- how many actions there are at each digit, from the slowest on
 abbrev pub digit_actions : Digits → List ℕ

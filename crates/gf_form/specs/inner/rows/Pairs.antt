@@ -1,23 +1,27 @@
 -- What at most two terms come to: one that demands nothing, and one that demands an action of the
 -- fastest digit.
 use Rattle.std.specs.Prelude.{◌≡◌, ℕ, ℤ, suc, pos, ◌<◌, ◌^◌, ◌+ℤ◌, ◌*ℤ◌, List, [], ◌∷◌, get_or}
-use Rattle.std.specs.Prelude.{length}
+use Rattle.std.specs.Prelude.{◌++◌, length, map}
 use Rattle.std.specs.Int.{◌∣◌}
 use Rattle.gf_fraction.specs.Ratio.{HasValue, IsFraction, IsWithin, Ratio}
 use Rattle.gf_tree.specs.Game.{Game}
-use Rattle.gf_form.specs.inner.rows.Entries.{AreExactAt, ComeTo, Entry, sum_of_entries}
+use Rattle.gf_form.specs.inner.rows.Entries.{AreExactAt, ComeTo, Entry, entries, lowered, part}
+use Rattle.gf_form.specs.inner.rows.Entries.{sum_of_entries}
 use Rattle.gf_form.specs.inner.rows.ItemRows.{HasRow}
 use Rattle.gf_form.specs.inner.rows.SettledRows.{PaysOver}
+use Rattle.gf_form.specs.declared.rows.chosen.Chosen.{Chosen}
 use Rattle.gf_form.specs.declared.rows.pairs.Only.{Only}
 use Rattle.gf_form.specs.declared.rows.pairs.Pair.{Pair}
+use Rattle.gf_form.specs.declared.rows.terms.Terms.{Terms}
 
 abbrev pub entry_of : Only → Entry
 entry_of only = record { head = only.head; row = only.numbers.now }
 
--- Terms that demand nothing more come to this one, over each denominator that its own divides.
+-- Terms that demand nothing more, their demands lowered by anything, come to this one, over each
+-- denominator that its own divides.
 abbrev pub IsOnly : List Entry → Only → Type 0
-IsOnly es only = (den : ℕ) → 0 < only.head.den → only.head.den ∣ den
-    → ComeTo den [] [] es [] [] (entry_of only ∷ [])
+IsOnly es only = (den less : ℕ) → 0 < only.head.den → only.head.den ∣ den
+    → ComeTo den [] [] (map (lowered less) es) [] [] (entry_of only ∷ [])
 
 -- what the pair has for the player at this place, from 0
 abbrev pub pair_number : Pair → ℕ → ℤ
@@ -31,6 +35,12 @@ pub record ComeToPair (steps choices : List ℕ) (es : List Entry) (pair : Pair)
   pub exact : AreExactAt pair.scale.den steps choices es
   pub size : IsWithin (sum_of_entries 0 pair.scale.den steps choices es)
   pub sums : (k : ℕ) → sum_of_entries (suc k) pair.scale.den steps choices es ≡ pair_number pair k
+
+-- the pair is what the terms come to that are chosen, if they demand nothing more
+abbrev pub IsPair : Terms → Chosen → Pair → Type 0
+IsPair t chosen pair = (less : ℕ)
+    → ComeToPair [] [] (map (lowered 0) (part 0 chosen.free (entries t))
+    ++ map (lowered less) (part chosen.start chosen.end (entries t))) pair
 
 -- the pair is what is paid at the profile with this number, from 0, among all
 pub record IsPaidPair (g : Game) (number : ℕ) (pair : Pair) : Type 0 where

@@ -76,11 +76,6 @@ abbrev pub SettleRows : Asked → List ℕ → Terms → Run → Type 0
 SettleRows asked actions terms run = (i : ℕ) → run.from ≤ i → i < run.to
     → SettlesAt asked.game.now actions terms run.first (get_or asked.numbers.now i 0)
 
--- they come to what is paid there whatever is chosen
-abbrev pub SettleAlike : Asked → Terms → Run → Type 0
-SettleAlike asked terms run = (i : ℕ) → run.from ≤ i → i < run.to
-    → Settles asked.game.now (get_or asked.numbers.now i 0) [] [] (entries terms)
-
 -- the rows of the profiles of a run come next
 abbrev pub AreDue : Asked → Run → Written → Type 0
 AreDue asked run written = IsAsked asked × (run.from ≤ run.to)

@@ -1,9 +1,8 @@
-use Rattle.gf_form.proofs.Common.{◌∙◌, ◌<◌, ◌+ℤ◌, ◌*ℤ◌, ◌++◌, ◌∷◌, [], ℕ, ℤ, List, get_or, false}
-use Rattle.gf_form.proofs.Common.{length, lit<, pos, ap, arith, subst, AllByRecursion, IsWithin}
+use Rattle.gf_form.proofs.Common.{◌∙◌, ◌+ℤ◌, ◌*ℤ◌, ◌++◌, ◌∷◌, [], ℕ, ℤ, false, lit<, pos, ap, arith}
+use Rattle.gf_form.proofs.Common.{subst, IsWithin, to_z-of_z, w128}
 use Rattle.gf_form.specs.inner.rows.Entries.{IsSumAt}
 use Rattle.gf_form.specs.inner.rows.ItemRows.{HasRow}
 use Rattle.gf_form.proofs.lemmas.rows.ItemRows.{in_bits, one_item, unknown}
-use Rattle.gf_form.proofs.lemmas.strategies.StrategiesByNumber.{all_at}
 use Rattle.gf_form.proofs.rows.terms.push_numbers.Goals.{in-None, in-Some}
 use Rattle.gf_form.proofs.rows.terms.push_numbers.Goals as goal
 
@@ -20,11 +19,10 @@ loop-place-preserved c =
       | in-Some w ↦
           let number = w.in-Some.number in
           let small : IsWithin number = w.in-Some.ensures.within in
-          let read = λ (ns : List ℤ) (all : AllByRecursion IsWithin ns) (h : place < length ns).
-          in_bits (get_or ns place (pos 0)) (all_at IsWithin ns place (pos 0) all h) in
-          let first = read c.args.first.now c.requires.first less in
-          let second =
-          read c.args.second.now c.requires.second (omega (arith, less, c.requires.alike)) in
+          let first = to_z-of_z w128 c.number_at-one.result
+          (record { sfits = c.number_at-one.type_inv }) ∙ c.number_at-one.ensures in
+          let second = to_z-of_z w128 c.number_at-other.result
+          (record { sfits = c.number_at-other.type_inv }) ∙ c.number_at-other.ensures in
           let sum = w.in-Some.ensures.sum
           ∙ (λ i. first i *ℤ pos c.args.by_first +ℤ second i *ℤ pos c.args.by_second) in
           rw (w.numbers-is, w.fits-is) (record {

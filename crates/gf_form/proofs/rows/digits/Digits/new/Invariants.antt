@@ -1,11 +1,10 @@
-use Rattle.gf_form.proofs.Common.{◌≡◌, drop, map, at_digits}
+use Rattle.gf_form.proofs.Common.{map, take, AreDigitsOf, AreStepsOf, in_order}
 use Rattle.gf_form.proofs.lemmas.strategies.CountsGiven.{actions_in}
 use Rattle.gf_form.proofs.rows.digits.Digits.new.Given as goal
 
-abbrev pub invariant-loop-place : goal.invariant-loop-place
-invariant-loop-place l =
-    (map (λ digit. digit.step) l.digits.items
-    ≡ at_digits (drop l.place (actions_in l.counts))
-    (drop l.place (map (λ own. own.items) l.steps.items)))
-    × (map (λ digit. digit.actions) l.digits.items
-    ≡ at_digits (drop l.place (actions_in l.counts)) (drop l.place (actions_in l.counts)))
+abbrev pub invariant-loop-own : goal.invariant-loop-own
+invariant-loop-own l = record {
+  digits : AreDigitsOf (in_order (take l.own-index (actions_in l.counts))) l.digits.items l.values;
+  steps : AreStepsOf (take l.own-index (actions_in l.counts))
+      (map (λ own. own.items) l.steps.items);
+}

@@ -1,19 +1,9 @@
 use Rattle.gf_form.proofs.Common.{get_or_default, entry_at, IsWithin, get_or, length, Global, arith}
 use Rattle.gf_form.proofs.Common.{◌+ℤ◌, ◌*ℤ◌, true, ◌≡◌, ◌∙◌, ◌<◌, pos, sym, Vec, ap, ℕ, ℤ}
-use Rattle.gf_form.proofs.lemmas.rows.FlatRows.{Pushed, is_pushed, row_in_bound}
-use Rattle.gf_form.proofs.lemmas.rows.FlatRows.{all_sums, row_length, sum_made}
+use Rattle.gf_form.proofs.lemmas.rows.FlatRows.{Pushed, is_pushed, all_sums, row_length, sum_made}
 use Rattle.gf_form.proofs.lemmas.rows.ItemRows.{all_by_place}
 use Rattle.gf_form.proofs.rows.terms.Terms.push_over.Goals.{then-fits, else-fits}
 use Rattle.gf_form.proofs.rows.terms.Terms.push_over.Goals as goal
-
-pub push_numbers-requires-clause-alike : goal.push_numbers-requires-clause-alike
-push_numbers-requires-clause-alike c = grind (arith, row_length)
-
-pub push_numbers-requires-clause-first : goal.push_numbers-requires-clause-first
-push_numbers-requires-clause-first c = grind (arith, row_in_bound)
-
-pub push_numbers-requires-clause-second : goal.push_numbers-requires-clause-second
-push_numbers-requires-clause-second c = grind (arith, row_in_bound)
 
 made : (c : goal.In_ok-push_head) → Pushed c.args.self.now c.push_head.new.self (record {
   head = record { demands = c.index.result.now; den = c.if-fits.den; size = c.args.scale.size };

@@ -2,6 +2,12 @@ use Rattle.gf_form.proofs.Common.{◌≡◌, ◌++◌, ◌∙◌, List, ap, arit
 use Rattle.gf_form.proofs.lemmas.rows.PairRows.{next_row, paid_alike}
 use Rattle.gf_form.proofs.rows.written.Written.push_alike.Goals as goal
 
+pub push_to-requires-clause-above : goal.push_to-requires-clause-above
+push_to-requires-clause-above c = (c.in-Some.ensures 0).above
+
+pub push_to-requires-clause-within : goal.push_to-requires-clause-within
+push_to-requires-clause-within c = (c.in-Some.ensures 0).within
+
 pub loop-before-preserved : goal.loop-before-preserved
 loop-before-preserved c =
     let asked = c.args.asked.now in
@@ -15,9 +21,11 @@ loop-before-preserved c =
     t.players c.in-Some.pair c.loop-before.self
     (record c.loop-before.self { rows = c.push_few.new.items }) c.in_ok-row.row.items
     c.push_to.new.rows.items (omega (arith, less, c.requires.due.2)) c.requires.terms.2
-    (paid_alike asked.game.now t (get_or asked.numbers.now before 0) c.in-Some.pair
-    (c.requires.settles before (omega (arith, c.loop-before.auto.before)) (omega (arith, less)))
-    (c.in-Some.ensures.all (omega (arith, c.len-all.ensures, t.demands.ok.0)) (omega arith)))
+    (paid_alike asked.game.now c.requires.settles.0 t c.args.run.first
+    (get_or asked.numbers.now before 0) c.len-all.result c.in-Some.pair c.requires.alike.0
+    c.requires.alike.1 (omega (arith, c.len-all.ensures, t.demands.ok.0))
+    (c.requires.settles.1 before (omega (arith, c.loop-before.auto.before)) (omega (arith, less)))
+    c.in-Some.ensures)
     more
     (c.in_ok-push_few.ensures
     ∙ ap (λ (xs : List Ratio). c.loop-before.self.rows.items ++ xs)

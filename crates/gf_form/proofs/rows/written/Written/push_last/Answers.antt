@@ -10,12 +10,11 @@ push_row-requires-clause-paid c =
     let action = c.from-action.result + 1 in
     let settles = c.requires.settles in
     some_weaker c.pair.result _ _
-    (λ pair come. paid_pair asked.game.now settles.0 c.args.terms.now c.args.run.first number action
-    pair
-    (settles.1 before (omega (arith, c.loop-before.auto.before))
+    (λ pair. paid_pair asked.game.now settles.0 c.args.terms.now c.args.run.first number action
+    c.next-chosen.result pair settles.1
+    (settles.2 before (omega (arith, c.loop-before.auto.before))
     (omega (arith, c.loop-before-test.true)))
     (ap (λ n. n + 1) c.from-action.ensures)
-    (come action (omega arith)
     (subst (λ (ds : List ℕ). AreChosen ds 1 action c.next-chosen.result)
-    c.deref.ensures.value c.next-chosen.ensures.chosen)))
-    c.pair.ensures.last
+    c.deref.ensures.value c.next-chosen.ensures.chosen))
+    c.pair.ensures

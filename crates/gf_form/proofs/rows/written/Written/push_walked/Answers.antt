@@ -1,28 +1,17 @@
-use Rattle.gf_form.proofs.Common.{◌≡◌, ◌+◌, ◌∙◌, ◌++◌, [], ℕ, Err, List, ap, arith, subst, sym}
-use Rattle.gf_form.proofs.Common.{Ratio, asked_profiles, HasValues, IsFirstWithout, ArePayoffsAt}
+use Rattle.gf_form.proofs.Common.{◌≡◌, ◌+◌, ◌∙◌, ◌++◌, Err, List, ap, arith, subst, Ratio}
+use Rattle.gf_form.proofs.Common.{asked_profiles, HasValues, IsFirstWithout}
 use Rattle.gf_form.proofs.lemmas.strategies.PickedProfiles.{numbered_at}
-use Rattle.gf_form.proofs.lemmas.rows.RowsMade.{all_more, first_without, one_row_more}
+use Rattle.gf_form.proofs.lemmas.rows.PairRows.{next_written}
+use Rattle.gf_form.proofs.lemmas.rows.RowsMade.{first_without}
 use Rattle.gf_form.proofs.rows.written.Written.push_walked.Goals as goal
 
 pub returns-in_ok-give_back-in-Ok-clause-written : goal.returns-in_ok-give_back-in-Ok-clause-written
 returns-in_ok-give_back-in-Ok-clause-written c =
-    let asked = c.args.asked.now in
-    let g = asked.game.now in
-    let before = c.args.before in
-    let all = asked_profiles asked in
-    let at = numbered_at g asked.numbers.now before c.requires.within in
-    record {
-      rows = one_row_more (ArePayoffsAt g) all before c.args.self.now.rows.items
-          c.extend_from_slice.new.self.items c.in-Ok.row.items at.0 c.requires.written.rows
-          (subst (λ (profile : List ℕ). ArePayoffsAt g profile c.in-Ok.row.items) (sym at.1)
-          c.in-Ok.ensures.payoffs)
-          (c.in_ok-extend_from_slice-in-Ok.ensures.items
-          ∙ ap (λ (row : List Ratio). c.args.self.now.rows.items ++ row)
-          c.deref-in-Ok.ensures.value);
-      values = all_more (HasValues g) all before [] at.0 c.requires.written.values
-          (subst (HasValues g) (sym at.1) c.in-Ok.ensures.values);
-      as_long = c.in_ok-write_strategies.ensures.as_long;
-    }
+    next_written c.args.asked.now c.args.before c.args.self.now _ c.in-Ok.row.items
+    c.requires.within c.in-Ok.ensures.payoffs c.in-Ok.ensures.values
+    (c.in_ok-extend_from_slice-in-Ok.ensures.items
+    ∙ ap (λ (row : List Ratio). c.args.self.now.rows.items ++ row) c.deref-in-Ok.ensures.value)
+    c.in_ok-write_strategies.ensures.as_long c.requires.written
 
 pub returns-in-Err-Overflow-clause-refused : goal.returns-in-Err-Overflow-clause-refused
 returns-in-Err-Overflow-clause-refused c = (
