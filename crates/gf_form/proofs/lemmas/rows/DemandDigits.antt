@@ -1,11 +1,10 @@
 -- Demands by their digits, the slowest first: which digit a demand has at a set, what another
 -- action there changes, and which choices meet it.
-use Rattle.gf_form.proofs.Common.{◌≡◌, div-mul_cancel, dvd-mul_left, mod-eq_of_lt, mul-le-mul_right}
-use Rattle.gf_form.proofs.Common.{ℕ, ◌<◌, ◌≤◌, ◌∷◌, set, map, ap, inl, inr, ◌∣◌, zero, and_parts}
-use Rattle.gf_form.proofs.Common.{cases_lt, mul_above, product, steps_of, demanded, suc, ◌+◌, ◌*◌}
-use Rattle.gf_form.proofs.Common.{◌/◌, true, List, [], refl, ◌==◌, ◌&&◌, ◌||◌, spans, Bool, length}
-use Rattle.gf_form.proofs.Common.{get_or, arith, subst, eq-eqb, lt-ltb, ne_eqb, meets, AllZip}
-use Rattle.gf_form.proofs.Common.{AllZip-long}
+use Rattle.gf_form.proofs.Common.{mul-le-mul_right, div-mul_cancel, mod-eq_of_lt, AllZip-long, zero}
+use Rattle.gf_form.proofs.Common.{and_parts, mul_above, cases_lt, steps_of, demanded, mul_comm, ◌≡◌}
+use Rattle.gf_form.proofs.Common.{dvd_refl, product, length, get_or, eq-eqb, lt-ltb, ne_eqb, AllZip}
+use Rattle.gf_form.proofs.Common.{spans, arith, meets, true, List, refl, ◌==◌, ◌&&◌, ◌||◌, Bool, ap}
+use Rattle.gf_form.proofs.Common.{◌<◌, ◌≤◌, ◌∷◌, set, map, inl, inr, ◌∣◌, suc, ◌+◌, ◌*◌, ◌/◌, [], ℕ}
 use Rattle.std.proofs.lemmas.Bool.{le-leb, le-ltb, lt-leb}
 use Rattle.std.proofs.lemmas.Nat.{div-mul-add}
 use Rattle.std.proofs.Math.Nat.{add-mul-mod_self_right, dvd-mul_left_of_dvd, mul-add-div}
@@ -51,19 +50,15 @@ faster_digit d p r s m above h =
 
 step_above : (actions : List ℕ) (place : ℕ) → place < length actions
     → 0 < get_or (steps_of actions) place 0
-step_above [] place h = absurd (omega arith)
-step_above (n ∷ faster) zero h = spans_above faster
 step_above (n ∷ faster) (suc place) h = step_above faster place (omega (arith, h))
+step_above actions place h = grind (arith, spans_above)
 
 step_divides : (actions : List ℕ) (place : ℕ) → place < length actions
     → get_or (steps_of actions) place 0 * (get_or actions place 0 + 1) ∣ product (spans actions)
-step_divides [] place h = absurd (omega arith)
-step_divides (n ∷ faster) zero h =
-    let p = product (spans faster) in
-    let turn : 1 * (p * (n + 1)) ≡ (n + 1) * p = omega arith in
-    subst (λ k. p * (n + 1) ∣ k) turn (dvd-mul_left (p * (n + 1)) 1)
+step_divides (n ∷ faster) zero h = rw (mul_comm (n + 1) (product (spans faster))) (dvd_refl _)
 step_divides (n ∷ faster) (suc place) h =
     dvd-mul_left_of_dvd _ (step_divides faster place (omega (arith, h))) (n + 1)
+step_divides actions place h = absurd (omega arith)
 
 pub digit_is : (actions ds : List ℕ) (place : ℕ) → AreWithin actions ds → place < length actions
     → demanded (pack actions ds) (get_or (steps_of actions) place 0) (get_or actions place 0)

@@ -2,7 +2,7 @@
 use Rattle.gf_form.proofs.Common.{◌≡◌, ℕ, zero, suc, ◌+◌, ◌*◌, ◌/◌, ◌%◌, ◌<◌, List, [], ◌∷◌, ◌++◌}
 use Rattle.gf_form.proofs.Common.{map, get_or, refl, ◌∙◌, arith, mod-add-div, mul_comm, product}
 use Rattle.gf_form.proofs.Common.{in_order, picked, all_choices, mod-eq_of_lt, mod-lt, ArePositive}
-use Rattle.gf_form.proofs.Common.{length, sym, ◌≤◌}
+use Rattle.gf_form.proofs.Common.{length, sym}
 use Rattle.gf_form.proofs.lemmas.strategies.Choices.{IsChoice, are_choices, length-all_choices}
 use Rattle.gf_form.proofs.lemmas.strategies.Choices.{long}
 use Rattle.gf_form.proofs.lemmas.strategies.CountedActions.{product_positive}
@@ -33,13 +33,12 @@ picked_at (suc zero ∷ counts) number h less =
     let next = choices_next 1 counts number (product_positive counts h.1) less in
     rw (next, whole) (picked_at counts number h.1 small)
 picked_at (suc (suc n) ∷ counts) number h less =
-    let p = product counts in
     let same = product_picked counts h.1 in
     let some = product_positive counts h.1 in
     let next = choices_next (suc (suc n)) counts number some less in
     let there = choices_next (suc (suc n)) (picked counts counts) number (rw same some)
     (rw same less) in
-    let later = picked_at counts (number % p) h.1 (mod-lt number some) in
+    let later = picked_at counts (number % product counts) h.1 (mod-lt number some) in
     rw (there, next, same, later) refl
 
 -- ---- all players

@@ -2,13 +2,13 @@
 use Rattle.gf_form.proofs.Common.{get_or_append_left, get_or-append_seam, take-append-drop, zero-*ℤ}
 use Rattle.gf_form.proofs.Common.{length-take-le, AllByRecursion, length-append, first_entries, ◌≡◌}
 use Rattle.gf_form.proofs.Common.{take-length, get_or_past, length-drop, map-append, all_parts, suc}
-use Rattle.gf_form.proofs.Common.{number_at, cases_lt, dvd_refl, IsWithin, all_both, IsShaped, zero}
-use Rattle.gf_form.proofs.Common.{entry_at, no_entry, take-suc, IsScale, IsSumOf, entries, length}
-use Rattle.gf_form.proofs.Common.{get_or, Scaled, subst, arith, Entry, Scale, Terms, ◌+ℤ◌, ◌*ℤ◌, []}
-use Rattle.gf_form.proofs.Common.{List, ◌++◌, Bool, true, take, drop, refl, Head, ◌+◌, ◌*◌, ◌<◌, ap}
-use Rattle.gf_form.proofs.Common.{◌≤◌, ◌/◌, ◌∷◌, pos, inl, inr, sym, ◌∙◌, map, ℕ, ℤ}
+use Rattle.gf_form.proofs.Common.{number_at, dvd_refl, IsWithin, all_both, IsShaped, zero, entry_at}
+use Rattle.gf_form.proofs.Common.{no_entry, take-suc, IsScale, IsSumOf, entries, length, get_or}
+use Rattle.gf_form.proofs.Common.{Scaled, subst, arith, Entry, Scale, Terms, ◌+ℤ◌, ◌*ℤ◌, [], List}
+use Rattle.gf_form.proofs.Common.{◌++◌, Bool, true, take, drop, refl, Head, ◌+◌, ◌*◌, ◌<◌, ap, ◌≤◌}
+use Rattle.gf_form.proofs.Common.{◌/◌, ◌∷◌, pos, sym, ◌∙◌, map, ℕ, ℤ}
 use Rattle.std.proofs.Math.Seq.{drop-append_seam}
-use Rattle.std.proofs.lemmas.List.{drop-append-le, take-append-le}
+use Rattle.std.proofs.lemmas.List.{drop-append-le, take-append-le, get_or_push}
 use Rattle.gf_form.specs.inner.rows.Entries.{IsFactor, IsNoted, IsSumAt}
 use Rattle.gf_form.specs.inner.rows.ItemRows.{HasRow}
 
@@ -19,20 +19,15 @@ none_taken xs = grind arith
 
 first_count : (t : Terms) (n : ℕ) → length (first_entries t n) ≡ n
 first_count t zero = refl
-first_count t (suc n) =
-    length-append (first_entries t n) (entry_at t n ∷ []) ∙ omega (arith, first_count t n)
+first_count t (suc n) = grind (arith, length-append, first_count t n)
 
 pub terms_count : (t : Terms) → length (entries t) ≡ length t.demands.items
 terms_count t = first_count t (length t.demands.items)
 
 first_there : (t : Terms) (n k : ℕ) → k < n → get_or (first_entries t n) k no_entry ≡ entry_at t k
 first_there t zero k less = absurd (omega arith)
-first_there t (suc n) k less = elim (cases_lt k n) [
-  | inl h ↦ grind (arith, get_or_append_left, first_count, first_there t n k h)
-  | inr h ↦
-      let is : k ≡ n = omega arith in
-      cc (first_count t n, get_or-append_seam (first_entries t n) (entry_at t n) [] no_entry)
-]
+first_there t (suc n) k less =
+    grind (arith, get_or_append_left, get_or_push, first_count, first_there t n k)
 
 pub there : (t : Terms) (place : ℕ) → place < length t.demands.items
     → get_or (entries t) place no_entry ≡ entry_at t place
@@ -50,10 +45,7 @@ all_demands t =
 
 pub demands_more : (to after : Terms) (e : Entry) → entries after ≡ entries to ++ e ∷ []
     → after.demands.items ≡ to.demands.items ++ e.head.demands ∷ []
-demands_more to after e is =
-    sym (all_demands after) ∙ ap (map (λ (f : Entry). f.head.demands)) is
-    ∙ map-append (λ (f : Entry). f.head.demands) (entries to) (e ∷ [])
-    ∙ ap (λ (ds : List ℕ). ds ++ e.head.demands ∷ []) (all_demands to)
+demands_more to after e is = grind (arith, all_demands after, all_demands to, map-append)
 
 -- a row is among the numbers
 pub row_within : (p count place : ℕ) → place < count → place * p + p ≤ count * p
@@ -67,9 +59,7 @@ row_length t place shaped within = grind (arith, row_within, length-drop, length
 
 taken_within : (i : ℕ) (ns : List ℤ) → AllByRecursion IsWithin ns
     → AllByRecursion IsWithin (take i ns) × AllByRecursion IsWithin (drop i ns)
-taken_within i ns h =
-    all_parts IsWithin (take i ns) (drop i ns)
-    (subst (AllByRecursion IsWithin) (sym (take-append-drop i ns)) h)
+taken_within i ns h = all_parts IsWithin (take i ns) (drop i ns) (rw (take-append-drop i ns) h)
 
 pub row_in_bound : (t : Terms) (place : ℕ) → IsShaped t → place < length t.demands.items
     → AllByRecursion IsWithin (entry_at t place).row
@@ -87,7 +77,7 @@ same_first : (to after : Terms) (n : ℕ) → ((k : ℕ) → k < n → entry_at 
     → first_entries after n ≡ first_entries to n
 same_first to after zero each = refl
 same_first to after (suc n) each =
-    λ i. same_first to after n (λ k less. each k (omega arith)) i ++ each n (omega arith) i ∷ []
+    rw (each n (omega arith), same_first to after n (λ k less. each k (omega arith))) refl
 
 module _ (to after : Terms) (e : Entry) (shaped : IsShaped to)
     (within : AllByRecursion IsWithin e.row) (one_each : length e.row ≡ to.players)
@@ -173,10 +163,7 @@ pub all_sums : (first second : List ℤ) (by_first by_second : ℕ) (fits : Bool
     → fits ≡ true → (k : ℕ) → get_or h.row k (pos 0)
     ≡ get_or first k (pos 0) *ℤ pos by_first +ℤ get_or second k (pos 0) *ℤ pos by_second
 all_sums first second by_first by_second fits old new same h known k =
-    elim (cases_lt k (length first)) [
-      | inl less ↦ (h.each k (pos 0) less).1 known
-      | inr past ↦ let out = h.one_each in grind (arith, get_or_past, no_sum)
-    ]
+    let out = h.one_each in grind (arith, get_or_past, no_sum, h.each k (pos 0))
 
 -- the sum of two terms
 pub sum_made : (a b : Entry) (s : Scale) (fits : Bool) (demands : ℕ) (row : List ℤ)
@@ -203,9 +190,7 @@ sum_made a b s fits demands row is sums den known above =
 -- what is so for the next anyway
 pub default_noted : (d : Scaled) (ss : List Scaled) (k : ℕ)
     → get_or (ss ++ d ∷ []) k d ≡ get_or ss k d
-default_noted d [] zero = refl
-default_noted d [] (suc k) = refl
-default_noted d (s ∷ ss) zero = refl
 default_noted d (s ∷ ss) (suc k) = default_noted d ss k
+default_noted d ss k = grind arith
 
 pub ruleset noted = (default_noted, get_or_append_left, get_or-append_seam, get_or_past)

@@ -39,14 +39,12 @@ among (s ∷ ss) key set is = by (same_set s.key key) refl (among ss key set) is
   where
     here : same_set s.key key ≡ true → (xs : List ℕ)
         → choice_at (map (λ s. s.key) (s ∷ ss)) xs key ≡ get_or xs 0 0
-    here same [] = refl
-    here same (x ∷ xs) = cc
+    here same xs = grind arith
 
     behind : same_set s.key key ≡ false → (place : ℕ) → ((xs : List ℕ)
         → choice_at (map (λ s. s.key) ss) xs key ≡ get_or xs place 0) → (xs : List ℕ)
         → choice_at (map (λ s. s.key) (s ∷ ss)) xs key ≡ get_or xs (suc place) 0
-    behind other place h [] = refl
-    behind other place h (x ∷ xs) = cc (h xs)
+    behind other place h xs = grind arith
 
     by : (b : Bool)
         → same_set s.key key ≡ b → (description_at same_set ss key ≡ Some set → IsAmong ss key set)

@@ -5,8 +5,8 @@ use Rattle.gf_form.proofs.Common.{choices_by, zero_ratio, ComeAsWell, node_terms
 use Rattle.gf_form.proofs.Common.{SettlesAt, root_path, number_at, steps_of, at_place, entries, ◌≡◌}
 use Rattle.gf_form.proofs.Common.{ArePaid, Settles, is_paid, reached, Reached, *ℤ-zero, one-dvd, []}
 use Rattle.gf_form.proofs.Common.{term_of, length, IsGame, Digits, nat_lt, row_at, pay_at, arith}
-use Rattle.gf_form.proofs.Common.{Ratio, Terms, false, subst, Entry, List, Game, refl, zero, Bool}
-use Rattle.gf_form.proofs.Common.{true, Path, ◌-◌, ◌<◌, map, suc, ◌∷◌, sym, pos, ◌∙◌, ap}
+use Rattle.gf_form.proofs.Common.{Ratio, Terms, false, Entry, List, Game, refl, zero, Bool, true}
+use Rattle.gf_form.proofs.Common.{Path, ◌-◌, ◌<◌, map, suc, ◌∷◌, sym, pos, ◌∙◌, ap}
 use Rattle.gf_form.proofs.lemmas.strategies.StrategiesByNumber.{all_at}
 use Rattle.gf_form.proofs.lemmas.rows.MergedEntries.{come_both, none_first, same_come}
 use Rattle.gf_form.proofs.lemmas.rows.SummedNodes.{terms_of_sums}
@@ -21,17 +21,14 @@ empty_row (x ∷ row) k h = grind arith
 
 no_number : (path : Path) (n : ℕ) → number_at n (term_of path zero_ratio) ≡ pos 0
 no_number path zero = ap pos (omega arith)
-no_number path (suc zero) = *ℤ-zero (pos path.weight)
-no_number path (suc (suc n)) = refl
+no_number path (suc n) = grind (arith, *ℤ-zero)
 
 nothing_comes : (path : Path) (pay : Ratio) → pay ≡ zero_ratio
     → ComeAsWell (term_of path pay ∷ []) []
-nothing_comes path pay nothing =
-    subst (λ (pay : Ratio). ComeAsWell (term_of path pay ∷ []) []) (sym nothing)
-    (λ den steps choices _. record {
-      exact = ((λ _. (omega arith, one-dvd den)), tt);
-      sums = λ n. none_first n den steps choices (term_of path zero_ratio) [] (no_number path n);
-    })
+nothing_comes path pay nothing = rw nothing (λ den steps choices _. record {
+  exact = ((λ _. (omega arith, one-dvd den)), tt);
+  sums = λ n. none_first n den steps choices (term_of path zero_ratio) [] (no_number path n);
+})
 
 module _ (g : Game) (rows : List (List Ratio)) (are : ArePaid g rows) (k : ℕ) where
   abbrev terms : List Reached → List Entry

@@ -3,16 +3,17 @@ use Rattle.gf_form.proofs.Common.{IsNonDecreasingBy-push, get_or-append_seam, mu
 use Rattle.gf_form.proofs.Common.{take-append-drop, IsNonDecreasing, AllByRecursion, get_or_default}
 use Rattle.gf_form.proofs.Common.{length-append, ComeAsWell, AreOrdered, AreMerged, EndsBelow, refl}
 use Rattle.gf_form.proofs.Common.{drop-cons, drop-drop, AreChosen, AreAlike, IsShaped, entry_at, []}
-use Rattle.gf_form.proofs.Common.{no_entry, add-one, entries, lowered, length, get_or, HasSum, zero}
+use Rattle.gf_form.proofs.Common.{no_entry, add-one, entries, lowered, length, get_or, HasSum}
 use Rattle.gf_form.proofs.Common.{Chosen, Entry, Terms, arith, subst, List, ◌++◌, take, drop, part}
-use Rattle.gf_form.proofs.Common.{◌<◌, ◌≤◌, ◌∷◌, map, sym, ◌∙◌, ◌+◌, ◌-◌, ◌*◌, suc, ap, ℕ}
-use Rattle.gf_form.proofs.Common.{append-nil}
-use Rattle.std.proofs.lemmas.List.{take_rest}
+use Rattle.gf_form.proofs.Common.{◌<◌, ◌≤◌, ◌∷◌, map, sym, ◌∙◌, ◌+◌, ◌-◌, ◌*◌, ap, ℕ, append-nil}
+use Rattle.gf_form.proofs.Common.{get_or-take, length-take-le, length-drop, length-take}
+use Rattle.std.proofs.lemmas.List.{take_rest, get_or-drop}
 use Rattle.std.proofs.lemmas.List.Sorted.{IsNonDecreasingBy-short}
 use Rattle.gf_form.specs.inner.rows.Entries.{CountsBelow}
-use Rattle.gf_form.proofs.lemmas.rows.FlatRows.{demands_more, none_taken, terms_count, there}
+use Rattle.gf_form.proofs.lemmas.rows.FlatRows.{demands_more, terms_count, there}
 use Rattle.gf_form.proofs.lemmas.rows.MergedEntries.{IsFree, IsOther, IsOwn, Merging, Ranges}
 use Rattle.gf_form.proofs.lemmas.rows.MergedEntries.{both_come, first_parts, same_come, take_next}
+use Rattle.gf_form.proofs.lemmas.rows.ItemRows.{all_by_place}
 
 -- ---- ranges of a list
 
@@ -26,15 +27,9 @@ part_past es i end past = grind arith
 -- all of a range, by the places of all
 pub all_in : {A : Type 0} (P : A → Type 0) (d : A) (xs : List A) (n i : ℕ) → i + n ≤ length xs
     → ((k : ℕ) → i ≤ k → k < i + n → P (get_or xs k d)) → AllByRecursion P (take n (drop i xs))
-all_in P d xs zero i within each = subst (AllByRecursion P) (sym (none_taken (drop i xs))) tt
-all_in P d xs (suc n) i within each =
-    let next : drop i xs ≡ get_or xs i d ∷ drop (suc i) xs =
-    drop-cons xs i d (omega (arith, within)) in
-    subst (λ (ys : List _). AllByRecursion P (take (suc n) ys)) (sym next) (
-      each i (omega arith) (omega arith),
-      all_in P d xs n (suc i) (omega (arith, within))
-          (λ k from to. each k (omega (arith, from)) (omega (arith, to))),
-    )
+all_in P d xs n i within each = all_by_place P (take n (drop i xs)) (λ k e less.
+    subst P (grind (arith, get_or-take, get_or-drop, get_or_default, length-take-le, length-drop))
+    (each (i + k) (omega arith) (omega (arith, less, length-take n (drop i xs)))))
 
 cut : (es : List Entry) (i j : ℕ) → i ≤ j → drop i es ≡ part i j es ++ drop j es
 cut es i j le =
@@ -152,7 +147,7 @@ below_more ds new d n is le e some =
 pub ordered_more : (ds new : List ℕ) (d : ℕ) → new ≡ ds ++ d ∷ [] → IsNonDecreasing ds
     → EndsBelow ds d → IsNonDecreasing new
 ordered_more ds new d is ordered below =
-    subst IsNonDecreasing (sym is) (IsNonDecreasingBy-push (λ (e : ℕ). e) ds d ordered below)
+    rw is (IsNonDecreasingBy-push (λ (e : ℕ). e) ds d ordered below)
 
 pub lowered_none : (e : Entry) → lowered 0 e ≡ e
 lowered_none e = grind arith

@@ -74,9 +74,7 @@ paid_pair g (n ∷ []) from least number action chosen pair one before is are co
     (ranges from 1 action (omega (arith, is)) chosen are) in
     paid g number [] [] _ pair (settled_left g number 1 action [] [] es _ merged
     (rw choices at before.settles)) (come (action * 1))
-paid_pair g [] from least number action chosen pair one before is are come =
-    absurd (omega (arith, one))
-paid_pair g (n ∷ m ∷ ns) from least number action chosen pair one before is are come =
+paid_pair g ns from least number action chosen pair one before is are come =
     absurd (omega (arith, one))
 
 -- a term that demands nothing is met by all choices

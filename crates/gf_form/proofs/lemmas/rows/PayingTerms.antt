@@ -23,13 +23,7 @@ module _ (den : ℕ) (above : 0 < den) (steps choices : List ℕ) where
   are_exact : (es : List Entry) → AllByRecursion (IsOver den) es
       → AreExactAt den steps choices es
   are_exact [] all = tt
-  are_exact (e ∷ es) all = (
-    λ met. (
-      subst (λ (n : ℕ). 0 < n) (sym all.0) above,
-      subst (λ (n : ℕ). n ∣ den) (sym all.0) (dvd_refl den),
-    ),
-    are_exact es all.1,
-  )
+  are_exact (e ∷ es) all = rw all.0 ((λ met. (above, dvd_refl den)), are_exact es all.1)
 
   sizes_met : (es : List Entry) → AllByRecursion (IsOver den) es
       → unsigned_abs (sum_of_entries 0 den steps choices es) ≤ sizes_of es
@@ -43,9 +37,8 @@ module _ (k den most : ℕ) (above : 0 < den) (steps choices : List ℕ) where
   over_most : (z : ℤ) (d : ℕ) → d ≡ den → d ∣ most
       → (z *ℤ pos (most / d)) *ℤ pos den ≡ (z *ℤ pos (den / d)) *ℤ pos most
   over_most z d same divides =
-      let own : most / d * den ≡ most =
-      sym (ap (λ (n : ℕ). most / d * n) same) ∙ div-mul_cancel d divides in
-      let one : den / d ≡ 1 = ap (λ (n : ℕ). den / n) same ∙ itself den above in
+      let own : most / d * den ≡ most = rw (sym same) (div-mul_cancel d divides) in
+      let one : den / d ≡ 1 = rw same (itself den above) in
       let once : 1 * most ≡ most = omega arith in
       cc (*ℤ_assoc z (pos (most / d)) (pos den), *ℤ_assoc z (pos (den / d)) (pos most))
 

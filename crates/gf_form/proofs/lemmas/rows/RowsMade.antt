@@ -1,12 +1,12 @@
 -- Rows of payoffs at profiles in turn, and the table that they make.
-use Rattle.gf_form.proofs.Common.{◌≡◌, ℕ, ◌+◌, ◌*◌, ◌<◌, [], ◌∷◌, map, sym, ap, ◌∙◌, suc, Game}
-use Rattle.gf_form.proofs.Common.{List, add-one, flat_map, take-suc, all_both, IsTableOf, AreRowsAt}
-use Rattle.gf_form.proofs.Common.{◌++◌, take, refl, subst, arith, zero, Some, AllZip, Ratio, Table}
+use Rattle.gf_form.proofs.Common.{◌≡◌, ℕ, ◌+◌, ◌*◌, ◌<◌, [], ◌∷◌, map, ap, ◌∙◌, suc, Game, List}
+use Rattle.gf_form.proofs.Common.{add-one, flat_map, take-suc, all_both, IsTableOf, AreRowsAt, ◌++◌}
+use Rattle.gf_form.proofs.Common.{take, refl, subst, arith, zero, Some, AllZip, Ratio, Table}
 use Rattle.gf_form.proofs.Common.{length, AllByRecursion, append-nil, length-append, IsFirstWithout}
 use Rattle.gf_form.proofs.Common.{get_or, slice_get, length-map, IsFraction, IsFormWith, players_of}
 use Rattle.gf_form.proofs.Common.{slice_get-get_or, take-append_seam, flat_map-append, at_position}
 use Rattle.std.proofs.Math.Nat.{suc-mul}
-use Rattle.std.proofs.lemmas.List.{append_cancel_left}
+use Rattle.std.proofs.lemmas.List.{append_cancel_left, take_more}
 use Rattle.gf_fraction.proofs.AllElements.{all_joined}
 use Rattle.gf_nfg.specs.Table.{rows}
 use Rattle.gf_form.proofs.lemmas.form.Forms.{as_many, form_profiles}
@@ -42,9 +42,7 @@ same_rows n (x ∷ xs) (y ∷ ys) h k counted same =
 pub all_more : {A : Type 0} (P : A → Type 0) (xs : List A) (i : ℕ) (d : A) → i < length xs
     → AllByRecursion P (take i xs) → P (get_or xs i d) → AllByRecursion P (take (i + 1) xs)
 all_more P xs i d less h k =
-    subst (AllByRecursion P)
-    (sym (take-suc xs i d less) ∙ ap (λ (n : ℕ). take n xs) (sym (add-one i)))
-    (all_both P (take i xs) (get_or xs i d ∷ []) h (k, tt))
+    rw (take_more xs i d less) (all_both P (take i xs) (get_or xs i d ∷ []) h (k, tt))
 
 before_it : {A : Type 0} (P : A → Type 0) (xs : List A) (i k : ℕ) (x : A)
     → AllByRecursion P (take i xs) → k < i → slice_get xs k ≡ Some x → P x

@@ -1,7 +1,6 @@
-use Rattle.gf_form.proofs.Common.{◌∙◌, ◌+ℤ◌, ◌*ℤ◌, ◌++◌, ◌∷◌, [], ℕ, ℤ, false, lit<, pos, ap, arith}
-use Rattle.gf_form.proofs.Common.{subst, IsWithin, to_z-of_z, w128}
+use Rattle.gf_form.proofs.Common.{◌∙◌, ◌+ℤ◌, ◌*ℤ◌, ◌++◌, ◌∷◌, [], ℤ, false, lit<, pos, ap, arith}
+use Rattle.gf_form.proofs.Common.{IsWithin, to_z-of_z, w128}
 use Rattle.gf_form.specs.inner.rows.Entries.{IsSumAt}
-use Rattle.gf_form.specs.inner.rows.ItemRows.{HasRow}
 use Rattle.gf_form.proofs.lemmas.rows.ItemRows.{in_bits, one_item, unknown}
 use Rattle.gf_form.proofs.rows.terms.push_numbers.Goals.{in-None, in-Some}
 use Rattle.gf_form.proofs.rows.terms.push_numbers.Goals as goal
@@ -54,8 +53,4 @@ loop-place-preserved c =
     ]
 
 pub returns : goal.returns
-returns c =
-    subst (λ (n : ℕ). HasRow (IsSumAt c.args.first.now c.args.second.now c.args.by_first
-    c.args.by_second c.loop-place.fits) n c.args.numbers.now.items c.loop-place.numbers.items)
-    (omega (arith, c.loop-place-test.false, c.loop-place.auto.place-end))
-    c.loop-place.invariant.adding
+returns c = grind arith

@@ -1,5 +1,4 @@
-use Rattle.gf_form.proofs.Common.{◌≡◌, ◌∙◌, ◌+ℤ◌, ◌*ℤ◌, ℤ, pos, subst, w128}
-use Rattle.gf_form.proofs.Common.{to_z-of_z, HasValue, pair_number}
+use Rattle.gf_form.proofs.Common.{◌≡◌, ◌∙◌, ◌+ℤ◌, ◌*ℤ◌, pos, w128, to_z-of_z, pair_number}
 use Rattle.gf_form.specs.inner.rows.Pairs.{IsPairAt}
 use Rattle.gf_form.proofs.lemmas.rows.ItemRows.{in_bits, no_item, one_item}
 use Rattle.gf_form.proofs.rows.pairs.Pair.push_to.Goals as goal
@@ -17,7 +16,6 @@ loop-place-preserved c =
     let second =
     to_z-of_z w128 c.number_at-second.result (record { sfits = c.number_at-second.type_inv })
     ∙ c.number_at-second.ensures in
-    let whole = in_bits number c.in-Some.ensures.within in
     let is : number ≡ pair_number pair c.loop-place.place =
     c.in-Some.ensures.sum
     ∙ (λ i. first i *ℤ pos pair.scale.first +ℤ second i *ℤ pos pair.scale.second) in
@@ -25,9 +23,6 @@ loop-place-preserved c =
     c.loop-place.rows.items c.push.new.self.items c.lowest.result c.in_ok-push.ensures.items
     (λ k f h. h) (
       c.lowest.ensures.fraction,
-      subst (λ den. HasValue c.lowest.result (pair_number pair c.loop-place.place) den)
-          c.put.ensures
-          (subst (λ (z : ℤ). HasValue c.lowest.result z c.put.new.shared) (whole ∙ is)
-          c.lowest.ensures.value),
+      rw (c.put.ensures, in_bits number c.in-Some.ensures.within, is) at c.lowest.ensures.value,
     )
     c.loop-place.invariant

@@ -1,5 +1,3 @@
-use Rattle.gf_form.proofs.Common.{◌+◌, ◌*◌, ◌<◌, ◌^◌, ℕ, List, subst, sym, AreChosen, AreMerged}
-use Rattle.gf_form.proofs.Common.{entries}
 use Rattle.gf_form.proofs.lemmas.rows.SettledRows.{settled_next, some_stride, step_within}
 use Rattle.gf_form.proofs.lemmas.rows.SettledRows.{stride_product}
 use Rattle.gf_form.proofs.rows.terms.Terms.choose.Goals as goal
@@ -11,22 +9,18 @@ part_of-before-requires c =
 
 pub next-chosen-requires-clause-fits : goal.next-chosen-requires-clause-fits
 next-chosen-requires-clause-fits c =
-    let step = c.args.slowest.step in
-    subst (λ (n : ℕ). (n + 1) * step + step < 2 ^ 64) (sym c.from-action.ensures)
-    (step_within c.args.asked.now c.args.run c.requires.some c.requires.count c.requires.settles
-    c.divided-count.ensures c.part_of-before.ensures step c.requires.spans)
+    rw c.from-action.ensures (step_within c.args.asked.now c.args.run c.requires.some
+    c.requires.count c.requires.settles c.divided-count.ensures c.part_of-before.ensures
+    c.args.slowest.step c.requires.spans)
 
 pub merge-requires-clause-within : goal.merge-requires-clause-within
 merge-requires-clause-within c =
-    let step = c.args.slowest.step in
-    subst (λ (n : ℕ). (n + 1) * step + step < 2 ^ 64) (sym c.from-action.ensures)
-    (step_within c.args.asked.now c.args.run c.requires.some c.requires.count c.requires.settles
-    c.divided-count.ensures c.part_of-before.ensures step c.requires.spans)
+    rw c.from-action.ensures (step_within c.args.asked.now c.args.run c.requires.some
+    c.requires.count c.requires.settles c.divided-count.ensures c.part_of-before.ensures
+    c.args.slowest.step c.requires.spans)
 
 pub merge-requires-clause-chosen : goal.merge-requires-clause-chosen
-merge-requires-clause-chosen c =
-    subst (λ (ds : List ℕ). AreChosen ds c.args.slowest.step (c.from-action.result + 1)
-    c.next-chosen.result) c.deref.ensures.value c.next-chosen.ensures.chosen
+merge-requires-clause-chosen c = rw c.deref.ensures.value at c.next-chosen.ensures.chosen
 
 pub returns-clause-count : goal.returns-clause-count
 returns-clause-count c =
@@ -37,9 +31,7 @@ pub returns-clause-settles : goal.returns-clause-settles
 returns-clause-settles c =
     settled_next c.args.asked.now c.args.run c.requires.some c.requires.count c.requires.settles
     c.divided-count.ensures c.part_of-before.ensures c.args.slowest.step c.run_end-to.result
-    c.merge.new.self c.requires.step
-    (subst (λ (n : ℕ). AreMerged c.args.slowest.step (n + 1) (entries c.args.terms.now)
-    (entries c.merge.new.self)) c.from-action.ensures c.in_ok-merge.ensures.merged)
+    c.merge.new.self c.requires.step (rw c.from-action.ensures at c.in_ok-merge.ensures.merged)
     c.run_end-to.ensures.within c.run_end-to.ensures.run
 
 pub run_end-to-requires-clause-places : goal.run_end-to-requires-clause-places

@@ -6,14 +6,4 @@ pub loop-place-preserved : goal.loop-place-preserved
 loop-place-preserved c = grind (arith, more_fitting)
 
 pub returns : goal.returns
-returns c = λ _.
-    all_fit c.args.self.now c.args.den c.loop-place.size c.loop-place.place
-    (omega (
-      arith,
-      c.loop-place-test.false,
-      c.loop-place.auto.place-end,
-      c.len-place-end.ensures,
-      c.args.self.now.demands.ok.0,
-    ))
-    c.loop-place.invariant (omega (arith, c.if-den-eq0.false))
-    (omega (arith, c.if-den-gt-LARGEST.false))
+returns c = λ _. grind (arith, all_fit)

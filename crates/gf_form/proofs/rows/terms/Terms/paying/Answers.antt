@@ -1,5 +1,4 @@
-use Rattle.gf_form.proofs.Common.{◌<◌, ◌∙◌, ℤ, List, ap, arith, get_or, length, pos, subst, sym}
-use Rattle.gf_form.proofs.Common.{Vec, Global, ℕ, IsNonDecreasing}
+use Rattle.gf_form.proofs.Common.{◌<◌, arith, length, IsNonDecreasing}
 use Rattle.gf_form.proofs.lemmas.rows.PayingTerms.{first_paying, last_paying, more_paying}
 use Rattle.gf_form.proofs.lemmas.rows.PayingTerms.{same_paying, settled_as_well}
 use Rattle.gf_form.proofs.rows.terms.Terms.paying.Goals.{then-not-are_zero+in_ok-push}
@@ -13,8 +12,8 @@ pub loop-place-preserved : goal.loop-place-preserved
 loop-place-preserved c =
     let terms = c.put_over.new.self in
     let place = c.loop-place.place in
-    let ordered = subst (λ (v : Vec ℕ Global). IsNonDecreasing v.items)
-    (sym c.put_over.ensures.demands) c.requires.ordered in
+    let ordered : IsNonDecreasing terms.demands.items =
+    rw c.put_over.ensures.demands c.requires.ordered in
     let less : place < length terms.demands.items =
     omega (arith, c.loop-place-test.true, c.len-place-end.ensures, terms.demands.ok.0) in
     elim c.if-not-are_zero.branch [
@@ -24,8 +23,7 @@ loop-place-preserved c =
           w.in_ok-push.ensures.shaped)
       | else-not-are_zero w ↦ rw w.left-is
           (same_paying terms place c.loop-place.left ordered less c.loop-place.invariant
-          (λ k. ap (λ (row : List ℤ). get_or row k (pos 0)) (sym c.row.ensures)
-          ∙ c.are_zero.ensures w.if-not-are_zero.false k))
+          (rw c.row.ensures at (c.are_zero.ensures w.if-not-are_zero.false)))
     ]
 
 pub returns-then-not-have_zeros-clause-settle : goal.returns-then-not-have_zeros-clause-settle
@@ -36,12 +34,5 @@ returns-then-not-have_zeros-clause-settle c =
 pub returns-clause-settle : goal.returns-clause-settle
 returns-clause-settle c =
     last_paying c.args.self c.put_over.new.self c.loop-place.left c.loop-place.place
-    c.head-den.result.den
-    (omega (
-      arith,
-      c.loop-place-test.false,
-      c.loop-place.auto.place-end,
-      c.len-place-end.ensures,
-      c.put_over.new.self.demands.ok.0,
-    ))
+    c.head-den.result.den (omega (arith, c.put_over.new.self.demands.ok.0))
     (c.fit_over.ensures c.if-not-fit_over.false) c.put_over.ensures.kept c.loop-place.invariant

@@ -10,26 +10,16 @@ made : (c : goal.In_ok-push_head) → Pushed c.args.self.now c.push_head.new.sel
   row = c.in_ok-fits.ensures.row;
 })
 made c =
-    let from = c.args.from.now in
     let more = c.in_ok-fits.ensures in
     let after = c.in_ok-push_head.ensures in
-    is_pushed c.args.self.now c.push_head.new.self
-    (record {
-      head = record {
-        demands = c.index.result.now;
-        den = c.if-fits.den;
-        size = c.args.scale.size;
-      };
-      row = more.row;
-    })
-    c.requires.shaped.0
+    is_pushed c.args.self.now c.push_head.new.self _ c.requires.shaped.0
     (all_by_place IsWithin more.row
     (λ k d less. (more.each k d (omega (arith, less, more.one_each))).0))
     (more.one_each ∙ ap length c.row-one.ensures
-    ∙ row_length from c.args.first c.requires.shaped.1 c.requires.first ∙ sym c.requires.players)
+    ∙ row_length c.args.from.now c.args.first c.requires.shaped.1 c.requires.first
+    ∙ sym c.requires.players)
     after.alike.0 (record { kept = after.noted.kept; next = after.noted.next }) after.demands
-    after.scaled
-    (ap (λ (v : Vec ℤ Global). v.items) after.numbers ∙ more.is)
+    after.scaled (ap (λ (v : Vec ℤ Global). v.items) after.numbers ∙ more.is)
 
 pub returns-clause-sum : goal.returns-clause-sum
 returns-clause-sum c =

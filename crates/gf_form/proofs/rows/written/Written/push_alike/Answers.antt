@@ -1,4 +1,4 @@
-use Rattle.gf_form.proofs.Common.{◌≡◌, ◌++◌, ◌∙◌, List, ap, arith, get_or, refl, Ratio}
+use Rattle.gf_form.proofs.Common.{arith, get_or, refl}
 use Rattle.gf_form.proofs.lemmas.rows.PairRows.{next_row, paid_alike}
 use Rattle.gf_form.proofs.rows.written.Written.push_alike.Goals as goal
 
@@ -15,19 +15,13 @@ loop-before-preserved c =
     let t = c.args.terms.now in
     let less = c.loop-before-test.true in
     let more = c.in_ok-push_to.ensures.row c.if-branch.true in
-    let row : c.push_to.new.rows.items ≡ more.row =
-    more.is ∙ ap (λ (old : List Ratio). old ++ more.row) c.in_ok-row.ensures.items in
-    next_row asked c.requires.due.0.counts.is_game c.requires.due.0.spellable before
-    t.players c.in-Some.pair c.loop-before.self
-    (record c.loop-before.self { rows = c.push_few.new.items }) c.in_ok-row.row.items
-    c.push_to.new.rows.items (omega (arith, less, c.requires.due.2)) c.requires.terms.2
+    next_row asked c.requires.due.0.counts.is_game c.requires.due.0.spellable before t.players
+    c.in-Some.pair c.loop-before.self _ c.in_ok-row.row.items c.push_to.new.rows.items
+    (omega (arith, less, c.requires.due.2)) c.requires.terms.2
     (paid_alike asked.game.now c.requires.settles.0 t c.args.run.first
     (get_or asked.numbers.now before 0) c.len-all.result c.in-Some.pair c.requires.alike.0
     c.requires.alike.1 (omega (arith, c.len-all.ensures, t.demands.ok.0))
     (c.requires.settles.1 before (omega (arith, c.loop-before.auto.before)) (omega (arith, less)))
-    c.in-Some.ensures)
-    more
-    (c.in_ok-push_few.ensures
-    ∙ ap (λ (xs : List Ratio). c.loop-before.self.rows.items ++ xs)
-    (c.deref.ensures.value ∙ row))
+    c.in-Some.ensures) more
+    (rw (c.deref.ensures.value, more.is, c.in_ok-row.ensures.items) at c.in_ok-push_few.ensures)
     refl c.loop-before.invariant
