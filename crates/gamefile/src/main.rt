@@ -28,12 +28,12 @@ fn erasing_output(rt: &HostRuntime, shows: bool) -> Counted<Erasing<Stdout>> {
 }
 
 /// Says which files are the same game, or writes the hash of each.
-fn run_over(rt: &HostRuntime, files: Collection, finds_duplicates: bool) -> u8 {
-    let shows = is_told(rt, &files);
+fn run_over(rt: &HostRuntime, files: &Collection, finds_duplicates: bool) -> u8 {
+    let shows = is_told(rt, files);
     let mut progress = Shown::new(rt, rt.stderr(), shows);
     let mut output = erasing_output(rt, shows);
     let mut errors = Counted::new(Erasing::new(rt.stderr(), shows));
-    let (paths, names) = (files.paths, files.names);
+    let (paths, names) = (&files.paths, files.names);
     if finds_duplicates {
         duplicates_at(rt, paths, names, &mut progress, &mut output, &mut errors)
     } else {
@@ -52,8 +52,8 @@ fn main(rt: HostRuntime) -> ExitCode {
                 perform(rt.alloc(), &rt, &job, &mut output, &mut errors)
             }
         }
-        Ok(Asked::Hash(files)) => run_over(&rt, files, false),
-        Ok(Asked::Duplicates(files)) => run_over(&rt, files, true),
+        Ok(Asked::Hash(files)) => run_over(&rt, &files, false),
+        Ok(Asked::Duplicates(files)) => run_over(&rt, &files, true),
         Err(fault) => answer(&fault, &mut output, &mut errors),
     })
 }

@@ -7,7 +7,7 @@ use gf_canon::Names;
 use std::alloc::AllocError;
 
 /// Where a file is read from.
-#[derive(Debug, Drop)]
+#[derive(Drop)]
 pub enum Input {
     /// Standard input.
     Standard,
@@ -19,7 +19,7 @@ pub enum Input {
 }
 
 /// What the arguments ask for.
-#[derive(Debug, Drop)]
+#[derive(Drop)]
 pub enum Job {
     /// The canonical text of a file, with names or without.
     Canon {
@@ -43,7 +43,7 @@ pub enum Job {
 }
 
 /// What names the files of a collection.
-#[derive(Debug, Drop)]
+#[derive(Drop)]
 pub enum Paths {
     /// These files and folders; standard input if there are none.
     Words(Vec<String>),
@@ -52,7 +52,7 @@ pub enum Paths {
 }
 
 /// The files that are read in one run.
-#[derive(Debug, Drop)]
+#[derive(Drop)]
 pub struct Collection {
     pub paths: Paths,
     /// Whether their names count.
@@ -62,7 +62,7 @@ pub struct Collection {
 }
 
 /// What the arguments ask for: one answer, or one for each of many files.
-#[derive(Debug, Drop)]
+#[derive(Drop)]
 pub enum Asked {
     /// A job, whose fault is explained in words if `explain` is true.
     Job { job: Job, explain: bool },
@@ -73,7 +73,7 @@ pub enum Asked {
 }
 
 /// Why the arguments ask for no job.
-#[derive(Debug, Drop)]
+#[derive(Drop)]
 pub enum WordsFault {
     /// Help or the version is asked for, and this is its text.
     Help(String),

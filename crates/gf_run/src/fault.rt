@@ -84,7 +84,7 @@ impl From<FormFault> for RunFault {
 }
 
 /// A fault, and what is known about it.
-#[derive(Drop)]
+#[derive(Clone, Copy)]
 pub struct Failure {
     pub fault: RunFault,
     /// Whether the input that it is about was opened.
@@ -102,7 +102,7 @@ impl From<Failure> for RunFault {
 }
 
 /// The writer failed.
-#[derive(Clone, Copy, Debug, PartialEq, Eq, Error)]
+#[derive(Clone, Copy, Debug, Error)]
 #[error("the text could not be written")]
 pub struct WriteFault;
 

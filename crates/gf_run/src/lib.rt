@@ -16,7 +16,7 @@ pub use asked::{Asked, Collection, Input, Job, Paths, WordsFault};
 pub use collections::duplicates::{duplicates_at, run_duplicates};
 pub use collections::hash::run_hash;
 pub use collections::hashes::{hash_paths, run_hashes};
-pub use collections::paths::{Unlisted, files_at};
+pub use collections::paths::files_at;
 pub use collections::progress::{Erasing, Progress, Shown};
 pub use fault::{RunFault, Which, WriteFault, answer_status, status};
 pub use jobs::ending::{answer, tell};

@@ -132,7 +132,7 @@ pub fn run_duplicates<I: Inputs, P: Progress, W: Sink, E: Sink>(
 /// list of names cannot be read, E20 is reported after its name.
 pub fn duplicates_at<R: Inputs + Files + AllocGlobal, P: Progress, W: Sink, E: Sink>(
     rt: &R,
-    paths: Paths,
+    paths: &Paths,
     names: Names,
     progress: &mut P,
     output: &mut W,
@@ -150,6 +150,6 @@ pub fn duplicates_at<R: Inputs + Files + AllocGlobal, P: Progress, W: Sink, E: S
                 errors,
             )
         }
-        Err(fault) => tell_unlisted(rt.alloc(), &fault, errors),
+        Err(fault) => tell_unlisted(rt.alloc(), paths, &fault, errors),
     }
 }

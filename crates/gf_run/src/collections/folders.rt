@@ -28,7 +28,8 @@ fn folder_at<R: Files>(rt: &R, path: &str) -> Option<(u64, u64)> {
     }
 }
 
-/// Adds the names that a reader gives, each ended by this byte.
+/// Adds the names that a reader gives, each ended by this byte. Those that came before an error
+/// stay.
 pub fn push_names<R: Read + Drop>(
     alloc: Global,
     input: R,
@@ -41,13 +42,22 @@ pub fn push_names<R: Read + Drop>(
     Ok(())
 }
 
+/// Whether something was read whole, unless memory ran out.
+pub fn is_whole(read: io::Result<()>) -> Result<bool, AllocError> {
+    match read {
+        Ok(()) => Ok(true),
+        Err(error) if error.kind() == ErrorKind::OutOfMemory => Err(AllocError),
+        Err(_) => Ok(false),
+    }
+}
+
 /// The path of a folder with a slash at its end, by which a link to a folder can be opened.
 fn with_slash(alloc: Global, folder: &str) -> Result<String, AllocError> {
     let end = if folder.ends_with('/') { "" } else { "/" };
     [folder, end].concat(alloc)
 }
 
-/// Adds what is in a folder, by name. Names that came before an error stay.
+/// Adds what is in a folder, by name.
 fn push_entries<R: Files + AllocGlobal>(
     rt: &R,
     folder: &str,
@@ -65,29 +75,42 @@ fn push_paths(
 ) -> Result<(), AllocError> {
     for name in names.iter().rev() {
         if name.as_slice() != b".".as_slice() && name.as_slice() != b"..".as_slice() {
-            waiting.push(joined(alloc, &[folder.as_bytes(), name.as_slice()])?)?;
+            waiting.reserve(1)?;
+            waiting.push_reserved(joined(alloc, &[folder.as_bytes(), name.as_slice()])?);
         }
     }
     Ok(())
 }
 
-/// Puts what is in a folder before everything that waits, ordered by the bytes of the names. A
-/// folder that cannot be read whole is kept as a file, which cannot be read either.
+/// Puts what is in a folder before everything that waits, ordered by the bytes of the names; says
+/// whether the folder could be read whole.
 fn open_folder<R: Files + AllocGlobal>(
     rt: &R,
-    folder: String,
+    folder: &str,
     waiting: &mut Vec<Vec<u8>>,
-    files: &mut Vec<Input>,
-) -> Result<(), AllocError> {
+) -> Result<bool, AllocError> {
+    let path = with_slash(rt.alloc(), folder)?;
     let mut names = Vec::new(rt.alloc());
-    let path = with_slash(rt.alloc(), folder.as_str())?;
-    match push_entries(rt, path.as_str(), &mut names) {
-        Ok(()) => {}
-        Err(error) if error.kind() == ErrorKind::OutOfMemory => return Err(AllocError),
-        Err(_) => files.push(Input::File(folder))?,
-    }
+    let is_whole = is_whole(push_entries(rt, path.as_str(), &mut names))?;
     names.sort()?;
-    push_paths(rt.alloc(), path.as_str(), names.as_slice(), waiting)
+    push_paths(rt.alloc(), path.as_str(), names.as_slice(), waiting)?;
+    Ok(is_whole)
+}
+
+/// Whether the file at a path is added: it is a game file or was named itself. A folder is opened
+/// instead, unless it was visited already; if it cannot be read whole, it is added as a file, which
+/// cannot be read either.
+fn is_added<R: Files + AllocGlobal>(
+    rt: &R,
+    path: &str,
+    is_named: bool,
+    folders: &mut BTreeSet<(u64, u64)>,
+    waiting: &mut Vec<Vec<u8>>,
+) -> Result<bool, AllocError> {
+    match folder_at(rt, path) {
+        Some(folder) => Ok(folders.insert(folder)? && !open_folder(rt, path, waiting)?),
+        None => Ok(is_named || is_game_file(path)),
+    }
 }
 
 /// A file whose name is not UTF-8.
@@ -95,51 +118,44 @@ fn not_text(alloc: Global, name: &[u8]) -> Result<Input, AllocError> {
     Ok(Input::NotText(String::from_utf8_lossy(alloc, name)?))
 }
 
-/// Adds the file at a path, if it is a game file or was named itself; or opens the folder there,
-/// unless it was visited already.
+/// Adds the file at a path, or opens the folder there. A name that is not UTF-8 may be that of a
+/// game file or of a folder, so it is added too.
 fn push_path<R: Files + AllocGlobal>(
     rt: &R,
-    path: String,
+    path: Vec<u8>,
     is_named: bool,
     folders: &mut BTreeSet<(u64, u64)>,
     waiting: &mut Vec<Vec<u8>>,
     files: &mut Vec<Input>,
 ) -> Result<(), AllocError> {
-    match folder_at(rt, path.as_str()) {
-        Some(folder) => {
-            if folders.insert(folder)? {
-                open_folder(rt, path, waiting, files)?;
+    files.reserve(1)?;
+    match String::from_utf8(path) {
+        Ok(path) => {
+            if is_added(rt, path.as_str(), is_named, folders, waiting)? {
+                files.push_reserved(Input::File(path));
             }
         }
-        None => {
-            if is_named || is_game_file(path.as_str()) {
-                files.push(Input::File(path))?;
-            }
-        }
+        Err(error) => files.push_reserved(not_text(rt.alloc(), error.as_bytes())?),
     }
     Ok(())
 }
 
 /// Adds the file at a path, or the game files below the folder there: those whose names end in
 /// `.efg` or `.nfg`, in upper or lower case, each folder ordered by the bytes of its names. No
-/// folder is visited twice, so links may lead anywhere. A name that is not UTF-8 may be that of a
-/// game file or of a folder, so it is added too.
+/// folder is visited twice, so links may lead anywhere.
 pub fn push_files<R: Files + AllocGlobal>(
     rt: &R,
-    path: Vec<u8>,
+    path: &[u8],
     files: &mut Vec<Input>,
 ) -> Result<(), AllocError> {
+    let first = Vec::from_slice(rt.alloc(), path)?;
+    let mut waiting = vec![in rt.alloc(); first]?;
     let mut folders = BTreeSet::new(rt.alloc());
-    let mut waiting = Vec::new(rt.alloc());
-    waiting.push(path)?;
     for turn in 0..u64::MAX {
         let Some(path) = waiting.pop() else {
             break;
         };
-        match String::from_utf8(path) {
-            Ok(path) => push_path(rt, path, turn == 0, &mut folders, &mut waiting, files)?,
-            Err(error) => files.push(not_text(rt.alloc(), error.as_bytes())?)?,
-        }
+        push_path(rt, path, turn == 0, &mut folders, &mut waiting, files)?;
     }
     Ok(())
 }

@@ -148,7 +148,7 @@ pub fn run_hashes<I: Inputs, P: Progress, W: Sink, E: Sink>(
 /// list of names cannot be read, E20 is reported after its name.
 pub fn hash_paths<R: Inputs + Files + AllocGlobal, P: Progress, W: Sink, E: Sink>(
     rt: &R,
-    paths: Paths,
+    paths: &Paths,
     names: Names,
     progress: &mut P,
     output: &mut W,
@@ -164,6 +164,6 @@ pub fn hash_paths<R: Inputs + Files + AllocGlobal, P: Progress, W: Sink, E: Sink
             output,
             errors,
         ),
-        Err(fault) => tell_unlisted(rt.alloc(), &fault, errors),
+        Err(fault) => tell_unlisted(rt.alloc(), paths, &fault, errors),
     }
 }

@@ -27,13 +27,12 @@ pub struct Answer {
 }
 
 /// Writes a text piece by piece. If the writer fails, a prefix of it has been written.
-fn push_pieces<W: Sink>(output: &mut W, pieces: TextAndPayoffs) -> Result<(), WriteFault>
+fn push_pieces<W: Sink>(output: &mut W, text: &mut TextAndPayoffs) -> Result<(), WriteFault>
     ensures all { OnOk result
-        (IsWritten W.contents W.push_gives output.old output.new pieces.rest) }
+        (IsWritten W.contents W.push_gives output.old output.new text.old.rest) }
     ensures part { OnErr result
-        (IsWriteFault W.contents W.count W.push_gives output.old output.new pieces.rest) }
+        (IsWriteFault W.contents W.count W.push_gives output.old output.new text.old.rest) }
 {
-    let mut text = pieces;
     while text.advance() {
         push_all(output, text.piece())?;
     }
@@ -49,6 +48,6 @@ pub fn push_text<W: Sink>(output: &mut W, text: Text) -> Result<(), WriteFault>
 {
     match text {
         Text::Line(line) => push_all(output, line),
-        Text::Made(pieces) => push_pieces(output, pieces),
+        Text::Made(mut pieces) => push_pieces(output, &mut pieces),
     }
 }

@@ -5,7 +5,7 @@ use Rattle.gf_run.proofs.texts.text.push_pieces.Given as goal
 -- the text was written up to what is left of it
 abbrev pub invariant-loop-output : goal.invariant-loop-output
 invariant-loop-output g l = IsBegun g.W.Write.contents g.W.Sink.count g.W.Sink.push_gives
-    l.fn.output l.output l.fn.pieces.rest l.text.rest
+    l.fn.output l.output l.fn.text.rest l.text.rest
 
 abbrev pub decreases-loop-output : goal.decreases-loop-output
 decreases-loop-output g l = length l.text.rest
