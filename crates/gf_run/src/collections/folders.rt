@@ -75,8 +75,7 @@ fn push_paths(
 ) -> Result<(), AllocError> {
     for name in names.iter().rev() {
         if name.as_slice() != b".".as_slice() && name.as_slice() != b"..".as_slice() {
-            waiting.reserve(1)?;
-            waiting.push_reserved(joined(alloc, &[folder.as_bytes(), name.as_slice()])?);
+            waiting.push(joined(alloc, &[folder.as_bytes(), name.as_slice()])?)?;
         }
     }
     Ok(())
@@ -97,65 +96,53 @@ fn open_folder<R: Files + AllocGlobal>(
     Ok(is_whole)
 }
 
-/// Whether the file at a path is added: it is a game file or was named itself. A folder is opened
-/// instead, unless it was visited already; if it cannot be read whole, it is added as a file, which
-/// cannot be read either.
-fn is_added<R: Files + AllocGlobal>(
-    rt: &R,
-    path: &str,
-    is_named: bool,
-    folders: &mut BTreeSet<(u64, u64)>,
-    waiting: &mut Vec<Vec<u8>>,
-) -> Result<bool, AllocError> {
-    match folder_at(rt, path) {
-        Some(folder) => Ok(folders.insert(folder)? && !open_folder(rt, path, waiting)?),
-        None => Ok(is_named || is_game_file(path)),
-    }
-}
-
-/// A file whose name is not UTF-8.
-fn not_text(alloc: Global, name: &[u8]) -> Result<Input, AllocError> {
-    Ok(Input::NotText(String::from_utf8_lossy(alloc, name)?))
-}
-
-/// Adds the file at a path, or opens the folder there. A name that is not UTF-8 may be that of a
-/// game file or of a folder, so it is added too.
+/// Adds the file at a path, if it is a game file or was named itself; or opens the folder there,
+/// unless it was visited already. A folder that cannot be read whole is kept as a file, which cannot
+/// be read either.
 fn push_path<R: Files + AllocGlobal>(
     rt: &R,
-    path: Vec<u8>,
+    path: String,
     is_named: bool,
     folders: &mut BTreeSet<(u64, u64)>,
     waiting: &mut Vec<Vec<u8>>,
     files: &mut Vec<Input>,
 ) -> Result<(), AllocError> {
-    files.reserve(1)?;
-    match String::from_utf8(path) {
-        Ok(path) => {
-            if is_added(rt, path.as_str(), is_named, folders, waiting)? {
-                files.push_reserved(Input::File(path));
-            }
-        }
-        Err(error) => files.push_reserved(not_text(rt.alloc(), error.as_bytes())?),
+    let is_file = match folder_at(rt, path.as_str()) {
+        Some(folder) => folders.insert(folder)? && !open_folder(rt, path.as_str(), waiting)?,
+        None => is_named || is_game_file(path.as_str()),
+    };
+    if is_file {
+        files.push(Input::File(path))?;
     }
+    Ok(())
+}
+
+/// Adds a file whose name is not UTF-8.
+fn push_not_text(alloc: Global, name: &[u8], files: &mut Vec<Input>) -> Result<(), AllocError> {
+    files.push(Input::NotText(String::from_utf8_lossy(alloc, name)?))?;
     Ok(())
 }
 
 /// Adds the file at a path, or the game files below the folder there: those whose names end in
 /// `.efg` or `.nfg`, in upper or lower case, each folder ordered by the bytes of its names. No
-/// folder is visited twice, so links may lead anywhere.
+/// folder is visited twice, so links may lead anywhere. A name that is not UTF-8 may be that of a
+/// game file or of a folder, so it is added too.
 pub fn push_files<R: Files + AllocGlobal>(
     rt: &R,
     path: &[u8],
     files: &mut Vec<Input>,
 ) -> Result<(), AllocError> {
-    let first = Vec::from_slice(rt.alloc(), path)?;
-    let mut waiting = vec![in rt.alloc(); first]?;
+    let mut waiting = Vec::with_capacity(rt.alloc(), 1)?;
+    waiting.push_reserved(Vec::from_slice(rt.alloc(), path)?);
     let mut folders = BTreeSet::new(rt.alloc());
     for turn in 0..u64::MAX {
         let Some(path) = waiting.pop() else {
             break;
         };
-        push_path(rt, path, turn == 0, &mut folders, &mut waiting, files)?;
+        match String::from_utf8(path) {
+            Ok(path) => push_path(rt, path, turn == 0, &mut folders, &mut waiting, files),
+            Err(error) => push_not_text(rt.alloc(), error.as_bytes(), files),
+        }?;
     }
     Ok(())
 }
