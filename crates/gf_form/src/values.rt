@@ -5,4 +5,5 @@ pub(crate) mod expectation;
 pub(crate) mod payoffs;
 pub(crate) mod positions;
 pub(crate) mod spare;
+pub(crate) mod sums;
 pub(crate) mod walk;

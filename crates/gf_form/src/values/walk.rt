@@ -13,10 +13,11 @@ ghost use Rattle.gf_form.specs.inner.values.ValueLeft.{open_size, open_value, tr
 ghost use Rattle.gf_form.specs.inner.values.ValueLeft.{drawn_value, with_own};
 
 use crate::fault::EvalFault;
-use crate::rows::{pay, weigh};
+use crate::rows::pay;
 use crate::values::payoffs::Payoffs;
 use crate::values::positions::at;
 use crate::values::spare::SpareRows;
+use crate::values::sums::weigh;
 use gf_fraction::Fraction;
 use gf_tree::{Branch, Branches, Game};
 use std::alloc::Global;

@@ -1,21 +1,22 @@
 -- Which plays follow the same choices. If these are actions, some play does, and the probabilities
 -- of those that do come to one: this is what they pay in all if one is paid before each, and
 -- nothing in the tree.
-use Rattle.gf_form.proofs.Common.{◌≡◌, AllByRecursion, play_probability, chance_value, PartAtChance}
-use Rattle.gf_form.proofs.Common.{ℕ, [], ap, inl, inr, ◌⊎◌, ◌↔◌, Has, has}
-use Rattle.gf_form.proofs.Common.{suc, list_all, eqb-true, Contains, contains, times_one, payoff_at}
-use Rattle.gf_form.proofs.Common.{◌+◌, List, ◌++◌, Some, refl, ◌==◌, Tree, none, more, total, value}
-use Rattle.gf_form.proofs.Common.{◌<◌, ◌≤◌, ◌∷◌, map, sym, ◌∙◌, Node, Game, Step, Play, zero, back}
-use Rattle.gf_form.proofs.Common.{Bool, plays_from, zero_ratio, plus_right, HasActions, child_value}
-use Rattle.gf_form.proofs.Common.{true, Option, branch, flatten, SetKey, follows, IsEqual, nodes_of}
-use Rattle.gf_form.proofs.Common.{false, subst, arith, Trees, count, plays, Ratio, ◌then◌, IsGame}
-use Rattle.gf_form.proofs.Common.{all_parts, from_node, is_chosen, of_filter, one_ratio, chances_at}
-use Rattle.gf_form.proofs.Common.{flatten_all, HasChildren, mapped_from, times_right, IsSpellable}
+use Rattle.gf_form.proofs.Common.{play_probability, AllByRecursion, PartAtChance, chance_value, ◌⊎◌}
+use Rattle.gf_form.proofs.Common.{flatten_all, mapped_from, HasChildren, IsSpellable, child_value}
+use Rattle.gf_form.proofs.Common.{chances_at, zero_ratio, HasActions, plays_from, of_filter, branch}
+use Rattle.gf_form.proofs.Common.{all_parts, one_ratio, is_chosen, from_node, payoff_at, list_all}
+use Rattle.gf_form.proofs.Common.{nodes_of, contains, eqb-true, Contains, follows, IsEqual, flatten}
+use Rattle.gf_form.proofs.Common.{IsGame, SetKey, Option, filter, count, false, value, times, subst}
+use Rattle.gf_form.proofs.Common.{Trees, plays, total, arith, Ratio, more, Game, Bool, Node, true}
+use Rattle.gf_form.proofs.Common.{Play, List, ◌++◌, none, Tree, refl, plus, Some, zero, ◌==◌, Step}
+use Rattle.gf_form.proofs.Common.{Has, suc, ◌+◌, ◌∙◌, map, has, ◌↔◌, inl, sym, ◌≡◌, ◌≤◌, ◌∷◌, inr}
+use Rattle.gf_form.proofs.Common.{◌<◌, ap, [], ℕ}
 use Rattle.gf_form.proofs.lemmas.strategies.Chosen.{chance_is_paid_nothing}
-use Rattle.gf_form.proofs.lemmas.values.BottomUp.{has_set, followed_in, share, sum_alike, tree_pays}
-use Rattle.gf_form.proofs.lemmas.values.Denominators.{probability_fraction, play_probability_above}
-use Rattle.gf_form.proofs.lemmas.values.ValuesComputed.{value_is, zero_fraction, plus_zero}
-use Rattle.gf_form.proofs.lemmas.values.ValuesComputed.{times_zero}
+use Rattle.gf_form.proofs.lemmas.values.BottomUp.{shares_are, once_times, times_once, tree_pays}
+use Rattle.gf_form.proofs.lemmas.values.BottomUp.{has_set, over}
+use Rattle.gf_form.proofs.lemmas.values.Denominators.{probability_fraction}
+use Rattle.gf_form.proofs.lemmas.values.ValuesComputed.{zero_fraction, times_zero, plus_zero}
+use Rattle.gf_form.proofs.lemmas.values.ValuesComputed.{value_is}
 
 -- ---- a play's moves are the choices
 
@@ -157,9 +158,9 @@ same_or_part_play choices g game p q hp hq = same_or_part choices g g.tree game.
     (has (plays g.tree) p hp) (has (plays g.tree) q hq)
 
 -- nobody is player 0
-nothing_paid : (g : Game) (ns : List Node) → IsEqual (total (map (payoff_at g 0) ns)) zero_ratio
-nothing_paid g [] = grind arith
-nothing_paid g (n ∷ ns) = grind (arith, nothing_paid g ns, chance_is_paid_nothing g n)
+nothing_paid : (g : Game) (ns : List Node) → total (map (payoff_at g 0) ns) ≡ zero_ratio
+nothing_paid g [] = refl
+nothing_paid g (n ∷ ns) = λ i. plus (chance_is_paid_nothing g n i) (nothing_paid g ns i)
 
 module _ (g : Game) (game : IsGame g) (spellable : IsSpellable g) (choices : SetKey → ℕ)
     (actions : HasActions g choices) where
@@ -207,17 +208,18 @@ module _ (g : Game) (game : IsGame g) (spellable : IsSpellable g) (choices : Set
     child_nothing ts position above within children = absurd (grind arith)
 
   whole_in : (t : Tree Node) → AllByRecursion (HasChildren g) (flatten t)
-      → IsEqual (total (map (play_probability g) (followed_in choices t))) one_ratio
+      → IsEqual (total (map (play_probability g) (filter (follows choices) (plays t)))) one_ratio
   whole_in t children =
-      sum_alike (play_probability g) (share g game spellable choices 0 one_ratio)
-      (λ p. let above = play_probability_above g spellable p in
-      back (times_right (play_probability g p) above
-      (plus_right one_ratio (omega arith) (nothing_paid g (nodes_of p)))
-      then times_one (play_probability g p) above)) (followed_in choices t)
-      then tree_pays g game spellable choices 0 t zero_ratio children
-      ((value_is g spellable choices 0 t zero_ratio).1 (nothing t children)) one_ratio (omega arith)
+      over (sym (shares_are g game spellable choices 0 one_ratio one_ratio (play_probability g)
+      (λ p. (λ i. times (once_times (play_probability g p) i)
+      (plus one_ratio (nothing_paid g (nodes_of p) i))) ∙ times_once (play_probability g p))
+      (plays t)))
+      (tree_pays g game spellable choices 0 t zero_ratio children
+      ((value_is g spellable choices 0 t zero_ratio).1 (nothing t children)) one_ratio one_ratio
+      (omega arith) (omega arith)) refl
 
-  pub whole : IsEqual (total (map (play_probability g) (followed_in choices g.tree))) one_ratio
+  pub whole : IsEqual (total (map (play_probability g)
+      (filter (follows choices) (plays g.tree)))) one_ratio
   whole = whole_in g.tree game.children
 
   -- what is not empty has a play in it
@@ -228,7 +230,7 @@ module _ (g : Game) (game : IsGame g) (spellable : IsSpellable g) (choices : Set
 
   pub some_play_in : (t : Tree Node) → AllByRecursion (HasChildren g) (flatten t)
       → (play : Play) × Has (plays t) play × (follows choices play ≡ true)
-  some_play_in t children = grind (arith, first_of, followed_in, whole_in, of_filter)
+  some_play_in t children = grind (arith, first_of, whole_in, of_filter)
 
   pub some_play : (play : Play) × Contains (plays g.tree) play × (follows choices play ≡ true)
   some_play = grind (arith, some_play_in, contains)

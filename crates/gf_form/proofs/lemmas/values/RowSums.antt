@@ -1,15 +1,15 @@
 -- Rows that are added up, number by number.
-use Rattle.gf_form.proofs.Common.{◌≡◌, ℕ, zero, suc, ◌+◌, ◌<◌, ◌≤◌, List, [], ◌∷◌, Option, Some}
-use Rattle.gf_form.proofs.Common.{None, length, get_or, sym, subst, ◌∙◌, arith, ◌⊎◌, pos, true}
-use Rattle.gf_form.proofs.Common.{AllByRecursion, cases_lt, eqb-true, get_or_default, get_or_past}
-use Rattle.gf_form.proofs.Common.{get_or-set_other, fits_signed_from_abs, to_z-of_z, ◌==◌}
-use Rattle.gf_form.proofs.Common.{product_of-some, sum_of-some, Ratio, IsFraction, zero_ratio}
-use Rattle.gf_form.proofs.Common.{at_place, plus_of, times_of, set, sum_of}
+use Rattle.gf_form.proofs.Common.{fits_signed_from_abs, get_or-set_other, product_of-some, times_of}
+use Rattle.gf_form.proofs.Common.{AllByRecursion, get_or_default, get_or_past, sum_of-some, plus_of}
+use Rattle.gf_form.proofs.Common.{IsFraction, zero_ratio, to_z-of_z, at_place, eqb-true, cases_lt}
+use Rattle.gf_form.proofs.Common.{Option, get_or, sum_of, length, arith, Ratio, subst, Some, zero}
+use Rattle.gf_form.proofs.Common.{List, ◌==◌, true, ◌≡◌, sym, ◌+◌, set, ◌∙◌, pos, suc, ◌⊎◌, ◌≤◌, []}
+use Rattle.gf_form.proofs.Common.{◌<◌, ◌∷◌, ℕ}
 use Rattle.std.proofs.Math.ListN.{length-set}
 use Rattle.std.proofs.lemmas.List.{get_or-set_same}
 use Rattle.gf_fraction.proofs.ComputedArithmetic.{product_of-none, sum_of-none}
-use Rattle.gf_form.proofs.lemmas.values.ValuesComputed.{zero_fraction, none_times, plus_zero}
-use Rattle.gf_form.proofs.lemmas.values.ValuesComputed.{times_zero, zero_plus}
+use Rattle.gf_form.proofs.lemmas.values.ValuesComputed.{zero_fraction, times_zero, none_times}
+use Rattle.gf_form.proofs.lemmas.values.ValuesComputed.{plus_zero, zero_plus, zero_is}
 
 -- ---- numbers at their places
 
@@ -68,6 +68,18 @@ pub nothing_weighed : (chance : Ratio) (sum row : List Ratio)
 nothing_weighed chance sum row fc fs fr k h =
     grind (arith, plus_zero, fraction_at, none_times, times_zero)
 
+-- a product with zero, and a sum with it
+pub zero_weighed : (number chance other : Ratio) → IsFraction number → IsFraction chance
+    → IsFraction other → other.num ≡ pos 0
+    → plus_of (Some number) (times_of chance (Some other)) ≡ Some number
+zero_weighed number chance other fn fc fo nothing =
+    grind (arith, zero_is, times_zero, plus_zero)
+
+pub first_weighed : (number chance other product : Ratio) → IsFraction number → IsFraction product
+    → number.num ≡ pos 0 → times_of chance (Some other) ≡ Some product
+    → plus_of (Some number) (times_of chance (Some other)) ≡ Some product
+first_weighed number chance other product fn fp nothing is = grind (arith, zero_is, zero_plus)
+
 pub zeros_weighed : (chance : Ratio) → IsFraction chance
     → plus_of (Some zero_ratio) (times_of chance (Some zero_ratio)) ≡ Some zero_ratio
 zeros_weighed chance f = cc (times_zero chance f, plus_zero zero_ratio zero_fraction)
@@ -80,6 +92,17 @@ nothing_paid row payoffs f h k = grind (arith, empty_row, zero_plus, fraction_at
 -- ---- what the steps of the code need
 
 pub ruleset sum_steps = (sum_of-some, sum_of-none, product_of-some, product_of-none)
+
+pub ruleset weighed_steps = (
+  sum_of-some,
+  sum_of-none,
+  product_of-some,
+  product_of-none,
+  zero_weighed,
+  first_weighed,
+  to_z-of_z,
+  fits_signed_from_abs,
+)
 
 pub ruleset weigh_steps =
     (nothing_weighed, to_z-of_z, fits_signed_from_abs, empty_row, read_fraction, place_is)

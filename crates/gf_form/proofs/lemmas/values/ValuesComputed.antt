@@ -1,22 +1,25 @@
 -- The computed bottom-up value is the one of the relation. Zero added to a fraction, and its
 -- multiples.
-use Rattle.gf_form.proofs.Common.{◌≡◌, ℕ, zero, suc, ◌+◌, Bool, true, false, Option, Some, None}
-use Rattle.gf_form.proofs.Common.{MatchOption, refl, sym, ap, subst, arith, ◌==◌, ◌↔◌, MatchBool}
-use Rattle.gf_form.proofs.Common.{if◌then◌else◌, Ratio, IsFraction, zero_ratio, AddsTo}
-use Rattle.gf_form.proofs.Common.{MultipliesTo, product_of, product_of-some, sum_is_computed}
-use Rattle.gf_form.proofs.Common.{sum_of-some, whole_fraction, Tree, Trees, branch, none, more}
-use Rattle.gf_form.proofs.Common.{SetKey, Game, Node, IsSpellable, IsChanceValue, IsChildValue}
-use Rattle.gf_form.proofs.Common.{IsValue, payoff_at, chance_value, chances_at, child_value}
-use Rattle.gf_form.proofs.Common.{plus_of, times_of, value, value_over, pos, ◌*◌, ◌/◌, ◌∙◌, ℤ, ◌*ℤ◌}
-use Rattle.gf_form.proofs.Common.{*ℤ_comm, *ℤ-zero, IsLcm, scaled_num, *ℤ-one, IsLcm-from_gcd}
+use Rattle.gf_form.proofs.Common.{sum_is_computed, product_of-some, whole_fraction, IsChanceValue}
+use Rattle.gf_form.proofs.Common.{if◌then◌else◌, IsChildValue, chance_value, one_fraction, dvd_refl}
+use Rattle.gf_form.proofs.Common.{MultipliesTo, MatchOption, IsSpellable, child_value, sum_of-some}
+use Rattle.gf_form.proofs.Common.{product_of, chances_at, IsFraction, value_over, zero_ratio, false}
+use Rattle.gf_form.proofs.Common.{scaled_num, MatchBool, payoff_at, times_of, IsValue, *ℤ-zero, ◌≡◌}
+use Rattle.gf_form.proofs.Common.{one-dvd, *ℤ_comm, plus_of, Option, AddsTo, branch, SetKey, *ℤ-one}
+use Rattle.gf_form.proofs.Common.{arith, Ratio, value, Trees, IsLcm, subst, none, Some, zero, Node}
+use Rattle.gf_form.proofs.Common.{None, ◌*ℤ◌, Tree, refl, more, ◌==◌, Game, true, Bool, ◌/◌, sym, ℕ}
+use Rattle.gf_form.proofs.Common.{◌+◌, ◌∙◌, pos, suc, ◌*◌, ◌↔◌, ap, ℤ}
 use Rattle.gf_fraction.specs.Computed.{sum_of}
 use Rattle.gf_fraction.proofs.ComputedArithmetic.{product_is_computed}
-use Rattle.gf_form.proofs.lemmas.values.Denominators.{payoff_fraction, probability_fraction}
+use Rattle.gf_form.proofs.lemmas.values.Denominators.{probability_fraction, payoff_fraction}
 use Rattle.std.proofs.Math.Nat.{div_self}
-use Rattle.gf_fraction.proofs.Divisors.{IsGcd-one_right}
 
 pub zero_fraction : IsFraction zero_ratio
 zero_fraction = whole_fraction 0 (omega arith)
+
+pub zero_is : (x : Ratio) → IsFraction x → x.num ≡ pos 0 → x ≡ zero_ratio
+zero_is x f nothing =
+    one_fraction x zero_ratio (pos 0) 1 f zero_fraction (omega arith) (grind arith) (grind arith)
 
 -- what has this property is a fraction, and it is what is computed
 abbrev Agree : (Ratio → Type 0) → Option Ratio → Ratio → Type 0
@@ -163,12 +166,10 @@ zero_scale m = zero_by (pos (m / 1))
 
 module _ (x : Ratio) (f : IsFraction x) where
   lcm_right : IsLcm x.den 1 x.den
-  lcm_right =
-      let e : x.den * (1 / 1) ≡ x.den = omega arith in
-      subst (IsLcm x.den 1) e (IsLcm-from_gcd x.den 1 1 (omega arith) (IsGcd-one_right x.den))
+  lcm_right = record { left = dvd_refl x.den; right = one-dvd x.den; least = λ k h _. h }
 
   lcm_left : IsLcm 1 x.den x.den
-  lcm_left = grind (arith, lcm_right)
+  lcm_left = record { left = one-dvd x.den; right = dvd_refl x.den; least = λ k _ h. h }
 
   pub plus_zero : sum_of x zero_ratio ≡ Some x
   plus_zero =
