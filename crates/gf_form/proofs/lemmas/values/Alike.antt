@@ -1,15 +1,14 @@
 -- Trees whose nodes are alike, each to its image, in what is chosen, how probable it is and what it
 -- pays: they have the same payoff, and the same bottom-up value.
-use Rattle.gf_form.proofs.Common.{◌≡◌, ℕ, zero, suc, ◌+◌, List, arith, Some, None, map, refl}
-use Rattle.gf_form.proofs.Common.{ap, ◌∙◌, ◌==◌, ◌&&◌, filter, MatchOption, AllByRecursion}
-use Rattle.gf_form.proofs.Common.{map-append, Ratio, plus, times, total, zero_ratio, MultipliesTo}
-use Rattle.gf_form.proofs.Common.{all_parts, Tree, Trees, map_tree, map_trees, branch, none, more}
-use Rattle.gf_form.proofs.Common.{flatten, flatten_all, SetKey, Node, Game, map_twice, Step, Play}
-use Rattle.gf_form.proofs.Common.{from_node, plays, plays_from, is_chosen, follows, probability}
-use Rattle.gf_form.proofs.Common.{payoff_at, play_probability, play_payoff, payoff, IsValue}
-use Rattle.gf_form.proofs.Common.{IsChanceValue, IsChildValue, [], ◌∷◌, all_both, all_images}
-use Rattle.gf_form.proofs.Common.{all_weaker, list_all, Option, MatchBool, AddsTo}
-use Rattle.gf_fraction.specs.Rational.{ratio_product}
+use Rattle.gf_form.proofs.Common.{AllByRecursion, if◌then◌else◌, IsChanceValue, IsChildValue, arith}
+use Rattle.gf_form.proofs.Common.{MultipliesTo, MatchOption, flatten_all, probability, plays_from}
+use Rattle.gf_form.proofs.Common.{zero_ratio, chances_at, all_images, all_weaker, map-append, Ratio}
+use Rattle.gf_form.proofs.Common.{one_ratio, MatchBool, from_node, map_trees, all_parts, is_chosen}
+use Rattle.gf_form.proofs.Common.{payoff_at, map_twice, all_both, map_tree, flatten, IsValue, times}
+use Rattle.gf_form.proofs.Common.{SetKey, payoff, branch, Option, AddsTo, plays, Trees, ◌==◌, plus}
+use Rattle.gf_form.proofs.Common.{Step, Node, none, zero, Some, more, refl, Play, Tree, List, Game}
+use Rattle.gf_form.proofs.Common.{None, ◌≡◌, sym, suc, ◌+◌, ◌∙◌, map, ap, ℕ}
+use Rattle.gf_form.proofs.lemmas.values.BottomUp.{payoff_is, shares, first}
 use Rattle.gf_tree.specs.PrefixOrder.{Entry}
 
 -- ---- plays by other nodes
@@ -80,45 +79,43 @@ module _ (g h : Game) (c d : SetKey → ℕ) (player : ℕ) (f : Node → Node) 
   abbrev pub AreAlike : List (Entry Node) → Type 0
   AreAlike es = AllByRecursion (λ e. IsAlike e.node) es
 
-  followed_alike : (steps : List Step) → OnSteps IsAlike steps
-      → list_all (is_chosen d) (map (carried_step f) steps) ≡ list_all (is_chosen c) steps
-  followed_alike [] all = refl
-  followed_alike (s ∷ steps) all =
-      λ i. all.0.chosen s.taken i && followed_alike steps all.1 i
+  mutual
+    shares_alike : (t : Tree Node) (chance paid : Ratio) → AreAlike (flatten t)
+        → shares h d player chance paid (plays (map_tree f t))
+        ≡ shares g c player chance paid (plays t)
+    shares_alike (branch n none) chance paid a = λ i.
+        plus (times (times chance one_ratio) (plus paid (plus (a.0.pays i) zero_ratio))) zero_ratio
+    shares_alike (branch n (more t ts)) chance paid a =
+        children_alike (more t ts) n 1 chance paid a.0 a.1
 
-  chance_alike : (steps : List Step) → OnSteps IsAlike steps
-      → ratio_product (map (probability h) (map (carried_step f) steps))
-      ≡ ratio_product (map (probability g) steps)
-  chance_alike [] all = refl
-  chance_alike (s ∷ steps) all =
-      λ i. times (all.0.chance s.taken i) (chance_alike steps all.1 i)
-
-  paid_alike : (steps : List Step) (leaf : Node) → OnSteps IsAlike steps → IsAlike leaf
-      → play_payoff h player (carried_play f (record { steps = steps; leaf = leaf }))
-      ≡ play_payoff g player (record { steps = steps; leaf = leaf })
-  paid_alike [] leaf all is = λ i. plus (is.pays i) zero_ratio
-  paid_alike (s ∷ steps) leaf all is =
-      λ i. plus (all.0.pays i) (paid_alike steps leaf all.1 is i)
-
-  abbrev worth : Game → List Play → Ratio
-  worth game ps =
-      total (map (λ play. times (play_probability game play) (play_payoff game player play)) ps)
-
-  sum_alike : (ps : List Play) → AllByRecursion (OnPlay IsAlike) ps
-      → worth h (filter (follows d) (map (carried_play f) ps)) ≡ worth g (filter (follows c) ps)
-  sum_alike [] all = refl
-  sum_alike (p ∷ ps) all =
-      let followed = followed_alike p.steps all.0.0 in
-      let chance = chance_alike p.steps all.0.0 in
-      let paid = paid_alike p.steps p.leaf all.0.0 all.0.1 in
-      grind (arith, followed, chance, paid, sum_alike ps all.1)
+    children_alike : (ts : Trees Node) (n : Node) (k : ℕ) (chance paid : Ratio) → IsAlike n
+        → AreAlike (flatten_all ts)
+        → shares h d player chance paid (plays_from (f n) k (map_trees f ts))
+        ≡ shares g c player chance paid (plays_from n k ts)
+    children_alike none n k chance paid a all = refl
+    children_alike (more t ts) n k chance paid a all =
+        let both = all_parts (λ (e : Entry Node). IsAlike e.node) (flatten t) (flatten_all ts)
+        all in
+        let drawn = times chance (chances_at g n k) in
+        let after = plus paid (payoff_at g player n) in
+        let on : shares h d player (times chance (chances_at h (f n) k))
+        (plus paid (payoff_at h player (f n))) (plays (map_tree f t))
+        ≡ shares g c player drawn after (plays t) =
+        (λ i. shares h d player (times chance (a.chance k i)) (plus paid (a.pays i))
+        (plays (map_tree f t))) ∙ shares_alike t drawn after both.0 in
+        first h d player chance paid (f n) k (is_chosen d (record { node = f n; taken = k })) refl
+        (map_tree f t) (map_trees f ts)
+        ∙ (λ i. plus (if a.chosen k i then on i else zero_ratio)
+        (children_alike ts n (k + 1) chance paid a both.1 i))
+        ∙ sym (first g c player chance paid n k (is_chosen c (record { node = n; taken = k })) refl
+        t ts)
 
   pub same_payoff : h.tree ≡ map_tree f g.tree → AreAlike (flatten g.tree)
       → payoff h d player ≡ payoff g c player
   same_payoff tree a =
-      ap (λ t. worth h (filter (follows d) (plays t))) tree
-      ∙ ap (λ ps. worth h (filter (follows d) ps)) (plays_carried f g.tree)
-      ∙ sum_alike (plays g.tree) (on_plays IsAlike g.tree a)
+      sym (payoff_is h d player)
+      ∙ ap (λ t. shares h d player one_ratio zero_ratio (plays t)) tree
+      ∙ shares_alike g.tree one_ratio zero_ratio a ∙ payoff_is g c player
 
 -- ---- bottom-up values
 

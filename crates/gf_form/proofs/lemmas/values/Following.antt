@@ -1,18 +1,18 @@
 -- Which plays follow the same choices. If these are actions, some play does, and the probabilities
 -- of those that do come to one: this is what they pay in all if one is paid before each, and
 -- nothing in the tree.
-use Rattle.gf_form.proofs.Common.{play_probability, AllByRecursion, PartAtChance, chance_value, ◌⊎◌}
-use Rattle.gf_form.proofs.Common.{flatten_all, mapped_from, HasChildren, IsSpellable, child_value}
-use Rattle.gf_form.proofs.Common.{chances_at, zero_ratio, HasActions, plays_from, of_filter, branch}
-use Rattle.gf_form.proofs.Common.{all_parts, one_ratio, is_chosen, from_node, payoff_at, list_all}
-use Rattle.gf_form.proofs.Common.{nodes_of, contains, eqb-true, Contains, follows, IsEqual, flatten}
-use Rattle.gf_form.proofs.Common.{IsGame, SetKey, Option, filter, count, false, value, times, subst}
-use Rattle.gf_form.proofs.Common.{Trees, plays, total, arith, Ratio, more, Game, Bool, Node, true}
-use Rattle.gf_form.proofs.Common.{Play, List, ◌++◌, none, Tree, refl, plus, Some, zero, ◌==◌, Step}
-use Rattle.gf_form.proofs.Common.{Has, suc, ◌+◌, ◌∙◌, map, has, ◌↔◌, inl, sym, ◌≡◌, ◌≤◌, ◌∷◌, inr}
-use Rattle.gf_form.proofs.Common.{◌<◌, ap, [], ℕ}
+use Rattle.gf_form.proofs.Common.{play_probability, AllByRecursion, PartAtChance, chance_value, inr}
+use Rattle.gf_form.proofs.Common.{child_value, mapped_from, flatten_all, IsSpellable, HasChildren}
+use Rattle.gf_form.proofs.Common.{plays_from, zero_ratio, chances_at, HasActions, one_ratio, IsGame}
+use Rattle.gf_form.proofs.Common.{from_node, all_parts, is_chosen, payoff_at, of_filter, list_all}
+use Rattle.gf_form.proofs.Common.{contains, eqb-true, Contains, nodes_of, flatten, follows, IsEqual}
+use Rattle.gf_form.proofs.Common.{SetKey, filter, branch, Option, arith, Ratio, value, times, plays}
+use Rattle.gf_form.proofs.Common.{total, Trees, count, false, subst, ◌==◌, plus, Step, true, Node}
+use Rattle.gf_form.proofs.Common.{none, ◌++◌, zero, Some, more, refl, Play, Game, List, Tree, Bool}
+use Rattle.gf_form.proofs.Common.{◌<◌, ◌≡◌, inl, ◌≤◌, ◌⊎◌, sym, ◌∷◌, Has, has, suc, ◌+◌, ◌∙◌, map}
+use Rattle.gf_form.proofs.Common.{◌↔◌, [], ap, ℕ}
 use Rattle.gf_form.proofs.lemmas.strategies.Chosen.{chance_is_paid_nothing}
-use Rattle.gf_form.proofs.lemmas.values.BottomUp.{shares_are, once_times, times_once, tree_pays}
+use Rattle.gf_form.proofs.lemmas.values.BottomUp.{times_once, shares_are, once_times, tree_pays}
 use Rattle.gf_form.proofs.lemmas.values.BottomUp.{has_set, over}
 use Rattle.gf_form.proofs.lemmas.values.Denominators.{probability_fraction}
 use Rattle.gf_form.proofs.lemmas.values.ValuesComputed.{zero_fraction, times_zero, plus_zero}
@@ -210,11 +210,11 @@ module _ (g : Game) (game : IsGame g) (spellable : IsSpellable g) (choices : Set
   whole_in : (t : Tree Node) → AllByRecursion (HasChildren g) (flatten t)
       → IsEqual (total (map (play_probability g) (filter (follows choices) (plays t)))) one_ratio
   whole_in t children =
-      over (sym (shares_are g game spellable choices 0 one_ratio one_ratio (play_probability g)
+      over (sym (shares_are g choices 0 one_ratio one_ratio (play_probability g)
       (λ p. (λ i. times (once_times (play_probability g p) i)
       (plus one_ratio (nothing_paid g (nodes_of p) i))) ∙ times_once (play_probability g p))
       (plays t)))
-      (tree_pays g game spellable choices 0 t zero_ratio children
+      (tree_pays g choices 0 game spellable t zero_ratio children
       ((value_is g spellable choices 0 t zero_ratio).1 (nothing t children)) one_ratio one_ratio
       (omega arith) (omega arith)) refl
 

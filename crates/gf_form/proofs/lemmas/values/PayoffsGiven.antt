@@ -58,7 +58,7 @@ module _ (g : Game) (game : IsGame g) (spellable : IsSpellable g) (choices : Set
       zero_ratio row 1
       (λ k less. (
         fraction_at row k fractions,
-        value_is_payoff g game spellable choices (1 + k) (at_place row k)
+        value_is_payoff g choices (1 + k) game spellable (at_place row k)
             (has_value row h k (subst (λ (n : ℕ). k < n) count less)),
       )))
 

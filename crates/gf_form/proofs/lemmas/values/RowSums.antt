@@ -1,15 +1,15 @@
 -- Rows that are added up, number by number.
 use Rattle.gf_form.proofs.Common.{fits_signed_from_abs, get_or-set_other, product_of-some, times_of}
 use Rattle.gf_form.proofs.Common.{AllByRecursion, get_or_default, get_or_past, sum_of-some, plus_of}
-use Rattle.gf_form.proofs.Common.{IsFraction, zero_ratio, to_z-of_z, at_place, eqb-true, cases_lt}
-use Rattle.gf_form.proofs.Common.{Option, get_or, sum_of, length, arith, Ratio, subst, Some, zero}
-use Rattle.gf_form.proofs.Common.{List, ◌==◌, true, ◌≡◌, sym, ◌+◌, set, ◌∙◌, pos, suc, ◌⊎◌, ◌≤◌, []}
-use Rattle.gf_form.proofs.Common.{◌<◌, ◌∷◌, ℕ}
+use Rattle.gf_form.proofs.Common.{zero_ratio, IsFraction, to_z-of_z, at_place, eqb-true, cases_lt}
+use Rattle.gf_form.proofs.Common.{sum_of, length, get_or, Option, arith, Ratio, subst, ◌==◌, true}
+use Rattle.gf_form.proofs.Common.{zero, Some, List, ◌<◌, ◌≡◌, ◌≤◌, set, ◌⊎◌, sym, ◌∷◌, ◌+◌, ◌∙◌, []}
+use Rattle.gf_form.proofs.Common.{suc, pos, ℕ}
 use Rattle.std.proofs.Math.ListN.{length-set}
 use Rattle.std.proofs.lemmas.List.{get_or-set_same}
 use Rattle.gf_fraction.proofs.ComputedArithmetic.{product_of-none, sum_of-none}
 use Rattle.gf_form.proofs.lemmas.values.ValuesComputed.{zero_fraction, times_zero, none_times}
-use Rattle.gf_form.proofs.lemmas.values.ValuesComputed.{plus_zero, zero_plus, zero_is}
+use Rattle.gf_form.proofs.lemmas.values.ValuesComputed.{zero_plus, plus_zero, zero_is}
 
 -- ---- numbers at their places
 
@@ -93,16 +93,8 @@ nothing_paid row payoffs f h k = grind (arith, empty_row, zero_plus, fraction_at
 
 pub ruleset sum_steps = (sum_of-some, sum_of-none, product_of-some, product_of-none)
 
-pub ruleset weighed_steps = (
-  sum_of-some,
-  sum_of-none,
-  product_of-some,
-  product_of-none,
-  zero_weighed,
-  first_weighed,
-  to_z-of_z,
-  fits_signed_from_abs,
-)
+pub ruleset weighed_steps =
+    (sum_steps, zero_weighed, first_weighed, to_z-of_z, fits_signed_from_abs)
 
 pub ruleset weigh_steps =
     (nothing_weighed, to_z-of_z, fits_signed_from_abs, empty_row, read_fraction, place_is)
