@@ -68,7 +68,7 @@ pub fn value_is_payoff()
 /// The pure strategies of a player are all choices of an action at each of his sets, each once;
 /// there are as many as the product of the numbers of actions. Their labels differ, as long as no
 /// set has 2^64 actions.
-#[tactic(auto, using(crate::proofs::lemmas::strategies::StrategyLabels::each_strategy))]
+#[tactic(auto, using(crate::proofs::lemmas::strategies::StrategiesByNumber::each_strategy))]
 pub fn every_strategy()
     ensures each_choice { (g : Game) (player : ℕ) (strategy : List ℕ)
         → Contains (strategies g player) strategy

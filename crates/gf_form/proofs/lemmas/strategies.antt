@@ -2,10 +2,6 @@ pub mod ActionCounts
 pub mod Choices
 pub mod Chosen
 pub mod CountedActions
-pub mod CountsGiven
-pub mod KnownSets
 pub mod Lookups
-pub mod NumberedProfiles
 pub mod PickedProfiles
 pub mod StrategiesByNumber
-pub mod StrategyLabels

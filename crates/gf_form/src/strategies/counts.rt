@@ -70,7 +70,7 @@ pub(crate) struct Counts {
 impl Counts {
     /// How many actions there are at each set of the player at this place, and how many strategies
     /// he has.
-    #[tactic(auto, using(crate::proofs::lemmas::strategies::CountsGiven::given_steps))]
+    #[tactic(auto, using(crate::proofs::lemmas::strategies::CountedActions::given_steps))]
     pub(crate) fn of_player(&self, place: usize) -> (&[u32], u32)
         requires { (g : Game) × AreCounts g self.now × (place < length self.now.actions.items) }
         ensures some { 0 < result.1 }

@@ -94,7 +94,7 @@ fn room_for(alloc: Global, firsts: &Labels, others: &Labels) -> Result<Labels, A
 }
 
 /// The labels of all strategies, from those at the first sets and those at the others.
-#[tactic(auto, using(crate::proofs::lemmas::strategies::StrategyLabels::joined_steps))]
+#[tactic(auto, using(crate::proofs::lemmas::strategies::StrategiesByNumber::joined_steps))]
 fn joined_labels(alloc: Global, firsts: &Labels, others: &Labels) -> Result<Labels, AllocError>
     ensures { IfOk result (λ labels. (counts later : List ℕ) → 0 < length counts
         → 0 < length later → firsts.now ≡ map strategy_label (all_choices counts)

@@ -21,7 +21,7 @@ pub(crate) fn no_actions(alloc: Global, players: usize) -> Result<Vec<Vec<u32>>,
 }
 
 /// Replaces others by the strategies of the profile with this number, from 0.
-#[tactic(auto, using(crate::proofs::lemmas::strategies::NumberedProfiles::written_steps))]
+#[tactic(auto, using(crate::proofs::lemmas::strategies::PickedProfiles::written_steps))]
 pub(crate) fn write_strategies(
     counts: &Counts,
     profile: u32,

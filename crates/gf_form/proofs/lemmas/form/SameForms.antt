@@ -22,7 +22,7 @@ use Rattle.gf_tree.proofs.lemmas.games.Carried.{entry_used}
 use Rattle.gf_tree.proofs.lemmas.games.Renumbered.{set_at_image, outcome_at_image}
 use Rattle.gf_form.proofs.lemmas.values.Alike.{IsAlike, AreAlike, same_payoff, value_alike, OnPlay}
 use Rattle.gf_form.proofs.lemmas.values.Alike.{OnSteps, carried_step, on_plays, plays_carried}
-use Rattle.gf_form.proofs.lemmas.strategies.KnownSets.{own_set}
+use Rattle.gf_form.proofs.lemmas.strategies.Lookups.{own_set}
 use Rattle.gf_form.specs.Refusal.{OverflowsAt}
 
 any_carried : {X Y : Type 0} (f : X → Y) (p : Y → Bool) (q : X → Bool) (P : X → Type 0)

@@ -19,7 +19,7 @@ use Rattle.gf_form.proofs.Common.{◌+◌, ◌<◌, ◌∷◌, map, suc, ◌≤�
 use Rattle.gf_form.proofs.Common.{[]}
 use Rattle.std.proofs.Math.Bool.{and-or_distrib_left}
 use Rattle.gf_form.proofs.lemmas.rows.GameDigits.{among}
-use Rattle.gf_form.proofs.lemmas.strategies.KnownSets.{own_set, set_is}
+use Rattle.gf_form.proofs.lemmas.strategies.Lookups.{own_set, set_is, there}
 use Rattle.gf_form.proofs.lemmas.reduced.Reducing.{first_play, is_chance, own_right, any_has}
 use Rattle.std.specs.List.{filter_map}
 use Rattle.gf_form.proofs.lemmas.strategies.Choices.{length-all_choices}
@@ -28,7 +28,6 @@ use Rattle.gf_form.proofs.lemmas.reduced.FirstStrategies.{reduced_shown_at, flag
 use Rattle.gf_tree.specs.PrefixOrder.{Entry}
 use Rattle.std.proofs.Math.Nat.{dvd-mul_left_of_dvd, eq-one_of_dvd-one}
 use Rattle.gf_form.proofs.lemmas.strategies.StrategiesByNumber.{whole_label}
-use Rattle.gf_form.proofs.lemmas.strategies.Lookups.{there}
 use Rattle.gf_form.proofs.lemmas.values.Following.{some_play_in, taken_child, play_of}
 
 module _ (g : Game) (game : IsGame g) (choices : SetKey → ℕ) (key : SetKey) where

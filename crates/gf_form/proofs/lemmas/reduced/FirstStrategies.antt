@@ -24,7 +24,8 @@ use Rattle.gf_form.proofs.Common.{has, not, ◌↔◌, zip, ap}
 use Rattle.gf_tree.proofs.lemmas.stores.KnownKeys.{used_before, known_more, more_known}
 use Rattle.gf_form.proofs.lemmas.strategies.Choices.{choice_length, at_its_place, are_choices}
 use Rattle.gf_form.proofs.lemmas.strategies.Choices.{IsChoice, place_at, place}
-use Rattle.gf_form.proofs.lemmas.strategies.KnownSets.{keys_distinct, own_set}
+use Rattle.gf_form.proofs.lemmas.strategies.Lookups.{keys_distinct, own_set, strategy_before}
+use Rattle.gf_form.proofs.lemmas.strategies.Lookups.{first_alike, zip_weaker, all_alike, all_right}
 use Rattle.gf_form.proofs.lemmas.reduced.ReducedForms.{some_reduced_strategy, choices_equality}
 use Rattle.gf_form.proofs.lemmas.reduced.ReducedForms.{same_row}
 use Rattle.gf_form.proofs.lemmas.reduced.Reducing.{relevance_same, reduced_value, any_has}
@@ -33,12 +34,10 @@ use Rattle.gf_nfg.specs.Table.{Entry}
 use Rattle.gf_form.specs.inner.reduced.Firsts.{AreFirsts}
 use Rattle.gf_form.proofs.lemmas.strategies.CountedActions.{strategies_positive, product_positive}
 use Rattle.gf_form.proofs.lemmas.strategies.CountedActions.{strategy_counts, as_many_players}
+use Rattle.gf_form.proofs.lemmas.strategies.CountedActions.{all_counted}
 use Rattle.gf_form.proofs.lemmas.form.FormMade.{row_fractions, full_row}
-use Rattle.gf_form.proofs.lemmas.strategies.Lookups.{strategy_before, first_alike, zip_weaker}
-use Rattle.gf_form.proofs.lemmas.strategies.Lookups.{all_alike, all_right}
 use Rattle.gf_nfg.proofs.lemmas.tables.Profiles.{are_profiles}
 use Rattle.gf_form.proofs.lemmas.rows.RowsMade.{zip_more}
-use Rattle.gf_form.proofs.lemmas.strategies.CountsGiven.{all_counted}
 
 -- ---- first uses
 

@@ -24,8 +24,9 @@ use Rattle.gf_form.proofs.lemmas.reduced.Reducing.{reduced_pay}
 use Rattle.gf_nfg.specs.Table.{Entry}
 use Rattle.gf_form.proofs.lemmas.strategies.CountedActions.{some_strategy}
 use Rattle.gf_form.proofs.lemmas.strategies.Choices.{every_choice}
-use Rattle.gf_form.proofs.lemmas.strategies.StrategyLabels.{undashed_number, small_choice, AreSmall}
-use Rattle.gf_form.proofs.lemmas.strategies.StrategyLabels.{AreUndashed, same_joined, digits_of}
+use Rattle.gf_form.proofs.lemmas.strategies.StrategiesByNumber.{undashed_number, small_choice}
+use Rattle.gf_form.proofs.lemmas.strategies.StrategiesByNumber.{AreSmall, AreUndashed, same_joined}
+use Rattle.gf_form.proofs.lemmas.strategies.StrategiesByNumber.{digits_of}
 
 -- ---- positions
 

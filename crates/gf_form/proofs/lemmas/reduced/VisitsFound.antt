@@ -23,12 +23,11 @@ use Rattle.gf_form.proofs.lemmas.rows.DemandDigits.{none_within, no_demands, pac
 use Rattle.gf_form.proofs.lemmas.rows.DemandDigits.{met_digit, none_pack, digit_is, meets_is, met}
 use Rattle.gf_form.proofs.lemmas.rows.DemandDigits.{none_met, set_pack, met_set}
 use Rattle.gf_form.proofs.lemmas.rows.DigitPlaces.{as_many_picked, own_alone, own_digit}
-use Rattle.gf_form.proofs.lemmas.strategies.Lookups.{zip_at}
+use Rattle.gf_form.proofs.lemmas.strategies.Lookups.{zip_at, keys_distinct, own_set}
 use Rattle.gf_form.proofs.lemmas.reduced.Coming.{relevant_is}
 use Rattle.gf_form.proofs.lemmas.rows.GameDigits.{IsAmong, among}
 use Rattle.gf_form.proofs.lemmas.rows.UnmetShares.{set_there}
 use Rattle.gf_form.proofs.lemmas.strategies.Chosen.{among_his}
-use Rattle.gf_form.proofs.lemmas.strategies.KnownSets.{keys_distinct, own_set}
 use Rattle.std.proofs.lemmas.Option.{slice_get_within}
 use Rattle.gf_form.proofs.lemmas.values.Walks.{choice_there}
 use Rattle.gf_tree.specs.declared.game.branches.Branches.{Branches}

@@ -7,7 +7,7 @@ use Rattle.gf_form.proofs.lemmas.strategies.Choices.{IsChoice, are_choices, leng
 use Rattle.gf_form.proofs.lemmas.strategies.Choices.{long}
 use Rattle.gf_form.proofs.lemmas.strategies.CountedActions.{product_positive}
 use Rattle.gf_form.proofs.lemmas.rows.DigitPlaces.{product_joined}
-use Rattle.gf_form.proofs.lemmas.strategies.NumberedProfiles.{numbered}
+use Rattle.gf_form.proofs.lemmas.strategies.PickedProfiles.{numbered}
 use Rattle.gf_form.proofs.lemmas.strategies.StrategiesByNumber.{all_at, choices_next, joined_at}
 
 pub choice_at_number : (counts : List ℕ) (n : ℕ) → n < product counts

@@ -17,9 +17,8 @@ use Rattle.gf_form.proofs.lemmas.rows.DigitChoices.{product_in_order, product_pi
 use Rattle.gf_form.proofs.lemmas.rows.DigitPlaces.{at_spot, length-in_order, own_alone, own_digit}
 use Rattle.gf_form.proofs.lemmas.rows.DigitPlaces.{spot}
 use Rattle.gf_form.proofs.lemmas.strategies.ActionCounts.{choice_at as choice_bounds}
-use Rattle.gf_form.proofs.lemmas.strategies.KnownSets.{set_is}
-use Rattle.gf_form.proofs.lemmas.strategies.Lookups.{strategy_before}
-use Rattle.gf_form.proofs.lemmas.strategies.NumberedProfiles.{numbered, numbered_strategies}
+use Rattle.gf_form.proofs.lemmas.strategies.Lookups.{set_is, strategy_before}
+use Rattle.gf_form.proofs.lemmas.strategies.PickedProfiles.{numbered, numbered_strategies}
 
 -- ---- a set among a player's
 

@@ -7,8 +7,7 @@ use Rattle.gf_form.proofs.Common.{Described, choice_at, payoff_at, Contains, sam
 use Rattle.gf_form.proofs.Common.{AllZip, SetKey, IsGame, set_at, arith, List, Some, refl, find, []}
 use Rattle.gf_form.proofs.Common.{Game, Node, ◌≡◌, ◌+◌, ◌-◌, ◌<◌, ◌≤◌, ◌∷◌, map, ◌∙◌, zip, ℕ}
 use Rattle.gf_form.proofs.lemmas.strategies.Choices.{IsChoice, every_choice}
-use Rattle.gf_form.proofs.lemmas.strategies.Lookups.{strategy_before, zip_counted}
-use Rattle.gf_form.proofs.lemmas.strategies.KnownSets.{set_is}
+use Rattle.gf_form.proofs.lemmas.strategies.Lookups.{strategy_before, zip_counted, set_is}
 
 -- ---- a choice at each set of a list
 

@@ -1,4 +1,5 @@
--- What is found in a list whose elements all have a property.
+-- What is found in a list whose elements all have a property, and the information sets of a game
+-- by their keys.
 use Rattle.gf_form.proofs.Common.{refl, ◌<◌, length, map, numbers_from, ◌≡◌, ℕ, suc, Bool, true, []}
 use Rattle.gf_form.proofs.Common.{List, ◌∷◌, Option, MatchOption, ap, ◌∙◌, ◌≤◌, ◌-◌, ◌+◌, get_or, ⊤}
 use Rattle.gf_form.proofs.Common.{arith, option_map, unwrap_or, option_and_then, slice_get, subst}
@@ -6,8 +7,12 @@ use Rattle.gf_form.proofs.Common.{AllByRecursion, unwrap_or-slice_get, at_positi
 use Rattle.gf_form.proofs.Common.{all_images, all_of_each, AllZip, AllZip-long, positions, flat_map}
 use Rattle.gf_form.proofs.Common.{get_or-numbers_from, length-numbers_from, ◌++◌, ◌↔◌, Some, zero}
 use Rattle.gf_form.proofs.Common.{IsFirstWithout, find, has, Has, get_or_default, length-append}
-use Rattle.gf_form.proofs.Common.{get_or_append_left, ◌*◌}
+use Rattle.gf_form.proofs.Common.{get_or_append_left, ◌*◌, eqb-true, SetKey, same_set}
+use Rattle.gf_form.proofs.Common.{InformationSet, IsSet, Described, Game, IsGame, set_at, sym}
+use Rattle.gf_form.proofs.Common.{player_keys, same_set_equality, mapped_from, of_filter, used_sets}
+use Rattle.gf_form.proofs.Common.{AreDistinct, first_uses_distinct, sets_by_first_use}
 use Rattle.std.proofs.lemmas.List.{get_or-append-add}
+use Rattle.gf_tree.specs.FirstUse.{sets_of}
 
 -- a property of what there is, if there is something
 abbrev pub Each : {A : Type 0} → (A → Type 0) → Option A → Type 0
@@ -169,3 +174,23 @@ pub first_alike : (P Q : List ℕ → Type 0) (ps qs : List (List ℕ)) (positio
     → AllZip (λ p q. P p ↔ Q q) ps qs → IsFirstWithout P ps position
     → IsFirstWithout Q qs position
 first_alike P Q ps qs position h o = grind (arith, alike_at, alike_back)
+
+-- ---- the sets of a game: what holds for each, and whose they are
+
+pub each_set : (g : Game) → IsGame g → (key : SetKey)
+    → Each (IsSet (length g.players) key) (set_at g key)
+each_set g game key = grind (arith, each_described, same_set, same_set_equality)
+
+pub set_is : (g : Game) → IsGame g → (key : SetKey) (set : InformationSet) → set_at g key ≡ Some set
+    → IsSet (length g.players) key set
+set_is g game key set e = subst (Each (IsSet (length g.players) key)) e (each_set g game key)
+
+-- a player's key is that of one of the game's sets, which is his
+pub own_set : (g : Game) (player : ℕ) (key : SetKey) → Has (player_keys g player) key
+    → (s : Described SetKey InformationSet) × Has g.sets s × (s.key ≡ key) × (key.player ≡ player)
+own_set g player key i = grind (arith, mapped_from, of_filter, eqb-true)
+
+-- they are apart
+pub keys_distinct : (g : Game) → IsGame g → (player : ℕ) → AreDistinct (player_keys g player)
+keys_distinct g game player = subst AreDistinct (sym (sets_by_first_use g player game))
+    (first_uses_distinct same_set same_set_equality (sets_of player (used_sets g.tree)))

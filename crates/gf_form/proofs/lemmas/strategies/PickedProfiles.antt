@@ -1,17 +1,22 @@
--- The profiles of some strategies of each player, and their numbers among all profiles.
-use Rattle.gf_form.proofs.Common.{length-numbers_from, get_or-numbers_from, AreProfileNumbers, List}
-use Rattle.gf_form.proofs.Common.{numbered_profiles, length-profiles, mod-add-div, AllByRecursion}
-use Rattle.gf_form.proofs.Common.{get_or_default, AreStrategies, action_counts, ◌≡◌, full_profiles}
-use Rattle.gf_form.proofs.Common.{strategies_at, numbers_from, all_weaker, AreCounts, players_of}
-use Rattle.gf_form.proofs.Common.{get_or-map, length-map, ArePicked, get_or, positions, IsPicked}
-use Rattle.gf_form.proofs.Common.{flat_map, mul_comm, profiles, zero, AreBelow, product, AllZip}
-use Rattle.gf_form.proofs.Common.{Counts, length, arith, drop, Game, suc, ◌+◌, ◌*◌, ◌/◌, ◌%◌, ◌<◌}
-use Rattle.gf_form.proofs.Common.{◌≤◌, ◌∷◌, map, ◌∙◌, ap, [], ℕ, ⊤, all_of_each}
+-- The profile with a number, and the profiles of some strategies of each player with their numbers
+-- among all profiles.
+use Rattle.gf_form.proofs.Common.{length-numbers_from, get_or-numbers_from, unwrap_or-slice_get, ap}
+use Rattle.gf_form.proofs.Common.{AreProfileNumbers, numbered_profiles, div-lt_iff_lt-mul, IsPicked}
+use Rattle.gf_form.proofs.Common.{drop_of_length-le, length-profiles, AllByRecursion, AreStrategies}
+use Rattle.gf_form.proofs.Common.{get_or_default, action_counts, full_profiles, strategies_at, List}
+use Rattle.gf_form.proofs.Common.{take_more_set, numbers_from, append_assoc, mod-add-div, AreCounts}
+use Rattle.gf_form.proofs.Common.{all_of_each, all_choices, strategy_at, all_weaker, players_of, []}
+use Rattle.gf_form.proofs.Common.{get_or-map, length-map, strategies, append-nil, length-set, arith}
+use Rattle.gf_form.proofs.Common.{ArePicked, positions, drop-cons, flat_map, mul_comm, profiles, ℕ}
+use Rattle.gf_form.proofs.Common.{AreBelow, product, add-one, get_or, AllZip, Counts, length, subst}
+use Rattle.gf_form.proofs.Common.{mod-lt, zero, drop, Game, refl, ◌++◌, take, ◌≡◌, suc, ◌+◌, ◌*◌, ⊤}
+use Rattle.gf_form.proofs.Common.{◌/◌, ◌%◌, ◌<◌, ◌≤◌, ◌∷◌, map, ◌∙◌, sym, zip, set}
 use Rattle.gf_form.proofs.lemmas.strategies.Lookups.{in_turn, row_at, zip_by_places, zip_flat}
 use Rattle.gf_form.proofs.lemmas.strategies.Lookups.{zip_weaker}
-use Rattle.gf_form.proofs.lemmas.strategies.Choices.{every_choice}
+use Rattle.gf_form.proofs.lemmas.strategies.Choices.{every_choice, length-all_choices}
 use Rattle.gf_form.proofs.lemmas.strategies.Chosen.{profile_strategies}
-use Rattle.gf_form.proofs.lemmas.strategies.StrategiesByNumber.{all_at}
+use Rattle.gf_form.proofs.lemmas.strategies.StrategiesByNumber.{all_at, positive_parts}
+use Rattle.gf_form.proofs.lemmas.strategies.CountedActions.{take_past}
 
 -- ---- the profile with a number
 
@@ -138,3 +143,56 @@ module _ (g : Game) (counts : Counts) (numbers given : List ℕ) (are : AreCount
   all_counted = grind (arith, are.profiles, all_numbered)
 
 pub ruleset full_steps = (counted_numbers, all_counted, length-numbers_from)
+
+-- ---- the strategies of one player after another
+
+-- the strategies of the profile with this number, if players have this many actions at their sets
+abbrev pub numbered : List (List ℕ) → ℕ → List (List ℕ)
+numbered [] number = []
+numbered (own ∷ others) number =
+    get_or (all_choices own) (number % product own) [] ∷ numbered others (number / product own)
+
+pub numbered_strategies : (g : Game) (players : List ℕ) (number : ℕ)
+    → number < product (map (λ player. length (strategies g player)) players)
+    → numbered (map (action_counts g) players) number
+    ≡ map (λ p. strategy_at (strategies g p.0) p.1) (zip players
+    (get_or (profiles (map (λ player. length (strategies g player)) players)) number []))
+numbered_strategies g [] number less = refl
+numbered_strategies g (player ∷ players) number less =
+    let own = action_counts g player in
+    let all = strategies g player in
+    let counts = map (λ player. length (strategies g player)) players in
+    let is : product own ≡ length all = sym (length-all_choices own) in
+    let parts = positive_parts (length all) (product counts) number less in
+    let swapped = subst (λ (n : ℕ). number < n) (mul_comm (length all) (product counts)) less in
+    let later = (div-lt_iff_lt-mul parts.0).1 swapped in
+    let others = numbered_strategies g players (number / length all) later in
+    let next = profiles_next (length all) counts number parts.0 less in
+    grind (arith, is, next, others, add-one, unwrap_or-slice_get)
+
+-- those of the players so far are written
+pub record Written (actions : List (List ℕ)) (number i rest : ℕ) (all : List (List ℕ)) : Type
+    0 where
+  pub as_long : length all ≡ length actions
+  pub wanted : take i all ++ numbered (drop i actions) rest ≡ numbered actions number
+
+pub one_written : (actions : List (List ℕ)) (number i rest whole : ℕ) (all : List (List ℕ))
+    (own : List ℕ) → i < length actions → whole ≡ product (get_or actions i [])
+    → own ≡ get_or (all_choices (get_or actions i [])) (rest % whole) []
+    → Written actions number i rest all
+    → Written actions number (i + 1) (rest / whole) (set all i own)
+one_written actions number i rest whole all own less whole_is own_is h =
+    grind (arith, length-set, numbered, add-one, append_assoc, drop-cons, set, take_more_set)
+
+pub last_written : (actions : List (List ℕ)) (number i rest : ℕ) (all : List (List ℕ))
+    → Written actions number i rest all → length actions ≤ i → all ≡ numbered actions number
+last_written actions number i rest all h past =
+    grind (arith, take_past, append-nil, drop_of_length-le)
+
+pub ruleset written_steps = (
+  mod-lt,
+  last_written,
+  numbered_strategies,
+  length-map,
+  length-profiles,
+)

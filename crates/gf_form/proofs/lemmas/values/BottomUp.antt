@@ -20,8 +20,7 @@ use Rattle.gf_form.proofs.Common.{Bool, plus, ◌++◌, refl, ◌≡◌, map, �
 use Rattle.gf_fraction.proofs.Products.{mul_above}
 use Rattle.std.proofs.Math.IntN.{+ℤ_idr}
 use Rattle.gf_tree.specs.Description.{AreActions}
-use Rattle.gf_form.proofs.lemmas.strategies.KnownSets.{each_set, set_is}
-use Rattle.gf_form.proofs.lemmas.strategies.Lookups.{next_position, in_turn, Each}
+use Rattle.gf_form.proofs.lemmas.strategies.Lookups.{each_set, set_is, next_position, in_turn, Each}
 use Rattle.gf_form.proofs.lemmas.values.Denominators.{probability_above, payoff_above, each_action}
 use Rattle.gf_form.proofs.lemmas.values.ValuesComputed.{value_is}
 

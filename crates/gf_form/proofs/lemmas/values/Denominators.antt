@@ -9,10 +9,9 @@ use Rattle.gf_form.proofs.Common.{Game, Step, Play, pos, List, [], ◌∷◌, in
 use Rattle.gf_fraction.proofs.Rationals.{ratio_product_above}
 use Rattle.gf_tree.specs.Spellable.{IsSpellableAction, IsSpellableSet, IsSpellableOutcome}
 use Rattle.gf_form.proofs.lemmas.strategies.Lookups.{Each, each_described, each_then, each_weaker}
-use Rattle.gf_form.proofs.lemmas.strategies.Lookups.{each_at, each_or}
+use Rattle.gf_form.proofs.lemmas.strategies.Lookups.{each_at, each_or, each_set}
 use Rattle.std.specs.Prelude.{◌≤ℤ◌}
 use Rattle.gf_tree.specs.Description.{AddUpTo, AreActions}
-use Rattle.gf_form.proofs.lemmas.strategies.KnownSets.{each_set}
 
 -- what is so of the actions of a node's set is so of the one that is taken there
 pub each_action : (g : Game) (P : Action → Type 0) (s : Step)

@@ -1,5 +1,5 @@
 use Rattle.gf_form.proofs.Common.{product, length, arith, ◌≡◌, ◌∙◌, sym, ap}
-use Rattle.gf_form.proofs.lemmas.strategies.CountsGiven.{all_counted}
+use Rattle.gf_form.proofs.lemmas.strategies.CountedActions.{all_counted}
 use Rattle.gf_form.proofs.lemmas.reduced.FirstStrategies.{one_player_more}
 use Rattle.gf_form.proofs.reduced.first.all_reduced.Goals as goal
 

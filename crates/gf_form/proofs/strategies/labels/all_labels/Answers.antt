@@ -1,6 +1,5 @@
 use Rattle.gf_form.proofs.Common.{◌∙◌, ap, arith, product, sym, strategy_labels}
-use Rattle.gf_form.proofs.lemmas.strategies.CountedActions.{next_player}
-use Rattle.gf_form.proofs.lemmas.strategies.CountsGiven.{all_counted}
+use Rattle.gf_form.proofs.lemmas.strategies.CountedActions.{next_player, all_counted}
 use Rattle.gf_form.proofs.strategies.labels.all_labels.Goals as goal
 
 pub of_player-whole-requires : goal.of_player-whole-requires

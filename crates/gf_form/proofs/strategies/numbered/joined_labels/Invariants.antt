@@ -1,4 +1,4 @@
-use Rattle.gf_form.proofs.lemmas.strategies.StrategyLabels.{AreJoined}
+use Rattle.gf_form.proofs.lemmas.strategies.StrategiesByNumber.{AreJoined}
 use Rattle.gf_form.proofs.strategies.numbered.joined_labels.Given as goal
 
 abbrev pub invariant-loop-first : goal.invariant-loop-first

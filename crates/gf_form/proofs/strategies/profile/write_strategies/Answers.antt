@@ -1,7 +1,7 @@
 use Rattle.gf_form.proofs.Common.{arith, length-map}
 use Rattle.std.proofs.lemmas.List.{map-set}
-use Rattle.gf_form.proofs.lemmas.strategies.CountsGiven.{actions_in, actions_of}
-use Rattle.gf_form.proofs.lemmas.strategies.NumberedProfiles.{one_written}
+use Rattle.gf_form.proofs.lemmas.strategies.CountedActions.{actions_in, actions_of}
+use Rattle.gf_form.proofs.lemmas.strategies.PickedProfiles.{one_written}
 use Rattle.gf_form.proofs.strategies.profile.write_strategies.Goals as goal
 
 pub of_player-whole-requires : goal.of_player-whole-requires

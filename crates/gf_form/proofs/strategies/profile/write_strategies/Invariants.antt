@@ -1,6 +1,6 @@
 use Rattle.gf_form.proofs.Common.{map}
-use Rattle.gf_form.proofs.lemmas.strategies.CountsGiven.{actions_in}
-use Rattle.gf_form.proofs.lemmas.strategies.NumberedProfiles.{Written}
+use Rattle.gf_form.proofs.lemmas.strategies.CountedActions.{actions_in}
+use Rattle.gf_form.proofs.lemmas.strategies.PickedProfiles.{Written}
 use Rattle.gf_form.proofs.strategies.profile.write_strategies.Given as goal
 
 abbrev pub invariant-loop-place : goal.invariant-loop-place

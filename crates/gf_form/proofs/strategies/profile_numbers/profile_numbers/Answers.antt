@@ -2,7 +2,7 @@ use Rattle.gf_form.proofs.Common.{drop_of_length-le, length-map, drop-cons, prod
 use Rattle.gf_form.proofs.Common.{arith, List, drop, ◌≡◌, ◌-◌, ◌<◌, suc, Vec, map, [], ℕ, take}
 use Rattle.gf_form.proofs.Common.{take-append-drop}
 use Rattle.gf_form.proofs.lemmas.rows.DigitPlaces.{product_joined}
-use Rattle.gf_form.proofs.lemmas.strategies.CountsGiven.{own_read}
+use Rattle.gf_form.proofs.lemmas.strategies.CountedActions.{own_read}
 use Rattle.gf_form.proofs.lemmas.strategies.Lookups.{all_right, zip_at}
 use Rattle.gf_form.proofs.lemmas.strategies.PickedProfiles.{next_picked}
 use Rattle.gf_form.proofs.strategies.profile_numbers.profile_numbers.Goals as goal

@@ -1,7 +1,6 @@
 use Rattle.gf_form.proofs.Common.{◌≡◌, ◌<◌, ℕ, [], Vec, Global, ap, arith, get_or, length}
 use Rattle.gf_form.proofs.Common.{length-map, length-append, take, in_order}
-use Rattle.gf_form.proofs.lemmas.strategies.CountedActions.{take_past}
-use Rattle.gf_form.proofs.lemmas.strategies.CountsGiven.{actions_in, own_read}
+use Rattle.gf_form.proofs.lemmas.strategies.CountedActions.{take_past, actions_in, own_read}
 use Rattle.gf_form.proofs.lemmas.rows.DigitPlaces.{steps_long}
 use Rattle.gf_form.proofs.lemmas.rows.DigitsMade.{player_order, player_steps}
 use Rattle.gf_form.proofs.lemmas.rows.GameDigits.{has_digits}

@@ -1,5 +1,5 @@
 use Rattle.gf_form.proofs.Common.{map, take, AreDigitsOf, AreStepsOf, in_order}
-use Rattle.gf_form.proofs.lemmas.strategies.CountsGiven.{actions_in}
+use Rattle.gf_form.proofs.lemmas.strategies.CountedActions.{actions_in}
 use Rattle.gf_form.proofs.rows.digits.Digits.new.Given as goal
 
 abbrev pub invariant-loop-own : goal.invariant-loop-own
