@@ -54,8 +54,9 @@ fn sum(x: Fraction, y: Fraction) -> Option<Fraction>
     }
 }
 
-/// A number and another one times a probability, if the product fits, and the sum of both.
-#[tactic(auto, using(crate::proofs::lemmas::values::RowSums::sum_steps))]
+/// A number and another one times a probability, if the product fits, and the sum of both. Most
+/// numbers are zero, and are left out.
+#[tactic(auto, using(crate::proofs::lemmas::values::RowSums::weighed_steps))]
 fn weighed(number: Fraction, chance: Fraction, other: Fraction) -> Option<Fraction>
     requires number { IsFraction number }
     requires chance { IsFraction chance }
@@ -63,8 +64,17 @@ fn weighed(number: Fraction, chance: Fraction, other: Fraction) -> Option<Fracti
     ensures is { result ≡ plus_of (Some number) (times_of chance (Some other)) }
     ensures fraction { IfSome result IsFraction }
 {
-    match chance.mul(other) {
-        Ok(product) => sum(number, product),
+    if other.num() == 0 {
+        return Some(number);
+    }
+    let Ok(product) = chance.mul(other) else {
+        return None;
+    };
+    if number.num() == 0 {
+        return Some(product);
+    }
+    match number.add(product) {
+        Ok(total) => Some(total),
         Err(_) => None,
     }
 }

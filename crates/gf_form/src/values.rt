@@ -5,5 +5,4 @@ pub(crate) mod expectation;
 pub(crate) mod payoffs;
 pub(crate) mod positions;
 pub(crate) mod spare;
-pub(crate) mod sums;
 pub(crate) mod walk;

@@ -2,7 +2,7 @@
 
 ghost use Rattle.std.specs.Prelude.{◌≡◌, ℕ, suc, IfOk, IsTrue, length, map};
 ghost use Rattle.gf_fraction.specs.Rational.{zero_ratio};
-ghost use Rattle.gf_tree.specs.Game.{IsGame};
+ghost use Rattle.gf_tree.specs.IsGame.{IsGame};
 ghost use Rattle.gf_tree.specs.Spellable.{IsSpellable};
 ghost use Rattle.gf_form.specs.inner.values.Rows.{paid};
 ghost use Rattle.gf_form.specs.inner.values.Rows.{ArePaid, IsRow, at_place, row_at};

@@ -13,11 +13,10 @@ ghost use Rattle.gf_form.specs.inner.values.ValueLeft.{open_size, open_value, tr
 ghost use Rattle.gf_form.specs.inner.values.ValueLeft.{drawn_value, with_own};
 
 use crate::fault::EvalFault;
-use crate::rows::pay;
+use crate::rows::{pay, weigh};
 use crate::values::payoffs::Payoffs;
 use crate::values::positions::at;
 use crate::values::spare::SpareRows;
-use crate::values::sums::weigh;
 use gf_fraction::Fraction;
 use gf_tree::{Branch, Branches, Game};
 use std::alloc::Global;
@@ -106,8 +105,8 @@ impl<'c, 'g, 'a> Walk<'c, 'g, 'a> {
     ) -> Result<Next<'g, 'a>, EvalFault>
         requires paid { ArePaid self.now.game.now (rows_of self.now.payoffs.now) }
         requires is_open { IsOpen self.now (Open.Chance node rest sum) }
-        ensures gives { IfOk result (Gives self.now (λ k. drawn_value self.now k node.entry rest.entry
-            (Some (at_place sum.items k)))
+        ensures gives { IfOk result (Gives self.now
+            (λ k. drawn_value self.now k node.entry rest.entry (Some (at_place sum.items k)))
             (open_size (Open.Chance node.entry rest.entry sum) + 1)) }
         ensures overflow { IsErrOf result EvalFault.Overflow → Lacks self.now
             (λ k. drawn_value self.now k node.entry rest.entry
