@@ -142,12 +142,12 @@ class Reader:
             if max(over, under) > LARGEST:
                 self.refuse(6)
             return Fraction(sign * over, under)
-        behind = shape["places"] or shape["only"] or b""
-        digits = whole((shape["digits"] or b"") + behind)
+        after_point = shape["places"] or shape["only"] or b""
+        digits = whole((shape["digits"] or b"") + after_point)
         exponent = whole(shape["exponent"] or b"")
-        if digits > LARGEST or max(len(behind), exponent) > MOST_PLACES:
+        if digits > LARGEST or max(len(after_point), exponent) > MOST_PLACES:
             self.refuse(6)
-        shift = len(behind) + (exponent if shape["sign"] == b"-" else -exponent)
+        shift = len(after_point) + (exponent if shape["sign"] == b"-" else -exponent)
         if shift > MOST_PLACES or digits * 10 ** max(0, -shift) > LARGEST:
             self.refuse(6)
         return sign * digits / Fraction(10) ** shift

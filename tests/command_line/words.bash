@@ -53,7 +53,7 @@ check_words() {
     check_own_name
 }
 
-# A file where a command is due has the hint of a command behind the usage, and no other word has.
+# A file where a command is due has the hint of a command after the usage, and no other word has.
 check_hint() {
     local word wanted
     for word in a.efg folder/a.nfg tree a.txt $'a\tb.efg' .efg.; do

@@ -84,7 +84,7 @@ def set_never_met(actions, count):
     return tree.game(form, without=["table"], relevant=True)
 
 
-def set_behind_a_later_one(actions, count, met=True):
+def set_after_a_later_one(actions, count, met=True):
     """After one of two choices play comes to a set with many actions, and after the other one to a later set with as
     many, whose first action leads to the earlier set too, if that is met there. Beside them stand many sets of one
     action, after another choice.
@@ -112,8 +112,8 @@ def set_behind_a_later_one(actions, count, met=True):
         chosen += ["2-1-1", *(f"2-*-{action}" for action in others), *(f"2-{action}-1" for action in others)]
     else:
         chosen += [f"2-*-{action}" for action in first]
-    behind = ["-1" * (count + 1), "-2" + "-*" * count]
-    labels = [before + after for before in chosen for after in behind]
+    later = ["-1" * (count + 1), "-2" + "-*" * count]
+    labels = [before + after for before in chosen for after in later]
     form = Answer(table_text("s", tree.players, [labels], "0\n" * len(labels)).encode())
     return tree.game(form, without=["table"], relevant=True)
 
@@ -215,9 +215,9 @@ REDUCED = {
         partial(visits_again, 230_000, 16, 20_000, False),
     ),
     "a set that is never met": (partial(set_never_met, 2**19, 350_000), partial(set_never_met, 2, 350_000)),
-    "a set behind a later one": (
-        partial(set_behind_a_later_one, 512, 5_000),
-        partial(set_behind_a_later_one, 512, 5_000, met=False),
+    "a set after a later one": (
+        partial(set_after_a_later_one, 512, 5_000),
+        partial(set_after_a_later_one, 512, 5_000, met=False),
     ),
     "a set that is met late": (
         partial(set_met_late, 800, 4, 20),
