@@ -12,14 +12,14 @@ const NOT_UTF8: &str = "error: a word is not UTF-8\n\nFor more information, try 
 
 /// The arguments after the program's name. The name itself is left out, and may be any bytes.
 #[derive(Drop)]
-struct BehindName<'a, R> {
+struct PastName<'a, R> {
     rt: &'a R,
 }
 
-impl<R: Env> Env for BehindName<'_, R> {
+impl<R: Env> Env for PastName<'_, R> {
     fn arg(&self, i: usize, buf: &mut [u8]) -> Result<usize, FillError> {
         match i.checked_add(1) {
-            Some(behind) => self.rt.arg(behind, buf),
+            Some(place) => self.rt.arg(place, buf),
             None => Err(FillError::NotPresent),
         }
     }
@@ -42,7 +42,7 @@ fn no_words(alloc: Global, kind: ErrorKind) -> WordsFault {
 }
 
 fn words_given<R: Env>(rt: &R, alloc: Global) -> Result<Vec<String>, WordsFault> {
-    match env::args(&(BehindName { rt }, alloc)) {
+    match env::args(&(PastName { rt }, alloc)) {
         Ok(words) => Ok(words.collect(alloc)?),
         Err(error) => Err(no_words(alloc, error.kind())),
     }

@@ -72,13 +72,16 @@ pub use Rattle.gf_tree.specs.Consistent.{IsFirstUse}
 pub use Rattle.gf_tree.specs.Description.{Action, InformationSet, IsOutcome, IsSet, SetKey}
 pub use Rattle.gf_tree.specs.Description.{same_set, set_of}
 pub use Rattle.gf_tree.specs.FileNodeOf.{file_node_of, set_use_of}
-pub use Rattle.gf_tree.specs.FileNodes.{file_nodes, node_behind, use_behind, with_those_before}
+pub use Rattle.gf_tree.specs.FileNodes.{file_nodes, node_after, use_after, with_those_before}
 pub use Rattle.gf_tree.specs.FileTree.{FileNode, FileTree, Use, outcome_uses, set_uses}
 pub use Rattle.gf_tree.specs.Fills.{Fills}
 pub use Rattle.gf_tree.specs.FiniteMap.{Described, description_at, first_uses}
-pub use Rattle.gf_tree.specs.FirstUse.{first_use_number, first_use_numbers, outcome_numbers}
-pub use Rattle.gf_tree.specs.FirstUse.{player_keys, sets_of}
-pub use Rattle.gf_tree.specs.Game.{Game, HasChildren, IsGame, Node, outcome_at, set_at}
+pub use Rattle.gf_tree.specs.FirstUse.{first_use_number, first_use_numbers}
+pub use Rattle.gf_tree.specs.KeysInOrder.{outcome_numbers}
+pub use Rattle.gf_tree.specs.FirstUse.{sets_of}
+pub use Rattle.gf_tree.specs.KeysInOrder.{player_keys}
+pub use Rattle.gf_tree.specs.Game.{Game, Node, outcome_at, set_at}
+pub use Rattle.gf_tree.specs.IsGame.{HasChildren, IsGame}
 pub use Rattle.gf_tree.specs.Game.{used_outcomes, used_sets}
 pub use Rattle.gf_tree.specs.GameOf.{IsGameOf, SpellsGame, keys_alone}
 pub use Rattle.gf_tree.specs.PrefixOrder.{Entry, flatten}

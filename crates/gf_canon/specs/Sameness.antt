@@ -12,7 +12,7 @@ AreRefusedWith a b (Second fault) = MeansFile a × IsRefusedWith b fault
 AreRefusedWith a b Memory = MeansFile a × MeansFile b
 
 -- memory was refused
-abbrev pub WantsMemory : SameFault → Type 0
-WantsMemory (First fault) = fault.why ≡ reason.Memory
-WantsMemory (Second fault) = fault.why ≡ reason.Memory
-WantsMemory Memory = Unit {0}
+abbrev pub LacksMemory : SameFault → Type 0
+LacksMemory (First fault) = fault.why ≡ reason.Memory
+LacksMemory (Second fault) = fault.why ≡ reason.Memory
+LacksMemory Memory = Unit {0}

@@ -2,8 +2,8 @@
 
 ghost use Rattle.std.specs.Prelude.{◌≡◌, ◌<◌, ◌^◌, IfOk, length, map};
 ghost use Rattle.gf_nfg.specs.Profiles.{positions};
-ghost use Rattle.gf_tree.specs.FirstUse.{player_keys};
-ghost use Rattle.gf_tree.specs.Game.{IsGame};
+ghost use Rattle.gf_tree.specs.KeysInOrder.{player_keys};
+ghost use Rattle.gf_tree.specs.IsGame.{IsGame};
 ghost use Rattle.gf_tree.specs.Spellable.{IsSpellable};
 ghost use Rattle.gf_tree.specs.CanonicalGame.{canonical_game};
 ghost use Rattle.gf_canon.specs.inner.ListedInOrder.{lists_in_order};

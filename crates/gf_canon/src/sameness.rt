@@ -1,7 +1,7 @@
 //! Whether two files mean the same.
 
 ghost use Rattle.std.specs.Prelude.{◌≡◌, ◌↔◌, ℕ, List, IsTrue, IfErr, IfOk, MatchResult, OnOk};
-ghost use Rattle.gf_tree.specs.Game.{IsGame};
+ghost use Rattle.gf_tree.specs.IsGame.{IsGame};
 ghost use Rattle.gf_tree.specs.Spellable.{IsSpellable};
 ghost use Rattle.gf_canon.specs.GameFile.{GameFile, SameFile};
 ghost use Rattle.gf_canon.specs.GameFile.GameFile.{extensive, strategic};
@@ -9,7 +9,7 @@ ghost use Rattle.gf_canon.specs.CanonicalText.{IsCanonicalText, SpellsWithin};
 ghost use Rattle.gf_canon.specs.Judgement.{IsRefusedWith, MeansFile};
 ghost use Rattle.gf_canon.specs.MeaningOf.{file_of, file_of_listed};
 ghost use Rattle.gf_canon.specs.SameBy.{SameBy};
-ghost use Rattle.gf_canon.specs.Sameness.{AreRefusedWith, WantsMemory};
+ghost use Rattle.gf_canon.specs.Sameness.{AreRefusedWith, LacksMemory};
 ghost use Rattle.gf_canon.specs.inner.NamedBy.{are_kept};
 
 use crate::checking::{Unkept, check, tell_file};
@@ -168,7 +168,7 @@ fn same_as(alloc: Global, first: &Listed<'_>, b: &[u8], names: Names) -> Result<
 /// - `Memory`: both are accepted, and memory to compare them is refused.
 pub fn same_by(alloc: Global, a: &[u8], b: &[u8], names: Names) -> Result<bool, SameFault>
     ensures same { (x y : GameFile) → SpellsWithin a.now x → SpellsWithin b.now y
-        → MatchResult result (λ answer. IsTrue answer ↔ SameBy names x y) WantsMemory }
+        → MatchResult result (λ answer. IsTrue answer ↔ SameBy names x y) LacksMemory }
     ensures accepted { OnOk result (MeansFile a.now × MeansFile b.now) }
     ensures refused { IfErr result (AreRefusedWith a.now b.now) }
 {
@@ -195,7 +195,7 @@ pub fn same_by(alloc: Global, a: &[u8], b: &[u8], names: Names) -> Result<bool, 
 /// Those of `same_by`.
 pub fn same(alloc: Global, a: &[u8], b: &[u8]) -> Result<bool, SameFault>
     ensures same { (x y : GameFile) → SpellsWithin a.now x → SpellsWithin b.now y
-        → MatchResult result (λ answer. IsTrue answer ↔ SameFile x y) WantsMemory }
+        → MatchResult result (λ answer. IsTrue answer ↔ SameFile x y) LacksMemory }
     ensures texts { (s t : List ℕ) → IsCanonicalText a.now s → IsCanonicalText b.now t
         → IfOk result (λ answer. IsTrue answer ↔ (s ≡ t)) }
     ensures accepted { OnOk result (MeansFile a.now × MeansFile b.now) }

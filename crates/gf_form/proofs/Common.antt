@@ -53,7 +53,7 @@ pub use Rattle.gf_form.specs.inner.reduced.Survey.{FindsMore, sizes, survey_size
 pub use Rattle.gf_form.specs.inner.reduced.Survey.{visits_below, own_step, own_visit}
 pub use Rattle.gf_form.specs.inner.reduced.Visits.{is_met, is_met_on, AreActions}
 pub use Rattle.gf_form.specs.inner.rows.Demands.{meets, spans, steps_of}
-pub use Rattle.gf_form.specs.inner.rows.DigitSteps.{steps_behind, picked, width, in_order}
+pub use Rattle.gf_form.specs.inner.rows.DigitSteps.{steps_after, picked, width, in_order}
 pub use Rattle.gf_form.specs.inner.rows.Entries.{Entry, IsScale, IsShaped, IsSumOf, entries}
 pub use Rattle.gf_form.specs.inner.rows.Entries.{first_entries, entry_at, scaled_at, no_entry}
 pub use Rattle.gf_form.specs.inner.rows.Entries.{number_at, AreOrdered, EndsBelow, HasSum, lowered}
@@ -100,8 +100,9 @@ pub use Rattle.gf_fraction.proofs.Rationals.{total_above, plus_comm}
 pub use Rattle.gf_fraction.proofs.Sums.{IsLcm-from_gcd}
 pub use Rattle.gf_fraction.proofs.WholeNumbers.{whole_fraction}
 pub use Rattle.gf_fraction.specs.Computed.{product_of, sum_of}
-pub use Rattle.gf_fraction.specs.Fits.{AddsTo, MultipliesTo, SumFits, IsLcm, IsProduct, IsSum}
-pub use Rattle.gf_fraction.specs.Fits.{scaled_num}
+pub use Rattle.gf_fraction.specs.Sum.{AddsTo, SumFits, IsLcm, IsSum}
+pub use Rattle.gf_fraction.specs.Product.{MultipliesTo, IsProduct}
+pub use Rattle.gf_fraction.specs.Sum.{scaled_num}
 pub use Rattle.gf_fraction.specs.Ratio.{Ratio, IsFraction, whole, IsWithin, HasValue}
 pub use Rattle.gf_fraction.specs.Rational.{IsEqual, zero_ratio, one_ratio, times, total, plus}
 pub use Rattle.gf_nfg.proofs.lemmas.tables.NumbersInTurn.{length-numbers_from, get_or-numbers_from}
@@ -134,8 +135,9 @@ pub use Rattle.gf_tree.specs.Description.{SetKey, InformationSet, IsSet, same_se
 pub use Rattle.gf_tree.specs.Description.{Outcome}
 pub use Rattle.gf_form.proofs.lemmas.values.Lotteries.{AddToOne, listed}
 pub use Rattle.gf_tree.specs.FiniteMap.{Described, first_uses, description_at}
-pub use Rattle.gf_tree.specs.FirstUse.{player_sets, player_keys, outcome_numbers}
-pub use Rattle.gf_tree.specs.Game.{Game, IsGame, Node, used_sets, set_at, outcome_at, HasChildren}
+pub use Rattle.gf_tree.specs.KeysInOrder.{player_sets, player_keys, outcome_numbers}
+pub use Rattle.gf_tree.specs.Game.{Game, Node, used_sets, set_at, outcome_at}
+pub use Rattle.gf_tree.specs.IsGame.{IsGame, HasChildren}
 pub use Rattle.gf_tree.specs.PrefixOrder.{flatten, flatten_all}
 pub use Rattle.gf_tree.specs.Renumbering.{Renumbering, IsRenumbering, renumbered_set}
 pub use Rattle.gf_tree.specs.Renumbering.{renumbered_node, renumbered}

@@ -2,7 +2,8 @@
 use Rattle.std.specs.Prelude.{◌≡◌, ℕ, zero, suc, ◌+◌, ◌==◌, MatchOption}
 use Rattle.std.specs.Bool.{MatchBool}
 use Rattle.gf_fraction.specs.Ratio.{Ratio}
-use Rattle.gf_fraction.specs.Fits.{AddsTo, MultipliesTo}
+use Rattle.gf_fraction.specs.Sum.{AddsTo}
+use Rattle.gf_fraction.specs.Product.{MultipliesTo}
 use Rattle.gf_fraction.specs.Rational.{zero_ratio}
 use Rattle.gf_tree.specs.Tree.{Tree, Trees}
 use Rattle.gf_tree.specs.Tree.Tree.{branch}

@@ -5,7 +5,7 @@ use Rattle.std.specs.List.{AllZip, join_with_byte}
 use Rattle.gf_token.specs.Positions.{at_position}
 use Rattle.gf_nfg.specs.Profiles.{positions, profiles}
 use Rattle.gf_tree.specs.Description.{SetKey, same_set}
-use Rattle.gf_tree.specs.FirstUse.{player_keys, player_sets}
+use Rattle.gf_tree.specs.KeysInOrder.{player_keys, player_sets}
 use Rattle.gf_tree.specs.Game.{Game}
 
 -- how many actions there are at each of a player's sets

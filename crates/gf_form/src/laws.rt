@@ -8,8 +8,9 @@ ghost use Rattle.gf_fraction.specs.Rational.{IsEqual, one_ratio, total, zero_rat
 ghost use Rattle.gf_nfg.specs.Profiles.{product};
 ghost use Rattle.gf_nfg.specs.Table.{IsTable, Table};
 ghost use Rattle.gf_tree.specs.Description.{SetKey, set_of};
-ghost use Rattle.gf_tree.specs.Game.{Game, IsGame, Node};
-ghost use Rattle.gf_tree.specs.FirstUse.{player_keys};
+ghost use Rattle.gf_tree.specs.Game.{Game, Node};
+ghost use Rattle.gf_tree.specs.IsGame.{IsGame};
+ghost use Rattle.gf_tree.specs.KeysInOrder.{player_keys};
 ghost use Rattle.gf_tree.specs.Spellable.{IsSpellable};
 ghost use Rattle.gf_tree.specs.WorkedTrees.{bonus, forgetful};
 ghost use Rattle.gf_tree.specs.SameGame.{SameGame};

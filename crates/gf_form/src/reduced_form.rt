@@ -3,7 +3,7 @@
 ghost use Rattle.std.specs.Prelude.{◌≡◌, ◌≤◌, ℕ, List, IfOk, IsErrOf, OnOk, length, map};
 ghost use Rattle.std.specs.List.{AllByRecursion, Contains};
 ghost use Rattle.gf_nfg.specs.Limit.{profile_limit};
-ghost use Rattle.gf_tree.specs.Game.{IsGame};
+ghost use Rattle.gf_tree.specs.IsGame.{IsGame};
 ghost use Rattle.gf_form.specs.inner.strategies.Counted.{AreCounts};
 ghost use Rattle.gf_form.specs.inner.reduced.Firsts.{AreFirsts, IsPaidAt};
 ghost use Rattle.gf_form.specs.inner.rows.ProfileRows.{AreRowsAt};

@@ -4,7 +4,8 @@ use Rattle.std.proofs.Common.{◌≡◌, ℕ, ◌<◌, Bool, List, []}
 use Rattle.std.proofs.Common.{◌∷◌, ◌++◌, length, Some, None, arith, refl, ap, ◌∙◌}
 use Rattle.gf_fraction.specs.Ratio.{Ratio}
 use Rattle.gf_fraction.specs.NumberSpelling.{Reading, IsPlain, HasShape, SpellsReading}
-use Rattle.gf_fraction.specs.NumberSpelling.{IsNumber, HasNumberFault, IsBounded, den_of}
+use Rattle.gf_fraction.specs.NumberSpelling.{IsNumber, IsBounded, den_of}
+use Rattle.gf_fraction.specs.NoNumber.{HasNumberFault}
 use Rattle.gf_fraction.specs.NumberSpelling.IsPlain.{whole, pointed}
 use Rattle.gf_fraction.specs.NumberScan.{is_minus, after_sign, scan}
 use Rattle.gf_fraction.specs.NumberScan.{reading_of, IsValueOf, HasReadingFault}

@@ -8,7 +8,8 @@ use Rattle.std.proofs.lemmas.Bool.{ltb-true, ltb-false, lt-ltb, and_from}
 use Rattle.std.proofs.lemmas.Nat.Gcd.{IsGcd-from_zero, IsGcd-from_mod}
 use Rattle.std.proofs.Math.Nat.{mod-lt}
 use Rattle.gf_fraction.specs.Ratio.{Ratio, IsFraction, IsWithin, HasValue}
-use Rattle.gf_fraction.specs.Fits.{IsSum, IsProduct, SumFits, ProductFits}
+use Rattle.gf_fraction.specs.Sum.{IsSum, SumFits}
+use Rattle.gf_fraction.specs.Product.{IsProduct, ProductFits}
 use Rattle.gf_fraction.specs.Steps.{IsLowest, PartsFit}
 use Rattle.gf_fraction.specs.Computed.{gcd_within, lowest_of, is_within, sum_of, product_of}
 use Rattle.gf_fraction.proofs.Divisors.{HoldsCommon-self, IsLowest-div}

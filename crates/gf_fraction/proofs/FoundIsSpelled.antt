@@ -13,12 +13,12 @@ use Rattle.gf_fraction.specs.NumberSpelling.Reading.{decimal, rational}
 use Rattle.gf_fraction.specs.NumberSpelling.IsSign.{absent, plus, minus}
 use Rattle.gf_fraction.specs.NumberSpelling.IsPlain.{whole, pointed}
 use Rattle.gf_fraction.specs.NumberSpelling.HasShape.{plain, raised, fraction}
-use Rattle.gf_fraction.specs.NumberScan.{capped, leading, behind, leading_value, has_digits}
+use Rattle.gf_fraction.specs.NumberScan.{capped, leading, unread, leading_value, has_digits}
 use Rattle.gf_fraction.specs.NumberScan.{is_minus, after_sign, scan, scan_rest, scan_decimal}
 use Rattle.gf_fraction.specs.NumberScan.{scan_end, scan_pointed, scan_exponent, scan_fraction}
 use Rattle.gf_fraction.specs.declared.read.Spelling.{Spelling}
 use Rattle.gf_fraction.specs.declared.read.Spelling.TheVariants.{Decimal, Rational}
-use Rattle.gf_fraction.proofs.LeadingDigits.{leading_behind, capped-after}
+use Rattle.gf_fraction.proofs.LeadingDigits.{leading_after, capped-after}
 use Rattle.gf_fraction.proofs.SpelledIsFound.{AllDigits-leading, AllDigits-append}
 use Rattle.gf_fraction.proofs.SpelledIsFound.{digits_value_after-append, held, capped_exponent}
 use Rattle.gf_fraction.proofs.SpelledIsFound.{capped_exponent-signed, exponent_if, rational_if}
@@ -46,12 +46,12 @@ has_sign (c ∷ cs) = by_byte c cs (c == 43) (c == 45) refl refl
         record { sign = []; is_sign = subst (IsSign []) (sym hm) absent; spelled = rw (hp, hm) }
 
 -- all of a text, if nothing follows its digits
-only_digits : (text : List ℕ) → has_digits text ≡ true → (length (behind text) == 0) ≡ true
+only_digits : (text : List ℕ) → has_digits text ≡ true → (length (unread text) == 0) ≡ true
     → (leading text ≡ text) × IsNumeral 10 text
 only_digits text some none =
-    let end : behind text ≡ [] = empty (behind text) none in
+    let end : unread text ≡ [] = empty (unread text) none in
     let e : leading text ≡ text =
-    sym (append-nil (leading text)) ∙ ap (λ t. leading text ++ t) (sym end) ∙ leading_behind text in
+    sym (append-nil (leading text)) ∙ ap (λ t. leading text ++ t) (sym end) ∙ leading_after text in
     (e, subst (IsNumeral 10) e (ltb-true 0 (length (leading text)) some, AllDigits-leading text))
   where
     empty : (t : List ℕ) → (length t == 0) ≡ true → t ≡ []
@@ -71,10 +71,10 @@ record FoundExponent (text : List ℕ) (e : ℤ) : Type 0 where
 
 found_exponent : (text : List ℕ) (e : ℤ) → scan_exponent text ≡ Some e → FoundExponent text e
 found_exponent text e =
-    by_test (has_digits (after_sign text)) (length (behind (after_sign text)) == 0) refl refl
+    by_test (has_digits (after_sign text)) (length (unread (after_sign text)) == 0) refl refl
   where
     by_test : (some none : Bool)
-        → has_digits (after_sign text) ≡ some → (length (behind (after_sign text)) == 0) ≡ none
+        → has_digits (after_sign text) ≡ some → (length (unread (after_sign text)) == 0) ≡ none
         → exponent_if (some && none) (is_minus text) (leading_value 0 (after_sign text)) ≡ Some e
         → FoundExponent text e
     by_test true true hs hn h =
@@ -170,15 +170,15 @@ found_pointed ds cs s all h =
     ≡ capped (digits_value 10 (ds ++ after)) =
     capped-after (digits_value 10 ds) after
     ∙ ap capped (sym (digits_value_after-append 0 ds after)) in
-    let turned : ((ds ++ 46 ∷ []) ++ after) ++ behind cs ≡ ds ++ (46 ∷ cs) =
-    append_assoc (ds ++ 46 ∷ []) after (behind cs)
-    ∙ append_assoc ds (46 ∷ []) (after ++ behind cs)
-    ∙ ap (λ t. ds ++ (46 ∷ t)) (leading_behind cs) in
+    let turned : ((ds ++ 46 ∷ []) ++ after) ++ unread cs ≡ ds ++ (46 ∷ cs) =
+    append_assoc (ds ++ 46 ∷ []) after (unread cs)
+    ∙ append_assoc ds (46 ∷ []) (after ++ unread cs)
+    ∙ ap (λ t. ds ++ (46 ∷ t)) (leading_after cs) in
     let digits = AllDigits-append ds after all (AllDigits-leading cs) in
     let some = nat_lt 0 (length ds) || has_digits cs in
-    let F : ℕ → Type 0 = λ v. scan_decimal v some (length after) (behind cs) ≡ Some s in
+    let F : ℕ → Type 0 = λ v. scan_decimal v some (length after) (unread cs) ≡ Some s in
     subst (λ t. Found t s) turned
-    (found_decimal ((ds ++ 46 ∷ []) ++ after) (ds ++ after) (behind cs) (length after) some s
+    (found_decimal ((ds ++ 46 ∷ []) ++ after) (ds ++ after) (unread cs) (length after) some s
     (λ is. pointed ds after (either_side ds after is, digits)) (subst F value h))
   where
     either_side : (ds after : List ℕ) → (nat_lt 0 (length ds) || nat_lt 0 (length after)) ≡ true
@@ -190,10 +190,10 @@ found_fraction : (ds cs : List ℕ) (s : Spelling) → AllDigits 10 ds
     → scan_fraction (capped (digits_value 10 ds)) (nat_lt 0 (length ds)) cs ≡ Some s
     → Found (ds ++ (47 ∷ cs)) s
 found_fraction ds cs s all =
-    by_test (nat_lt 0 (length ds)) (has_digits cs) (length (behind cs) == 0) refl refl refl
+    by_test (nat_lt 0 (length ds)) (has_digits cs) (length (unread cs) == 0) refl refl refl
   where
     by_test : (a b n : Bool)
-        → nat_lt 0 (length ds) ≡ a → has_digits cs ≡ b → (length (behind cs) == 0) ≡ n
+        → nat_lt 0 (length ds) ≡ a → has_digits cs ≡ b → (length (unread cs) == 0) ≡ n
         → rational_if (a && b && n) (capped (digits_value 10 ds)) (leading_value 0 cs) ≡ Some s
         → Found (ds ++ (47 ∷ cs)) s
     by_test true true true ha hb hn h =
@@ -228,8 +228,8 @@ found_rest ds (c ∷ cs) s all h = by_byte (c == 47) (c == 46) refl refl h
     by_byte false false hs hp h = found_whole ds (c ∷ cs) s all h
 
 pub found : (text : List ℕ) (s : Spelling) → scan text ≡ Some s → Found text s
-found text s h = subst (λ t. Found t s) (leading_behind text)
-    (found_rest (leading text) (behind text) s (AllDigits-leading text) h)
+found text s h = subst (λ t. Found t s) (leading_after text)
+    (found_rest (leading text) (unread text) s (AllDigits-leading text) h)
 
 -- with the sign
 pub record FoundNumber (text : List ℕ) (negative : Bool) (spelling : Spelling) : Type 0 where

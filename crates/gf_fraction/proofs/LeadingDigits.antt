@@ -6,7 +6,7 @@ use Rattle.std.specs.Char.{digit_value, is_ascii_digit}
 use Rattle.std.specs.Str.Parse.{digits_value_after}
 use Rattle.std.proofs.lemmas.Bool.Decides.{nat_tests}
 use Rattle.std.proofs.Math.Seq.{drop-cons}
-use Rattle.gf_fraction.specs.NumberScan.{capped, leading, behind, leading_value}
+use Rattle.gf_fraction.specs.NumberScan.{capped, leading, unread, leading_value}
 
 -- a digit's value
 pub digit_value-ascii : (c : ℕ) → is_ascii_digit c ≡ true → digit_value c ≡ c - 48
@@ -17,8 +17,8 @@ pub leading_value-digit : (v c : ℕ) (cs : List ℕ) → is_ascii_digit c ≡ t
     → leading_value v (c ∷ cs) ≡ leading_value (v * 10 + (c - 48)) cs
 leading_value-digit v c cs h = grind arith
 
-pub behind-digit : (c : ℕ) (cs : List ℕ) → is_ascii_digit c ≡ true → behind (c ∷ cs) ≡ behind cs
-behind-digit c cs h = rw h
+pub unread-digit : (c : ℕ) (cs : List ℕ) → is_ascii_digit c ≡ true → unread (c ∷ cs) ≡ unread cs
+unread-digit c cs h = rw h
 
 -- the same at a place of a text
 module _ (text : List ℕ) (i : ℕ) (within : i < length text) where
@@ -36,9 +36,9 @@ module _ (text : List ℕ) (i : ℕ) (within : i < length text) where
       ≡ leading_value (v * 10 + (get_or text i 0 - 48)) (drop (i + 1) text)
   leading_value-drop v h = ap (leading_value v) at ∙ leading_value-digit v here more h
 
-  pub behind-drop : is_ascii_digit (get_or text i 0) ≡ true
-      → behind (drop i text) ≡ behind (drop (i + 1) text)
-  behind-drop h = ap behind at ∙ behind-digit here more h
+  pub unread-drop : is_ascii_digit (get_or text i 0) ≡ true
+      → unread (drop i text) ≡ unread (drop (i + 1) text)
+  unread-drop h = ap unread at ∙ unread-digit here more h
 
 -- too large stays too large, so a value may be capped at each digit
 pub capped-after : (n : ℕ) (ds : List ℕ)
@@ -56,15 +56,15 @@ pub capped-leading : (n : ℕ) (text : List ℕ)
 capped-leading n text = capped-after n (leading text)
 
 -- the digits at the head and what follows them make up the text
-pub leading_behind : (text : List ℕ) → leading text ++ behind text ≡ text
-leading_behind [] = refl
-leading_behind (c ∷ cs) = grind (arith, leading_behind cs)
+pub leading_after : (text : List ℕ) → leading text ++ unread text ≡ text
+leading_after [] = refl
+leading_after (c ∷ cs) = grind (arith, leading_after cs)
 
-pub length_leading : (text : List ℕ) → length (leading text) + length (behind text) ≡ length text
+pub length_leading : (text : List ℕ) → length (leading text) + length (unread text) ≡ length text
 length_leading text =
-    sym (length-append (leading text) (behind text)) ∙ ap length (leading_behind text)
+    sym (length-append (leading text) (unread text)) ∙ ap length (leading_after text)
 
-pub length_behind : (text : List ℕ) → length (behind text) ≤ length text
-length_behind text = omega (arith, length_leading text)
+pub length_after : (text : List ℕ) → length (unread text) ≤ length text
+length_after text = omega (arith, length_leading text)
 
-pub ruleset digit_counts = (length_leading, length_behind)
+pub ruleset digit_counts = (length_leading, length_after)

@@ -9,7 +9,8 @@ use Rattle.std.proofs.lemmas.Bool.{eqb-true}
 use Rattle.std.proofs.lemmas.Fmt.{decimal_is_IsNumeral_wide}
 use Rattle.gf_fraction.specs.Ratio.{Ratio, IsFraction, HasValue, signed}
 use Rattle.gf_fraction.specs.NumberSpelling.{Reading, IsSign, SpellsReading, IsNumber}
-use Rattle.gf_fraction.specs.NumberSpelling.{HasNumberFault, IsBounded, Reads, size_of, den_of}
+use Rattle.gf_fraction.specs.NumberSpelling.{IsBounded, size_of, den_of}
+use Rattle.gf_fraction.specs.NoNumber.{HasNumberFault, Reads}
 use Rattle.gf_fraction.specs.NumberSpelling.Reading.{decimal, rational}
 use Rattle.gf_fraction.specs.NumberSpelling.IsSign.{absent, minus}
 use Rattle.gf_fraction.specs.NumberSpelling.IsPlain.{whole}

@@ -13,7 +13,7 @@ use Rattle.gf_fraction.specs.NumberSpelling.{Reading, IsSign, IsPlain, IsExponen
 use Rattle.gf_fraction.specs.NumberSpelling.Reading.{decimal, rational}
 use Rattle.gf_fraction.specs.NumberSpelling.IsPlain.{whole, pointed}
 use Rattle.gf_fraction.specs.NumberSpelling.HasShape.{plain, raised, fraction}
-use Rattle.gf_fraction.specs.NumberScan.{capped, leading, behind, is_minus, after_sign, scan}
+use Rattle.gf_fraction.specs.NumberScan.{capped, leading, unread, is_minus, after_sign, scan}
 use Rattle.gf_fraction.specs.NumberScan.{scan_rest, scan_decimal, scan_end, scan_exponent}
 use Rattle.gf_fraction.specs.declared.read.Spelling.{Spelling}
 use Rattle.gf_fraction.specs.declared.read.Spelling.TheVariants.{Decimal, Rational}
@@ -33,7 +33,7 @@ Stops [] = Unit {0}
 Stops (c ∷ cs) = is_ascii_digit c ≡ false
 
 leading-append : (ds rest : List ℕ) → AllDigits 10 ds → Stops rest
-    → (leading (ds ++ rest) ≡ ds) × (behind (ds ++ rest) ≡ rest)
+    → (leading (ds ++ rest) ≡ ds) × (unread (ds ++ rest) ≡ rest)
 leading-append [] [] all stops = (refl, refl)
 leading-append [] (c ∷ cs) all stops = (rw stops, rw stops)
 leading-append (d ∷ ds) rest all stops =
@@ -41,7 +41,7 @@ leading-append (d ∷ ds) rest all stops =
     let digit = ascii_from_digit d all.0 in
     (rw digit (ap (λ t. d ∷ t) e.0), rw digit e.1)
 
-leading-digits : (ds : List ℕ) → AllDigits 10 ds → (leading ds ≡ ds) × (behind ds ≡ [])
+leading-digits : (ds : List ℕ) → AllDigits 10 ds → (leading ds ≡ ds) × (unread ds ≡ [])
 leading-digits [] all = (refl, refl)
 leading-digits (d ∷ ds) all =
     let e = leading-digits ds all.1 in

@@ -38,11 +38,11 @@ signed (pos n) rest = grind (arith, leb-suc-zero)
 signed (negsuc n) rest = refl
 
 -- a minus is stored in any case, and kept if the number is below zero
-pub behind_minus : (z : ℤ) (den : ℕ) (before rest : List ℕ)
+pub past_minus : (z : ℤ) (den : ℕ) (before rest : List ℕ)
     → (take (length before + from_bool (lt_z z (pos 0))) (before ++ 45 ∷ rest)
     ++ decimal (unsigned_abs z)) ++ under_text den
     ≡ before ++ number_text (record { num = z; den = den })
-behind_minus z den before rest =
+past_minus z den before rest =
     rw (
       take-append-add before (45 ∷ rest) (from_bool (lt_z z (pos 0))),
       append_assoc before,

@@ -1,9 +1,11 @@
 pub mod Computed
-pub mod Fits
+pub mod NoNumber
 pub mod NumberScan
 pub mod NumberSpelling
 pub mod NumberText
+pub mod Product
 pub mod Ratio
 pub mod Rational
 pub mod ShortNumber
 pub mod Steps
+pub mod Sum

@@ -26,9 +26,9 @@ abbrev pub leading : List ℕ → List ℕ
 leading [] = []
 leading (c ∷ cs) = if is_ascii_digit c then c ∷ leading cs else []
 
-abbrev pub behind : List ℕ → List ℕ
-behind [] = []
-behind (c ∷ cs) = if is_ascii_digit c then behind cs else c ∷ cs
+abbrev pub unread : List ℕ → List ℕ
+unread [] = []
+unread (c ∷ cs) = if is_ascii_digit c then unread cs else c ∷ cs
 
 -- the value of the digits that a text begins with, after digits of value n
 abbrev pub leading_value : ℕ → List ℕ → ℕ
@@ -49,7 +49,7 @@ after_sign (c ∷ cs) = if (c == 43) || (c == 45) then cs else c ∷ cs
 -- only digits, after the mark of an exponent and its sign; above 38, all are alike
 abbrev pub scan_exponent : List ℕ → Option ℤ
 scan_exponent text =
-    if has_digits (after_sign text) && (length (behind (after_sign text)) == 0)
+    if has_digits (after_sign text) && (length (unread (after_sign text)) == 0)
     then Some (signed (is_minus text) (min (capped (leading_value 0 (after_sign text))) 39))
     else None
 
@@ -69,12 +69,12 @@ scan_decimal digits false places rest = None
 abbrev pub scan_pointed : ℕ → Bool → List ℕ → Option Spelling
 scan_pointed digits some text =
     scan_decimal (capped (leading_value digits text)) (some || has_digits text)
-    (length (leading text)) (behind text)
+    (length (leading text)) (unread text)
 
 -- a denominator after a slash
 abbrev pub scan_fraction : ℕ → Bool → List ℕ → Option Spelling
 scan_fraction num some text =
-    if some && has_digits text && (length (behind text) == 0)
+    if some && has_digits text && (length (unread text) == 0)
     then Some (Rational num (capped (leading_value 0 text)))
     else None
 
@@ -88,7 +88,7 @@ scan_rest digits some (c ∷ cs) =
 
 -- a text after its sign
 abbrev pub scan : List ℕ → Option Spelling
-scan text = scan_rest (capped (leading_value 0 text)) (has_digits text) (behind text)
+scan text = scan_rest (capped (leading_value 0 text)) (has_digits text) (unread text)
 
 -- a spelling as a reading
 abbrev pub reading_of : Spelling → Reading

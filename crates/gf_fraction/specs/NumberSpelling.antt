@@ -1,13 +1,9 @@
--- How a text spells a number, within which bounds, and why any other text spells none (this
--- project's profile).
+-- How a text spells a number, and within which bounds (this project's profile).
 use Rattle.std.specs.Prelude.{◌≡◌, ◌⊎◌, ℕ, ℤ, Bool, true, false, List, [], ◌++◌}
-use Rattle.std.specs.Prelude.{length, codes, Result, MatchResult, pos, negsuc}
+use Rattle.std.specs.Prelude.{length, codes, pos, negsuc}
 use Rattle.std.specs.Prelude.{suc, unsigned_abs, ◌-ℤ◌, ◌≤ℤ◌, ◌*◌, ◌^◌, ◌<◌, ◌≤◌}
 use Rattle.std.specs.Str.Parse.{IsNumeral, digits_value}
 use Rattle.gf_fraction.specs.Ratio.{Ratio, IsFraction, HasValue, signed}
-use Rattle.gf_fraction.specs.declared.fraction.NumberFault.{NumberFault}
-use Rattle.gf_fraction.specs.declared.fraction.NumberFault.TheVariants.{NotANumber}
-use Rattle.gf_fraction.specs.declared.fraction.NumberFault.TheVariants.{ZeroDenominator, TooLarge}
 
 -- what a text says after its sign, before any bound is checked: digits, this many of them after the
 -- point, with an exponent; or a numerator over a denominator
@@ -102,30 +98,3 @@ pub record IsNumber (text : List ℕ) (r : Ratio) : Type 0 where
   pub bounded : IsBounded reading
   pub fraction : IsFraction r
   pub value : HasValue r (signed negative (size_of reading)) (den_of reading)
-
--- the text has one of the shapes, and a zero denominator
-pub record HasZeroDenominator (text : List ℕ) : Type 0 where
-  pub negative : Bool
-  pub reading : Reading
-  pub spelled : SpellsReading text negative reading
-  pub zero : den_of reading ≡ 0
-
--- the text has one of the shapes, and no zero denominator, but breaks a bound
-pub record IsTooLarge (text : List ℕ) : Type 0 where
-  pub negative : Bool
-  pub reading : Reading
-  pub spelled : SpellsReading text negative reading
-  pub den_above_zero : 0 < den_of reading
-  pub unbounded : ¬ (IsBounded reading)
-
--- why a text is not a number: it has none of the shapes; otherwise it has a zero denominator;
--- otherwise it breaks a bound
-abbrev pub HasNumberFault : List ℕ → NumberFault → Type 0
-HasNumberFault text NotANumber =
-    (negative : Bool) (reading : Reading) → ¬ (SpellsReading text negative reading)
-HasNumberFault text ZeroDenominator = HasZeroDenominator text
-HasNumberFault text TooLarge = IsTooLarge text
-
--- what reading the text answers: its value, or why it is not a number
-abbrev pub Reads : List ℕ → Result Ratio NumberFault → Type 0
-Reads text answer = MatchResult answer (λ r. IsNumber text r) (λ fault. HasNumberFault text fault)

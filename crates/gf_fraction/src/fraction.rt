@@ -4,7 +4,8 @@ ghost use Rattle.std.specs.Prelude.{◌≡◌, ◌⊎◌, ◌↔◌, ◌^◌, �
 ghost use Rattle.std.specs.Prelude.{unsigned_abs, IsTrue, IfOk, IsOkAnd, MatchResult};
 ghost use Rattle.std.specs.Int.{IsGcd};
 ghost use Rattle.gf_fraction.specs.Ratio.{HasValue, IsFraction, IsWithin, signed, whole};
-ghost use Rattle.gf_fraction.specs.Fits.{IsProduct, IsSum, ProductFits, SumFits};
+ghost use Rattle.gf_fraction.specs.Sum.{IsSum, SumFits};
+ghost use Rattle.gf_fraction.specs.Product.{IsProduct, ProductFits};
 ghost use Rattle.gf_fraction.specs.Steps.{HoldsCommon};
 
 use crate::arithmetic::{LARGEST, Overflow, gcd, product, quotient, sum_over, total, with_sign};

@@ -3,8 +3,10 @@
 
 ghost use Rattle.std.specs.Prelude.{◌≡◌, ◌<◌, ◌⊎◌, ℕ, ℤ, List, Result};
 ghost use Rattle.gf_fraction.specs.Ratio.{HasValue, IsFraction, Ratio};
-ghost use Rattle.gf_fraction.specs.Fits.{IsProduct, IsSum, ProductFits, SumFits};
-ghost use Rattle.gf_fraction.specs.NumberSpelling.{IsNumber, Reads};
+ghost use Rattle.gf_fraction.specs.Sum.{IsSum, SumFits};
+ghost use Rattle.gf_fraction.specs.Product.{IsProduct, ProductFits};
+ghost use Rattle.gf_fraction.specs.NumberSpelling.{IsNumber};
+ghost use Rattle.gf_fraction.specs.NoNumber.{Reads};
 ghost use Rattle.gf_fraction.specs.NumberText.{number_text};
 ghost use Rattle.gf_fraction.specs.declared.fraction.NumberFault.{NumberFault};
 

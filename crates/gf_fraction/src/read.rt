@@ -3,12 +3,13 @@
 ghost use Rattle.std.specs.Prelude.{◌≡◌, ◌≤◌, ◌<◌, ◌^◌, ◌++◌, ℕ, List, length, take, drop};
 ghost use Rattle.std.specs.Prelude.{unsigned_abs, IfSome, MatchOption, MatchResult};
 ghost use Rattle.std.specs.Str.Parse.{IsNumeral, digits_value};
-ghost use Rattle.gf_fraction.specs.NumberSpelling.{IsNumber, IsSign, Reads, scaled_digits};
+ghost use Rattle.gf_fraction.specs.NumberSpelling.{IsNumber, IsSign, scaled_digits};
+ghost use Rattle.gf_fraction.specs.NoNumber.{Reads};
 ghost use Rattle.gf_fraction.specs.NumberSpelling.Reading.{decimal, rational};
 ghost use Rattle.gf_fraction.specs.ShortNumber.{IsLeft, IsReadOn};
 ghost use Rattle.gf_fraction.specs.NumberScan.{AreRead, Completes, HasReadingFault};
 ghost use Rattle.gf_fraction.specs.NumberScan.{IsNotShort, IsScaled, IsValueOf, after_sign};
-ghost use Rattle.gf_fraction.specs.NumberScan.{behind, capped, is_minus, leading, leading_value};
+ghost use Rattle.gf_fraction.specs.NumberScan.{unread, capped, is_minus, leading, leading_value};
 ghost use Rattle.gf_fraction.specs.NumberScan.{reading_of, scan, scan_decimal, scan_exponent};
 ghost use Rattle.gf_fraction.specs.NumberScan.{scan_fraction};
 
@@ -99,9 +100,9 @@ fn short_end(num: u64, text: &[u8]) -> Option<(u64, u64, &[u8])>
             let (num, den) = lowest_words(num, den, den);
             Some((num, den, rest))
         }
-        [b'.', behind @ ..] => {
-            let (digits, rest) = word_digits(num, behind);
-            let places = behind.len() - rest.len();
+        [b'.', after @ ..] => {
+            let (digits, rest) = word_digits(num, after);
+            let places = after.len() - rest.len();
             if places > WORD_PLACES {
                 return None;
             }
@@ -133,7 +134,7 @@ fn short(text: &[u8]) -> Option<Fraction>
 fn wide_digits(from: u128, text: &[u8]) -> (u128, &[u8])
     requires { from ≤ 2 ^ 127 }
     ensures value { result.0 ≡ capped (leading_value from text.entry.now) }
-    ensures rest { result.1.now ≡ behind text.entry.now }
+    ensures rest { result.1.now ≡ unread text.entry.now }
 {
     let mut value = from;
     for (i, byte) in text.iter().enumerate() {
@@ -155,7 +156,7 @@ fn digits(from: u128, text: &[u8]) -> Run<'_>
     requires { from ≤ 2 ^ 127 }
     ensures value { result.value ≡ capped (leading_value from text.entry.now) }
     ensures len { result.len ≡ length (leading text.entry.now) }
-    ensures rest { result.rest.now ≡ behind text.entry.now }
+    ensures rest { result.rest.now ≡ unread text.entry.now }
 {
     let (value, rest) = wide_digits(from, text);
     Run {
@@ -220,8 +221,8 @@ fn scan(text: &[u8]) -> Option<Spelling>
     let has_digits = whole.len > 0;
     match whole.rest {
         [b'/', under @ ..] => scan_fraction(whole.value, has_digits, under),
-        [b'.', behind @ ..] => {
-            let all = digits(whole.value, behind);
+        [b'.', after @ ..] => {
+            let all = digits(whole.value, after);
             scan_decimal(all.value, has_digits || all.len > 0, all.len, all.rest)
         }
         rest => scan_decimal(whole.value, has_digits, 0, rest),

@@ -4,7 +4,8 @@ pub use Rattle.gf_fraction.proofs.AllElements.{all_mapped, all_parts, all_weaker
 pub use Rattle.gf_fraction.proofs.ComputedAnswers.{number_again, number_is, number_is_computed}
 pub use Rattle.gf_fraction.proofs.ReadingBack.{same_fault, written_is_read}
 unfoldable pub use Rattle.gf_fraction.specs.Computed.{gcd_within, lowest_of, number_of}
-pub use Rattle.gf_fraction.specs.NumberSpelling.{HasNumberFault, IsNumber, Reads}
+pub use Rattle.gf_fraction.specs.NumberSpelling.{IsNumber}
+pub use Rattle.gf_fraction.specs.NoNumber.{HasNumberFault, Reads}
 pub use Rattle.gf_fraction.specs.Ratio.{IsFraction, Ratio, whole}
 pub use Rattle.gf_fraction.specs.declared.fraction.NumberFault.{NumberFault}
 pub use Rattle.gf_nfg.specs.Judgement.{IsAcceptedWithinLimit, IsJudged, IsRefusal, IsRefused}

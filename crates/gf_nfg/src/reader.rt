@@ -104,7 +104,7 @@ impl<'a> Reader<'a> {
     }
 
     /// Tells the heading, whose last token is at this place.
-    #[tactic(auto, using(crate::proofs::lemmas::runs::ReaderSteps::memory_behind))]
+    #[tactic(auto, using(crate::proofs::lemmas::runs::ReaderSteps::memory_after))]
     fn tell_heading<R: Receive<'a>>(
         &self,
         version: Version,

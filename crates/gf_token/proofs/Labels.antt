@@ -4,8 +4,9 @@ use Rattle.std.proofs.Common.{IsTrue, ◌↔◌}
 use Rattle.std.specs.Prelude.{not}
 use Rattle.std.proofs.lemmas.Bool.{and_parts}
 use Rattle.std.proofs.lemmas.Bool.Decides.{nat_tests}
-use Rattle.gf_token.specs.LabelSpelling.{is_spelling, is_spelling_after, EndsInBackslash}
-use Rattle.gf_token.specs.LabelSpelling.{EscapesQuotes}
+use Rattle.gf_token.specs.LabelSpelling.{is_spelling, is_spelling_after}
+use Rattle.gf_token.specs.EscapedQuotes.{EndsInBackslash}
+use Rattle.gf_token.specs.EscapedQuotes.{EscapesQuotes}
 
 -- the last of the bytes after one
 last_of : ℕ → List ℕ → ℕ

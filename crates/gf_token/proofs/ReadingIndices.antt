@@ -8,7 +8,8 @@ use Rattle.std.specs.Str.Parse.{AllDigits, digits_value}
 use Rattle.std.proofs.lemmas.Bool.{and_parts}
 use Rattle.std.proofs.lemmas.Bool.Decides.{nat_tests}
 use Rattle.gf_fraction.proofs.SpelledIsFound.{ascii_from_digit, digit_from_ascii}
-use Rattle.gf_token.specs.Index.{IsDigits, IsIndex, IsNoIndex}
+use Rattle.gf_token.specs.Index.{IsDigits, IsIndex}
+use Rattle.gf_token.specs.NoIndex.{IsNoIndex}
 use Rattle.gf_token.specs.declared.index.IndexFault.{IndexFault}
 use Rattle.gf_token.specs.Indices.{is_numeral, index_of, count_of, positive}
 

@@ -6,7 +6,8 @@ use Rattle.std.proofs.Math.Seq.{take-append_seam, drop-append_seam}
 use Rattle.std.proofs.lemmas.List.{length-append}
 use Rattle.gf_token.specs.Token.{Token, Lexeme, spelling}
 use Rattle.gf_token.specs.Token.Token.{Opening, Closing, Comma, Text, Bare, Broken}
-use Rattle.gf_token.specs.TokenSpelling.{IsSpelled, GoesOn, BeginsWith, Spells, StandsIn}
+use Rattle.gf_token.specs.TokenSpelling.{IsSpelled, GoesOn, BeginsWith, Spells}
+use Rattle.gf_token.specs.Slices.{StandsIn}
 
 -- each token has a byte
 pub some_byte : (t : Token) → IsSpelled t → 0 < length (spelling t)
@@ -21,9 +22,9 @@ slice_between front mid back =
     ∙ take-append_seam mid back
 
 -- a token that comes after the bytes `front`
-stands_behind : (front bytes : List ℕ) (l : Lexeme) → BeginsWith (length front) bytes l
+stands_after : (front bytes : List ℕ) (l : Lexeme) → BeginsWith (length front) bytes l
     → StandsIn (front ++ bytes) l
-stands_behind front bytes l first =
+stands_after front bytes l first =
     let before = front ++ first.gap in
     let whole : front ++ bytes ≡ before ++ (spelling l.token ++ first.rest) =
     ap (λ x. front ++ x) first.parts
@@ -57,7 +58,7 @@ goes_on_some Broken (x ∷ before) after l A h = absurd cc
 stands : (before after : List Lexeme) (l : Lexeme) (front bytes : List ℕ) (at : ℕ)
     → at ≡ length front → Spells at bytes (before ++ l ∷ after) → StandsIn (front ++ bytes) l
 stands [] after l front bytes at e h =
-    stands_behind front bytes l (subst (λ (i : ℕ). BeginsWith i bytes l) e h.0)
+    stands_after front bytes l (subst (λ (i : ℕ). BeginsWith i bytes l) e h.0)
 stands (x ∷ before) after l front bytes at e h =
     let first = h.0 in
     let mid = first.gap ++ spelling x.token in

@@ -122,13 +122,13 @@ pub no_quote_before : (bytes label : List ℕ) (start : ℕ) → is_space (get_o
     → (get_or bytes start 0 ≡ 34 → ⊥) → Unlike bytes label start
 no_quote_before bytes label start s other = unlike bytes label start s (λ q. other q.opens)
 
-pub no_quote_behind : (bytes label : List ℕ) (start : ℕ) → is_space (get_or bytes start 0) ≡ false
+pub no_quote_after : (bytes label : List ℕ) (start : ℕ) → is_space (get_or bytes start 0) ≡ false
     → (get_or bytes (start + 1 + length label) 0 ≡ 34 → ⊥) → Unlike bytes label start
-no_quote_behind bytes label start s other = unlike bytes label start s (λ q. other q.ends)
+no_quote_after bytes label start s other = unlike bytes label start s (λ q. other q.ends)
 
 pub other_bytes : (bytes label : List ℕ) (start : ℕ) → is_space (get_or bytes start 0) ≡ false
     → (slice_range bytes (start + 1) (start + 1 + length label) ≡ label → ⊥)
     → Unlike bytes label start
 other_bytes bytes label start s other = unlike bytes label start s (λ q. other q.same)
 
-pub ruleset label_steps = (label_found, too_short, no_quote_before, no_quote_behind, other_bytes)
+pub ruleset label_steps = (label_found, too_short, no_quote_before, no_quote_after, other_bytes)

@@ -28,19 +28,19 @@ in_order from bytes (l ∷ ls) h =
       omega (arith, start),
       omega (arith, end, some),
       subst (λ (n : ℕ). AreInOrder n l.end ls) whole
-          (behind l.token ls l.end first.rest h.1 (λ k. in_order l.end first.rest ls k)),
+          (given l.token ls l.end first.rest h.1 (λ k. in_order l.end first.rest ls k)),
     )
   where
-    behind : (t : Token) (ls : List Lexeme) (end : ℕ) (rest : List ℕ)
+    given : (t : Token) (ls : List Lexeme) (end : ℕ) (rest : List ℕ)
         → GoesOn t ls (Spells end rest ls)
         → (Spells end rest ls → AreInOrder (end + length rest) end ls)
         → AreInOrder (end + length rest) end ls
-    behind Broken ls end rest h later = rw h (omega arith)
-    behind Opening ls end rest h later = later h
-    behind Closing ls end rest h later = later h
-    behind Comma ls end rest h later = later h
-    behind (Text label) ls end rest h later = later h
-    behind (Bare bytes) ls end rest h later = later h
+    given Broken ls end rest h later = rw h (omega arith)
+    given Opening ls end rest h later = later h
+    given Closing ls end rest h later = later h
+    given Comma ls end rest h later = later h
+    given (Text label) ls end rest h later = later h
+    given (Bare bytes) ls end rest h later = later h
 
 pub all_in_order : (bytes : List ℕ) (ls : List Lexeme) → Spells 0 bytes ls
     → AreInOrder (length bytes) 0 ls
@@ -48,35 +48,35 @@ all_in_order bytes ls h = rw zero-add at (in_order 0 bytes ls h)
 
 -- ---- a token is taken
 
-pub behind_first : (end from : ℕ) (before : List Lexeme) (l : Lexeme) (ls : List Lexeme)
+pub past_first : (end from : ℕ) (before : List Lexeme) (l : Lexeme) (ls : List Lexeme)
     → AreInOrder end from (before ++ l ∷ ls) → (l.start < l.end) × AreInOrder end l.end ls
-behind_first end from [] l ls h = (h.1, h.2)
-behind_first end from (z ∷ zs) l ls h = behind_first end z.end zs l ls h.2
+past_first end from [] l ls h = (h.1, h.2)
+past_first end from (z ∷ zs) l ls h = past_first end z.end zs l ls h.2
 
 module _ (input : List ℕ) (at start end : ℕ) (token : Token)
     (known : AreAhead input (lexed input at))
     (next : lexed input at ≡ lexeme start end token ∷ lexed input end) where
   abbrev all : List Lexeme
-  all = known.behind ++ lexeme start end token ∷ lexed input end
+  all = known.given ++ lexeme start end token ∷ lexed input end
 
   spelled : Spells 0 input all
-  spelled = subst (λ (ls : List Lexeme). Spells 0 input (known.behind ++ ls)) next known.spelled
+  spelled = subst (λ (ls : List Lexeme). Spells 0 input (known.given ++ ls)) next known.spelled
 
   pub ahead_after : AreAhead input (lexed input end)
   ahead_after = record {
-    behind = known.behind ++ lexeme start end token ∷ [];
+    given = known.given ++ lexeme start end token ∷ [];
     spelled = subst (Spells 0 input)
-        (sym (append_assoc known.behind (lexeme start end token ∷ []) (lexed input end))) spelled;
+        (sym (append_assoc known.given (lexeme start end token ∷ []) (lexed input end))) spelled;
   }
 
   pub stands_before : StandsBefore (record { input = input; ahead = lexed input end })
       (record { start = start; end = end })
-  stands_before = grind (arith, behind_first, in_order, spelled)
+  stands_before = grind (arith, past_first, in_order, spelled)
 
 pub ruleset taken = (ahead_after, stands_before)
 
 pub all_ahead : (input : List ℕ) (ls : List Lexeme) → Spells 0 input ls → AreAhead input ls
-all_ahead input ls h = record { behind = []; spelled = h }
+all_ahead input ls h = record { given = []; spelled = h }
 
 -- each token has a byte at least
 few_in_order : (end from : ℕ) (ls : List Lexeme) → AreInOrder end from ls → from + length ls ≤ end

@@ -1,8 +1,6 @@
 -- Indices: counts, and the numbers of players, information sets and outcomes.
-use Rattle.std.specs.Prelude.{◌≡◌, ℕ, ◌<◌, ◌≤◌, ◌^◌, List, length}
+use Rattle.std.specs.Prelude.{◌≡◌, ℕ, ◌<◌, ◌^◌, List, length}
 use Rattle.std.specs.Str.Parse.{AllDigits, digits_value}
-use Rattle.gf_token.specs.declared.index.IndexFault.{IndexFault}
-use Rattle.gf_token.specs.declared.index.IndexFault.TheVariants.{NotDigits, TooLarge}
 
 -- only digits, at least one
 abbrev pub IsDigits : List ℕ → Type 0
@@ -15,8 +13,3 @@ IsIndex bytes n = IsDigits bytes × (digits_value 10 bytes ≡ n) × (n < 2 ^ 32
 -- an index above 0
 abbrev pub IsPositive : List ℕ → ℕ → Type 0
 IsPositive bytes n = IsIndex bytes n × (0 < n)
-
--- why bytes are not an index
-abbrev pub IsNoIndex : List ℕ → IndexFault → Type 0
-IsNoIndex bytes NotDigits = ¬ (IsDigits bytes)
-IsNoIndex bytes TooLarge = IsDigits bytes × (2 ^ 32 ≤ digits_value 10 bytes)

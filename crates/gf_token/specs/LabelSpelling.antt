@@ -1,5 +1,5 @@
 -- How a label is spelled between its quotes.
-use Rattle.std.specs.Prelude.{◌≡◌, ℕ, Bool, ◌&&◌, ◌||◌, not, List, [], ◌∷◌, ◌++◌, true, ◌==◌}
+use Rattle.std.specs.Prelude.{◌≡◌, ℕ, Bool, ◌&&◌, ◌||◌, not, List, [], ◌∷◌, true, ◌==◌}
 
 -- after the byte `before`, each `"` directly follows a backslash, and the last byte is not one
 abbrev pub is_spelling_after : ℕ → List ℕ → Bool
@@ -13,11 +13,3 @@ is_spelling bytes = is_spelling_after 34 bytes
 -- bytes that spell a label
 abbrev pub IsLabel : List ℕ → Type 0
 IsLabel bytes = is_spelling bytes ≡ true
-
--- the last of the bytes is a backslash
-abbrev pub EndsInBackslash : List ℕ → Type 0
-EndsInBackslash bytes = (front : List ℕ) × (bytes ≡ front ++ 92 ∷ [])
-
--- each `"` directly follows a backslash
-abbrev pub EscapesQuotes : List ℕ → Type 0
-EscapesQuotes bytes = (front back : List ℕ) → bytes ≡ front ++ 34 ∷ back → EndsInBackslash front

@@ -1,6 +1,7 @@
 pub mod Byte
 pub mod Code
 pub mod Due
+pub mod EscapedQuotes
 pub mod Grammar
 pub mod HeldTokens
 pub mod Index
@@ -8,12 +9,14 @@ pub mod Indices
 pub mod Label
 pub mod LabelSpelling
 pub mod Next
+pub mod NoIndex
 pub mod NumberWhy
 pub mod Place
 pub mod Positions
 pub mod ReadAs
 pub mod Reason
 pub mod Remaining
+pub mod Slices
 pub mod Token
 pub mod TextLayout
 pub mod TokenSpelling

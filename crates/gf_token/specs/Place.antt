@@ -12,11 +12,6 @@ abbrev pub IsSpanOf : List Lexeme → ℕ → Span → Type 0
 IsSpanOf [] size span = (span.start ≡ size) × (span.end ≡ size)
 IsSpanOf (l ∷ ls) size span = (span.start ≡ l.start) × (span.end ≡ l.end)
 
--- the tokens before a place and the one that stands there; at the end there is none
-abbrev pub through : List Token → List Token → List Token
-through before [] = before
-through before (token ∷ after) = before ++ token ∷ []
-
 -- for a language
 module _ (IsFile : List Token → Type 0) where
   -- some file begins with these tokens

@@ -1,7 +1,7 @@
 -- Why a file is refused at its offending place, whatever its format. No file goes on with the token
 -- that stands there, so what is said of that token holds of one that is refused.
 use Rattle.std.specs.Prelude.{ℕ, ◌≤◌, List, ◌∷◌}
-use Rattle.gf_fraction.specs.NumberSpelling.{HasNumberFault}
+use Rattle.gf_fraction.specs.NoNumber.{HasNumberFault}
 use Rattle.gf_fraction.specs.declared.fraction.NumberFault.{NumberFault}
 use Rattle.gf_fraction.specs.declared.fraction.NumberFault.TheVariants as number
 use Rattle.gf_token.specs.Code.{code_of}

@@ -16,8 +16,8 @@ pub record Remaining : Type 0 where
 
 -- after some tokens, the input spells these
 pub record AreAhead (input : List ℕ) (ahead : List Lexeme) : Type 0 where
-  pub behind : List Lexeme
-  pub spelled : Spells 0 input (behind ++ ahead)
+  pub given : List Lexeme
+  pub spelled : Spells 0 input (given ++ ahead)
 
 -- the span of a token of the input, or of its end
 abbrev pub IsPlaceIn : List ℕ → Span → Type 0

@@ -1,6 +1,6 @@
 -- Which bytes spell which tokens.
-use Rattle.std.specs.Prelude.{◌≡◌, ℕ, ◌+◌, ◌<◌, ◌≤◌, true, false, List}
-use Rattle.std.specs.Prelude.{[], ◌∷◌, ◌++◌, length, slice_range}
+use Rattle.std.specs.Prelude.{◌≡◌, ℕ, ◌+◌, true, false, List}
+use Rattle.std.specs.Prelude.{[], ◌∷◌, ◌++◌, length}
 use Rattle.std.specs.List.{AllByRecursion}
 use Rattle.gf_token.specs.Byte.{is_space, is_bare}
 use Rattle.gf_token.specs.LabelSpelling.{is_spelling}
@@ -51,10 +51,3 @@ abbrev pub Spells : ℕ → List ℕ → List Lexeme → Type 0
 Spells at bytes [] = IsGap bytes
 Spells at bytes (l ∷ ls) =
     (first : BeginsWith at bytes l) × GoesOn l.token ls (Spells l.end first.rest ls)
-
--- a token's span is not empty, lies within the bytes, and is the slice of them that spells the
--- token
-pub record StandsIn (bytes : List ℕ) (l : Lexeme) : Type 0 where
-  pub some : l.start < l.end
-  pub within : l.end ≤ length bytes
-  pub slice : slice_range bytes l.start l.end ≡ spelling l.token

@@ -1,7 +1,8 @@
 //! Indices: counts, and the numbers of players, information sets and outcomes.
 
 ghost use Rattle.std.specs.Prelude.{◌≡◌, MatchResult};
-ghost use Rattle.gf_token.specs.Index.{IsIndex, IsNoIndex};
+ghost use Rattle.gf_token.specs.Index.{IsIndex};
+ghost use Rattle.gf_token.specs.NoIndex.{IsNoIndex};
 ghost use Rattle.gf_token.specs.Indices.{index_of};
 
 /// Why a text is not an index.

@@ -3,9 +3,11 @@
 ghost use Rattle.std.specs.Prelude.{◌≡◌, ◌↔◌, ◌<◌, ◌∷◌, ◌++◌, ℕ, List, IsTrue, Some};
 ghost use Rattle.gf_token.specs.Index.{IsIndex};
 ghost use Rattle.gf_token.specs.Indices.{count_of, index_of};
-ghost use Rattle.gf_token.specs.LabelSpelling.{is_spelling, EscapesQuotes, EndsInBackslash};
+ghost use Rattle.gf_token.specs.LabelSpelling.{is_spelling};
+ghost use Rattle.gf_token.specs.EscapedQuotes.{EscapesQuotes, EndsInBackslash};
 ghost use Rattle.gf_token.specs.Token.{Lexeme};
-ghost use Rattle.gf_token.specs.TokenSpelling.{Spells, StandsIn};
+ghost use Rattle.gf_token.specs.TokenSpelling.{Spells};
+ghost use Rattle.gf_token.specs.Slices.{StandsIn};
 
 /// Each byte list spells exactly one list of tokens.
 pub fn spelled_once()

@@ -4,8 +4,9 @@ pub use Rattle.gf_fraction.proofs.ComputedArithmetic.{sum_is_computed, sum_of-so
 pub use Rattle.gf_fraction.proofs.Products.{mul_above}
 pub use Rattle.gf_fraction.proofs.ReadingBack.{written_is_read}
 pub use Rattle.gf_fraction.proofs.WholeNumbers.{whole_fraction}
-pub use Rattle.gf_fraction.specs.Fits.{AddsTo, IsSum, SumFits}
-pub use Rattle.gf_fraction.specs.NumberSpelling.{HasNumberFault, IsNumber}
+pub use Rattle.gf_fraction.specs.Sum.{AddsTo, IsSum, SumFits}
+pub use Rattle.gf_fraction.specs.NumberSpelling.{IsNumber}
+pub use Rattle.gf_fraction.specs.NoNumber.{HasNumberFault}
 pub use Rattle.gf_fraction.specs.NumberText.{number_text}
 pub use Rattle.gf_fraction.specs.Ratio.{IsFraction, Ratio, whole}
 pub use Rattle.gf_fraction.specs.declared.fraction.NumberFault.{NumberFault}
@@ -42,17 +43,20 @@ pub use Rattle.gf_tree.specs.Consistent.{IsConsistent}
 pub use Rattle.gf_tree.specs.Description.{Action, AddUpTo, AreActions, InformationSet, IsOutcome}
 pub use Rattle.gf_tree.specs.Description.{IsSet, Outcome, SetKey, outcome_with, same_set, set_of}
 pub use Rattle.gf_tree.specs.Description.{set_with}
-pub use Rattle.gf_tree.specs.FileNodes.{file_nodes, use_behind}
+pub use Rattle.gf_tree.specs.FileNodes.{file_nodes, use_after}
 pub use Rattle.gf_tree.specs.FileTree.{FileNode, FileTree, Use, outcome_uses, set_uses}
 pub use Rattle.gf_tree.specs.Fills.{Fills}
 pub use Rattle.gf_tree.specs.FiniteMap.{Described, description_at, first_uses}
-pub use Rattle.gf_tree.specs.FirstUse.{first_use_number, first_use_numbers, outcome_numbers}
-pub use Rattle.gf_tree.specs.FirstUse.{player_keys, sets_of}
-pub use Rattle.gf_tree.specs.Front.{BehindOutcomeNumber, BehindSetNumber, EndsInNode, InActions}
+pub use Rattle.gf_tree.specs.FirstUse.{first_use_number, first_use_numbers}
+pub use Rattle.gf_tree.specs.KeysInOrder.{outcome_numbers}
+pub use Rattle.gf_tree.specs.FirstUse.{sets_of}
+pub use Rattle.gf_tree.specs.KeysInOrder.{player_keys}
+pub use Rattle.gf_tree.specs.Front.{PastOutcomeNumber, PastSetNumber, EndsInNode, InActions}
 pub use Rattle.gf_tree.specs.Front.{InPayoffs, IsExtensiveFile, IsNewOutcome, IsNewSet}
 pub use Rattle.gf_tree.specs.Front.{KnowsOutcome, KnowsSet, ToOutcomeNumber}
 pub use Rattle.gf_tree.specs.Front.{ToProbability, ToSetNumber}
-pub use Rattle.gf_tree.specs.Game.{Game, HasChildren, IsGame, Node, outcome_at, set_at}
+pub use Rattle.gf_tree.specs.Game.{Game, Node, outcome_at, set_at}
+pub use Rattle.gf_tree.specs.IsGame.{HasChildren, IsGame}
 pub use Rattle.gf_tree.specs.Game.{used_outcomes, used_sets}
 pub use Rattle.gf_tree.specs.GameCode.{no_node}
 pub use Rattle.gf_tree.specs.GameOf.{IsGameOf, MeansGame, SpellsGame, keys_alone}
@@ -66,12 +70,12 @@ pub use Rattle.gf_tree.specs.Learned.{Learns, LearnsGame}
 pub use Rattle.gf_tree.specs.Listed.{AreListed, listed_numbers, number_listed}
 pub use Rattle.gf_tree.specs.PrefixOrder.{Entry, flatten, flatten_all}
 pub use Rattle.gf_tree.specs.Reason.{Applies, DiffersFromOutcome, DiffersFromSet}
-pub use Rattle.gf_tree.specs.Reason.{EndsInFirstUse, GoesOnWith, HasSum, IsReason, IsWrongBehind}
+pub use Rattle.gf_tree.specs.Reason.{EndsInFirstUse, GoesOnWith, HasSum, IsReason, IsWrongAfter}
 pub use Rattle.gf_tree.specs.Reason.{ListsActions, NewProbabilityIsDue}
 pub use Rattle.gf_tree.specs.Renumbering.{HasOutcome, HasSet, IsRenumbering, Renumbering}
 pub use Rattle.gf_tree.specs.Renumbering.{renumbered, renumbered_node, renumbered_set}
-pub use Rattle.gf_tree.specs.RowPlaces.{BehindComment, BehindNode, BehindPayoff, BehindPlayers}
-pub use Rattle.gf_tree.specs.RowPlaces.{BehindSet, FileFront, ToPayoff, ToPlayerNumber}
+pub use Rattle.gf_tree.specs.RowPlaces.{PastComment, PastNode, PastPayoff, PastPlayers}
+pub use Rattle.gf_tree.specs.RowPlaces.{PastSet, FileFront, ToPayoff, ToPlayerNumber}
 pub use Rattle.gf_tree.specs.Rows.{Accepts, IsNoNumber, Refuses, Row, a_closing, a_first_name}
 pub use Rattle.gf_tree.specs.Rows.{a_letter, a_new_action, a_new_branch, a_node, a_payoff, a_player}
 pub use Rattle.gf_tree.specs.Rows.{a_player_name, a_probability, a_set, a_text, a_word, an_end}
@@ -98,11 +102,11 @@ pub use Rattle.gf_tree.specs.inner.GameParts.{AreNodes, IsHeld, IsListed, Parts,
 pub use Rattle.gf_tree.specs.inner.KnownOutcomes.{KnownOutcomes}
 pub use Rattle.gf_tree.specs.inner.Machine.{Begun, State, begun, due, finish, nothing, run, step}
 pub use Rattle.gf_tree.specs.inner.Machine.{Content, may_end, set_ends, shared, with_node, with_set}
-pub use Rattle.gf_tree.specs.inner.Machine.{Position, behind_outcome, outcome_number, personal_node}
+pub use Rattle.gf_tree.specs.inner.Machine.{Position, past_outcome, outcome_number, personal_node}
 pub use Rattle.gf_tree.specs.inner.Machine.{after_node, paid, with_action, with_payoff, with_player}
 pub use Rattle.gf_tree.specs.inner.Machine.{at, node_letter, node_or_end, same_number, with_outcome}
-pub use Rattle.gf_tree.specs.inner.Machine.{behind_label, new_set_ends, outcome_ends, player_number}
-pub use Rattle.gf_tree.specs.inner.Machine.{behind_set, new_label, same_text, set_known, set_number}
+pub use Rattle.gf_tree.specs.inner.Machine.{past_label, new_set_ends, outcome_ends, player_number}
+pub use Rattle.gf_tree.specs.inner.Machine.{past_set, new_label, same_text, set_known, set_number}
 pub use Rattle.gf_tree.specs.inner.Machine.Position.{AfterKnownPayoff, ChanceName, KnownOutcomeName}
 pub use Rattle.gf_tree.specs.inner.Machine.Position.{AfterNewPayoff, NewOutcomeName, NewProbability}
 pub use Rattle.gf_tree.specs.inner.Machine.Position.{AfterPlayers, KnownSetName, PersonalName}
@@ -114,8 +118,9 @@ pub use Rattle.gf_tree.specs.inner.Machine.Position.{KnownPayoff, PlayerNumber, 
 pub use Rattle.gf_tree.specs.inner.Machine.Position.{Letter, NodeDue, SetNumber, Version}
 pub use Rattle.gf_tree.specs.inner.Probability.{Share, same_ratio, share_by, share_of, up_to_one}
 pub use Rattle.gf_tree.specs.inner.ReadGame.{game_in, run_tokens}
-pub use Rattle.gf_tree.specs.inner.ReaderState.{Answer, Fails, Grows, answer, behind, heard, to_all}
+pub use Rattle.gf_tree.specs.inner.ReaderState.{Answer, Fails, Grows, after_nodes, answer, heard}
 pub use Rattle.gf_tree.specs.inner.ReaderState.{Goes, HasRead, begun_with, content_of, heading_read}
+pub use Rattle.gf_tree.specs.inner.ReaderState.{to_all}
 pub use Rattle.gf_tree.specs.inner.Skipped.{Begin, sizes_grown, skipped}
 pub use Rattle.gf_tree.specs.inner.StoredOutcomes.{AreOutcomes, stored_outcomes}
 pub use Rattle.gf_tree.specs.inner.StoredSets.{AreSets, HoldActions, described, end_of, places_from}

@@ -3,7 +3,7 @@ use Rattle.std.specs.Prelude.{◌≡◌, ℕ, zero, suc, pos, ◌≤ℤ◌, ◌<
 use Rattle.std.specs.Prelude.{◌∷◌, length, Option, Some, None}
 use Rattle.std.specs.List.{AllByRecursion}
 use Rattle.gf_fraction.specs.Ratio.{Ratio, whole}
-use Rattle.gf_fraction.specs.Fits.{AddsTo}
+use Rattle.gf_fraction.specs.Sum.{AddsTo}
 
 -- an action's label, and the probability of chance taking it; a player's action has none
 pub record Action : Type 0 where

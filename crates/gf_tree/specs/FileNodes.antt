@@ -14,19 +14,19 @@ with_those_before [] = []
 with_those_before (x ∷ xs) = ([], x) ∷ map (λ p. (x ∷ p.0, p.1)) (with_those_before xs)
 
 -- a use of this key after uses of those, described if it is the first
-abbrev pub use_behind : {K D : Type 0} → (K → K → Bool) → (K → Option D) → List K → K → Use K D
-use_behind same description before key =
+abbrev pub use_after : {K D : Type 0} → (K → K → Bool) → (K → Option D) → List K → K → Use K D
+use_after same description before key =
     record { key = key; description = if list_any (same key) before then None else description key }
 
 -- a node after those
-abbrev pub node_behind : Game → List (Entry Node) → Node → FileNode
-node_behind g before n = record {
+abbrev pub node_after : Game → List (Entry Node) → Node → FileNode
+node_after g before n = record {
   name = n.name;
-  set = option_map (use_behind same_set (set_at g) (filter_map (λ e. e.node.set) before)) n.set;
-  outcome = option_map (use_behind nat_eq (outcome_at g) (filter_map (λ e. e.node.outcome) before))
+  set = option_map (use_after same_set (set_at g) (filter_map (λ e. e.node.set) before)) n.set;
+  outcome = option_map (use_after nat_eq (outcome_at g) (filter_map (λ e. e.node.outcome) before))
       n.outcome;
 }
 
 -- the nodes in prefix order
 abbrev pub file_nodes : Game → List FileNode
-file_nodes g = map (λ p. node_behind g p.0 p.1.node) (with_those_before (flatten g.tree))
+file_nodes g = map (λ p. node_after g p.0 p.1.node) (with_those_before (flatten g.tree))

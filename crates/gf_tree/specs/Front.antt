@@ -34,16 +34,16 @@ ToSetNumber front player = (letter : List ℕ) × (name : List ℕ) × (mover : 
     × (front ≡ Bare letter ∷ Text name ∷ mover) × SpellsMover letter mover player
 
 -- everything through the set's number; its name is next, or the number of the outcome
-abbrev pub BehindSetNumber : List Token → SetKey → Type 0
-BehindSetNumber front key = (to_set : List Token) × (number : List ℕ)
+abbrev pub PastSetNumber : List Token → SetKey → Type 0
+PastSetNumber front key = (to_set : List Token) × (number : List ℕ)
     × (front ≡ to_set ++ Bare number ∷ []) × ToSetNumber to_set key.player
     × IsPositive number key.number
 
 -- everything through the set's name and, in braces, these actions; an action's label is next, or
 -- the closing brace
 abbrev pub InActions : List Token → SetKey → InformationSet → Type 0
-InActions front key set = (behind : List Token) × (inner : List Token)
-    × (front ≡ behind ++ Text set.name ∷ Opening ∷ inner) × BehindSetNumber behind key
+InActions front key set = (to_name : List Token) × (inner : List Token)
+    × (front ≡ to_name ++ Text set.name ∷ Opening ∷ inner) × PastSetNumber to_name key
     × Each (IsAction key.player) inner set.actions
 
 -- after these actions of a set of chance, another label; its probability is next
@@ -58,8 +58,8 @@ ToOutcomeNumber front set = (letter : List ℕ) × (name : List ℕ) × (step : 
 
 -- everything through the number of an outcome other than 0; its name is next, or what follows the
 -- node
-abbrev pub BehindOutcomeNumber : List Token → ℕ → Type 0
-BehindOutcomeNumber front number =
+abbrev pub PastOutcomeNumber : List Token → ℕ → Type 0
+PastOutcomeNumber front number =
     (to_outcome : List Token) × (set : Option (Use SetKey InformationSet)) × (bytes : List ℕ)
     × (front ≡ to_outcome ++ Bare bytes ∷ []) × ToOutcomeNumber to_outcome set
     × IsPositive bytes number
@@ -67,8 +67,8 @@ BehindOutcomeNumber front number =
 -- everything through the outcome's name and, in braces, these payoffs; a payoff is next, or the
 -- closing brace
 abbrev pub InPayoffs : List Token → ℕ → Outcome → Type 0
-InPayoffs front number outcome = (behind : List Token) × (inner : List Token)
-    × (front ≡ behind ++ Text outcome.name ∷ Opening ∷ inner) × BehindOutcomeNumber behind number
+InPayoffs front number outcome = (to_name : List Token) × (inner : List Token)
+    × (front ≡ to_name ++ Text outcome.name ∷ Opening ∷ inner) × PastOutcomeNumber to_name number
     × Each IsPayoffInBraces inner outcome.payoffs
 
 -- ---- what is known

@@ -3,7 +3,8 @@ use Rattle.std.specs.Prelude.{◌≡◌, nat_eq, length, Bool, ◌⊎◌, List, 
 use Rattle.std.specs.Prelude.{MatchOption}
 use Rattle.std.specs.List.{AllByRecursion}
 use Rattle.gf_tree.specs.PrefixOrder.{flatten}
-use Rattle.gf_tree.specs.Game.{Game, HasChildren}
+use Rattle.gf_tree.specs.Game.{Game}
+use Rattle.gf_tree.specs.IsGame.{HasChildren}
 use Rattle.gf_tree.specs.GameOf.{KeepsTree}
 use Rattle.gf_tree.specs.Description.{same_set, IsSet, IsOutcome}
 use Rattle.gf_tree.specs.FiniteMap.{Described, description_at}

@@ -17,8 +17,10 @@ pub mod GameCode
 pub mod GameOf
 pub mod Grown
 pub mod GrowsAgain
+pub mod IsGame
 pub mod Judgement
 pub mod KeptNodes
+pub mod KeysInOrder
 pub mod KnownSets
 pub mod Learned
 pub mod Listed

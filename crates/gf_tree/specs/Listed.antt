@@ -3,7 +3,7 @@ use Rattle.std.specs.Prelude.{◌≡◌, ℕ, suc, nat_eq, ◌<◌, ◌≤◌, B
 use Rattle.std.specs.Prelude.{if◌then◌else◌}
 use Rattle.std.specs.List.{AllByRecursion, Contains}
 use Rattle.gf_tree.specs.Description.{same_set, set_of}
-use Rattle.gf_tree.specs.FirstUse.{outcome_numbers, player_keys}
+use Rattle.gf_tree.specs.KeysInOrder.{outcome_numbers, player_keys}
 use Rattle.gf_tree.specs.Game.{Game}
 use Rattle.gf_tree.specs.Renumbering.{Renumbering}
 

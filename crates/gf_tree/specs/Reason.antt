@@ -8,13 +8,13 @@ use Rattle.gf_token.specs.declared.fault.Why.{Why}
 use Rattle.gf_token.specs.declared.fault.Why.TheVariants.{NotDescribed, Mismatch, UnknownPlayer}
 use Rattle.gf_token.specs.declared.fault.Why.TheVariants.{NegativeProbability, SumAboveOne}
 use Rattle.gf_token.specs.declared.fault.Why.TheVariants.{SumBelowOne, SumOverflow, NoEntry}
-use Rattle.gf_fraction.specs.Fits.{SumFits, AddsTo}
+use Rattle.gf_fraction.specs.Sum.{SumFits, AddsTo}
 use Rattle.gf_fraction.specs.Ratio.{Ratio, whole}
 use Rattle.gf_fraction.specs.NumberSpelling.{IsNumber}
 use Rattle.gf_tree.specs.Description.{Action, AddUpTo, InformationSet, Outcome, SetKey, set_of}
 use Rattle.gf_tree.specs.Description.{set_with}
-use Rattle.gf_tree.specs.Front.{EndsInNode, BehindSetNumber, InActions, ToProbability, IsNewOutcome}
-use Rattle.gf_tree.specs.Front.{BehindOutcomeNumber, InPayoffs, KnowsSet, IsNewSet, KnowsOutcome}
+use Rattle.gf_tree.specs.Front.{EndsInNode, PastSetNumber, InActions, ToProbability, IsNewOutcome}
+use Rattle.gf_tree.specs.Front.{PastOutcomeNumber, InPayoffs, KnowsSet, IsNewSet, KnowsOutcome}
 use Rattle.gf_tree.specs.Front.{IsExtensiveFile}
 use Rattle.gf_token.specs.Reason as any_format
 use Rattle.gf_token.specs.declared.fault.What.TheVariants as what
@@ -30,8 +30,8 @@ IsUnknownPlayer before bytes = any_format.IsUnknownNumber IsExtensiveFile before
 -- the number of a set or an outcome comes before, in its first use
 abbrev pub EndsInFirstUse : List Token → Type 0
 EndsInFirstUse before = (f : EndsInNode before)
-    × (((key : SetKey) × BehindSetNumber f.front key × IsNewSet f.nodes key)
-    ⊎ ((number : ℕ) × BehindOutcomeNumber f.front number × IsNewOutcome f.nodes number))
+    × (((key : SetKey) × PastSetNumber f.front key × IsNewSet f.nodes key)
+    ⊎ ((number : ℕ) × PastOutcomeNumber f.front number × IsNewOutcome f.nodes number))
 
 -- after these actions of a known set comes another one
 abbrev pub GoesOnWith : InformationSet → InformationSet → Action → Type 0
@@ -41,7 +41,7 @@ GoesOnWith known seen next =
 -- a known set has a different name, a different action, or no more actions
 abbrev pub DiffersFromSet : {before : List Token} → EndsInNode before → Token → Type 0
 DiffersFromSet f (Text label) = (key : SetKey) × (known : InformationSet)
-    × KnowsSet f.nodes key known × ((BehindSetNumber f.front key × (label ≢ known.name))
+    × KnowsSet f.nodes key known × ((PastSetNumber f.front key × (label ≢ known.name))
     ⊎ ((seen : InformationSet) × InActions f.front key seen
     × ((next : Action) → GoesOnWith known seen next → label ≢ next.label)))
 DiffersFromSet f Closing = (key : SetKey) × (known seen : InformationSet) × (next : Action)
@@ -54,7 +54,7 @@ DiffersFromSet f _ = ⊥
 -- a known outcome has a different name or a different payoff
 abbrev pub DiffersFromOutcome : {before : List Token} → EndsInNode before → Token → Type 0
 DiffersFromOutcome f (Text label) = (n : ℕ) × (known : Outcome)
-    × KnowsOutcome f.nodes n known × BehindOutcomeNumber f.front n × (label ≢ known.name)
+    × KnowsOutcome f.nodes n known × PastOutcomeNumber f.front n × (label ≢ known.name)
 DiffersFromOutcome f (Bare bytes) = (n : ℕ) × (known seen : Outcome) × (next : Ratio)
     × (others : List Ratio) × (p : Ratio) × KnowsOutcome f.nodes n known × InPayoffs f.front n seen
     × (known.payoffs ≡ seen.payoffs ++ next ∷ others) × IsNumber bytes p × (p ≢ next)
@@ -77,16 +77,16 @@ NewProbabilityIsDue before sum = (f : EndsInNode before) × (number : ℕ) × (s
     × ToProbability f.front number set × IsNewSet f.nodes (set_of 0 number) × HasSum set sum
 
 -- what makes this probability wrong, after probabilities of this sum
-abbrev pub IsWrongBehind : Why → Ratio → Ratio → Type 0
-IsWrongBehind NegativeProbability sum p = p.num <ℤ pos 0
-IsWrongBehind SumAboveOne sum p =
+abbrev pub IsWrongAfter : Why → Ratio → Ratio → Type 0
+IsWrongAfter NegativeProbability sum p = p.num <ℤ pos 0
+IsWrongAfter SumAboveOne sum p =
     (total : Ratio) × AddsTo sum p total × (pos total.den <ℤ total.num)
-IsWrongBehind SumOverflow sum p = ¬ (SumFits sum p)
-IsWrongBehind _ sum p = ⊥
+IsWrongAfter SumOverflow sum p = ¬ (SumFits sum p)
+IsWrongAfter _ sum p = ⊥
 
 abbrev pub IsWrongProbability : Why → List Token → List ℕ → Type 0
 IsWrongProbability why before bytes = (sum p : Ratio) × NewProbabilityIsDue before sum
-    × IsNumber bytes p × IsWrongBehind why sum p
+    × IsNumber bytes p × IsWrongAfter why sum p
 
 -- ---- lists of actions
 

@@ -3,8 +3,9 @@
 use Rattle.std.specs.Prelude.{◌≡◌, ◌≢◌, ◌↔◌, ℕ, ◌<◌, ◌≤◌, pos, ◌≤ℤ◌, ◌⊎◌, List, [], ◌∷◌, codes}
 use Rattle.std.specs.Prelude.{length}
 use Rattle.gf_fraction.specs.Ratio.{Ratio, whole}
-use Rattle.gf_fraction.specs.Fits.{AddsTo}
-use Rattle.gf_fraction.specs.NumberSpelling.{HasNumberFault, IsNumber}
+use Rattle.gf_fraction.specs.Sum.{AddsTo}
+use Rattle.gf_fraction.specs.NumberSpelling.{IsNumber}
+use Rattle.gf_fraction.specs.NoNumber.{HasNumberFault}
 use Rattle.gf_fraction.specs.declared.fraction.NumberFault.{NumberFault}
 use Rattle.gf_token.specs.Token.{Token}
 use Rattle.gf_token.specs.Index.{IsIndex, IsPositive}
@@ -18,7 +19,7 @@ use Rattle.gf_token.specs.declared.fault.Why.TheVariants.{UnknownPlayer, NotDesc
 use Rattle.gf_token.specs.declared.fault.Why.TheVariants.{SumBelowOne, NoEntry}
 use Rattle.gf_tree.specs.Description.{Action}
 use Rattle.gf_tree.specs.Front.{IsExtensiveFile}
-use Rattle.gf_tree.specs.Reason.{IsReason, IsWrongBehind}
+use Rattle.gf_tree.specs.Reason.{IsReason, IsWrongAfter}
 use Rattle.gf_token.specs.declared.fault.What.TheVariants as what
 
 -- which tokens a row accepts, and whether it accepts the end; why it refuses other texts, other
@@ -187,7 +188,7 @@ a_probability sum = record (none (Expected what.Number)) {
   bare = λ bytes. (p : Ratio) × (total : Ratio) × IsNumber bytes p × (pos 0 ≤ℤ p.num)
       × AddsTo sum p total × (total.num ≤ℤ pos total.den);
   other_bare = λ bytes why.
-      IsNoNumber bytes why ⊎ ((p : Ratio) × IsNumber bytes p × IsWrongBehind why sum p);
+      IsNoNumber bytes why ⊎ ((p : Ratio) × IsNumber bytes p × IsWrongAfter why sum p);
 }
 
 abbrev pub a_payoff : Row

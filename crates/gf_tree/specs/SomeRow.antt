@@ -5,12 +5,12 @@ use Rattle.gf_fraction.specs.Ratio.{Ratio}
 use Rattle.gf_token.specs.Token.{Token}
 use Rattle.gf_token.specs.Token.Token.{Bare}
 use Rattle.gf_tree.specs.Description.{Action, InformationSet, Outcome, SetKey, set_of}
-use Rattle.gf_tree.specs.Front.{BehindOutcomeNumber, BehindSetNumber, InActions, IsNewOutcome}
+use Rattle.gf_tree.specs.Front.{PastOutcomeNumber, PastSetNumber, InActions, IsNewOutcome}
 use Rattle.gf_tree.specs.Front.{IsNewSet, KnowsOutcome, KnowsSet, ToProbability}
 use Rattle.gf_tree.specs.Front.{ToSetNumber}
 use Rattle.gf_tree.specs.Reason.{GoesOnWith, HasSum}
-use Rattle.gf_tree.specs.RowPlaces.{BehindComment, BehindLetter, BehindNode, BehindOutcomeName}
-use Rattle.gf_tree.specs.RowPlaces.{BehindPayoff, BehindPlayers, BehindSet, BehindSetName}
+use Rattle.gf_tree.specs.RowPlaces.{PastComment, PastLetter, PastNode, PastOutcomeName}
+use Rattle.gf_tree.specs.RowPlaces.{PastPayoff, PastPlayers, PastSet, PastSetName}
 use Rattle.gf_tree.specs.RowPlaces.{FileFront, InPlayers, ToPayoff, ToPlayerNumber, ToPlayers}
 use Rattle.gf_tree.specs.RowPlaces.{ToTitle}
 
@@ -22,18 +22,18 @@ pub data IsInHeading (before : List Token) : Type 0 where
   Title : ToTitle before → IsInHeading before
   BeforePlayers : ToPlayers before → IsInHeading before
   Players : (players : List (List ℕ)) → InPlayers before players → IsInHeading before
-  AfterPlayers : (players : List (List ℕ)) → BehindPlayers before players → IsInHeading before
-  AfterComment : (players : List (List ℕ)) → BehindComment before players → IsInHeading before
+  AfterPlayers : (players : List (List ℕ)) → PastPlayers before players → IsInHeading before
+  AfterComment : (players : List (List ℕ)) → PastComment before players → IsInHeading before
 
 -- a row of a node
 pub data IsInNode (f : FileFront) : Type 0 where
-  NodeName : BehindLetter f.front → IsInNode f
+  NodeName : PastLetter f.front → IsInNode f
   Player : ToPlayerNumber f.front → IsInNode f
   SetNumber : (player : ℕ) → ToSetNumber f.front player → IsInNode f
-  NewSet : (key : SetKey) → BehindSetNumber f.front key → IsNewSet f.nodes key → IsInNode f
-  KnownSet : (key : SetKey) (set : InformationSet) → BehindSetNumber f.front key
+  NewSet : (key : SetKey) → PastSetNumber f.front key → IsNewSet f.nodes key → IsInNode f
+  KnownSet : (key : SetKey) (set : InformationSet) → PastSetNumber f.front key
       → KnowsSet f.nodes key set → IsInNode f
-  SetOpening : (key : SetKey) → BehindSetName f.front key → IsInNode f
+  SetOpening : (key : SetKey) → PastSetName f.front key → IsInNode f
   NewAction : (key : SetKey) (set : InformationSet) → InActions f.front key set
       → IsNewSet f.nodes key → 0 < key.player → IsInNode f
   NewBranch : (number : ℕ) (set : InformationSet) (sum : Ratio)
@@ -50,27 +50,27 @@ pub data IsInNode (f : FileFront) : Type 0 where
       → GoesOnWith known seen next → next.probability ≡ Some p → IsInNode f
   NoActionLeft : (key : SetKey) (known seen : InformationSet) → InActions f.front key seen
       → KnowsSet f.nodes key known → known.actions ≡ seen.actions → IsInNode f
-  OutcomeNumber : BehindSet f.front → IsInNode f
-  NewOutcome : (number : ℕ) → BehindOutcomeNumber f.front number → IsNewOutcome f.nodes number
+  OutcomeNumber : PastSet f.front → IsInNode f
+  NewOutcome : (number : ℕ) → PastOutcomeNumber f.front number → IsNewOutcome f.nodes number
       → IsInNode f
-  KnownOutcome : (number : ℕ) (outcome : Outcome) → BehindOutcomeNumber f.front number
+  KnownOutcome : (number : ℕ) (outcome : Outcome) → PastOutcomeNumber f.front number
       → KnowsOutcome f.nodes number outcome → IsInNode f
-  OutcomeOpening : (number : ℕ) → BehindOutcomeName f.front number → IsInNode f
+  OutcomeOpening : (number : ℕ) → PastOutcomeName f.front number → IsInNode f
   NewPayoff : (number : ℕ) (payoffs : List Ratio) → ToPayoff f.front number payoffs
       → IsNewOutcome f.nodes number → length payoffs < length f.players → IsInNode f
   KnownPayoff : (number : ℕ) (payoffs : List Ratio) (outcome : Outcome) (p : Ratio)
       (others : List Ratio) → ToPayoff f.front number payoffs
       → KnowsOutcome f.nodes number outcome → outcome.payoffs ≡ payoffs ++ p ∷ others → IsInNode f
-  AfterNewPayoff : (number : ℕ) (payoffs : List Ratio) → BehindPayoff f.front number payoffs
+  AfterNewPayoff : (number : ℕ) (payoffs : List Ratio) → PastPayoff f.front number payoffs
       → IsNewOutcome f.nodes number → length payoffs < length f.players → IsInNode f
   AfterKnownPayoff : (number : ℕ) (payoffs : List Ratio) (outcome : Outcome) (p : Ratio)
-      (others : List Ratio) → BehindPayoff f.front number payoffs
+      (others : List Ratio) → PastPayoff f.front number payoffs
       → KnowsOutcome f.nodes number outcome → outcome.payoffs ≡ payoffs ++ p ∷ others → IsInNode f
-  AfterLastPayoff : (number : ℕ) (payoffs : List Ratio) → BehindPayoff f.front number payoffs
+  AfterLastPayoff : (number : ℕ) (payoffs : List Ratio) → PastPayoff f.front number payoffs
       → length payoffs ≡ length f.players → IsInNode f
   NoPayoff : (number : ℕ) (payoffs : List Ratio) → ToPayoff f.front number payoffs
       → length payoffs ≡ length f.players → IsInNode f
-  AfterNode : BehindNode f.front → IsInNode f
+  AfterNode : PastNode f.front → IsInNode f
 
 abbrev pub IsBeforeRow : List Token → Type 0
 IsBeforeRow before = IsInHeading before ⊎ ((f : FileFront) × (f.before ≡ before) × IsInNode f)

@@ -9,8 +9,9 @@ ghost use Rattle.gf_tree.specs.Branches.{game_of, tree_of};
 ghost use Rattle.gf_tree.specs.NodesLeft.{nodes_left};
 ghost use Rattle.gf_tree.specs.PrefixOrder.{flatten};
 ghost use Rattle.gf_tree.specs.Description.{set_of};
-ghost use Rattle.gf_tree.specs.FirstUse.{outcome_numbers, player_keys};
-ghost use Rattle.gf_tree.specs.Game.{IsGame, outcome_at, set_at};
+ghost use Rattle.gf_tree.specs.KeysInOrder.{outcome_numbers, player_keys};
+ghost use Rattle.gf_tree.specs.Game.{outcome_at, set_at};
+ghost use Rattle.gf_tree.specs.IsGame.{IsGame};
 ghost use Rattle.gf_tree.specs.inner.GameParts.{IsKeptAt, IsListed, game_with, parts_of};
 ghost use Rattle.gf_tree.specs.Description.{outcome_with, set_with};
 ghost use Rattle.gf_tree.specs.Movers.{IsMover};
@@ -263,7 +264,7 @@ impl<'a> Game<'a> {
     }
 
     /// The place after the subtree of the node at this place.
-    pub(crate) fn place_behind(&self, at: usize) -> usize
+    pub(crate) fn place_after(&self, at: usize) -> usize
         requires { at < length (subtrees self.now.tree) }
         ensures { result ≡ at + skipped 1 (drop at (subtree_sizes self.now.tree)) }
     {

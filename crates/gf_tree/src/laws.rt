@@ -25,7 +25,8 @@ ghost use Rattle.gf_tree.specs.FileTree.{Use, FileTree, set_uses, outcome_uses};
 ghost use Rattle.gf_tree.specs.Sentence.{Sentence};
 ghost use Rattle.gf_tree.specs.Consistent.{Describes, AreConsistent, IsConsistent};
 ghost use Rattle.gf_tree.specs.FiniteMap.{Described, first_uses};
-ghost use Rattle.gf_tree.specs.FirstUse.{first_use_numbers, outcome_numbers, player_keys, sets_of};
+ghost use Rattle.gf_tree.specs.FirstUse.{first_use_numbers, sets_of};
+ghost use Rattle.gf_tree.specs.KeysInOrder.{outcome_numbers, player_keys};
 ghost use Rattle.gf_tree.specs.Listed.{AreListed, listed_numbers};
 ghost use Rattle.gf_tree.specs.Renumbering.{IsRenumbering, Renumbering, renumbered};
 ghost use Rattle.gf_tree.specs.Spellable.{IsSpellable};
@@ -42,7 +43,8 @@ ghost use Rattle.gf_tree.specs.WorkedTrees.{mismatched_file, unknown_player_file
 ghost use Rattle.gf_tree.specs.WorkedTrees.{too_unlikely_file, negative_file, unfitting_file};
 ghost use Rattle.gf_tree.specs.WorkedTrees.{other_action_file, fewer_actions_file};
 ghost use Rattle.gf_tree.specs.WorkedTrees.{more_actions_file, unpaid_file, nobody_file};
-ghost use Rattle.gf_tree.specs.Game.{Game, IsGame, used_sets, used_outcomes};
+ghost use Rattle.gf_tree.specs.Game.{Game, used_sets, used_outcomes};
+ghost use Rattle.gf_tree.specs.IsGame.{IsGame};
 ghost use Rattle.gf_tree.specs.GameOf.{IsGameOf, MeansGame, SpellsGame};
 
 /// A tree and its flat list in prefix order determine each other: the lists that fill one place are

@@ -1,7 +1,7 @@
 -- The first-use numbers of a game's sets as lists.
 use Rattle.std.specs.Prelude.{ℕ, suc, List, length, map}
 use Rattle.gf_nfg.specs.Profiles.{numbers_from, positions}
-use Rattle.gf_tree.specs.FirstUse.{player_keys}
+use Rattle.gf_tree.specs.KeysInOrder.{player_keys}
 use Rattle.gf_tree.specs.Game.{Game}
 
 -- for chance, and then for each player, the numbers from 1 on, one for each of his sets

@@ -1,7 +1,7 @@
 //! Which numbers of two games correspond.
 
 ghost use Rattle.std.specs.Prelude.{◌≡◌, ◌↔◌, ◌++◌, ℕ, IfErr, IfOk, IsTrue, List, [], OnOk, false};
-ghost use Rattle.gf_tree.specs.Game.{IsGame};
+ghost use Rattle.gf_tree.specs.IsGame.{IsGame};
 ghost use Rattle.gf_tree.specs.Renumbering.{Renumbering};
 ghost use Rattle.gf_tree.specs.SameGame.{Carries};
 ghost use Rattle.gf_tree.specs.Spellable.{IsSpellable};

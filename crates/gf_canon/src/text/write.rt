@@ -4,7 +4,7 @@
 ghost use Rattle.std.specs.Prelude.{◌≡◌, ◌++◌, OnErr, OnOk, map};
 ghost use Rattle.gf_nfg.specs.inner.TextParts.{Keeps};
 ghost use Rattle.gf_token.specs.Label.{label_of};
-ghost use Rattle.gf_tree.specs.Game.{IsGame};
+ghost use Rattle.gf_tree.specs.IsGame.{IsGame};
 ghost use Rattle.gf_tree.specs.GameOf.{SpellsGame};
 ghost use Rattle.gf_tree.specs.Spellable.{IsSpellable};
 ghost use Rattle.gf_canon.specs.GameText.{game_text};

@@ -4,7 +4,7 @@ ghost use Rattle.std.specs.Prelude.{◌≡◌, ◌<◌, ◌^◌, IfOk, get_or};
 ghost use Rattle.gf_nfg.specs.Profiles.{product};
 ghost use Rattle.gf_form.specs.inner.reduced.Levels.{ArePositive};
 ghost use Rattle.gf_form.specs.inner.reduced.OwnDigits.{digits_from};
-ghost use Rattle.gf_form.specs.inner.rows.DigitSteps.{steps_behind};
+ghost use Rattle.gf_form.specs.inner.rows.DigitSteps.{steps_after};
 
 use crate::rows::digits::put_digits;
 use std::alloc::{AllocError, Global};
@@ -26,7 +26,7 @@ pub(crate) struct OwnDigit {
 pub(crate) fn own_steps(alloc: Global, counts: &[u32]) -> Result<Vec<u64>, AllocError>
     requires some { ArePositive counts.now }
     requires few { product counts.now < 2 ^ 32 }
-    ensures { IfOk result (λ steps. steps.items ≡ steps_behind 1 counts.now) }
+    ensures { IfOk result (λ steps. steps.items ≡ steps_after 1 counts.now) }
 {
     let mut digits = Vec::new(alloc);
     let (steps, _) = put_digits(alloc, counts, 1, &mut digits)?.unwrap();
@@ -50,7 +50,7 @@ pub(crate) fn own_digits(
     counts: &[u32],
     steps: &[u64],
 ) -> Result<Vec<OwnDigit>, AllocError>
-    requires { steps.now ≡ steps_behind 1 counts.now }
+    requires { steps.now ≡ steps_after 1 counts.now }
     ensures { IfOk result (λ digits. digits.items ≡ digits_from 0 counts.now) }
 {
     let mut digits = Vec::new(alloc);

@@ -4,7 +4,7 @@
 ghost use Rattle.std.specs.Prelude.{◌≡◌, ◌≤◌, ◌<◌, ◌+◌, ◌^◌, ℕ, false, true, IfOk};
 ghost use Rattle.std.specs.Prelude.{OnOk, get_or, if◌then◌else◌, length, map};
 ghost use Rattle.gf_nfg.specs.Profiles.{product};
-ghost use Rattle.gf_tree.specs.Game.{IsGame};
+ghost use Rattle.gf_tree.specs.IsGame.{IsGame};
 ghost use Rattle.gf_form.specs.inner.strategies.Counted.{AreCounts};
 ghost use Rattle.gf_form.specs.inner.reduced.Firsts.{AreFirsts, AreFirstsOf};
 ghost use Rattle.gf_form.specs.inner.reduced.OwnDigits.{digits_from};

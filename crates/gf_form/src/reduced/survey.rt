@@ -4,13 +4,13 @@ ghost use Rattle.std.specs.Prelude.{◌≡◌, ◌<◌, ◌+◌, ◌-◌, ◌*�
 ghost use Rattle.std.specs.Prelude.{None, OnOk, Some, get_or, length, if◌then◌else◌};
 ghost use Rattle.gf_tree.specs.Branches.{game_of, tree_of};
 ghost use Rattle.gf_tree.specs.BranchesLeft.{branches_given};
-ghost use Rattle.gf_tree.specs.Game.{IsGame};
+ghost use Rattle.gf_tree.specs.IsGame.{IsGame};
 ghost use Rattle.gf_tree.specs.PrefixOrder.{flatten};
 ghost use Rattle.gf_form.specs.Strategies.{action_counts};
 ghost use Rattle.gf_form.specs.inner.reduced.Relevance.{FindRelevance};
 ghost use Rattle.gf_form.specs.inner.reduced.Survey.{FindsMore, open_size, open_visits};
 ghost use Rattle.gf_form.specs.inner.reduced.Survey.{step_to, survey_size, visit_to, visits_at};
-ghost use Rattle.gf_form.specs.inner.rows.DigitSteps.{steps_behind, width};
+ghost use Rattle.gf_form.specs.inner.rows.DigitSteps.{steps_after, width};
 
 use crate::reduced::digits::step_at;
 use crate::reduced::visits::{Visit, drop_repeats, put_in_order};
@@ -144,7 +144,7 @@ pub(crate) fn visits_in(
     steps: &[u64],
 ) -> Result<Vec<Visit>, AllocError>
     requires is_game { IsGame game.now }
-    requires steps { steps.now ≡ steps_behind 1 (action_counts game.now player) }
+    requires steps { steps.now ≡ steps_after 1 (action_counts game.now player) }
     requires fits { width (action_counts game.now player) < 2 ^ 64 }
     ensures { IfOk result (λ visits. FindRelevance game.now player visits.items) }
 {

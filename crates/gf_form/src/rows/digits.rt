@@ -2,9 +2,10 @@
 //! otherwise the action's position.
 
 ghost use Rattle.std.specs.Prelude.{◌≡◌, ◌≤◌, ◌^◌, ◌++◌, ◌∷◌, ℕ, List, IfOk, IfSome, MatchOption};
-ghost use Rattle.gf_tree.specs.Game.{Game, IsGame};
+ghost use Rattle.gf_tree.specs.Game.{Game};
+ghost use Rattle.gf_tree.specs.IsGame.{IsGame};
 ghost use Rattle.gf_form.specs.inner.strategies.Counted.{AreCounts};
-ghost use Rattle.gf_form.specs.inner.rows.DigitSteps.{steps_behind, width};
+ghost use Rattle.gf_form.specs.inner.rows.DigitSteps.{steps_after, width};
 ghost use Rattle.gf_form.specs.inner.rows.GameDigits.{AreDigitsOf, HasDigits};
 ghost use Rattle.gf_form.specs.inner.rows.ReachedNodes.{demanded};
 
@@ -48,7 +49,7 @@ fn put_digit(
     ensures { IfOk result (λ put. (later : List ℕ) → AreDigitsOf later digits.old.items values
         → MatchOption put (2 ^ 64 ≤ width (actions ∷ later))
         (λ put. AreDigitsOf (actions ∷ later) digits.new.items put.1
-        × (steps_behind 1 (actions ∷ later) ≡ put.0 ∷ steps_behind 1 later))) }
+        × (steps_after 1 (actions ∷ later) ≡ put.0 ∷ steps_after 1 later))) }
 {
     if actions < 2 {
         return Ok(Some((0, values)));
@@ -78,7 +79,7 @@ pub(crate) fn put_digits(
     ensures { IfOk result (λ put. (later : List ℕ) → AreDigitsOf later digits.old.items values
         → MatchOption put (2 ^ 64 ≤ width (actions.now ++ later))
         (λ put. AreDigitsOf (actions.now ++ later) digits.new.items put.1
-        × (put.0.items ++ steps_behind 1 later ≡ steps_behind 1 (actions.now ++ later)))) }
+        × (put.0.items ++ steps_after 1 later ≡ steps_after 1 (actions.now ++ later)))) }
 {
     let mut steps = Vec::with_capacity(alloc, actions.len())?;
     let mut all = values;

@@ -8,7 +8,7 @@ ghost use Rattle.std.specs.Prelude.{◌≡◌, ◌≤◌, ◌++◌, [], ◌∷�
 ghost use Rattle.std.specs.Prelude.{IfOk, MatchOption, OnErr, OnOk, vec_capacity, vec_len};
 ghost use Rattle.gf_tree.specs.Branches.{game_of, tree_of};
 ghost use Rattle.gf_tree.specs.Subtrees.{child_trees, root_node};
-ghost use Rattle.gf_form.specs.inner.rows.PathsLeft.{nodes_behind, nodes_beneath, nodes_by};
+ghost use Rattle.gf_form.specs.inner.rows.PathsLeft.{nodes_after, nodes_beneath, nodes_by};
 ghost use Rattle.gf_form.specs.inner.rows.PathsLeft.{nodes_left};
 ghost use Rattle.gf_form.specs.inner.rows.PathsLeft.{open_nodes, steps_of_paths, turns_left};
 ghost use Rattle.gf_form.specs.inner.rows.ReachedNodes.{by_chance, by_choice, is_sum, met_node};
@@ -194,7 +194,7 @@ impl<'d, 'g, 'a> Paths<'d, 'g, 'a> {
         requires { self.old.next ≡ None }
         ensures same { steps_of_paths self.new ≡ steps_of_paths self.old }
         ensures left { OnOk result (open_nodes (steps_of_paths self.old)
-            (Open.Chance node.entry rest.entry path) ++ nodes_behind self.old
+            (Open.Chance node.entry rest.entry path) ++ nodes_after self.old
             ≡ nodes_left self.new) }
         ensures turns { OnOk result (turns_left self.new ≤ turns_left self.old) }
 
@@ -221,7 +221,7 @@ impl<'d, 'g, 'a> Paths<'d, 'g, 'a> {
         requires { self.old.next ≡ None }
         ensures same { steps_of_paths self.new ≡ steps_of_paths self.old }
         ensures left { OnOk result (open_nodes (steps_of_paths self.old)
-            (Open.Choice rest.entry path step) ++ nodes_behind self.old
+            (Open.Choice rest.entry path step) ++ nodes_after self.old
             ≡ nodes_left self.new) }
         ensures turns { OnOk result (turns_left self.new ≤ turns_left self.old) }
 
@@ -245,7 +245,7 @@ impl<'d, 'g, 'a> Paths<'d, 'g, 'a> {
         ensures left { OnOk result (nodes_by (game_of branch.entry)
             (choices_by (game_of branch.entry) (steps_of_paths self.old)) path step
             (taken path step (length (child_trees (tree_of branch.entry))))
-            (child_trees (tree_of branch.entry)) ++ nodes_behind self.old ≡ nodes_left self.new) }
+            (child_trees (tree_of branch.entry)) ++ nodes_after self.old ≡ nodes_left self.new) }
 
         // It fails only if there was no room.
         ensures full { OnErr result (vec_capacity self.old.«open» ≤ vec_len self.old.«open») }
@@ -267,7 +267,7 @@ impl<'d, 'g, 'a> Paths<'d, 'g, 'a> {
         ensures same { steps_of_paths self.new ≡ steps_of_paths self.old }
         ensures left { OnOk result (nodes_beneath (game_of branch.entry)
             (choices_by (game_of branch.entry) (steps_of_paths self.old)) path
-            (tree_of branch.entry) ++ nodes_behind self.old ≡ nodes_left self.new) }
+            (tree_of branch.entry) ++ nodes_after self.old ≡ nodes_left self.new) }
 
         // It fails only if there was no room.
         ensures full { OnErr result (vec_capacity self.old.«open» ≤ vec_len self.old.«open») }

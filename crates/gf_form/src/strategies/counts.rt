@@ -4,7 +4,8 @@ ghost use Rattle.std.specs.Prelude.{◌≡◌, ◌<◌, ◌≤◌, ◌+◌, IfOk
 ghost use Rattle.gf_token.specs.Positions.{at_position};
 ghost use Rattle.gf_nfg.specs.Limit.{profile_limit};
 ghost use Rattle.gf_nfg.specs.Profiles.{product};
-ghost use Rattle.gf_tree.specs.Game.{Game, IsGame};
+ghost use Rattle.gf_tree.specs.Game.{Game};
+ghost use Rattle.gf_tree.specs.IsGame.{IsGame};
 ghost use Rattle.gf_form.specs.inner.strategies.Counted.{AreCounts};
 ghost use Rattle.gf_form.specs.Refusal.{HasTooManyProfiles};
 ghost use Rattle.gf_form.specs.Strategies.{action_counts, strategies};

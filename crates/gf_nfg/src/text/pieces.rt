@@ -77,7 +77,7 @@ impl TextPieces {
         })
     }
 
-    /// A text and, after it, a line for each of these rows. The line of a row that profiles share is
+    /// A text and, after it, a line for each of these rows. A row that profiles share has its line
     /// made once.
     pub(crate) fn with_rows(
         alloc: Global,

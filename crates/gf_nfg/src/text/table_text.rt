@@ -1,5 +1,4 @@
-//! The canonical text of a table, of which the strategies and the lines of payoffs are made piece by
-//! piece.
+//! The canonical text of a table. Its strategies and its lines of payoffs are made piece by piece.
 
 ghost use Rattle.std.specs.Prelude.{◌≡◌, ◌<◌, ◌++◌, false, true, [], IfOk, length};
 ghost use Rattle.gf_nfg.specs.TableText.{table_text};

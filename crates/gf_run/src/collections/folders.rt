@@ -97,8 +97,8 @@ fn open_folder<R: Files + AllocGlobal>(
 }
 
 /// Adds the file at a path, if it is a game file or was named itself; or opens the folder there,
-/// unless it was visited already. A folder that cannot be read whole is kept as a file, which cannot
-/// be read either.
+/// unless it was visited already. A folder that cannot be read whole is kept as a file, which
+/// cannot be read either.
 fn push_path<R: Files + AllocGlobal>(
     rt: &R,
     path: String,

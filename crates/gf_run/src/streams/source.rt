@@ -90,7 +90,7 @@ fn too_long(which: Which) -> RunFault
 }
 
 /// How many bytes are asked for after this many: no more than one past the limit.
-fn room_behind(len: usize) -> usize
+fn room_after(len: usize) -> usize
     requires { len ≤ limit }
     ensures some { 0 < result }
     ensures within { len + result ≤ limit + 1 }
@@ -115,7 +115,7 @@ pub fn load<R: Source>(alloc: Global, input: &mut R, which: Which) -> Result<Vec
     let mut bytes = Vec::new(alloc);
     let mut buffer = [0; CHUNK];
     loop {
-        let room = room_behind(bytes.len());
+        let room = room_after(bytes.len());
         let count = pull_again(input, &mut buffer[..room], which)?;
         if count == 0 {
             return Ok(bytes);

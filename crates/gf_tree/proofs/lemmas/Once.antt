@@ -15,6 +15,3 @@ ok_or_err r x e h k = cc
 
 pub one_ok : {A E : Type 0} (r : Result A E) (x y : A) → r ≡ Ok x → r ≡ Ok y → x ≡ y
 one_ok r x y h k = cc
-
-pub one_err : {A E : Type 0} (r : Result A E) (d e : E) → r ≡ Err d → r ≡ Err e → d ≡ e
-one_err r d e h k = cc

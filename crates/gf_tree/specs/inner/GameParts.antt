@@ -6,7 +6,8 @@ use Rattle.gf_tree.specs.FiniteMap.{Described}
 use Rattle.gf_tree.specs.Spellable.{IsSpellable}
 use Rattle.gf_tree.specs.declared.game.kept.Stored.{Stored}
 use Rattle.gf_tree.specs.declared.game.parts.Parts.{Parts as StoredParts}
-use Rattle.gf_tree.specs.Game.{Game, IsGame}
+use Rattle.gf_tree.specs.Game.{Game}
+use Rattle.gf_tree.specs.IsGame.{IsGame}
 use Rattle.gf_tree.specs.Subtrees.{child_trees, root_node, subtree_at, subtree_sizes}
 use Rattle.gf_tree.specs.Description.{SetKey, InformationSet, Outcome}
 use Rattle.gf_tree.specs.FirstUse.{first_use_numbers}

@@ -241,14 +241,14 @@ abbrev pub begun : List ℕ → SetKey → InformationSet → Begun
 begun name key set = record { name = name; set = Some key; children = length set.actions }
 
 -- after the number of a set
-abbrev pub behind_set : List ℕ → SetKey → Option InformationSet → Position
-behind_set name key None = NewSetName name key
-behind_set name key (Some set) = KnownSetName name key set
+abbrev pub past_set : List ℕ → SetKey → Option InformationSet → Position
+past_set name key None = NewSetName name key
+past_set name key (Some set) = KnownSetName name key set
 
 abbrev pub set_number : Content → List ℕ → ℕ → Option ℕ → Result State Why
 set_number c name player None = Err BadIndex
 set_number c name player (Some n) =
-    Ok (at (behind_set name (set_of player n) (description_at same_set c.sets (set_of player n))) c)
+    Ok (at (past_set name (set_of player n) (description_at same_set c.sets (set_of player n))) c)
 
 abbrev pub with_action : InformationSet → List ℕ → Option Ratio → InformationSet
 with_action set label p =
@@ -281,20 +281,20 @@ new_set_ends c name key set [] sum = Err NoEntry
 new_set_ends c name key set (action ∷ actions) sum = set_ends c name key.player key.number set sum
 
 -- after the label of a known action
-abbrev pub behind_label : Begun → Option Ratio → List Action → Position
-behind_label b None actions = KnownAction b actions
-behind_label b (Some p) actions = KnownProbability b p actions
+abbrev pub past_label : Begun → Option Ratio → List Action → Position
+past_label b None actions = KnownAction b actions
+past_label b (Some p) actions = KnownProbability b p actions
 
 -- after the number of an outcome
-abbrev pub behind_outcome : Content → Begun → ℕ → Option Outcome → State
-behind_outcome c b n None = at (NewOutcomeName b n) c
-behind_outcome c b n (Some outcome) = at (KnownOutcomeName outcome) (with_node c b (Some n))
+abbrev pub past_outcome : Content → Begun → ℕ → Option Outcome → State
+past_outcome c b n None = at (NewOutcomeName b n) c
+past_outcome c b n (Some outcome) = at (KnownOutcomeName outcome) (with_node c b (Some n))
 
 abbrev pub outcome_number : Content → Begun → Option ℕ → Result State Why
 outcome_number c b None = Err BadIndex
 outcome_number c b (Some zero) = Ok (at NodeDue (with_node c b None))
 outcome_number c b (Some (suc k)) =
-    Ok (behind_outcome c b (suc k) (description_at nat_eq c.outcomes (suc k)))
+    Ok (past_outcome c b (suc k) (description_at nat_eq c.outcomes (suc k)))
 
 abbrev pub with_payoff : Outcome → Ratio → Outcome
 with_payoff outcome p = record outcome { payoffs = outcome.payoffs ++ p ∷ [] }
@@ -341,7 +341,7 @@ taken (KnownSetOpening b actions) c Opening = Ok (at (KnownAction b actions) c)
 taken (KnownAction b []) c (Text label) = Err Mismatch
 taken (KnownAction b []) c Closing = Ok (at (OutcomeNumber b) c)
 taken (KnownAction b (a ∷ others)) c (Text label) =
-    same_text a.label label (at (behind_label b a.probability others) c)
+    same_text a.label label (at (past_label b a.probability others) c)
 taken (KnownAction b (a ∷ others)) c Closing = Err Mismatch
 taken (KnownProbability b p others) c (Bare t) =
     same_number p (at (KnownAction b others) c) (number_of t)

@@ -122,8 +122,8 @@ abbrev pub with_nodes : List (Entry Node) → Result Content Fault → Result Co
 with_nodes nodes (Ok c) = Ok (with_front nodes c)
 with_nodes nodes (Err fault) = Err fault
 
-abbrev pub behind : List (Entry Node) → Answer → Answer
-behind nodes a = record { input = a.input; machine = with_nodes nodes a.machine }
+abbrev pub after_nodes : List (Entry Node) → Answer → Answer
+after_nodes nodes a = record { input = a.input; machine = with_nodes nodes a.machine }
 
 -- the children of a node that was told are due in its place, if its set has this position
 abbrev pub with_children : Reader → ℕ → Reader
@@ -135,7 +135,7 @@ pub record TellsNode {T : Type 0} (holds : T → T → Heading → List Told →
   pub goes : (q : Position) → heard q (with_node (content_of old)
       (begun_with old.sets.known node.name node.set)
       (option_map (λ o. o.key) (at_position old.outcomes.known node.outcome))) old.tokens
-      ≡ behind (entry_with new.sets.known new.outcomes.known node ∷ [])
+      ≡ after_nodes (entry_with new.sets.known new.outcomes.known node ∷ [])
       (answer q (with_children new node.set))
   pub kept : new ≡ record old { told_sets = new.told_sets; told_outcomes = new.told_outcomes }
   pub told : (untold : T) (heading : Heading) (told : List Told) → holds untold from heading told
@@ -149,7 +149,7 @@ pub record Tells {T : Type 0} (holds : T → T → Heading → List Told → Typ
     (before : Answer) (old new : Reader) (from to : T) : Type 0 where
   pub node : Kept
   pub of_set : node.set ≡ set
-  pub goes : before ≡ behind (entry_with new.sets.known new.outcomes.known node ∷ [])
+  pub goes : before ≡ after_nodes (entry_with new.sets.known new.outcomes.known node ∷ [])
       (answer NodeDue (with_children new set))
   pub placed : IsAmong (length new.sets.known) (length new.outcomes.known) node
   pub told : (untold : T) (heading : Heading) (told : List Told) → holds untold from heading told
@@ -174,7 +174,7 @@ pub record HasTold {T : Type 0} (holds : T → List Told → Type 0) (r : Reader
 pub record HasRead {T : Type 0} (holds : T → List Told → Type 0) (before : Answer) (q : Position)
     (r : Reader) (to : T) : Type 0 where
   pub nodes : List Kept
-  pub goes : before ≡ behind (entries_with r.sets.known r.outcomes.known nodes) (answer q r)
+  pub goes : before ≡ after_nodes (entries_with r.sets.known r.outcomes.known nodes) (answer q r)
   pub has_told : HasTold holds r to nodes
 
 -- with them it has come from that answer to the end

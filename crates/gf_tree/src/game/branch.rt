@@ -23,8 +23,9 @@ impl<'g, 'a> Branch<'g, 'a> {
     ghost use Rattle.gf_tree.specs.Actions.{actions_of};
     ghost use Rattle.gf_tree.specs.Branches.{game_of, tree_of};
     ghost use Rattle.gf_tree.specs.BranchesLeft.{branches_given, branches_left, game_of_branches};
-    ghost use Rattle.gf_tree.specs.FirstUse.{outcome_numbers};
-    ghost use Rattle.gf_tree.specs.Game.{IsGame, set_at};
+    ghost use Rattle.gf_tree.specs.KeysInOrder.{outcome_numbers};
+    ghost use Rattle.gf_tree.specs.Game.{set_at};
+    ghost use Rattle.gf_tree.specs.IsGame.{IsGame};
     ghost use Rattle.gf_tree.specs.Movers.{IsMover};
     ghost use Rattle.gf_tree.specs.NodeOf.{node_of};
     ghost use Rattle.gf_tree.specs.OutcomePositions.{position_among};

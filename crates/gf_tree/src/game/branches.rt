@@ -67,7 +67,7 @@ impl<'g, 'a> Iterator for Branches<'g, 'a> {
             game,
             at: self.at,
             before: self.before + 1,
-            place: game.place_behind(self.place),
+            place: game.place_after(self.place),
         };
         Some(branch)
     }

@@ -3,7 +3,7 @@
 ghost use Rattle.std.specs.Prelude.{◌≡◌};
 ghost use Rattle.gf_tree.specs.FileNodes.{file_nodes};
 ghost use Rattle.gf_tree.specs.FirstUse.{first_use_numbers};
-ghost use Rattle.gf_tree.specs.Game.{IsGame};
+ghost use Rattle.gf_tree.specs.IsGame.{IsGame};
 ghost use Rattle.gf_tree.specs.inner.GameParts.{IsListed, game_with, parts_of};
 ghost use Rattle.gf_tree.specs.Renumbering.{renumbered};
 ghost use Rattle.gf_tree.specs.Spellable.{IsSpellable};

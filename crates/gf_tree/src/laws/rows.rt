@@ -8,13 +8,13 @@ ghost use Rattle.gf_token.specs.Token.Token.{Bare};
 ghost use Rattle.gf_token.specs.Place.{Begins};
 ghost use Rattle.gf_token.specs.declared.fault.What.TheVariants as what;
 ghost use Rattle.gf_tree.specs.Description.{Action, InformationSet, Outcome, SetKey, set_of};
-ghost use Rattle.gf_tree.specs.Front.{BehindOutcomeNumber, BehindSetNumber, InActions};
+ghost use Rattle.gf_tree.specs.Front.{PastOutcomeNumber, PastSetNumber, InActions};
 ghost use Rattle.gf_tree.specs.Front.{IsExtensiveFile, IsNewOutcome, IsNewSet, KnowsOutcome};
 ghost use Rattle.gf_tree.specs.Front.{KnowsSet, ToProbability, ToSetNumber};
 ghost use Rattle.gf_tree.specs.Reason.{GoesOnWith, HasSum};
-ghost use Rattle.gf_tree.specs.RowPlaces.{BehindComment, BehindLetter, BehindNode};
-ghost use Rattle.gf_tree.specs.RowPlaces.{BehindOutcomeName, BehindPayoff, BehindPlayers};
-ghost use Rattle.gf_tree.specs.RowPlaces.{BehindSet, BehindSetName, BehindZero, FileFront};
+ghost use Rattle.gf_tree.specs.RowPlaces.{PastComment, PastLetter, PastNode};
+ghost use Rattle.gf_tree.specs.RowPlaces.{PastOutcomeName, PastPayoff, PastPlayers};
+ghost use Rattle.gf_tree.specs.RowPlaces.{PastSet, PastSetName, PastZero, FileFront};
 ghost use Rattle.gf_tree.specs.RowPlaces.{InPlayers, ToPayoff, ToPlayerNumber, ToPlayers, ToTitle};
 ghost use Rattle.gf_tree.specs.Rows.{Obeys, a_closing, a_first_name, a_letter, a_new_action};
 ghost use Rattle.gf_tree.specs.Rows.{a_new_branch, a_node, a_payoff, a_player, a_player_name};
@@ -40,21 +40,21 @@ pub fn heading()
     ensures in_players { (before : List Token) (players : List (List ℕ)) → InPlayers before players
         → Obeys before a_player_name }
     ensures after_players { (before : List Token) (players : List (List ℕ))
-        → BehindPlayers before players
+        → PastPlayers before players
         → Obeys before (or_text (a_node (length players))) }
     ensures after_comment { (before : List Token) (players : List (List ℕ))
-        → BehindComment before players → Obeys before (a_node (length players)) }
+        → PastComment before players → Obeys before (a_node (length players)) }
 {}
 
 /// At a node: after the last node of all the end is due, and after any other a node; then its name,
 /// and the number of the player who moves.
 #[tactic(auto, using(crate::proofs::lemmas::fronts::LawsOfRows::node_rows))]
 pub fn nodes()
-    ensures after_node { (f : FileFront) → BehindNode f.front → ¬ (IsExtensiveFile f.before)
+    ensures after_node { (f : FileFront) → PastNode f.front → ¬ (IsExtensiveFile f.before)
         → Obeys f.before (a_node (length f.players)) }
-    ensures after_last_node { (f : FileFront) → BehindNode f.front → IsExtensiveFile f.before
+    ensures after_last_node { (f : FileFront) → PastNode f.front → IsExtensiveFile f.before
         → Obeys f.before an_end }
-    ensures node_name { (f : FileFront) → BehindLetter f.front → Obeys f.before a_text }
+    ensures node_name { (f : FileFront) → PastLetter f.front → Obeys f.before a_text }
     ensures player { (f : FileFront) → ToPlayerNumber f.front
         → Obeys f.before (a_player (length f.players)) }
 {}
@@ -66,13 +66,13 @@ pub fn nodes()
 pub fn sets()
     ensures set_number { (f : FileFront) (player : ℕ) → ToSetNumber f.front player
         → Obeys f.before a_set }
-    ensures new_set { (f : FileFront) (key : SetKey) → BehindSetNumber f.front key
+    ensures new_set { (f : FileFront) (key : SetKey) → PastSetNumber f.front key
         → IsNewSet f.nodes key
         → Obeys f.before a_first_name }
     ensures known_set { (f : FileFront) (key : SetKey) (set : InformationSet)
-        → BehindSetNumber f.front key
+        → PastSetNumber f.front key
         → KnowsSet f.nodes key set → Obeys f.before (or_name set.name an_outcome) }
-    ensures set_opening { (f : FileFront) (key : SetKey) → BehindSetName f.front key
+    ensures set_opening { (f : FileFront) (key : SetKey) → PastSetName f.front key
         → Obeys f.before an_opening }
     ensures new_action { (f : FileFront) (key : SetKey) (set : InformationSet)
         → InActions f.front key set
@@ -101,16 +101,16 @@ pub fn sets()
 /// its name, which if the outcome is known may be missing; and its payoffs in braces.
 #[tactic(auto, using(crate::proofs::lemmas::fronts::LawsOfRows::outcome_rows))]
 pub fn outcomes()
-    ensures outcome_number { (f : FileFront) → BehindSet f.front → Obeys f.before an_outcome }
-    ensures after_outcome_zero { (f : FileFront) → BehindZero f.front
+    ensures outcome_number { (f : FileFront) → PastSet f.front → Obeys f.before an_outcome }
+    ensures after_outcome_zero { (f : FileFront) → PastZero f.front
         → Obeys f.before an_end ⊎ Obeys f.before (a_node (length f.players)) }
-    ensures new_outcome { (f : FileFront) (number : ℕ) → BehindOutcomeNumber f.front number
+    ensures new_outcome { (f : FileFront) (number : ℕ) → PastOutcomeNumber f.front number
         → IsNewOutcome f.nodes number → Obeys f.before a_first_name }
     ensures known_outcome { (f : FileFront) (number : ℕ) (outcome : Outcome)
-        → BehindOutcomeNumber f.front number
+        → PastOutcomeNumber f.front number
         → KnowsOutcome f.nodes number outcome → Obeys f.before (or_name outcome.name an_end)
         ⊎ Obeys f.before (or_name outcome.name (a_node (length f.players))) }
-    ensures outcome_opening { (f : FileFront) (number : ℕ) → BehindOutcomeName f.front number
+    ensures outcome_opening { (f : FileFront) (number : ℕ) → PastOutcomeName f.front number
         → Obeys f.before an_opening }
 {}
 
@@ -128,15 +128,15 @@ pub fn payoffs()
         → KnowsOutcome f.nodes number outcome → outcome.payoffs ≡ payoffs ++ p ∷ others
         → Obeys f.before (this_number p) }
     ensures after_braced_payoff { (f : FileFront) (number : ℕ) (payoffs : List Ratio)
-        → BehindPayoff f.front number payoffs → IsNewOutcome f.nodes number
+        → PastPayoff f.front number payoffs → IsNewOutcome f.nodes number
         → length payoffs < length f.players → Obeys f.before (or_comma a_payoff) }
     ensures after_braced_payoff_again { (f : FileFront) (number : ℕ) (payoffs : List Ratio)
         (outcome : Outcome)
-        (p : Ratio) (others : List Ratio) → BehindPayoff f.front number payoffs
+        (p : Ratio) (others : List Ratio) → PastPayoff f.front number payoffs
         → KnowsOutcome f.nodes number outcome → outcome.payoffs ≡ payoffs ++ p ∷ others
         → Obeys f.before (or_comma (this_number p)) }
     ensures after_last_payoff { (f : FileFront) (number : ℕ) (payoffs : List Ratio)
-        → BehindPayoff f.front number payoffs → length payoffs ≡ length f.players
+        → PastPayoff f.front number payoffs → length payoffs ≡ length f.players
         → Obeys f.before (or_comma a_closing) }
     ensures no_payoff { (f : FileFront) (number : ℕ) (payoffs : List Ratio)
         → ToPayoff f.front number payoffs → length payoffs ≡ length f.players

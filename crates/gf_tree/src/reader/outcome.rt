@@ -10,7 +10,7 @@ ghost use Rattle.gf_tree.specs.Description.{Outcome};
 ghost use Rattle.gf_tree.specs.FiniteMap.{description_at};
 ghost use Rattle.gf_tree.specs.inner.FoundSet.{FoundOutcome};
 ghost use Rattle.gf_tree.specs.Description.{outcome_with};
-ghost use Rattle.gf_tree.specs.inner.Machine.{Begun, Content, behind_outcome, with_outcome};
+ghost use Rattle.gf_tree.specs.inner.Machine.{Begun, Content, past_outcome, with_outcome};
 ghost use Rattle.gf_tree.specs.inner.Machine.Position.{KnownOutcomeName, NewOutcomeName};
 ghost use Rattle.gf_tree.specs.inner.Machine.Position.{NewPayoff, NodeDue, OutcomeNumber};
 ghost use Rattle.gf_tree.specs.inner.ReaderState.{answer, begun_with, content_of};
@@ -170,7 +170,7 @@ impl<'a> Reader<'a> {
         requires set { set ≤ length self.old.sets.known }
         requires stands { StandsBefore self.old.tokens stands }
         ensures { GoesTelling R.holds result (λ _. set)
-            (heard_from (behind_outcome (content_of self.old)
+            (heard_from (past_outcome (content_of self.old)
             (begun_with self.old.sets.known (label_of node.entry) set) number
             (description_at nat_eq self.old.outcomes.known number)) self.old.tokens)
             self.old self.new to.old to.new }

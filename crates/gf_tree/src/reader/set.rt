@@ -12,7 +12,7 @@ ghost use Rattle.gf_tree.specs.Description.{same_set, set_of};
 ghost use Rattle.gf_tree.specs.FiniteMap.{description_at};
 ghost use Rattle.gf_tree.specs.inner.FoundSet.{FoundSet};
 ghost use Rattle.gf_tree.specs.Description.{set_with};
-ghost use Rattle.gf_tree.specs.inner.Machine.{begun, behind_set, with_set};
+ghost use Rattle.gf_tree.specs.inner.Machine.{begun, past_set, with_set};
 ghost use Rattle.gf_tree.specs.inner.Machine.Position.{NewAction, NewProbability, NewSetName};
 ghost use Rattle.gf_tree.specs.inner.Machine.Position.{OutcomeNumber, SetNumber};
 ghost use Rattle.gf_tree.specs.inner.ReaderState.{answer, begun_with, with_text, content_of, Fails};
@@ -148,7 +148,7 @@ impl<'a> Reader<'a> {
     ) -> Result<u32, Fault>
         requires absent { position (same_set (set_of player number))
             (map (λ s. s.key) self.old.sets.known) ≡ None }
-        requires behind { starts is_text_token self.old.tokens.ahead ≡ false }
+        requires no_text { starts is_text_token self.old.tokens.ahead ≡ false }
         ensures machine { (node : List ℕ) → MatchResult result
             (λ place. answer (NewAction node (set_of player number)
             (set_with (label_of name.entry) self.old.sets.pending) sum) self.old
@@ -204,10 +204,10 @@ impl<'a> Reader<'a> {
     #[inline(never)]
     fn described_set(&mut self, player: u32, number: u32) -> Result<u32, Fault>
         ensures machine { (node : List ℕ) → MatchResult result
-            (λ place. answer (behind_set node (set_of player number)
+            (λ place. answer (past_set node (set_of player number)
             (description_at same_set self.old.sets.known (set_of player number))) self.old
             ≡ answer (OutcomeNumber (begun_with self.new.sets.known node (place + 1))) self.new)
-            (λ f. Fails f (answer (behind_set node (set_of player number)
+            (λ f. Fails f (answer (past_set node (set_of player number)
             (description_at same_set self.old.sets.known (set_of player number))) self.old)) }
         ensures read { OnOk result (ReadsSet self.old self.new) }
         ensures place { IfOk result (λ place. place < length self.new.sets.known) }

@@ -1,7 +1,7 @@
 -- The nodes of a game without its names are its nodes without theirs.
 use Rattle.gf_canon.proofs.Common.{arith, ◌≡◌, List, [], ◌∷◌, ◌++◌, map, Option, Some, None, refl}
 use Rattle.gf_canon.proofs.Common.{sym, ap, ◌∙◌, nat_eq, option_map, filter_map, map-append}
-use Rattle.gf_canon.proofs.Common.{same_set, set_of, file_nodes, node_behind, use_behind, FileNode}
+use Rattle.gf_canon.proofs.Common.{same_set, set_of, file_nodes, node_after, use_after, FileNode}
 use Rattle.gf_canon.proofs.Common.{Use, first_use_number, first_use_numbers, sets_of, Game, Node}
 use Rattle.gf_canon.proofs.Common.{outcome_at, set_at, Entry, flatten, Renumbering, renumbered}
 use Rattle.gf_canon.proofs.Common.{renumbered_node, flatten_map, map_entry, map_tree_twice}
@@ -12,7 +12,7 @@ use Rattle.std.proofs.lemmas.Iterator.Adapters.{option_map_id}
 use Rattle.std.proofs.lemmas.List.{map-id}
 use Rattle.gf_canon.proofs.lemmas.sameness.Unnamed.{keys_still, unnamed_outcome_at}
 use Rattle.gf_canon.proofs.lemmas.sameness.Unnamed.{unnamed_outcomes, unnamed_set_at, unnamed_sets}
-use Rattle.gf_canon.proofs.lemmas.texts.FileOf.{entries_behind, file_nodes_are}
+use Rattle.gf_canon.proofs.lemmas.texts.FileOf.{entries_after, file_nodes_are}
 
 -- ---- with names
 
@@ -32,14 +32,14 @@ node_kept n = λ i. record {
 
 use_aside : {K D : Type 0} (same : K → K → Bool) (f : D → D) (had bare : K → Option D)
     → ((k : K) → bare k ≡ option_map f (had k)) → (before : List K) (o : Option K)
-    → option_map (use_behind same bare before) o
-    ≡ option_map (use_by f) (option_map (use_behind same had before) o)
+    → option_map (use_after same bare before) o
+    ≡ option_map (use_by f) (option_map (use_after same had before) o)
 use_aside same f had bare are before None = refl
 use_aside same f had bare are before (Some k) = grind (arith, are k)
 
 node_aside : (g : Game) (before : List (Entry Node)) (n : Node)
-    → node_behind (unnamed_game g) (map (map_entry unnamed_node) before) (unnamed_node n)
-    ≡ node_by Aside (node_behind g before n)
+    → node_after (unnamed_game g) (map (map_entry unnamed_node) before) (unnamed_node n)
+    ≡ node_by Aside (node_after g before n)
 node_aside g before n =
     let set = use_aside same_set (set_by Aside) (set_at g) (set_at (unnamed_game g))
     (unnamed_set_at g) (filter_map (λ (e : Entry Node). e.node.set) before) n.set in
@@ -49,13 +49,13 @@ node_aside g before n =
     (λ i. record { name = []; set = set i; outcome = outcome i })
 
 nodes_of_all : (g : Game) (before es : List (Entry Node))
-    → map (λ e. e.node) (entries_behind (unnamed_game g) (map (map_entry unnamed_node) before)
+    → map (λ e. e.node) (entries_after (unnamed_game g) (map (map_entry unnamed_node) before)
     (map (map_entry unnamed_node) es))
-    ≡ map (node_by Aside) (map (λ e. e.node) (entries_behind g before es))
+    ≡ map (node_by Aside) (map (λ e. e.node) (entries_after g before es))
 nodes_of_all g before [] = refl
 nodes_of_all g before (e ∷ es) =
     let rest = ap (λ b. map (λ (d : Entry FileNode). d.node)
-    (entries_behind (unnamed_game g) b (map (map_entry unnamed_node) es)))
+    (entries_after (unnamed_game g) b (map (map_entry unnamed_node) es)))
     (sym (map-append (map_entry unnamed_node) before (e ∷ [])))
     ∙ nodes_of_all g (before ++ e ∷ []) es in
     λ i. node_aside g before e.node i ∷ rest i
@@ -64,7 +64,7 @@ file_nodes_aside : (g : Game)
     → file_nodes (unnamed_game g) ≡ map (node_by Aside) (file_nodes g)
 file_nodes_aside g =
     file_nodes_are (unnamed_game g)
-    ∙ ap (λ es. map (λ (d : Entry FileNode). d.node) (entries_behind (unnamed_game g) [] es))
+    ∙ ap (λ es. map (λ (d : Entry FileNode). d.node) (entries_after (unnamed_game g) [] es))
     (flatten_map unnamed_node g.tree)
     ∙ nodes_of_all g [] (flatten g.tree)
     ∙ ap (map (node_by Aside)) (sym (file_nodes_are g))

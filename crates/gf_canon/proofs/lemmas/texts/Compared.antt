@@ -2,7 +2,7 @@
 use Rattle.gf_canon.proofs.Common.{◌≡◌, ℕ, Bool, List, Result, Ok, Err, IfErr, IfOk, MatchResult}
 use Rattle.gf_canon.proofs.Common.{subst, ◌↔◌, IsTrue, GameFile, SameFile, SpellsFile}
 use Rattle.gf_canon.proofs.Common.{IsCanonicalText, MeansFile, SpellsWithin, SameBy, Names, Kept}
-use Rattle.gf_canon.specs.Sameness.{AreRefusedWith, WantsMemory}
+use Rattle.gf_canon.specs.Sameness.{AreRefusedWith, LacksMemory}
 use Rattle.gf_canon.specs.declared.sameness.SameFault.{SameFault}
 use Rattle.gf_canon.specs.declared.sameness.SameFault.TheVariants.{First, Second, Memory}
 use Rattle.gf_canon.proofs.lemmas.files.Texts.{is_game_file, spells_one_file}
@@ -20,7 +20,7 @@ same_as_read names answer a b first second of_a of_b same x y of_x of_y =
 
 -- files that both mean something are refused only for lack of memory
 memory_alone : (a b : List ℕ) (fault : SameFault) (x y : GameFile) → SpellsWithin a x
-    → SpellsWithin b y → AreRefusedWith a b fault → WantsMemory fault
+    → SpellsWithin b y → AreRefusedWith a b fault → LacksMemory fault
 memory_alone a b (First fault) x y of_x of_y refused = refused.unless_memory x of_x
 memory_alone a b (Second fault) x y of_x of_y refused = refused.1.unless_memory y of_y
 memory_alone a b Memory x y of_x of_y refused = tt
@@ -32,7 +32,7 @@ pub same_as_first : (names : Names) (result : Result Bool SameFault) (a b : List
     × (IsTrue answer ↔ SameBy names first y))
     → IfErr result (λ fault. (bytes : List ℕ) → MeansFile bytes → AreRefusedWith bytes b fault)
     → (x y : GameFile) → SpellsWithin a x → SpellsWithin b y
-    → MatchResult result (λ answer. IsTrue answer ↔ SameBy names x y) WantsMemory
+    → MatchResult result (λ answer. IsTrue answer ↔ SameBy names x y) LacksMemory
 same_as_first names (Ok answer) a b first of_first same refused x y of_x of_y =
     same_as_read names answer a b first same.0 of_first same.1 same.2 x y of_x of_y
 same_as_first names (Err fault) a b first of_first same refused x y of_x of_y =
@@ -48,7 +48,7 @@ same_as_itself names a b equal x y of_x of_y = subst (SameBy names x)
 
 pub same_as_texts : (result : Result Bool SameFault) (a b s t : List ℕ)
     → (p : IsCanonicalText a s) → (q : IsCanonicalText b t)
-    → MatchResult result (λ answer. IsTrue answer ↔ SameFile p.file q.file) WantsMemory
+    → MatchResult result (λ answer. IsTrue answer ↔ SameFile p.file q.file) LacksMemory
     → IfOk result (λ answer. IsTrue answer ↔ (s ≡ t))
 same_as_texts (Ok answer) a b s t p q same =
     let texts = equal_texts_by Kept a b s t p q p.file q.file p.spelled q.spelled in

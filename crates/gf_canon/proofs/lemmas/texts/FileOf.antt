@@ -9,8 +9,8 @@ use Rattle.gf_canon.proofs.Common.{AreConsistent, IsDescribed, IsFirstUse, Node,
 use Rattle.gf_canon.proofs.Common.{used_sets, used_outcomes, set_at, outcome_at, keys_alone, Has}
 use Rattle.gf_canon.proofs.Common.{IsEquality, has, contains, has_map, all_of_each, has_place}
 use Rattle.gf_canon.proofs.Common.{found, first_uses_distinct, same_set_equality, map_entry}
-use Rattle.gf_canon.proofs.Common.{flatten_map, map_twice, with_those_before, use_behind}
-use Rattle.gf_canon.proofs.Common.{node_behind, file_nodes, append-nil}
+use Rattle.gf_canon.proofs.Common.{flatten_map, map_twice, with_those_before, use_after}
+use Rattle.gf_canon.proofs.Common.{node_after, file_nodes, append-nil}
 use Rattle.std.proofs.lemmas.List.Folds.{list_any-append}
 use Rattle.std.proofs.lemmas.List.Elements.{filter_map-append}
 use Rattle.gf_tree.specs.Tree.{map_tree}
@@ -25,26 +25,26 @@ use Rattle.gf_canon.specs.FirstDescribed.{DescribeFirstUses, IsFileOf}
 
 module _ {K D : Type 0} (same : K → K → Bool) (at : K → Option D) where
   -- the uses of these keys after those
-  abbrev pub uses_behind : List K → List K → List (Use K D)
-  uses_behind before [] = []
-  uses_behind before (key ∷ keys) =
-      use_behind same at before key ∷ uses_behind (before ++ key ∷ []) keys
+  abbrev pub uses_after : List K → List K → List (Use K D)
+  uses_after before [] = []
+  uses_after before (key ∷ keys) =
+      use_after same at before key ∷ uses_after (before ++ key ∷ []) keys
 
-  uses_keys : (before keys : List K) → map (λ u. u.key) (uses_behind before keys) ≡ keys
+  uses_keys : (before keys : List K) → map (λ u. u.key) (uses_after before keys) ≡ keys
   uses_keys before [] = refl
   uses_keys before (key ∷ keys) = cc (uses_keys (before ++ key ∷ []) keys)
 
   -- what a use says is what is at its key
   use_says : (before keys : List K) (key : K) (d : D)
-      → Has (uses_behind before keys) (record { key = key; description = Some d }) → at key ≡ Some d
+      → Has (uses_after before keys) (record { key = key; description = Some d }) → at key ≡ Some d
   use_says before [] key d h = absurd h
   use_says before (k ∷ keys) key d (inl e) = grind arith
   use_says before (k ∷ keys) key d (inr h) = use_says (before ++ k ∷ []) keys key d h
 
   -- a use is that of its key after the keys before it
   use_at_place : (before keys : List K) (front after : List (Use K D)) (u : Use K D)
-      → uses_behind before keys ≡ front ++ u ∷ after
-      → u ≡ use_behind same at (before ++ map (λ v. v.key) front) u.key
+      → uses_after before keys ≡ front ++ u ∷ after
+      → u ≡ use_after same at (before ++ map (λ v. v.key) front) u.key
   use_at_place before [] [] after u e = absurd cc
   use_at_place before [] (v ∷ front) after u e = absurd cc
   use_at_place before (k ∷ keys) [] after u e = grind (arith, append-nil)
@@ -53,7 +53,7 @@ module _ {K D : Type 0} (same : K → K → Bool) (at : K → Option D) where
 
   -- a described use is that of a new key
   new_where_described : (before : List K) (key : K) (d : D)
-      → (use_behind same at before key).description ≡ Some d → list_any (same key) before ≡ false
+      → (use_after same at before key).description ≡ Some d → list_any (same key) before ≡ false
   new_where_described before key d e = grind arith
 
 -- the first use of a key is that of a new key
@@ -72,23 +72,23 @@ module _ {K D : Type 0} (same : K → K → Bool) (equality : IsEquality same) (
   -- a new key is described
   new_described : (before keys : List K) (key : K) (d : D) → Has keys key → at key ≡ Some d
       → list_any (same key) before ≡ false
-      → Has (uses_behind same at before keys) (record { key = key; description = Some d })
+      → Has (uses_after same at before keys) (record { key = key; description = Some d })
   new_described before [] key d h e new = absurd h
   new_described before (k ∷ keys) key d h e new =
       let more = new_described (before ++ k ∷ []) keys key d in
       grind (arith, list_any-append, equality)
 
   key_described : (keys : List K) (key : K) (d : D) → Has keys key → at key ≡ Some d
-      → Describes (uses_behind same at [] keys) key d
+      → Describes (uses_after same at [] keys) key d
   key_described keys key d h e =
-      contains (uses_behind same at [] keys) _ (new_described [] keys key d h e refl)
+      contains (uses_after same at [] keys) _ (new_described [] keys key d h e refl)
 
   first_is_described : (keys : List K) → ((k : K) → Has keys k → (d : D) × (at k ≡ Some d))
       → (front after : List (Use K D)) (u : Use K D)
-      → uses_behind same at [] keys ≡ front ++ u ∷ after → IsFirstUse front u → IsDescribed u
+      → uses_after same at [] keys ≡ front ++ u ∷ after → IsFirstUse front u → IsDescribed u
   first_is_described keys known front after u e first =
       let used = subst (λ ks. Has ks u.key) (uses_keys same at [] keys)
-      (has_map (λ (v : Use K D). v.key) (uses_behind same at [] keys) u
+      (has_map (λ (v : Use K D). v.key) (uses_after same at [] keys) u
       (subst (λ us. Has us u) (sym e) (has_place front after u))) in
       let d = known u.key used in (
         d.0,
@@ -97,17 +97,17 @@ module _ {K D : Type 0} (same : K → K → Bool) (equality : IsEquality same) (
       )
 
   uses_consistent : (keys : List K) → ((k : K) → Has keys k → (d : D) × (at k ≡ Some d))
-      → AreConsistent (uses_behind same at [] keys)
+      → AreConsistent (uses_after same at [] keys)
   uses_consistent keys known = record {
     first_described = first_is_described keys known;
     described_alike = λ key c d h k.
-        let p = use_says same at [] keys key c (has (uses_behind same at [] keys) _ h) in
-        let q = use_says same at [] keys key d (has (uses_behind same at [] keys) _ k) in
+        let p = use_says same at [] keys key c (has (uses_after same at [] keys) _ h) in
+        let q = use_says same at [] keys key d (has (uses_after same at [] keys) _ k) in
         cc;
   }
 
   first_uses_described : (keys : List K) → ((k : K) → Has keys k → (d : D) × (at k ≡ Some d))
-      → DescribeFirstUses (uses_behind same at [] keys)
+      → DescribeFirstUses (uses_after same at [] keys)
   first_uses_described keys known front after u e = (
     λ told. none_of_them same equality front u (new_where_described same at
         (map (λ (v : Use K D). v.key) front) u.key told.0
@@ -124,20 +124,20 @@ module _ {K D : Type 0} (same : K → K → Bool) (equality : IsEquality same) (
       (f.description, f.is_at)
 
   told : (e : Described K D) → Has es e
-      → Describes (uses_behind same (description_at same es) [] keys) e.key e.description
+      → Describes (uses_after same (description_at same es) [] keys) e.key e.description
   told e h =
       key_described same equality (description_at same es) keys e.key e.description
       (entry_used same keys es e entries h)
       (entry_at same equality es e (rw entries (first_uses_distinct same equality keys)) h)
 
-  map_learned : (us : List (Use K D)) → us ≡ uses_behind same (description_at same es) [] keys
+  map_learned : (us : List (Use K D)) → us ≡ uses_after same (description_at same es) [] keys
       → Learns same [] us es × DescribeFirstUses us
   map_learned us is = subst (λ vs. Learns same [] vs es × DescribeFirstUses vs) (sym is) (
-    (learned_once same equality (uses_behind same (description_at same es) [] keys) es).1 (
+    (learned_once same equality (uses_after same (description_at same es) [] keys) es).1 (
       uses_consistent same equality (description_at same es) keys known,
       entries ∙ ap (first_uses same) (sym (uses_keys same (description_at same es) [] keys)),
       all_of_each (λ (e : Described K D).
-          Describes (uses_behind same (description_at same es) [] keys) e.key e.description) es
+          Describes (uses_after same (description_at same es) [] keys) e.key e.description) es
           told,
     ),
     first_uses_described same equality (description_at same es) keys known,
@@ -146,27 +146,27 @@ module _ {K D : Type 0} (same : K → K → Bool) (equality : IsEquality same) (
 -- ---- entries
 
 -- the entries after those, one after another
-abbrev pub entries_behind : Game → List (Entry Node) → List (Entry Node) → List (Entry FileNode)
-entries_behind g before [] = []
-entries_behind g before (e ∷ es) =
-    record { node = node_behind g before e.node; children = e.children }
-    ∷ entries_behind g (before ++ e ∷ []) es
+abbrev pub entries_after : Game → List (Entry Node) → List (Entry Node) → List (Entry FileNode)
+entries_after g before [] = []
+entries_after g before (e ∷ es) =
+    record { node = node_after g before e.node; children = e.children }
+    ∷ entries_after g (before ++ e ∷ []) es
 
 abbrev pub file_entries : Game → List (Entry FileNode)
-file_entries g = entries_behind g [] (flatten g.tree)
+file_entries g = entries_after g [] (flatten g.tree)
 
 nodes_are : (g : Game) (before es : List (Entry Node))
-    → map (λ p. node_behind g (before ++ p.0) p.1.node) (with_those_before es)
-    ≡ map (λ e. e.node) (entries_behind g before es)
+    → map (λ p. node_after g (before ++ p.0) p.1.node) (with_those_before es)
+    ≡ map (λ e. e.node) (entries_after g before es)
 nodes_are g before [] = refl
 nodes_are g before (e ∷ es) =
     let others =
-    map_twice (λ (p : List (Entry Node) × Entry Node). node_behind g (before ++ p.0) p.1.node)
+    map_twice (λ (p : List (Entry Node) × Entry Node). node_after g (before ++ p.0) p.1.node)
     (λ (p : List (Entry Node) × Entry Node). (e ∷ p.0, p.1)) (with_those_before es)
-    ∙ (λ j. map (λ p. node_behind g (sym (append_assoc before (e ∷ []) p.0) j) p.1.node)
+    ∙ (λ j. map (λ p. node_after g (sym (append_assoc before (e ∷ []) p.0) j) p.1.node)
     (with_those_before es))
     ∙ nodes_are g (before ++ e ∷ []) es in
-    λ i. node_behind g (append-nil before i) e.node ∷ others i
+    λ i. node_after g (append-nil before i) e.node ∷ others i
 
 pub file_nodes_are : (g : Game) → file_nodes g ≡ map (λ e. e.node) (file_entries g)
 file_nodes_are g = nodes_are g [] (flatten g.tree)
@@ -177,25 +177,25 @@ option_keys use_of h None = refl
 option_keys use_of h (Some k) = ap Some (h k)
 
 node_keys : (g : Game) (before : List (Entry Node)) (n : Node)
-    → keys_alone (node_behind g before n) ≡ n
+    → keys_alone (node_after g before n) ≡ n
 node_keys g before n =
     let set = option_keys
-    (use_behind same_set (set_at g) (filter_map (λ (e : Entry Node). e.node.set) before))
+    (use_after same_set (set_at g) (filter_map (λ (e : Entry Node). e.node.set) before))
     (λ k. refl) n.set in
     let outcome = option_keys
-    (use_behind nat_eq (outcome_at g) (filter_map (λ (e : Entry Node). e.node.outcome) before))
+    (use_after nat_eq (outcome_at g) (filter_map (λ (e : Entry Node). e.node.outcome) before))
     (λ k. refl) n.outcome in
     λ i. record { name = n.name; set = set i; outcome = outcome i }
 
 entries_keys : (g : Game) (before es : List (Entry Node))
-    → map (map_entry keys_alone) (entries_behind g before es) ≡ es
+    → map (map_entry keys_alone) (entries_after g before es) ≡ es
 entries_keys g before [] = refl
 entries_keys g before (e ∷ es) =
     λ i. record { node = node_keys g before e.node i; children = e.children }
     ∷ entries_keys g (before ++ e ∷ []) es i
 
 entries_fill : (g : Game) (before es : List (Entry Node)) (due : ℕ) → Fills due es
-    → Fills due (entries_behind g before es)
+    → Fills due (entries_after g before es)
 entries_fill g before [] zero h = h
 entries_fill g before [] (suc due) h = h
 entries_fill g before (e ∷ es) zero h = h
@@ -203,29 +203,29 @@ entries_fill g before (e ∷ es) (suc due) h =
     entries_fill g (before ++ e ∷ []) es (e.children + due) h
 
 -- the uses of the entries
-used_behind : {K D : Type 0} (same : K → K → Bool)
+used_after : {K D : Type 0} (same : K → K → Bool)
     (at : K → Option D) (o : Option K) (before rest : List K)
-    → cons_option (option_map (use_behind same at before) o)
-    (uses_behind same at (before ++ cons_option o []) rest)
-    ≡ uses_behind same at before (cons_option o rest)
-used_behind same at None before rest = ap (λ ks. uses_behind same at ks rest) (append-nil before)
-used_behind same at (Some k) before rest = refl
+    → cons_option (option_map (use_after same at before) o)
+    (uses_after same at (before ++ cons_option o []) rest)
+    ≡ uses_after same at before (cons_option o rest)
+used_after same at None before rest = ap (λ ks. uses_after same at ks rest) (append-nil before)
+used_after same at (Some k) before rest = refl
 
 module _ {K D : Type 0} (same : K → K → Bool) (at : K → Option D) (g : Game)
     (key : Node → Option K) (use_of : FileNode → Option (Use K D))
-    (is : (before : List (Entry Node)) (n : Node) → use_of (node_behind g before n)
-    ≡ option_map (use_behind same at (filter_map (λ e. key e.node) before)) (key n)) where
+    (is : (before : List (Entry Node)) (n : Node) → use_of (node_after g before n)
+    ≡ option_map (use_after same at (filter_map (λ e. key e.node) before)) (key n)) where
   uses_are : (before es : List (Entry Node))
-      → filter_map (λ e. use_of e.node) (entries_behind g before es)
-      ≡ uses_behind same at (filter_map (λ e. key e.node) before) (filter_map (λ e. key e.node) es)
+      → filter_map (λ e. use_of e.node) (entries_after g before es)
+      ≡ uses_after same at (filter_map (λ e. key e.node) before) (filter_map (λ e. key e.node) es)
   uses_are before [] = refl
   uses_are before (e ∷ es) =
       let keys = filter_map (λ (d : Entry Node). key d.node) in
       (λ i. cons_option (is before e.node i) (uses_are (before ++ e ∷ []) es i))
-      ∙ ap (λ ks. cons_option (option_map (use_behind same at (keys before)) (key e.node))
-      (uses_behind same at ks (keys es)))
+      ∙ ap (λ ks. cons_option (option_map (use_after same at (keys before)) (key e.node))
+      (uses_after same at ks (keys es)))
       (filter_map-append (λ (d : Entry Node). key d.node) before (e ∷ []))
-      ∙ used_behind same at (key e.node) (keys before) (keys es)
+      ∙ used_after same at (key e.node) (keys before) (keys es)
 
 -- ---- the file tree
 

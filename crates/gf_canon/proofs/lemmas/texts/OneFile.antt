@@ -2,7 +2,7 @@
 use Rattle.gf_canon.proofs.Common.{arith, ◌≡◌, Bool, List, [], ◌∷◌, ◌++◌, Option, Some, None, map}
 use Rattle.gf_canon.proofs.Common.{refl, sym, ap, subst, ◌∙◌, append_assoc, nat_eq, option_map}
 use Rattle.gf_canon.proofs.Common.{if◌then◌else◌, AllByRecursion, cons_option, list_any}
-use Rattle.gf_canon.proofs.Common.{Decides-eqb, map-append, Entry, flatten, same_set, use_behind}
+use Rattle.gf_canon.proofs.Common.{Decides-eqb, map-append, Entry, flatten, same_set, use_after}
 use Rattle.gf_canon.proofs.Common.{Described, description_at, first_uses, Use, FileNode, FileTree}
 use Rattle.gf_canon.proofs.Common.{set_uses, outcome_uses, AreConsistent, Describes, Game}
 use Rattle.gf_canon.proofs.Common.{used_sets, used_outcomes, keys_alone, flatten_map, map_entry}
@@ -12,7 +12,7 @@ use Rattle.gf_tree.proofs.lemmas.games.Learned.{told_found}
 use Rattle.gf_tree.proofs.lemmas.games.Prefix.{flatten_once}
 use Rattle.gf_canon.specs.FirstDescribed.{DescribeFirstUses, IsFileOf}
 use Rattle.gf_canon.proofs.lemmas.texts.FileOf.{file_of_game, first_is_new, none_of_them}
-use Rattle.gf_canon.proofs.lemmas.texts.FileOf.{uses_behind}
+use Rattle.gf_canon.proofs.lemmas.texts.FileOf.{uses_after}
 
 -- ---- uses by their keys
 
@@ -21,7 +21,7 @@ module _ {K D : Type 0} (same : K → K → Bool) (equality : IsEquality same) (
     (us : List (Use K D)) (first : DescribeFirstUses us)
     (told : (u : Use K D) (d : D) → Has us u → u.description ≡ Some d → at u.key ≡ Some d) where
   use_is : (before after : List (Use K D)) (u : Use K D) → us ≡ before ++ u ∷ after
-      → u ≡ use_behind same at (map (λ v. v.key) before) u.key
+      → u ≡ use_after same at (map (λ v. v.key) before) u.key
   use_is before after u split =
       let among : Has us u = subst (λ vs. Has vs u) (sym split) (has_place before after u) in
       let described = first before after u split in
@@ -32,11 +32,11 @@ module _ {K D : Type 0} (same : K → K → Bool) (equality : IsEquality same) (
       λ i. record { key = u.key; description = is i }
 
   uses_are : (before rest : List (Use K D)) → us ≡ before ++ rest
-      → rest ≡ uses_behind same at (map (λ v. v.key) before) (map (λ v. v.key) rest)
+      → rest ≡ uses_after same at (map (λ v. v.key) before) (map (λ v. v.key) rest)
   uses_are before [] split = refl
   uses_are before (u ∷ rest) split =
       let later = uses_are (before ++ u ∷ []) rest (split ∙ sym (append_assoc before (u ∷ []) rest))
-      ∙ ap (λ ks. uses_behind same at ks (map (λ (v : Use K D). v.key) rest))
+      ∙ ap (λ ks. uses_after same at ks (map (λ (v : Use K D). v.key) rest))
       (map-append (λ (v : Use K D). v.key) before (u ∷ [])) in
       λ i. use_is before rest u split i ∷ later i
 
@@ -69,10 +69,10 @@ uses_of : {K D : Type 0} (same : K → K → Bool) → IsEquality same → (used
     → (es : List (Described K D)) (us : List (Use K D)) → map (λ e. e.key) es ≡ first_uses same used
     → used ≡ map (λ u. u.key) us → AllByRecursion (λ e. Describes us e.key e.description) es
     → AreConsistent us → DescribeFirstUses us
-    → us ≡ uses_behind same (description_at same es) [] used
+    → us ≡ uses_after same (description_at same es) [] used
 uses_of {K} {D} same equality used es us entries uses described alike first =
     uses_are same equality (description_at same es) us first told [] us refl
-    ∙ ap (uses_behind same (description_at same es) []) (sym uses)
+    ∙ ap (uses_after same (description_at same es) []) (sym uses)
   where
     told : (u : Use K D) (d : D) → Has us u → u.description ≡ Some d
         → description_at same es u.key ≡ Some d

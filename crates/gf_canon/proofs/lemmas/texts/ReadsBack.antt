@@ -7,7 +7,7 @@ use Rattle.gf_canon.proofs.Common.{IsLabel, quoted, Entry, flatten, SetKey, same
 use Rattle.gf_canon.proofs.Common.{IsOutcome, FileNode, FileTree, Node, Game, IsGame, used_sets}
 use Rattle.gf_canon.proofs.Common.{used_outcomes, set_at, outcome_at, IsConsistent, IsGameOf}
 use Rattle.gf_canon.proofs.Common.{SpellsGame, IsSpellable, IsSpellableSet, IsSpellableOutcome, Has}
-use Rattle.gf_canon.proofs.Common.{each, found, same_set_equality, held, in_keys, node_behind}
+use Rattle.gf_canon.proofs.Common.{each, found, same_set_equality, held, in_keys, node_after}
 use Rattle.gf_canon.proofs.Common.{file_nodes, node_text, game_text}
 use Rattle.gf_token.specs.Grammar.{Each, braced}
 use Rattle.gf_token.proofs.LaidOut.{AreSaid, Says, Tells, both, each_field, empty, fields, label}
@@ -15,7 +15,7 @@ use Rattle.gf_token.proofs.LaidOut.{labels, lines, list, word}
 use Rattle.gf_tree.specs.Sentence.{IsNode, Sentence}
 use Rattle.gf_tree.proofs.lemmas.written.Nodes.{node_tokens, IsSetUse, IsOutcomeUse, IsWritable}
 use Rattle.gf_tree.proofs.lemmas.written.Nodes.{nodes_written}
-use Rattle.gf_canon.proofs.lemmas.texts.FileOf.{entries_behind, file_of_game, file_nodes_are}
+use Rattle.gf_canon.proofs.lemmas.texts.FileOf.{entries_after, file_of_game, file_nodes_are}
 use Rattle.gf_canon.proofs.lemmas.texts.Pieces.{said_node}
 
 -- ---- each node can be written
@@ -64,7 +64,7 @@ at_option P f (Some k) h = h k refl
 
 node_writable : (g : Game) → IsGame g → IsSpellable g
     → (before : List (Entry Node)) (e : Entry Node) → Has (flatten g.tree) e
-    → IsWritable (length g.players) (node_behind g before e.node)
+    → IsWritable (length g.players) (node_after g before e.node)
 node_writable g game can before e i = record {
   set = at_option (IsSetUse (length g.players)) _ e.node.set
       (λ key q. set_use g game can _ key (held (λ n. n.set) (flatten g.tree) e key i q));
@@ -75,13 +75,13 @@ node_writable g game can before e i = record {
 -- what holds for each node after those before it holds for all
 all_nodes : (P : FileNode → Type 0) (g : Game)
     → ((before : List (Entry Node)) (e : Entry Node) → Has (flatten g.tree) e
-    → P (node_behind g before e.node))
+    → P (node_after g before e.node))
     → AllByRecursion P (file_nodes g)
 all_nodes P g holds = subst (AllByRecursion P) (sym (file_nodes_are g))
     (by [] (flatten g.tree) (λ e i. i))
   where
     by : (before es : List (Entry Node)) → ((e : Entry Node) → Has es e → Has (flatten g.tree) e)
-        → AllByRecursion P (map (λ e. e.node) (entries_behind g before es))
+        → AllByRecursion P (map (λ e. e.node) (entries_after g before es))
     by before [] among = tt
     by before (e ∷ es) among =
         (holds before e (among e (inl refl)), by (before ++ e ∷ []) es (λ d i. among d (inr i)))
@@ -107,7 +107,7 @@ tells_game : (g : Game) → IsGame g → IsSpellable g → Tells (game_text g) (
 tells_game g game can =
     let IsSaid = λ (n : FileNode). Says (node_text n) (node_tokens n) in
     let nodes = each_field IsSaid node_text node_tokens (λ n said. said) (file_nodes g)
-    (all_nodes IsSaid g (λ before e i. said_node (length g.players) (node_behind g before e.node)
+    (all_nodes IsSaid g (λ before e i. said_node (length g.players) (node_after g before e.node)
     (each (λ (d : Entry Node). IsLabel d.node.name) (flatten g.tree) e can.nodes i)
     (node_writable g game can before e i))) in
     lines (both (said_heading g can) (both (label g.comment can.comment)

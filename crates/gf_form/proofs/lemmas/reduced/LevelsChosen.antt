@@ -113,8 +113,8 @@ module _ (step action : ℕ) (visits rest : List Visit) (free start count : ℕ)
         grind (arith, Any-from_list_any, length-take, get_or-take, list_any_at)
 
     -- and none demands more
-    none_behind : list_any counts (drop count rest) ≡ false
-    none_behind =
+    none_after : list_any counts (drop count rest) ≡ false
+    none_after =
         grind (arith, false_from_ne_true, Any-from_list_any, length-drop, get_or-drop)
 
     met_in_parts : list_any counts visits
@@ -125,7 +125,7 @@ module _ (step action : ℕ) (visits rest : List Visit) (free start count : ℕ)
           any_in_two counts visits free,
           any_in_two counts visits start,
           any_in_two counts rest count,
-          none_behind,
+          none_after,
           free_before,
         )
 

@@ -2,7 +2,7 @@
 -- for their labels, before the first choice; and what the player has at the end.
 use Rattle.gf_form.proofs.Common.{slice_get-get_or, mul-le-mul_right, list_any-append, append_assoc}
 use Rattle.gf_form.proofs.Common.{AllByRecursion, reduced_labels, is_relevant_at, action_counts, []}
-use Rattle.gf_form.proofs.Common.{FindRelevance, AreLabelledTo, steps_behind, ArePositive, numbered}
+use Rattle.gf_form.proofs.Common.{FindRelevance, AreLabelledTo, steps_after, ArePositive, numbered}
 use Rattle.gf_form.proofs.Common.{digits_from, player_keys, is_relevant, AreFirstsOf, HaveChoices}
 use Rattle.gf_form.proofs.Common.{same_choice, mul-le-mul, get_or-map, choices_at, strategies, ◌&&◌}
 use Rattle.gf_form.proofs.Common.{AreFoundTo, IsSearched, actions_of, first_uses, is_met_on, nat_lt}
@@ -52,15 +52,15 @@ width_fits counts h few = grind (arith, width_square, mul-le-mul)
 
 -- the step of the first set
 step_first : (n : ℕ) (later : List ℕ) → 1 < n
-    → get_or (steps_behind 1 (n ∷ later)) 0 0 ≡ width later
+    → get_or (steps_after 1 (n ∷ later)) 0 0 ≡ width later
 step_first n later several = grind arith
 
 steps_later : (n : ℕ) (later : List ℕ) (i : ℕ)
-    → get_or (steps_behind 1 (n ∷ later)) (suc i) 0 ≡ get_or (steps_behind 1 later) i 0
+    → get_or (steps_after 1 (n ∷ later)) (suc i) 0 ≡ get_or (steps_after 1 later) i 0
 steps_later n later i = grind arith
 
 step_there : (counts : List ℕ) (i : ℕ) → i < length counts → 1 < get_or counts i 0
-    → get_or (steps_behind 1 counts) i 0 ≡ width (drop (suc i) counts)
+    → get_or (steps_after 1 counts) i 0 ≡ width (drop (suc i) counts)
 step_there (n ∷ counts) (suc i) less several = grind (arith, steps_later, step_there counts i)
 step_there counts i less several = grind (arith, step_first)
 
@@ -74,7 +74,7 @@ from_one p n later one = grind arith
 
 -- the digits so far and those to come
 pub digit_more : (counts : List ℕ) (i step : ℕ) (made next : List OwnDigit) → i < length counts
-    → 1 < get_or counts i 0 → step ≡ get_or (steps_behind 1 counts) i 0
+    → 1 < get_or counts i 0 → step ≡ get_or (steps_after 1 counts) i 0
     → next ≡ made ++ record { place = i; step = step; actions = get_or counts i 0 } ∷ []
     → made ++ digits_from i (drop i counts) ≡ digits_from 0 counts
     → next ++ digits_from (i + 1) (drop (i + 1) counts) ≡ digits_from 0 counts

@@ -5,7 +5,7 @@ use Rattle.gf_form.proofs.Common.{get_or-numbers_from, unwrap_or-slice_get, same
 use Rattle.gf_form.proofs.Common.{game_of_branches, list_any-append, InformationSet, AllByRecursion}
 use Rattle.gf_form.proofs.Common.{branches_given, option_map_or, is_own_choice, FindRelevance, more}
 use Rattle.gf_form.proofs.Common.{if◌then◌else◌, action_counts, length-append, branches_left, false}
-use Rattle.gf_form.proofs.Common.{mod-eq_of_lt, steps_behind, visits_below, numbers_from, slice_get}
+use Rattle.gf_form.proofs.Common.{mod-eq_of_lt, steps_after, visits_below, numbers_from, slice_get}
 use Rattle.gf_form.proofs.Common.{HasChildren, flatten_all, AllZip-long, MatchOption, player_keys}
 use Rattle.gf_form.proofs.Common.{player_sets, at_position, AreDistinct, child_trees, survey_size}
 use Rattle.gf_form.proofs.Common.{append-nil, AreActions, option_map, length-map, tree_comes, arith}
@@ -192,7 +192,7 @@ no_digit demands step actions no_step = grind (arith, div-zero, mod-eq_of_lt)
 -- the set at this place among a player's has this many actions, and its digit has this step
 record IsSetAt (counts : List ℕ) (place step actions : ℕ) : Type 0 where
   within : place < length counts
-  step_is : get_or (steps_behind 1 counts) place 0 ≡ step
+  step_is : get_or (steps_after 1 counts) place 0 ≡ step
   actions_are : get_or counts place 0 ≡ actions
 
 -- What these digits demand with an action at a digit: they are as they were if that one is
@@ -250,7 +250,7 @@ module _ (counts strategy ds : List ℕ) (place step actions k : ℕ)
           }
 
 module _ (g : Game) (game : IsGame g) (own : Owner)
-    (steps : own.steps.now ≡ steps_behind 1 (action_counts g own.player))
+    (steps : own.steps.now ≡ steps_after 1 (action_counts g own.player))
     (fits : width (action_counts g own.player) < 2 ^ 64) where
   abbrev counts : List ℕ
   counts = action_counts g own.player

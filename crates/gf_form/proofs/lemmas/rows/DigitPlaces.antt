@@ -1,6 +1,6 @@
 -- The places of sets and of their digits.
 use Rattle.gf_form.proofs.Common.{◌≡◌, length, get_or, arith, product, spans, picked, width, ℕ}
-use Rattle.gf_form.proofs.Common.{mul_assoc, map-append, steps_behind, zero, suc, ◌+◌, ◌*◌, ◌<◌}
+use Rattle.gf_form.proofs.Common.{mul_assoc, map-append, steps_after, zero, suc, ◌+◌, ◌*◌, ◌<◌}
 use Rattle.gf_form.proofs.Common.{◌≤◌, List, [], ◌∷◌, ◌++◌, map, refl, mul_above, in_order}
 use Rattle.gf_form.proofs.Common.{IsDigitOf, length-append, get_or_append_left}
 use Rattle.gf_form.proofs.lemmas.rows.DemandDigits.{spans_above}
@@ -29,7 +29,7 @@ as_many_picked (n ∷ counts) (x ∷ xs) e = grind (arith, as_many_picked counts
 as_many_picked counts xs e = grind arith
 
 pub steps_long : (faster : ℕ) (counts : List ℕ)
-    → length (steps_behind faster counts) ≡ length counts
+    → length (steps_after faster counts) ≡ length counts
 steps_long faster [] = refl
 steps_long faster (n ∷ counts) = grind (arith, steps_long faster counts)
 
@@ -54,9 +54,9 @@ next_faster own faster f e = cc (spans_joined (picked own own) faster)
 -- ---- the digit of a set
 
 pub own_digit : (counts xs faster fast : List ℕ) (f j : ℕ) → f ≡ product (spans faster)
-    → length xs ≡ length counts → j < length counts → ¬ (get_or (steps_behind f counts) j 0 ≡ 0)
+    → length xs ≡ length counts → j < length counts → ¬ (get_or (steps_after f counts) j 0 ≡ 0)
     → IsDigitOf (picked counts counts ++ faster) (picked counts xs ++ fast)
-    (get_or (steps_behind f counts) j 0) (get_or counts j 0) (get_or xs j 0)
+    (get_or (steps_after f counts) j 0) (get_or counts j 0) (get_or xs j 0)
 own_digit (n ∷ counts) (x ∷ xs) faster fast f (suc j) e same less some =
     let later = own_digit counts xs faster fast f j e (omega (arith, same)) (omega (arith, less)) in
     grind (arith, slower_digit, later)
@@ -65,7 +65,7 @@ own_digit counts xs faster fast f j e same less some = grind arith
 
 -- ---- sets without a digit
 
-pub own_alone : (counts : List ℕ) (f j : ℕ) → 0 < f → get_or (steps_behind f counts) j 0 ≡ 0
+pub own_alone : (counts : List ℕ) (f j : ℕ) → 0 < f → get_or (steps_after f counts) j 0 ≡ 0
     → get_or counts j 0 ≤ 1
 own_alone (n ∷ counts) f (suc j) some e = grind (arith, own_alone counts f j some)
 own_alone (n ∷ counts) f zero some e = grind (arith, mul_above, width_positive)

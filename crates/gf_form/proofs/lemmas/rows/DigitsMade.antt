@@ -1,5 +1,5 @@
 -- Digits that are made set by set, from the fastest on.
-use Rattle.gf_form.proofs.Common.{mul-le-mul_right, append_assoc, mod-eq_of_lt, steps_behind}
+use Rattle.gf_form.proofs.Common.{mul-le-mul_right, append_assoc, mod-eq_of_lt, steps_after}
 use Rattle.gf_form.proofs.Common.{AreDigitsOf, append-nil, AreStepsOf, drop-cons, in_order}
 use Rattle.gf_form.proofs.Common.{mul_comm, add-one, ◌≡◌, length, get_or, arith, width, Digit, zero}
 use Rattle.gf_form.proofs.Common.{List, ◌++◌, drop, take, suc, ◌+◌, ◌*◌, ◌<◌, ◌≤◌, ◌^◌, ◌∷◌, [], ℕ}
@@ -11,13 +11,13 @@ use Rattle.std.proofs.lemmas.List.{map_more, map_push, take_more}
 pub digit_more : (n values more : ℕ) (later : List ℕ) (old new : List Digit) → 1 < n
     → more ≡ values * (n + 1) → more < 2 ^ 64 → new ≡ record { step = values; actions = n } ∷ old
     → AreDigitsOf later old values → AreDigitsOf (n ∷ later) new more
-    × (steps_behind 1 (n ∷ later) ≡ values ∷ steps_behind 1 later)
+    × (steps_after 1 (n ∷ later) ≡ values ∷ steps_after 1 later)
 digit_more n values more later old new some more_is fits new_is are =
     grind (arith, mul_comm)
 
 pub digit_same : (n values : ℕ) (later : List ℕ) (old : List Digit) → n ≤ 1
     → AreDigitsOf later old values → AreDigitsOf (n ∷ later) old values
-    × (steps_behind 1 (n ∷ later) ≡ 0 ∷ steps_behind 1 later)
+    × (steps_after 1 (n ∷ later) ≡ 0 ∷ steps_after 1 later)
 digit_same n values later old none are = grind arith
 
 pub digit_past : (n values : ℕ) (later : List ℕ) (old : List Digit) → 1 < n
@@ -59,8 +59,8 @@ player_order counts i less =
 
 pub player_steps : (counts : List (List ℕ)) (i : ℕ) (steps : List ℕ) (all next : List (List ℕ))
     → i < length counts → length steps ≡ length (get_or counts i []) → next ≡ all ++ steps ∷ []
-    → steps ++ steps_behind 1 (in_order (take i counts))
-    ≡ steps_behind 1 (in_order (take (i + 1) counts))
+    → steps ++ steps_after 1 (in_order (take i counts))
+    ≡ steps_after 1 (in_order (take (i + 1) counts))
     → AreStepsOf (take i counts) all → AreStepsOf (take (i + 1) counts) next
 player_steps counts i steps all next less same is made before = record {
   each = grind (arith, in_order_more);

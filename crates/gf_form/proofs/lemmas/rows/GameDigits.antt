@@ -1,7 +1,7 @@
 -- What is made from the numbers of actions are the digits of the game.
 use Rattle.gf_form.proofs.Common.{length-profiles, get_or_default, InformationSet, description_at}
 use Rattle.gf_form.proofs.Common.{digit_actions, action_counts, full_profiles, strategies_at}
-use Rattle.gf_form.proofs.Common.{steps_behind, player_sets, all_choices, AreDigitsOf, ArePositive}
+use Rattle.gf_form.proofs.Common.{steps_after, player_sets, all_choices, AreDigitsOf, ArePositive}
 use Rattle.gf_form.proofs.Common.{option_map, length-map, choices_by, players_of, strategies, arith}
 use Rattle.gf_form.proofs.Common.{AreStepsOf, get_or-map, slice_get, choice_at, none-some, same_set}
 use Rattle.gf_form.proofs.Common.{Described, HasDigits, AreDigits, in_order, all_both, product, ◌≡◌}
@@ -174,7 +174,7 @@ module _ (g : Game) (game : IsGame g) (d : Digits) (values : ℕ) where
           omega (arith, few, h.count, h.some_action);
       several = λ key set is personal some.
           let h = his key set is (omega (arith, personal)) in
-          let step : get_or (steps_behind 1 sets) h.place 0 ≡ choices_by g steps key =
+          let step : get_or (steps_after 1 sets) h.place 0 ≡ choices_by g steps key =
           cc (h.said steps made.as_many, made.each) in
           let digit = own_digit sets (in_order profile) [] [] 1 h.place refl long h.within
           (λ none. some (sym step ∙ none)) in

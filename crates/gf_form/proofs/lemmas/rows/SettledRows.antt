@@ -26,12 +26,12 @@ pub settled_left : (g : Game) (number step action : ℕ) (steps choices : List �
 settled_left g number step action steps choices es left merged settles k less den above within exact
     small = grind arith
 
-settled_behind : (g : Game) (n : ℕ) (ns : List ℕ) (terms left : Terms)
+settled_after : (g : Game) (n : ℕ) (ns : List ℕ) (terms left : Terms)
     (least number b first : ℕ) → SettlesAt g (n ∷ ns) terms least number → b < n
     → first ≡ least + b * product ns → first ≤ number → number - first < product ns
     → AreMerged (product (spans ns)) (b + 1) (entries terms) (entries left)
     → SettlesAt g ns left first number
-settled_behind g n ns terms left least number b first before less is from to merged = record {
+settled_after g n ns terms left least number b first before less is from to merged = record {
   from = from;
   to = to;
   settles =
@@ -87,7 +87,7 @@ module _ (asked : Asked) {n : ℕ} {ns : List ℕ} {terms : Terms} (run : Run)
           → (i : ℕ) → run.from ≤ i → i < to → SettlesAt asked.game.now ns left first (number i)
       settled_next step to left is merged most alike i more less =
           let range = at (cases_lt run.from i) in
-          settled_behind asked.game.now n ns terms left run.first (number i) before first
+          settled_after asked.game.now n ns terms left run.first (number i) before first
           (settles i more (omega (arith, less, most))) choice.less
           (ap (λ (s : ℕ). run.first + before * s) stride_product) range.0
           (omega (arith, range.0, range.1, stride_product))

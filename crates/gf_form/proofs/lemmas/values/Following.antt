@@ -93,9 +93,9 @@ module _ (choices : SetKey → ℕ) where
       }
       by_kind false e = grind arith
 
-  part_behind : (n : Node) (k : ℕ) (p q : Play) → PartAtChance p q
+  part_after : (n : Node) (k : ℕ) (p q : Play) → PartAtChance p q
       → PartAtChance (from_node n k p) (from_node n k q)
-  part_behind n k p q h = record {
+  part_after n k p q h = record {
     common = record { node = n; taken = k } ∷ h.common;
     node = h.node;
     number = h.number;
@@ -120,7 +120,7 @@ module _ (choices : SetKey → ℕ) where
   alike_child : (n : Node) (k : ℕ) (below above p q : Play)
       → from_node n k below ≡ p → from_node n k above ≡ q → SameOrPart below above → SameOrPart p q
   alike_child n k below above p q ep eq (inl e) = inl (sym ep ∙ ap (from_node n k) e ∙ eq)
-  alike_child n k below above p q ep eq (inr part) = inr (grind (arith, ep, eq, part_behind))
+  alike_child n k below above p q ep eq (inr part) = inr (grind (arith, ep, eq, part_after))
 
   module _ (g : Game) where
     mutual

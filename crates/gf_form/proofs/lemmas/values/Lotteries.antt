@@ -1,7 +1,7 @@
 -- The probabilities of a lottery as a list.
 use Rattle.std.proofs.Common.{◌≡◌, List, [], ◌∷◌, map, Some, pos, refl}
 use Rattle.std.specs.Prelude.{◌≤ℤ◌}
-use Rattle.gf_fraction.specs.Fits.{AddsTo}
+use Rattle.gf_fraction.specs.Sum.{AddsTo}
 use Rattle.gf_fraction.specs.Ratio.{Ratio, whole}
 use Rattle.gf_tree.specs.Description.{Action, AddUpTo}
 

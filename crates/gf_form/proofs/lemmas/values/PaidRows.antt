@@ -5,7 +5,8 @@ use Rattle.gf_form.proofs.Common.{ℕ, paid_at_node, at_position, IsSpellable, o
 use Rattle.gf_form.proofs.Common.{slice_get, payoff_at, at_index, at_place, eqb-true, Described, ap}
 use Rattle.gf_form.proofs.Common.{Outcome, Ratio, ArePaid, cases_lt, get_or, length, IsGame, row_at}
 use Rattle.gf_form.proofs.Common.{◌==◌, zero, IsRow, arith, ◌≡◌, List, ◌++◌, Some, Game, Node, paid}
-use Rattle.gf_form.proofs.Common.{suc, ◌+◌, ◌∷◌, ◌∙◌, sym, ◌-◌, ◌<◌, ◌≤◌, map, inl, inr, refl, option_map}
+use Rattle.gf_form.proofs.Common.{suc, ◌+◌, ◌∷◌, ◌∙◌, sym, ◌-◌, ◌<◌, ◌≤◌, map, inl, inr, refl}
+use Rattle.gf_form.proofs.Common.{option_map}
 use Rattle.std.specs.Prelude.{position}
 use Rattle.std.proofs.lemmas.List.Quantifiers.{position-Some}
 use Rattle.gf_tree.proofs.lemmas.stores.FoundKeys.{not_described}

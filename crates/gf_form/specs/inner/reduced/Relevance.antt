@@ -1,7 +1,7 @@
 -- How the visits of a player show which of his sets are relevant.
 use Rattle.std.specs.Prelude.{◌≡◌, ℕ, List, Some, slice_get}
 use Rattle.gf_tree.specs.Description.{SetKey}
-use Rattle.gf_tree.specs.FirstUse.{player_keys}
+use Rattle.gf_tree.specs.KeysInOrder.{player_keys}
 use Rattle.gf_tree.specs.Game.{Game}
 use Rattle.gf_form.specs.Reduced.{is_relevant}
 use Rattle.gf_form.specs.Strategies.{action_counts, choice_at}

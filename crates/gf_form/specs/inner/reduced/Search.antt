@@ -5,7 +5,7 @@ use Rattle.std.specs.List.{AllByRecursion}
 use Rattle.gf_nfg.specs.Profiles.{product}
 use Rattle.std.specs.Cmp.Lexicographic.{pointwise}
 use Rattle.gf_tree.specs.FiniteMap.{first_uses}
-use Rattle.gf_tree.specs.FirstUse.{player_keys}
+use Rattle.gf_tree.specs.KeysInOrder.{player_keys}
 use Rattle.gf_tree.specs.Game.{Game}
 use Rattle.gf_form.specs.Reduced.{reduced, reduced_label, same_choice}
 use Rattle.gf_form.specs.Strategies.{action_counts, all_choices, strategies}
@@ -78,7 +78,7 @@ pub record IsToldBy (g : Game) (player : ℕ) (digits : List OwnDigit) (flag : �
 
 -- ---- first strategies
 
--- each number is less than those behind it
+-- each number is less than those after it
 abbrev pub AreInTurn : List ℕ → Type 0
 AreInTurn [] = ⊤
 AreInTurn (n ∷ numbers) = AllByRecursion (λ m. n < m) numbers × AreInTurn numbers

@@ -1,6 +1,6 @@
 -- A strategy with flags, which mark the sets that are relevant under it.
 use Rattle.std.specs.Prelude.{ℕ, Bool, List, [], ◌∷◌, map, Option, Some, None, if◌then◌else◌}
-use Rattle.gf_tree.specs.FirstUse.{player_keys}
+use Rattle.gf_tree.specs.KeysInOrder.{player_keys}
 use Rattle.gf_tree.specs.Game.{Game}
 use Rattle.gf_form.specs.Reduced.{is_relevant}
 use Rattle.gf_form.specs.Strategies.{choice_at}

@@ -6,7 +6,7 @@ use Rattle.std.specs.Option.{option_map_or}
 use Rattle.gf_nfg.specs.Profiles.{numbers_from}
 use Rattle.gf_tree.specs.BranchesLeft.{game_of_branches, branches_given, branches_left}
 use Rattle.gf_tree.specs.Description.{SetKey}
-use Rattle.gf_tree.specs.FirstUse.{player_keys}
+use Rattle.gf_tree.specs.KeysInOrder.{player_keys}
 use Rattle.gf_tree.specs.Game.{Game, Node}
 use Rattle.gf_tree.specs.PrefixOrder.{flatten}
 use Rattle.gf_tree.specs.Tree.{Trees, count, Tree}

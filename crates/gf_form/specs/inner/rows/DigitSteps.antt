@@ -21,7 +21,7 @@ width counts = product (spans (picked counts counts))
 
 -- The step of the digit of each of these sets, if the digits that are faster than all of them have
 -- this many values together; 0 if there is no digit.
-abbrev pub steps_behind : ℕ → List ℕ → List ℕ
-steps_behind faster [] = []
-steps_behind faster (suc (suc n) ∷ later) = (width later * faster) ∷ steps_behind faster later
-steps_behind faster (n ∷ later) = 0 ∷ steps_behind faster later
+abbrev pub steps_after : ℕ → List ℕ → List ℕ
+steps_after faster [] = []
+steps_after faster (suc (suc n) ∷ later) = (width later * faster) ∷ steps_after faster later
+steps_after faster (n ∷ later) = 0 ∷ steps_after faster later

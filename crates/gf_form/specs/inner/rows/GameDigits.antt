@@ -3,7 +3,7 @@ use Rattle.std.specs.Prelude.{◌≡◌, ℕ, ◌<◌, ◌^◌, List, [], length
 use Rattle.gf_nfg.specs.Profiles.{product}
 use Rattle.gf_tree.specs.Game.{Game}
 use Rattle.gf_form.specs.inner.rows.Demands.{spans, steps_of}
-use Rattle.gf_form.specs.inner.rows.DigitSteps.{in_order, picked, steps_behind, width}
+use Rattle.gf_form.specs.inner.rows.DigitSteps.{in_order, picked, steps_after, width}
 use Rattle.gf_form.specs.inner.rows.Shares.{AreDigits}
 use Rattle.gf_form.specs.Strategies.{all_choices, choices_by, full_profiles, strategies_at}
 use Rattle.gf_form.specs.declared.rows.digits.Digit.{Digit}
@@ -26,7 +26,7 @@ pub record AreDigitsOf (counts : List ℕ) (digits : List Digit) (values : ℕ) 
 
 -- these are the steps of the sets of all players, who have this many actions at each
 pub record AreStepsOf (counts steps : List (List ℕ)) : Type 0 where
-  pub each : in_order steps ≡ steps_behind 1 (in_order counts)
+  pub each : in_order steps ≡ steps_after 1 (in_order counts)
   pub as_many : map length steps ≡ map length counts
 
 -- how many actions there are at each digit, from the slowest on

@@ -61,12 +61,12 @@ abbrev pub steps_of_paths : Paths → List (List ℕ)
 steps_of_paths p = map (λ own. own.items) p.digits.now.steps.items
 
 -- what its open nodes are followed by
-abbrev pub nodes_behind : Paths → List Reached
-nodes_behind p = below (steps_of_paths p) p.open.items []
+abbrev pub nodes_after : Paths → List Reached
+nodes_after p = below (steps_of_paths p) p.open.items []
 
 -- all that is left
 abbrev pub nodes_left : Paths → List Reached
-nodes_left p = next_nodes (steps_of_paths p) p.next ++ nodes_behind p
+nodes_left p = next_nodes (steps_of_paths p) p.next ++ nodes_after p
 
 -- how many open nodes can still be closed before a node is given
 abbrev pub turns_before : Option (Branch × Path) → List Open → ℕ

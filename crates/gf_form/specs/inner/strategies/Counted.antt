@@ -1,7 +1,8 @@
 -- What is counted of the players of a game.
 use Rattle.std.specs.Prelude.{◌≡◌, ◌≤◌, length, map}
 use Rattle.gf_nfg.specs.Limit.{profile_limit}
-use Rattle.gf_tree.specs.Game.{Game, IsGame}
+use Rattle.gf_tree.specs.Game.{Game}
+use Rattle.gf_tree.specs.IsGame.{IsGame}
 use Rattle.gf_form.specs.Strategies.{action_counts, full_profiles, players_of, strategies}
 use Rattle.gf_form.specs.declared.strategies.counts.Counts.{Counts}
 

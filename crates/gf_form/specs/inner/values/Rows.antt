@@ -5,7 +5,7 @@ use Rattle.std.specs.List.{AllByRecursion}
 use Rattle.gf_fraction.specs.Ratio.{Ratio, IsFraction}
 use Rattle.gf_fraction.specs.Rational.{zero_ratio}
 use Rattle.gf_token.specs.Positions.{at_position}
-use Rattle.gf_tree.specs.FirstUse.{outcome_numbers}
+use Rattle.gf_tree.specs.KeysInOrder.{outcome_numbers}
 use Rattle.gf_tree.specs.Game.{Game, Node, outcome_at}
 use Rattle.gf_tree.specs.OutcomePositions.{position_among}
 

@@ -2,7 +2,7 @@ use Rattle.std.proofs.Common.{◌≡◌, ◌<◌, ◌∙◌, ◌+◌, ◌-◌, �
 use Rattle.std.proofs.Common.{true, length, drop, get_or, arith}
 use Rattle.std.specs.Char.{is_ascii_digit}
 use Rattle.gf_fraction.specs.NumberScan.{capped, leading_value}
-use Rattle.gf_fraction.proofs.LeadingDigits.{leading_value-drop, behind-drop, capped-leading}
+use Rattle.gf_fraction.proofs.LeadingDigits.{leading_value-drop, unread-drop, capped-leading}
 use Rattle.gf_fraction.proofs.read.wide_digits.Goals as goal
 use Rattle.gf_fraction.proofs.read.wide_digits.Goals.{then-value, else-value}
 
@@ -20,6 +20,6 @@ loop-i-preserved c =
           ∙ ap capped (leading_value-drop text i within v digit)
           ∙ sym (capped-leading (v * 10 + (get_or text i 0 - 48)) (drop (i + 1) text))
           ∙ ap (λ k. capped (leading_value k (drop (i + 1) text))) (sym next),
-      c.loop-i.invariant.1 ∙ behind-drop text i within digit,
+      c.loop-i.invariant.1 ∙ unread-drop text i within digit,
       omega arith,
     )

@@ -1,8 +1,8 @@
 use Rattle.std.proofs.Common.{◌≡◌, ◌≤◌, ◌^◌, drop}
-use Rattle.gf_fraction.specs.NumberScan.{behind, capped, leading_value}
+use Rattle.gf_fraction.specs.NumberScan.{unread, capped, leading_value}
 use Rattle.gf_fraction.proofs.read.wide_digits.Given as goal
 
 abbrev pub invariant-loop-i : goal.invariant-loop-i
 invariant-loop-i l =
     (capped (leading_value l.fn.from l.text) ≡ capped (leading_value l.value (drop l.i l.text)))
-    × (behind l.text ≡ behind (drop l.i l.text)) × (l.value ≤ 2 ^ 127)
+    × (unread l.text ≡ unread (drop l.i l.text)) × (l.value ≤ 2 ^ 127)

@@ -1,6 +1,6 @@
 use Rattle.std.proofs.Common.{◌≡◌, ◌∙◌, sym, to_z-of_z, length}
 use Rattle.std.proofs.Math.Seq.{take-append_seam}
-use Rattle.gf_fraction.proofs.WrittenText.{behind_minus}
+use Rattle.gf_fraction.proofs.WrittenText.{past_minus}
 use Rattle.gf_fraction.proofs.write.write_words.Goals as goal
 
 pub returns-clause-ok : goal.returns-clause-ok
@@ -15,4 +15,4 @@ returns-clause-ok c =
     let filled = c.as_mut_slice.ensures.value ∙ c.in_ok-extend_from_slice.ensures.items in
     let parts = rw (len, minus, size, filled) at w.ensures in
     let all = rw (long, take-append_seam w.new.text) at c.truncate.ensures.items in
-    all ∙ parts ∙ behind_minus c.args.num c.args.den c.args.out.now.items _
+    all ∙ parts ∙ past_minus c.args.num c.args.den c.args.out.now.items _

@@ -97,10 +97,10 @@ limit_token ts t h =
 abbrev pub AreGroups : List Token → Strategies → Type 0
 AreGroups inner strategies = Each IsCount inner strategies ⊎ Each IsLabelList inner strategies
 
-some_behind : (k : Kind) (strategies : Strategies) (due : ℕ) (q : Position)
+some_after : (k : Kind) (strategies : Strategies) (due : ℕ) (q : Position)
     → profile_limit < product (map length strategies) → behind k strategies due q ≡ next k due
-some_behind k [] due q over = absurd (omega arith)
-some_behind k (labels ∷ strategies) due q over = refl
+some_after k [] due q over = absurd (omega arith)
+some_after k (labels ∷ strategies) due q over = refl
 
 below_last : (counts ns : List ℕ) (n : ℕ) → counts ≡ ns ++ n ∷ [] → PassesAtLast counts
     → product ns ≤ profile_limit
@@ -138,7 +138,7 @@ passes_given ts t counts g h =
     let steps = n.1 ∙ n.2 in
     let counted : d.counts ≡ counts =
     ap (λ (e : Content). e.counts) (all_groups k.0 g.strategies c) ∙ sym g.are_counts in
-    let stands = some_behind k.0 g.strategies due first (rw (← g.are_counts) passes) in
+    let stands = some_after k.0 g.strategies due first (rw (← g.are_counts) passes) in
     let l = last_count m.0 after t k.0 due stands steps in
     let parts : counts ≡ m.0.content.counts ++ l.0 ∷ [] = sym counted ∙ l.1 in
     let fits = below_last counts m.0.content.counts l.0 parts h in

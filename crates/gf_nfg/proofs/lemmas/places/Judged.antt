@@ -16,7 +16,7 @@ use Rattle.gf_nfg.proofs.Common.{map-append, table_of, ◌⊎◌, ◌∙◌}
 use Rattle.gf_token.proofs.Following.{refused_why}
 pub use Rattle.gf_token.proofs.Following.{carried}
 use Rattle.gf_token.proofs.Reading.{begins, not_accepted}
-use Rattle.gf_token.proofs.TokensAhead.{all_in_order, behind_first}
+use Rattle.gf_token.proofs.TokensAhead.{all_in_order, past_first}
 use Rattle.gf_token.proofs.Walks.{GoesThrough, StopsAt, passed, passed_before, place_after, reads}
 use Rattle.gf_token.proofs.Walks.{run_split, run_whole, stopped}
 use Rattle.gf_nfg.proofs.lemmas.tables.Meaning.{within_limit}
@@ -85,10 +85,10 @@ abbrev pub end_of : ℕ → Span
 end_of size = record { start = size; end = size }
 
 -- it stands behind the tokens up to which they stay within it
-behind_limit : (bytes : List ℕ) (front back : List Lexeme) (from : ℕ) (limit : Span)
+past_limit : (bytes : List ℕ) (front back : List Lexeme) (from : ℕ) (limit : Span)
     → Spells 0 bytes (front ++ back) → StaysWithinLimit (tokens_of front)
     → AreInOrder (length bytes) from back → IsLimitPlace bytes limit → from ≤ limit.start
-behind_limit bytes front back from limit spelled stays order place =
+past_limit bytes front back from limit spelled stays order place =
     let h = (limit_by_files bytes limit).0 place in
     let in_order = AreInOrder (length bytes) from in
     let later = λ (between : List Lexeme).
@@ -255,9 +255,9 @@ all_answered bytes all spelled = by (read_on (length bytes) start all) refl
 
 -- ---- memory
 
-pub wants_memory : {f : Fault} {span : Span} {t : Remaining} {a : Answer} → StandsBefore t span
+pub lacks_memory : {f : Fault} {span : Span} {t : Remaining} {a : Answer} → StandsBefore t span
     → f ≡ record { span = span; why = Memory } → (s : State) → a ≡ heard s t → Fails f a
-wants_memory {f} {span} {t} {a} stands is s goes =
+lacks_memory {f} {span} {t} {a} stands is s goes =
     grind (arith, carried, passed_before taken finish)
 
 pub refusal_or_limit : (why : Why) (bytes : List ℕ) (s : Span) → ¬ (why ≡ Memory)
@@ -295,7 +295,7 @@ memory_judged bytes all spelled span h =
         let front = before ++ l ∷ [] in
         let led = stays (tokens_of before ++ l.token ∷ []) start g.0 (omega arith) g.1 in
         let leads : Leads (tokens_of front) g.0 = rw (tokens_on before [] l) led.0 in
-        let order = behind_first (length bytes) 0 before l ls (all_in_order bytes _ k) in
+        let order = past_first (length bytes) 0 before l ls (all_in_order bytes _ k) in
         record {
           place = record {
             before = before;
@@ -305,7 +305,7 @@ memory_judged bytes all spelled span h =
             accepted = begins is_reader (tokens_of before ++ l.token ∷ []) g.0 led.0;
           };
           within = λ limit is.
-              let near = behind_limit bytes front ls l.end limit
+              let near = past_limit bytes front ls l.end limit
               (rw (append_assoc before (l ∷ []) ls) k)
               (stays_within (tokens_of front) g.0 leads led.1) order.1 is in
               omega (arith, near, order.0, place.0);

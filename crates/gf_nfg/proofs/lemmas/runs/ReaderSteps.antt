@@ -6,7 +6,7 @@ use Rattle.gf_nfg.proofs.Common.{Answer, Content, Goes, Heading, Opening, read_o
 use Rattle.gf_nfg.proofs.Common.{Ok, Reader, Result, answer, length, lexeme, Fails, Fault, List}
 use Rattle.gf_nfg.proofs.Common.{Span, Text, Told, arith, heard, refl, subst, ℕ, Err, [], ap, sym}
 use Rattle.gf_nfg.proofs.Common.{◌-◌, ◌<◌, ◌∙◌, ◌∷◌, ◌≡◌}
-use Rattle.gf_nfg.proofs.lemmas.places.Judged.{carried, wants_memory}
+use Rattle.gf_nfg.proofs.lemmas.places.Judged.{carried, lacks_memory}
 pub use Rattle.gf_token.proofs.Following.{goes_back, fails_back as ends_back}
 use Rattle.gf_nfg.specs.declared.reader.receive.Version.TheVariants as version
 
@@ -54,9 +54,9 @@ pub counts_end : (c : Content) (t : Remaining)
 counts_end c t = grind (arith, ends_alike (length t.input) c t.ahead)
 
 -- memory may run out at the last token
-pub memory_behind : {f : Fault} {span : Span} (q : Position) (r : Reader)
+pub memory_after : {f : Fault} {span : Span} (q : Position) (r : Reader)
     → StandsBefore r.tokens span → f ≡ record { span = span; why = Memory } → Fails f (answer q r)
-memory_behind q r stands is = wants_memory stands is (at q (content_in r.heading)) refl
+memory_after q r stands is = lacks_memory stands is (at q (content_in r.heading)) refl
 
 -- ---- the body
 

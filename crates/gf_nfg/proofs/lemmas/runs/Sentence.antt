@@ -250,12 +250,12 @@ table_again : (t : Table) (k : Kind) (payoffs : List Ratio) (choices : List ℕ)
     → rows_by (kept t k payoffs choices) choices ≡ rows t → table_of (kept t k payoffs choices) ≡ t
 table_again t k payoffs choices h strategies means = grind (arith, entries_again)
 
-behind_comment : (comment body : List Token) (said : List ℕ) (c : Content)
+past_comment : (comment body : List Token) (said : List ℕ) (c : Content)
     (rs : List (List Ratio)) → IsComment comment said → (k : Kept body (with_comment c said) rs)
     → c ≡ filled (with_comment c []) [] []
     → run (strategies_end c) (comment ++ body)
     ≡ Ok (filled (with_comment c said) k.payoffs k.choices)
-behind_comment comment body said c rs h k e =
+past_comment comment body said c rs h k e =
     let plain = comment_may_come body (length c.players * c.profiles)
     (filled (with_comment c said) [] []) _ k.goes_on in
     grind arith
@@ -274,7 +274,7 @@ sentence_again ts t s =
     let lists = strategies_again k.0 t.strategies inner rest (heading t.title t.players) k.1
     h.some_strategy in
     let seam = append_assoc inner (Closing ∷ []) rest in
-    let behind = behind_comment s.comment s.body t.comment c (rows t) s.is_comment b refl in
+    let behind = past_comment s.comment s.body t.comment c (rows t) s.is_comment b refl in
     record {
       content = kept t k.0 b.payoffs b.choices;
       read = cc (s.parts, s.is_strategies.1, leads, seam, h.one_list_each, lists, behind);

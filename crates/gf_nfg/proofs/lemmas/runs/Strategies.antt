@@ -293,9 +293,9 @@ abbrev pub behind : Kind → Strategies → ℕ → Position → Position
 behind k [] due q = q
 behind k (labels ∷ strategies) due q = next k due
 
-behind_next : (k : Kind) (strategies : Strategies) (due : ℕ)
+past_next : (k : Kind) (strategies : Strategies) (due : ℕ)
     → behind k strategies due (next k (and_more strategies due)) ≡ next k due
-behind_next k strategies due = grind arith
+past_next k strategies due = grind arith
 
 pub groups_walk : (k : Kind) (strategies : Strategies) (inner : List Token) (due : ℕ) (q : Position)
     → Takes k (and_more strategies due) q → (c : Content) → Each (IsGroup k) inner strategies
@@ -308,7 +308,7 @@ groups_walk k (labels ∷ strategies) inner due q takes c h some =
     let d = with_group k c labels in
     let more = groups_walk k strategies h.1 due (next k (and_more strategies due)) (inr refl) d h.4
     some.1 in
-    grind (arith, walk_on step, behind_next)
+    grind (arith, walk_on step, past_next)
 
 closed : (k : Kind) (strategies : Strategies) (rest : List Token) (c : Content)
     → run (at (behind k strategies 0 (p.FirstStrategies 0)) c) (Closing ∷ rest)

@@ -30,19 +30,19 @@ pub labels_spelled : (ls : List Label) → AreSpellings (map label_of ls)
 labels_spelled [] = tt
 labels_spelled (l ∷ ls) = (l.spelled, labels_spelled ls)
 
-behind_dash : (ys : List ℕ) → is_spelling_after 34 ys ≡ true → is_spelling_after 45 ys ≡ true
-behind_dash [] h = refl
-behind_dash (y ∷ ys) h = h
+past_dash : (ys : List ℕ) → is_spelling_after 34 ys ≡ true → is_spelling_after 45 ys ≡ true
+past_dash [] h = refl
+past_dash (y ∷ ys) h = h
 
-joined_behind : (before : ℕ) (xs ys : List ℕ) → is_spelling_after before xs ≡ true → IsLabel ys
+joined_after : (before : ℕ) (xs ys : List ℕ) → is_spelling_after before xs ≡ true → IsLabel ys
     → is_spelling_after before (xs ++ 45 ∷ ys) ≡ true
-joined_behind before [] ys h l = behind_dash ys l
-joined_behind before (x ∷ xs) ys h l = grind (arith, and_from, and_parts, joined_behind x xs ys)
+joined_after before [] ys h l = past_dash ys l
+joined_after before (x ∷ xs) ys h l = grind (arith, and_from, and_parts, joined_after x xs ys)
 
 -- labels that are joined by a dash make a label
 pub joined_label : (labels : List (List ℕ)) → AreSpellings labels
     → IsLabel (join_with_byte 45 labels)
-joined_label (x ∷ y ∷ labels) h = grind (arith, joined_behind, joined_label (y ∷ labels) h.1)
+joined_label (x ∷ y ∷ labels) h = grind (arith, joined_after, joined_label (y ∷ labels) h.1)
 joined_label labels h = grind arith
 
 -- ---- labels that are joined, from any place on

@@ -6,7 +6,7 @@ use Rattle.gf_token.specs.inner.Finding.{lexed}
 use Rattle.gf_token.specs.Label.{label_of}
 use Rattle.gf_token.specs.Token.{lexeme}
 use Rattle.gf_token.specs.Token.Token.{Text}
-use Rattle.gf_token.proofs.TextsOfLabels.{label_found, too_short, no_quote_before, no_quote_behind}
+use Rattle.gf_token.proofs.TextsOfLabels.{label_found, too_short, no_quote_before, no_quote_after}
 use Rattle.gf_token.proofs.TextsOfLabels.{other_bytes}
 use Rattle.gf_token.proofs.scan.end_of_label.Goals.{then-input-start-ne34-via-then-input-start-ne34}
 use Rattle.gf_token.proofs.scan.end_of_label.Goals.{
@@ -48,4 +48,4 @@ returns-then-eq c =
 
 pub returns-else-input-quote-eq34 : goal.returns-else-input-quote-eq34
 returns-else-input-quote-eq34 c =
-    grind (arith, other_bytes, not_from_Decides, slice_eq-Decides, Decides-eqb, no_quote_behind)
+    grind (arith, other_bytes, not_from_Decides, slice_eq-Decides, Decides-eqb, no_quote_after)

@@ -11,7 +11,7 @@ use Rattle.gf_tree.proofs.Common.{shared, step, KnownProbability, NewAction, New
 use Rattle.gf_tree.proofs.Common.{KnownAction, Share, share_of, IsNoNumber, Row, this_number, ℤ}
 use Rattle.gf_tree.proofs.Common.{int_lt, ◌*ℤ◌, ◌≢◌, *ℤ_comm, SumFits, sum_is_computed}
 use Rattle.gf_tree.proofs.Common.{ToProbability, same_number, same_ratio, share_by, up_to_one}
-use Rattle.gf_tree.proofs.Common.{GoesOnWith, HasSum, IsWrongBehind, a_new_action, a_new_branch}
+use Rattle.gf_tree.proofs.Common.{GoesOnWith, HasSum, IsWrongAfter, a_new_action, a_new_branch}
 use Rattle.gf_tree.proofs.Common.{a_probability, no_label, this_label, append_cancel_left}
 use Rattle.std.specs.Prelude.{◌<ℤ◌}
 use Rattle.gf_fraction.specs.Computed.{number_of}
@@ -111,7 +111,7 @@ sum_below f n set sum h new has other =
 
 -- why the bytes are not a probability after this sum; the sign is looked at before the sum
 abbrev pub IsNoShare : Ratio → List ℕ → Why → Type 0
-IsNoShare sum b why = IsNoNumber b why ⊎ ((p : Ratio) × IsNumber b p × IsWrongBehind why sum p
+IsNoShare sum b why = IsNoNumber b why ⊎ ((p : Ratio) × IsNumber b p × IsWrongAfter why sum p
     × ((why ≡ NegativeProbability) ⊎ (pos 0 ≤ℤ p.num)))
 
 -- the row of a probability, with that order

@@ -10,7 +10,7 @@ use Rattle.gf_tree.proofs.Common.{NodeDue, ChanceName, PersonalName, TerminalNam
 use Rattle.gf_tree.proofs.Common.{a_text, a_word, an_end, an_opening, IsPositive, ◌||◌, ◌≢◌}
 use Rattle.gf_tree.proofs.Common.{HasNumberFault, What, a_player_name, or_text}
 use Rattle.gf_fraction.specs.Computed.{number_of}
-use Rattle.gf_fraction.specs.NumberSpelling.{Reads as Spelled}
+use Rattle.gf_fraction.specs.NoNumber.{Reads as Spelled}
 use Rattle.gf_fraction.proofs.ComputedAnswers.{number_is_computed}
 use Rattle.gf_token.specs.Indices.{index_of}
 use Rattle.gf_tree.proofs.lemmas.due.Rows.{Answers, Law}

@@ -4,8 +4,8 @@ use Rattle.gf_tree.proofs.Common.{ap, subst, ◌∙◌, append_assoc, append-nil
 use Rattle.gf_tree.proofs.Common.{Token, Why, Opening, Closing, Text, Bare, Content, Position}
 use Rattle.gf_tree.proofs.Common.{State, at, nothing, step, Format, Version, Letter, Title}
 use Rattle.gf_tree.proofs.Common.{BeforePlayers, AfterPlayers, NodeDue, Row, a_letter, a_node}
-use Rattle.gf_tree.proofs.Common.{a_text, a_word, an_opening, with_player, BehindComment}
-use Rattle.gf_tree.proofs.Common.{BehindPlayers, a_player_name, or_text}
+use Rattle.gf_tree.proofs.Common.{a_text, a_word, an_opening, with_player, PastComment}
+use Rattle.gf_tree.proofs.Common.{PastPlayers, a_player_name, or_text}
 use Rattle.gf_tree.specs.inner.Machine.Position.{InPlayers as Players}
 use Rattle.gf_tree.specs.RowPlaces.{InPlayers, ToPlayers, ToTitle}
 use Rattle.gf_tree.proofs.lemmas.due.Rows.{Stands, EndLaw, Law, stands_by}
@@ -63,17 +63,17 @@ in_players before players h =
     (h.0 ++ Opening ∷ []) (map Text players) (at Format nothing) (at Players c) _ opened
     (named players c))
 
-behind_players : (before : List Token) (players : List (List ℕ)) (h : BehindPlayers before players)
+past_players : (before : List Token) (players : List (List ℕ)) (h : PastPlayers before players)
     → Leads before (at AfterPlayers (heading h.1.1.1 players))
-behind_players before players h =
+past_players before players h =
     more_leads before h.0 Closing (at Players (heading h.1.1.1 players)) _
     (in_players h.0 players h.1) refl h.2
 
-behind_comment : (before : List Token) (players : List (List ℕ)) (h : BehindComment before players)
+past_comment : (before : List Token) (players : List (List ℕ)) (h : PastComment before players)
     → Leads before (at NodeDue (record (heading h.2.1.1.1 players) { comment = h.1 }))
-behind_comment before players h =
+past_comment before players h =
     more_leads before h.0 (Text h.1) (at AfterPlayers (heading h.2.1.1.1 players)) _
-    (behind_players h.0 players h.2) refl h.3
+    (past_players h.0 players h.2) refl h.3
 
 -- ---- the rows
 
@@ -105,16 +105,16 @@ player_names before players h =
     stands_led before Players c a_player_name (in_players before players h) (laws.in_players c)
     (λ a. a, refl)
 
-pub after_players : (before : List Token) (players : List (List ℕ)) → BehindPlayers before players
+pub after_players : (before : List Token) (players : List (List ℕ)) → PastPlayers before players
     → Stands before (or_text (a_node (length players)))
 after_players before players h =
     let c = heading h.1.1.1 players in
     stands_led before AfterPlayers c (or_text (a_node (length players)))
-    (behind_players before players h) (laws.after_players c) (λ a. a, refl)
+    (past_players before players h) (laws.after_players c) (λ a. a, refl)
 
-pub after_comment : (before : List Token) (players : List (List ℕ)) → BehindComment before players
+pub after_comment : (before : List Token) (players : List (List ℕ)) → PastComment before players
     → Stands before (a_node (length players))
 after_comment before players h =
     let c : Content = record (heading h.2.1.1.1 players) { comment = h.1 } in
-    stands_led before NodeDue c (a_node (length players)) (behind_comment before players h)
+    stands_led before NodeDue c (a_node (length players)) (past_comment before players h)
     (laws.node_due c 0 refl) (λ a. a, refl)

@@ -4,9 +4,9 @@ use Rattle.gf_tree.proofs.Common.{◌++◌, length, Option, Some, None, Result, 
 use Rattle.gf_tree.proofs.Common.{◌∙◌, arith, inl, inr, nat_eq, codes, pointwise, Token, count_of}
 use Rattle.gf_tree.proofs.Common.{Why, Opening, Text, Bare, Expected, UnknownPlayer, count_again}
 use Rattle.gf_tree.proofs.Common.{InformationSet, SetKey, same_set, description_at, or_name, Row}
-use Rattle.gf_tree.proofs.Common.{a_first_name, a_text, an_opening, an_outcome, BehindSetNumber}
+use Rattle.gf_tree.proofs.Common.{a_first_name, a_text, an_opening, an_outcome, PastSetNumber}
 use Rattle.gf_tree.proofs.Common.{IsNewSet, KnowsSet, Begun, Content, Position, State, at, begun}
-use Rattle.gf_tree.proofs.Common.{behind_set, node_letter, outcome_number, personal_node}
+use Rattle.gf_tree.proofs.Common.{past_set, node_letter, outcome_number, personal_node}
 use Rattle.gf_tree.proofs.Common.{player_number, set_number, NodeDue, ChanceName, PersonalName}
 use Rattle.gf_tree.proofs.Common.{TerminalName, PlayerNumber, SetNumber, NewSetName, NewSetOpening}
 use Rattle.gf_tree.proofs.Common.{KnownSetName, KnownSetOpening, run_tokens, then_run, FileFront}
@@ -14,13 +14,13 @@ use Rattle.gf_tree.proofs.Common.{nat_le, count_is, index_is, a_player, a_set, T
 use Rattle.gf_tree.proofs.Common.{ToSetNumber, same_text}
 use Rattle.std.proofs.lemmas.Bool.Decides.{nat_tests}
 use Rattle.gf_token.specs.Indices.{index_of}
-use Rattle.gf_tree.specs.RowPlaces.{BehindLetter, BehindSetName}
+use Rattle.gf_tree.specs.RowPlaces.{PastLetter, PastSetName}
 use Rattle.gf_tree.proofs.lemmas.due.Answers.{chance_name, no_index, no_positive, other_word}
 use Rattle.gf_tree.proofs.lemmas.due.Answers.{personal_name, terminal_name}
 use Rattle.gf_tree.proofs.lemmas.due.Rows.{Stands, Answers, EndLaw, Law}
 use Rattle.gf_tree.proofs.lemmas.fronts.Codes.{BeginsBare, ReadsOn, Split, begins_number, begins_on}
 use Rattle.gf_tree.proofs.lemmas.fronts.Codes.{new_is, split}
-use Rattle.gf_tree.proofs.lemmas.fronts.Runs.{to_player, behind_number, goes_before, to_number}
+use Rattle.gf_tree.proofs.lemmas.fronts.Runs.{to_player, past_number, goes_before, to_number}
 use Rattle.gf_tree.proofs.lemmas.fronts.Groups.{regroup}
 use Rattle.gf_tree.proofs.lemmas.runs.Places.{is_read}
 use Rattle.gf_tree.proofs.lemmas.runs.Tokens.{run_on, same_bytes, text_again, text_found}
@@ -80,7 +80,7 @@ node_named : (c r : Content) (b : List ℕ) (more : List Token)
 node_named c r b more e = letter_named c r (pointwise nat_eq b (codes "c"))
     (pointwise nat_eq b (codes "p")) (pointwise nat_eq b (codes "t")) more e
 
-pub node_name : (f : FileFront) → BehindLetter f.front → Stands f.before a_text
+pub node_name : (f : FileFront) → PastLetter f.front → Stands f.before a_text
 node_name f h =
     let s = parts f (h.0, [], h.1) in
     let c = s.content in
@@ -149,16 +149,16 @@ new_name_law : (c : Content) (name : List ℕ) (key : SetKey)
 new_name_law c name key (Text label) = tt
 new_name_law c name key _ = (λ a. a, refl)
 
-pub new_set : (f : FileFront) (key : SetKey) → BehindSetNumber f.front key → IsNewSet f.nodes key
+pub new_set : (f : FileFront) (key : SetKey) → PastSetNumber f.front key → IsNewSet f.nodes key
     → Stands f.before a_first_name
 new_set f key h new =
     let s = parts f (begins_number f.front key h) in
     let c = s.content in
-    let k = behind_number f.front key c h s.goes_on in
+    let k = past_number f.front key c h s.goes_on in
     let unknown = new_is (description_at same_set c.sets key)
     (λ d e. new d ((s.sets key d).1 e)) in
     stands_in f s (NewSetName k.name key) c a_first_name
-    (λ us. k.answers us ∙ ap (λ o. run_tokens (behind_set k.name key o) c us) unknown)
+    (λ us. k.answers us ∙ ap (λ o. run_tokens (past_set k.name key o) c us) unknown)
     (new_name_law c k.name key) (λ a. a, refl)
 
 -- the text that is wanted, or another one
@@ -184,12 +184,12 @@ known_name_law c name key set (Text label) = name_by set.name an_outcome label _
 known_name_law c name key set (Bare b) = grind (arith, named_bare, outcome_by)
 known_name_law c name key set _ = (λ a. a, refl)
 
-pub known_set : (f : FileFront) (key : SetKey) (set : InformationSet) → BehindSetNumber f.front key
+pub known_set : (f : FileFront) (key : SetKey) (set : InformationSet) → PastSetNumber f.front key
     → KnowsSet f.nodes key set → Stands f.before (or_name set.name an_outcome)
 known_set f key set h knows =
     let s = parts f (begins_number f.front key h) in
     let c = s.content in
-    let k = behind_number f.front key c h s.goes_on in
+    let k = past_number f.front key c h s.goes_on in
     stands_in f s (KnownSetName k.name key set) c (or_name set.name an_outcome)
     (λ us. cc (k.answers us, (s.sets key set).0 knows))
     (known_name_law c k.name key set) (λ a. a, refl)
@@ -208,7 +208,7 @@ known_opening_law c b actions _ = (λ a. a, refl)
 
 opening_by : (f : FileFront) (s : Parts f) (name label : List ℕ) (key : SetKey)
     (o : Option InformationSet) → ((us : List Token) → run_tokens NodeDue s.content (f.front ++ us)
-    ≡ run_tokens (behind_set name key o) s.content (Text label ∷ us)) → Stands f.before an_opening
+    ≡ run_tokens (past_set name key o) s.content (Text label ∷ us)) → Stands f.before an_opening
 opening_by f s name label key None answers =
     stands_in f s (NewSetOpening name key label) s.content an_opening answers
     (new_opening_law s.content name key label) (λ a. a, refl)
@@ -221,12 +221,12 @@ opening_by f s name label key (Some set) answers =
     stands_in f s next c an_opening (λ us. cc (answers us, same, text_again set.name (at next c)))
     (known_opening_law c (begun name key set) set.actions) (λ a. a, refl)
 
-pub set_opening : (f : FileFront) (key : SetKey) → BehindSetName f.front key
+pub set_opening : (f : FileFront) (key : SetKey) → PastSetName f.front key
     → Stands f.before an_opening
 set_opening f key h =
     let s = parts f (begins_on f.front h.0 (Text h.1 ∷ []) (begins_number h.0 key h.2) h.3) in
     let c = s.content in
-    let k = behind_number h.0 key c h.2
+    let k = past_number h.0 key c h.2
     (goes_before c f.front h.0 (Text h.1 ∷ []) s.goes_on h.3) in
     opening_by f s k.name h.1 key (description_at same_set c.sets key)
     (λ us. cc (regroup f.front h.0 (Text h.1 ∷ []) us h.3, k.answers (Text h.1 ∷ us)))

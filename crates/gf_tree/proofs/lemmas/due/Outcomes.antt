@@ -2,21 +2,21 @@
 use Rattle.gf_tree.proofs.Common.{◌≡◌, ℕ, zero, suc, List, [], ◌∷◌, ◌++◌, length, Option, Some}
 use Rattle.gf_tree.proofs.Common.{None, refl, sym, ap, subst, ◌∙◌, inl, inr, nat_eq, false, ◌⊎◌}
 use Rattle.gf_tree.proofs.Common.{Ratio, Token, Opening, Text, Bare, Broken, index_again, Outcome}
-use Rattle.gf_tree.proofs.Common.{description_at, BehindOutcomeNumber, IsNewOutcome, KnowsOutcome}
-use Rattle.gf_tree.proofs.Common.{ToOutcomeNumber, Begun, Content, after_node, at, behind_outcome}
+use Rattle.gf_tree.proofs.Common.{description_at, PastOutcomeNumber, IsNewOutcome, KnowsOutcome}
+use Rattle.gf_tree.proofs.Common.{ToOutcomeNumber, Begun, Content, after_node, at, past_outcome}
 use Rattle.gf_tree.proofs.Common.{with_node, KnownOutcomeOpening, NodeDue, OutcomeNumber}
 use Rattle.gf_tree.proofs.Common.{NewOutcomeName, NewOutcomeOpening, KnownOutcomeName, run_tokens}
 use Rattle.gf_tree.proofs.Common.{then_run, FileFront, a_first_name, a_node, an_end, an_opening}
-use Rattle.gf_tree.proofs.Common.{an_outcome, or_name, rules, same_text, BehindSet}
+use Rattle.gf_tree.proofs.Common.{an_outcome, or_name, rules, same_text, PastSet}
 use Rattle.std.proofs.Common.{tests}
 use Rattle.gf_token.specs.Indices.{index_of}
-use Rattle.gf_tree.specs.RowPlaces.{BehindOutcomeName, BehindZero}
+use Rattle.gf_tree.specs.RowPlaces.{PastOutcomeName, PastZero}
 use Rattle.gf_tree.proofs.lemmas.due.Answers.{after_last_node, node_by, node_due}
 use Rattle.gf_tree.proofs.lemmas.due.Nodes.{Parts, name_by, named_bare, stands_in, outcome_by}
 use Rattle.gf_tree.proofs.lemmas.due.Nodes.{parts}
 use Rattle.gf_tree.proofs.lemmas.due.Rows.{Stands, Answers, Law}
 use Rattle.gf_tree.proofs.lemmas.fronts.Codes.{BeginsBare, begins_on, begins_outcome, new_is}
-use Rattle.gf_tree.proofs.lemmas.fronts.Lists.{behind_outcome_number, to_outcome, to_told}
+use Rattle.gf_tree.proofs.lemmas.fronts.Lists.{past_outcome_number, to_outcome, to_told}
 use Rattle.gf_tree.proofs.lemmas.fronts.Runs.{goes_before}
 use Rattle.gf_tree.proofs.lemmas.fronts.Groups.{regroup}
 use Rattle.gf_tree.proofs.lemmas.runs.Tokens.{run_on, text_again, text_found}
@@ -30,7 +30,7 @@ outcome_law c b _ = (λ a. a, refl)
 begins_step : (front : List Token) (set : _) → ToOutcomeNumber front set → BeginsBare front
 begins_step front set h = (h.0, Text h.1 ∷ h.2, h.3)
 
-pub outcome_number_due : (f : FileFront) → BehindSet f.front → Stands f.before an_outcome
+pub outcome_number_due : (f : FileFront) → PastSet f.front → Stands f.before an_outcome
 outcome_number_due f h =
     let s = parts f (begins_step f.front h.0 h.1) in
     let k = to_told f.front h.0 s.content h.1 h.2 s.goes_on in
@@ -43,31 +43,31 @@ not_zero : (n : ℕ) → nat_eq (suc n) 0 ≡ false
 not_zero n = search (tests, rules)
 
 -- the end, or the letter of a node
-abbrev pub GoesOnBehind : FileFront → Type 0
-GoesOnBehind f = Stands f.before an_end ⊎ Stands f.before (a_node (length f.players))
+abbrev pub GoesOnPast : FileFront → Type 0
+GoesOnPast f = Stands f.before an_end ⊎ Stands f.before (a_node (length f.players))
 
-pub behind_node : (f : FileFront) (s : Parts f) (c : Content) → c.players ≡ f.players
+pub past_node : (f : FileFront) (s : Parts f) (c : Content) → c.players ≡ f.players
     → ((us : List Token) → run_tokens NodeDue s.content (f.front ++ us) ≡ run_tokens NodeDue c us)
-    → GoesOnBehind f
-behind_node f s c players answers = by c.due refl
+    → GoesOnPast f
+past_node f s c players answers = by c.due refl
   where
-    by : (n : ℕ) → c.due ≡ n → GoesOnBehind f
+    by : (n : ℕ) → c.due ≡ n → GoesOnPast f
     by zero e = inl (stands_in f s NodeDue c an_end answers (after_last_node c e) (rw e tt))
     by (suc n) e =
         let none = not_zero n in
         inr (rw (← players) (stands_in f s NodeDue c (a_node (length c.players)) answers (node_due c
         n e) (rw (e, none) (λ a. a, refl))))
 
-pub zero_front : (f : FileFront) → BehindZero f.front → BeginsBare f.front
+pub zero_front : (f : FileFront) → PastZero f.front → BeginsBare f.front
 zero_front f h = begins_on f.front h.0 (Bare h.2 ∷ []) (begins_step h.0 h.1 h.3) h.5
 
-pub after_zero : (f : FileFront) → BehindZero f.front → GoesOnBehind f
+pub after_zero : (f : FileFront) → PastZero f.front → GoesOnPast f
 after_zero f h =
     let s = parts f (zero_front f h) in
     let c = s.content in
     let g = s.goes_on in
     let o = to_outcome h.0 f.front h.2 h.5 c g h.1 h.3 in
-    behind_node f s (with_node o.content o.b None) (o.players ∙ s.same_players)
+    past_node f s (with_node o.content o.b None) (o.players ∙ s.same_players)
     (λ us. cc (regroup f.front h.0 (Bare h.2 ∷ []) us h.5, o.answers h.2 us, index_again h.2 0 h.4))
 
 -- ---- the name of an outcome
@@ -76,16 +76,16 @@ new_name_law : (c : Content) (b : Begun) (n : ℕ) → Law (NewOutcomeName b n) 
 new_name_law c b n (Text label) = tt
 new_name_law c b n _ = (λ a. a, refl)
 
-pub new_outcome : (f : FileFront) (n : ℕ) → BehindOutcomeNumber f.front n → IsNewOutcome f.nodes n
+pub new_outcome : (f : FileFront) (n : ℕ) → PastOutcomeNumber f.front n → IsNewOutcome f.nodes n
     → Stands f.before a_first_name
 new_outcome f n h new =
     let s = parts f (begins_outcome f.front n h) in
     let c = s.content in
-    let k = behind_outcome_number f.front n c h s.goes_on in
+    let k = past_outcome_number f.front n c h s.goes_on in
     let unknown = new_is (description_at nat_eq c.outcomes n)
     (λ d e. new d ((s.outcomes n d).1 e)) in
     stands_in f s (NewOutcomeName k.b n) k.content a_first_name
-    (λ us. k.answers us ∙ ap (λ o. run_on us (behind_outcome k.content k.b n o)) unknown)
+    (λ us. k.answers us ∙ ap (λ o. run_on us (past_outcome k.content k.b n o)) unknown)
     (new_name_law k.content k.b n) (λ a. a, refl)
 
 known_node_law : (c : Content) (outcome : Outcome) (due : ℕ) → c.due ≡ suc due
@@ -105,16 +105,16 @@ known_end_law c outcome e (Text label) = name_by outcome.name an_end label _
 known_end_law c outcome e Broken = (λ a. a, refl)
 known_end_law c outcome e _ = rw e (λ a. a, refl)
 
-abbrev pub GoesOnBehindOr : List ℕ → FileFront → Type 0
-GoesOnBehindOr name f = Stands f.before (or_name name an_end)
+abbrev pub GoesOnPastOr : List ℕ → FileFront → Type 0
+GoesOnPastOr name f = Stands f.before (or_name name an_end)
     ⊎ Stands f.before (or_name name (a_node (length f.players)))
 
-behind_known : (f : FileFront) (s : Parts f) (c : Content) (outcome : Outcome)
+past_known : (f : FileFront) (s : Parts f) (c : Content) (outcome : Outcome)
     → c.players ≡ f.players → ((us : List Token) → run_tokens NodeDue s.content (f.front ++ us)
-    ≡ run_tokens (KnownOutcomeName outcome) c us) → GoesOnBehindOr outcome.name f
-behind_known f s c outcome players answers = by c.due refl
+    ≡ run_tokens (KnownOutcomeName outcome) c us) → GoesOnPastOr outcome.name f
+past_known f s c outcome players answers = by c.due refl
   where
-    by : (n : ℕ) → c.due ≡ n → GoesOnBehindOr outcome.name f
+    by : (n : ℕ) → c.due ≡ n → GoesOnPastOr outcome.name f
     by zero e =
         inl (stands_in f s (KnownOutcomeName outcome) c (or_name outcome.name an_end) answers
         (known_end_law c outcome e) (rw e tt))
@@ -126,13 +126,13 @@ behind_known f s c outcome players answers = by c.due refl
         (or_name outcome.name (a_node (length c.players))) answers (known_node_law c outcome n e)
         (rw (e, none) (λ a. a, refl))))
 
-pub known_outcome : (f : FileFront) (n : ℕ) (outcome : Outcome) → BehindOutcomeNumber f.front n
-    → KnowsOutcome f.nodes n outcome → GoesOnBehindOr outcome.name f
+pub known_outcome : (f : FileFront) (n : ℕ) (outcome : Outcome) → PastOutcomeNumber f.front n
+    → KnowsOutcome f.nodes n outcome → GoesOnPastOr outcome.name f
 known_outcome f n outcome h knows =
     let s = parts f (begins_outcome f.front n h) in
     let c = s.content in
-    let k = behind_outcome_number f.front n c h s.goes_on in
-    behind_known f s (with_node k.content k.b (Some n)) outcome (k.players ∙ s.same_players)
+    let k = past_outcome_number f.front n c h s.goes_on in
+    past_known f s (with_node k.content k.b (Some n)) outcome (k.players ∙ s.same_players)
     (λ us. cc (k.answers us, (s.outcomes n outcome).0 knows))
 
 -- ---- the opening brace
@@ -148,7 +148,7 @@ known_opening_law c ps _ = (λ a. a, refl)
 
 opening_by : (f : FileFront) (s : Parts f) (name : List ℕ) (n : ℕ) (b : Begun) (content : Content)
     (o : Option Outcome) → ((us : List Token) → run_tokens NodeDue s.content (f.front ++ us)
-    ≡ run_on (Text name ∷ us) (behind_outcome content b n o)) → Stands f.before an_opening
+    ≡ run_on (Text name ∷ us) (past_outcome content b n o)) → Stands f.before an_opening
 opening_by f s name n b content None answers =
     stands_in f s (NewOutcomeOpening b n name) content an_opening answers
     (new_opening_law content b n name) (λ a. a, refl)
@@ -163,12 +163,12 @@ opening_by f s name n b content (Some known) answers =
     ∙ ap (λ o. then_run o (run_on us)) (text_again known.name after))
     (known_opening_law d known.payoffs) (λ a. a, refl)
 
-pub outcome_opening : (f : FileFront) (n : ℕ) → BehindOutcomeName f.front n
+pub outcome_opening : (f : FileFront) (n : ℕ) → PastOutcomeName f.front n
     → Stands f.before an_opening
 outcome_opening f n h =
     let s = parts f (begins_on f.front h.0 (Text h.1 ∷ []) (begins_outcome h.0 n h.2) h.3) in
     let c = s.content in
-    let k = behind_outcome_number h.0 n c h.2
+    let k = past_outcome_number h.0 n c h.2
     (goes_before c f.front h.0 (Text h.1 ∷ []) s.goes_on h.3) in
     opening_by f s h.1 n k.b k.content (description_at nat_eq c.outcomes n)
     (λ us. cc (regroup f.front h.0 (Text h.1 ∷ []) us h.3, k.answers (Text h.1 ∷ us)))

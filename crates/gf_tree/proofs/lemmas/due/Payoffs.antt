@@ -7,16 +7,16 @@ use Rattle.gf_tree.proofs.Common.{Text, Bare, Each, IsPayoffInBraces, Outcome, d
 use Rattle.gf_tree.proofs.Common.{run_tokens, FileFront, InPayoffs, IsExtensiveFile, IsNewOutcome}
 use Rattle.gf_tree.proofs.Common.{KnowsOutcome, Begun, Content, State, at, paid, NodeDue}
 use Rattle.gf_tree.proofs.Common.{AfterKnownPayoff, Row, a_node, an_end, or_comma, this_number, not}
-use Rattle.gf_tree.proofs.Common.{append_cancel_left, is_comma, ToPayoff, BehindNode, BehindPayoff}
+use Rattle.gf_tree.proofs.Common.{append_cancel_left, is_comma, ToPayoff, PastNode, PastPayoff}
 use Rattle.gf_tree.proofs.Common.{outcome_ends, a_closing, a_payoff}
 use Rattle.gf_fraction.specs.Computed.{number_of}
-use Rattle.gf_tree.specs.RowPlaces.{BehindComma, BehindPayoffs}
+use Rattle.gf_tree.specs.RowPlaces.{PastComma, PastPayoffs}
 use Rattle.gf_tree.proofs.lemmas.fronts.Cuts.{each_more}
 use Rattle.gf_tree.proofs.lemmas.Once.{none_or_some, one_some}
 use Rattle.gf_tree.proofs.lemmas.due.Actions.{same_answers}
 use Rattle.gf_tree.proofs.lemmas.due.Answers.{spells_fault}
 use Rattle.gf_tree.proofs.lemmas.due.Nodes.{Parts, stands_in, parts}
-use Rattle.gf_tree.proofs.lemmas.due.Outcomes.{GoesOnBehind, after_zero, behind_node}
+use Rattle.gf_tree.proofs.lemmas.due.Outcomes.{GoesOnPast, after_zero, past_node}
 use Rattle.gf_tree.proofs.lemmas.due.Rows.{Answers, EndLaw, Law, Stands, accepted}
 use Rattle.gf_tree.proofs.lemmas.fronts.Codes.{begins_on, begins_payoffs, known_outcome}
 use Rattle.gf_tree.proofs.lemmas.fronts.Payoffs.{AtKnownPayoff, AtNewPayoff, ends_number}
@@ -40,9 +40,9 @@ ends_last : (may : Bool) (ts : List Token) (t : Token)
 ends_last may [] t = refl
 ends_last may (u ∷ ts) t = ends_last (not (is_comma u)) ts t
 
-pub seen_behind : (front : List Token) (n : ℕ) (ps : List Ratio) → BehindPayoff front n ps
+pub seen_after : (front : List Token) (n : ℕ) (ps : List Ratio) → PastPayoff front n ps
     → Seen front n ps true
-seen_behind front n ps h =
+seen_after front n ps h =
     let seen = h.1 in
     let k = h.4 in
     record {
@@ -60,7 +60,7 @@ seen_behind front n ps h =
       may_is = ends_last false k.1 (Bare h.2);
     }
 
-seen_comma : (front : List Token) (n : ℕ) (ps : List Ratio) → BehindComma front n ps
+seen_comma : (front : List Token) (n : ℕ) (ps : List Ratio) → PastComma front n ps
     → Seen front n ps false
 seen_comma front n ps h =
     let b = h.1 in
@@ -273,21 +273,21 @@ pub no_payoff : (f : FileFront) (n : ℕ) (payoffs : List Ratio) → ToPayoff f.
 no_payoff f n payoffs h = none_left f n payoffs false (seen_to f.front n payoffs h)
 
 pub after_new_payoff : (f : FileFront) (n : ℕ) (payoffs : List Ratio)
-    → BehindPayoff f.front n payoffs → IsNewOutcome f.nodes n → length payoffs < length f.players
+    → PastPayoff f.front n payoffs → IsNewOutcome f.nodes n → length payoffs < length f.players
     → Stands f.before (or_comma a_payoff)
-after_new_payoff f n payoffs h = new_next f n payoffs true (seen_behind f.front n payoffs h)
+after_new_payoff f n payoffs h = new_next f n payoffs true (seen_after f.front n payoffs h)
 
 pub after_known_payoff : (f : FileFront) (n : ℕ) (payoffs : List Ratio) (outcome : Outcome)
-    (p : Ratio) (others : List Ratio) → BehindPayoff f.front n payoffs
+    (p : Ratio) (others : List Ratio) → PastPayoff f.front n payoffs
     → KnowsOutcome f.nodes n outcome → outcome.payoffs ≡ payoffs ++ p ∷ others
     → Stands f.before (or_comma (this_number p))
 after_known_payoff f n payoffs outcome p others h =
-    known_next_is f n payoffs true (seen_behind f.front n payoffs h) outcome p others
+    known_next_is f n payoffs true (seen_after f.front n payoffs h) outcome p others
 
 pub after_last_payoff : (f : FileFront) (n : ℕ) (payoffs : List Ratio)
-    → BehindPayoff f.front n payoffs → length payoffs ≡ length f.players
+    → PastPayoff f.front n payoffs → length payoffs ≡ length f.players
     → Stands f.before (or_comma a_closing)
-after_last_payoff f n payoffs h = none_left f n payoffs true (seen_behind f.front n payoffs h)
+after_last_payoff f n payoffs h = none_left f n payoffs true (seen_after f.front n payoffs h)
 
 -- ---- after a description
 
@@ -303,7 +303,7 @@ known_ended : (may : Bool) (ps : List Ratio) (c r : Content) (more us : List Tok
     → run_tokens (known_at may ps) c (Closing ∷ us) ≡ run_tokens NodeDue c us
 known_ended may ps c r more us h = grind arith
 
-pub after_payoffs : (f : FileFront) → BehindPayoffs f.front → GoesOnBehind f
+pub after_payoffs : (f : FileFront) → PastPayoffs f.front → GoesOnPast f
 after_payoffs f h =
     let s = parts f (begins_on f.front h.0 (Closing ∷ []) (begins_payoffs h.0 h.1 h.2 h.3) h.4) in
     let c = s.content in
@@ -311,11 +311,11 @@ after_payoffs f h =
     let first = λ (us : List Token).
     ap (run_tokens NodeDue c) (regroup f.front h.0 (Closing ∷ []) us h.4) in
     elim (in_payoffs h.0 h.1 h.2 c h.3 (goes_before c f.front h.0 (Closing ∷ []) g h.4)) [
-      | inl k ↦ behind_node f s (outcome_ends k.content k.b h.1 h.2).content
+      | inl k ↦ past_node f s (outcome_ends k.content k.b h.1 h.2).content
           (k.players ∙ s.same_players) (λ us. first us ∙ k.answers (Closing ∷ us)
           ∙ new_ended k.may k.b h.1 h.2 k.left k.content g.read g.more us
           (sym (first g.more ∙ k.answers (Closing ∷ g.more)) ∙ g.reads))
-      | inr k ↦ behind_node f s k.content (k.players ∙ s.same_players)
+      | inr k ↦ past_node f s k.content (k.players ∙ s.same_players)
           (λ us. first us ∙ k.answers (Closing ∷ us)
           ∙ known_ended k.may k.others k.content g.read g.more us
           (sym (first g.more ∙ k.answers (Closing ∷ g.more)) ∙ g.reads))
@@ -323,18 +323,18 @@ after_payoffs f h =
 
 -- ---- after a node
 
-pub either : (f : FileFront) → BehindNode f.front → GoesOnBehind f
+pub either : (f : FileFront) → PastNode f.front → GoesOnPast f
 either f (inl h) = after_zero f h
 either f (inr h) = after_payoffs f h
 
-pub nodes_due : (f : FileFront) → BehindNode f.front → ¬ (IsExtensiveFile f.before)
+pub nodes_due : (f : FileFront) → PastNode f.front → ¬ (IsExtensiveFile f.before)
     → Stands f.before (a_node (length f.players))
 nodes_due f h more = elim (either f h) [
   | inl k ↦ absurd (more ((accepted f.before an_end k []).1 tt))
   | inr k ↦ k
 ]
 
-pub after_last_node : (f : FileFront) → BehindNode f.front → IsExtensiveFile f.before
+pub after_last_node : (f : FileFront) → PastNode f.front → IsExtensiveFile f.before
     → Stands f.before an_end
 after_last_node f h file = elim (either f h) [
   | inl k ↦ k

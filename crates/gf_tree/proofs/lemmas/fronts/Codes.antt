@@ -5,8 +5,8 @@ use Rattle.gf_tree.proofs.Common.{◌≡◌, ℕ, ◌≤◌, List, [], ◌∷◌
 use Rattle.gf_tree.proofs.Common.{Result, Err, refl, sym, ap, ◌∙◌, nat_eq, inl, inr, filter_map}
 use Rattle.gf_tree.proofs.Common.{Decides-eqb, Token, Opening, Text, Bare, Why, Expected}
 use Rattle.gf_tree.proofs.Common.{InformationSet, IsOutcome, Outcome, SetKey, same_set, set_of}
-use Rattle.gf_tree.proofs.Common.{Action, description_at, run_tokens, BehindOutcomeNumber}
-use Rattle.gf_tree.proofs.Common.{BehindSetNumber, EndsInNode, InActions, InPayoffs, KnowsOutcome}
+use Rattle.gf_tree.proofs.Common.{Action, description_at, run_tokens, PastOutcomeNumber}
+use Rattle.gf_tree.proofs.Common.{PastSetNumber, EndsInNode, InActions, InPayoffs, KnowsOutcome}
 use Rattle.gf_tree.proofs.Common.{KnowsSet, Content, nothing, Begun, begun, Format, NodeDue}
 use Rattle.gf_tree.proofs.Common.{KnownAction, code_of, ToProbability}
 use Rattle.gf_tree.proofs.lemmas.fronts.Nodes.{learned_at, parted}
@@ -42,7 +42,7 @@ pub begins_on : (front first others : List Token) → BeginsBare first → front
 begins_on front first others h e =
     (h.0, h.1 ++ others, e ∙ ap (λ (ts : List Token). ts ++ others) h.2)
 
-pub begins_number : (front : List Token) (key : SetKey) → BehindSetNumber front key
+pub begins_number : (front : List Token) (key : SetKey) → PastSetNumber front key
     → BeginsBare front
 begins_number front key h =
     begins_on front h.0 (Bare h.1 ∷ []) (h.3.0, Text h.3.1 ∷ h.3.2, h.3.3) h.2
@@ -57,7 +57,7 @@ pub begins_probability : (front : List Token) (n : ℕ) (set : InformationSet)
 begins_probability front n set h =
     begins_on front h.0 (Text h.1 ∷ []) (begins_actions h.0 (set_of 0 n) set h.3) h.2
 
-pub begins_outcome : (front : List Token) (n : ℕ) → BehindOutcomeNumber front n → BeginsBare front
+pub begins_outcome : (front : List Token) (n : ℕ) → PastOutcomeNumber front n → BeginsBare front
 begins_outcome front n h =
     begins_on front h.0 (Bare h.2 ∷ []) (h.4.0, Text h.4.1 ∷ h.4.2, h.4.3) h.3
 

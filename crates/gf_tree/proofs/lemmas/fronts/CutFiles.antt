@@ -6,9 +6,9 @@ use Rattle.gf_tree.proofs.Common.{append-nil, inl, inr, codes, cons_option, filt
 use Rattle.gf_tree.proofs.Common.{braced, IsComment, Begins, Opening, Closing, Text, Bare}
 use Rattle.gf_tree.proofs.Common.{AreConsistent, Describes, InformationSet, IsOutcome, IsSet}
 use Rattle.gf_tree.proofs.Common.{Outcome, SetKey, set_of, Use, FileNode, FileTree, outcome_uses}
-use Rattle.gf_tree.proofs.Common.{set_uses, BehindSetNumber, IsExtensiveFile, Entry, flatten}
+use Rattle.gf_tree.proofs.Common.{set_uses, PastSetNumber, IsExtensiveFile, Entry, flatten}
 use Rattle.gf_tree.proofs.Common.{FileFront, IsDescription, IsInformationSet, SpellsMover, IsNode}
-use Rattle.gf_tree.proofs.Common.{IsPositive, IsResult, IsStep, filter_map-append, BehindPlayers}
+use Rattle.gf_tree.proofs.Common.{IsPositive, IsResult, IsStep, filter_map-append, PastPlayers}
 use Rattle.gf_tree.proofs.Common.{IsBeforeRow, IsInHeading, IsInNode}
 use Rattle.gf_tree.specs.RowPlaces.{InPlayers}
 use Rattle.gf_tree.specs.Sentence.{Says}
@@ -51,8 +51,8 @@ module _ (f : FileFront) (letter name : List ℕ) (more result : List Token)
     abbrev behind : List Token
     behind = Bare letter ∷ Text name ∷ (mover ++ Bare number ∷ [])
 
-    behind_is : BehindSetNumber behind (set_of player n)
-    behind_is = (
+    past_is : PastSetNumber behind (set_of player n)
+    past_is = (
       Bare letter ∷ Text name ∷ mover,
       number,
       refl,
@@ -81,7 +81,7 @@ module _ (f : FileFront) (letter name : List ℕ) (more result : List Token)
         → ts ++ more ≡ description ++ result
         → MatchOption o (Unit {0}) (λ d. IsSetHere f (set_of player n) d) → IsInNode f
     numbered [] description o is e parts here =
-        set_place f bare (set_of player n) (rw (e ∙ append-nil behind) behind_is)
+        set_place f bare (set_of player n) (rw (e ∙ append-nil behind) past_is)
     numbered (t ∷ ts) description None is e parts here =
         result_place f bare (Bare letter ∷ Text name ∷ (mover ++ Bare number ∷ []))
         (Some (use_here None)) t ts more result outcome (
@@ -97,7 +97,7 @@ module _ (f : FileFront) (letter name : List ℕ) (more result : List Token)
         IsInNode.SetOpening (set_of player n) (
           behind,
           d.name,
-          behind_is,
+          past_is,
           e ∙ (λ i. behind ++ first i ∷ []),
         )
     numbered (t ∷ u ∷ ts) description (Some d) is e parts here =
@@ -106,7 +106,7 @@ module _ (f : FileFront) (letter name : List ℕ) (more result : List Token)
         let opened : f.front ≡ behind ++ Text d.name ∷ Opening ∷ ts = cc in
         elim (cut ts more is.0 (Closing ∷ result)
         (ap (drop 2) whole ∙ append_assoc is.0 (Closing ∷ []) result)) [
-          | inl k ↦ actions_place f bare behind ts k.0 is.0 player n d behind_is opened (sym k.1)
+          | inl k ↦ actions_place f bare behind ts k.0 is.0 player n d past_is opened (sym k.1)
               is.2
               here
           | inr k ↦ by opened k.0 k.1 k.2
@@ -114,7 +114,7 @@ module _ (f : FileFront) (letter name : List ℕ) (more result : List Token)
       where
         by : f.front ≡ behind ++ Text d.name ∷ Opening ∷ ts → (r : List Token) → ts ≡ is.0 ++ r
             → r ++ more ≡ Closing ∷ result → IsInNode f
-        by opened [] k m = actions_place f bare behind ts [] is.0 player n d behind_is opened
+        by opened [] k m = actions_place f bare behind ts [] is.0 player n d past_is opened
             (append-nil ts ∙ k ∙ append-nil is.0) is.2 here
         by opened (v ∷ vs) k m =
             described (Text d.name ∷ Opening ∷ (is.0 ++ Closing ∷ [])) (Some d) vs
@@ -316,19 +316,19 @@ module _ (before more : List Token) (file : IsExtensiveFile (before ++ more)) wh
     refl,
   )
 
-  closed : BehindPlayers (headed says.letter tree.title (braced names)) tree.players
+  closed : PastPlayers (headed says.letter tree.title (braced names)) tree.players
   closed = (headed says.letter tree.title (Opening ∷ names), opened, refl)
 
   -- after the players
-  behind_players : (ts comment : List Token) → IsComment comment tree.comment
+  past_players : (ts comment : List Token) → IsComment comment tree.comment
       → before ≡ headed says.letter tree.title (braced names ++ ts)
       → ts ++ more ≡ comment ++ says.nodes → IsBeforeRow before
-  behind_players [] comment is_comment e parts = inl (IsInHeading.AfterPlayers tree.players
-      (subst (λ (us : List Token). BehindPlayers us tree.players)
+  past_players [] comment is_comment e parts = inl (IsInHeading.AfterPlayers tree.players
+      (subst (λ (us : List Token). PastPlayers us tree.players)
       (sym (e ∙ ap (headed says.letter tree.title) (append-nil (braced names)))) closed))
-  behind_players (t ∷ ts) comment (inl k) e parts = in_nodes [] t ts (inl (refl, k.1)) e
+  past_players (t ∷ ts) comment (inl k) e parts = in_nodes [] t ts (inl (refl, k.1)) e
       (parts ∙ ap (λ (us : List Token). us ++ says.nodes) k.0)
-  behind_players (t ∷ []) comment (inr k) e parts =
+  past_players (t ∷ []) comment (inr k) e parts =
       let whole = parts ∙ ap (λ (us : List Token). us ++ says.nodes) k in
       let first = first_is t (Text tree.comment) more says.nodes whole in
       inl (IsInHeading.AfterComment tree.players (
@@ -337,7 +337,7 @@ module _ (before more : List Token) (file : IsExtensiveFile (before ++ more)) wh
         closed,
         e ∙ (λ i. headed says.letter tree.title (braced names ++ first i ∷ [])),
       ))
-  behind_players (t ∷ u ∷ ts) comment (inr k) e parts =
+  past_players (t ∷ u ∷ ts) comment (inr k) e parts =
       let whole = parts ∙ ap (λ (us : List Token). us ++ says.nodes) k in
       let first = first_is t (Text tree.comment) (u ∷ (ts ++ more)) says.nodes whole in
       in_nodes (Text tree.comment ∷ []) u ts (inr refl)
@@ -369,7 +369,7 @@ module _ (before more : List Token) (file : IsExtensiveFile (before ++ more)) wh
           (sym (e ∙ (λ i. headed says.letter tree.title (Opening ∷ (k ∙ append-nil names) i))))
           opened))
       all (t ∷ r) k m =
-          behind_players r says.comment says.is_comment
+          past_players r says.comment says.is_comment
           (cc (append_assoc names (Closing ∷ []) r)) (ap (drop 1) m)
 
 some_of : (before more : List Token) → IsExtensiveFile (before ++ more) → IsBeforeRow before

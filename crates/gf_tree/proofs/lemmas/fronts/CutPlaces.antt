@@ -6,10 +6,10 @@ use Rattle.gf_tree.proofs.Common.{append-nil, arith, inl, inr, nat_eq, pos, ◌�
 use Rattle.gf_tree.proofs.Common.{Ratio, whole, Token, Each, IsPayoffInBraces, Opening, Closing}
 use Rattle.gf_tree.proofs.Common.{Comma, Text, Bare, Action, AreActions, InformationSet, IsOutcome}
 use Rattle.gf_tree.proofs.Common.{IsSet, Outcome, SetKey, same_set, set_of, set_with, Use}
-use Rattle.gf_tree.proofs.Common.{description_at, BehindOutcomeNumber, BehindSetNumber, InActions}
+use Rattle.gf_tree.proofs.Common.{description_at, PastOutcomeNumber, PastSetNumber, InActions}
 use Rattle.gf_tree.proofs.Common.{IsNewSet, KnowsOutcome, KnowsSet, ToOutcomeNumber, FileFront}
 use Rattle.gf_tree.proofs.Common.{IsAction, IsDescription, IsOutcomeDescription, IsResult, IsInNode}
-use Rattle.gf_tree.proofs.Common.{HasSum, AddUpTo, BehindPayoff, ToPayoff}
+use Rattle.gf_tree.proofs.Common.{HasSum, AddUpTo, PastPayoff, ToPayoff}
 use Rattle.gf_tree.proofs.lemmas.fronts.Cuts.{Last, Within, cut, each_last, each_more, first_is}
 use Rattle.gf_tree.proofs.lemmas.fronts.Cuts.{none_left, within}
 use Rattle.gf_tree.proofs.lemmas.fronts.Codes.{BeginsBare}
@@ -80,9 +80,9 @@ payoffs_read ps (t ∷ ts) more inner e h =
 
 -- after the opening brace or a comma, or after a payoff
 pub payoff_place : (front behind inner : List Token) (n : ℕ) (name : List ℕ)
-    (payoffs : List Ratio) → BehindOutcomeNumber behind n
+    (payoffs : List Ratio) → PastOutcomeNumber behind n
     → front ≡ behind ++ Text name ∷ Opening ∷ inner → Each IsPayoffInBraces inner payoffs
-    → ToPayoff front n payoffs ⊎ BehindPayoff front n payoffs
+    → ToPayoff front n payoffs ⊎ PastPayoff front n payoffs
 payoff_place front behind inner n name payoffs h e each =
     elim (each_last IsPayoffInBraces payoffs inner each) [
       | inl k ↦ inl (inl (
@@ -97,7 +97,7 @@ payoff_place front behind inner n name payoffs h e each =
     ]
   where
     paid : (k : Last IsPayoffInBraces inner payoffs)
-        → BehindPayoff ((behind ++ Text name ∷ Opening ∷ k.front) ++ Bare k.is_last.0 ∷ []) n
+        → PastPayoff ((behind ++ Text name ∷ Opening ∷ k.front) ++ Bare k.is_last.0 ∷ []) n
         payoffs
     paid k = (
       behind ++ Text name ∷ Opening ∷ k.front,
@@ -116,8 +116,8 @@ payoff_place front behind inner n name payoffs h e each =
 
     by : (k : Last IsPayoffInBraces inner payoffs)
         → ((k.is_last.1 ≡ []) ⊎ (k.is_last.1 ≡ Comma ∷ []))
-        → ToPayoff front n payoffs ⊎ BehindPayoff front n payoffs
-    by k (inl c) = inr (subst (λ (ts : List Token). BehindPayoff ts n payoffs)
+        → ToPayoff front n payoffs ⊎ PastPayoff front n payoffs
+    by k (inl c) = inr (subst (λ (ts : List Token). PastPayoff ts n payoffs)
         (cc (whole k)) (paid k))
     by k (inr c) = inl (inr (
       (behind ++ Text name ∷ Opening ∷ k.front) ++ Bare k.is_last.0 ∷ [],
@@ -132,16 +132,16 @@ payoff_place front behind inner n name payoffs h e each =
 module _ (f : FileFront) (bare : BeginsBare f.front) where
   -- ---- the outcome
 
-  number_place : (n : ℕ) → BehindOutcomeNumber f.front n → IsInNode f
+  number_place : (n : ℕ) → PastOutcomeNumber f.front n → IsInNode f
   number_place n h = elim (outcome_known f n bare) [
     | inl k ↦ IsInNode.KnownOutcome n k.0 h k.1
     | inr new ↦ IsInNode.NewOutcome n h new
   ]
 
   payoffs_by : (behind front : List Token) (n : ℕ) (d : Outcome) (r : PayoffsRead front d.payoffs)
-      (left : List Ratio) → BehindOutcomeNumber behind n
+      (left : List Ratio) → PastOutcomeNumber behind n
       → f.front ≡ behind ++ Text d.name ∷ Opening ∷ front → IsOutcomeHere f n d → r.left ≡ left
-      → ToPayoff f.front n r.seen ⊎ BehindPayoff f.front n r.seen → IsInNode f
+      → ToPayoff f.front n r.seen ⊎ PastPayoff f.front n r.seen → IsInNode f
   payoffs_by behind front n d r [] h e is none place =
       let all : length r.seen ≡ length f.players =
       cc (append-nil r.seen, r.values, is.0.one_payoff_each) in
@@ -169,7 +169,7 @@ module _ (f : FileFront) (bare : BeginsBare f.front) where
       ]
 
   payoffs_place : (behind front more inner : List Token) (n : ℕ) (d : Outcome)
-      → BehindOutcomeNumber behind n → f.front ≡ behind ++ Text d.name ∷ Opening ∷ front
+      → PastOutcomeNumber behind n → f.front ≡ behind ++ Text d.name ∷ Opening ∷ front
       → front ++ more ≡ inner → Each IsPayoffInBraces inner d.payoffs → IsOutcomeHere f n d
       → IsInNode f
   payoffs_place behind front more inner n d h e parts each is =
@@ -179,7 +179,7 @@ module _ (f : FileFront) (bare : BeginsBare f.front) where
 
   -- in the description of an outcome, or after it
   outcome_place : (behind front more description : List Token) (n : ℕ) (o : Option Outcome)
-      → BehindOutcomeNumber behind n → f.front ≡ behind ++ front → front ++ more ≡ description
+      → PastOutcomeNumber behind n → f.front ≡ behind ++ front → front ++ more ≡ description
       → IsDescription (IsOutcomeDescription (length f.players)) description o
       → MatchOption o (Unit {0}) (λ d. IsOutcomeHere f n d) → IsInNode f
   outcome_place behind [] more description n o h e parts is here =
@@ -248,7 +248,7 @@ action_front zero t (u ∷ front) rest a h = grind (arith, none_left)
 action_front (suc player) t front rest a h = grind (arith, none_left)
 
 module _ (f : FileFront) (bare : BeginsBare f.front) where
-  pub set_place : (key : SetKey) → BehindSetNumber f.front key → IsInNode f
+  pub set_place : (key : SetKey) → PastSetNumber f.front key → IsInNode f
   set_place key h = elim (set_known f key bare) [
     | inl k ↦ IsInNode.KnownSet key k.0 h k.1
     | inr new ↦ IsInNode.NewSet key h new
@@ -302,7 +302,7 @@ module _ (f : FileFront) (bare : BeginsBare f.front) where
     ]
 
   actions_by : (behind tokens : List Token) (player n : ℕ) (d : InformationSet)
-      (w : Within (IsAction player) tokens d.actions) → BehindSetNumber behind (set_of player n)
+      (w : Within (IsAction player) tokens d.actions) → PastSetNumber behind (set_of player n)
       → f.front ≡ behind ++ Text d.name ∷ Opening ∷ (w.whole ++ w.first ∷ w.front)
       → IsSetHere f (set_of player n) d → player ≡ 0 → w.first ∷ w.front ≡ Text w.last.label ∷ []
       → ((p : Ratio) × (w.last.probability ≡ Some p)) → IsInNode f
@@ -314,7 +314,7 @@ module _ (f : FileFront) (bare : BeginsBare f.front) where
       refl has.1
 
   pub actions_place : (behind front more inner : List Token) (player n : ℕ) (d : InformationSet)
-      → BehindSetNumber behind (set_of player n)
+      → PastSetNumber behind (set_of player n)
       → f.front ≡ behind ++ Text d.name ∷ Opening ∷ front → front ++ more ≡ inner
       → Each (IsAction player) inner d.actions → IsSetHere f (set_of player n) d → IsInNode f
   actions_place behind [] more inner player n d h e parts each is =

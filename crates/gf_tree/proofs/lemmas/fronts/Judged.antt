@@ -11,7 +11,7 @@ use Rattle.gf_tree.proofs.Common.{SetKey, set_of, set_with, InActions, IsExtensi
 use Rattle.gf_tree.proofs.Common.{EndsInNode, code_of, why_of, Unterminated, BadIndex, SumAboveOne}
 use Rattle.gf_tree.proofs.Common.{SumBelowOne, SumOverflow, NoEntry, this_label, a_new_action}
 use Rattle.gf_tree.proofs.Common.{a_new_branch, Refuses, no_label, IsReason, DiffersFromOutcome}
-use Rattle.gf_tree.proofs.Common.{DiffersFromSet, EndsInFirstUse, IsWrongBehind, ListsActions}
+use Rattle.gf_tree.proofs.Common.{DiffersFromSet, EndsInFirstUse, IsWrongAfter, ListsActions}
 use Rattle.gf_tree.proofs.Common.{SumFits, HasNumberFault, answer_is, Applies}
 use Rattle.gf_token.specs.declared.fault.Why.TheVariants.{NotANumber, ZeroDenominator}
 use Rattle.gf_token.specs.declared.fault.Why.TheVariants.{NumberTooLarge, NotDescribed}
@@ -63,15 +63,15 @@ other_number b p q why is (inr k) = k.0
 
 -- the reason is that of this number after this sum, and first of its sign
 abbrev IsOrdered : Ratio → Ratio → Why → Type 0
-IsOrdered sum p why = IsWrongBehind why sum p × ((why ≡ NegativeProbability) ⊎ (pos 0 ≤ℤ p.num))
+IsOrdered sum p why = IsWrongAfter why sum p × ((why ≡ NegativeProbability) ⊎ (pos 0 ≤ℤ p.num))
 
-up_to_above : (sum p : Ratio) (why : Why) → SumFits sum p → IsWrongBehind why sum p → IsUpTo why 12
+up_to_above : (sum p : Ratio) (why : Why) → SumFits sum p → IsWrongAfter why sum p → IsUpTo why 12
 up_to_above sum p NegativeProbability fits wrong = omega arith
 up_to_above sum p SumAboveOne fits wrong = omega arith
 up_to_above sum p SumOverflow fits wrong = absurd (wrong fits)
 up_to_above sum p _ fits wrong = absurd wrong
 
-up_to_overflow : (sum p : Ratio) (why : Why) → IsWrongBehind why sum p → IsUpTo why 14
+up_to_overflow : (sum p : Ratio) (why : Why) → IsWrongAfter why sum p → IsUpTo why 14
 up_to_overflow sum p NegativeProbability wrong = omega arith
 up_to_overflow sum p SumAboveOne wrong = omega arith
 up_to_overflow sum p SumOverflow wrong = omega arith

@@ -1,16 +1,16 @@
 -- What the machine of the reader answers after the front of a node, from a probability up to the
 -- number of the outcome: the shape of the front determines this too.
-use Rattle.gf_tree.proofs.Common.{◌≡◌, behind_outcome, NewProbability, OutcomeNumber, IsDescription}
+use Rattle.gf_tree.proofs.Common.{◌≡◌, past_outcome, NewProbability, OutcomeNumber, IsDescription}
 use Rattle.gf_tree.proofs.Common.{ℕ, [], Some, None, refl, ◌∙◌, inl, inr, pos, ◌⊎◌, Text, Bare, Use}
 use Rattle.gf_tree.proofs.Common.{List, Opening, Closing, NewAction, then_run, IsPositive, with_set}
-use Rattle.gf_tree.proofs.Common.{◌∷◌, IsFraction, behind_set, KnownAction, run_tokens, SpellsMover}
+use Rattle.gf_tree.proofs.Common.{◌∷◌, IsFraction, past_set, KnownAction, run_tokens, SpellsMover}
 use Rattle.gf_tree.proofs.Common.{◌++◌, sym, subst, arith, Ratio, whole, Token, IsSet, Begun, begun}
 use Rattle.gf_tree.proofs.Common.{length, Option, nat_eq, Action, SetKey, set_of, Content, NodeDue}
-use Rattle.gf_tree.proofs.Common.{MatchOption, InActions, behind_label, new_set_ends, ToProbability}
+use Rattle.gf_tree.proofs.Common.{MatchOption, InActions, past_label, new_set_ends, ToProbability}
 use Rattle.gf_tree.proofs.Common.{Ok, ap, at}
 use Rattle.gf_tree.proofs.Common.{AllByRecursion, InformationSet, description_at, ToOutcomeNumber}
-use Rattle.gf_tree.proofs.Common.{same_set, BehindOutcomeNumber, KnownProbability, IsInformationSet}
-use Rattle.gf_tree.proofs.lemmas.fronts.Runs.{GoesOn, HaveSumFrom, behind_number, due_is}
+use Rattle.gf_tree.proofs.Common.{same_set, PastOutcomeNumber, KnownProbability, IsInformationSet}
+use Rattle.gf_tree.proofs.lemmas.fronts.Runs.{GoesOn, HaveSumFrom, past_number, due_is}
 use Rattle.gf_tree.proofs.lemmas.fronts.Runs.{goes_before, in_actions}
 use Rattle.gf_tree.proofs.lemmas.fronts.Groups.{regroup}
 use Rattle.gf_tree.proofs.lemmas.runs.KnownActions.{HasProbability, label_again, probabilities}
@@ -60,7 +60,7 @@ known_label : (others : List Action) (b : Begun) (label : List ℕ) (c r : Conte
     ≡ run_tokens (KnownProbability b p rest) c us)
 known_label [] b label c r more has e = absurd cc
 known_label (a ∷ rest) b label c r more has e =
-    let h = text_found a.label label (at (behind_label b a.probability rest) c) more r e in (
+    let h = text_found a.label label (at (past_label b a.probability rest) c) more r e in (
       a,
       rest,
       refl,
@@ -221,7 +221,7 @@ told_outcome c front h = grind arith
 -- after a set without a description, a bare token comes only if the set is known
 known_by : (name : List ℕ) (key : SetKey) (o : Option InformationSet) (c r : Content) (t : List ℕ)
     (us : List Token) → description_at same_set c.sets key ≡ o
-    → Reads (behind_set name key o) c (Bare t ∷ us) r
+    → Reads (past_set name key o) c (Bare t ∷ us) r
     → (d : InformationSet) × (description_at same_set c.sets key ≡ Some d)
 known_by name key None c r t us is e = absurd cc
 known_by name key (Some d) c r t us is e = (d, is)
@@ -236,7 +236,7 @@ module _ (front whole : List Token) (t : List ℕ) (f : whole ≡ front ++ Bare 
       → IsDescription (IsInformationSet u.key.player) description o → AtOutcome c front
   step_by u None letter name mover description number e moves positive h =
       let to_set = Bare letter ∷ Text name ∷ mover in
-      let k = behind_number front u.key c (
+      let k = past_number front u.key c (
         to_set,
         number,
         e ∙ ap (λ (ts : List Token). to_set ++ Bare number ∷ ts) h,
@@ -252,7 +252,7 @@ module _ (front whole : List Token) (t : List ℕ) (f : whole ≡ front ++ Bare 
         players = refl;
         outcomes = refl;
         answers = λ b us. k.answers (Bare b ∷ us)
-            ∙ ap (λ o. run_tokens (behind_set k.name u.key o) c (Bare b ∷ us)) known.1;
+            ∙ ap (λ o. run_tokens (past_set k.name u.key o) c (Bare b ∷ us)) known.1;
       }
   step_by u (Some d) letter name mover description number e moves positive h =
       told_outcome c front (described_by front u d c letter name mover description number e moves
@@ -265,17 +265,17 @@ module _ (front whole : List Token) (t : List ℕ) (f : whole ≡ front ++ Bare 
   to_outcome (Some u) h = step_by u u.description h.0 h.1 h.4.0 h.4.2 h.4.1
       (h.3 ∙ ap (λ (ts : List Token). Bare h.0 ∷ Text h.1 ∷ ts) h.4.3) h.4.4 h.4.5 h.4.6
 
-pub record BehindOutcome (c : Content) (front : List Token) (n : ℕ) : Type 0 where
+pub record PastOutcome (c : Content) (front : List Token) (n : ℕ) : Type 0 where
   pub b : Begun
   pub content : Content
   pub players : content.players ≡ c.players
   pub outcomes : content.outcomes ≡ c.outcomes
   pub answers : (us : List Token) → run_tokens NodeDue c (front ++ us)
-      ≡ run_on us (behind_outcome content b n (description_at nat_eq c.outcomes n))
+      ≡ run_on us (past_outcome content b n (description_at nat_eq c.outcomes n))
 
-pub behind_outcome_number : (front : List Token) (n : ℕ) (c : Content)
-    → BehindOutcomeNumber front n → GoesOn c front → BehindOutcome c front n
-behind_outcome_number front n c h g =
+pub past_outcome_number : (front : List Token) (n : ℕ) (c : Content)
+    → PastOutcomeNumber front n → GoesOn c front → PastOutcome c front n
+past_outcome_number front n c h g =
     let o = to_outcome h.0 front h.2 h.3 c g h.1 h.4 in
     record {
       b = o.b;
@@ -284,6 +284,6 @@ behind_outcome_number front n c h g =
       outcomes = o.outcomes;
       answers = λ us. ap (run_tokens NodeDue c) (regroup front h.0 (Bare h.2 ∷ []) us h.3)
           ∙ o.answers h.2 us ∙ outcome_again h.2 n o.b o.content us h.5.1 h.5.0
-          ∙ ap (λ os. run_on us (behind_outcome o.content o.b n (description_at nat_eq os n)))
+          ∙ ap (λ os. run_on us (past_outcome o.content o.b n (description_at nat_eq os n)))
           o.outcomes;
     }

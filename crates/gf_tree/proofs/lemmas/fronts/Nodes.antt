@@ -16,7 +16,7 @@ use Rattle.gf_tree.proofs.lemmas.runs.Results.{AreOutcomes}
 use Rattle.gf_tree.proofs.lemmas.runs.Sets.{AreSets}
 use Rattle.gf_tree.proofs.lemmas.runs.Tokens.{Reads}
 use Rattle.gf_tree.proofs.lemmas.runs.Learned.{found_has, learns_on, uses_of}
-use Rattle.gf_tree.proofs.lemmas.runs.Nodes.{NodeRead, behind_node, node_again}
+use Rattle.gf_tree.proofs.lemmas.runs.Nodes.{NodeRead, past_node, node_again}
 
 -- ---- what is known after nodes
 
@@ -77,7 +77,7 @@ module _ (n : FileNode) (nodes : List FileNode) (tokens first others rest : List
       → AreOutcomes (length c.players) d.outcomes → Reads NodeDue d (others ++ rest) r
       → Walked d nodes others) → Walked c (n ∷ nodes) tokens
   first_walked h due is is_node parts each plain later =
-      let d = behind_node c h.node h.children h.sets h.outcomes in
+      let d = past_node c h.node h.children h.sets h.outcomes in
       let one = node_once (length c.players) n h.node first h.tokens (others ++ rest) h.rest is_node
       h.is_node (nodes_plain (length c.players) nodes others rest each plain)
       (node_due_text h.rest d r h.goes_on) h.parts in

@@ -4,7 +4,7 @@ use Rattle.gf_tree.proofs.Common.{◌≡◌, ℕ, zero, suc, ◌+◌, Bool, true
 use Rattle.gf_tree.proofs.Common.{length, Option, Some, None, refl, sym, ap, subst, ◌∙◌, arith, inl}
 use Rattle.gf_tree.proofs.Common.{inr, nat_eq, ◌⊎◌, Ratio, IsNumber, number_again, Token, Each}
 use Rattle.gf_tree.proofs.Common.{IsPayoffInBraces, Opening, Comma, Text, Bare, Outcome}
-use Rattle.gf_tree.proofs.Common.{description_at, InPayoffs, Begun, Content, at, behind_outcome}
+use Rattle.gf_tree.proofs.Common.{description_at, InPayoffs, Begun, Content, at, past_outcome}
 use Rattle.gf_tree.proofs.Common.{with_node, NodeDue, AfterKnownPayoff, KnownOutcomeName}
 use Rattle.gf_tree.proofs.Common.{KnownOutcomeOpening, run_tokens, then_run, not, is_comma}
 use Rattle.gf_tree.proofs.Common.{with_payoff}
@@ -14,7 +14,7 @@ use Rattle.gf_tree.proofs.lemmas.runs.Payoffs.{known_at, known_comma, more_payof
 use Rattle.gf_tree.proofs.lemmas.runs.Payoffs.{new_comma, new_step, no_payoffs, number_found}
 use Rattle.gf_tree.proofs.lemmas.runs.Payoffs.{with_payoffs}
 use Rattle.gf_tree.proofs.lemmas.runs.Tokens.{Reads, run_on, text_again, text_found}
-use Rattle.gf_tree.proofs.lemmas.fronts.Lists.{BehindOutcome, behind_outcome_number}
+use Rattle.gf_tree.proofs.lemmas.fronts.Lists.{PastOutcome, past_outcome_number}
 
 -- ---- payoffs
 
@@ -26,7 +26,7 @@ ends_number may (t ∷ ts) = ends_number (not (is_comma t)) ts
 record NewPaid (may : Bool) (b : Begun) (n : ℕ) (outcome : Outcome) (payoffs : List Ratio)
     (left : ℕ) (inner : List Token) (c : Content) : Type 0 where
   behind : Bool
-  behind_is : behind ≡ ends_number may inner
+  past_is : behind ≡ ends_number may inner
   rest : ℕ
   count : length payoffs + rest ≡ left
   answers : (us : List Token) → run_tokens (new_at may b n outcome left) c (inner ++ us)
@@ -41,13 +41,13 @@ some_left false b n outcome zero t us c r e = absurd cc
 some_left may b n outcome (suc k) t us c r e = (k, refl)
 
 -- after a comma, or none
-behind_comma : {A : Type 0} (answers : Bool → List Token → A) (comma : List Token)
+past_comma : {A : Type 0} (answers : Bool → List Token → A) (comma : List Token)
     → ((us : List Token) → answers true (Comma ∷ us) ≡ answers false us)
     → ((comma ≡ []) ⊎ (comma ≡ Comma ∷ []))
     → (may : Bool) × ((us : List Token) → answers true (comma ++ us) ≡ answers may us)
     × ((ts : List Token) → ends_number true (comma ++ ts) ≡ ends_number may ts)
-behind_comma answers comma h (inl e) = grind arith
-behind_comma answers comma h (inr e) = grind arith
+past_comma answers comma h (inl e) = grind arith
+past_comma answers comma h (inr e) = grind arith
 
 new_paid : (payoffs : List Ratio) (may : Bool) (b : Begun) (n : ℕ) (outcome : Outcome) (left : ℕ)
     (inner more : List Token) (c r : Content) → Each IsPayoffInBraces inner payoffs
@@ -55,7 +55,7 @@ new_paid : (payoffs : List Ratio) (may : Bool) (b : Begun) (n : ℕ) (outcome : 
     → NewPaid may b n outcome payoffs left inner c
 new_paid [] may b n outcome left inner more c r each e = record {
   behind = may;
-  behind_is = ap (ends_number may) (sym each);
+  past_is = ap (ends_number may) (sym each);
   rest = left;
   count = omega arith;
   answers = λ us.
@@ -71,7 +71,7 @@ new_paid (p ∷ payoffs) may b n outcome left inner more c r each e =
     e in
     let s = some_left may b n outcome left t (comma ++ (each.1 ++ more)) c r reads in
     let paid = with_payoff outcome p in
-    let k = behind_comma (λ (behind : Bool). run_tokens (new_at behind b n paid s.0) c) comma
+    let k = past_comma (λ (behind : Bool). run_tokens (new_at behind b n paid s.0) c) comma
     (new_comma b n paid s.0 c) each.3.4 in
     let number = number_again t p each.3.3 in
     let one : (us : List Token) → run_tokens (new_at may b n outcome left) c (inner ++ us)
@@ -87,7 +87,7 @@ new_paid (p ∷ payoffs) may b n outcome left inner more c r each e =
     let left_is = s.1 in
     record {
       behind = f.behind;
-      behind_is = f.behind_is ∙ sym (k.2 each.1)
+      past_is = f.past_is ∙ sym (k.2 each.1)
           ∙ ap (ends_number may) (sym (each.2 ∙ ap (λ (ts : List Token). ts ++ each.1) each.3.2));
       rest = f.rest;
       count = omega (arith, count, left_is);
@@ -97,7 +97,7 @@ new_paid (p ∷ payoffs) may b n outcome left inner more c r each e =
 record KnownPaid (may : Bool) (known payoffs : List Ratio) (inner : List Token)
     (c : Content) : Type 0 where
   behind : Bool
-  behind_is : behind ≡ ends_number may inner
+  past_is : behind ≡ ends_number may inner
   others : List Ratio
   parts : known ≡ payoffs ++ others
   answers : (us : List Token) → run_tokens (known_at may known) c (inner ++ us)
@@ -127,7 +127,7 @@ known_paid (p ∷ payoffs) known may inner more c r each e =
     grind arith in
     let s = known_next may known t p (comma ++ (each.1 ++ more)) c r each.3.3
     (subst (λ (ts : List Token). Reads (known_at may known) c ts r) (first more) e) in
-    let k = behind_comma (λ (behind : Bool). run_tokens (known_at behind s.0) c) comma
+    let k = past_comma (λ (behind : Bool). run_tokens (known_at behind s.0) c) comma
     (known_comma s.0 c) each.3.4 in
     let one : (us : List Token) → run_tokens (known_at may known) c (inner ++ us)
     ≡ run_tokens (known_at k.0 s.0) c (each.1 ++ us) = grind arith in
@@ -162,13 +162,13 @@ pub record AtKnownPayoff (c : Content) (front inner : List Token) (n : ℕ) (out
 
 paid_by : (front : List Token) (n : ℕ) (outcome : Outcome) (c : Content)
     (h : InPayoffs front n outcome) (o : Option Outcome) → description_at nat_eq c.outcomes n ≡ o
-    → BehindOutcome c h.0 n → GoesOn c front
+    → PastOutcome c h.0 n → GoesOn c front
     → AtNewPayoff c front h.1 n outcome ⊎ AtKnownPayoff c front h.1 n outcome
 paid_by front n outcome c h None unknown k g =
     let us_of = λ (us : List Token). Text outcome.name ∷ Opening ∷ (h.1 ++ us) in
     let behind = λ (us : List Token). ap (run_tokens NodeDue c)
     (regroup front h.0 (Text outcome.name ∷ Opening ∷ h.1) us h.2) ∙ k.answers (us_of us)
-    ∙ ap (λ o. run_on (us_of us) (behind_outcome k.content k.b n o)) unknown in
+    ∙ ap (λ o. run_on (us_of us) (past_outcome k.content k.b n o)) unknown in
     let f = new_paid outcome.payoffs false k.b n (record { name = outcome.name; payoffs = [] })
     (length k.content.players) h.1 g.more k.content g.read h.4
     (sym (behind g.more) ∙ g.reads) in
@@ -178,7 +178,7 @@ paid_by front n outcome c h (Some known) is_known k g =
     let us_of = λ (us : List Token). Text outcome.name ∷ Opening ∷ (h.1 ++ us) in
     let behind = λ (us : List Token). ap (run_tokens NodeDue c)
     (regroup front h.0 (Text outcome.name ∷ Opening ∷ h.1) us h.2) ∙ k.answers (us_of us)
-    ∙ ap (λ o. run_on (us_of us) (behind_outcome k.content k.b n o)) is_known in
+    ∙ ap (λ o. run_on (us_of us) (past_outcome k.content k.b n o)) is_known in
     let name = text_found known.name outcome.name (at (KnownOutcomeOpening known.payoffs) content)
     (Opening ∷ (h.1 ++ g.more)) g.read (sym (behind g.more) ∙ g.reads) in
     let f = known_paid outcome.payoffs known.payoffs false h.1 g.more content g.read h.4 name.1 in
@@ -186,7 +186,7 @@ paid_by front n outcome c h (Some known) is_known k g =
       content = content;
       players = k.players;
       may = f.behind;
-      may_is = f.behind_is;
+      may_is = f.past_is;
       known = known;
       is_known = is_known;
       others = f.others;
@@ -200,4 +200,4 @@ paid_by front n outcome c h (Some known) is_known k g =
 pub in_payoffs : (front : List Token) (n : ℕ) (outcome : Outcome) (c : Content)
     → (h : InPayoffs front n outcome) → GoesOn c front
     → AtNewPayoff c front h.1 n outcome ⊎ AtKnownPayoff c front h.1 n outcome
-in_payoffs front n outcome c h g = grind (arith, paid_by, behind_outcome_number, goes_before)
+in_payoffs front n outcome c h g = grind (arith, paid_by, past_outcome_number, goes_before)

@@ -5,8 +5,8 @@ use Rattle.gf_tree.proofs.Common.{None, Ok, refl, sym, ap, subst, ◌∙◌, ari
 use Rattle.gf_tree.proofs.Common.{AllByRecursion, ints, Ratio, IsFraction, whole, AddsTo, IsNumber}
 use Rattle.gf_tree.proofs.Common.{whole_fraction, Token, count_of, Each, Opening, Text, Bare}
 use Rattle.gf_tree.proofs.Common.{count_again, Action, InformationSet, SetKey, same_set, set_of}
-use Rattle.gf_tree.proofs.Common.{IsSet, description_at, IsAction, SpellsMover, BehindSetNumber}
-use Rattle.gf_tree.proofs.Common.{InActions, Begun, Content, at, begun, behind_label, behind_set}
+use Rattle.gf_tree.proofs.Common.{IsSet, description_at, IsAction, SpellsMover, PastSetNumber}
+use Rattle.gf_tree.proofs.Common.{InActions, Begun, Content, at, begun, past_label, past_set}
 use Rattle.gf_tree.proofs.Common.{personal_node, set_number, shared, with_action, NodeDue}
 use Rattle.gf_tree.proofs.Common.{PlayerNumber, SetNumber, NewAction, KnownAction, KnownProbability}
 use Rattle.gf_tree.proofs.Common.{KnownSetOpening, share_of, run_tokens, then_run, ToPlayerNumber}
@@ -101,11 +101,11 @@ to_number front player c h g =
 pub record AtSet (c : Content) (front : List Token) (key : SetKey) : Type 0 where
   pub name : List ℕ
   pub answers : (us : List Token) → run_tokens NodeDue c (front ++ us)
-      ≡ run_tokens (behind_set name key (description_at same_set c.sets key)) c us
+      ≡ run_tokens (past_set name key (description_at same_set c.sets key)) c us
 
-pub behind_number : (front : List Token) (key : SetKey) (c : Content) → BehindSetNumber front key
+pub past_number : (front : List Token) (key : SetKey) (c : Content) → PastSetNumber front key
     → GoesOn c front → AtSet c front key
-behind_number front key c h g =
+past_number front key c h g =
     let n = to_number h.0 key.player c h.3 (goes_before c front h.0 (Bare h.1 ∷ []) g h.2) in
     record {
       name = n.name;
@@ -217,7 +217,7 @@ chance_next : (a k : Action) (t : List ℕ) (p : Ratio) (known : List Action) (b
     × ((vs : List Token) → run_tokens (KnownAction b (k ∷ known)) c (Text a.label ∷ Bare t ∷ vs)
     ≡ run_tokens (KnownAction b known) c vs)
 chance_next a k t p known b c r us has is number e =
-    let h = text_found k.label a.label (at (behind_label b k.probability known) c) (Bare t ∷ us) r
+    let h = text_found k.label a.label (at (past_label b k.probability known) c) (Bare t ∷ us) r
     e in
     let reads : Reads (KnownProbability b has.0 known) c (Bare t ∷ us) r = cc in
     let n = number_found has.0 (at (KnownAction b known) c) t us r reads in
@@ -230,7 +230,7 @@ player_next : (a k : Action) (known : List Action) (b : Begun) (c r : Content) (
     × ((vs : List Token) → run_tokens (KnownAction b (k ∷ known)) c (Text a.label ∷ vs)
     ≡ run_tokens (KnownAction b known) c vs)
 player_next a k known b c r us has is e =
-    let h = text_found k.label a.label (at (behind_label b k.probability known) c) us r e in
+    let h = text_found k.label a.label (at (past_label b k.probability known) c) us r e in
     grind arith
 
 known_front : (actions known : List Action) (player : ℕ) (inner more : List Token) (b : Begun)
@@ -291,7 +291,7 @@ in_braces front key set c h None unknown at_set g =
     regroup front h.0 (Text set.name ∷ Opening ∷ h.1) us h.2 in
     let behind = λ (us : List Token). ap (run_tokens NodeDue c) (first us)
     ∙ at_set.answers (Text set.name ∷ Opening ∷ (h.1 ++ us))
-    ∙ ap (λ o. run_tokens (behind_set at_set.name key o) c
+    ∙ ap (λ o. run_tokens (past_set at_set.name key o) c
     (Text set.name ∷ Opening ∷ (h.1 ++ us))) unknown in
     let f = new_front set.actions key.player h.1 g.more at_set.name key.number
     (record { name = set.name; actions = [] }) (whole (pos 0)) c g.read
@@ -303,7 +303,7 @@ in_braces front key set c h (Some known) is_known at_set g =
     let b = begun at_set.name key known in
     let behind = λ (us : List Token). ap (run_tokens NodeDue c) (first us)
     ∙ at_set.answers (Text set.name ∷ Opening ∷ (h.1 ++ us))
-    ∙ ap (λ o. run_tokens (behind_set at_set.name key o) c
+    ∙ ap (λ o. run_tokens (past_set at_set.name key o) c
     (Text set.name ∷ Opening ∷ (h.1 ++ us))) is_known in
     let name = text_found known.name set.name (at (KnownSetOpening b known.actions) c)
     (Opening ∷ (h.1 ++ g.more)) g.read (sym (behind g.more) ∙ g.reads) in
@@ -318,4 +318,4 @@ pub in_actions : (front : List Token) (key : SetKey) (set : InformationSet) (c :
     → InActions front key set → GoesOn c front → AtNew c front key set ⊎ AtKnown c front key set
 in_actions front key set c h g =
     in_braces front key set c h (description_at same_set c.sets key) refl
-    (behind_number h.0 key c h.3 (goes_before c front h.0 (Text set.name ∷ Opening ∷ h.1) g h.2)) g
+    (past_number h.0 key c h.3 (goes_before c front h.0 (Text set.name ∷ Opening ∷ h.1) g h.2)) g

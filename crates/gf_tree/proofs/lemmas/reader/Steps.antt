@@ -6,7 +6,7 @@ use Rattle.gf_tree.proofs.Common.{length-map, KnownSets, set_with, Action, Infor
 use Rattle.gf_tree.proofs.Common.{SetKey, same_set, set_of, Game, actions_of, slice_get_within}
 use Rattle.gf_tree.proofs.Common.{position_from-zero, Ratio, label_of, at_position, count_of}
 use Rattle.gf_tree.proofs.Common.{Described, description_at, Remaining, Span, Fault, AreAmong, Kept}
-use Rattle.gf_tree.proofs.Common.{entries_with, Begun, Content, begun, behind_set, nothing, run}
+use Rattle.gf_tree.proofs.Common.{entries_with, Begun, Content, begun, past_set, nothing, run}
 use Rattle.gf_tree.proofs.Common.{set_ends, Position, State, new_set_ends, with_action, Format}
 use Rattle.gf_tree.proofs.Common.{KnownSetName, NewAction, OutcomeNumber, SetNumber, Why, Lexeme}
 use Rattle.gf_tree.proofs.Common.{set_number}
@@ -210,7 +210,7 @@ taken {t} {u} {l} ahead input = λ i. record { input = sym input i; ahead = ahea
 pub set_known_again : (c : Content) (node : List ℕ) (key : SetKey) (place : ℕ)
     (rest behind : Remaining) (set : InformationSet) → FoundSet c.sets key place set
     → heard (KnownSetName node key set) c rest ≡ heard (OutcomeNumber (begun node key set)) c behind
-    → heard (behind_set node key (description_at same_set c.sets key)) c rest
+    → heard (past_set node key (description_at same_set c.sets key)) c rest
     ≡ heard (OutcomeNumber (begun_with c.sets node (place + 1))) c behind
 set_known_again c node key place rest behind set found goes =
     cc (found.described, goes, found.begins node)
@@ -219,7 +219,7 @@ set_known_again c node key place rest behind set found goes =
 pub set_again : (c : Content) (node : List ℕ) (player n a b : ℕ) (t : List ℕ)
     (all rest : Remaining) (after : Answer)
     → all ≡ record { input = rest.input; ahead = lexeme a b (Bare t) ∷ rest.ahead }
-    → Some n ≡ count_of t → heard (behind_set node (set_of player n)
+    → Some n ≡ count_of t → heard (past_set node (set_of player n)
     (description_at same_set c.sets (set_of player n))) c rest ≡ after
     → heard (SetNumber node player) c all ≡ after
 set_again c node player n a b t all rest after is number goes =
@@ -311,10 +311,10 @@ refused_only f g result e h = subst (λ r. IsReadAs r g) (sym e) h
 -- ---- memory that runs out
 
 -- at a token after which the machine goes on
-pub wants_memory : {f : Fault} {span : Span} {t : Remaining} {a : Answer} → StandsBefore t span
+pub lacks_memory : {f : Fault} {span : Span} {t : Remaining} {a : Answer} → StandsBefore t span
     → f ≡ record { span = span; why = Memory } → (q : Position) (c : Content) → a ≡ heard q c t
     → Fails f a
-wants_memory {f} {span} {t} {a} stands is q c goes =
+lacks_memory {f} {span} {t} {a} stands is q c goes =
     let passed = rw (← as_read (length t.input) t.ahead q c) at
     (passed_before next at_end t span stands (at q c)) in
     grind (arith, carried)

@@ -5,7 +5,8 @@ use Rattle.gf_tree.proofs.Common.{List, append_assoc, length-append, Information
 use Rattle.gf_tree.proofs.Common.{[], length, Outcome, IsAmong, NodeDue, HasRead, Heading, told_set}
 use Rattle.gf_tree.proofs.Common.{◌++◌, refl, Fault, Node, Kept, Entry, heard, Bool, Goes, Grows}
 use Rattle.gf_tree.proofs.Common.{option_map, at_position, entries_with, child_count, told_outcome}
-use Rattle.gf_tree.proofs.Common.{Result, Ok, arith, Lexeme, SetKey, Reader, Answer, answer, behind}
+use Rattle.gf_tree.proofs.Common.{Result, Ok, arith, Lexeme, SetKey, Reader, Answer, answer}
+use Rattle.gf_tree.proofs.Common.{after_nodes}
 use Rattle.gf_tree.proofs.Common.{subst, append-nil, entry_with, ByFirstUse, begun_with, content_of}
 use Rattle.std.specs.Prelude.{OnOk}
 use Rattle.gf_tree.specs.inner.ReaderState.{GoesTelling, HasTold, IsNoLonger, ReadsTokens, Tells}
@@ -76,9 +77,9 @@ entries_more sets outcomes (m ∷ ms) n = grind (arith, entries_more sets outcom
 
 -- ---- answers after nodes
 
-behind_both : (ns ms : List (Entry Node)) (a : Answer)
-    → behind ns (behind ms a) ≡ behind (ns ++ ms) a
-behind_both ns ms a = grind (arith, append_assoc)
+past_both : (ns ms : List (Entry Node)) (a : Answer)
+    → after_nodes ns (after_nodes ms a) ≡ after_nodes (ns ++ ms) a
+past_both ns ms a = grind (arith, append_assoc)
 
 -- ---- lists that grow
 
@@ -105,7 +106,7 @@ reads_none {r} = (refl, omega arith)
 pub told_goes : (r : Reader) (told_sets told_outcomes : ℕ) (node : Kept) (q : Position)
     → heard q (with_node (content_of r) (begun_with r.sets.known node.name node.set)
     (option_map (λ o. o.key) (at_position r.outcomes.known node.outcome))) r.tokens
-    ≡ behind (entry_with r.sets.known r.outcomes.known node ∷ []) (answer q
+    ≡ after_nodes (entry_with r.sets.known r.outcomes.known node ∷ []) (answer q
     (with_children (record r { told_sets = told_sets; told_outcomes = told_outcomes }) node.set))
 told_goes r told_sets told_outcomes node q =
     let children = child_count r.sets.known node.set in
@@ -186,7 +187,7 @@ module _ {T : Type 0} (holds : T → T → Heading → List Told → Type 0) (un
       k.goes,
       entries,
       h.goes,
-      behind_both (entries_with new.sets.known new.outcomes.known
+      past_both (entries_with new.sets.known new.outcomes.known
           k.nodes) (entry_with new.sets.known new.outcomes.known h.node ∷ [])
           (answer NodeDue (with_children new set)),
       entries_more new.sets.known new.outcomes.known k.nodes h.node,

@@ -20,14 +20,14 @@ use Rattle.gf_tree.proofs.lemmas.reader.Steps.{refused_why}
 -- ---- the heading
 
 -- the reader has passed the heading, and knows no set and no outcome
-pub record IsBehindHeading (bytes : List ℕ) (ls : List Lexeme) (r : Reader) : Type 0 where
+pub record IsPastHeading (bytes : List ℕ) (ls : List Lexeme) (r : Reader) : Type 0 where
   pub goes : to_all bytes ls ≡ answer NodeDue r
   pub sets : r.sets.known ≡ []
   pub outcomes : r.outcomes.known ≡ []
 
 -- the heading stays as it was
 module _ {T : Type 0} (holds : T → Heading → List Told → Type 0) (bytes : List ℕ) (ls : List Lexeme)
-    (r new : Reader) (to : T) (behind : IsBehindHeading bytes ls r) where
+    (r new : Reader) (to : T) (behind : IsPastHeading bytes ls r) where
   pub read_whole : HasReadAll (λ t. holds t (heading_read r)) (answer NodeDue r) new to
       → HasReadAll (λ t. holds t (heading_read new)) (to_all bytes ls) new to
   read_whole h =

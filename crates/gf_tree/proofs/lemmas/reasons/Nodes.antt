@@ -5,13 +5,13 @@ use Rattle.gf_tree.proofs.Common.{length-append, same_Some, ◌⊎◌, Ratio, Is
 use Rattle.gf_tree.proofs.Common.{Text, Bare, IsIndex, Begins, Why, Expected, UnknownPlayer}
 use Rattle.gf_tree.proofs.Common.{Mismatch, Action, InformationSet, Outcome, SetKey, set_of}
 use Rattle.gf_tree.proofs.Common.{set_with, IsDue, IndexIsDue, NumberIsDue, FileFront}
-use Rattle.gf_tree.proofs.Common.{BehindOutcomeNumber, BehindSetNumber, InActions, IsExtensiveFile}
+use Rattle.gf_tree.proofs.Common.{PastOutcomeNumber, PastSetNumber, InActions, IsExtensiveFile}
 use Rattle.gf_tree.proofs.Common.{IsNewOutcome, IsNewSet, KnowsOutcome, ToOutcomeNumber, IsNoNumber}
 use Rattle.gf_tree.proofs.Common.{Row, a_first_name, an_outcome, or_comma, or_name, this_number}
 use Rattle.gf_tree.proofs.Common.{◌≢◌, append_cancel_left, why_of, NoEntry, BadIndex, SumBelowOne}
-use Rattle.gf_tree.proofs.Common.{BehindPayoff, Comma, Accepts, append_assoc, whole, pos}
+use Rattle.gf_tree.proofs.Common.{PastPayoff, Comma, Accepts, append_assoc, whole, pos}
 use Rattle.gf_tree.proofs.Common.{NewProbabilityIsDue, GoesOnWith, DiffersFromOutcome}
-use Rattle.gf_tree.proofs.Common.{DiffersFromSet, EndsInFirstUse, ListsActions, BehindNode}
+use Rattle.gf_tree.proofs.Common.{DiffersFromSet, EndsInFirstUse, ListsActions, PastNode}
 use Rattle.gf_tree.proofs.Common.{a_closing, a_new_action, a_new_branch, a_payoff, a_player}
 use Rattle.gf_tree.proofs.Common.{a_probability, a_set, no_label, this_label, IsBeforeRow, IsInNode}
 use Rattle.gf_tree.proofs.Common.{IsPositive}
@@ -20,8 +20,8 @@ use Rattle.gf_tree.proofs.lemmas.fronts.Cuts.{first_is}
 use Rattle.gf_tree.proofs.lemmas.due.Nodes.{parts}
 use Rattle.gf_tree.proofs.lemmas.due.BareTokens.{one_index, one_number}
 use Rattle.gf_tree.proofs.lemmas.due.Rows.{Stands}
-use Rattle.gf_tree.proofs.lemmas.due.Outcomes.{GoesOnBehind, GoesOnBehindOr}
-use Rattle.gf_tree.proofs.lemmas.due.Payoffs.{Seen, seen_behind, seen_to}
+use Rattle.gf_tree.proofs.lemmas.due.Outcomes.{GoesOnPast, GoesOnPastOr}
+use Rattle.gf_tree.proofs.lemmas.due.Payoffs.{Seen, seen_after, seen_to}
 use Rattle.gf_tree.proofs.lemmas.fronts.Codes.{begins_payoffs, known_outcome}
 use Rattle.gf_tree.proofs.lemmas.reasons.Rows.{AcceptsIndices, AcceptsNumbers, Given, IsFor, Own}
 use Rattle.gf_tree.proofs.lemmas.reasons.Rows.{Reasoned, accepts_some, closing, end, fault_own}
@@ -39,7 +39,7 @@ use Rattle.gf_tree.proofs.lemmas.due.Payoffs as payoffs
 -- ---- nodes
 
 -- the number of the outcome is due after a known set without a description
-known_step : (front : List Token) (key : SetKey) → BehindSetNumber front key
+known_step : (front : List Token) (key : SetKey) → PastSetNumber front key
     → ToOutcomeNumber front (Some (record { key = key; description = None }))
 known_step front key h = grind arith
 
@@ -74,16 +74,16 @@ positive : (b : List ℕ) (least : ℕ) → ((n : ℕ) × IsIndex b n × (least 
 positive b least k = let above = k.2 in (k.0, (k.1, omega (arith, above)))
 
 module _ (f : FileFront) where
-  first_use : ((key : SetKey) × BehindSetNumber f.front key × IsNewSet f.nodes key)
-      ⊎ ((number : ℕ) × BehindOutcomeNumber f.front number × IsNewOutcome f.nodes number)
+  first_use : ((key : SetKey) × PastSetNumber f.front key × IsNewSet f.nodes key)
+      ⊎ ((number : ℕ) × PastOutcomeNumber f.front number × IsNewOutcome f.nodes number)
       → Stands f.before a_first_name → Reasoned f.before
   first_use h s =
       let first : EndsInFirstUse f.before = (f.ends, h) in
       let told = of_none f.before a_first_name s (λ b k. k) in
       grind arith
 
-  outcome_index : IndexIsDue IsExtensiveFile f.before → (b : List ℕ) (why : Why) (after : List Token)
-      → ¬ ((n : ℕ) × IsIndex b n) → why ≡ BadIndex → Given f.before (Bare b ∷ after) why
+  outcome_index : IndexIsDue IsExtensiveFile f.before → (b : List ℕ) (why : Why)
+      (after : List Token) → ¬ ((n : ℕ) × IsIndex b n) → why ≡ BadIndex → Given f.before (Bare b ∷ after) why
   outcome_index due b why after n e = (BadIndex, e, (due, λ m k. n (m, k.0)))
 
   differs : (t : Token) → DiffersFromSet f.ends t ⊎ DiffersFromOutcome f.ends t
@@ -169,7 +169,7 @@ module _ (f : FileFront) where
 
   -- a payoff may follow, or a comma before it
   payoff_spelled : (n : ℕ) (ps : List Ratio) (outcome : Outcome) (p : Ratio) (others : List Ratio)
-      → BehindPayoff f.front n ps → KnowsOutcome f.nodes n outcome
+      → PastPayoff f.front n ps → KnowsOutcome f.nodes n outcome
       → outcome.payoffs ≡ ps ++ p ∷ others → Stands f.before (or_comma (this_number p))
       → (b : List ℕ) × IsNumber b p
   payoff_spelled n ps outcome p others h knows parts s =
@@ -201,10 +201,10 @@ module _ (f : FileFront) where
           (payoffs.known_payoff comma n ps outcome p others (inr (f.front, h, refl)) knows parts)
       by _ a = absurd a
 
-  behind : BehindNode f.front → Reasoned f.before
+  behind : PastNode f.front → Reasoned f.before
   behind h = by (payoffs.either f h)
     where
-      by : GoesOnBehind f → Reasoned f.before
+      by : GoesOnPast f → Reasoned f.before
       by (inl s) = end f.before s
       by (inr s) = node f.before f.players s
 
@@ -340,7 +340,7 @@ module _ (f : FileFront) where
           → Own Mismatch f.before (Text l ∷ after)
       other l after n = differs (Text l) (inr (number, outcome, knows, h, n)) after
 
-      by : GoesOnBehindOr outcome.name f → Reasoned f.before
+      by : GoesOnPastOr outcome.name f → Reasoned f.before
       by (inl s) = name_or_end f.before outcome.name s other
       by (inr s) = name_or_node f.before f.players outcome.name s other
   in_node (IsInNode.OutcomeOpening number h) =
@@ -356,7 +356,7 @@ module _ (f : FileFront) where
   in_node (IsInNode.AfterKnownPayoff number ps outcome p others h knows parts) =
       let s = payoffs.after_known_payoff f number ps outcome p others h knows parts in
       known_payoff Always number ps outcome p others true s
-      (payoff_spelled number ps outcome p others h knows parts s) (seen_behind f.front number ps h)
+      (payoff_spelled number ps outcome p others h knows parts s) (seen_after f.front number ps h)
       knows parts
   in_node (IsInNode.AfterLastPayoff number ps h all) =
       closing f.before (or_comma a_closing) (payoffs.after_last_payoff f number ps h all) tt

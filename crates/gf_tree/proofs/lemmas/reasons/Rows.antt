@@ -9,7 +9,7 @@ use Rattle.gf_tree.proofs.Common.{an_end, an_opening, or_name, ◌≢◌, HasNum
 use Rattle.gf_tree.proofs.Common.{SumAboveOne, SumOverflow, Unterminated, IsInHeading, NumberIsDue}
 use Rattle.gf_tree.proofs.Common.{IndexIsDue, MayBeNext, Some, None, IsIndex, index_is, IsNoNumber}
 use Rattle.gf_tree.proofs.Common.{IsPositive, BadIndex, Option, append-nil, append_assoc, ◌++◌}
-use Rattle.gf_tree.proofs.Common.{IsWrongBehind, NewProbabilityIsDue, Accepts, Refuses}
+use Rattle.gf_tree.proofs.Common.{IsWrongAfter, NewProbabilityIsDue, Accepts, Refuses}
 use Rattle.gf_tree.proofs.Common.{a_player_name, or_text, Applies, ap}
 use Rattle.gf_tree.proofs.lemmas.due.Rows.{Stands, accepted}
 use Rattle.gf_tree.proofs.lemmas.due.Answers.{no_index}
@@ -158,7 +158,7 @@ fault_own before after b number.ZeroDenominator h is = (h, is)
 fault_own before after b number.TooLarge h is = (h, is)
 
 pub wrong_own : (why : Why) (before after : List Token) (b : List ℕ) (sum p : Ratio)
-    → NewProbabilityIsDue before sum → IsNumber b p → IsWrongBehind why sum p
+    → NewProbabilityIsDue before sum → IsNumber b p → IsWrongAfter why sum p
     → Own why before (Bare b ∷ after)
 wrong_own NegativeProbability before after b sum p h is k = (sum, p, h, is, k)
 wrong_own SumAboveOne before after b sum p h is k = (sum, p, h, is, k)

@@ -4,7 +4,7 @@ use Rattle.gf_tree.proofs.Common.{Result, Ok, Err, refl, append_assoc, nat_eq, a
 use Rattle.gf_tree.proofs.Common.{pointwise, Ratio, NumberFault, Remaining, Token, Lexeme, count_of}
 use Rattle.gf_tree.proofs.Common.{Opening, Closing, Comma, Text, Bare, Why, Expected, Action}
 use Rattle.gf_tree.proofs.Common.{InformationSet, Outcome, SetKey, Node, Entry, Share, Begun}
-use Rattle.gf_tree.proofs.Common.{Content, Position, State, after_node, at, behind_outcome}
+use Rattle.gf_tree.proofs.Common.{Content, Position, State, after_node, at, past_outcome}
 use Rattle.gf_tree.proofs.Common.{new_set_ends, node_letter, outcome_number, paid, personal_node}
 use Rattle.gf_tree.proofs.Common.{player_number, run, set_ends, set_number, shared, step, with_node}
 use Rattle.gf_tree.proofs.Common.{Format, Version, Letter, Title, BeforePlayers, InPlayers}
@@ -14,7 +14,7 @@ use Rattle.gf_tree.proofs.Common.{NewProbability, KnownSetName, KnownSetOpening,
 use Rattle.gf_tree.proofs.Common.{KnownProbability, OutcomeNumber, NewOutcomeName}
 use Rattle.gf_tree.proofs.Common.{NewOutcomeOpening, NewPayoff, AfterNewPayoff, KnownOutcomeName}
 use Rattle.gf_tree.proofs.Common.{KnownOutcomeOpening, KnownPayoff, AfterKnownPayoff, heard}
-use Rattle.gf_tree.proofs.Common.{outcome_ends, same_number, then_run, new_label, behind}
+use Rattle.gf_tree.proofs.Common.{outcome_ends, same_number, then_run, new_label, after_nodes}
 use Rattle.gf_tree.proofs.Common.{placed}
 use Rattle.gf_fraction.specs.Computed.{number_of}
 use Rattle.gf_token.specs.Indices.{index_of}
@@ -86,13 +86,13 @@ module _ (ns : List (Entry Node)) where
         → shared (with_front ns c) name key set label o ≡ fronted (shared c name key set label o)
     shared_more name key set label o = grind arith
 
-    behind_outcome_more : (b : Begun) (n : ℕ) (o : Option Outcome)
-        → Ok (behind_outcome (with_front ns c) b n o) ≡ fronted (Ok (behind_outcome c b n o))
-    behind_outcome_more b n o = grind (arith, node_more)
+    past_outcome_more : (b : Begun) (n : ℕ) (o : Option Outcome)
+        → Ok (past_outcome (with_front ns c) b n o) ≡ fronted (Ok (past_outcome c b n o))
+    past_outcome_more b n o = grind (arith, node_more)
 
     outcome_more : (b : Begun) (o : Option ℕ)
         → outcome_number (with_front ns c) b o ≡ fronted (outcome_number c b o)
-    outcome_more b o = grind (arith, node_more, behind_outcome_more, nat_eq)
+    outcome_more b o = grind (arith, node_more, past_outcome_more, nat_eq)
 
     paid_more : (b : Begun) (n : ℕ) (outcome : Outcome) (left : ℕ) (o : Result Ratio NumberFault)
         → paid (with_front ns c) b n outcome left o ≡ fronted (paid c b n outcome left o)
@@ -166,5 +166,5 @@ module _ (ns : List (Entry Node)) where
 
   -- so the machine answers with those nodes before its own
   pub heard_more : (q : Position) (c : Content) (t : Remaining)
-      → heard q (with_front ns c) t ≡ behind ns (heard q c t)
+      → heard q (with_front ns c) t ≡ after_nodes ns (heard q c t)
   heard_more q c t = cc (run_more (length t.input) q c t.ahead)

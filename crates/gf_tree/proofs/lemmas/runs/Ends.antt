@@ -4,7 +4,7 @@ use Rattle.gf_tree.proofs.Common.{None, MatchOption, Ok, refl, ap, ◌∙◌, ar
 use Rattle.gf_tree.proofs.Common.{length-append, Ratio, IsFraction, whole, Token, count_of, Opening}
 use Rattle.gf_tree.proofs.Common.{Closing, Text, Bare, Action, InformationSet, Outcome, SetKey}
 use Rattle.gf_tree.proofs.Common.{same_set, set_of, description_at, then_run, Begun, Content}
-use Rattle.gf_tree.proofs.Common.{Position, State, at, begun, behind_label, behind_set}
+use Rattle.gf_tree.proofs.Common.{Position, State, at, begun, past_label, past_set}
 use Rattle.gf_tree.proofs.Common.{new_set_ends, outcome_number, paid, player_number, set_ends}
 use Rattle.gf_tree.proofs.Common.{set_number, shared, step, with_action, with_node, Format, Version}
 use Rattle.gf_tree.proofs.Common.{Letter, Title, BeforePlayers, InPlayers, AfterPlayers, NodeDue}
@@ -176,12 +176,12 @@ known_actions_end : (actions : List Action) (b : Begun) (c : Content) → FineAc
 known_actions_end [] b c h =
     by (KnownAction b []) c Closing (at (OutcomeNumber b) c) refl (outcome_ends b c)
 known_actions_end (a ∷ actions) b c h =
-    by (KnownAction b (a ∷ actions)) c (Text a.label) (at (behind_label b a.probability actions) c)
-    (text_again a.label (at (behind_label b a.probability actions) c))
+    by (KnownAction b (a ∷ actions)) c (Text a.label) (at (past_label b a.probability actions) c)
+    (text_again a.label (at (past_label b a.probability actions) c))
     (behind a.probability h.0 (known_actions_end actions b c h.1))
   where
     behind : (o : Option Ratio) → MatchOption o (Unit {0}) IsFraction
-        → Ends (KnownAction b actions) c → Ends (behind_label b o actions) c
+        → Ends (KnownAction b actions) c → Ends (past_label b o actions) c
     behind None is later = later
     behind (Some p) is later =
         by (KnownProbability b p actions) c (Bare (number_text p)) (at (KnownAction b actions) c)
@@ -207,17 +207,17 @@ new_name_ends : (name : List ℕ) (key : SetKey) (c : Content) → Ends (NewSetN
 new_name_ends name key c = by (NewSetName name key) c (Text []) (at (NewSetOpening name key []) c)
     refl (new_set_end name key [] c)
 
-behind_ends : (name : List ℕ) (key : SetKey) (o : Option InformationSet) (c : Content)
-    → Ends (behind_set name key o) c
-behind_ends name key None c = new_name_ends name key c
-behind_ends name key (Some set) c = known_set_ends name key set c
+past_ends : (name : List ℕ) (key : SetKey) (o : Option InformationSet) (c : Content)
+    → Ends (past_set name key o) c
+past_ends name key None c = new_name_ends name key c
+past_ends name key (Some set) c = known_set_ends name key set c
 
 set_number_ends : (name : List ℕ) (player : ℕ) (c : Content) → Ends (SetNumber name player) c
 set_number_ends name player c =
     by (SetNumber name player) c (Bare (codes "1"))
-    (at (behind_set name (set_of player 1) (description_at same_set c.sets (set_of player 1))) c)
+    (at (past_set name (set_of player 1) (description_at same_set c.sets (set_of player 1))) c)
     (ap (set_number c name player) one_is_count)
-    (behind_ends name (set_of player 1) (description_at same_set c.sets (set_of player 1)) c)
+    (past_ends name (set_of player 1) (description_at same_set c.sets (set_of player 1)) c)
 
 player_ends : (name : List ℕ) (c : Content) → 0 < length c.players → Ends (PlayerNumber name) c
 player_ends name c some =

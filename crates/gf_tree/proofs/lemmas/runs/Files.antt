@@ -13,7 +13,7 @@ use Rattle.gf_tree.proofs.lemmas.games.TreesOnce.{same_set_equality}
 use Rattle.gf_tree.proofs.lemmas.runs.Tokens.{Reads, run_on, ok_read, ok_is}
 use Rattle.gf_tree.proofs.lemmas.runs.Sets.{AreSets}
 use Rattle.gf_tree.proofs.lemmas.runs.Nodes.{letter_found, node_again, MapOf, HasChildrenBy}
-use Rattle.gf_tree.proofs.lemmas.runs.Nodes.{set_key, behind_node, NodeRead}
+use Rattle.gf_tree.proofs.lemmas.runs.Nodes.{set_key, past_node, NodeRead}
 use Rattle.gf_tree.proofs.lemmas.runs.Results.{AreOutcomes}
 use Rattle.gf_tree.proofs.lemmas.games.SentencesOnce.{nodes_no_text}
 use Rattle.gf_tree.proofs.lemmas.runs.Learned.{uses_of, learns_on, learns_split, kept, all_known}
@@ -62,7 +62,7 @@ children_kept sets end None children same h = h
 children_kept sets end (Some key) children same h = grind arith
 
 nodes_more : (ts : List Token) (due : ℕ) (c r : Content) → c.due ≡ suc due → (h : NodeRead ts c r)
-    → NodesRead h.rest (behind_node c h.node h.children h.sets h.outcomes) r → NodesRead ts c r
+    → NodesRead h.rest (past_node c h.node h.children h.sets h.outcomes) r → NodesRead ts c r
 nodes_more ts due c r is h k =
     let entry : Entry FileNode = record { node = h.node; children = h.children } in
     let pending : h.children + (c.due - 1) ≡ h.children + due = omega (arith, is) in
@@ -113,7 +113,7 @@ nodes_by (suc size) (Bare b ∷ ts) c r within sets outcomes e =
     let n = h.0 in
     let less = shorter (Bare b ∷ ts) c r n in
     nodes_more (Bare b ∷ ts) h.1.0 c r h.1.1 n
-    (nodes_by size n.rest (behind_node c n.node n.children n.sets n.outcomes) r
+    (nodes_by size n.rest (past_node c n.node n.children n.sets n.outcomes) r
     (omega (arith, within, less)) n.are_sets n.are_outcomes n.goes_on)
 nodes_by (suc size) (_ ∷ ts) c r within sets outcomes e = absurd cc
 
@@ -124,10 +124,10 @@ nodes_found ts c r sets outcomes e = nodes_by (suc (length ts)) ts c r (omega ar
 -- ---- all nodes are read
 
 -- after a use its key is known
-known_behind : (known mid : MapOf) (u : Use SetKey InformationSet)
+known_after : (known mid : MapOf) (u : Use SetKey InformationSet)
     → Learns same_set known (u ∷ []) mid
     → (d : InformationSet) × (description_at same_set mid u.key ≡ Some d)
-known_behind known mid u learns = grind (arith, one_use, at_new, same_set_equality)
+known_after known mid u learns = grind (arith, one_use, at_new, same_set_equality)
 
 -- a node has its children by what is known after it
 children_then : (known mid end : MapOf) (o : Option (Use SetKey InformationSet)) (children : ℕ)
@@ -137,17 +137,17 @@ children_then : (known mid end : MapOf) (o : Option (Use SetKey InformationSet))
     → HasChildrenBy end (option_map (λ u. u.key) o) children
     → HasChildrenBy mid (option_map (λ u. u.key) o) children
 children_then known mid end None children learns same h = h
-children_then known mid end (Some u) children learns same h = grind (arith, known_behind)
+children_then known mid end (Some u) children learns same h = grind (arith, known_after)
 
 -- all that is read after this content
-abbrev pub behind_nodes : Content → List (Entry FileNode) → MapOf → List (Described ℕ Outcome)
+abbrev pub past_nodes : Content → List (Entry FileNode) → MapOf → List (Described ℕ Outcome)
     → Content
-behind_nodes c es sets outcomes =
+past_nodes c es sets outcomes =
     record c { nodes = c.nodes ++ alone es; due = 0; sets = sets; outcomes = outcomes }
 
 end_again : (c : Content) (sets : MapOf) (outcomes : List (Described ℕ Outcome))
     → c.due ≡ 0 → sets ≡ c.sets → outcomes ≡ c.outcomes
-    → run_tokens NodeDue c [] ≡ ok_read (behind_nodes c [] sets outcomes)
+    → run_tokens NodeDue c [] ≡ ok_read (past_nodes c [] sets outcomes)
 end_again c sets outcomes is same_sets same_outcomes = grind (arith, append-nil, ok_read)
 
 pub nodes_again : (es : List (Entry FileNode)) (ts : List Token) (c : Content)
@@ -156,7 +156,7 @@ pub nodes_again : (es : List (Entry FileNode)) (ts : List Token) (c : Content)
     → Fills c.due es → Learns same_set c.sets (set_uses es) sets
     → Learns nat_eq c.outcomes (outcome_uses es) outcomes
     → AllByRecursion (HasChildren g) (alone es) → AreSets (length c.players) sets
-    → run_tokens NodeDue c ts ≡ ok_read (behind_nodes c es sets outcomes)
+    → run_tokens NodeDue c ts ≡ ok_read (past_nodes c es sets outcomes)
 nodes_again [] ts c g sets outcomes of each fills learns_sets learns_outcomes children are =
     grind (arith, end_again)
 nodes_again (e ∷ es) ts c g sets outcomes of each fills learns_sets learns_outcomes children are =
@@ -172,7 +172,7 @@ nodes_again (e ∷ es) ts c g sets outcomes of each fills learns_sets learns_out
     subst (λ (x : MapOf). HasChildrenBy x (set_key e.node) e.children) of children.0 in
     let has = children_then c.sets s.0 sets e.node.set e.children s.1
     (kept same_set (set_uses es) s.0 sets s.2) counted in
-    let behind = behind_node c e.node e.children s.0 o.0 in
+    let behind = past_node c e.node e.children s.0 o.0 in
     cc (
       node_again e.node e.children left.0 each.0 each.1 c s.0 o.0 left.1 each.3 (nodes_no_text
           (length c.players) (nodes_of es) each.1 each.4) s.1 o.1 has mid_are,

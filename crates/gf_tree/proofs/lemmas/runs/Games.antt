@@ -12,7 +12,7 @@ use Rattle.gf_tree.proofs.lemmas.games.Learned.{game_learned_once}
 use Rattle.gf_tree.proofs.lemmas.fronts.Groups.{NoText}
 use Rattle.gf_tree.proofs.lemmas.games.SentencesOnce.{nodes_no_text}
 use Rattle.gf_tree.proofs.lemmas.runs.Tokens.{Reads}
-use Rattle.gf_tree.proofs.lemmas.runs.Files.{behind_nodes, NodesRead, alone, nodes_of, nodes_found}
+use Rattle.gf_tree.proofs.lemmas.runs.Files.{past_nodes, NodesRead, alone, nodes_of, nodes_found}
 use Rattle.gf_tree.proofs.lemmas.runs.Files.{nodes_again}
 use Rattle.gf_tree.proofs.lemmas.runs.Heading.{Heading, heading, heading_found, heading_again}
 
@@ -147,7 +147,7 @@ file_again tokens f g s l =
     let tree : root no_node (grow (alone es)) ≡ g.tree =
     grown_again f.tree (alone es) refl ∙ l.kept.tree in
     record {
-      content = behind_nodes c es g.sets g.outcomes;
+      content = past_nodes c es g.sets g.outcomes;
       read = ap (run_tokens Format nothing) s.parts
           ∙ heading_again s.letter f.title f.players (s.comment ++ s.nodes) s.is_letter
           ∙ comment_again s.comment s.nodes f.comment f.title f.players s.is_comment

@@ -7,7 +7,7 @@ use Rattle.gf_tree.proofs.Common.{AllByRecursion, Ratio, IsFraction, NumberFault
 use Rattle.gf_tree.proofs.Common.{count_of, Opening, Closing, Comma, Text, Bare, Why, Action}
 use Rattle.gf_tree.proofs.Common.{InformationSet, Outcome, SetKey, same_set, set_of, Described}
 use Rattle.gf_tree.proofs.Common.{description_at, Share, share_of, Begun, Content, Position, State}
-use Rattle.gf_tree.proofs.Common.{after_node, at, begun, behind_outcome, behind_set, new_set_ends}
+use Rattle.gf_tree.proofs.Common.{after_node, at, begun, past_outcome, past_set, new_set_ends}
 use Rattle.gf_tree.proofs.Common.{node_letter, outcome_number, paid, player_number, set_ends}
 use Rattle.gf_tree.proofs.Common.{set_number, shared, step, Format, Version, Letter, Title}
 use Rattle.gf_tree.proofs.Common.{BeforePlayers, InPlayers, AfterPlayers, NodeDue, ChanceName}
@@ -82,10 +82,10 @@ module _ (c : Content) (sets : FineSets c.sets) (outcomes : FineOutcomes c.outco
   player_keeps name None = tt
   player_keeps name (Some n) = grind arith
 
-  behind_set_keeps : (name : List ℕ) (key : SetKey) (o : Option InformationSet)
-      → description_at same_set c.sets key ≡ o → Fine (behind_set name key o) c
-  behind_set_keeps name key None e = (tt, sets, outcomes)
-  behind_set_keeps name key (Some set) e = (
+  past_set_keeps : (name : List ℕ) (key : SetKey) (o : Option InformationSet)
+      → description_at same_set c.sets key ≡ o → Fine (past_set name key o) c
+  past_set_keeps name key None e = (tt, sets, outcomes)
+  past_set_keeps name key (Some set) e = (
     found_has same_set same_set_equality (λ k s. FineActions s.actions) c.sets key set sets e,
     sets,
     outcomes,
@@ -93,7 +93,7 @@ module _ (c : Content) (sets : FineSets c.sets) (outcomes : FineOutcomes c.outco
 
   set_keeps : (name : List ℕ) (player : ℕ) (o : Option ℕ) → LeadsFine (set_number c name player o)
   set_keeps name player None = tt
-  set_keeps name player (Some n) = behind_set_keeps name (set_of player n)
+  set_keeps name player (Some n) = past_set_keeps name (set_of player n)
       (description_at same_set c.sets (set_of player n)) refl
 
   label_keeps : (name : List ℕ) (player n : ℕ) (set : InformationSet) (sum : Ratio) (label : List ℕ)
@@ -141,11 +141,11 @@ module _ (c : Content) (sets : FineSets c.sets) (outcomes : FineOutcomes c.outco
         outcomes,
       )
 
-  behind_outcome_keeps : (b : Begun) (n : ℕ) (o : Option Outcome)
+  past_outcome_keeps : (b : Begun) (n : ℕ) (o : Option Outcome)
       → description_at nat_eq c.outcomes n ≡ o
-      → Fine (behind_outcome c b n o).position (behind_outcome c b n o).content
-  behind_outcome_keeps b n None e = (tt, sets, outcomes)
-  behind_outcome_keeps b n (Some outcome) e = (
+      → Fine (past_outcome c b n o).position (past_outcome c b n o).content
+  past_outcome_keeps b n None e = (tt, sets, outcomes)
+  past_outcome_keeps b n (Some outcome) e = (
     found_has nat_eq Decides-eqb (λ k o. FinePayoffs o.payoffs) c.outcomes n outcome outcomes e,
     sets,
     outcomes,
@@ -155,7 +155,7 @@ module _ (c : Content) (sets : FineSets c.sets) (outcomes : FineOutcomes c.outco
   outcome_keeps b None = tt
   outcome_keeps b (Some zero) = (tt, sets, outcomes)
   outcome_keeps b (Some (suc k)) =
-      behind_outcome_keeps b (suc k) (description_at nat_eq c.outcomes (suc k)) refl
+      past_outcome_keeps b (suc k) (description_at nat_eq c.outcomes (suc k)) refl
 
   paid_keeps : (b : Begun) (n : ℕ) (outcome : Outcome)
       (left : ℕ) (t : List ℕ) (o : Result Ratio NumberFault)

@@ -2,7 +2,7 @@
 use Rattle.gf_tree.proofs.Common.{◌≡◌, ℕ, zero, suc, List, [], ◌∷◌, ◌++◌, Option, Some, None, refl}
 use Rattle.gf_tree.proofs.Common.{sym, ap, subst, ◌∙◌, append_assoc, AllByRecursion, Token, Each}
 use Rattle.gf_tree.proofs.Common.{Closing, Text, Bare, Ratio, IsNumber, Action, AreActions}
-use Rattle.gf_tree.proofs.Common.{IsAction, Begun, Content, at, behind_label, OutcomeNumber}
+use Rattle.gf_tree.proofs.Common.{IsAction, Begun, Content, at, past_label, OutcomeNumber}
 use Rattle.gf_tree.proofs.Common.{KnownAction, KnownProbability, run_tokens, AddUpTo, whole, pos}
 use Rattle.gf_tree.proofs.lemmas.runs.Tokens.{Reads, text_found, text_again}
 use Rattle.gf_tree.proofs.lemmas.runs.Payoffs.{number_found, number_same}
@@ -50,23 +50,23 @@ probability_found b p actions (Bare t ∷ ts) c r e =
     let h = number_found p (at (KnownAction b actions) c) t ts r e in (t, ts, refl, h.0, h.1)
 probability_found b p actions _ c r e = absurd cc
 
-behind_found : (player : ℕ) (a : Action) (label : List ℕ) (actions : List Action)
+past_found : (player : ℕ) (a : Action) (label : List ℕ) (actions : List Action)
     (o : Option Ratio) (ts : List Token) (b : Begun) (c r : Content)
     → a.probability ≡ o → label ≡ a.label
-    → HasProbability player a → Reads (behind_label b o actions) c ts r → ((us : List Token)
+    → HasProbability player a → Reads (past_label b o actions) c ts r → ((us : List Token)
     → Reads (KnownAction b actions) c us r → KnownActions us player actions b c r)
     → KnownActions (Text label ∷ ts) player (a ∷ actions) b c r
-behind_found zero a label actions None ts b c r is same has e later = let f = has.1 in absurd cc
-behind_found zero a label actions (Some p) ts b c r is same has e later =
+past_found zero a label actions None ts b c r is same has e later = let f = has.1 in absurd cc
+past_found zero a label actions (Some p) ts b c r is same has e later =
     let h = probability_found b p actions ts c r e in
     let text : Text label ∷ ts ≡ (Text a.label ∷ Bare h.0 ∷ []) ++ h.1 = cc in
     rw text (known_more (Text a.label ∷ Bare h.0 ∷ []) h.1 0 a actions b c r (h.0, p, refl, h.3, is)
     (later h.1 h.4))
-behind_found (suc player) a label actions None ts b c r is same has e later =
+past_found (suc player) a label actions None ts b c r is same has e later =
     let text : Text label ∷ ts ≡ (Text a.label ∷ []) ++ ts = λ i. Text (same i) ∷ ts in
     subst (λ (x : List Token). KnownActions x (suc player) (a ∷ actions) b c r) (sym text)
     (known_more (Text a.label ∷ []) ts (suc player) a actions b c r (refl, has) (later ts e))
-behind_found (suc player) a label actions (Some p) ts b c r is same has e later = absurd cc
+past_found (suc player) a label actions (Some p) ts b c r is same has e later = absurd cc
 
 pub known_found : (actions : List Action) (player : ℕ) (ts : List Token) (b : Begun) (c r : Content)
     → AllByRecursion (HasProbability player) actions → Reads (KnownAction b actions) c ts r
@@ -75,17 +75,17 @@ known_found [] player (Closing ∷ ts) b c r has e =
     record { inner = []; rest = ts; parts = refl; each = refl; goes_on = e }
 known_found [] player _ b c r has e = absurd cc
 known_found (a ∷ actions) player (Text label ∷ ts) b c r has e =
-    let h = text_found a.label label (at (behind_label b a.probability actions) c) ts r e in
-    behind_found player a label actions a.probability ts b c r refl h.0 has.0 h.1
+    let h = text_found a.label label (at (past_label b a.probability actions) c) ts r e in
+    past_found player a label actions a.probability ts b c r refl h.0 has.0 h.1
     (λ us f. known_found actions player us b c r has.1 f)
 known_found (a ∷ actions) player _ b c r has e = absurd cc
 
 pub label_again : (a : Action) (actions : List Action)
     (o : Option Ratio) (ts : List Token) (b : Begun) (c : Content) → a.probability ≡ o
     → run_tokens (KnownAction b (a ∷ actions)) c (Text a.label ∷ ts)
-    ≡ run_tokens (behind_label b o actions) c ts
+    ≡ run_tokens (past_label b o actions) c ts
 label_again a actions o ts b c is =
-    cc (text_again a.label (at (behind_label b a.probability actions) c), is)
+    cc (text_again a.label (at (past_label b a.probability actions) c), is)
 
 pub known_again : (actions : List Action) (player : ℕ)
     (inner rest : List Token) (b : Begun) (c : Content) → Each (IsAction player) inner actions

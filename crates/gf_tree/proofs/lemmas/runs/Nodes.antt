@@ -30,8 +30,8 @@ abbrev pub set_key : FileNode → Option SetKey
 set_key n = option_map (λ u. u.key) n.set
 
 -- what is known once this node is whole
-abbrev pub behind_node : Content → FileNode → ℕ → MapOf → List (Described ℕ Outcome) → Content
-behind_node c n children sets outcomes = record c {
+abbrev pub past_node : Content → FileNode → ℕ → MapOf → List (Described ℕ Outcome) → Content
+past_node c n children sets outcomes = record c {
   nodes = c.nodes ++ record { node = keys_alone n; children = children } ∷ [];
   due = children + (c.due - 1);
   sets = sets;
@@ -55,7 +55,7 @@ pub record NodeRead (ts : List Token) (c r : Content) : Type 0 where
   pub has_children : HasChildrenBy sets (set_key node) children
   pub are_sets : AreSets (length c.players) sets
   pub are_outcomes : AreOutcomes (length c.players) outcomes
-  pub goes_on : Reads NodeDue (behind_node c node children sets outcomes) rest r
+  pub goes_on : Reads NodeDue (past_node c node children sets outcomes) rest r
 
 -- a node at which chance or a player moves
 mover_found : (letter : List ℕ) (mover ts : List Token) (name : List ℕ) (player : ℕ) (c r : Content)
@@ -236,7 +236,7 @@ step_again : (name letter : List ℕ) (set : Option (Use SetKey InformationSet))
     → HasChildrenBy sets (option_map (λ u. u.key) set) children → AreSets (length c.players) sets
     → run_tokens NodeDue c (Bare letter ∷ Text name ∷ (step ++ (result ++ rest)))
     ≡ run_tokens NodeDue
-    (behind_node c (record { name = name; set = set; outcome = outcome }) children sets outcomes)
+    (past_node c (record { name = name; set = set; outcome = outcome }) children sets outcomes)
     rest
 step_again name letter None outcome children due step result rest c sets outcomes is is_step
     is_result none learns_sets learns_outcomes has are =
@@ -275,7 +275,7 @@ pub node_again : (n : FileNode) (children due : ℕ) (tokens rest : List Token)
     → Learns nat_eq c.outcomes (uses_of n.outcome) outcomes
     → HasChildrenBy sets (set_key n) children → AreSets (length c.players) sets
     → run_tokens NodeDue c (tokens ++ rest)
-    ≡ run_tokens NodeDue (behind_node c n children sets outcomes) rest
+    ≡ run_tokens NodeDue (past_node c n children sets outcomes) rest
 node_again n children due tokens rest c sets outcomes is h none learns_sets learns_outcomes has
     are =
     ap (λ (x : List Token). run_tokens NodeDue c (x ++ rest)) h.parts

@@ -43,9 +43,9 @@ more_numbers may b p ts numbers rest is h = record {
   each = (Bare b ∷ h.comma, h.inner, refl, (b, h.comma, refl, is, h.is_comma), h.each);
 }
 
-behind_comma : (ts : List Token) (numbers : List Ratio) (rest : List Token)
+past_comma : (ts : List Token) (numbers : List Ratio) (rest : List Token)
     → Numbers false ts numbers rest → Numbers true (Comma ∷ ts) numbers rest
-behind_comma ts numbers rest h = record {
+past_comma ts numbers rest h = record {
   comma = Comma ∷ [];
   inner = h.inner;
   parts = cc (h.parts, h.is_comma);
@@ -124,7 +124,7 @@ new_found true (Comma ∷ ts) b n outcome left c r e =
     record {
       numbers = h.numbers;
       rest = h.rest;
-      are = behind_comma ts h.numbers h.rest h.are;
+      are = past_comma ts h.numbers h.rest h.are;
       count = h.count;
       goes_on = h.goes_on;
     }
@@ -214,7 +214,7 @@ pub known_found : (may : Bool) (ts : List Token) (ps : List Ratio) (c r : Conten
     → (rest : List Token) × Numbers may ts ps rest × Reads NodeDue c rest r
 known_found true (Comma ∷ ts) ps c r e =
     let h = known_found false ts ps c r (sym (known_comma ps c ts) ∙ e) in
-    (h.0, behind_comma ts ps h.0 h.1, h.2)
+    (h.0, past_comma ts ps h.0 h.1, h.2)
 known_found true (Closing ∷ ts) [] c r e = (ts, no_numbers true ts, e)
 known_found false (Closing ∷ ts) [] c r e = (ts, no_numbers false ts, e)
 known_found true (Bare t ∷ ts) (p ∷ ps) c r e =

@@ -5,7 +5,7 @@ use Rattle.gf_tree.proofs.Common.{inl, inr, nat_eq, ◌⊎◌, AllByRecursion, D
 use Rattle.gf_tree.proofs.Common.{IsIndex, Opening, Closing, Text, Bare, index_again, Ratio}
 use Rattle.gf_tree.proofs.Common.{Outcome, IsOutcome, Use, Learns, Described, description_at}
 use Rattle.gf_tree.proofs.Common.{IsDescription, IsOutcomeDescription, IsResult, Begun, Content, at}
-use Rattle.gf_tree.proofs.Common.{behind_outcome, outcome_number, with_node, run_tokens, then_run}
+use Rattle.gf_tree.proofs.Common.{past_outcome, outcome_number, with_node, run_tokens, then_run}
 use Rattle.gf_tree.proofs.Common.{NodeDue, OutcomeNumber, NewOutcomeName, NewOutcomeOpening}
 use Rattle.gf_tree.proofs.Common.{NewPayoff, KnownOutcomeName, KnownOutcomeOpening, KnownPayoff}
 use Rattle.gf_tree.proofs.Common.{index_is}
@@ -43,7 +43,7 @@ pub record ResultRead (ts : List Token) (b : Begun) (c r : Content) : Type 0 whe
 -- ---- after the number
 
 -- the description of an outcome, or none, and what follows
-record Behind (ts : List Token) (b : Begun) (n : ℕ) (c r : Content) : Type 0 where
+record Past (ts : List Token) (b : Begun) (n : ℕ) (c r : Content) : Type 0 where
   description : Option Outcome
   tokens : List Token
   rest : List Token
@@ -79,10 +79,10 @@ described : (ts t1 t2 rest : List Token) (name : List ℕ)
     → ts ≡ Text name ∷ t1 → t1 ≡ Opening ∷ t2 → ts ≡ (Text name ∷ braced h.inner) ++ rest
 described ts t1 t2 rest name numbers h e f = grind (arith, append_assoc)
 
-new_behind : (ts : List Token) (b : Begun) (n : ℕ) (c r : Content)
+new_after : (ts : List Token) (b : Begun) (n : ℕ) (c r : Content)
     → 0 < n → AreOutcomes (length c.players) c.outcomes → description_at nat_eq c.outcomes n ≡ None
-    → Reads (NewOutcomeName b n) c ts r → Behind ts b n c r
-new_behind ts b n c r some are unknown e =
+    → Reads (NewOutcomeName b n) c ts r → Past ts b n c r
+new_after ts b n c r some are unknown e =
     let x = name_found ts b n c r e in
     let y = opening_found x.1 b n x.0 c r x.3 in
     let h =
@@ -111,13 +111,13 @@ not_again (_ ∷ ts) outcome c none = refl
 
 known_without : (ts : List Token) (b : Begun) (n : ℕ) (outcome : Outcome) (c r : Content)
     → AreOutcomes (length c.players) c.outcomes → description_at nat_eq c.outcomes n ≡ Some outcome
-    → Reads NodeDue (with_node c b (Some n)) ts r → Behind ts b n c r
+    → Reads NodeDue (with_node c b (Some n)) ts r → Past ts b n c r
 known_without ts b n outcome c r are known e = grind arith
 
-known_behind : (ts : List Token) (b : Begun) (n : ℕ) (outcome : Outcome) (c r : Content)
+known_after : (ts : List Token) (b : Begun) (n : ℕ) (outcome : Outcome) (c r : Content)
     → AreOutcomes (length c.players) c.outcomes → description_at nat_eq c.outcomes n ≡ Some outcome
-    → Reads (KnownOutcomeName outcome) (with_node c b (Some n)) ts r → Behind ts b n c r
-known_behind (Text label ∷ ts) b n outcome c r are known e =
+    → Reads (KnownOutcomeName outcome) (with_node c b (Some n)) ts r → Past ts b n c r
+known_after (Text label ∷ ts) b n outcome c r are known e =
     let h = text_found outcome.name label
     (at (KnownOutcomeOpening outcome.payoffs) (with_node c b (Some n))) ts r e in
     let y = known_opening_found ts outcome.payoffs (with_node c b (Some n)) r h.1 in
@@ -136,15 +136,15 @@ known_behind (Text label ∷ ts) b n outcome c r are known e =
       are = are;
       goes_on = k.2;
     }
-known_behind [] b n outcome c r are known e = known_without [] b n outcome c r are known e
-known_behind (Bare t ∷ ts) b n outcome c r are known e = grind arith
-known_behind (_ ∷ ts) b n outcome c r are known e = absurd cc
+known_after [] b n outcome c r are known e = known_without [] b n outcome c r are known e
+known_after (Bare t ∷ ts) b n outcome c r are known e = grind arith
+known_after (_ ∷ ts) b n outcome c r are known e = absurd cc
 
-behind_found : (ts : List Token) (b : Begun) (n : ℕ) (o : Option Outcome) (c r : Content)
+past_found : (ts : List Token) (b : Begun) (n : ℕ) (o : Option Outcome) (c r : Content)
     → 0 < n → AreOutcomes (length c.players) c.outcomes → description_at nat_eq c.outcomes n ≡ o
-    → run_on ts (behind_outcome c b n o) ≡ Ok r → Behind ts b n c r
-behind_found ts b n None c r some are is e = new_behind ts b n c r some are is e
-behind_found ts b n (Some outcome) c r some are is e = known_behind ts b n outcome c r are is e
+    → run_on ts (past_outcome c b n o) ≡ Ok r → Past ts b n c r
+past_found ts b n None c r some are is e = new_after ts b n c r some are is e
+past_found ts b n (Some outcome) c r some are is e = known_after ts b n outcome c r are is e
 
 -- ---- the number
 
@@ -164,7 +164,7 @@ number_by ts t (Some zero) b c r are is e = record {
   goes_on = e;
 }
 number_by ts t (Some (suc k)) b c r are is e =
-    let h = behind_found ts b (suc k) (description_at nat_eq c.outcomes (suc k)) c r (omega arith)
+    let h = past_found ts b (suc k) (description_at nat_eq c.outcomes (suc k)) c r (omega arith)
     are refl e in
     record {
       outcome = Some (use_of (suc k) h.description);
@@ -186,17 +186,17 @@ result_found _ b c r are e = absurd cc
 
 -- ---- each outcome of a node is read
 
-behind_again : (tokens rest : List Token) (b : Begun) (u : Use ℕ Outcome)
+past_again : (tokens rest : List Token) (b : Begun) (u : Use ℕ Outcome)
     (outcomes : List (Described ℕ Outcome)) (c : Content)
     → IsDescription (IsOutcomeDescription (length c.players)) tokens u.description → NoText rest
     → IsNew nat_eq c.outcomes u outcomes ⊎ IsKnown nat_eq c.outcomes u outcomes
-    → run_on (tokens ++ rest) (behind_outcome c b u.key (description_at nat_eq c.outcomes u.key))
+    → run_on (tokens ++ rest) (past_outcome c b u.key (description_at nat_eq c.outcomes u.key))
     ≡ run_tokens NodeDue (with_node (with_outcomes c outcomes) b (Some u.key)) rest
-behind_again tokens rest b u outcomes c is none (inl h) = by u.description is h.told
+past_again tokens rest b u outcomes c is none (inl h) = by u.description is h.told
   where
     by : (o : Option Outcome) → IsDescription (IsOutcomeDescription (length c.players)) tokens o
         → o ≡ Some h.description → run_on (tokens ++ rest)
-        (behind_outcome c b u.key (description_at nat_eq c.outcomes u.key))
+        (past_outcome c b u.key (description_at nat_eq c.outcomes u.key))
         ≡ run_tokens NodeDue (with_node (with_outcomes c outcomes) b (Some u.key)) rest
     by None is told = absurd cc
     by (Some d) is told =
@@ -204,7 +204,7 @@ behind_again tokens rest b u outcomes c is none (inl h) = by u.description is h.
         cc (append_assoc is.0 (Closing ∷ []) rest) in
         cc (new_again d.payoffs is.0 rest b u.key (record { name = d.name; payoffs = [] }) c is.2
         false)
-behind_again tokens rest b u outcomes c is none (inr h) =
+past_again tokens rest b u outcomes c is none (inr h) =
     cc (h.is_known, by u.description is h.told, h.no_more)
   where
     by : (o : Option Outcome) → IsDescription (IsOutcomeDescription (length c.players)) tokens o
@@ -227,7 +227,7 @@ behind_again tokens rest b u outcomes c is none (inr h) =
 
 pub number_again : (t : List ℕ) (k : ℕ) (b : Begun) (c : Content) (ts : List Token) → 0 < k
     → IsIndex t k → run_tokens (OutcomeNumber b) c (Bare t ∷ ts)
-    ≡ run_on ts (behind_outcome c b k (description_at nat_eq c.outcomes k))
+    ≡ run_on ts (past_outcome c b k (description_at nat_eq c.outcomes k))
 number_again t k b c ts h h2 = grind (arith, run_on, index_again)
 
 pub result_again : (outcome : Option (Use ℕ Outcome)) (tokens rest : List Token) (b : Begun)
@@ -242,6 +242,6 @@ result_again (Some u) tokens rest b outcomes c is none learns =
     cc (
       is.2,
       number_again is.0 u.key b c (is.1 ++ rest) is.3.1 is.3.0,
-      behind_again is.1 rest b u
+      past_again is.1 rest b u
           outcomes c is.4 none (one_use nat_eq c.outcomes u outcomes learns),
     )

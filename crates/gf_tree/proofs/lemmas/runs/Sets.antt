@@ -7,7 +7,7 @@ use Rattle.gf_tree.proofs.Common.{Action, InformationSet, SetKey, set_of, same_s
 use Rattle.gf_tree.proofs.Common.{Described, description_at, Use, Learns, OutcomeNumber, SetNumber}
 use Rattle.gf_tree.proofs.Common.{NewSetName, NewSetOpening, NewAction, KnownSetName}
 use Rattle.gf_tree.proofs.Common.{KnownSetOpening, KnownAction, IsPositive, IsDescription}
-use Rattle.gf_tree.proofs.Common.{IsInformationSet, Content, at, begun, behind_set, set_number}
+use Rattle.gf_tree.proofs.Common.{IsInformationSet, Content, at, begun, past_set, set_number}
 use Rattle.gf_tree.proofs.Common.{run_tokens, then_run, count_is}
 use Rattle.gf_tree.proofs.lemmas.games.TreesOnce.{same_set_equality}
 use Rattle.gf_tree.proofs.lemmas.games.Members.{all_more}
@@ -28,7 +28,7 @@ AreSets players sets = AllByRecursion (λ s. IsSet players s.key s.description) 
 -- ---- after the number
 
 -- the description of a set, or none, and what follows
-pub record Behind (ts : List Token) (name : List ℕ) (player n : ℕ) (c r : Content) : Type 0 where
+pub record Past (ts : List Token) (name : List ℕ) (player n : ℕ) (c r : Content) : Type 0 where
   pub description : Option InformationSet
   pub tokens : List Token
   pub rest : List Token
@@ -68,11 +68,11 @@ described ts t1 t2 inner rest label e f g = grind (arith, append_assoc)
 zero_fraction : IsFraction (whole (pos 0))
 zero_fraction = whole_fraction 0 (omega arith)
 
-new_behind : (ts : List Token) (name : List ℕ) (player n : ℕ) (c r : Content)
+new_after : (ts : List Token) (name : List ℕ) (player n : ℕ) (c r : Content)
     → player ≤ length c.players → 0 < n → AreSets (length c.players) c.sets
     → description_at same_set c.sets (set_of player n) ≡ None
-    → Reads (NewSetName name (set_of player n)) c ts r → Behind ts name player n c r
-new_behind ts name player n c r among some are unknown e =
+    → Reads (NewSetName name (set_of player n)) c ts r → Past ts name player n c r
+new_after ts name player n c r among some are unknown e =
     let key = set_of player n in
     let x = name_found ts name key c r e in
     let y = opening_found x.1 name key x.0 c r x.3 in
@@ -95,11 +95,11 @@ new_behind ts name player n c r among some are unknown e =
       goes_on = h.goes_on;
     }
 
-known_behind : (ts : List Token) (name : List ℕ)
+known_after : (ts : List Token) (name : List ℕ)
     (player n : ℕ) (set : InformationSet) (c r : Content) → AreSets (length c.players) c.sets
     → description_at same_set c.sets (set_of player n) ≡ Some set
-    → Reads (KnownSetName name (set_of player n) set) c ts r → Behind ts name player n c r
-known_behind (Text label ∷ ts) name player n set c r are known e =
+    → Reads (KnownSetName name (set_of player n) set) c ts r → Past ts name player n c r
+known_after (Text label ∷ ts) name player n set c r are known e =
     let key = set_of player n in
     let b = begun name key set in
     let is =
@@ -122,18 +122,18 @@ known_behind (Text label ∷ ts) name player n set c r are known e =
       are = are;
       goes_on = k.goes_on;
     }
-known_behind (Bare t ∷ ts) name player n set c r are known e = grind arith
-known_behind _ name player n set c r are known e = absurd cc
+known_after (Bare t ∷ ts) name player n set c r are known e = grind arith
+known_after _ name player n set c r are known e = absurd cc
 
-behind_found : (ts : List Token) (name : List ℕ)
+past_found : (ts : List Token) (name : List ℕ)
     (player n : ℕ) (o : Option InformationSet) (c r : Content)
     → player ≤ length c.players → 0 < n → AreSets (length c.players) c.sets
     → description_at same_set c.sets (set_of player n) ≡ o
-    → Reads (behind_set name (set_of player n) o) c ts r → Behind ts name player n c r
-behind_found ts name player n None c r among some are is e =
-    new_behind ts name player n c r among some are is e
-behind_found ts name player n (Some set) c r among some are is e =
-    known_behind ts name player n set c r are is e
+    → Reads (past_set name (set_of player n) o) c ts r → Past ts name player n c r
+past_found ts name player n None c r among some are is e =
+    new_after ts name player n c r among some are is e
+past_found ts name player n (Some set) c r among some are is e =
+    known_after ts name player n set c r are is e
 
 -- ---- the number
 
@@ -144,7 +144,7 @@ pub record SetRead (ts : List Token) (name : List ℕ) (player : ℕ) (c r : Con
   pub others : List Token
   pub first : ts ≡ Bare number ∷ others
   pub is_number : IsPositive number n
-  pub behind : Behind others name player n c r
+  pub behind : Past others name player n c r
   pub open behind use {description, tokens, rest, sets, set, is_description, learns, goes_on}
 
 number_by : (ts : List Token) (t : List ℕ) (o : Option ℕ)
@@ -161,7 +161,7 @@ number_by ts t (Some n) name player c r among are is e =
       others = ts;
       first = refl;
       is_number = (k.1, k.0);
-      behind = behind_found ts name player n (description_at same_set c.sets (set_of player n)) c r
+      behind = past_found ts name player n (description_at same_set c.sets (set_of player n)) c r
           among k.0 are refl e;
     }
 
@@ -175,19 +175,19 @@ set_found _ name player c r among are e = absurd cc
 -- ---- each set of a node is read
 
 -- after the description stands the number of the outcome
-behind_again : (tokens rest : List Token) (t name : List ℕ) (u : Use SetKey InformationSet)
+past_again : (tokens rest : List Token) (t name : List ℕ) (u : Use SetKey InformationSet)
     (sets : List (Described SetKey InformationSet)) (set : InformationSet) (c : Content)
     → IsDescription (IsInformationSet u.key.player) tokens u.description
     → IsSet (length c.players) u.key set → description_at same_set sets u.key ≡ Some set
     → IsNew same_set c.sets u sets ⊎ IsKnown same_set c.sets u sets
-    → run_tokens (behind_set name u.key (description_at same_set c.sets u.key))
+    → run_tokens (past_set name u.key (description_at same_set c.sets u.key))
     c (tokens ++ Bare t ∷ rest)
     ≡ run_tokens (OutcomeNumber (begun name u.key set)) (with_sets c sets) (Bare t ∷ rest)
-behind_again tokens rest t name u sets set c is good known (inl h) = by u.description is h.told
+past_again tokens rest t name u sets set c is good known (inl h) = by u.description is h.told
   where
     by : (o : Option InformationSet) → IsDescription (IsInformationSet u.key.player) tokens o
         → o ≡ Some h.description
-        → run_tokens (behind_set name u.key (description_at same_set c.sets u.key))
+        → run_tokens (past_set name u.key (description_at same_set c.sets u.key))
         c (tokens ++ Bare t ∷ rest)
         ≡ run_tokens (OutcomeNumber (begun name u.key set)) (with_sets c sets) (Bare t ∷ rest)
     by None is told = absurd cc
@@ -205,8 +205,8 @@ behind_again tokens rest t name u sets set c is good known (inl h) = by u.descri
         (record { name = d.name; actions = [] }) (whole (pos 0)) c zero_fraction is.2
         (are_others u.key.player d.actions good_set.actions) good_set.some_action in
         cc
-behind_again tokens rest t name u sets set c is good known (inr h) =
-    ap (λ o. run_tokens (behind_set name u.key o) c (tokens ++ Bare t ∷ rest)) h.is_known
+past_again tokens rest t name u sets set c is good known (inr h) =
+    ap (λ o. run_tokens (past_set name u.key o) c (tokens ++ Bare t ∷ rest)) h.is_known
     ∙ by u.description is h.told ∙ ap (λ x.
     run_tokens (OutcomeNumber (begun name u.key h.description)) (with_sets c x) (Bare t ∷ rest))
     (sym h.no_more) ∙ ap (λ (x : InformationSet).
@@ -237,5 +237,5 @@ set_again number tokens rest t name u sets set c is_number is are known learns =
     found_has same_set same_set_equality (IsSet (length c.players)) sets u.key set are known in
     ap (λ o. then_run (set_number c name u.key.player o) (run_on (tokens ++ Bare t ∷ rest)))
     (count_again number u.key.number is_number.1 is_number.0)
-    ∙ behind_again tokens rest t name u sets set c is good known
+    ∙ past_again tokens rest t name u sets set c is good known
     (one_use same_set c.sets u sets learns)

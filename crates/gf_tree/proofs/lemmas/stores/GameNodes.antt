@@ -13,7 +13,7 @@ use Rattle.gf_tree.specs.GrowsAgain.{root_grows_again}
 use Rattle.gf_tree.specs.KeptNodes.{node_with}
 use Rattle.gf_tree.proofs.lemmas.games.Prefix.{one_tree}
 use Rattle.gf_tree.proofs.lemmas.stores.SubtreeSizes.{begin_first, counts_of, drop_suc, skips_to}
-use Rattle.gf_tree.proofs.lemmas.stores.SubtreeSizes.{slice_get_behind, stands, subtrees_counted}
+use Rattle.gf_tree.proofs.lemmas.stores.SubtreeSizes.{slice_get_after, stands, subtrees_counted}
 
 -- ---- the tree of a list
 
@@ -104,7 +104,7 @@ child_is_there {N} t at i h j =
       there =
           rw (sizes, tree)
           (cc (
-            slice_get_behind (subtrees t) (at + 1) (skipped i (map (λ s. length (flatten s))
+            slice_get_after (subtrees t) (at + 1) (skipped i (map (λ s. length (flatten s))
                 (subtrees_all r.below ++ subtrees_all r.others))),
             skips_to i r.below (subtrees_all r.others) less,
           ));

@@ -5,10 +5,10 @@ use Rattle.gf_tree.proofs.Common.{append_assoc, append-nil, filter_map, cons_opt
 use Rattle.gf_tree.proofs.Common.{map-append, at_position, SetKey, same_set, Described}
 use Rattle.gf_tree.proofs.Common.{description_at, first_uses, Game, Node, IsGame, Entry, flatten}
 use Rattle.gf_tree.proofs.Common.{AreAmong, IsAmong, Kept, entries_with, Bool, filter_map-append}
-use Rattle.gf_tree.proofs.Common.{file_nodes, use_behind, entry_with, told_from, told_node}
+use Rattle.gf_tree.proofs.Common.{file_nodes, use_after, entry_with, told_from, told_node}
 use Rattle.gf_tree.proofs.Common.{use_with, OfFile}
 use Rattle.std.proofs.Math.Nat.{max-zero}
-use Rattle.gf_tree.specs.FileNodes.{node_behind, with_those_before}
+use Rattle.gf_tree.specs.FileNodes.{node_after, with_those_before}
 use Rattle.gf_tree.proofs.lemmas.stores.KnownKeys.{known_there, use_there}
 use Rattle.gf_tree.proofs.lemmas.games.Members.{map_same, map_twice, something_there}
 use Rattle.gf_tree.proofs.lemmas.games.TreesOnce.{same_set_equality}
@@ -17,10 +17,10 @@ use Rattle.gf_tree.proofs.lemmas.games.Uses.{IsEquality}
 -- ---- lists
 
 -- an item with those before it, after others
-behind_front : {A B : Type 0} (f : List A → A → B) (front : List A) (x : A) (xs : List A)
+past_front : {A B : Type 0} (f : List A → A → B) (front : List A) (x : A) (xs : List A)
     → map (λ p. f (front ++ p.0) p.1) (with_those_before (x ∷ xs))
     ≡ f front x ∷ map (λ p. f ((front ++ x ∷ []) ++ p.0) p.1) (with_those_before xs)
-behind_front {A} {B} f front x xs = grind (arith, append-nil, map_twice, map_same, append_assoc)
+past_front {A} {B} f front x xs = grind (arith, append-nil, map_twice, map_same, append_assoc)
 
 -- ---- the use at a position, after other uses
 
@@ -35,7 +35,7 @@ record IsUse {K D : Type 0} (same : K → K → Bool) (known : List (Described K
 module _ {K D : Type 0} (same : K → K → Bool) (tells : IsEquality same)
     (known : List (Described K D)) (before after : List K) (used : Option K) where
   use_given : (position met : ℕ) → IsUse same known before after used position met
-      → option_map (use_behind same (description_at same known) before) used
+      → option_map (use_after same (description_at same known) before) used
       ≡ option_map (λ d. use_with d.key (position == suc met) d.description)
       (at_position known position)
   use_given position met h = grind (arith, something_there, option_map, use_there)
@@ -99,7 +99,7 @@ module _ (g : Game) (game : IsGame g) (nodes : List Kept)
     }
 
     node_here : (told_node OfFile g.sets g.outcomes met_sets met_outcomes n).node
-        ≡ node_behind g (entries front) (entry_with g.sets g.outcomes n).node
+        ≡ node_after g (entries front) (entry_with g.sets g.outcomes n).node
     node_here =
         let set = sym (use_given same_set same_set_equality g.sets (sets_in front) (sets_in ns)
         (entry_with g.sets g.outcomes n).node.set n.set met_sets set_here) in
@@ -128,24 +128,24 @@ module _ (g : Game) (game : IsGame g) (nodes : List Kept)
           (entries (n ∷ []))));
     }
 
-  given_behind : (front ns : List Kept) (met_sets met_outcomes : ℕ)
+  given_after : (front ns : List Kept) (met_sets met_outcomes : ℕ)
       → IsFront front ns met_sets met_outcomes → AreAmong (length g.sets) (length g.outcomes) ns
       → map (λ t. t.node) (told_from OfFile g.sets g.outcomes met_sets met_outcomes ns)
-      ≡ map (λ p. node_behind g (entries front ++ p.0) p.1.node)
+      ≡ map (λ p. node_after g (entries front ++ p.0) p.1.node)
       (with_those_before (entries ns))
-  given_behind front [] met_sets met_outcomes here placed = refl
-  given_behind front (n ∷ ns) met_sets met_outcomes here placed =
+  given_after front [] met_sets met_outcomes here placed = refl
+  given_after front (n ∷ ns) met_sets met_outcomes here placed =
       let node = node_here front n ns met_sets met_outcomes here placed.0 in
-      let others = given_behind (front ++ n ∷ []) ns (max met_sets n.set)
+      let others = given_after (front ++ n ∷ []) ns (max met_sets n.set)
       (max met_outcomes n.outcome) (goes_on front n ns met_sets met_outcomes here placed.0)
       placed.1 ∙ ap (λ es. map (λ (p : List (Entry Node) × Entry Node).
-      node_behind g (es ++ p.0) p.1.node) (with_those_before (entries ns)))
+      node_after g (es ++ p.0) p.1.node) (with_those_before (entries ns)))
       (one_more front n ns met_sets met_outcomes here placed.0) in
       (λ i. node i ∷ others i)
-      ∙ sym (behind_front (λ before (e : Entry Node). node_behind g before e.node)
+      ∙ sym (past_front (λ before (e : Entry Node). node_after g before e.node)
       (entries front) (entry_with g.sets g.outcomes n) (entries ns))
 
   pub nodes_are_given : AreAmong (length g.sets) (length g.outcomes) nodes
       → map (λ t. t.node) (told_from OfFile g.sets g.outcomes 0 0 nodes) ≡ file_nodes g
   nodes_are_given placed =
-      cc (given_behind [] nodes 0 0 (record { parts = refl; sets = refl; outcomes = refl }) placed)
+      cc (given_after [] nodes 0 0 (record { parts = refl; sets = refl; outcomes = refl }) placed)

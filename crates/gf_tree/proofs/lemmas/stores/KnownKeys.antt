@@ -3,7 +3,7 @@ use Rattle.gf_tree.proofs.Common.{◌≡◌, ℕ, zero, suc, ◌+◌, ◌<◌, B
 use Rattle.gf_tree.proofs.Common.{◌++◌, length, map, Some, slice_get, max, refl, sym, ap, ◌∙◌}
 use Rattle.gf_tree.proofs.Common.{arith, ◌==◌, eq-eqb, slice_get-map, Described, description_at}
 use Rattle.gf_tree.proofs.Common.{first_uses, filter, not, append_assoc, filter-append}
-use Rattle.gf_tree.proofs.Common.{not_from_false, first_use_number, use_behind, use_with}
+use Rattle.gf_tree.proofs.Common.{not_from_false, first_use_number, use_after, use_with}
 use Rattle.std.proofs.Common.{length-append}
 use Rattle.std.specs.List.{list_any}
 use Rattle.std.proofs.Math.Nat.{max-eq_left}
@@ -98,12 +98,12 @@ module _ {K : Type 0} (same : K → K → Bool) (tells : IsEquality same) where
     description_there : description_at same known d.key ≡ Some d.description
     description_there = grind (arith, entry_at, first_uses_distinct, has_at)
 
-    pub use_there : use_behind same (description_at same known) before d.key
+    pub use_there : use_after same (description_at same known) before d.key
         ≡ use_with d.key (suc k == suc (length (first_uses same before))) d.description
     use_there = by (list_any (same d.key) before) refl
       where
         by : (b : Bool) → list_any (same d.key) before ≡ b
-            → use_behind same (description_at same known) before d.key
+            → use_after same (description_at same known) before d.key
             ≡ use_with d.key (suc k == suc (length (first_uses same before))) d.description
         by b h = grind (arith, number_again, ne_eqb, eq-eqb, number_new, description_there)
 

@@ -126,19 +126,19 @@ actions_there g game place key actions at are =
 
 -- ---- the position of a number
 
-position_behind : (ns : List ℕ) (start k n : ℕ) → AreDistinct ns → slice_get ns k ≡ Some n
+position_after : (ns : List ℕ) (start k n : ℕ) → AreDistinct ns → slice_get ns k ≡ Some n
     → position_from (nat_eq n) start ns ≡ Some (start + k)
-position_behind [] start zero n d h = absurd cc
-position_behind [] start (suc k) n d h = absurd cc
-position_behind (m ∷ ns) start zero n d h = grind arith
-position_behind (m ∷ ns) start (suc k) n d h =
+position_after [] start zero n d h = absurd cc
+position_after [] start (suc k) n d h = absurd cc
+position_after (m ∷ ns) start zero n d h = grind arith
+position_after (m ∷ ns) start (suc k) n d h =
     let other : nat_eq n m ≡ false = false_from_ne_true (nat_eq n m)
     (λ t. d.0 (subst (Has ns) (eqb-true n m t) (has_at ns k n h))) in
-    rw other (position_behind ns (start + 1) k n d.1 h ∙ ap Some (omega arith))
+    rw other (position_after ns (start + 1) k n d.1 h ∙ ap Some (omega arith))
 
 position_is : (ns : List ℕ) (k n : ℕ) → AreDistinct ns → slice_get ns k ≡ Some n
     → position (nat_eq n) ns ≡ Some k
-position_is ns k n d h = grind (arith, position_from-zero, position_behind)
+position_is ns k n d h = grind (arith, position_from-zero, position_after)
 
 -- ---- at the place of a node
 

@@ -19,16 +19,16 @@ numbers_from payoffs [] place = refl
 numbers_from payoffs (e ∷ es) place = grind (arith, numbers_from payoffs es (place + 1))
 
 -- an entry after them has the last place
-places_behind : (entries : List Entry) (new : Entry) (place : ℕ)
+places_after : (entries : List Entry) (new : Entry) (place : ℕ)
     → places_from place (entries ++ new ∷ [])
     ≡ places_from place entries ++ (new.number, place + length entries) ∷ []
-places_behind [] new place = ap (λ (k : ℕ). (new.number, k) ∷ []) (omega arith)
-places_behind (e ∷ es) new place = grind (arith, places_behind es new (place + 1))
+places_after [] new place = ap (λ (k : ℕ). (new.number, k) ∷ []) (omega arith)
+places_after (e ∷ es) new place = grind (arith, places_after es new (place + 1))
 
 pub places_then : (ns : List (ℕ × ℕ)) (entries : List Entry) (new : Entry)
     → ns ≡ places_from 0 entries
     → ns ++ (new.number, length entries) ∷ [] ≡ places_from 0 (entries ++ new ∷ [])
-places_then ns entries new is = grind (arith, places_behind)
+places_then ns entries new is = grind (arith, places_after)
 
 module _ (ns : List (ℕ × ℕ)) (entries : List Entry) (payoffs : List Ratio) (from : ℕ)
     (whole : KnownOutcomes) (are : AreOutcomes ns entries payoffs from)

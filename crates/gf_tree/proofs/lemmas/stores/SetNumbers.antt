@@ -46,8 +46,8 @@ module _ (entries : List Entry) (new : Entry) (numbered : AreNumbered entries)
   one_more : length (of_player new.player (entries ++ new ∷ [])) ≡ new.among
   one_more = grind (arith, filter-append, eq-eqb, length-append)
 
-  pub numbered_behind : AreNumbered (entries ++ new ∷ [])
-  numbered_behind place e at = by (nat_lt place (length entries)) refl
+  pub numbered_after : AreNumbered (entries ++ new ∷ [])
+  numbered_after place e at = by (nat_lt place (length entries)) refl
     where
       by : (b : Bool) → nat_lt place (length entries) ≡ b
           → e.among ≡ length (of_player e.player (take (place + 1) (entries ++ new ∷ [])))

@@ -11,7 +11,7 @@ use Rattle.gf_tree.specs.declared.game.action.Action.{Action as Held}
 use Rattle.gf_tree.specs.declared.game.sets.Entry.{Entry}
 use Rattle.gf_tree.proofs.lemmas.stores.SetPlaces.{found}
 use Rattle.gf_tree.proofs.lemmas.stores.StoredActions.{set_made}
-use Rattle.gf_tree.proofs.lemmas.stores.SetNumbers.{of_player, numbered_behind}
+use Rattle.gf_tree.proofs.lemmas.stores.SetNumbers.{of_player, numbered_after}
 use Rattle.gf_tree.proofs.lemmas.stores.Stretching.{entry_within, items_until, part_until}
 
 -- a player has as many places as sets
@@ -30,11 +30,11 @@ abbrev place_of : ℕ → Entry → ℕ → List (ℕ × ℕ)
 place_of player e place = if e.player == player then (e.number, place) ∷ [] else []
 
 -- an entry after them has the last place among its player's
-places_behind : (player : ℕ) (entries : List Entry) (new : Entry) (place : ℕ)
+places_after : (player : ℕ) (entries : List Entry) (new : Entry) (place : ℕ)
     → places_from place player (entries ++ new ∷ [])
     ≡ places_from place player entries ++ place_of player new (place + length entries)
-places_behind player [] new place = ap (place_of player new) (omega arith)
-places_behind player (e ∷ es) new place = grind (arith, places_behind player es new (place + 1))
+places_after player [] new place = ap (place_of player new) (omega arith)
+places_after player (e ∷ es) new place = grind (arith, places_after player es new (place + 1))
 
 module _ (players : List (List (ℕ × ℕ))) (entries : List Entry) (actions : List Held) (from : ℕ)
     (are : AreSets players entries actions from) where
@@ -91,14 +91,14 @@ module _ (players : List (List (ℕ × ℕ))) (entries : List Entry) (actions : 
         (room : length entries + 1 < 2 ^ 32) where
       places_then : (player : ℕ)
           → get_or after player [] ≡ places_from 0 player (entries ++ new ∷ [])
-      places_then player = grind (arith, places_behind, eqb-true, eqb-false, append-nil)
+      places_then player = grind (arith, places_after, eqb-true, eqb-false, append-nil)
 
       are_then : AreSets after (entries ++ new ∷ []) (take last actions) last
       are_then = record {
         stretches = entry_within (λ e. e.start) end_of entries actions from last new
             are.stretches behind within holds.ordered ends;
         places = places_then;
-        numbered = numbered_behind entries new are.numbered
+        numbered = numbered_after entries new are.numbered
             (cc (among, are.places new.player, places_long new.player entries 0));
         few = omega (arith, room, length-append entries (new ∷ []));
       }

@@ -13,18 +13,18 @@ pub found_before : (test : ℕ → Bool) (pairs more : List (ℕ × ℕ)) (place
 found_before test [] more place is = absurd cc
 found_before test (p ∷ ps) more place is = grind (arith, found_before test ps more place)
 
-pub found_behind : (test : ℕ → Bool) (pairs more : List (ℕ × ℕ)) → lookup test pairs ≡ None
+pub found_after : (test : ℕ → Bool) (pairs more : List (ℕ × ℕ)) → lookup test pairs ≡ None
     → lookup test (pairs ++ more) ≡ lookup test more
-found_behind test [] more is = refl
-found_behind test (p ∷ ps) more is = grind (arith, found_behind test ps more)
+found_after test [] more is = refl
+found_after test (p ∷ ps) more is = grind (arith, found_after test ps more)
 
-pub absent_behind : (test : ℕ → Bool) (pairs more : List (ℕ × ℕ))
+pub absent_after : (test : ℕ → Bool) (pairs more : List (ℕ × ℕ))
     → lookup test (pairs ++ more) ≡ None → lookup test more ≡ None
-absent_behind test pairs more none = by (lookup test pairs) refl
+absent_after test pairs more none = by (lookup test pairs) refl
   where
     by : (o : Option ℕ) → lookup test pairs ≡ o → lookup test more ≡ None
     by (Some place) found = let it = found_before test pairs more place found in absurd cc
-    by None absent = sym (found_behind test pairs more absent) ∙ none
+    by None absent = sym (found_after test pairs more absent) ∙ none
 
 -- a small number more
 module _ (pairs : List Placed) (before after : List ℕ) (new : Placed) (stored : List Placed)
@@ -42,13 +42,13 @@ module _ (pairs : List Placed) (before after : List ℕ) (new : Placed) (stored 
   others : (number : ℕ) → nat_eq number new.number ≡ false
       → lookup (nat_eq number) (placed_pairs pairs ++ last)
       ≡ lookup (nat_eq number) (placed_pairs pairs)
-  others number other = grind (arith, found_before, found_behind, absent_behind)
+  others number other = grind (arith, found_before, found_after, absent_after)
 
   own : lookup (nat_eq new.number) (placed_pairs pairs ++ last) ≡ Some new.place
-  own = grind (arith, found_behind, eq-eqb)
+  own = grind (arith, found_after, eq-eqb)
 
   pub found_then : AreFound stored (slice_set after new.number (new.place + 1))
   found_then =
       grind (arith, eqb-true, pairs_then, own, get_or-set_same, others, get_or-set_other, eqb-false)
 
-pub ruleset places_found = (found_before, found_behind)
+pub ruleset places_found = (found_before, found_after)

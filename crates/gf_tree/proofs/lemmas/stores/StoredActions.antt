@@ -5,7 +5,7 @@ use Rattle.gf_tree.proofs.Common.{KnownSets, described, stored_sets, drop-append
 use Rattle.gf_tree.proofs.Common.{end_of, AreSets}
 use Rattle.gf_tree.specs.declared.game.action.Action.{Action as Held}
 use Rattle.gf_tree.specs.declared.game.sets.Entry.{Entry}
-use Rattle.gf_tree.proofs.lemmas.stores.Stretching.{items_behind}
+use Rattle.gf_tree.proofs.lemmas.stores.Stretching.{items_after}
 
 abbrev pub set_made : Entry → List Held → Described SetKey InformationSet
 set_made e actions = record {
@@ -22,7 +22,7 @@ pub action_pushed : (players : List (List (ℕ × ℕ))) (entries : List Entry)
     }
 action_pushed players entries actions after from action whole are view is =
     let known : map (described (actions ++ action ∷ [])) entries ≡ map (described actions) entries =
-    items_behind (λ e. e.start) end_of set_made entries actions
+    items_after (λ e. e.start) end_of set_made entries actions
     (action ∷ []) from are.stretches in
     let rest : actions_of (drop from (actions ++ action ∷ []))
     ≡ actions_of (drop from actions) ++ action_of action ∷ [] =

@@ -6,7 +6,7 @@ use Rattle.std.proofs.Common.{length-append}
 use Rattle.gf_tree.specs.declared.game.outcomes.Entry.{Entry}
 use Rattle.gf_tree.specs.inner.StoredOutcomes.{described, end_of}
 use Rattle.gf_tree.proofs.lemmas.stores.OutcomePlaces.{places_then}
-use Rattle.gf_tree.proofs.lemmas.stores.Stretching.{entry_behind, items_behind}
+use Rattle.gf_tree.proofs.lemmas.stores.Stretching.{entry_after, items_after}
 
 abbrev made_of : Entry → List Ratio → Described ℕ Outcome
 made_of e payoffs = record {
@@ -23,7 +23,7 @@ module _ (ns : List (ℕ × ℕ)) (entries : List Entry) (payoffs : List Ratio) 
   payoff_pushed after payoff is =
       let known : map (described (payoffs ++ payoff ∷ [])) entries
       ≡ map (described payoffs) entries =
-      items_behind (λ e. e.start) end_of made_of entries payoffs
+      items_after (λ e. e.start) end_of made_of entries payoffs
       (payoff ∷ []) from are.stretches in
       let rest : drop from (payoffs ++ payoff ∷ []) ≡ drop from payoffs ++ payoff ∷ [] =
       drop-append-le from payoffs (payoff ∷ []) are.stretches.within in
@@ -39,4 +39,4 @@ module _ (ns : List (ℕ × ℕ)) (entries : List Entry) (payoffs : List Ratio) 
       (starts : new.start ≡ from) (ends : end_of new ≡ last) where
     pub outcomes_stored : (after : List (ℕ × ℕ)) → after ≡ ns ++ (new.number, place) ∷ []
         → place + 1 < 2 ^ 32 → AreOutcomes after stored payoffs last
-    outcomes_stored after own room = grind (arith, entry_behind, places_then, length-append)
+    outcomes_stored after own room = grind (arith, entry_after, places_then, length-append)

@@ -34,17 +34,17 @@ module _ {E T : Type 0} (start end : E → ℕ) where
       grind (arith, same_part, same_made make es items more from all.1 within)
 
   -- items after them change nothing in it
-  pub items_behind : {D : Type 0} (make : E → List T
+  pub items_after : {D : Type 0} (make : E → List T
       → D) (entries : List E) (items more : List T) (from : ℕ)
       → AreStretches start end entries items from
       → map (made make (items ++ more)) entries ≡ map (made make items) entries
-  items_behind make entries items more from are = grind (arith, same_made)
+  items_after make entries items more from are = grind (arith, same_made)
 
   -- the items so far become the stretch of a new entry
-  pub entry_behind : (entries : List E) (items : List T) (from : ℕ) (e : E)
+  pub entry_after : (entries : List E) (items : List T) (from : ℕ) (e : E)
       → AreStretches start end entries items from → start e ≡ from → end e ≡ length items
       → AreStretches start end (entries ++ e ∷ []) items (length items)
-  entry_behind entries items from e are starts ends = grind (arith, all_more, up_to)
+  entry_after entries items from e are starts ends = grind (arith, all_more, up_to)
 
   -- items after the stretches may go
   until : (entries : List E) (items : List T) (from last : ℕ)
@@ -57,7 +57,7 @@ module _ {E T : Type 0} (start end : E → ℕ) where
       → last ≤ length items
       → map (made make (take last items)) entries ≡ map (made make items) entries
   items_until make entries items from last are behind within =
-      sym (items_behind make entries (take last items) (drop last items) from
+      sym (items_after make entries (take last items) (drop last items) from
       (until entries items from last are behind within))
       ∙ ap (λ (xs : List T). map (made make xs) entries) (take-append-drop last items)
 

@@ -26,12 +26,12 @@ drop_suc [] ys (suc at) x e = absurd cc
 drop_suc (y ∷ xs) ys zero x e = cc
 drop_suc (y ∷ xs) ys (suc at) x e = drop_suc xs ys at x e
 
-pub slice_get_behind : {X : Type 0} (xs : List X) (a b : ℕ)
+pub slice_get_after : {X : Type 0} (xs : List X) (a b : ℕ)
     → slice_get xs (a + b) ≡ slice_get (drop a xs) b
-slice_get_behind xs zero b = ap (slice_get xs) (zero-add b)
-slice_get_behind [] (suc a) b = refl
-slice_get_behind (x ∷ xs) (suc a) b =
-    let e : suc a + b ≡ suc (a + b) = omega arith in rw e (slice_get_behind xs a b)
+slice_get_after xs zero b = ap (slice_get xs) (zero-add b)
+slice_get_after [] (suc a) b = refl
+slice_get_after (x ∷ xs) (suc a) b =
+    let e : suc a + b ≡ suc (a + b) = omega arith in rw e (slice_get_after xs a b)
 
 -- ---- a tree has as many subtrees as nodes
 
@@ -51,14 +51,14 @@ abbrev sizes : {N : Type 0} → List (Tree N) → List ℕ
 sizes ss = map (λ s. length (flatten s)) ss
 
 -- the subtrees after those of a tree
-behind_tree : {N : Type 0} (t : Tree N) (ss : List (Tree N))
+past_tree : {N : Type 0} (t : Tree N) (ss : List (Tree N))
     → drop (size_of t) (subtrees t ++ ss) ≡ ss
-behind_tree t ss = rw (← subtrees_counted t) (drop-append_seam (subtrees t) ss)
+past_tree t ss = rw (← subtrees_counted t) (drop-append_seam (subtrees t) ss)
 
-sizes_behind : {N : Type 0} (t : Tree N) (ss : List (Tree N))
+sizes_after : {N : Type 0} (t : Tree N) (ss : List (Tree N))
     → drop (size_of t) (sizes (subtrees t ++ ss)) ≡ sizes ss
-sizes_behind t ss =
-    drop-map (λ s. length (flatten s)) (size_of t) (subtrees t ++ ss) ∙ ap sizes (behind_tree t ss)
+sizes_after t ss =
+    drop-map (λ s. length (flatten s)) (size_of t) (subtrees t ++ ss) ∙ ap sizes (past_tree t ss)
 
 -- a tree's sizes begin with its own, and there are as many
 pub record Begins (k : ℕ) (xs others : List ℕ) : Type 0 where
@@ -68,8 +68,8 @@ pub record Begins (k : ℕ) (xs others : List ℕ) : Type 0 where
 begins : {N : Type 0} (t : Tree N) (ss : List (Tree N))
     → Begins (size_of t) (sizes (subtrees t ++ ss)) (sizes ss)
 begins (branch n ts) ss = record {
-  one_more = λ k h. (enough, rw (sizes_behind (branch n ts) ss) h);
-  skips = λ k. rw (sizes_behind (branch n ts) ss) refl;
+  one_more = λ k h. (enough, rw (sizes_after (branch n ts) ss) h);
+  skips = λ k. rw (sizes_after (branch n ts) ss) refl;
 }
   where
     enough : suc (length (flatten_all ts)) ≤ suc (length (sizes (subtrees_all ts ++ ss)))
@@ -101,10 +101,10 @@ skips_to zero (more (branch n us) ts) ss h = refl
 skips_to (suc n) none ss h = absurd (omega (arith, h))
 skips_to (suc n) (more t ts) ss h =
     rw (append_assoc (subtrees t) (subtrees_all ts) ss, (begins t (subtrees_all ts ++ ss)).skips n)
-    (slice_get_behind (subtrees t ++ (subtrees_all ts ++ ss)) (size_of t)
+    (slice_get_after (subtrees t ++ (subtrees_all ts ++ ss)) (size_of t)
     (skipped n (sizes (subtrees_all ts ++ ss)))
     ∙ ap (λ xs. slice_get xs (skipped n (sizes (subtrees_all ts ++ ss))))
-    (behind_tree t (subtrees_all ts ++ ss)) ∙ skips_to n ts ss (omega (arith, h)))
+    (past_tree t (subtrees_all ts ++ ss)) ∙ skips_to n ts ss (omega (arith, h)))
 
 -- ---- the sizes grow from numbers of children
 

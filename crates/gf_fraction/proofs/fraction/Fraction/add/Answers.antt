@@ -3,7 +3,7 @@ use Rattle.std.specs.Int.{w128}
 use Rattle.std.proofs.lemmas.Int.{to_z-of_z, fits_signed_from_abs}
 use Rattle.std.proofs.lemmas.Result.{MatchResult-from_err}
 use Rattle.std.proofs.Math.Nat.{pos_of_dvd_of_pos}
-use Rattle.gf_fraction.specs.Fits.{SumFits}
+use Rattle.gf_fraction.specs.Sum.{SumFits}
 use Rattle.gf_fraction.proofs.FractionFields.{IsFraction-seen, num_seen, den_seen}
 use Rattle.gf_fraction.proofs.Sums.{Adding, Adding-equal, equal_parts, equal_overflows, equal_value}
 use Rattle.gf_fraction.proofs.Sums.{sum_fits, sum_overflows, sum_value, sum_common, sum_den_above}

@@ -3,7 +3,7 @@ use Rattle.std.specs.Prelude.{int_lt}
 use Rattle.std.specs.Int.{w128}
 use Rattle.std.proofs.lemmas.Result.{MatchResult-from_err}
 use mathlib.Core.Bool.{beq}
-use Rattle.gf_fraction.specs.Fits.{ProductFits}
+use Rattle.gf_fraction.specs.Product.{ProductFits}
 use Rattle.gf_fraction.specs.Ratio.{IsFraction, signed}
 use Rattle.gf_fraction.proofs.Divisors.{HoldsCommon-self}
 use Rattle.gf_fraction.proofs.Products.{Multiplying, product_fraction, product_value}

@@ -21,7 +21,7 @@ pub returns-in_err-count-clause-part : goal.returns-in_err-count-clause-part
 returns-in_err-count-clause-part g c =
     let own = c.loop-bytes.bytes.ok.0 in
     let bytes = c.loop-bytes.bytes.items in
-    let room = HasRoom-front bytes c.loop-bytes.buffer c.room_behind-room.result in
+    let room = HasRoom-front bytes c.loop-bytes.buffer c.room_after-room.result in
     let fits = room (omega arith) (omega arith) (omega arith) in
     let read = c.loop-bytes.invariant.read in
     let turn = c.in_err-count.ensures in
@@ -47,7 +47,7 @@ pub returns-then-count-eq0-clause-whole : goal.returns-then-count-eq0-clause-who
 returns-then-count-eq0-clause-whole g c =
     let own = c.loop-bytes.bytes.ok.0 in
     let bytes = c.loop-bytes.bytes.items in
-    let room = HasRoom-front bytes c.loop-bytes.buffer c.room_behind-room.result in
+    let room = HasRoom-front bytes c.loop-bytes.buffer c.room_after-room.result in
     let fits = room (omega arith) (omega arith) (omega arith) in
     let last = Moves-weaker _ _ _ fits _ _ _ _ c.in_ok-count.ensures.turn in
     record {
@@ -64,15 +64,15 @@ pub returns-then-len-count-clause-part : goal.returns-then-len-count-clause-part
 returns-then-len-count-clause-part g c =
     let own = c.loop-bytes.bytes.ok.0 in
     let bytes = c.loop-bytes.bytes.items in
-    let room = HasRoom-front bytes c.loop-bytes.buffer c.room_behind-room.result in
+    let room = HasRoom-front bytes c.loop-bytes.buffer c.room_after-room.result in
     let fits = room (omega arith) (omega arith) (omega arith) in
     let turn = c.in_ok-count.ensures in
     let n = c.in_ok-count.count in
     let step = IsRead-more _ _ bytes c.pull_again.new.to _ n _ _ _ c.loop-bytes.invariant.read in
     let read = step fits (omega arith) turn.bytes.0 turn.turn in
     let all = length-more bytes c.pull_again.new.to n turn.bound.0 in
-    let taken = length-take c.room_behind-room.result c.loop-bytes.buffer in
-    let asked : length c.pull_again.new.to ≤ c.room_behind-room.result =
+    let taken = length-take c.room_after-room.result c.loop-bytes.buffer in
+    let asked : length c.pull_again.new.to ≤ c.room_after-room.result =
     omega (arith, taken, c.pull_again.auto.to) in
     let one_more : length (bytes ++ take n c.pull_again.new.to) ≡ limit + 1 =
     omega (arith, turn.bound) in
@@ -82,7 +82,7 @@ pub loop-bytes-preserved : goal.loop-bytes-preserved
 loop-bytes-preserved g c =
     let own = c.loop-bytes.bytes.ok.0 in
     let bytes = c.loop-bytes.bytes.items in
-    let room = HasRoom-front bytes c.loop-bytes.buffer c.room_behind-room.result in
+    let room = HasRoom-front bytes c.loop-bytes.buffer c.room_after-room.result in
     let fits = room (omega arith) (omega arith) (omega arith) in
     let turn = c.in_ok-count.ensures in
     let n = c.in_ok-count.count in
@@ -99,7 +99,7 @@ pub returns-in_err-extend_from_slice-clause-part : goal.returns-in_err-extend_fr
 returns-in_err-extend_from_slice-clause-part g c =
     let own = c.loop-bytes.bytes.ok.0 in
     let bytes = c.loop-bytes.bytes.items in
-    let room = HasRoom-front bytes c.loop-bytes.buffer c.room_behind-room.result in
+    let room = HasRoom-front bytes c.loop-bytes.buffer c.room_after-room.result in
     let fits = room (omega arith) (omega arith) (omega arith) in
     let turn = c.in_ok-count.ensures in
     let n = c.in_ok-count.count in

@@ -1,13 +1,13 @@
 use Rattle.gf_tree.proofs.Common.{Some, ap, arith, length, refl, rules, sym, label_of, outcome_with}
 use Rattle.gf_tree.proofs.Common.{with_node, with_outcome, NodeDue, begun_with, content_of, Reader}
-use Rattle.gf_tree.proofs.lemmas.reader.Steps.{wants_memory}
+use Rattle.gf_tree.proofs.lemmas.reader.Steps.{lacks_memory}
 use Rattle.gf_tree.proofs.lemmas.reader.Telling.{grows_same, reads_none, shorter_by, tells}
 use Rattle.gf_tree.proofs.reader.Reader.end_outcome.Goals as goal
 
 pub returns-in_default-keep_outcome :
     goal.returns-in_default-keep_outcome
 returns-in_default-keep_outcome g c =
-    wants_memory c.in-Some.ensures.place c.at.ensures NodeDue
+    lacks_memory c.in-Some.ensures.place c.at.ensures NodeDue
     (with_node (with_outcome (content_of c.args.self.now) c.args.number
     (outcome_with (label_of c.args.name) c.args.self.now.outcomes.pending))
     (begun_with c.args.self.now.sets.known (label_of c.args.node) c.args.set)
@@ -16,7 +16,7 @@ returns-in_default-keep_outcome g c =
 
 pub returns-in_default-tell : goal.returns-in_default-tell
 returns-in_default-tell g c =
-    wants_memory c.in-Some.ensures.place c.at-in_default-tell.ensures NodeDue
+    lacks_memory c.in-Some.ensures.place c.at-in_default-tell.ensures NodeDue
     (with_node (with_outcome (content_of c.args.self.now) c.args.number
     (outcome_with (label_of c.args.name) c.args.self.now.outcomes.pending))
     (begun_with c.args.self.now.sets.known (label_of c.args.node) c.args.set)

@@ -1,5 +1,5 @@
 use Rattle.gf_tree.proofs.Common.{label_of, content_of, Reader, ap, refl}
-use Rattle.gf_tree.proofs.lemmas.reader.Steps.{set_end, taken, wants_memory}
+use Rattle.gf_tree.proofs.lemmas.reader.Steps.{set_end, taken, lacks_memory}
 use Rattle.gf_tree.proofs.reader.Reader.end_set.Goals as goal
 
 pub returns-in-Ok-clause-machine : goal.returns-in-Ok-clause-machine
@@ -14,7 +14,7 @@ returns-in-Ok-clause-machine c = λ node.
 
 pub returns-in-Err-clause-machine : goal.returns-in-Err-clause-machine
 returns-in-Err-clause-machine c = λ node.
-    wants_memory c.in-Some.ensures.place c.at-in-Err.ensures _ _
+    lacks_memory c.in-Some.ensures.place c.at-in-Err.ensures _ _
     (set_end (content_of c.args.self.now) _ node c.args.player
     c.args.number (label_of c.args.name) c.args.self.now.sets.pending c.args.sum _ _
     c.args.self.now.tokens c.closing.new.self c.closing.new.self c.pending.result.now _

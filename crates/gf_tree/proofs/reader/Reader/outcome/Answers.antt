@@ -1,7 +1,7 @@
 use Rattle.gf_tree.proofs.Common.{◌≡◌, ap, arith, false, Some, None, refl, rules, label_of}
 use Rattle.gf_tree.proofs.Common.{is_quoted, starts, Reader, with_node, KnownOutcomeName, NodeDue}
 use Rattle.gf_tree.proofs.Common.{begun_with, content_of}
-use Rattle.gf_tree.proofs.lemmas.reader.Steps.{wants_memory}
+use Rattle.gf_tree.proofs.lemmas.reader.Steps.{lacks_memory}
 use Rattle.gf_tree.proofs.lemmas.stores.PassedBy.{outcome_passed_by}
 use Rattle.gf_tree.specs.inner.ReaderState.{with_children}
 use Rattle.gf_tree.proofs.lemmas.reader.Telling.{grows_none, reads_none, shorter_by, tells}
@@ -9,7 +9,7 @@ use Rattle.gf_tree.proofs.reader.Reader.outcome.Goals as goal
 
 pub returns-in_default-tell : goal.returns-in_default-tell
 returns-in_default-tell g c =
-    wants_memory c.in-Some.ensures.place c.at-in_default-tell.ensures NodeDue
+    lacks_memory c.in-Some.ensures.place c.at-in_default-tell.ensures NodeDue
     (with_node (content_of c.args.self.now)
     (begun_with c.args.self.now.sets.known (label_of c.args.node) c.args.set) None)
     (search rules)
@@ -23,7 +23,7 @@ returns-then-number-eq0 g c =
 
 pub returns-in_default-tell-2 : goal.returns-in_default-tell-2
 returns-in_default-tell-2 g c =
-    wants_memory c.in-Some.ensures.place c.at-in_default-tell-2.ensures
+    lacks_memory c.in-Some.ensures.place c.at-in_default-tell-2.ensures
     (KnownOutcomeName c.in-Some-known_outcome.ensures.known.outcome)
     (with_node (content_of c.args.self.now)
     (begun_with c.args.self.now.sets.known (label_of c.args.node) c.args.set)

@@ -8,8 +8,8 @@ at_place-branch-requires c =
     (next_child b.game.now.tree b.at b.before b.place b.within
     (omega (arith, c.if-self-child_count.false, c.child_count.ensures)) b.stands).within
 
-pub place_behind-requires : goal.place_behind-requires
-place_behind-requires c =
+pub place_after-requires : goal.place_after-requires
+place_after-requires c =
     let b = c.args.self.now in
     (next_child b.game.now.tree b.at b.before b.place b.within
     (omega (arith, c.if-self-child_count.false, c.child_count.ensures)) b.stands).within
@@ -21,7 +21,7 @@ invariant_of-self c =
     (omega (arith, c.if-self-child_count.false, c.child_count.ensures)) b.stands in
     record {
       within = b.within;
-      stands = c.place_behind.ensures ∙ next.behind;
+      stands = c.place_after.ensures ∙ next.behind;
     }
 
 pub returns-clause-steps : goal.returns-clause-steps

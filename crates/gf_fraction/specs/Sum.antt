@@ -1,4 +1,4 @@
--- Sums and products of ratios, and when they fit.
+-- Sums of ratios, and when they fit.
 use Rattle.std.specs.Prelude.{ℕ, ℤ, pos, ◌+ℤ◌, ◌*ℤ◌, ◌*◌, ◌/◌, ◌^◌, ◌<◌}
 use Rattle.std.specs.Int.{◌∣◌}
 use Rattle.gf_fraction.specs.Ratio.{Ratio, IsFraction, IsWithin, HasValue}
@@ -6,10 +6,6 @@ use Rattle.gf_fraction.specs.Ratio.{Ratio, IsFraction, IsWithin, HasValue}
 -- r has the value of x + y
 abbrev pub IsSum : Ratio → Ratio → Ratio → Type 0
 IsSum r x y = HasValue r (x.num *ℤ pos y.den +ℤ y.num *ℤ pos x.den) (x.den * y.den)
-
--- r has the value of x times y
-abbrev pub IsProduct : Ratio → Ratio → Ratio → Type 0
-IsProduct r x y = HasValue r (x.num *ℤ y.num) (x.den * y.den)
 
 -- m is the least common multiple of a and b
 pub record IsLcm (a b m : ℕ) : Type 0 where
@@ -31,16 +27,6 @@ pub record SumFits (x y : Ratio) : Type 0 where
   pub right_within : IsWithin (scaled_num y den)
   pub sum_within : IsWithin (scaled_num x den +ℤ scaled_num y den)
 
--- the product fits: in lowest terms it is a fraction
-pub record ProductFits (x y : Ratio) : Type 0 where
-  pub product : Ratio
-  pub fraction : IsFraction product
-  pub value : IsProduct product x y
-
 -- the sum fits, and is r
 abbrev pub AddsTo : Ratio → Ratio → Ratio → Type 0
 AddsTo x y r = SumFits x y × IsFraction r × IsSum r x y
-
--- the product is a fraction, which is r
-abbrev pub MultipliesTo : Ratio → Ratio → Ratio → Type 0
-MultipliesTo x y r = IsFraction r × IsProduct r x y

@@ -1,7 +1,7 @@
 use Rattle.gf_tree.proofs.Common.{ap, Game}
 use Rattle.gf_tree.proofs.lemmas.stores.GameNodes.{IsTreeOf, sizes_beside}
 use Rattle.gf_tree.proofs.lemmas.stores.NodeParts.{begin_here}
-use Rattle.gf_tree.proofs.game.Game.place_behind.Goals as goal
+use Rattle.gf_tree.proofs.game.Game.place_after.Goals as goal
 
 pub skip-requires-clause-trees : goal.skip-requires-clause-trees
 skip-requires-clause-trees c =
