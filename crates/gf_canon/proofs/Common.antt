@@ -84,7 +84,7 @@ pub use Rattle.gf_tree.specs.Game.{Game, Node, outcome_at, set_at}
 pub use Rattle.gf_tree.specs.IsGame.{HasChildren, IsGame}
 pub use Rattle.gf_tree.specs.Game.{used_outcomes, used_sets}
 pub use Rattle.gf_tree.specs.GameOf.{IsGameOf, SpellsGame, keys_alone}
-pub use Rattle.gf_tree.specs.PrefixOrder.{Entry, flatten}
+pub use Rattle.gf_tree.specs.PrefixOrder.{Listed, flatten}
 pub use Rattle.gf_tree.specs.Renumbering.{HasOutcome, HasSet, IsRenumbering, Renumbering}
 pub use Rattle.gf_tree.specs.Renumbering.{renumbered, renumbered_node, renumbered_set}
 pub use Rattle.gf_tree.specs.SameGame.{Carries, SameGame}

@@ -54,11 +54,12 @@ pub use Rattle.gf_form.specs.inner.reduced.Survey.{visits_below, own_step, own_v
 pub use Rattle.gf_form.specs.inner.reduced.Visits.{is_met, is_met_on, AreActions}
 pub use Rattle.gf_form.specs.inner.rows.Demands.{meets, spans, steps_of}
 pub use Rattle.gf_form.specs.inner.rows.DigitSteps.{steps_after, picked, width, in_order}
-pub use Rattle.gf_form.specs.inner.rows.Entries.{Entry, IsScale, IsShaped, IsSumOf, entries}
-pub use Rattle.gf_form.specs.inner.rows.Entries.{first_entries, entry_at, scaled_at, no_entry}
-pub use Rattle.gf_form.specs.inner.rows.Entries.{number_at, AreOrdered, EndsBelow, HasSum, lowered}
-pub use Rattle.gf_form.specs.inner.rows.Entries.{IsExactAt, AreExactAt, AreMerged, ComeAsWell}
-pub use Rattle.gf_form.specs.inner.rows.Entries.{sum_of_entries, AreAlike, AreChosen, part, ComeTo}
+pub use Rattle.gf_form.specs.inner.rows.TermLists.{Term, IsScale, IsShaped, IsSumOf, all_terms}
+pub use Rattle.gf_form.specs.inner.rows.TermLists.{first_terms, term_at, scaled_at, no_term}
+pub use Rattle.gf_form.specs.inner.rows.TermLists.{number_at, AreOrdered, EndsBelow, HasSum}
+pub use Rattle.gf_form.specs.inner.rows.TermLists.{lowered}
+pub use Rattle.gf_form.specs.inner.rows.TermLists.{IsExactAt, AreExactAt, AreMerged, ComeAsWell}
+pub use Rattle.gf_form.specs.inner.rows.TermLists.{sum_of_terms, AreAlike, AreChosen, part, ComeTo}
 pub use Rattle.gf_form.specs.inner.rows.GameDigits.{AreDigitsOf, AreStepsOf, HasDigits}
 pub use Rattle.gf_form.specs.inner.rows.GameDigits.{digit_actions, actions_at}
 pub use Rattle.gf_form.specs.inner.rows.KeptNodes.{paid_reached, is_paid}

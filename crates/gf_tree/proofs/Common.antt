@@ -67,8 +67,8 @@ pub use Rattle.gf_tree.specs.KeptNodes.{child_counts, entries_with, entry_with, 
 pub use Rattle.gf_tree.specs.KeptNodes.{tree_with}
 pub use Rattle.gf_tree.specs.KnownSets.{KnownSets, known_of, number_among, with_pending_set}
 pub use Rattle.gf_tree.specs.Learned.{Learns, LearnsGame}
-pub use Rattle.gf_tree.specs.Listed.{AreListed, listed_numbers, number_listed}
-pub use Rattle.gf_tree.specs.PrefixOrder.{Entry, flatten, flatten_all}
+pub use Rattle.gf_tree.specs.ListedNumbers.{AreListed, listed_numbers, number_listed}
+pub use Rattle.gf_tree.specs.PrefixOrder.{Listed, flatten, flatten_all}
 pub use Rattle.gf_tree.specs.Reason.{Applies, DiffersFromOutcome, DiffersFromSet}
 pub use Rattle.gf_tree.specs.Reason.{EndsInFirstUse, GoesOnWith, HasSum, IsReason, IsWrongAfter}
 pub use Rattle.gf_tree.specs.Reason.{ListsActions, NewProbabilityIsDue}

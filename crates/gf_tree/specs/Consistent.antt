@@ -1,7 +1,7 @@
 -- Which file trees describe their sets and outcomes at first use, and never in two different ways.
 use Rattle.std.specs.Prelude.{◌≡◌, ℕ, List, ◌∷◌, ◌++◌, length, Some, MatchOption}
 use Rattle.std.specs.List.{AllByRecursion, Contains}
-use Rattle.gf_tree.specs.PrefixOrder.{Entry, flatten}
+use Rattle.gf_tree.specs.PrefixOrder.{Listed, flatten}
 use Rattle.gf_tree.specs.Description.{SetKey, InformationSet, Outcome, IsSet, IsOutcome}
 use Rattle.gf_tree.specs.FileTree.{Use, FileNode, FileTree, set_uses, outcome_uses}
 
@@ -25,7 +25,7 @@ pub record AreConsistent {K D : Type 0} (uses : List (Use K D)) : Type 0 where
   pub described_alike : (key : K) (c d : D) → Describes uses key c → Describes uses key d → c ≡ d
 
 -- a terminal node has no children, and any other node has as many as its set has actions
-abbrev pub HasChildrenAsDescribed : List (Use SetKey InformationSet) → Entry FileNode → Type 0
+abbrev pub HasChildrenAsDescribed : List (Use SetKey InformationSet) → Listed FileNode → Type 0
 HasChildrenAsDescribed uses e = MatchOption e.node.set (e.children ≡ 0)
     (λ u. (set : InformationSet) → Describes uses u.key set → length set.actions ≡ e.children)
 

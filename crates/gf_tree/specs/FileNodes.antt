@@ -3,7 +3,7 @@
 use Rattle.std.specs.Prelude.{nat_eq, Bool, List, [], ◌∷◌, map, Option, None, option_map}
 use Rattle.std.specs.Prelude.{if◌then◌else◌}
 use Rattle.std.specs.List.{filter_map, list_any}
-use Rattle.gf_tree.specs.PrefixOrder.{Entry, flatten}
+use Rattle.gf_tree.specs.PrefixOrder.{Listed, flatten}
 use Rattle.gf_tree.specs.Description.{same_set}
 use Rattle.gf_tree.specs.FileTree.{Use, FileNode}
 use Rattle.gf_tree.specs.Game.{Node, Game, set_at, outcome_at}
@@ -19,7 +19,7 @@ use_after same description before key =
     record { key = key; description = if list_any (same key) before then None else description key }
 
 -- a node after those
-abbrev pub node_after : Game → List (Entry Node) → Node → FileNode
+abbrev pub node_after : Game → List (Listed Node) → Node → FileNode
 node_after g before n = record {
   name = n.name;
   set = option_map (use_after same_set (set_at g) (filter_map (λ e. e.node.set) before)) n.set;

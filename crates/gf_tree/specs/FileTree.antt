@@ -2,7 +2,7 @@
 use Rattle.std.specs.Prelude.{ℕ, List, Option}
 use Rattle.std.specs.List.{filter_map}
 use Rattle.gf_tree.specs.Tree.{Tree}
-use Rattle.gf_tree.specs.PrefixOrder.{Entry}
+use Rattle.gf_tree.specs.PrefixOrder.{Listed}
 use Rattle.gf_tree.specs.Description.{SetKey, InformationSet, Outcome}
 
 -- a key as it stands in a file, with its description or without it
@@ -24,8 +24,8 @@ pub record FileTree : Type 0 where
   pub tree : Tree FileNode
 
 -- the occurrences of sets, and of outcomes, in prefix order
-abbrev pub set_uses : List (Entry FileNode) → List (Use SetKey InformationSet)
+abbrev pub set_uses : List (Listed FileNode) → List (Use SetKey InformationSet)
 set_uses entries = filter_map (λ e. e.node.set) entries
 
-abbrev pub outcome_uses : List (Entry FileNode) → List (Use ℕ Outcome)
+abbrev pub outcome_uses : List (Listed FileNode) → List (Use ℕ Outcome)
 outcome_uses entries = filter_map (λ e. e.node.outcome) entries

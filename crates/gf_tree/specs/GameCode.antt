@@ -3,7 +3,7 @@ use Rattle.std.specs.Prelude.{ℕ, ℤ, List, [], None, Option, refl}
 use Rattle.std.specs.Coded.{Coded, code_by, coded×, coded_ℕ, coded_ℤ, coded_list, coded_option}
 use Rattle.gf_fraction.specs.Ratio.{Ratio}
 use Rattle.gf_tree.specs.Tree.{Tree}
-use Rattle.gf_tree.specs.PrefixOrder.{Entry, flatten}
+use Rattle.gf_tree.specs.PrefixOrder.{Listed, flatten}
 use Rattle.gf_tree.specs.Grown.{grow, root}
 use Rattle.gf_tree.specs.GrowsAgain.{root_grows_again}
 use Rattle.gf_tree.specs.FiniteMap.{Described}
@@ -43,7 +43,7 @@ node_code = code_by (List ℕ × (Option SetKey × Option ℕ))
     (λ n. (n.name, (n.set, n.outcome)))
     (λ p. record { name = p.0; set = p.1.0; outcome = p.1.1 }) (λ _. refl)
 
-abbrev entry_code : Coded (Entry Node)
+abbrev entry_code : Coded (Listed Node)
 entry_code = code_by (Node × ℕ) (coded× node_code coded_ℕ)
     (λ e. (e.node, e.children)) (λ p. record { node = p.0; children = p.1 }) (λ _. refl)
 
@@ -52,7 +52,7 @@ abbrev pub no_node : Node
 no_node = record { name = []; set = None; outcome = None }
 
 abbrev tree_code : Coded (Tree Node)
-tree_code = code_by (List (Entry Node)) (coded_list entry_code)
+tree_code = code_by (List (Listed Node)) (coded_list entry_code)
     flatten (λ es. root no_node (grow es)) (root_grows_again no_node)
 
 -- what a game has besides its tree

@@ -3,7 +3,7 @@ use Rattle.std.specs.Prelude.{ℕ, zero, suc, List, [], ◌∷◌}
 use Rattle.gf_tree.specs.Tree.{Tree, Trees}
 use Rattle.gf_tree.specs.Tree.Tree.{branch}
 use Rattle.gf_tree.specs.Tree.Trees.{none, more}
-use Rattle.gf_tree.specs.PrefixOrder.{Entry}
+use Rattle.gf_tree.specs.PrefixOrder.{Listed}
 
 -- the first n trees, and the others
 abbrev pub first : {N : Type 0} → ℕ → Trees N → Trees N
@@ -17,7 +17,7 @@ others (suc n) none = none
 others (suc n) (more t ts) = others n ts
 
 -- the first trees that have grown are the children of the next entry
-abbrev pub grow : {N : Type 0} → List (Entry N) → Trees N
+abbrev pub grow : {N : Type 0} → List (Listed N) → Trees N
 grow [] = none
 grow (e ∷ es) = more (branch e.node (first e.children (grow es))) (others e.children (grow es))
 

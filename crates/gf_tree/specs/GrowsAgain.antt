@@ -4,7 +4,7 @@ use Rattle.std.proofs.lemmas.List.{append-nil}
 use Rattle.gf_tree.specs.Tree.{Tree, Trees, count}
 use Rattle.gf_tree.specs.Tree.Tree.{branch}
 use Rattle.gf_tree.specs.Tree.Trees.{none, more}
-use Rattle.gf_tree.specs.PrefixOrder.{Entry, flatten, flatten_all}
+use Rattle.gf_tree.specs.PrefixOrder.{Listed, flatten, flatten_all}
 use Rattle.gf_tree.specs.Grown.{first, others, grow, root}
 
 -- these trees, and those after them
@@ -21,11 +21,11 @@ others_join none us = refl
 others_join (more t ts) us = others_join ts us
 
 mutual
-  pub grow_tree : {N : Type 0} (t : Tree N) (es : List (Entry N))
+  pub grow_tree : {N : Type 0} (t : Tree N) (es : List (Listed N))
       → grow (flatten t ++ es) ≡ more t (grow es)
   grow_tree (branch n ts) es = rw (grow_trees ts es, first_join, others_join) refl
 
-  pub grow_trees : {N : Type 0} (ts : Trees N) (es : List (Entry N))
+  pub grow_trees : {N : Type 0} (ts : Trees N) (es : List (Listed N))
       → grow (flatten_all ts ++ es) ≡ join ts (grow es)
   grow_trees none es = refl
   grow_trees (more t ts) es =

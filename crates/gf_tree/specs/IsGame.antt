@@ -1,13 +1,13 @@
 -- Which records are games.
 use Rattle.std.specs.Prelude.{◌≡◌, nat_eq, length, map, MatchOption, Some, option_map}
 use Rattle.std.specs.List.{AllByRecursion}
-use Rattle.gf_tree.specs.PrefixOrder.{Entry, flatten}
+use Rattle.gf_tree.specs.PrefixOrder.{Listed, flatten}
 use Rattle.gf_tree.specs.Description.{same_set, IsSet, IsOutcome}
 use Rattle.gf_tree.specs.FiniteMap.{first_uses}
 use Rattle.gf_tree.specs.Game.{Game, Node, set_at, used_sets, used_outcomes}
 
 -- a terminal node has no children, and any other node has as many as its set has actions
-abbrev pub HasChildren : Game → Entry Node → Type 0
+abbrev pub HasChildren : Game → Listed Node → Type 0
 HasChildren g e = MatchOption e.node.set (e.children ≡ 0)
     (λ key. option_map (λ set. length set.actions) (set_at g key) ≡ Some e.children)
 

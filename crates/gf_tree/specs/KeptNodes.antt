@@ -4,7 +4,7 @@ use Rattle.std.specs.List.{AllByRecursion}
 use Rattle.gf_token.specs.Label.{label_of}
 use Rattle.gf_token.specs.Positions.{at_position}
 use Rattle.gf_tree.specs.Tree.{Tree}
-use Rattle.gf_tree.specs.PrefixOrder.{Entry}
+use Rattle.gf_tree.specs.PrefixOrder.{Listed}
 use Rattle.gf_tree.specs.Grown.{grow, root}
 use Rattle.gf_tree.specs.FiniteMap.{Described}
 use Rattle.gf_tree.specs.Game.{Node}
@@ -46,7 +46,7 @@ node_with sets outcomes n = record {
 }
 
 abbrev pub entry_with
-    : List (Described SetKey InformationSet) → List (Described ℕ Outcome) → Kept → Entry Node
+    : List (Described SetKey InformationSet) → List (Described ℕ Outcome) → Kept → Listed Node
 entry_with sets outcomes n = record {
   node = node_with sets outcomes n;
   children = child_count sets n.set;
@@ -54,7 +54,7 @@ entry_with sets outcomes n = record {
 
 abbrev pub entries_with
     : List (Described SetKey InformationSet) → List (Described ℕ Outcome) → List Kept
-    → List (Entry Node)
+    → List (Listed Node)
 entries_with sets outcomes nodes = map (entry_with sets outcomes) nodes
 
 -- the tree of the nodes

@@ -23,7 +23,7 @@ pub mod KeptNodes
 pub mod KeysInOrder
 pub mod KnownSets
 pub mod Learned
-pub mod Listed
+pub mod ListedNumbers
 pub mod Movers
 pub mod NodeOf
 pub mod NodesLeft

@@ -6,14 +6,14 @@ use Rattle.gf_tree.specs.Tree.Tree.{branch}
 use Rattle.gf_tree.specs.Tree.Trees.{none, more}
 
 -- a node, and how many children it has
-pub record Entry (N : Type 0) : Type 0 where
+pub record Listed (N : Type 0) : Type 0 where
   pub node : N
   pub children : ℕ
 
 abbrev mutual
-  pub flatten : {N : Type 0} → Tree N → List (Entry N)
+  pub flatten : {N : Type 0} → Tree N → List (Listed N)
   flatten (branch n ts) = record { node = n; children = count ts } ∷ flatten_all ts
 
-  pub flatten_all : {N : Type 0} → Trees N → List (Entry N)
+  pub flatten_all : {N : Type 0} → Trees N → List (Listed N)
   flatten_all none = []
   flatten_all (more t ts) = flatten t ++ flatten_all ts

@@ -18,7 +18,7 @@ ghost use Rattle.gf_token.specs.declared.fault.What.TheVariants.{Version};
 ghost use Rattle.gf_tree.specs.Tree.{Tree};
 ghost use Rattle.gf_tree.specs.Tree.Trees.{none, more};
 ghost use Rattle.gf_tree.specs.Fills.{Fills};
-ghost use Rattle.gf_tree.specs.PrefixOrder.{Entry, flatten};
+ghost use Rattle.gf_tree.specs.PrefixOrder.{Listed, flatten};
 ghost use Rattle.gf_tree.specs.Grown.{grow};
 ghost use Rattle.gf_tree.specs.Description.{same_set, set_of};
 ghost use Rattle.gf_tree.specs.FileTree.{Use, FileTree, set_uses, outcome_uses};
@@ -27,7 +27,7 @@ ghost use Rattle.gf_tree.specs.Consistent.{Describes, AreConsistent, IsConsisten
 ghost use Rattle.gf_tree.specs.FiniteMap.{Described, first_uses};
 ghost use Rattle.gf_tree.specs.FirstUse.{first_use_numbers, sets_of};
 ghost use Rattle.gf_tree.specs.KeysInOrder.{outcome_numbers, player_keys};
-ghost use Rattle.gf_tree.specs.Listed.{AreListed, listed_numbers};
+ghost use Rattle.gf_tree.specs.ListedNumbers.{AreListed, listed_numbers};
 ghost use Rattle.gf_tree.specs.Renumbering.{IsRenumbering, Renumbering, renumbered};
 ghost use Rattle.gf_tree.specs.Spellable.{IsSpellable};
 ghost use Rattle.gf_tree.specs.Learned.{Learns, LearnsGame};
@@ -51,7 +51,7 @@ ghost use Rattle.gf_tree.specs.GameOf.{IsGameOf, MeansGame, SpellsGame};
 /// those of trees, no two trees have the same list, and a tree grows again from its list.
 #[tactic(auto, using(crate::proofs::lemmas::games::Prefix::one_tree_each))]
 pub fn one_tree_each<N>()
-    ensures of_lists { (es : List (Entry N)) → Fills 1 es → (t : Tree N) × (flatten t ≡ es) }
+    ensures of_lists { (es : List (Listed N)) → Fills 1 es → (t : Tree N) × (flatten t ≡ es) }
     ensures of_trees { (t : Tree N) → Fills 1 (flatten t) }
     ensures no_two { (t u : Tree N) → flatten t ≡ flatten u → t ≡ u }
     ensures grows { (t : Tree N) → grow (flatten t) ≡ more t none }

@@ -6,8 +6,8 @@ pub mod FlatRows
 pub mod GameDigits
 pub mod GameRows
 pub mod ItemRows
-pub mod ListedEntries
-pub mod MergedEntries
+pub mod ListedTerms
+pub mod MergedTerms
 pub mod Merges
 pub mod OverOneDenominator
 pub mod PairRows

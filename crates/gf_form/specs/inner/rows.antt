@@ -1,6 +1,6 @@
 pub mod Demands
 pub mod DigitSteps
-pub mod Entries
+pub mod TermLists
 pub mod FitsTable
 pub mod FollowedNodes
 pub mod GameDigits

@@ -2,7 +2,7 @@
 
 ghost use Rattle.std.specs.Prelude.{◌+◌, ◌*◌, ◌<◌, ◌≤◌, ◌^◌, ℕ, List, length};
 ghost use Rattle.std.specs.List.Sorted.{IsNonDecreasing};
-ghost use Rattle.gf_form.specs.inner.rows.Entries.{AreChosen, AreWithin, CountsBelow};
+ghost use Rattle.gf_form.specs.inner.rows.TermLists.{AreChosen, AreWithin, CountsBelow};
 
 /// The terms that demand nothing at the slowest digit, and those that demand an action there.
 #[derive(Clone, Copy)]

@@ -5,7 +5,7 @@ ghost use Rattle.std.specs.Prelude.{map};
 ghost use Rattle.gf_fraction.specs.Ratio.{IsWithin};
 ghost use Rattle.std.specs.List.Sorted.{IsNonDecreasingBy};
 ghost use Rattle.gf_tree.specs.Game.{Game};
-ghost use Rattle.gf_form.specs.inner.rows.Entries.{AreOrdered, IsShaped, entries};
+ghost use Rattle.gf_form.specs.inner.rows.TermLists.{AreOrdered, IsShaped, all_terms};
 ghost use Rattle.gf_form.specs.inner.rows.KeptNodes.{paid_reached};
 ghost use Rattle.gf_form.specs.inner.rows.ListedNodes.{AreTermsOf, HasShares, IsShareAt};
 ghost use Rattle.gf_form.specs.inner.rows.ListedNodes.{IsTermMore};
@@ -162,7 +162,7 @@ fn alike_end(nodes: &[Reached], start: usize) -> usize
 impl Terms {
     /// Whether all are over this denominator, and fit together.
     pub(crate) fn fit_over(&self, den: u128) -> bool
-        ensures { IsTrue result → FitOver den (entries self.now) }
+        ensures { IsTrue result → FitOver den (all_terms self.now) }
     {
         if den == 0 || den > LARGEST {
             return false;
@@ -192,7 +192,7 @@ fn listed_over(
 ) -> Result<Terms, AllocError>
     requires { IsNonDecreasingBy (λ (r : Reached). r.path.demands) nodes.now }
     ensures terms { IfOk result (λ terms. (g : Game) → ArePaid g (rows_of payoffs.now)
-        → AreTermsOf g players nodes.now (entries terms)) }
+        → AreTermsOf g players nodes.now (all_terms terms)) }
     ensures ordered { IfOk result (λ terms. AreOrdered terms) }
     ensures shaped { IfOk result (λ terms. IsShaped terms) }
     ensures players { IfOk result (λ terms. terms.players ≡ players) }
@@ -218,7 +218,7 @@ fn listed(
 ) -> Result<Terms, AllocError>
     requires { IsNonDecreasingBy (λ (r : Reached). r.path.demands) nodes.now }
     ensures terms { IfOk result (λ terms. (g : Game) → ArePaid g (rows_of payoffs.now)
-        → AreTermsOf g players nodes.now (entries terms)) }
+        → AreTermsOf g players nodes.now (all_terms terms)) }
     ensures ordered { IfOk result (λ terms. AreOrdered terms) }
     ensures shaped { IfOk result (λ terms. IsShaped terms) }
     ensures players { IfOk result (λ terms. terms.players ≡ players) }
@@ -242,7 +242,7 @@ pub(crate) fn game_terms(
     requires payoffs { ArePaid game.now (rows_of payoffs.now) }
     ensures terms { IfOk result (λ terms. AreTermsOf game.now (length game.now.players)
         (paid_reached (rows_of payoffs.now) game.now
-        (choices_by game.now (map (λ own. own.items) digits.now.steps.items))) (entries terms)) }
+        (choices_by game.now (map (λ own. own.items) digits.now.steps.items))) (all_terms terms)) }
     ensures ordered { IfOk result (λ terms. AreOrdered terms) }
     ensures shaped { IfOk result (λ terms. IsShaped terms) }
     ensures players { IfOk result (λ terms. terms.players ≡ length game.now.players) }

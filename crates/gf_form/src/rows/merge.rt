@@ -2,8 +2,8 @@
 //! and those that demand the action, merged in order of demands.
 
 ghost use Rattle.std.specs.Prelude.{◌≡◌, ◌+◌, ◌*◌, ◌<◌, ◌≤◌, ◌^◌, ℕ, OnOk};
-ghost use Rattle.gf_form.specs.inner.rows.Entries.{AreChosen, AreMerged, AreOrdered, IsShaped};
-ghost use Rattle.gf_form.specs.inner.rows.Entries.{entries};
+ghost use Rattle.gf_form.specs.inner.rows.TermLists.{AreChosen, AreMerged, AreOrdered, IsShaped};
+ghost use Rattle.gf_form.specs.inner.rows.TermLists.{all_terms};
 
 use crate::rows::chosen::Chosen;
 use crate::rows::terms::Terms;
@@ -26,7 +26,7 @@ impl Terms {
         requires within { action * step + step < 2 ^ 64 }
         requires chosen { AreChosen from.now.demands.items step action chosen }
         ensures merged { OnOk result
-            (AreMerged step action (entries from.now) (entries self.new)) }
+            (AreMerged step action (all_terms from.now) (all_terms self.new)) }
         ensures ordered { OnOk result (AreOrdered self.new) }
         ensures shaped { OnOk result (IsShaped self.new) }
         ensures players { self.new.players ≡ self.old.players }

@@ -3,7 +3,7 @@
 
 ghost use Rattle.std.specs.Prelude.{◌≡◌, ◌<◌, ◌≤◌, ◌^◌, IfOk, IfSome};
 ghost use Rattle.std.specs.Prelude.{false, length, true};
-ghost use Rattle.gf_form.specs.inner.rows.Entries.{AreWithin, IsShaped, entries, part};
+ghost use Rattle.gf_form.specs.inner.rows.TermLists.{AreWithin, IsShaped, all_terms, part};
 ghost use Rattle.gf_form.specs.inner.rows.Pairs.{HasPairRow, IsOnly, IsPair};
 
 use crate::rows::chosen::Chosen;
@@ -83,7 +83,7 @@ impl Terms {
     fn only(&self, start: usize, end: usize, den: u128) -> Option<Only<'_>>
         requires shaped { IsShaped self.now }
         requires within { end ≤ length self.now.demands.items }
-        ensures { IfSome result (λ only. IsOnly (part start end (entries self.now)) only) }
+        ensures { IfSome result (λ only. IsOnly (part start end (all_terms self.now)) only) }
     {
         if start >= end {
             return Some(Only {

@@ -1,7 +1,7 @@
 //! Terms that fit together, without those that add nothing.
 
 ghost use Rattle.std.specs.Prelude.{◌≡◌, IfOk, IsTrue, get_or, pos, ℕ};
-ghost use Rattle.gf_form.specs.inner.rows.Entries.{AreOrdered, IsShaped, entries};
+ghost use Rattle.gf_form.specs.inner.rows.TermLists.{AreOrdered, IsShaped, all_terms};
 ghost use Rattle.gf_form.specs.inner.rows.Paying.{FitOver, Kept, SettleAsWell};
 
 use crate::rows::terms::Terms;
@@ -34,8 +34,8 @@ impl Terms {
 
     /// Keeps one denominator for all terms, over which they fit together, and no sizes.
     fn put_over(&mut self, alloc: Global, den: u128)
-        requires { FitOver den (entries self.old) }
-        ensures kept { Kept (entries self.old) (entries self.new) }
+        requires { FitOver den (all_terms self.old) }
+        ensures kept { Kept (all_terms self.old) (all_terms self.new) }
         ensures demands { self.new.demands ≡ self.old.demands }
         ensures shaped { IsShaped self.old → IsShaped self.new }
         ensures players { self.new.players ≡ self.old.players }

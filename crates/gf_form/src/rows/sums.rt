@@ -2,7 +2,7 @@
 
 ghost use Rattle.std.specs.Prelude.{◌≡◌, ◌*ℤ◌, ◌+ℤ◌, IfSome, get_or, pos};
 ghost use Rattle.gf_fraction.specs.Ratio.{IsWithin};
-ghost use Rattle.gf_form.specs.inner.rows.Entries.{IsFactor, IsScale};
+ghost use Rattle.gf_form.specs.inner.rows.TermLists.{IsFactor, IsScale};
 
 use crate::rows::terms::Head;
 use gf_fraction::Fraction;

@@ -3,8 +3,9 @@
 
 ghost use Rattle.std.specs.Prelude.{◌≡◌, ◌+◌, ◌<◌, ◌≤◌, ◌++◌, [], ◌∷◌, IfOk, IsTrue, OnOk, get_or};
 ghost use Rattle.std.specs.Prelude.{length};
-ghost use Rattle.gf_form.specs.inner.rows.Entries.{AreAlike, HasSum, IsScale, IsShaped, IsSumAt};
-ghost use Rattle.gf_form.specs.inner.rows.Entries.{IsNoted, entries, entry_at, lowered, scaled_at};
+ghost use Rattle.gf_form.specs.inner.rows.TermLists.{AreAlike, HasSum, IsScale, IsShaped, IsSumAt};
+ghost use Rattle.gf_form.specs.inner.rows.TermLists.{IsNoted, all_terms, term_at, lowered};
+ghost use Rattle.gf_form.specs.inner.rows.TermLists.{scaled_at};
 ghost use Rattle.gf_form.specs.inner.rows.ItemRows.{HasRow};
 
 use crate::rows::sums::{Scale, combined, number_at, scale_of};
@@ -94,7 +95,7 @@ pub(crate) fn push_few<T: Copy>(items: &mut Vec<T>, few: &[T]) -> Result<(), All
 impl Terms {
     /// No terms. Those to come are over this denominator, unless they are over others.
     pub(crate) fn new(alloc: Global, players: usize, den: u128) -> Terms
-        ensures none { entries result ≡ [] }
+        ensures none { all_terms result ≡ [] }
         ensures demands { result.demands.items ≡ [] }
         ensures players { result.players ≡ players }
         ensures den { result.den ≡ den }
@@ -111,7 +112,7 @@ impl Terms {
 
     /// No terms are left. Those to come are over this denominator, unless they are over others.
     pub(crate) fn clear(&mut self, den: u128)
-        ensures none { entries self.new ≡ [] }
+        ensures none { all_terms self.new ≡ [] }
         ensures players { self.new.players ≡ self.old.players }
         ensures den { self.new.den ≡ den }
         ensures shaped { IsShaped self.new }
@@ -137,7 +138,7 @@ impl Terms {
     pub(crate) fn row(&self, place: usize) -> &[i128]
         requires shaped { IsShaped self.now }
         requires within { place < length self.now.demands.items }
-        ensures { result.now ≡ (entry_at self.now place).row }
+        ensures { result.now ≡ (term_at self.now place).row }
     {
         let start = place * self.players;
         &self.numbers[start..start + self.players]
@@ -161,7 +162,7 @@ impl Terms {
     #[inline]
     pub(crate) fn head(&self, place: usize) -> Head
         requires { place < length self.now.demands.items }
-        ensures { result ≡ (entry_at self.now place).head }
+        ensures { result ≡ (term_at self.now place).head }
     {
         let scaled = self.scaled_at(place);
         Head {
@@ -223,8 +224,8 @@ impl Terms {
         requires scaled { length self.old.scaled.items ≤ length self.old.demands.items }
         requires den { self.old.den ≡ from.now.den }
         requires within { place < length from.now.demands.items }
-        ensures noted { OnOk result (IsNoted self.old self.new (entry_at from.now place).head.den
-            (entry_at from.now place).head.size) }
+        ensures noted { OnOk result (IsNoted self.old self.new (term_at from.now place).head.den
+            (term_at from.now place).head.size) }
         ensures demands { OnOk result
             (self.new.demands.items ≡ self.old.demands.items ++ demands ∷ []) }
         ensures scaled { OnOk result
@@ -245,9 +246,9 @@ impl Terms {
         requires alike { AreAlike self.old from.now }
         requires shaped { IsShaped self.old × IsShaped from.now }
         requires within { place < length from.now.demands.items }
-        requires less { less ≤ (entry_at from.now place).head.demands }
-        ensures pushed { OnOk result (entries self.new
-            ≡ entries self.old ++ lowered less (entry_at from.now place) ∷ []) }
+        requires less { less ≤ (term_at from.now place).head.demands }
+        ensures pushed { OnOk result (all_terms self.new
+            ≡ all_terms self.old ++ lowered less (term_at from.now place) ∷ []) }
         ensures alike { AreAlike self.new self.old }
         ensures shaped { OnOk result (IsShaped self.new) }
     {
@@ -261,7 +262,7 @@ impl Terms {
         requires first { first < length self.now.demands.items }
         requires second { second < length self.now.demands.items }
         ensures { 0 < result.den
-            → IsScale (entry_at self.now first).head (entry_at self.now second).head result }
+            → IsScale (term_at self.now first).head (term_at self.now second).head result }
     {
         match scale_of(self.head(first), self.head(second)) {
             Some(scale) => scale,
@@ -284,9 +285,9 @@ impl Terms {
         requires first { first < length from.now.demands.items }
         requires second { second < length from.now.demands.items }
         requires scale { 0 < scale.den
-            → IsScale (entry_at from.now first).head (entry_at from.now second).head scale }
-        ensures sum { OnOk result (HasSum (entry_at from.now first) (entry_at from.now second)
-            (entries self.old) (entries self.new)) }
+            → IsScale (term_at from.now first).head (term_at from.now second).head scale }
+        ensures sum { OnOk result (HasSum (term_at from.now first) (term_at from.now second)
+            (all_terms self.old) (all_terms self.new)) }
         ensures alike { AreAlike self.new self.old }
         ensures shaped { OnOk result (IsShaped self.new) }
     {
@@ -309,8 +310,8 @@ impl Terms {
         requires shaped { IsShaped self.old × IsShaped from.now }
         requires first { first < length from.now.demands.items }
         requires second { second < length from.now.demands.items }
-        ensures sum { OnOk result (HasSum (entry_at from.now first) (entry_at from.now second)
-            (entries self.old) (entries self.new)) }
+        ensures sum { OnOk result (HasSum (term_at from.now first) (term_at from.now second)
+            (all_terms self.old) (all_terms self.new)) }
         ensures alike { AreAlike self.new self.old }
         ensures shaped { OnOk result (IsShaped self.new) }
     {
@@ -331,8 +332,8 @@ impl Terms {
         requires shaped { IsShaped self.old × IsShaped from.now }
         requires first { first < length from.now.demands.items }
         requires second { second < length from.now.demands.items }
-        ensures sum { OnOk result (HasSum (entry_at from.now first) (entry_at from.now second)
-            (entries self.old) (entries self.new)) }
+        ensures sum { OnOk result (HasSum (term_at from.now first) (term_at from.now second)
+            (all_terms self.old) (all_terms self.new)) }
         ensures alike { AreAlike self.new self.old }
         ensures shaped { OnOk result (IsShaped self.new) }
     {

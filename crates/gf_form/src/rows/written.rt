@@ -5,7 +5,7 @@ ghost use Rattle.std.specs.Prelude.{IfSome, IsErrOf, OnOk};
 ghost use Rattle.std.specs.Prelude.{get_or, length, map, true};
 ghost use Rattle.gf_nfg.specs.Profiles.{product};
 ghost use Rattle.gf_form.specs.inner.rows.Demands.{spans};
-ghost use Rattle.gf_form.specs.inner.rows.Entries.{AreOrdered, AreWithin, IsShaped};
+ghost use Rattle.gf_form.specs.inner.rows.TermLists.{AreOrdered, AreWithin, IsShaped};
 ghost use Rattle.gf_form.specs.inner.values.PaidRows.{rows_of};
 ghost use Rattle.gf_form.specs.Refusal.{HasValues};
 ghost use Rattle.gf_form.specs.inner.values.Rows.{ArePaid};

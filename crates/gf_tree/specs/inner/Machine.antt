@@ -22,7 +22,7 @@ use Rattle.gf_token.specs.declared.fault.Why.TheVariants.{NotDescribed, Mismatch
 use Rattle.gf_tree.specs.Description.{Action, InformationSet, Outcome, SetKey, same_set, set_of}
 use Rattle.gf_tree.specs.FiniteMap.{Described, description_at}
 use Rattle.gf_tree.specs.Game.{Node}
-use Rattle.gf_tree.specs.PrefixOrder.{Entry}
+use Rattle.gf_tree.specs.PrefixOrder.{Listed}
 use Rattle.gf_tree.specs.inner.Probability.{Share, is_one, same_ratio, share_of}
 use Rattle.gf_token.specs.declared.fault.What.TheVariants as what
 
@@ -32,7 +32,7 @@ pub record Content : Type 0 where
   pub title : List ℕ
   pub comment : List ℕ
   pub players : List (List ℕ)
-  pub nodes : List (Entry Node)
+  pub nodes : List (Listed Node)
   pub due : ℕ
   pub sets : List (Described SetKey InformationSet)
   pub outcomes : List (Described ℕ Outcome)

@@ -15,7 +15,7 @@ pub use Rattle.gf_token.specs.inner.Machine.{Fails, Goes, HasPassedPlace}
 use Rattle.gf_tree.specs.Description.{InformationSet, SetKey}
 use Rattle.gf_tree.specs.FiniteMap.{Described}
 use Rattle.gf_tree.specs.Game.{Node}
-use Rattle.gf_tree.specs.PrefixOrder.{Entry}
+use Rattle.gf_tree.specs.PrefixOrder.{Listed}
 use Rattle.gf_tree.specs.Told.{used_sets_from, Heading, Told, heading_in, kept_as, told_from}
 use Rattle.gf_tree.specs.Told.{told_node, used_outcomes_from}
 use Rattle.gf_tree.specs.KeptNodes.{AreAmong, IsAmong, Kept, child_count, entries_with, entry_with}
@@ -115,14 +115,14 @@ ReadsHeading old new = (new ≡ record old {
 -- ---- nodes that were told
 
 -- with these nodes before its own
-abbrev pub with_front : List (Entry Node) → Content → Content
+abbrev pub with_front : List (Listed Node) → Content → Content
 with_front nodes c = record c { nodes = nodes ++ c.nodes }
 
-abbrev pub with_nodes : List (Entry Node) → Result Content Fault → Result Content Fault
+abbrev pub with_nodes : List (Listed Node) → Result Content Fault → Result Content Fault
 with_nodes nodes (Ok c) = Ok (with_front nodes c)
 with_nodes nodes (Err fault) = Err fault
 
-abbrev pub after_nodes : List (Entry Node) → Answer → Answer
+abbrev pub after_nodes : List (Listed Node) → Answer → Answer
 after_nodes nodes a = record { input = a.input; machine = with_nodes nodes a.machine }
 
 -- the children of a node that was told are due in its place, if its set has this position

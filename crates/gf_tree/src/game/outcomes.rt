@@ -17,14 +17,14 @@ use std::marker::Model;
 /// An outcome that is known, in 32 bytes: its number, how many payoffs it has, its name, and where
 /// its payoffs begin among those of all outcomes.
 #[derive(Clone, Copy)]
-struct Entry<'a> {
+struct StoredOutcome<'a> {
     number: u32,
     count: u32,
     name: Label<'a>,
     start: usize,
 }
 
-impl<'a> Entry<'a> {
+impl<'a> StoredOutcome<'a> {
     /// Where its payoffs end.
     fn end(&self) -> usize
         requires { end_of self.now < 2 ^ 64 }
@@ -43,7 +43,7 @@ impl<'a> Entry<'a> {
 pub(crate) struct Outcomes<'a> {
     alloc: Global,
     numbers: Numbers,
-    entries: Vec<Entry<'a>>,
+    entries: Vec<StoredOutcome<'a>>,
     payoffs: Vec<Fraction>,
     from: usize,
 }
@@ -168,7 +168,7 @@ impl<'a> Outcomes<'a> {
         };
         self.entries.reserve(1)?;
         self.numbers.insert(self.alloc, indexing, number, place)?;
-        self.entries.push_reserved(Entry {
+        self.entries.push_reserved(StoredOutcome {
             number,
             count,
             name,

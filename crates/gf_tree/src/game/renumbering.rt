@@ -4,7 +4,7 @@ ghost use Rattle.std.specs.Prelude.{◌≡◌, ◌<◌, ◌^◌, ◌++◌, ◌�
 ghost use Rattle.std.specs.Prelude.{MatchOption, OnOk, length, map, nat_eq, position, slice_get};
 ghost use Rattle.std.specs.List.{AllByRecursion};
 ghost use Rattle.gf_tree.specs.Description.{same_set, set_of};
-ghost use Rattle.gf_tree.specs.Listed.{AreListed, listed_numbers};
+ghost use Rattle.gf_tree.specs.ListedNumbers.{AreListed, listed_numbers};
 ghost use Rattle.gf_tree.specs.Renumbering.{renumbered};
 
 use crate::game::Game;

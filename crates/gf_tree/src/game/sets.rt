@@ -24,7 +24,7 @@ use std::marker::Model;
 /// A set that is known, in 40 bytes: its key, its number among the sets of its player, how many
 /// actions it has, its name, and where its actions begin among those of all sets.
 #[derive(Clone, Copy)]
-struct Entry<'a> {
+struct StoredSet<'a> {
     player: u32,
     number: u32,
     among: u32,
@@ -33,7 +33,7 @@ struct Entry<'a> {
     start: usize,
 }
 
-impl<'a> Entry<'a> {
+impl<'a> StoredSet<'a> {
     /// Where its actions end.
     #[inline(always)]
     fn end(&self) -> usize
@@ -104,7 +104,7 @@ fn last_place(players: &[Numbers], player: u32) -> Option<u32> {
 /// Where the actions from here on begin, and how many there are. If they are the same as those of
 /// the set at a place, where those begin instead.
 fn stretch_like(
-    entries: &[Entry<'_>],
+    entries: &[StoredSet<'_>],
     actions: &[Action<'_>],
     from: usize,
     place: Option<u32>,
@@ -135,7 +135,7 @@ fn stretch_like(
 pub(crate) struct Sets<'a> {
     alloc: Global,
     players: Vec<Numbers>,
-    entries: Vec<Entry<'a>>,
+    entries: Vec<StoredSet<'a>>,
     /// How many actions each has, stored a second time: this is read at each node, and all of it
     /// stays in the cache.
     counts: Vec<u32>,
@@ -328,7 +328,7 @@ impl<'a> Sets<'a> {
             number,
             place,
         )?;
-        let entry = Entry {
+        let entry = StoredSet {
             player,
             number,
             among,

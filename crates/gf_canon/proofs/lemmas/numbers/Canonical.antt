@@ -10,7 +10,7 @@ use Rattle.gf_canon.proofs.Common.{agreed_games, same_set_equality, Has, IsEqual
 use Rattle.gf_canon.proofs.Common.{canonical_game, nat_eq}
 use Rattle.gf_nfg.proofs.lemmas.tables.NumbersInTurn.{get_or-numbers_from, length-numbers_from}
 use Rattle.gf_nfg.proofs.lemmas.tables.NumbersInTurn.{numbers_joined}
-use Rattle.gf_tree.specs.Listed.{AreListed, AreNumbers, listed_numbers, number_listed}
+use Rattle.gf_tree.specs.ListedNumbers.{AreListed, AreNumbers, listed_numbers, number_listed}
 use Rattle.gf_tree.proofs.lemmas.games.ListedNumbers.{own_key, some_player}
 use Rattle.gf_canon.specs.inner.ListedInOrder.{lists_in_order}
 use Rattle.gf_canon.proofs.lemmas.numbers.InOrder.{outcomes_in_order, sets_in_order}

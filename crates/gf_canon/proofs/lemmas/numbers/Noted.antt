@@ -5,7 +5,7 @@ use Rattle.gf_canon.proofs.Common.{Some, refl, sym, ap, subst, ◌∙◌, inl, i
 use Rattle.gf_canon.proofs.Common.{nat_eq, option_map, unwrap_or, filter_map, cons_option, BTreeMap}
 use Rattle.gf_canon.proofs.Common.{get, is_eq, nat_cmp, Decides-eqb, nat_tests, SetKey, same_set}
 use Rattle.gf_canon.proofs.Common.{set_of, Game, IsGame, Node, used_outcomes}
-use Rattle.gf_canon.proofs.Common.{used_sets, Entry, flatten, HasOutcome, HasSet, renumbered_node}
+use Rattle.gf_canon.proofs.Common.{used_sets, Listed, flatten, HasOutcome, HasSet, renumbered_node}
 use Rattle.gf_canon.proofs.Common.{renumbered_set, flatten_map, map_entry, map_twice, Agree}
 use Rattle.gf_canon.proofs.Common.{agreed_games, outcome_number_positive, same_set_equality, Has}
 use Rattle.gf_canon.proofs.Common.{IsEquality, contains, has, IsOnlyRenumbering, new_numbers}
@@ -75,16 +75,16 @@ pub record AreWalked (r : numbers.Renumbering) (g : Game) (sets : SetKey → Opt
   pub outcomes_noted : AreNoted r.outcome outcomes (used_outcomes g.tree)
       (filter_map (λ n. n.outcome) left)
 
-filter_of_nodes : {K : Type 0} (f : Node → Option K) (es : List (Entry Node))
+filter_of_nodes : {K : Type 0} (f : Node → Option K) (es : List (Listed Node))
     → filter_map (λ e. f e.node) es ≡ filter_map f (map (λ e. e.node) es)
 filter_of_nodes f [] = refl
 filter_of_nodes f (e ∷ es) = ap (cons_option (f e.node)) (filter_of_nodes f es)
 
-nodes_of_image : (r : numbers.Renumbering) (es : List (Entry Node))
+nodes_of_image : (r : numbers.Renumbering) (es : List (Listed Node))
     → map (λ e. e.node) (map (map_entry (renumbered_node r)) es)
     ≡ map (renumbered_node r) (map (λ e. e.node) es)
-nodes_of_image r es = map_twice (λ (e : Entry Node). e.node) (map_entry (renumbered_node r)) es
-    ∙ sym (map_twice (renumbered_node r) (λ (e : Entry Node). e.node) es)
+nodes_of_image r es = map_twice (λ (e : Listed Node). e.node) (map_entry (renumbered_node r)) es
+    ∙ sym (map_twice (renumbered_node r) (λ (e : Listed Node). e.node) es)
 
 image_number : {K : Type 0} (f number : K → ℕ) (image : K → K) → ((k : K) → number (image k) ≡ f k)
     → (old new : Option K) → new ≡ option_map image old → option_map number new ≡ option_map f old

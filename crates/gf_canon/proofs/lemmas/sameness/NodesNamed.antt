@@ -3,7 +3,7 @@ use Rattle.gf_canon.proofs.Common.{arith, ◌≡◌, List, [], ◌∷◌, ◌++�
 use Rattle.gf_canon.proofs.Common.{sym, ap, ◌∙◌, nat_eq, option_map, filter_map, map-append}
 use Rattle.gf_canon.proofs.Common.{same_set, set_of, file_nodes, node_after, use_after, FileNode}
 use Rattle.gf_canon.proofs.Common.{Use, first_use_number, first_use_numbers, sets_of, Game, Node}
-use Rattle.gf_canon.proofs.Common.{outcome_at, set_at, Entry, flatten, Renumbering, renumbered}
+use Rattle.gf_canon.proofs.Common.{outcome_at, set_at, Listed, flatten, Renumbering, renumbered}
 use Rattle.gf_canon.proofs.Common.{renumbered_node, flatten_map, map_entry, map_tree_twice}
 use Rattle.gf_canon.proofs.Common.{map_twice, canonical_game, node_by, outcome_by, set_by, use_by}
 use Rattle.gf_canon.proofs.Common.{unnamed_game, unnamed_node, Aside, Kept, Names, game_by}
@@ -37,24 +37,24 @@ use_aside : {K D : Type 0} (same : K → K → Bool) (f : D → D) (had bare : K
 use_aside same f had bare are before None = refl
 use_aside same f had bare are before (Some k) = grind (arith, are k)
 
-node_aside : (g : Game) (before : List (Entry Node)) (n : Node)
+node_aside : (g : Game) (before : List (Listed Node)) (n : Node)
     → node_after (unnamed_game g) (map (map_entry unnamed_node) before) (unnamed_node n)
     ≡ node_by Aside (node_after g before n)
 node_aside g before n =
     let set = use_aside same_set (set_by Aside) (set_at g) (set_at (unnamed_game g))
-    (unnamed_set_at g) (filter_map (λ (e : Entry Node). e.node.set) before) n.set in
+    (unnamed_set_at g) (filter_map (λ (e : Listed Node). e.node.set) before) n.set in
     let outcome = use_aside nat_eq (outcome_by Aside) (outcome_at g) (outcome_at (unnamed_game g))
-    (unnamed_outcome_at g) (filter_map (λ (e : Entry Node). e.node.outcome) before) n.outcome in
+    (unnamed_outcome_at g) (filter_map (λ (e : Listed Node). e.node.outcome) before) n.outcome in
     rw (keys_still (λ n. n.set) (λ n. refl) before, keys_still (λ n. n.outcome) (λ n. refl) before)
     (λ i. record { name = []; set = set i; outcome = outcome i })
 
-nodes_of_all : (g : Game) (before es : List (Entry Node))
+nodes_of_all : (g : Game) (before es : List (Listed Node))
     → map (λ e. e.node) (entries_after (unnamed_game g) (map (map_entry unnamed_node) before)
     (map (map_entry unnamed_node) es))
     ≡ map (node_by Aside) (map (λ e. e.node) (entries_after g before es))
 nodes_of_all g before [] = refl
 nodes_of_all g before (e ∷ es) =
-    let rest = ap (λ b. map (λ (d : Entry FileNode). d.node)
+    let rest = ap (λ b. map (λ (d : Listed FileNode). d.node)
     (entries_after (unnamed_game g) b (map (map_entry unnamed_node) es)))
     (sym (map-append (map_entry unnamed_node) before (e ∷ [])))
     ∙ nodes_of_all g (before ++ e ∷ []) es in
@@ -64,7 +64,7 @@ file_nodes_aside : (g : Game)
     → file_nodes (unnamed_game g) ≡ map (node_by Aside) (file_nodes g)
 file_nodes_aside g =
     file_nodes_are (unnamed_game g)
-    ∙ ap (λ es. map (λ (d : Entry FileNode). d.node) (entries_after (unnamed_game g) [] es))
+    ∙ ap (λ es. map (λ (d : Listed FileNode). d.node) (entries_after (unnamed_game g) [] es))
     (flatten_map unnamed_node g.tree)
     ∙ nodes_of_all g [] (flatten g.tree)
     ∙ ap (map (node_by Aside)) (sym (file_nodes_are g))

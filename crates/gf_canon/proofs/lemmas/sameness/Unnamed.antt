@@ -3,7 +3,7 @@
 use Rattle.gf_canon.proofs.Common.{InformationSet, arith, ◌≡◌, ℕ, Bool, List, [], ◌∷◌, length, map}
 use Rattle.gf_canon.proofs.Common.{Option, Some, refl, sym, ap, ◌∙◌, subst, nat_eq, option_map}
 use Rattle.gf_canon.proofs.Common.{MatchOption, ◌↔◌, AllByRecursion, filter_map, cons_option}
-use Rattle.gf_canon.proofs.Common.{IsLabel, Table, Entry, flatten, SetKey, same_set, Described}
+use Rattle.gf_canon.proofs.Common.{IsLabel, Table, Listed, flatten, SetKey, same_set, Described}
 use Rattle.gf_canon.proofs.Common.{description_at, Node, Game, IsGame, HasChildren, used_sets}
 use Rattle.gf_canon.proofs.Common.{used_outcomes, set_at, outcome_at, IsSpellable, Renumbering}
 use Rattle.gf_canon.proofs.Common.{IsRenumbering, renumbered, renumbered_set, renumbered_node}
@@ -24,7 +24,7 @@ use Rattle.gf_canon.proofs.lemmas.files.Texts.{equal_canonical_texts, file_text}
 
 module _ {K : Type 0} (key : Node → Option K)
     (still : (n : Node) → key (unnamed_node n) ≡ key n) where
-  pub keys_still : (es : List (Entry Node))
+  pub keys_still : (es : List (Listed Node))
       → filter_map (λ e. key e.node) (map (map_entry unnamed_node) es)
       ≡ filter_map (λ e. key e.node) es
   keys_still [] = refl

@@ -2,7 +2,7 @@
 use Rattle.gf_canon.proofs.Common.{entry_used, in_keys, arith, ◌≡◌, ℕ, zero, suc, ◌+◌, Bool, false}
 use Rattle.gf_canon.proofs.Common.{List, [], ◌∷◌, ◌++◌, map, Option, None, Some, refl, sym, ap}
 use Rattle.gf_canon.proofs.Common.{subst, ◌∙◌, inl, inr, append_assoc, nat_eq, option_map}
-use Rattle.gf_canon.proofs.Common.{filter_map, cons_option, list_any, Decides-eqb, Entry, flatten}
+use Rattle.gf_canon.proofs.Common.{filter_map, cons_option, list_any, Decides-eqb, Listed, flatten}
 use Rattle.gf_canon.proofs.Common.{Fills, same_set, Described, description_at, first_uses, Use}
 use Rattle.gf_canon.proofs.Common.{FileNode, FileTree, set_uses, outcome_uses, Describes}
 use Rattle.gf_canon.proofs.Common.{AreConsistent, IsDescribed, IsFirstUse, Node, Game, IsGame}
@@ -146,23 +146,23 @@ module _ {K D : Type 0} (same : K → K → Bool) (equality : IsEquality same) (
 -- ---- entries
 
 -- the entries after those, one after another
-abbrev pub entries_after : Game → List (Entry Node) → List (Entry Node) → List (Entry FileNode)
+abbrev pub entries_after : Game → List (Listed Node) → List (Listed Node) → List (Listed FileNode)
 entries_after g before [] = []
 entries_after g before (e ∷ es) =
     record { node = node_after g before e.node; children = e.children }
     ∷ entries_after g (before ++ e ∷ []) es
 
-abbrev pub file_entries : Game → List (Entry FileNode)
+abbrev pub file_entries : Game → List (Listed FileNode)
 file_entries g = entries_after g [] (flatten g.tree)
 
-nodes_are : (g : Game) (before es : List (Entry Node))
+nodes_are : (g : Game) (before es : List (Listed Node))
     → map (λ p. node_after g (before ++ p.0) p.1.node) (with_those_before es)
     ≡ map (λ e. e.node) (entries_after g before es)
 nodes_are g before [] = refl
 nodes_are g before (e ∷ es) =
     let others =
-    map_twice (λ (p : List (Entry Node) × Entry Node). node_after g (before ++ p.0) p.1.node)
-    (λ (p : List (Entry Node) × Entry Node). (e ∷ p.0, p.1)) (with_those_before es)
+    map_twice (λ (p : List (Listed Node) × Listed Node). node_after g (before ++ p.0) p.1.node)
+    (λ (p : List (Listed Node) × Listed Node). (e ∷ p.0, p.1)) (with_those_before es)
     ∙ (λ j. map (λ p. node_after g (sym (append_assoc before (e ∷ []) p.0) j) p.1.node)
     (with_those_before es))
     ∙ nodes_are g (before ++ e ∷ []) es in
@@ -176,25 +176,25 @@ option_keys : {K D : Type 0} (use_of : K → Use K D) → ((k : K) → (use_of k
 option_keys use_of h None = refl
 option_keys use_of h (Some k) = ap Some (h k)
 
-node_keys : (g : Game) (before : List (Entry Node)) (n : Node)
+node_keys : (g : Game) (before : List (Listed Node)) (n : Node)
     → keys_alone (node_after g before n) ≡ n
 node_keys g before n =
     let set = option_keys
-    (use_after same_set (set_at g) (filter_map (λ (e : Entry Node). e.node.set) before))
+    (use_after same_set (set_at g) (filter_map (λ (e : Listed Node). e.node.set) before))
     (λ k. refl) n.set in
     let outcome = option_keys
-    (use_after nat_eq (outcome_at g) (filter_map (λ (e : Entry Node). e.node.outcome) before))
+    (use_after nat_eq (outcome_at g) (filter_map (λ (e : Listed Node). e.node.outcome) before))
     (λ k. refl) n.outcome in
     λ i. record { name = n.name; set = set i; outcome = outcome i }
 
-entries_keys : (g : Game) (before es : List (Entry Node))
+entries_keys : (g : Game) (before es : List (Listed Node))
     → map (map_entry keys_alone) (entries_after g before es) ≡ es
 entries_keys g before [] = refl
 entries_keys g before (e ∷ es) =
     λ i. record { node = node_keys g before e.node i; children = e.children }
     ∷ entries_keys g (before ++ e ∷ []) es i
 
-entries_fill : (g : Game) (before es : List (Entry Node)) (due : ℕ) → Fills due es
+entries_fill : (g : Game) (before es : List (Listed Node)) (due : ℕ) → Fills due es
     → Fills due (entries_after g before es)
 entries_fill g before [] zero h = h
 entries_fill g before [] (suc due) h = h
@@ -213,18 +213,18 @@ used_after same at (Some k) before rest = refl
 
 module _ {K D : Type 0} (same : K → K → Bool) (at : K → Option D) (g : Game)
     (key : Node → Option K) (use_of : FileNode → Option (Use K D))
-    (is : (before : List (Entry Node)) (n : Node) → use_of (node_after g before n)
+    (is : (before : List (Listed Node)) (n : Node) → use_of (node_after g before n)
     ≡ option_map (use_after same at (filter_map (λ e. key e.node) before)) (key n)) where
-  uses_are : (before es : List (Entry Node))
+  uses_are : (before es : List (Listed Node))
       → filter_map (λ e. use_of e.node) (entries_after g before es)
       ≡ uses_after same at (filter_map (λ e. key e.node) before) (filter_map (λ e. key e.node) es)
   uses_are before [] = refl
   uses_are before (e ∷ es) =
-      let keys = filter_map (λ (d : Entry Node). key d.node) in
+      let keys = filter_map (λ (d : Listed Node). key d.node) in
       (λ i. cons_option (is before e.node i) (uses_are (before ++ e ∷ []) es i))
       ∙ ap (λ ks. cons_option (option_map (use_after same at (keys before)) (key e.node))
       (uses_after same at ks (keys es)))
-      (filter_map-append (λ (d : Entry Node). key d.node) before (e ∷ []))
+      (filter_map-append (λ (d : Listed Node). key d.node) before (e ∷ []))
       ∙ used_after same at (key e.node) (keys before) (keys es)
 
 -- ---- the file tree

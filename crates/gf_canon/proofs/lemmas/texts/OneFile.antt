@@ -2,7 +2,7 @@
 use Rattle.gf_canon.proofs.Common.{arith, ◌≡◌, Bool, List, [], ◌∷◌, ◌++◌, Option, Some, None, map}
 use Rattle.gf_canon.proofs.Common.{refl, sym, ap, subst, ◌∙◌, append_assoc, nat_eq, option_map}
 use Rattle.gf_canon.proofs.Common.{if◌then◌else◌, AllByRecursion, cons_option, list_any}
-use Rattle.gf_canon.proofs.Common.{Decides-eqb, map-append, Entry, flatten, same_set, use_after}
+use Rattle.gf_canon.proofs.Common.{Decides-eqb, map-append, Listed, flatten, same_set, use_after}
 use Rattle.gf_canon.proofs.Common.{Described, description_at, first_uses, Use, FileNode, FileTree}
 use Rattle.gf_canon.proofs.Common.{set_uses, outcome_uses, AreConsistent, Describes, Game}
 use Rattle.gf_canon.proofs.Common.{used_sets, used_outcomes, keys_alone, flatten_map, map_entry}
@@ -49,7 +49,7 @@ same_options None None us vs keys e = (refl, e)
 same_options (Some u) (Some v) us vs keys e = (cc, cc)
 same_options _ _ us vs keys e = absurd cc
 
-same_entries : (es fs : List (Entry FileNode))
+same_entries : (es fs : List (Listed FileNode))
     → map (map_entry keys_alone) es ≡ map (map_entry keys_alone) fs → set_uses es ≡ set_uses fs
     → outcome_uses es ≡ outcome_uses fs → es ≡ fs
 same_entries [] [] keys sets outcomes = refl

@@ -3,7 +3,7 @@ use Rattle.gf_canon.proofs.Common.{first_line, ◌≡◌, ℕ, Bool, true, false
 use Rattle.gf_canon.proofs.Common.{length, map, Option, Some, None, refl, sym, ap, subst, inl, inr}
 use Rattle.gf_canon.proofs.Common.{nat_eq, codes, option_map, MatchOption, ⊤, if◌then◌else◌}
 use Rattle.gf_canon.proofs.Common.{AllByRecursion, flat_map, Decides-eqb, Token, Text, Bare}
-use Rattle.gf_canon.proofs.Common.{IsLabel, quoted, Entry, flatten, SetKey, same_set, IsSet}
+use Rattle.gf_canon.proofs.Common.{IsLabel, quoted, Listed, flatten, SetKey, same_set, IsSet}
 use Rattle.gf_canon.proofs.Common.{IsOutcome, FileNode, FileTree, Node, Game, IsGame, used_sets}
 use Rattle.gf_canon.proofs.Common.{used_outcomes, set_at, outcome_at, IsConsistent, IsGameOf}
 use Rattle.gf_canon.proofs.Common.{SpellsGame, IsSpellable, IsSpellableSet, IsSpellableOutcome, Has}
@@ -63,7 +63,7 @@ at_option P f None h = tt
 at_option P f (Some k) h = h k refl
 
 node_writable : (g : Game) → IsGame g → IsSpellable g
-    → (before : List (Entry Node)) (e : Entry Node) → Has (flatten g.tree) e
+    → (before : List (Listed Node)) (e : Listed Node) → Has (flatten g.tree) e
     → IsWritable (length g.players) (node_after g before e.node)
 node_writable g game can before e i = record {
   set = at_option (IsSetUse (length g.players)) _ e.node.set
@@ -74,13 +74,13 @@ node_writable g game can before e i = record {
 
 -- what holds for each node after those before it holds for all
 all_nodes : (P : FileNode → Type 0) (g : Game)
-    → ((before : List (Entry Node)) (e : Entry Node) → Has (flatten g.tree) e
+    → ((before : List (Listed Node)) (e : Listed Node) → Has (flatten g.tree) e
     → P (node_after g before e.node))
     → AllByRecursion P (file_nodes g)
 all_nodes P g holds = subst (AllByRecursion P) (sym (file_nodes_are g))
     (by [] (flatten g.tree) (λ e i. i))
   where
-    by : (before es : List (Entry Node)) → ((e : Entry Node) → Has es e → Has (flatten g.tree) e)
+    by : (before es : List (Listed Node)) → ((e : Listed Node) → Has es e → Has (flatten g.tree) e)
         → AllByRecursion P (map (λ e. e.node) (entries_after g before es))
     by before [] among = tt
     by before (e ∷ es) among =
@@ -108,7 +108,7 @@ tells_game g game can =
     let IsSaid = λ (n : FileNode). Says (node_text n) (node_tokens n) in
     let nodes = each_field IsSaid node_text node_tokens (λ n said. said) (file_nodes g)
     (all_nodes IsSaid g (λ before e i. said_node (length g.players) (node_after g before e.node)
-    (each (λ (d : Entry Node). IsLabel d.node.name) (flatten g.tree) e can.nodes i)
+    (each (λ (d : Listed Node). IsLabel d.node.name) (flatten g.tree) e can.nodes i)
     (node_writable g game can before e i))) in
     lines (both (said_heading g can) (both (label g.comment can.comment)
     (both empty nodes)))

@@ -17,7 +17,7 @@ use Rattle.gf_form.proofs.Common.{payoff, length, AllZip, Ratio, subst, Table, r
 use Rattle.gf_form.proofs.Common.{held, Bool, true, None, ◌==◌, ◌&&◌, ◌||◌, Step, ◌∷◌, map, inl, ap}
 use Rattle.gf_form.proofs.Common.{inr, ◌↔◌, Has, ◌∙◌, zip, not}
 use Rattle.std.proofs.Math.Path.{subst₂, transport, transport⁻¹}
-use Rattle.gf_tree.specs.PrefixOrder.{Entry}
+use Rattle.gf_tree.specs.PrefixOrder.{Listed}
 use Rattle.gf_tree.proofs.lemmas.games.Carried.{entry_used}
 use Rattle.gf_tree.proofs.lemmas.games.Renumbered.{set_at_image, outcome_at_image}
 use Rattle.gf_form.proofs.lemmas.values.Alike.{IsAlike, AreAlike, same_payoff, value_alike, OnPlay}
@@ -163,7 +163,7 @@ module _ (g : Game) (r : Renumbering) (game : IsGame g) (is : IsRenumbering g r)
 
   all_used : AllByRecursion (OnPlay HasUsed) (plays g.tree)
   all_used = on_plays HasUsed g.tree
-      (all_of_each (λ (e : Entry Node). HasUsed e.node) (flatten g.tree)
+      (all_of_each (λ (e : Listed Node). HasUsed e.node) (flatten g.tree)
       (λ e i key at. held (λ (n : Node). n.set) (flatten g.tree) e key i at))
 
   module _ (player : ℕ) (strategy : List ℕ) where

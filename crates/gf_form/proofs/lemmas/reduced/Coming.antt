@@ -25,7 +25,7 @@ use Rattle.std.specs.List.{filter_map}
 use Rattle.gf_form.proofs.lemmas.strategies.Choices.{length-all_choices}
 use Rattle.gf_form.proofs.lemmas.strategies.Chosen.{his_actions, among_his}
 use Rattle.gf_form.proofs.lemmas.reduced.FirstStrategies.{reduced_shown_at, flags_fit}
-use Rattle.gf_tree.specs.PrefixOrder.{Entry}
+use Rattle.gf_tree.specs.PrefixOrder.{Listed}
 use Rattle.std.proofs.Math.Nat.{dvd-mul_left_of_dvd, eq-one_of_dvd-one}
 use Rattle.gf_form.proofs.lemmas.strategies.StrategiesByNumber.{whole_label}
 use Rattle.gf_form.proofs.lemmas.values.Following.{some_play_in, taken_child, play_of}
@@ -111,10 +111,10 @@ factor [] i less = absurd (omega (arith, less))
 
 -- ---- choices come to each set whose owner has one action at each of his
 
-abbrev is_there : SetKey → Entry Node → Bool
+abbrev is_there : SetKey → Listed Node → Bool
 is_there key e = option_map_or (same_set key) e.node.set false
 
-used_there : (key : SetKey) (es : List (Entry Node))
+used_there : (key : SetKey) (es : List (Listed Node))
     → list_any (is_there key) es ≡ list_any (same_set key) (filter_map (λ e. e.node.set) es)
 used_there key [] = refl
 used_there key (e ∷ es) = grind (arith, used_there key es)

@@ -1,15 +1,15 @@
 -- Terms whose numbers stand one row after another.
 use Rattle.gf_form.proofs.Common.{get_or_append_left, get_or-append_seam, take-append-drop, zero-*ℤ}
-use Rattle.gf_form.proofs.Common.{length-take-le, AllByRecursion, length-append, first_entries, ◌≡◌}
+use Rattle.gf_form.proofs.Common.{length-take-le, AllByRecursion, length-append, first_terms, ◌≡◌}
 use Rattle.gf_form.proofs.Common.{take-length, get_or_past, length-drop, map-append, all_parts, suc}
-use Rattle.gf_form.proofs.Common.{number_at, dvd_refl, IsWithin, all_both, IsShaped, zero, entry_at}
-use Rattle.gf_form.proofs.Common.{no_entry, take-suc, IsScale, IsSumOf, entries, length, get_or}
-use Rattle.gf_form.proofs.Common.{Scaled, subst, arith, Entry, Scale, Terms, ◌+ℤ◌, ◌*ℤ◌, [], List}
+use Rattle.gf_form.proofs.Common.{number_at, dvd_refl, IsWithin, all_both, IsShaped, zero, term_at}
+use Rattle.gf_form.proofs.Common.{no_term, take-suc, IsScale, IsSumOf, all_terms, length, get_or}
+use Rattle.gf_form.proofs.Common.{Scaled, subst, arith, Term, Scale, Terms, ◌+ℤ◌, ◌*ℤ◌, [], List}
 use Rattle.gf_form.proofs.Common.{◌++◌, Bool, true, take, drop, refl, Head, ◌+◌, ◌*◌, ◌<◌, ap, ◌≤◌}
 use Rattle.gf_form.proofs.Common.{◌/◌, ◌∷◌, pos, sym, ◌∙◌, map, ℕ, ℤ}
 use Rattle.std.proofs.Math.Seq.{drop-append_seam}
 use Rattle.std.proofs.lemmas.List.{drop-append-le, take-append-le, get_or_push}
-use Rattle.gf_form.specs.inner.rows.Entries.{IsFactor, IsNoted, IsSumAt}
+use Rattle.gf_form.specs.inner.rows.TermLists.{IsFactor, IsNoted, IsSumAt}
 use Rattle.gf_form.specs.inner.rows.ItemRows.{HasRow}
 
 pub none_taken : {X : Type 0} (xs : List X) → take 0 xs ≡ []
@@ -17,33 +17,33 @@ none_taken xs = grind arith
 
 -- ---- the terms by place
 
-first_count : (t : Terms) (n : ℕ) → length (first_entries t n) ≡ n
+first_count : (t : Terms) (n : ℕ) → length (first_terms t n) ≡ n
 first_count t zero = refl
 first_count t (suc n) = grind (arith, length-append, first_count t n)
 
-pub terms_count : (t : Terms) → length (entries t) ≡ length t.demands.items
+pub terms_count : (t : Terms) → length (all_terms t) ≡ length t.demands.items
 terms_count t = first_count t (length t.demands.items)
 
-first_there : (t : Terms) (n k : ℕ) → k < n → get_or (first_entries t n) k no_entry ≡ entry_at t k
+first_there : (t : Terms) (n k : ℕ) → k < n → get_or (first_terms t n) k no_term ≡ term_at t k
 first_there t zero k less = absurd (omega arith)
 first_there t (suc n) k less =
     grind (arith, get_or_append_left, get_or_push, first_count, first_there t n k)
 
 pub there : (t : Terms) (place : ℕ) → place < length t.demands.items
-    → get_or (entries t) place no_entry ≡ entry_at t place
+    → get_or (all_terms t) place no_term ≡ term_at t place
 there t place within = first_there t (length t.demands.items) place within
 
 demands_in : (t : Terms) (n : ℕ) → n ≤ length t.demands.items
-    → map (λ (e : Entry). e.head.demands) (first_entries t n) ≡ take n t.demands.items
+    → map (λ (e : Term). e.head.demands) (first_terms t n) ≡ take n t.demands.items
 demands_in t zero within = sym (none_taken t.demands.items)
 demands_in t (suc n) within =
     let later = demands_in t n (omega arith) in grind (arith, map-append, take-suc)
 
-all_demands : (t : Terms) → map (λ (e : Entry). e.head.demands) (entries t) ≡ t.demands.items
+all_demands : (t : Terms) → map (λ (e : Term). e.head.demands) (all_terms t) ≡ t.demands.items
 all_demands t =
     demands_in t (length t.demands.items) (omega arith) ∙ take-length t.demands.items
 
-pub demands_more : (to after : Terms) (e : Entry) → entries after ≡ entries to ++ e ∷ []
+pub demands_more : (to after : Terms) (e : Term) → all_terms after ≡ all_terms to ++ e ∷ []
     → after.demands.items ≡ to.demands.items ++ e.head.demands ∷ []
 demands_more to after e is = grind (arith, all_demands after, all_demands to, map-append)
 
@@ -54,7 +54,7 @@ row_within p count place within = grind arith
 -- ---- a term more
 
 pub row_length : (t : Terms) (place : ℕ) → IsShaped t → place < length t.demands.items
-    → length (entry_at t place).row ≡ t.players
+    → length (term_at t place).row ≡ t.players
 row_length t place shaped within = grind (arith, row_within, length-drop, length-take-le)
 
 taken_within : (i : ℕ) (ns : List ℤ) → AllByRecursion IsWithin ns
@@ -62,24 +62,24 @@ taken_within : (i : ℕ) (ns : List ℤ) → AllByRecursion IsWithin ns
 taken_within i ns h = all_parts IsWithin (take i ns) (drop i ns) (rw (take-append-drop i ns) h)
 
 pub row_in_bound : (t : Terms) (place : ℕ) → IsShaped t → place < length t.demands.items
-    → AllByRecursion IsWithin (entry_at t place).row
+    → AllByRecursion IsWithin (term_at t place).row
 row_in_bound t place shaped within =
     let ns = t.numbers.items in
     (taken_within t.players (drop (place * t.players) ns)
     (taken_within (place * t.players) ns shaped.within).1).0
 
 -- the term that was pushed
-pub record Pushed (to after : Terms) (e : Entry) : Type 0 where
-  pub pushed : entries after ≡ entries to ++ e ∷ []
+pub record Pushed (to after : Terms) (e : Term) : Type 0 where
+  pub pushed : all_terms after ≡ all_terms to ++ e ∷ []
   pub shaped : IsShaped after
 
-same_first : (to after : Terms) (n : ℕ) → ((k : ℕ) → k < n → entry_at after k ≡ entry_at to k)
-    → first_entries after n ≡ first_entries to n
+same_first : (to after : Terms) (n : ℕ) → ((k : ℕ) → k < n → term_at after k ≡ term_at to k)
+    → first_terms after n ≡ first_terms to n
 same_first to after zero each = refl
 same_first to after (suc n) each =
     rw (each n (omega arith), same_first to after n (λ k less. each k (omega arith))) refl
 
-module _ (to after : Terms) (e : Entry) (shaped : IsShaped to)
+module _ (to after : Terms) (e : Term) (shaped : IsShaped to)
     (within : AllByRecursion IsWithin e.row) (one_each : length e.row ≡ to.players)
     (players : after.players ≡ to.players)
     (noted : IsNoted to after e.head.den e.head.size)
@@ -92,25 +92,25 @@ module _ (to after : Terms) (e : Entry) (shaped : IsShaped to)
   grown : length after.demands.items ≡ suc n
   grown = ap length demands ∙ length-append to.demands.items (e.head.demands ∷ []) ∙ omega arith
 
-  same_row : (k : ℕ) → k < n → (entry_at after k).row ≡ (entry_at to k).row
+  same_row : (k : ℕ) → k < n → (term_at after k).row ≡ (term_at to k).row
   same_row k less =
       let inside = row_within to.players n k less in
       grind (arith, take-append-le, drop-append-le, length-drop)
 
-  new_row : (entry_at after n).row ≡ e.row
+  new_row : (term_at after n).row ≡ e.row
   new_row = grind (arith, drop-append_seam, take-length)
 
-  same_entry : (k : ℕ) → k < n → entry_at after k ≡ entry_at to k
-  same_entry k less =
+  same_term : (k : ℕ) → k < n → term_at after k ≡ term_at to k
+  same_term k less =
       grind (arith, same_row, noted.kept k less, get_or_append_left)
 
-  new_entry : entry_at after n ≡ e
-  new_entry = grind (arith, new_row, noted.next, get_or-append_seam)
+  new_term : term_at after n ≡ e
+  new_term = grind (arith, new_row, noted.next, get_or-append_seam)
 
   pub is_pushed : Pushed to after e
   is_pushed = record {
-    pushed = ap (first_entries after) grown
-        ∙ (λ i. same_first to after n same_entry i ++ new_entry i ∷ []);
+    pushed = ap (first_terms after) grown
+        ∙ (λ i. same_first to after n same_term i ++ new_term i ∷ []);
     shaped = record {
       count = ap length is ∙ length-append to.numbers.items e.row
           ∙ (λ i. shaped.count i + one_each i) ∙ omega arith
@@ -138,13 +138,13 @@ same_scale a b size same above is =
 
 -- two of which nothing is noted
 plain_head : (t : Terms) (place : ℕ) → place < length t.demands.items → length t.scaled.items ≡ 0
-    → (entry_at t place).head
+    → (term_at t place).head
     ≡ record { demands = get_or t.demands.items place 0; den = t.den; size = 0 }
 plain_head t place within none = grind (arith, get_or_past)
 
 pub plain_scale : (t : Terms) (first second : ℕ) → first < length t.demands.items
     → second < length t.demands.items → length t.scaled.items ≡ 0 → 0 < t.den
-    → IsScale (entry_at t first).head (entry_at t second).head
+    → IsScale (term_at t first).head (term_at t second).head
     (record { den = t.den; size = 0; first = 1; second = 1 })
 plain_scale t first second one other none above =
     rw (plain_head t first one none, plain_head t second other none)
@@ -166,7 +166,7 @@ all_sums first second by_first by_second fits old new same h known k =
     let out = h.one_each in grind (arith, get_or_past, no_sum, h.each k (pos 0))
 
 -- the sum of two terms
-pub sum_made : (a b : Entry) (s : Scale) (fits : Bool) (demands : ℕ) (row : List ℤ)
+pub sum_made : (a b : Term) (s : Scale) (fits : Bool) (demands : ℕ) (row : List ℤ)
     → IsScale a.head b.head s
     → (fits ≡ true → (k : ℕ) → get_or row k (pos 0)
     ≡ number_at (suc k) a *ℤ pos s.first +ℤ number_at (suc k) b *ℤ pos s.second)

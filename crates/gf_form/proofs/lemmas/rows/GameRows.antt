@@ -2,13 +2,14 @@
 use Rattle.gf_form.proofs.Common.{AreProfileNumbers, digit_actions, full_profiles, strategies_at, ℕ}
 use Rattle.gf_form.proofs.Common.{if◌then◌else◌, paid_reached, IsSpellable, all_choices, AreTermsOf}
 use Rattle.gf_form.proofs.Common.{choices_by, zero_ratio, ComeAsWell, node_terms, HasDigits, get_or}
-use Rattle.gf_form.proofs.Common.{SettlesAt, root_path, number_at, steps_of, at_place, entries, ◌≡◌}
+use Rattle.gf_form.proofs.Common.{SettlesAt, root_path, number_at, steps_of, at_place, all_terms}
+use Rattle.gf_form.proofs.Common.{◌≡◌}
 use Rattle.gf_form.proofs.Common.{ArePaid, Settles, is_paid, reached, Reached, *ℤ-zero, one-dvd, []}
 use Rattle.gf_form.proofs.Common.{term_of, length, IsGame, Digits, nat_lt, row_at, pay_at, arith}
-use Rattle.gf_form.proofs.Common.{Ratio, Terms, false, Entry, List, Game, refl, zero, Bool, true}
+use Rattle.gf_form.proofs.Common.{Ratio, Terms, false, Term, List, Game, refl, zero, Bool, true}
 use Rattle.gf_form.proofs.Common.{Path, ◌-◌, ◌<◌, map, suc, ◌∷◌, sym, pos, ◌∙◌, ap}
 use Rattle.gf_form.proofs.lemmas.strategies.StrategiesByNumber.{all_at}
-use Rattle.gf_form.proofs.lemmas.rows.MergedEntries.{come_both, none_first, same_come}
+use Rattle.gf_form.proofs.lemmas.rows.MergedTerms.{come_both, none_first, same_come}
 use Rattle.gf_form.proofs.lemmas.rows.SummedNodes.{terms_of_sums}
 use Rattle.std.specs.List.{filter}
 use Rattle.gf_form.proofs.lemmas.rows.ReachedValues.{reached_value}
@@ -31,14 +32,14 @@ nothing_comes path pay nothing = rw nothing (λ den steps choices _. record {
 })
 
 module _ (g : Game) (rows : List (List Ratio)) (are : ArePaid g rows) (k : ℕ) where
-  abbrev terms : List Reached → List Entry
+  abbrev terms : List Reached → List Term
   terms rs = node_terms g (suc k) rs
 
   kept_come : (rs : List Reached) → ComeAsWell (terms rs) (terms (filter (is_paid rows) rs))
   kept_come [] = same_come []
   kept_come (r ∷ rs) = by (is_paid rows r) refl (kept_come rs)
     where
-      t : List Entry
+      t : List Term
       t = terms (r ∷ [])
 
       fs : List Reached
@@ -57,16 +58,16 @@ module _ (g : Game) (game : IsGame g) (spellable : IsSpellable g) (rows : List (
     (paid : ArePaid g rows) (numbers : List ℕ) (full : AreProfileNumbers g numbers) (d : Digits)
     (digits : HasDigits g d) (terms : Terms)
     (told : AreTermsOf g (length g.players) (paid_reached rows g
-    (choices_by g (map (λ own. own.items) d.steps.items))) (entries terms)) where
+    (choices_by g (map (λ own. own.items) d.steps.items))) (all_terms terms)) where
   settled : (number : ℕ) → number < length (full_profiles g)
       → Settles g number (steps_of (digit_actions d))
-      (get_or (all_choices (digit_actions d)) number []) (entries terms)
+      (get_or (all_choices (digit_actions d)) number []) (all_terms terms)
   settled number below k less den above within exact small =
       let actions = digit_actions d in
       let choices = get_or (all_choices actions) number [] in
       let steps = choices_by g (map (λ own. own.items) d.steps.items) in
       let h = terms_of_sums g (length g.players) (reached g steps root_path g.tree)
-      (paid_reached rows g steps) (entries terms) (λ k. kept_come g rows paid k _) told k less den
+      (paid_reached rows g steps) (all_terms terms) (λ k. kept_come g rows paid k _) told k less den
       (steps_of actions) choices exact in
       let v = reached_value g game spellable steps
       (choices_by g (strategies_at g (get_or (full_profiles g) number []))) actions choices

@@ -2,26 +2,26 @@
 use Rattle.gf_form.proofs.Common.{IsNonDecreasingBy-push, get_or-append_seam, mul-le-mul_right, ◌≡◌}
 use Rattle.gf_form.proofs.Common.{take-append-drop, IsNonDecreasing, AllByRecursion, get_or_default}
 use Rattle.gf_form.proofs.Common.{length-append, ComeAsWell, AreOrdered, AreMerged, EndsBelow, refl}
-use Rattle.gf_form.proofs.Common.{drop-cons, drop-drop, AreChosen, AreAlike, IsShaped, entry_at, []}
-use Rattle.gf_form.proofs.Common.{no_entry, add-one, entries, lowered, length, get_or, HasSum}
-use Rattle.gf_form.proofs.Common.{Chosen, Entry, Terms, arith, subst, List, ◌++◌, take, drop, part}
+use Rattle.gf_form.proofs.Common.{drop-cons, drop-drop, AreChosen, AreAlike, IsShaped, term_at, []}
+use Rattle.gf_form.proofs.Common.{no_term, add-one, all_terms, lowered, length, get_or, HasSum}
+use Rattle.gf_form.proofs.Common.{Chosen, Term, Terms, arith, subst, List, ◌++◌, take, drop, part}
 use Rattle.gf_form.proofs.Common.{◌<◌, ◌≤◌, ◌∷◌, map, sym, ◌∙◌, ◌+◌, ◌-◌, ◌*◌, ap, ℕ, append-nil}
 use Rattle.gf_form.proofs.Common.{get_or-take, length-take-le, length-drop, length-take}
 use Rattle.std.proofs.lemmas.List.{take_rest, get_or-drop}
 use Rattle.std.proofs.lemmas.List.Sorted.{IsNonDecreasingBy-short}
-use Rattle.gf_form.specs.inner.rows.Entries.{CountsBelow}
+use Rattle.gf_form.specs.inner.rows.TermLists.{CountsBelow}
 use Rattle.gf_form.proofs.lemmas.rows.FlatRows.{demands_more, terms_count, there}
-use Rattle.gf_form.proofs.lemmas.rows.MergedEntries.{IsFree, IsOther, IsOwn, Merging, Ranges}
-use Rattle.gf_form.proofs.lemmas.rows.MergedEntries.{both_come, first_parts, same_come, take_next}
+use Rattle.gf_form.proofs.lemmas.rows.MergedTerms.{IsFree, IsOther, IsOwn, Merging, Ranges}
+use Rattle.gf_form.proofs.lemmas.rows.MergedTerms.{both_come, first_parts, same_come, take_next}
 use Rattle.gf_form.proofs.lemmas.rows.ItemRows.{all_by_place}
 
 -- ---- ranges of a list
 
-pub part_next : (es : List Entry) (i end : ℕ) → i < end → end ≤ length es
-    → part i end es ≡ get_or es i no_entry ∷ part (i + 1) end es
+pub part_next : (es : List Term) (i end : ℕ) → i < end → end ≤ length es
+    → part i end es ≡ get_or es i no_term ∷ part (i + 1) end es
 part_next es i end less within = grind (arith, add-one, drop-cons)
 
-pub part_past : (es : List Entry) (i end : ℕ) → end ≤ i → part i end es ≡ []
+pub part_past : (es : List Term) (i end : ℕ) → end ≤ i → part i end es ≡ []
 part_past es i end past = grind arith
 
 -- all of a range, by the places of all
@@ -31,7 +31,7 @@ all_in P d xs n i within each = all_by_place P (take n (drop i xs)) (λ k e less
     subst P (grind (arith, get_or-take, get_or-drop, get_or_default, length-take-le, length-drop))
     (each (i + k) (omega arith) (omega (arith, less, length-take n (drop i xs)))))
 
-cut : (es : List Entry) (i j : ℕ) → i ≤ j → drop i es ≡ part i j es ++ drop j es
+cut : (es : List Term) (i j : ℕ) → i ≤ j → drop i es ≡ part i j es ++ drop j es
 cut es i j le =
     let on : i + (j - i) ≡ j = omega arith in
     cc (take-append-drop (j - i) (drop i es), drop-drop (j - i) i es)
@@ -51,17 +51,17 @@ pub demands_read : (t : Terms) (place d : ℕ) → place < length t.demands.item
 demands_read t place d within is = grind (arith, get_or_default)
 
 -- all of the terms from one place up to another, by their places
-range : (P : Entry → Type 0) (from : Terms) (i j : ℕ) → i ≤ j → j ≤ length from.demands.items
-    → ((k : ℕ) → i ≤ k → k < j → P (entry_at from k)) → AllByRecursion P (part i j (entries from))
+range : (P : Term → Type 0) (from : Terms) (i j : ℕ) → i ≤ j → j ≤ length from.demands.items
+    → ((k : ℕ) → i ≤ k → k < j → P (term_at from k)) → AllByRecursion P (part i j (all_terms from))
 range P from i j le within each =
-    all_in P no_entry (entries from) (j - i) i (omega (arith, within, le, terms_count from))
+    all_in P no_term (all_terms from) (j - i) i (omega (arith, within, le, terms_count from))
     (λ k at less. subst P (sym (there from k (omega (arith, less, le, within))))
     (each k at (omega (arith, less, le))))
 
 module _ (from : Terms) (step action : ℕ) (some : 1 ≤ action) (chosen : Chosen)
     (are : AreChosen from.demands.items step action chosen) where
-  abbrev es : List Entry
-  es = entries from
+  abbrev es : List Term
+  es = all_terms from
 
   least : 1 * step ≤ action * step
   least = mul-le-mul_right step some
@@ -102,9 +102,9 @@ pub record MayCome (from to : Terms) (less next end : ℕ) : Type 0 where
 
 pub record Merges (from : Terms) (step action lowest free_end own_end : ℕ) (free own : ℕ)
     (to : Terms) : Type 0 where
-  pub merging : Merging step action (entries from) (entries to)
-      (map (lowered 0) (part free free_end (entries from)))
-      (map (lowered lowest) (part own own_end (entries from)))
+  pub merging : Merging step action (all_terms from) (all_terms to)
+      (map (lowered 0) (part free free_end (all_terms from)))
+      (map (lowered lowest) (part own own_end (all_terms from)))
   pub shaped : IsShaped to
   pub alike : AreAlike to from
   pub ordered : AreOrdered to
@@ -112,11 +112,11 @@ pub record Merges (from : Terms) (step action lowest free_end own_end : ℕ) (fr
   pub owns : MayCome from to lowest own own_end
 
 pub first_merge : (from : Terms) (step action : ℕ) (chosen : Chosen) → 1 ≤ action
-    → AreChosen from.demands.items step action chosen → (to : Terms) → entries to ≡ []
+    → AreChosen from.demands.items step action chosen → (to : Terms) → all_terms to ≡ []
     → IsShaped to → AreAlike to from
     → Merges from step action (action * step) chosen.free chosen.end 0 chosen.start to
 first_merge from step action chosen some are to none shaped alike =
-    let es = entries from in
+    let es = all_terms from in
     let length_is : length to.demands.items ≡ 0 = sym (terms_count to) ∙ ap length none in
     record {
       merging = rw none (first_parts step action es (part 0 chosen.free es)
@@ -149,7 +149,7 @@ pub ordered_more : (ds new : List ℕ) (d : ℕ) → new ≡ ds ++ d ∷ [] → 
 ordered_more ds new d is ordered below =
     rw is (IsNonDecreasingBy-push (λ (e : ℕ). e) ds d ordered below)
 
-pub lowered_none : (e : Entry) → lowered 0 e ≡ e
+pub lowered_none : (e : Term) → lowered 0 e ≡ e
 lowered_none e = grind arith
 
 -- another term came
@@ -178,23 +178,23 @@ module _ {from : Terms} {step action lowest free_end own_end free own : ℕ} {to
     (sorted : AreOrdered from)
     (before : Merges from step action lowest free_end own_end free own to)
     (alike : AreAlike after to) (shaped : IsShaped after) where
-  abbrev left : ℕ → ℕ → ℕ → List Entry
-  left less i end = map (lowered less) (part i end (entries from))
+  abbrev left : ℕ → ℕ → ℕ → List Term
+  left less i end = map (lowered less) (part i end (all_terms from))
 
   first_left : {less next end : ℕ} → MayCome from to less next end → next < end
-      → left less next end ≡ lowered less (entry_at from next) ∷ left less (next + 1) end
+      → left less next end ≡ lowered less (term_at from next) ∷ left less (next + 1) end
   first_left may more = grind (arith, part_next, terms_count, there)
 
   -- one more term, made of those that come first, and the places of those that are next
-  one_more : {next_free next_own : ℕ} (e : Entry) (xs ys : List Entry)
-      → entries after ≡ entries to ++ e ∷ []
+  one_more : {next_free next_own : ℕ} (e : Term) (xs ys : List Term)
+      → all_terms after ≡ all_terms to ++ e ∷ []
       → left 0 free free_end ≡ xs ++ left 0 next_free free_end
       → left lowest own own_end ≡ ys ++ left lowest next_own own_end
       → ComeAsWell (xs ++ ys) (e ∷ []) → EndsBelow to.demands.items e.head.demands
       → MayCome from after 0 next_free free_end → MayCome from after lowest next_own own_end
       → Merges from step action lowest free_end own_end next_free next_own after
   one_more e xs ys is first second come ends frees owns = record {
-    merging = rw is (take_next step action (entries from) (entries to) _ _ xs ys e come
+    merging = rw is (take_next step action (all_terms from) (all_terms to) _ _ xs ys e come
         (rw (first, second) at before.merging));
     shaped = shaped;
     alike = (alike.0 ∙ before.alike.0, alike.1 ∙ before.alike.1);
@@ -206,10 +206,10 @@ module _ {from : Terms} {step action lowest free_end own_end free own : ℕ} {to
 
   pub free_goes : free < free_end
       → (own < own_end → demands_at from free ≤ demands_at from own - lowest)
-      → entries after ≡ entries to ++ lowered 0 (entry_at from free) ∷ []
+      → all_terms after ≡ all_terms to ++ lowered 0 (term_at from free) ∷ []
       → Merges from step action lowest free_end own_end (free + 1) own after
   free_goes less first is =
-      let t = lowered 0 (entry_at from free) in
+      let t = lowered 0 (term_at from free) in
       let grown = demands_more to after t is in
       one_more t (t ∷ []) [] is (first_left before.frees less) refl (same_come (t ∷ []))
       (before.frees.rises less)
@@ -218,10 +218,10 @@ module _ {from : Terms} {step action lowest free_end own_end free own : ℕ} {to
 
   pub own_goes : own < own_end
       → (free < free_end → demands_at from own - lowest ≤ demands_at from free)
-      → entries after ≡ entries to ++ lowered lowest (entry_at from own) ∷ []
+      → all_terms after ≡ all_terms to ++ lowered lowest (term_at from own) ∷ []
       → Merges from step action lowest free_end own_end free (own + 1) after
   own_goes less first is =
-      let t = lowered lowest (entry_at from own) in
+      let t = lowered lowest (term_at from own) in
       let grown = demands_more to after t is in
       one_more t [] (t ∷ []) is refl (first_left before.owns less) (same_come (t ∷ []))
       (before.owns.rises less) (waits grown before.frees (λ more. omega (arith, first more)))
@@ -229,11 +229,11 @@ module _ {from : Terms} {step action lowest free_end own_end free own : ℕ} {to
 
   pub both_go : free < free_end → own < own_end
       → demands_at from free ≡ demands_at from own - lowest
-      → HasSum (entry_at from free) (entry_at from own) (entries to) (entries after)
+      → HasSum (term_at from free) (term_at from own) (all_terms to) (all_terms after)
       → Merges from step action lowest free_end own_end (free + 1) (own + 1) after
   both_go free_less own_less same has =
-      let t = lowered 0 (entry_at from free) in
-      let u = lowered lowest (entry_at from own) in
+      let t = lowered 0 (term_at from free) in
+      let u = lowered lowest (term_at from own) in
       let grown = demands_more to after has.sum has.is in
       let first : has.sum.head.demands ≡ demands_at from free - 0 = omega (arith, has.demands) in
       let second : has.sum.head.demands ≡ demands_at from own - lowest =
@@ -248,10 +248,10 @@ module _ {from : Terms} {step action lowest free_end own_end free own : ℕ} {to
 
 pub last_merge : (from : Terms) (step action lowest free_end own_end free own : ℕ) (to : Terms)
     → Merges from step action lowest free_end own_end free own to → free_end ≤ free
-    → own_end ≤ own → AreMerged step action (entries from) (entries to)
+    → own_end ≤ own → AreMerged step action (all_terms from) (all_terms to)
 last_merge from step action lowest free_end own_end free own to done free_past own_past =
     rw (
-      part_past (entries from) free free_end free_past,
-      part_past (entries from) own own_end own_past,
-      append-nil (entries to),
+      part_past (all_terms from) free free_end free_past,
+      part_past (all_terms from) own own_end own_past,
+      append-nil (all_terms to),
     ) at done.merging

@@ -1,21 +1,21 @@
 -- Rows at the fastest digit, as what at most two terms come to.
-use Rattle.gf_form.proofs.Common.{asked_profiles, ℕ, full_profiles, strategies_at, first_entries}
+use Rattle.gf_form.proofs.Common.{asked_profiles, ℕ, full_profiles, strategies_at, first_terms}
 use Rattle.gf_form.proofs.Common.{one_fraction, get_or, ArePayoffsAt, IsSpellable, all_choices}
 use Rattle.gf_form.proofs.Common.{IsFraction, choices_by, HasPairRow, IsPaidPair, AreWritten}
 use Rattle.gf_form.proofs.Common.{zero_ratio, HasValues, AreChosen, IsScale, SettlesAt, steps_of}
-use Rattle.gf_form.proofs.Common.{entry_at, at_place, ◌≡◌, entries, lowered, Settles, length}
-use Rattle.gf_form.proofs.Common.{Option, IfSome, IsGame, Chosen, arith, Ratio, meets, Entry, value}
+use Rattle.gf_form.proofs.Common.{term_at, at_place, ◌≡◌, all_terms, lowered, Settles, length}
+use Rattle.gf_form.proofs.Common.{Option, IfSome, IsGame, Chosen, arith, Ratio, meets, Term, value}
 use Rattle.gf_form.proofs.Common.{Scale, Terms, ℤ, Asked, List, ◌++◌, Some, drop, lit<, true, Game}
 use Rattle.gf_form.proofs.Common.{part, ints, ◌+ℤ◌, ◌*ℤ◌, zero, suc, ◌+◌, ◌-◌, ◌*◌, ◌<◌, ◌≤◌, ◌^◌}
 use Rattle.gf_form.proofs.Common.{◌∷◌, map, ◌∙◌, pos, [], ap, all_both}
 use Rattle.gf_form.specs.declared.rows.written.Written.{Written}
-use Rattle.gf_form.specs.inner.rows.Pairs.{ComeToPair, IsOnly, IsPair, entry_of}
+use Rattle.gf_form.specs.inner.rows.Pairs.{ComeToPair, IsOnly, IsPair, only_term}
 use Rattle.gf_form.proofs.lemmas.rows.SettledRows.{settled_left}
 use Rattle.gf_form.specs.declared.rows.pairs.Only.{Only}
 use Rattle.gf_form.specs.declared.rows.pairs.Pair.{Pair}
 use Rattle.gf_form.proofs.lemmas.rows.DemandDigits.{spans_above}
 use Rattle.gf_form.proofs.lemmas.rows.FlatRows.{terms_count, there}
-use Rattle.gf_form.proofs.lemmas.rows.MergedEntries.{first_parts, sum_append}
+use Rattle.gf_form.proofs.lemmas.rows.MergedTerms.{first_parts, sum_append}
 use Rattle.gf_form.proofs.lemmas.rows.Merges.{part_next, part_past, ranges}
 use Rattle.gf_form.proofs.lemmas.rows.RowsMade.{all_more, one_row_more}
 use Rattle.gf_form.proofs.lemmas.strategies.PickedProfiles.{numbered_at}
@@ -26,11 +26,11 @@ use Rattle.gf_form.proofs.lemmas.rows.ItemRows.{all_by_place}
 -- ---- one term, or none
 
 pub one_only : (t : Terms) (start end : ℕ) (only : Only) → end ≤ length t.demands.items
-    → start < end → end - start ≤ 1 → only.head ≡ (entry_at t start).head
-    → only.numbers.now ≡ (entry_at t start).row → IsOnly (part start end (entries t)) only
+    → start < end → end - start ≤ 1 → only.head ≡ (term_at t start).head
+    → only.numbers.now ≡ (term_at t start).row → IsOnly (part start end (all_terms t)) only
 one_only t start end only within some one head row den less above divides =
     let count = terms_count t in
-    let all : part start end (entries t) ≡ entry_of only ∷ [] =
+    let all : part start end (all_terms t) ≡ only_term only ∷ [] =
     grind (arith, part_next, part_past, there) in
     grind arith
 
@@ -40,7 +40,7 @@ scaled_both : (x y : ℤ) (m n : ℕ) → x *ℤ pos m +ℤ pos 0 +ℤ (y *ℤ p
     ≡ x *ℤ pos m +ℤ y *ℤ pos n
 scaled_both x y m n = omega (arith, ints)
 
-pub come_to_pair : (frees owns : List Entry) (first second : Only) (s : Scale)
+pub come_to_pair : (frees owns : List Term) (first second : Only) (s : Scale)
     → IsOnly frees first → IsOnly owns second → IsScale first.head second.head s
     → 0 < s.den → s.den < 2 ^ 127 → s.size < 2 ^ 127 → (less : ℕ)
     → ComeToPair [] [] (map (lowered 0) frees ++ map (lowered less) owns)
@@ -52,7 +52,7 @@ come_to_pair frees owns first second s only_first only_second is above within sm
 
 -- ---- what is paid
 
-paid : (g : Game) (number : ℕ) (steps choices : List ℕ) (es : List Entry) (pair : Pair)
+paid : (g : Game) (number : ℕ) (steps choices : List ℕ) (es : List Term) (pair : Pair)
     → Settles g number steps choices es → ComeToPair steps choices es pair
     → IsPaidPair g number pair
 paid g number steps choices es pair settles come = grind arith
@@ -68,7 +68,7 @@ paid_pair g (n ∷ []) from least number action chosen pair one before is are co
     let whole : r ≡ r * 1 + 0 = omega arith in
     let choices : get_or (all_choices (n ∷ [])) r [] ≡ action ∷ [] =
     cc (choices_row n [] r 0 there (lit< tt)) in
-    let es = entries from in
+    let es = all_terms from in
     let merged = first_parts 1 action es (part 0 chosen.free es) (part chosen.free chosen.start es)
     (part chosen.start chosen.end es) (drop chosen.end es) (omega (arith, is))
     (ranges from 1 action (omega (arith, is)) chosen are) in
@@ -83,9 +83,9 @@ free_met (n ∷ ns) (c ∷ choices) = grind (arith, spans_above, free_met ns cho
 free_met ns choices = grind arith
 
 all_come : (t : Terms) (n : ℕ) → n ≤ 1 → get_or t.demands.items 0 0 ≡ 0 → (ns choices : List ℕ)
-    (pair : Pair) → ComeToPair [] [] (map (lowered 0) (part 0 n (first_entries t n))
-    ++ map (lowered 0) (part n n (first_entries t n))) pair
-    → ComeToPair (steps_of ns) choices (first_entries t n) pair
+    (pair : Pair) → ComeToPair [] [] (map (lowered 0) (part 0 n (first_terms t n))
+    ++ map (lowered 0) (part n n (first_terms t n))) pair
+    → ComeToPair (steps_of ns) choices (first_terms t n) pair
 all_come t zero few none ns choices pair come = grind arith
 all_come t (suc zero) few none ns choices pair come =
     let met = free_met ns choices in grind arith
@@ -98,7 +98,7 @@ pub paid_alike : (g : Game) (ns : List ℕ) (t : Terms) (least number all : ℕ)
     → IsPair t (record { action = 0; free = all; start = all; end = all }) pair
     → IsPaidPair g number pair
 paid_alike g ns t least number all pair few none all_is before come =
-    paid g number (steps_of ns) (get_or (all_choices ns) (number - least) []) (entries t) pair
+    paid g number (steps_of ns) (get_or (all_choices ns) (number - least) []) (all_terms t) pair
     before.settles
     (all_come t (length t.demands.items) few none ns _ pair (rw all_is at (come 0)))
 

@@ -1,16 +1,16 @@
 -- Terms that fit together over one denominator, and those of them that add something.
-use Rattle.gf_form.proofs.Common.{*ℤ-cancel_right, sum_of_entries, AllByRecursion, div-mul_cancel}
-use Rattle.gf_form.proofs.Common.{if◌then◌else◌, first_entries, unsigned_abs, AreExactAt, all_parts}
+use Rattle.gf_form.proofs.Common.{*ℤ-cancel_right, sum_of_terms, AllByRecursion, div-mul_cancel}
+use Rattle.gf_form.proofs.Common.{if◌then◌else◌, first_terms, unsigned_abs, AreExactAt, all_parts}
 use Rattle.gf_form.proofs.Common.{AreOrdered, number_at, SettlesAt, dvd_refl, all_both, *ℤ_assoc}
-use Rattle.gf_form.proofs.Common.{AreAlike, IsShaped, entry_at, zero-*ℤ, entries, lowered, add-one}
-use Rattle.gf_form.proofs.Common.{length, add-*ℤ, Global, arith, meets, Entry, Terms, refl, subst}
+use Rattle.gf_form.proofs.Common.{AreAlike, IsShaped, term_at, zero-*ℤ, all_terms, lowered, add-one}
+use Rattle.gf_form.proofs.Common.{length, add-*ℤ, Global, arith, meets, Term, Terms, refl, subst}
 use Rattle.gf_form.proofs.Common.{Game, ints, ◌+ℤ◌, ◌*ℤ◌, Bool, true, List, ◌++◌, zero, ◌≡◌, pos}
 use Rattle.gf_form.proofs.Common.{◌+◌, ◌*◌, ◌/◌, ◌<◌, ◌≤◌, ◌^◌, ◌∷◌, sym, ◌∙◌, ◌∣◌, suc, Vec, []}
 use Rattle.gf_form.proofs.Common.{ap, ℕ, ℤ}
 use Rattle.gf_fraction.proofs.Integers.{*ℤ_right_comm}
 use Rattle.gf_form.specs.inner.rows.Paying.{FitOver, IsOver, Kept, SettleAsWell, sizes_of}
 use Rattle.gf_form.proofs.lemmas.rows.FlatRows.{demands_more, itself, terms_count}
-use Rattle.gf_form.proofs.lemmas.rows.MergedEntries.{none_first, sum_append}
+use Rattle.gf_form.proofs.lemmas.rows.MergedTerms.{none_first, sum_append}
 use Rattle.gf_form.proofs.lemmas.rows.Merges.{MayCome, lowered_none, ordered_more, skips, waits}
 
 -- ---- all over one denominator
@@ -20,13 +20,13 @@ chosen : (b : Bool) (n : ℕ) (s : ℤ) (most : ℕ) → unsigned_abs s ≤ most
 chosen b n s most less = grind (arith, ints)
 
 module _ (den : ℕ) (above : 0 < den) (steps choices : List ℕ) where
-  are_exact : (es : List Entry) → AllByRecursion (IsOver den) es
+  are_exact : (es : List Term) → AllByRecursion (IsOver den) es
       → AreExactAt den steps choices es
   are_exact [] all = tt
   are_exact (e ∷ es) all = rw all.0 ((λ met. (above, dvd_refl den)), are_exact es all.1)
 
-  sizes_met : (es : List Entry) → AllByRecursion (IsOver den) es
-      → unsigned_abs (sum_of_entries 0 den steps choices es) ≤ sizes_of es
+  sizes_met : (es : List Term) → AllByRecursion (IsOver den) es
+      → unsigned_abs (sum_of_terms 0 den steps choices es) ≤ sizes_of es
   sizes_met [] all = omega arith
   sizes_met (e ∷ es) all = rw (all.0, itself den above)
       (chosen (meets steps choices e.head.demands) e.head.size _ _ (sizes_met es all.1))
@@ -47,10 +47,10 @@ module _ (k den most : ℕ) (above : 0 < den) (steps choices : List ℕ) where
       ≡ (if b then z *ℤ pos (den / d) else pos 0) *ℤ pos most
   one_scaled b z d same exact = grind (arith, over_most, zero-*ℤ)
 
-  all_scaled : (es : List Entry) → AllByRecursion (IsOver den) es
+  all_scaled : (es : List Term) → AllByRecursion (IsOver den) es
       → AreExactAt most steps choices es
-      → sum_of_entries k most steps choices es *ℤ pos den
-      ≡ sum_of_entries k den steps choices es *ℤ pos most
+      → sum_of_terms k most steps choices es *ℤ pos den
+      ≡ sum_of_terms k den steps choices es *ℤ pos most
   all_scaled [] all exact = zero-*ℤ (pos den) ∙ sym (zero-*ℤ (pos most))
   all_scaled (e ∷ es) all exact =
       let later = all_scaled es all.1 exact.1 in
@@ -60,7 +60,7 @@ module _ (k den most : ℕ) (above : 0 < den) (steps choices : List ℕ) where
 
 -- ---- some of the terms
 
-kept_next : (es left : List Entry) (e f : Entry) → f.head.demands ≡ e.head.demands
+kept_next : (es left : List Term) (e f : Term) → f.head.demands ≡ e.head.demands
     → ((k : ℕ) → number_at (suc k) f ≡ number_at (suc k) e) → f.head.den ≡ e.head.den
     → Kept es left → Kept (es ++ e ∷ []) (left ++ f ∷ [])
 kept_next es left e f demands numbers den before = record {
@@ -70,31 +70,31 @@ kept_next es left e f demands numbers den before = record {
       (den ∙ parts.1.0, tt);
 }
 
-kept_more : (es left : List Entry) (e : Entry) → Kept es left → Kept (es ++ e ∷ []) (left ++ e ∷ [])
+kept_more : (es left : List Term) (e : Term) → Kept es left → Kept (es ++ e ∷ []) (left ++ e ∷ [])
 kept_more es left e = kept_next es left e e refl (λ k. refl) refl
 
-kept_zero : (es left : List Entry) (e : Entry) → ((k : ℕ) → number_at (suc k) e ≡ pos 0)
+kept_zero : (es left : List Term) (e : Term) → ((k : ℕ) → number_at (suc k) e ≡ pos 0)
     → Kept es left → Kept (es ++ e ∷ []) left
 kept_zero es left e none before = record {
   sums = grind (arith, none_first, sum_append);
   among = λ den all. before.among den (all_parts (IsOver den) es (e ∷ []) all).0;
 }
 
-pub settled_as_well : (from left : Terms) (den : ℕ) → FitOver den (entries from)
-    → Kept (entries from) (entries left) → SettleAsWell from left
+pub settled_as_well : (from left : Terms) (den : ℕ) → FitOver den (all_terms from)
+    → Kept (all_terms from) (all_terms left) → SettleAsWell from left
 settled_as_well from left den fit kept g number steps choices settles k less most above within exact
     small =
     let all = fit.dens in
     let base = settles k less den fit.above fit.within
-    (are_exact den fit.above steps choices (entries from) all)
+    (are_exact den fit.above steps choices (all_terms from) all)
     (grind (arith, sizes_met)) in
-    let whole = sum_of_entries (suc k) den steps choices (entries from) in
-    let left_whole = sum_of_entries (suc k) most steps choices (entries left) in
+    let whole = sum_of_terms (suc k) den steps choices (all_terms from) in
+    let left_whole = sum_of_terms (suc k) most steps choices (all_terms left) in
     let num = base.payoff.num in
     let own = base.payoff.den in
     let same : whole *ℤ pos most ≡ left_whole *ℤ pos den =
     ap (λ (z : ℤ). z *ℤ pos most) (sym (kept.sums k den steps choices))
-    ∙ sym (all_scaled (suc k) den most fit.above steps choices (entries left) (kept.among den all)
+    ∙ sym (all_scaled (suc k) den most fit.above steps choices (all_terms left) (kept.among den all)
     exact) in
     record {
       payoff = base.payoff;
@@ -111,29 +111,29 @@ settled_as_well from left den fit kept g number steps choices settles k less mos
 -- ---- while they are gone over
 
 pub record Paying (from : Terms) (i : ℕ) (left : Terms) : Type 0 where
-  pub kept : Kept (first_entries from i) (entries left)
+  pub kept : Kept (first_terms from i) (all_terms left)
   pub shaped : IsShaped left
   pub alike : AreAlike left from
   pub ordered : AreOrdered left
   pub may : MayCome from left 0 i (length from.demands.items)
 
-pub first_paying : (from left : Terms) → entries left ≡ [] → IsShaped left
+pub first_paying : (from left : Terms) → all_terms left ≡ [] → IsShaped left
     → AreAlike left from → Paying from 0 left
 first_paying from left none shaped alike = grind (arith, terms_count)
 
 module _ (from : Terms) (i : ℕ) (left : Terms) (sorted : AreOrdered from)
     (less : i < length from.demands.items) (before : Paying from i left) where
-  one_more : first_entries from (i + 1) ≡ first_entries from i ++ entry_at from i ∷ []
-  one_more = ap (first_entries from) (add-one i)
+  one_more : first_terms from (i + 1) ≡ first_terms from i ++ term_at from i ∷ []
+  one_more = ap (first_terms from) (add-one i)
 
-  pub more_paying : (after : Terms) → entries after ≡ entries left
-      ++ lowered 0 (entry_at from i) ∷ []
+  pub more_paying : (after : Terms) → all_terms after ≡ all_terms left
+      ++ lowered 0 (term_at from i) ∷ []
       → AreAlike after left → IsShaped after → Paying from (i + 1) after
   more_paying after is alike shaped =
-      let grown = demands_more left after (lowered 0 (entry_at from i)) is in
+      let grown = demands_more left after (lowered 0 (term_at from i)) is in
       record {
-        kept = rw (one_more, is, lowered_none (entry_at from i))
-            (kept_more (first_entries from i) (entries left) (entry_at from i) before.kept);
+        kept = rw (one_more, is, lowered_none (term_at from i))
+            (kept_more (first_terms from i) (all_terms left) (term_at from i) before.kept);
         shaped = shaped;
         alike = (alike.0 ∙ before.alike.0, alike.1 ∙ before.alike.1);
         ordered = ordered_more left.demands.items after.demands.items _ grown before.ordered
@@ -141,18 +141,18 @@ module _ (from : Terms) (i : ℕ) (left : Terms) (sorted : AreOrdered from)
         may = skips sorted (waits grown before.may (λ _. omega arith)) less;
       }
 
-  pub same_paying : ((k : ℕ) → number_at (suc k) (entry_at from i) ≡ pos 0)
+  pub same_paying : ((k : ℕ) → number_at (suc k) (term_at from i) ≡ pos 0)
       → Paying from (i + 1) left
   same_paying none =
       let may = skips sorted before.may less in grind (arith, one_more, kept_zero)
 
 -- those of terms that were put over one denominator
 pub last_paying : (from plain left : Terms) (i den : ℕ) → i ≡ length plain.demands.items
-    → FitOver den (entries from) → Kept (entries from) (entries plain) → Paying plain i left
+    → FitOver den (all_terms from) → Kept (all_terms from) (all_terms plain) → Paying plain i left
     → SettleAsWell from left
 last_paying from plain left i den all fit first done =
-    let second : Kept (entries plain) (entries left) =
-    subst (λ (n : ℕ). Kept (first_entries plain n) (entries left)) all done.kept in
+    let second : Kept (all_terms plain) (all_terms left) =
+    subst (λ (n : ℕ). Kept (first_terms plain n) (all_terms left)) all done.kept in
     settled_as_well from left den fit (record {
       sums = λ k own steps choices.
           second.sums k own steps choices ∙ first.sums k own steps choices;
@@ -163,41 +163,41 @@ last_paying from plain left i den all fit first done =
 
 pub kept_over : (from plain : Terms) → plain.players ≡ from.players
     → plain.demands ≡ from.demands → plain.numbers ≡ from.numbers → plain.scaled.items ≡ []
-    → FitOver plain.den (entries from) → Kept (entries from) (entries plain)
+    → FitOver plain.den (all_terms from) → Kept (all_terms from) (all_terms plain)
 kept_over from plain players demands numbers none fit =
-    subst (λ (n : ℕ). Kept (entries from) (first_entries plain n))
+    subst (λ (n : ℕ). Kept (all_terms from) (first_terms plain n))
     (ap (λ (v : Vec ℕ Global). length v.items) (sym demands))
     (all (length from.demands.items) fit.dens)
   where
-    all : (n : ℕ) → AllByRecursion (IsOver plain.den) (first_entries from n)
-        → Kept (first_entries from n) (first_entries plain n)
+    all : (n : ℕ) → AllByRecursion (IsOver plain.den) (first_terms from n)
+        → Kept (first_terms from n) (first_terms plain n)
     all zero over = record { sums = λ k most steps choices. refl; among = λ most over. tt }
     all (suc n) over =
-        let parts = all_parts (IsOver plain.den) (first_entries from n) (entry_at from n ∷ []) over
+        let parts = all_parts (IsOver plain.den) (first_terms from n) (term_at from n ∷ []) over
         in
-        kept_next (first_entries from n) (first_entries plain n) (entry_at from n)
-        (entry_at plain n) (grind arith) (λ k. grind arith) (grind arith) (all n parts.0)
+        kept_next (first_terms from n) (first_terms plain n) (term_at from n)
+        (term_at plain n) (grind arith) (λ k. grind arith) (grind arith) (all n parts.0)
 
 -- ---- whether they fit
 
 -- the first terms, so many
 pub record Fitting (den size : ℕ) (t : Terms) (i : ℕ) : Type 0 where
-  pub dens : AllByRecursion (IsOver den) (first_entries t i)
-  pub sizes : sizes_of (first_entries t i) ≡ size
+  pub dens : AllByRecursion (IsOver den) (first_terms t i)
+  pub sizes : sizes_of (first_terms t i) ≡ size
   pub within : size < 2 ^ 127
 
-sizes_append : (xs ys : List Entry) → sizes_of (xs ++ ys) ≡ sizes_of xs + sizes_of ys
+sizes_append : (xs ys : List Term) → sizes_of (xs ++ ys) ≡ sizes_of xs + sizes_of ys
 sizes_append [] ys = omega arith
 sizes_append (x ∷ xs) ys = omega (arith, sizes_append xs ys)
 
-pub more_fitting : (den size more : ℕ) (t : Terms) (i : ℕ) → (entry_at t i).head.den ≡ den
-    → more ≡ size + (entry_at t i).head.size → more < 2 ^ 127
+pub more_fitting : (den size more : ℕ) (t : Terms) (i : ℕ) → (term_at t i).head.den ≡ den
+    → more ≡ size + (term_at t i).head.size → more < 2 ^ 127
     → Fitting den size t i → Fitting den more t (i + 1)
 more_fitting den size more t i same sum within before =
     let next = add-one i in grind (arith, all_both, sizes_append)
 
 pub all_fit : (t : Terms) (den size i : ℕ) → i ≡ length t.demands.items
-    → Fitting den size t i → 0 < den → den < 2 ^ 127 → FitOver den (entries t)
+    → Fitting den size t i → 0 < den → den < 2 ^ 127 → FitOver den (all_terms t)
 all_fit t den size i all done above within = grind arith
 
 -- ---- profiles

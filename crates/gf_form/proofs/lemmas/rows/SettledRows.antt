@@ -1,7 +1,8 @@
 -- What is left of terms once an action is chosen, and the profiles that it settles.
 use Rattle.gf_form.proofs.Common.{mul-le-mul_right, mul-div_cancel, all_choices, SettleRows, get_or}
-use Rattle.gf_form.proofs.Common.{AreMerged, SettlesAt, steps_of, cases_lt, product, entries, arith}
-use Rattle.gf_form.proofs.Common.{Settles, spans, Entry, Asked, Terms, subst, List, Game, ◌≡◌, ◌+◌}
+use Rattle.gf_form.proofs.Common.{AreMerged, SettlesAt, steps_of, cases_lt, product, all_terms}
+use Rattle.gf_form.proofs.Common.{arith}
+use Rattle.gf_form.proofs.Common.{Settles, spans, Term, Asked, Terms, subst, List, Game, ◌≡◌, ◌+◌}
 use Rattle.gf_form.proofs.Common.{◌-◌, ◌*◌, ◌/◌, ◌<◌, ◌≤◌, ◌^◌, ◌⊎◌, inl, inr, ◌∷◌, ◌∙◌, Run, [], ℕ}
 use Rattle.gf_form.proofs.Common.{ap}
 use Rattle.gf_form.proofs.lemmas.strategies.StrategiesByNumber.{choices_row, positive_parts}
@@ -21,7 +22,7 @@ pub choice_of : (n count least number : ℕ) → least ≤ number → number - l
 choice_of n count least number from to = grind arith
 
 pub settled_left : (g : Game) (number step action : ℕ) (steps choices : List ℕ)
-    (es left : List Entry) → AreMerged step action es left
+    (es left : List Term) → AreMerged step action es left
     → Settles g number (step ∷ steps) (action ∷ choices) es → Settles g number steps choices left
 settled_left g number step action steps choices es left merged settles k less den above within exact
     small = grind arith
@@ -29,7 +30,7 @@ settled_left g number step action steps choices es left merged settles k less de
 settled_after : (g : Game) (n : ℕ) (ns : List ℕ) (terms left : Terms)
     (least number b first : ℕ) → SettlesAt g (n ∷ ns) terms least number → b < n
     → first ≡ least + b * product ns → first ≤ number → number - first < product ns
-    → AreMerged (product (spans ns)) (b + 1) (entries terms) (entries left)
+    → AreMerged (product (spans ns)) (b + 1) (all_terms terms) (all_terms left)
     → SettlesAt g ns left first number
 settled_after g n ns terms left least number b first before less is from to merged = record {
   from = from;
@@ -40,7 +41,7 @@ settled_after g n ns terms left least number b first before less is from to merg
       let choices : get_or (all_choices (n ∷ ns)) (number - least) []
       ≡ (b + 1) ∷ get_or (all_choices ns) r [] = cc (choices_row n ns b r less to) in
       settled_left g number (product (spans ns)) (b + 1) (steps_of ns)
-      (get_or (all_choices ns) r []) (entries terms) (entries left) merged
+      (get_or (all_choices ns) r []) (all_terms terms) (all_terms left) merged
       (rw choices at before.settles);
 }
 
@@ -81,7 +82,7 @@ module _ (asked : Asked) {n : ℕ} {ns : List ℕ} {terms : Terms} (run : Run)
           omega (arith, most, bound)
 
       pub settled_next : (step to : ℕ) (left : Terms) → step ≡ product (spans ns)
-          → AreMerged step (before + 1) (entries terms) (entries left) → to ≤ run.to
+          → AreMerged step (before + 1) (all_terms terms) (all_terms left) → to ≤ run.to
           → ((i : ℕ) → run.from + 1 ≤ i → i < to
           → (first ≤ number i) × (number i < first + stride))
           → (i : ℕ) → run.from ≤ i → i < to → SettlesAt asked.game.now ns left first (number i)
@@ -91,7 +92,7 @@ module _ (asked : Asked) {n : ℕ} {ns : List ℕ} {terms : Terms} (run : Run)
           (settles i more (omega (arith, less, most))) choice.less
           (ap (λ (s : ℕ). run.first + before * s) stride_product) range.0
           (omega (arith, range.0, range.1, stride_product))
-          (subst (λ (s : ℕ). AreMerged s (before + 1) (entries terms) (entries left)) is merged)
+          (subst (λ (s : ℕ). AreMerged s (before + 1) (all_terms terms) (all_terms left)) is merged)
         where
           at : (run.from < i) ⊎ (i ≤ run.from)
               → (first ≤ number i) × (number i < first + stride)

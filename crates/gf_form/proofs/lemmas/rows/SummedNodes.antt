@@ -1,15 +1,15 @@
 -- Nodes that differ in weight alone have the shares of their sum.
 use Rattle.gf_form.proofs.Common.{All-from_recursion, recursion_from_All, All-permutation, Reached}
-use Rattle.gf_form.proofs.Common.{sum_of_entries, if◌then◌else◌, IsPermutation, map-append, add-*ℤ}
+use Rattle.gf_form.proofs.Common.{sum_of_terms, if◌then◌else◌, IsPermutation, map-append, add-*ℤ}
 use Rattle.gf_form.proofs.Common.{node_terms, AreTermsOf, ComeAsWell, IsExactAt, node_term, pay_at}
-use Rattle.gf_form.proofs.Common.{number_at, MatchBool, false, arith, subst, meets, Entry, zero, []}
+use Rattle.gf_form.proofs.Common.{number_at, MatchBool, false, arith, subst, meets, Term, zero, []}
 use Rattle.gf_form.proofs.Common.{◌*ℤ◌, Bool, true, List, ◌++◌, refl, ◌+ℤ◌, ints, Game, ◌≡◌, suc, ℕ}
 use Rattle.gf_form.proofs.Common.{pos, ◌+◌, ◌∷◌, sym, ◌∙◌, ◌/◌, ap, ℤ}
 use Rattle.std.specs.List.Retain.{DedupsFrom, IsDeduped}
 use Rattle.std.proofs.lemmas.List.Sorted.{sum_by-IsPermutation, IsPermutation-map}
 use Rattle.std.proofs.lemmas.List.Sorted.{IsPermutation-sym}
 use Rattle.gf_form.specs.inner.rows.SummedNodes.{HaveSharesOf, IsNodeSum, weighing}
-use Rattle.gf_form.proofs.lemmas.rows.MergedEntries.{come_both, same_come}
+use Rattle.gf_form.proofs.lemmas.rows.MergedTerms.{come_both, same_come}
 use borrow.Author.Differences.{sum_is_lem, same_in, down, up}
 use Rattle.std.specs.List.{sum_by}
 use Rattle.std.proofs.lemmas.List.Sums.{sum_by-cons}
@@ -17,15 +17,15 @@ use Rattle.std.proofs.lemmas.List.Sums.{sum_by-cons}
 -- ---- terms in another order
 
 module _ (k den : ℕ) (steps choices : List ℕ) where
-  abbrev counted : Entry → ℤ
+  abbrev counted : Term → ℤ
   counted e = if meets steps choices e.head.demands
       then number_at k e *ℤ pos (den / e.head.den) else pos 0
 
-  abbrev total : List Entry → ℤ
-  total es = sum_of_entries k den steps choices es
+  abbrev total : List Term → ℤ
+  total es = sum_of_terms k den steps choices es
 
   -- the sum of integers as a difference of two sums
-  as_sizes : (es : List Entry) → up (total es) + sum_by (λ e. down (counted e)) es
+  as_sizes : (es : List Term) → up (total es) + sum_by (λ e. down (counted e)) es
       ≡ sum_by (λ e. up (counted e)) es + down (total es)
   as_sizes [] = refl
   as_sizes (e ∷ es) = omega (
@@ -36,13 +36,13 @@ module _ (k den : ℕ) (steps choices : List ℕ) where
     sum_by-cons (λ e. down (counted e)) e es,
   )
 
-  sum_permuted : (es fs : List Entry) → IsPermutation es fs → total es ≡ total fs
+  sum_permuted : (es fs : List Term) → IsPermutation es fs → total es ≡ total fs
   sum_permuted es fs h =
       let ups = sum_by-IsPermutation (λ e. up (counted e)) es fs h in
       let downs = sum_by-IsPermutation (λ e. down (counted e)) es fs h in
       same_in (total es) (total fs) (omega (arith, as_sizes es, as_sizes fs, ups, downs))
 
-come_permuted : (es fs : List Entry) → IsPermutation es fs → ComeAsWell es fs
+come_permuted : (es fs : List Term) → IsPermutation es fs → ComeAsWell es fs
 come_permuted es fs order den steps choices all = record {
   exact = let P = IsExactAt den steps choices in
       recursion_from_All P es
@@ -93,13 +93,13 @@ weights_sum r w b g player den steps choices exact = record {
       (number_at k sum) (den / one.head.den) (added k);
 }
   where
-    one : Entry
+    one : Term
     one = node_term g player r
 
-    other : Entry
+    other : Term
     other = node_term g player (weighing r w b)
 
-    sum : Entry
+    sum : Term
     sum = node_term g player (weighing r (r.path.weight + w) (r.path.bound + b))
 
     added : (k : ℕ) → number_at k one +ℤ number_at k other ≡ number_at k sum
@@ -147,7 +147,7 @@ module _ {F : Type 0} (R : F → Reached → Reached → Bool → F → Reached 
 -- ---- terms
 
 -- the terms of nodes are terms of those whose shares they have
-pub terms_of_sums : (g : Game) (players : ℕ) (rs ss : List Reached) (es : List Entry)
+pub terms_of_sums : (g : Game) (players : ℕ) (rs ss : List Reached) (es : List Term)
     → ((k : ℕ) → ComeAsWell (node_terms g (suc k) rs) (node_terms g (suc k) ss))
     → AreTermsOf g players ss es → AreTermsOf g players rs es
 terms_of_sums g players rs ss es have told k less den steps choices exact =

@@ -1,13 +1,13 @@
 -- The digits of the sets along a path, and the nodes below it whose demands choices meet: those
 -- that the choices reach, if they meet the digits.
-use Rattle.gf_form.proofs.Common.{AllByRecursion, InformationSet, sum_of_entries, if◌then◌else◌, []}
+use Rattle.gf_form.proofs.Common.{AllByRecursion, InformationSet, sum_of_terms, if◌then◌else◌, []}
 use Rattle.gf_form.proofs.Common.{mod-eq_of_lt, MatchOption, flatten_all, HasChildren, option_map}
 use Rattle.gf_form.proofs.Common.{chances_at, append-nil, node_terms, AreExactAt, eqb-false, ne_eqb}
 use Rattle.gf_form.proofs.Common.{all_parts, below_set, by_action, by_choice, AreDigits, IsDigitOf}
 use Rattle.gf_form.proofs.Common.{by_chance, eqb-true, steps_of, demanded, over_set, flatten, false}
 use Rattle.gf_form.proofs.Common.{product, by_each, reached, Reached, eq-eqb, Option, length, arith}
 use Rattle.gf_form.proofs.Common.{get_or, branch, SetKey, set_at, +ℤ_idl, FitsAt, Trees, count, ◌∷◌}
-use Rattle.gf_form.proofs.Common.{meets, spans, drawn, Entry, Ratio, zero, Bool, true, List, ◌++◌}
+use Rattle.gf_form.proofs.Common.{meets, spans, drawn, Term, Ratio, zero, Bool, true, List, ◌++◌}
 use Rattle.gf_form.proofs.Common.{Some, refl, ◌==◌, ◌&&◌, Tree, none, more, Game, Node, Path, ◌≡◌}
 use Rattle.gf_form.proofs.Common.{suc, ◌+◌, ◌^◌, ◌<◌, ◌≤◌, set, ◌-◌, ℕ}
 use Rattle.gf_form.specs.inner.rows.ReachedNodes.{met_node, taken}
@@ -205,11 +205,11 @@ module _ {g : Game} {steps choose : SetKey → ℕ} {actions choices : List ℕ}
 
 -- what the nodes that are met come to
 module _ (g : Game) (player den : ℕ) (steps choices : List ℕ) where
-  abbrev terms : List Reached → List Entry
+  abbrev terms : List Reached → List Term
   terms rs = node_terms g player rs
 
-  pub met_sum : (k : ℕ) (rs : List Reached) → sum_of_entries k den steps choices (terms rs)
-      ≡ sum_of_entries k den [] [] (terms (met_nodes steps choices rs))
+  pub met_sum : (k : ℕ) (rs : List Reached) → sum_of_terms k den steps choices (terms rs)
+      ≡ sum_of_terms k den [] [] (terms (met_nodes steps choices rs))
   met_sum k [] = refl
   met_sum k (r ∷ rs) = grind (arith, met_sum k rs, +ℤ_idl)
 

@@ -16,8 +16,8 @@ use Rattle.gf_form.specs.inner.rows.ReachedNodes.{has_room}
 use Rattle.gf_form.proofs.lemmas.rows.OverOneDenominator.{quotient_of_product, quotient_above}
 use Rattle.gf_form.proofs.lemmas.rows.OverOneDenominator.{product_over, quotient_le, own_value}
 use Rattle.gf_form.proofs.lemmas.rows.OverOneDenominator.{sum_over, sum_size}
-use Rattle.gf_form.proofs.lemmas.rows.MergedEntries.{none_first}
-use Rattle.gf_form.proofs.lemmas.rows.ListedEntries.{bounds_append, shares_append}
+use Rattle.gf_form.proofs.lemmas.rows.MergedTerms.{none_first}
+use Rattle.gf_form.proofs.lemmas.rows.ListedTerms.{bounds_append, shares_append}
 use Rattle.gf_form.proofs.lemmas.values.ValuesComputed.{zero_fraction, none_times, times_zero}
 use Rattle.gf_form.proofs.lemmas.values.ValuesComputed.{plus_zero, zero_plus}
 

@@ -9,7 +9,7 @@ use Rattle.gf_form.proofs.Common.{SetKey, payoff, branch, Option, AddsTo, plays,
 use Rattle.gf_form.proofs.Common.{Step, Node, none, zero, Some, more, refl, Play, Tree, List, Game}
 use Rattle.gf_form.proofs.Common.{None, ◌≡◌, sym, suc, ◌+◌, ◌∙◌, map, ap, ℕ}
 use Rattle.gf_form.proofs.lemmas.values.BottomUp.{payoff_is, shares, first}
-use Rattle.gf_tree.specs.PrefixOrder.{Entry}
+use Rattle.gf_tree.specs.PrefixOrder.{Listed}
 
 -- ---- plays by other nodes
 
@@ -57,7 +57,7 @@ module _ (P : Node → Type 0) where
         → AllByRecursion OnPlay (plays_from n k ts)
     on_children none n k here h = tt
     on_children (more t ts) n k here h =
-        let both = all_parts (λ (e : Entry Node). P e.node) (flatten t) (flatten_all ts) h in
+        let both = all_parts (λ (e : Listed Node). P e.node) (flatten t) (flatten_all ts) h in
         all_both OnPlay (map (from_node n k) (plays t)) (plays_from n (k + 1) ts)
         (all_images OnPlay (from_node n k) (plays t)
         (all_weaker OnPlay (λ p. OnPlay (from_node n k p)) (λ p on. ((here, on.0), on.1)) (plays t)
@@ -76,7 +76,7 @@ module _ (g h : Game) (c d : SetKey → ℕ) (player : ℕ) (f : Node → Node) 
     pub moves : MatchOption n.set ((f n).set ≡ None) (λ key. (other : SetKey)
         × ((f n).set ≡ Some other) × ((other.player == 0) ≡ (key.player == 0)) × (d other ≡ c key))
 
-  abbrev pub AreAlike : List (Entry Node) → Type 0
+  abbrev pub AreAlike : List (Listed Node) → Type 0
   AreAlike es = AllByRecursion (λ e. IsAlike e.node) es
 
   mutual
@@ -94,7 +94,7 @@ module _ (g h : Game) (c d : SetKey → ℕ) (player : ℕ) (f : Node → Node) 
         ≡ shares g c player chance paid (plays_from n k ts)
     children_alike none n k chance paid a all = refl
     children_alike (more t ts) n k chance paid a all =
-        let both = all_parts (λ (e : Entry Node). IsAlike e.node) (flatten t) (flatten_all ts)
+        let both = all_parts (λ (e : Listed Node). IsAlike e.node) (flatten t) (flatten_all ts)
         all in
         let drawn = times chance (chances_at g n k) in
         let after = plus paid (payoff_at g player n) in

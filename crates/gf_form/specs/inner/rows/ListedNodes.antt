@@ -3,7 +3,7 @@ use Rattle.std.specs.Prelude.{◌≡◌, ℕ, ℤ, suc, ◌<◌, ◌≤◌, List
 use Rattle.std.specs.Prelude.{unsigned_abs}
 use Rattle.gf_fraction.specs.Ratio.{IsWithin, Ratio}
 use Rattle.gf_tree.specs.Game.{Game}
-use Rattle.gf_form.specs.inner.rows.Entries.{AreExactAt, Entry, entries, number_at, sum_of_entries}
+use Rattle.gf_form.specs.inner.rows.TermLists.{AreExactAt, Term, all_terms, number_at, sum_of_terms}
 use Rattle.gf_form.specs.inner.values.Rows.{ArePaid}
 use Rattle.gf_form.specs.inner.rows.Shares.{AreExactShares, met_bounds, sum_of_shares}
 use Rattle.gf_form.specs.declared.rows.paths.Reached.{Reached}
@@ -25,8 +25,8 @@ IsShareAt rows rs over k number = IsWithin number
 -- one more term, which has these demands, and says what these nodes add if it is known to fit
 pub record IsTermMore (rows : List (List Ratio)) (demands : ℕ) (rs : List Reached) (old new : Terms)
     : Type 0 where
-  pub term : Entry
-  pub is : entries new ≡ entries old ++ term ∷ []
+  pub term : Term
+  pub is : all_terms new ≡ all_terms old ++ term ∷ []
   pub demands_are : term.head.demands ≡ demands
   pub says : (k : ℕ) → k < old.players → 0 < term.head.den → (g : Game) → ArePaid g rows
       → HasShares g rs k term.head.den term.head.size (number_at (suc k) term)
@@ -34,14 +34,14 @@ pub record IsTermMore (rows : List (List Ratio)) (demands : ℕ) (rs : List Reac
 -- over this denominator and at these choices, the terms come to the shares of a player, by his
 -- place from 0, in the nodes that the choices reach
 pub record Tells (g : Game) (k den : ℕ) (steps choices : List ℕ) (rs : List Reached)
-    (es : List Entry) : Type 0 where
+    (es : List Term) : Type 0 where
   pub exact : AreExactShares g (suc k) den steps choices rs
   pub sums : sum_of_shares g (suc k) den steps choices rs
-      ≡ sum_of_entries (suc k) den steps choices es
+      ≡ sum_of_terms (suc k) den steps choices es
   pub bounds : met_bounds g (suc k) den steps choices rs
-      ≤ unsigned_abs (sum_of_entries 0 den steps choices es)
+      ≤ unsigned_abs (sum_of_terms 0 den steps choices es)
 
 -- the terms say what these nodes add
-abbrev pub AreTermsOf : Game → ℕ → List Reached → List Entry → Type 0
+abbrev pub AreTermsOf : Game → ℕ → List Reached → List Term → Type 0
 AreTermsOf g players rs es = (k : ℕ) → k < players → (den : ℕ) (steps choices : List ℕ)
     → AreExactAt den steps choices es → Tells g k den steps choices rs es

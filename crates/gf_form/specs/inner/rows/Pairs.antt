@@ -5,8 +5,8 @@ use Rattle.std.specs.Prelude.{◌++◌, length, map}
 use Rattle.std.specs.Int.{◌∣◌}
 use Rattle.gf_fraction.specs.Ratio.{HasValue, IsFraction, IsWithin, Ratio}
 use Rattle.gf_tree.specs.Game.{Game}
-use Rattle.gf_form.specs.inner.rows.Entries.{AreExactAt, ComeTo, Entry, entries, lowered, part}
-use Rattle.gf_form.specs.inner.rows.Entries.{sum_of_entries}
+use Rattle.gf_form.specs.inner.rows.TermLists.{AreExactAt, ComeTo, Term, all_terms, lowered, part}
+use Rattle.gf_form.specs.inner.rows.TermLists.{sum_of_terms}
 use Rattle.gf_form.specs.inner.rows.ItemRows.{HasRow}
 use Rattle.gf_form.specs.inner.rows.SettledRows.{PaysOver}
 use Rattle.gf_form.specs.declared.rows.chosen.Chosen.{Chosen}
@@ -14,14 +14,14 @@ use Rattle.gf_form.specs.declared.rows.pairs.Only.{Only}
 use Rattle.gf_form.specs.declared.rows.pairs.Pair.{Pair}
 use Rattle.gf_form.specs.declared.rows.terms.Terms.{Terms}
 
-abbrev pub entry_of : Only → Entry
-entry_of only = record { head = only.head; row = only.numbers.now }
+abbrev pub only_term : Only → Term
+only_term only = record { head = only.head; row = only.numbers.now }
 
 -- Terms that demand nothing more, their demands lowered by anything, come to this one, over each
 -- denominator that its own divides.
-abbrev pub IsOnly : List Entry → Only → Type 0
+abbrev pub IsOnly : List Term → Only → Type 0
 IsOnly es only = (den less : ℕ) → 0 < only.head.den → only.head.den ∣ den
-    → ComeTo den [] [] (map (lowered less) es) [] [] (entry_of only ∷ [])
+    → ComeTo den [] [] (map (lowered less) es) [] [] (only_term only ∷ [])
 
 -- what the pair has for the player at this place, from 0
 abbrev pub pair_number : Pair → ℕ → ℤ
@@ -29,18 +29,18 @@ pair_number pair k = get_or pair.first.now k (pos 0) *ℤ pos pair.scale.first
     +ℤ get_or pair.second.now k (pos 0) *ℤ pos pair.scale.second
 
 -- at these choices the terms come to the pair, which fits
-pub record ComeToPair (steps choices : List ℕ) (es : List Entry) (pair : Pair) : Type 0 where
+pub record ComeToPair (steps choices : List ℕ) (es : List Term) (pair : Pair) : Type 0 where
   pub above : 0 < pair.scale.den
   pub within : pair.scale.den < 2 ^ 127
   pub exact : AreExactAt pair.scale.den steps choices es
-  pub size : IsWithin (sum_of_entries 0 pair.scale.den steps choices es)
-  pub sums : (k : ℕ) → sum_of_entries (suc k) pair.scale.den steps choices es ≡ pair_number pair k
+  pub size : IsWithin (sum_of_terms 0 pair.scale.den steps choices es)
+  pub sums : (k : ℕ) → sum_of_terms (suc k) pair.scale.den steps choices es ≡ pair_number pair k
 
 -- the pair is what the terms come to that are chosen, if they demand nothing more
 abbrev pub IsPair : Terms → Chosen → Pair → Type 0
 IsPair t chosen pair = (less : ℕ)
-    → ComeToPair [] [] (map (lowered 0) (part 0 chosen.free (entries t))
-    ++ map (lowered less) (part chosen.start chosen.end (entries t))) pair
+    → ComeToPair [] [] (map (lowered 0) (part 0 chosen.free (all_terms t))
+    ++ map (lowered less) (part chosen.start chosen.end (all_terms t))) pair
 
 -- the pair is what is paid at the profile with this number, from 0, among all
 pub record IsPaidPair (g : Game) (number : ℕ) (pair : Pair) : Type 0 where

@@ -9,8 +9,8 @@ use Rattle.gf_tree.specs.Game.{Game}
 use Rattle.gf_tree.specs.Spellable.{IsSpellable}
 use Rattle.gf_form.specs.inner.strategies.Counted.{AreCounts}
 use Rattle.gf_form.specs.inner.rows.Demands.{steps_of}
-use Rattle.gf_form.specs.inner.rows.Entries.{AreExactAt, AreOrdered, Entry, IsShaped, entries}
-use Rattle.gf_form.specs.inner.rows.Entries.{sum_of_entries}
+use Rattle.gf_form.specs.inner.rows.TermLists.{AreExactAt, AreOrdered, Term, IsShaped, all_terms}
+use Rattle.gf_form.specs.inner.rows.TermLists.{sum_of_terms}
 use Rattle.gf_form.specs.inner.values.PaidRows.{rows_of}
 use Rattle.gf_form.specs.inner.strategies.ProfileNumbers.{AreProfileNumbers, numbered_profiles}
 use Rattle.gf_form.specs.inner.rows.ProfileRows.{AreRowsAt}
@@ -36,18 +36,18 @@ pub record PaysOver (g : Game) (number k den : ℕ) (whole : ℤ) : Type 0 where
   pub over : HasValue payoff whole den
 
 -- what terms come to at these choices is what is paid at a profile, if it is known to fit
-abbrev pub Settles : Game → ℕ → List ℕ → List ℕ → List Entry → Type 0
+abbrev pub Settles : Game → ℕ → List ℕ → List ℕ → List Term → Type 0
 Settles g number steps choices es = (k : ℕ) → k < length g.players → (den : ℕ) → 0 < den
     → den < 2 ^ 127 → AreExactAt den steps choices es
-    → IsWithin (sum_of_entries 0 den steps choices es)
-    → PaysOver g number k den (sum_of_entries (suc k) den steps choices es)
+    → IsWithin (sum_of_terms 0 den steps choices es)
+    → PaysOver g number k den (sum_of_terms (suc k) den steps choices es)
 
 -- the choices at these digits have the number of the profile, less that of the first choices
 pub record SettlesAt (g : Game) (actions : List ℕ) (terms : Terms) (least number : ℕ) : Type 0 where
   pub from : least ≤ number
   pub to : number - least < product actions
   pub settles : Settles g number (steps_of actions)
-      (get_or (all_choices actions) (number - least) []) (entries terms)
+      (get_or (all_choices actions) (number - least) []) (all_terms terms)
 
 -- ---- what is asked
 

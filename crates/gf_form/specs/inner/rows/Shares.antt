@@ -6,8 +6,8 @@ use Rattle.gf_nfg.specs.Profiles.{product}
 use Rattle.gf_tree.specs.Description.{SetKey, InformationSet}
 use Rattle.gf_tree.specs.Game.{Game, set_at}
 use Rattle.gf_form.specs.inner.rows.Demands.{spans, steps_of}
-use Rattle.gf_form.specs.inner.rows.Entries.{AreExactAt, Entry, IsExactAt, number_at}
-use Rattle.gf_form.specs.inner.rows.Entries.{sum_of_entries}
+use Rattle.gf_form.specs.inner.rows.TermLists.{AreExactAt, Term, IsExactAt, number_at}
+use Rattle.gf_form.specs.inner.rows.TermLists.{sum_of_terms}
 use Rattle.gf_form.specs.inner.values.Rows.{paid}
 use Rattle.gf_form.specs.declared.rows.paths.Path.{Path}
 use Rattle.gf_form.specs.declared.rows.paths.Reached.{Reached}
@@ -15,7 +15,7 @@ use Rattle.gf_form.specs.declared.rows.share.Share.{Share}
 
 -- What a path adds to a payoff, as a term for one player: probability times payoff. Its size does
 -- not depend on whether probabilities are zero. A payoff of zero is over any denominator.
-abbrev pub term_of : Path → Ratio → Entry
+abbrev pub term_of : Path → Ratio → Term
 term_of path pay = record {
   head = record {
     demands = path.demands;
@@ -26,7 +26,7 @@ term_of path pay = record {
 }
 
 -- what a term of one player comes to over a denominator, if there is no remainder
-pub record IsShare (e : Entry) (den : ℕ) (s : Share) : Type 0 where
+pub record IsShare (e : Term) (den : ℕ) (s : Share) : Type 0 where
   pub exact : IsExactAt den [] [] e
   pub amount_is : s.amount ≡ number_at 1 e *ℤ pos (den / e.head.den)
   pub bound_is : s.bound ≡ e.head.size * (den / e.head.den)
@@ -36,21 +36,21 @@ abbrev pub pay_at : Game → ℕ → Reached → Ratio
 pay_at g player r = paid g player r.outcome
 
 -- what the node adds for the player
-abbrev pub node_term : Game → ℕ → Reached → Entry
+abbrev pub node_term : Game → ℕ → Reached → Term
 node_term g player r = term_of r.path (pay_at g player r)
 
-abbrev pub node_terms : Game → ℕ → List Reached → List Entry
+abbrev pub node_terms : Game → ℕ → List Reached → List Term
 node_terms g player rs = map (node_term g player) rs
 
 -- what the nodes that these choices, one for each digit, reach come to
 abbrev pub sum_of_shares : Game → ℕ → ℕ → List ℕ → List ℕ → List Reached → ℤ
 sum_of_shares g player den steps choices rs =
-    sum_of_entries 1 den steps choices (node_terms g player rs)
+    sum_of_terms 1 den steps choices (node_terms g player rs)
 
 -- what their sizes come to
 abbrev pub met_bounds : Game → ℕ → ℕ → List ℕ → List ℕ → List Reached → ℕ
 met_bounds g player den steps choices rs =
-    unsigned_abs (sum_of_entries 0 den steps choices (node_terms g player rs))
+    unsigned_abs (sum_of_terms 0 den steps choices (node_terms g player rs))
 
 -- the share of none of them has a remainder
 abbrev pub AreExactShares : Game → ℕ → ℕ → List ℕ → List ℕ → List Reached → Type 0

@@ -1,7 +1,7 @@
 -- Nodes that differ in weight alone, added up.
 use Rattle.std.specs.Prelude.{◌≡◌, ℕ, ◌+◌, List}
 use Rattle.gf_tree.specs.Game.{Game}
-use Rattle.gf_form.specs.inner.rows.Entries.{ComeAsWell}
+use Rattle.gf_form.specs.inner.rows.TermLists.{ComeAsWell}
 use Rattle.gf_form.specs.inner.rows.Shares.{node_terms}
 use Rattle.gf_form.specs.declared.rows.paths.Reached.{Reached}
 

@@ -6,7 +6,7 @@ use Rattle.gf_tree.proofs.Common.{append-nil, inl, inr, codes, cons_option, filt
 use Rattle.gf_tree.proofs.Common.{braced, IsComment, Begins, Opening, Closing, Text, Bare}
 use Rattle.gf_tree.proofs.Common.{AreConsistent, Describes, InformationSet, IsOutcome, IsSet}
 use Rattle.gf_tree.proofs.Common.{Outcome, SetKey, set_of, Use, FileNode, FileTree, outcome_uses}
-use Rattle.gf_tree.proofs.Common.{set_uses, PastSetNumber, IsExtensiveFile, Entry, flatten}
+use Rattle.gf_tree.proofs.Common.{set_uses, PastSetNumber, IsExtensiveFile, Listed, flatten}
 use Rattle.gf_tree.proofs.Common.{FileFront, IsDescription, IsInformationSet, SpellsMover, IsNode}
 use Rattle.gf_tree.proofs.Common.{IsPositive, IsResult, IsStep, filter_map-append, PastPlayers}
 use Rattle.gf_tree.proofs.Common.{IsBeforeRow, IsInHeading, IsInNode}
@@ -224,7 +224,7 @@ module _ {K D : Type 0} (use_in : FileNode → Option (Use K D)) (Is : K → D �
                 consistent.described_alike u.key k d (before_described u.key k x) h,
           )
 
-outcomes_of_nodes : (es : List (Entry FileNode))
+outcomes_of_nodes : (es : List (Listed FileNode))
     → outcome_uses es ≡ filter_map (λ n. n.outcome) (map (λ e. e.node) es)
 outcomes_of_nodes [] = refl
 outcomes_of_nodes (e ∷ es) = ap (cons_option e.node.outcome) (outcomes_of_nodes es)

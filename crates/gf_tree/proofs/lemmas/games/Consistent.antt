@@ -3,7 +3,7 @@ use Rattle.gf_tree.proofs.Common.{◌≡◌, ℕ, suc, ◌++◌, List, [], ◌�
 use Rattle.gf_tree.proofs.Common.{Bool, MatchOption, option_map, refl, sym, ap, subst, ◌∙◌, inl}
 use Rattle.gf_tree.proofs.Common.{inr, arith, Decides-eqb, map-append, AllByRecursion, filter_map}
 use Rattle.gf_tree.proofs.Common.{cons_option, Tree, Trees, count, map_tree, map_trees, branch}
-use Rattle.gf_tree.proofs.Common.{none, more, Entry, flatten, flatten_all, SetKey, InformationSet}
+use Rattle.gf_tree.proofs.Common.{none, more, Listed, flatten, flatten_all, SetKey, InformationSet}
 use Rattle.gf_tree.proofs.Common.{same_set, IsSet, IsOutcome, first_uses, keys_alone, IsGameOf, Use}
 use Rattle.gf_tree.proofs.Common.{FileNode, FileTree, set_uses, outcome_uses, Describes}
 use Rattle.gf_tree.proofs.Common.{AreConsistent, IsConsistent, HasChildrenAsDescribed, Game}
@@ -15,7 +15,7 @@ use Rattle.gf_tree.proofs.lemmas.games.TreesOnce.{same_set_equality}
 
 -- ---- mapping keeps the shape
 
-abbrev pub map_entry : {N M : Type 0} → (N → M) → Entry N → Entry M
+abbrev pub map_entry : {N M : Type 0} → (N → M) → Listed N → Listed M
 map_entry f e = record { node = f e.node; children = e.children }
 
 count_map : {N M : Type 0} (f : N → M) (ts : Trees N) → count (map_trees f ts) ≡ count ts
@@ -41,12 +41,12 @@ keys_of_option : {K D : Type 0} (o : Option (Use K D)) (us : List (Use K D))
     ≡ map (λ u. u.key) (cons_option o us)
 keys_of_option o us = grind arith
 
-set_keys_of : (es : List (Entry FileNode))
+set_keys_of : (es : List (Listed FileNode))
     → filter_map (λ e. e.node.set) (map (map_entry keys_alone) es) ≡ map (λ u. u.key) (set_uses es)
 set_keys_of [] = refl
 set_keys_of (e ∷ es) = cc (set_keys_of es, keys_of_option e.node.set (set_uses es))
 
-outcome_keys_of : (es : List (Entry FileNode))
+outcome_keys_of : (es : List (Listed FileNode))
     → filter_map (λ e. e.node.outcome) (map (map_entry keys_alone) es)
     ≡ map (λ u. u.key) (outcome_uses es)
 outcome_keys_of [] = refl
@@ -130,7 +130,7 @@ children_of f g of name (Some u) outcome n among h =
     ap (option_map (λ set. length set.actions)) d.1 ∙ ap (λ (m : ℕ). Some m) (h d.0 d.2)
 
 -- an entry's set is among the uses
-pub use_among : (es : List (Entry FileNode)) (e : Entry FileNode) (u : Use SetKey InformationSet)
+pub use_among : (es : List (Listed FileNode)) (e : Listed FileNode) (u : Use SetKey InformationSet)
     → Has es e → e.node.set ≡ Some u → Has (set_uses es) u
 use_among [] e u h q = absurd h
 use_among (x ∷ xs) e u (inl p) q = has_first x.node.set (set_uses xs) u (ap (λ y. y.node.set) p ∙ q)

@@ -3,7 +3,7 @@ use Rattle.gf_tree.proofs.Common.{◌≡◌, ◌↔◌, ℕ, Bool, true, false, 
 use Rattle.gf_tree.proofs.Common.{inr, None, Option, MatchOption, option_map, refl, sym, ap, subst}
 use Rattle.gf_tree.proofs.Common.{◌∙◌, inl, arith, Decides-eqb, AllByRecursion, filter_map}
 use Rattle.gf_tree.proofs.Common.{cons_option, Tree, Trees, map_tree, map_trees, branch, none, more}
-use Rattle.gf_tree.proofs.Common.{Entry, flatten, Node, Game, HasChildren, IsGame, used_sets}
+use Rattle.gf_tree.proofs.Common.{Listed, flatten, Node, Game, HasChildren, IsGame, used_sets}
 use Rattle.gf_tree.proofs.Common.{used_outcomes, set_at, keys_alone, IsGameOf, SetKey}
 use Rattle.gf_tree.proofs.Common.{InformationSet, Outcome, same_set, IsSet, IsOutcome, Described}
 use Rattle.gf_tree.proofs.Common.{description_at, first_uses, Use, FileNode, FileTree, set_uses}
@@ -134,12 +134,12 @@ map_of_option : {K D : Type 0} (at : K → Option D) (o : Option K) (ks : List K
     ≡ map (use_at at) (cons_option o ks)
 map_of_option at o ks = grind arith
 
-sets_told : (g : Game) (es : List (Entry Node)) → set_uses (map (map_entry (told g)) es)
+sets_told : (g : Game) (es : List (Listed Node)) → set_uses (map (map_entry (told g)) es)
     ≡ map (use_at (set_at g)) (filter_map (λ e. e.node.set) es)
 sets_told g [] = refl
 sets_told g (e ∷ es) = grind (arith, sets_told g es, map_of_option)
 
-outcomes_told : (g : Game) (es : List (Entry Node)) → outcome_uses (map (map_entry (told g)) es)
+outcomes_told : (g : Game) (es : List (Listed Node)) → outcome_uses (map (map_entry (told g)) es)
     ≡ map (use_at (outcome_at g)) (filter_map (λ e. e.node.outcome) es)
 outcomes_told g [] = refl
 outcomes_told g (e ∷ es) = grind (arith, outcomes_told g es, map_of_option)

@@ -6,7 +6,7 @@ use Rattle.gf_tree.proofs.Common.{Decides-eqb, SetKey, InformationSet, same_set,
 use Rattle.gf_tree.proofs.Common.{Described, IsRenumbering, HasSet, outcome_numbers, player_keys}
 use Rattle.gf_tree.proofs.Common.{Game, IsGame, used_sets, used_outcomes, nat_eq, AreListed}
 use Rattle.gf_tree.proofs.Common.{listed_numbers, number_listed}
-use Rattle.gf_tree.specs.Listed.{AreNumbers}
+use Rattle.gf_tree.specs.ListedNumbers.{AreNumbers}
 use Rattle.gf_tree.proofs.lemmas.games.Carried.{in_keys}
 use Rattle.gf_tree.proofs.lemmas.games.PlayerSets.{sets_by_first_use}
 use Rattle.gf_tree.proofs.lemmas.games.Renumbered.{own_set, first_use_is_renumbering}

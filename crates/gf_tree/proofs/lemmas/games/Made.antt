@@ -1,6 +1,6 @@
 -- Games that are made from others by new numbers.
 use Rattle.gf_tree.proofs.Common.{◌≡◌, ℕ, ◌<◌, ◌^◌, List, [], ◌∷◌, length, map, sym, ap, subst, ◌∙◌}
-use Rattle.gf_tree.proofs.Common.{AllByRecursion, length-map, Entry, flatten, SetKey}
+use Rattle.gf_tree.proofs.Common.{AllByRecursion, length-map, Listed, flatten, SetKey}
 use Rattle.gf_tree.proofs.Common.{InformationSet, Outcome, Described, Node, Game, IsGame}
 use Rattle.gf_tree.proofs.Common.{subtree_sizes, Stored, Parts, game_with, entries_with, kept_of}
 use Rattle.gf_tree.proofs.Common.{tree_with, Renumbering, IsRenumbering, renumbered}
@@ -23,7 +23,7 @@ listed_outcomes_counted g sets outcomes h =
 -- ---- a file can hold it
 
 names_kept : {N M : Type 0} (P : N → Type 0) (Q : M → Type 0) (f : N → M)
-    → ((n : N) → P n → Q (f n)) → (es : List (Entry N))
+    → ((n : N) → P n → Q (f n)) → (es : List (Listed N))
     → AllByRecursion (λ e. P e.node) es → AllByRecursion (λ e. Q e.node) (map (map_entry f) es)
 names_kept P Q f keeps [] h = tt
 names_kept P Q f keeps (e ∷ es) h = (keeps e.node h.0, names_kept P Q f keeps es h.1)
@@ -56,7 +56,7 @@ renumbered_spelled r g h sets outcomes = record {
   comment = h.comment;
   players = h.players;
   nodes =
-      subst (AllByRecursion (λ (e : Entry Node). IsLabel e.node.name))
+      subst (AllByRecursion (λ (e : Listed Node). IsLabel e.node.name))
       (sym (flatten_map (renumbered_node r) g.tree))
       (names_kept (λ n. IsLabel n.name) (λ n. IsLabel n.name) (renumbered_node r) (λ n k. k)
       (flatten g.tree) h.nodes);

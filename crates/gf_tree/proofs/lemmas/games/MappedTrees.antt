@@ -1,20 +1,20 @@
 -- Trees with other nodes in place of theirs.
 use Rattle.gf_tree.proofs.Common.{◌≡◌, List, [], ◌∷◌, map, Option, Some, refl, ap, inl, inr, arith}
 use Rattle.gf_tree.proofs.Common.{filter_map, Tree, Trees, count, map_tree, map_trees, branch, none}
-use Rattle.gf_tree.proofs.Common.{more, Entry, flatten, flatten_all, option_map}
+use Rattle.gf_tree.proofs.Common.{more, Listed, flatten, flatten_all, option_map}
 use Rattle.gf_tree.proofs.lemmas.games.Consistent.{map_entry}
 use Rattle.gf_tree.proofs.lemmas.games.Uses.{Has, has_later}
 use Rattle.gf_tree.proofs.lemmas.games.Members.{in_left, in_right}
 
 mutual
   pub map_tree_same : {N M : Type 0} (f g : N → M) (t : Tree N)
-      → ((e : Entry N) → Has (flatten t) e → f e.node ≡ g e.node) → map_tree f t ≡ map_tree g t
+      → ((e : Listed N) → Has (flatten t) e → f e.node ≡ g e.node) → map_tree f t ≡ map_tree g t
   map_tree_same f g (branch n ts) h =
       λ i. branch (h (record { node = n; children = count ts }) (inl refl) i)
       (map_trees_same f g ts (λ e k. h e (inr k)) i)
 
   pub map_trees_same : {N M : Type 0} (f g : N → M) (ts : Trees N)
-      → ((e : Entry N) → Has (flatten_all ts) e → f e.node ≡ g e.node)
+      → ((e : Listed N) → Has (flatten_all ts) e → f e.node ≡ g e.node)
       → map_trees f ts ≡ map_trees g ts
   map_trees_same f g none h = refl
   map_trees_same f g (more t ts) h =
@@ -44,13 +44,13 @@ mutual
 -- nodes hold what they held, by other names
 pub held_map : {N M X Y : Type 0} (f : N → M) (g : X → Y)
     (holds : N → Option X) (holds' : M → Option Y)
-    → ((n : N) → holds' (f n) ≡ option_map g (holds n)) → (es : List (Entry N))
+    → ((n : N) → holds' (f n) ≡ option_map g (holds n)) → (es : List (Listed N))
     → filter_map (λ e. holds' e.node) (map (map_entry f) es)
     ≡ map g (filter_map (λ e. holds e.node) es)
 held_map f g holds holds' h [] = refl
 held_map f g holds holds' h (e ∷ es) = grind (arith, held_map f g holds holds' h es)
 
-pub held : {N X : Type 0} (holds : N → Option X) (es : List (Entry N)) (e : Entry N) (x : X)
+pub held : {N X : Type 0} (holds : N → Option X) (es : List (Listed N)) (e : Listed N) (x : X)
     → Has es e → holds e.node ≡ Some x → Has (filter_map (λ e. holds e.node) es) x
 held holds [] e x i h = absurd i
 held holds (d ∷ es) e x (inl q) h = grind arith

@@ -1,7 +1,8 @@
 -- Trees and their flat lists in prefix order determine each other.
 use Rattle.gf_tree.proofs.Common.{◌≡◌, ℕ, zero, suc, ◌+◌, List, [], ◌∷◌, ◌++◌, refl, sym, ap, subst}
 use Rattle.gf_tree.proofs.Common.{◌∙◌, append_assoc, arith, Tree, Trees, count, branch, none, more}
-use Rattle.gf_tree.proofs.Common.{Entry, flatten, flatten_all, Fills, grow, zero-add, first, others}
+use Rattle.gf_tree.proofs.Common.{Listed, flatten, flatten_all, Fills, grow, zero-add, first}
+use Rattle.gf_tree.proofs.Common.{others}
 use Rattle.std.proofs.lemmas.List.{append-nil}
 pub use Rattle.gf_tree.specs.GrowsAgain.{grows_again}
 
@@ -33,7 +34,7 @@ count_others zero m ts e = omega (arith, e)
 count_others (suc n) m none e = absurd (omega (arith, e))
 count_others (suc n) m (more t ts) e = count_others n m ts (omega (arith, e))
 
-grown : {N : Type 0} (due : ℕ) (es : List (Entry N)) → Fills due es
+grown : {N : Type 0} (due : ℕ) (es : List (Listed N)) → Fills due es
     → (count (grow es) ≡ due) × (flatten_all (grow es) ≡ es)
 grown zero [] h = (refl, refl)
 grown zero (e ∷ es) h = absurd h
@@ -42,7 +43,7 @@ grown {N} (suc due) (e ∷ es) h =
     let r = grown (e.children + due) es h in
     let k : count (first e.children (grow es)) ≡ e.children =
     count_first e.children due (grow es) r.0 in
-    let below : List (Entry N) =
+    let below : List (Listed N) =
     flatten_all (first e.children (grow es)) ++ flatten_all (others e.children (grow es)) in (
       ap suc (count_others e.children due (grow es) r.0),
       (λ i. record { node = e.node; children = k i } ∷ below)
@@ -54,7 +55,7 @@ single none e = absurd (omega (arith, e))
 single (more t none) e = (t, refl)
 single (more t (more u ts)) e = absurd (omega (arith, e))
 
-pub one_tree : {N : Type 0} (es : List (Entry N)) → Fills 1 es → (t : Tree N) × (flatten t ≡ es)
+pub one_tree : {N : Type 0} (es : List (Listed N)) → Fills 1 es → (t : Tree N) × (flatten t ≡ es)
 one_tree es h =
     let r = grown 1 es h in
     let s = single (grow es) r.0 in
@@ -63,11 +64,11 @@ one_tree es h =
 -- ---- the entries of a tree fill one place
 
 mutual
-  fills_tree : {N : Type 0} (t : Tree N) (due : ℕ) (es : List (Entry N)) → Fills due es
+  fills_tree : {N : Type 0} (t : Tree N) (due : ℕ) (es : List (Listed N)) → Fills due es
       → Fills (suc due) (flatten t ++ es)
   fills_tree (branch n ts) due es h = fills_trees ts due es h
 
-  fills_trees : {N : Type 0} (ts : Trees N) (due : ℕ) (es : List (Entry N)) → Fills due es
+  fills_trees : {N : Type 0} (ts : Trees N) (due : ℕ) (es : List (Listed N)) → Fills due es
       → Fills (count ts + due) (flatten_all ts ++ es)
   fills_trees none due es h = rw zero-add h
   fills_trees (more t ts) due es h =

@@ -1,6 +1,6 @@
 -- A game by new numbers is a game; first-use numbers are new numbers.
 use Rattle.gf_tree.proofs.Common.{◌≡◌, ℕ, map, length, Option, None, Some, refl, sym, ap, subst}
-use Rattle.gf_tree.proofs.Common.{◌∙◌, arith, AllByRecursion, eq-eqb, Decides-eqb, Entry, flatten}
+use Rattle.gf_tree.proofs.Common.{◌∙◌, arith, AllByRecursion, eq-eqb, Decides-eqb, Listed, flatten}
 use Rattle.gf_tree.proofs.Common.{SetKey, InformationSet, Outcome, same_set, IsSet, IsOutcome}
 use Rattle.gf_tree.proofs.Common.{set_of, Node, Game, IsGame, HasChildren, used_sets, used_outcomes}
 use Rattle.gf_tree.proofs.Common.{set_at, renumbered_node, renumbered, Renumbering, IsRenumbering}
@@ -93,7 +93,7 @@ renumbered_is_game g r game h = record {
           one_payoff_each = was.one_payoff_each;
         })
 
-    children : (e : Entry Node) → Has (map (map_entry (renumbered_node r)) (flatten g.tree)) e
+    children : (e : Listed Node) → Has (map (map_entry (renumbered_node r)) (flatten g.tree)) e
         → HasChildren (renumbered r g) e
     children e i =
         let k = mapped_from (map_entry (renumbered_node r)) (flatten g.tree) e i in

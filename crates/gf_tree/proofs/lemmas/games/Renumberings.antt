@@ -1,6 +1,6 @@
 -- Trees by their new numbers.
 use Rattle.gf_tree.proofs.Common.{◌≡◌, ℕ, ◌<◌, map, Option, None, Some, refl, ap, subst, ◌∙◌, arith}
-use Rattle.gf_tree.proofs.Common.{filter_map, Decides-eqb, Tree, map_tree, Entry, flatten, SetKey}
+use Rattle.gf_tree.proofs.Common.{filter_map, Decides-eqb, Tree, map_tree, Listed, flatten, SetKey}
 use Rattle.gf_tree.proofs.Common.{same_set, set_of, Node, Game, IsGame, used_sets, used_outcomes}
 use Rattle.gf_tree.proofs.Common.{Renumbering, IsRenumbering, renumbered_set, renumbered_node}
 use Rattle.gf_tree.proofs.Common.{renumbered, nat_eq, option_map}
@@ -19,14 +19,14 @@ use Rattle.gf_tree.proofs.lemmas.games.Uses.{Has, has, contains, mapped_from, ea
 pub used_sets_of : (r : Renumbering) (t : Tree Node)
     → used_sets (map_tree (renumbered_node r) t) ≡ map (renumbered_set r) (used_sets t)
 used_sets_of r t =
-    ap (filter_map (λ (e : Entry Node). e.node.set)) (flatten_map (renumbered_node r) t)
+    ap (filter_map (λ (e : Listed Node). e.node.set)) (flatten_map (renumbered_node r) t)
     ∙ held_map (renumbered_node r) (renumbered_set r) (λ n. n.set) (λ n. n.set) (λ n. refl)
     (flatten t)
 
 pub used_outcomes_of : (r : Renumbering) (t : Tree Node)
     → used_outcomes (map_tree (renumbered_node r) t) ≡ map r.outcome (used_outcomes t)
 used_outcomes_of r t =
-    ap (filter_map (λ (e : Entry Node). e.node.outcome)) (flatten_map (renumbered_node r) t)
+    ap (filter_map (λ (e : Listed Node). e.node.outcome)) (flatten_map (renumbered_node r) t)
     ∙ held_map (renumbered_node r) r.outcome (λ n. n.outcome) (λ n. n.outcome) (λ n. refl)
     (flatten t)
 
@@ -46,7 +46,7 @@ pub agreed_trees : (r s : Renumbering) (t : Tree Node) → Agree r s t
     → map_tree (renumbered_node r) t ≡ map_tree (renumbered_node s) t
 agreed_trees r s t h = map_tree_same (renumbered_node r) (renumbered_node s) t node
   where
-    node : (e : Entry Node) → Has (flatten t) e
+    node : (e : Listed Node) → Has (flatten t) e
         → renumbered_node r e.node ≡ renumbered_node s e.node
     node e i =
         let set = option_same (renumbered_set r) (renumbered_set s) e.node.set
@@ -106,7 +106,7 @@ pub composed_trees : (r s : Renumbering) (t : Tree Node)
 composed_trees r s t = map_tree_twice (renumbered_node s) (renumbered_node r) t ∙ map_tree_same
     (λ n. renumbered_node s (renumbered_node r n)) (renumbered_node (composed r s)) t node
   where
-    node : (e : Entry Node) → Has (flatten t) e
+    node : (e : Listed Node) → Has (flatten t) e
         → renumbered_node s (renumbered_node r e.node) ≡ renumbered_node (composed r s) e.node
     node e i = grind arith
 

@@ -2,7 +2,7 @@
 use Rattle.gf_tree.proofs.Common.{◌≡◌, ℕ, zero, suc, ◌^◌, ◌<◌, List, [], ◌∷◌, ◌++◌, length, map}
 use Rattle.gf_tree.proofs.Common.{Some, None, Option, MatchOption, sym, ap, subst, ◌∙◌, arith}
 use Rattle.gf_tree.proofs.Common.{AllByRecursion, cons_option, IsFraction, Token, Closing, Text}
-use Rattle.gf_tree.proofs.Common.{Each, IsPayoffInBraces, Entry, flatten, Action, SetKey}
+use Rattle.gf_tree.proofs.Common.{Each, IsPayoffInBraces, Listed, flatten, Action, SetKey}
 use Rattle.gf_tree.proofs.Common.{InformationSet, Outcome, Use, FileNode, FileTree, set_uses}
 use Rattle.gf_tree.proofs.Common.{outcome_uses, Describes, Game, IsGame, IsSpellable}
 use Rattle.gf_tree.proofs.Common.{IsSpellableSet, IsSpellableOutcome, IsDescription, IsAction}
@@ -107,19 +107,19 @@ all_of_options : {X : Type 0} (P : X → Type 0) (o : Option X) (xs : List X)
 all_of_options P None xs h k = k
 all_of_options P (Some x) xs h k = (h, k)
 
-sets_spelled : (es : List (Entry FileNode)) → AllByRecursion NodeSpelled (map (λ e. e.node) es)
+sets_spelled : (es : List (Listed FileNode)) → AllByRecursion NodeSpelled (map (λ e. e.node) es)
     → AllByRecursion SetSpelled (set_uses es)
 sets_spelled [] h = tt
 sets_spelled (e ∷ es) h =
     all_of_options SetSpelled e.node.set (set_uses es) h.0.set (sets_spelled es h.1)
 
-outcomes_spelled : (es : List (Entry FileNode)) → AllByRecursion NodeSpelled (map (λ e. e.node) es)
+outcomes_spelled : (es : List (Listed FileNode)) → AllByRecursion NodeSpelled (map (λ e. e.node) es)
     → AllByRecursion OutcomeSpelled (outcome_uses es)
 outcomes_spelled [] h = tt
 outcomes_spelled (e ∷ es) h = all_of_options OutcomeSpelled e.node.outcome (outcome_uses es)
     h.0.outcome (outcomes_spelled es h.1)
 
-names_of_nodes : (es : List (Entry FileNode)) → AllByRecursion NodeSpelled (map (λ e. e.node) es)
+names_of_nodes : (es : List (Listed FileNode)) → AllByRecursion NodeSpelled (map (λ e. e.node) es)
     → AllByRecursion (λ e. IsLabel e.node.name) (map (map_entry keys_alone) es)
 names_of_nodes [] h = tt
 names_of_nodes (e ∷ es) h = (h.0.name, names_of_nodes es h.1)

@@ -1,7 +1,7 @@
 -- Tokens mean at most one consistent file tree, and at most one game.
 use Rattle.gf_tree.proofs.Common.{◌≡◌, ℕ, nat_eq, List, [], ◌∷◌, map, drop, Some, None, Option}
 use Rattle.gf_tree.proofs.Common.{refl, sym, ap, subst, ◌∙◌, AllByRecursion, filter_map}
-use Rattle.gf_tree.proofs.Common.{cons_option, Decides-eqb, Token, Entry, flatten, Sentence}
+use Rattle.gf_tree.proofs.Common.{cons_option, Decides-eqb, Token, Listed, flatten, Sentence}
 use Rattle.gf_tree.proofs.Common.{first_uses, Game, used_sets, used_outcomes, SetKey}
 use Rattle.gf_tree.proofs.Common.{InformationSet, same_set, Use, FileNode, FileTree, set_uses}
 use Rattle.gf_tree.proofs.Common.{outcome_uses, AreConsistent, IsConsistent, HasChildrenAsDescribed}
@@ -34,7 +34,7 @@ children_by uses consistent (Some u) m n among h k =
     sym (h d.0 d.1) ∙ k d.0 d.1
 
 entries_once : (uses : List (Use SetKey InformationSet))
-    → AreConsistent uses → (es fs : List (Entry FileNode))
+    → AreConsistent uses → (es fs : List (Listed FileNode))
     → ((u : Use SetKey InformationSet) → Has (set_uses es) u → Has uses u)
     → map (λ e. e.node) es ≡ map (λ e. e.node) fs → AllByRecursion (HasChildrenAsDescribed uses) es
     → AllByRecursion (HasChildrenAsDescribed uses) fs → es ≡ fs
@@ -54,7 +54,7 @@ entries_once uses consistent (x ∷ xs) (y ∷ ys) among e h k =
     λ i. record { node = node i; children = children i } ∷ rest i
 
 -- the sets' uses are those of the nodes
-pub uses_of_nodes : (es : List (Entry FileNode))
+pub uses_of_nodes : (es : List (Listed FileNode))
     → set_uses es ≡ filter_map (λ n. n.set) (map (λ e. e.node) es)
 uses_of_nodes [] = refl
 uses_of_nodes (e ∷ es) = ap (cons_option e.node.set) (uses_of_nodes es)

@@ -4,7 +4,7 @@ use Rattle.gf_tree.proofs.Common.{◌≡◌, ℕ, List, ◌++◌, length, Ok, Er
 use Rattle.gf_tree.proofs.Common.{◌∙◌, Lexeme, Spells, tokens_of, Fault, Span, Why, Game}
 use Rattle.gf_tree.proofs.Common.{IsGame, Node, Parts, SpellsGame, game_with, IsRefusal, Kept}
 use Rattle.gf_tree.proofs.Common.{entries_with, game_in, IsSpellable, Content, nothing, run, Format}
-use Rattle.gf_tree.proofs.Common.{arith, Entry, Fills, Memory}
+use Rattle.gf_tree.proofs.Common.{arith, Listed, Fills, Memory}
 use Rattle.gf_tree.proofs.Common.{same_tokens, IsJudged, Fails, to_all}
 use Rattle.gf_token.specs.inner.Machine.Fails.{of_file, of_memory}
 use Rattle.gf_token.specs.inner.Machine.{HasPassedPlace}
@@ -77,7 +77,7 @@ read_parts c = record {
 pub game_is_with : (c : Content) (nodes : List Kept)
     → c.nodes ≡ entries_with c.sets c.outcomes nodes
     → game_in c ≡ game_with (read_parts c) nodes
-game_is_with c nodes kept = ap (λ (es : List (Entry Node)). game_in (record c { nodes = es })) kept
+game_is_with c nodes kept = ap (λ (es : List (Listed Node)). game_in (record c { nodes = es })) kept
 
 -- these parts make a game, which is the one that the bytes spell
 pub record IsWhole (bytes : List ℕ) (p : Parts) (nodes : List Kept) : Type 0 where

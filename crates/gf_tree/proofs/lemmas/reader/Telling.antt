@@ -3,7 +3,7 @@ use Rattle.gf_tree.proofs.Common.{◌≡◌, ◌≤◌, ◌+◌, ◌-◌, ◌∷
 use Rattle.gf_tree.proofs.Common.{ℕ, Described, AreAmong, Position, with_node, told_from, told_node}
 use Rattle.gf_tree.proofs.Common.{List, append_assoc, length-append, InformationSet, take-append-le}
 use Rattle.gf_tree.proofs.Common.{[], length, Outcome, IsAmong, NodeDue, HasRead, Heading, told_set}
-use Rattle.gf_tree.proofs.Common.{◌++◌, refl, Fault, Node, Kept, Entry, heard, Bool, Goes, Grows}
+use Rattle.gf_tree.proofs.Common.{◌++◌, refl, Fault, Node, Kept, Listed, heard, Bool, Goes, Grows}
 use Rattle.gf_tree.proofs.Common.{option_map, at_position, entries_with, child_count, told_outcome}
 use Rattle.gf_tree.proofs.Common.{Result, Ok, arith, Lexeme, SetKey, Reader, Answer, answer}
 use Rattle.gf_tree.proofs.Common.{after_nodes}
@@ -77,7 +77,7 @@ entries_more sets outcomes (m ∷ ms) n = grind (arith, entries_more sets outcom
 
 -- ---- answers after nodes
 
-past_both : (ns ms : List (Entry Node)) (a : Answer)
+past_both : (ns ms : List (Listed Node)) (a : Answer)
     → after_nodes ns (after_nodes ms a) ≡ after_nodes (ns ++ ms) a
 past_both ns ms a = grind (arith, append_assoc)
 

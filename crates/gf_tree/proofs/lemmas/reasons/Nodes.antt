@@ -83,7 +83,8 @@ module _ (f : FileFront) where
       grind arith
 
   outcome_index : IndexIsDue IsExtensiveFile f.before → (b : List ℕ) (why : Why)
-      (after : List Token) → ¬ ((n : ℕ) × IsIndex b n) → why ≡ BadIndex → Given f.before (Bare b ∷ after) why
+      (after : List Token) → ¬ ((n : ℕ) × IsIndex b n) → why ≡ BadIndex
+      → Given f.before (Bare b ∷ after) why
   outcome_index due b why after n e = (BadIndex, e, (due, λ m k. n (m, k.0)))
 
   differs : (t : Token) → DiffersFromSet f.ends t ⊎ DiffersFromOutcome f.ends t

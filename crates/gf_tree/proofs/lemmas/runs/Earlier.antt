@@ -3,7 +3,7 @@ use Rattle.gf_tree.proofs.Common.{◌≡◌, ℕ, zero, suc, Bool, cond, List, [
 use Rattle.gf_tree.proofs.Common.{Result, Ok, Err, refl, append_assoc, nat_eq, arith, codes}
 use Rattle.gf_tree.proofs.Common.{pointwise, Ratio, NumberFault, Remaining, Token, Lexeme, count_of}
 use Rattle.gf_tree.proofs.Common.{Opening, Closing, Comma, Text, Bare, Why, Expected, Action}
-use Rattle.gf_tree.proofs.Common.{InformationSet, Outcome, SetKey, Node, Entry, Share, Begun}
+use Rattle.gf_tree.proofs.Common.{InformationSet, Outcome, SetKey, Node, Listed, Share, Begun}
 use Rattle.gf_tree.proofs.Common.{Content, Position, State, after_node, at, past_outcome}
 use Rattle.gf_tree.proofs.Common.{new_set_ends, node_letter, outcome_number, paid, personal_node}
 use Rattle.gf_tree.proofs.Common.{player_number, run, set_ends, set_number, shared, step, with_node}
@@ -21,7 +21,7 @@ use Rattle.gf_token.specs.Indices.{index_of}
 use Rattle.gf_tree.specs.inner.ReaderState.{with_front, with_nodes}
 use Rattle.gf_token.specs.declared.fault.What.TheVariants as what
 
-module _ (ns : List (Entry Node)) where
+module _ (ns : List (Listed Node)) where
   abbrev fronted : Result State Why → Result State Why
   fronted (Ok s) = Ok (at s.position (with_front ns s.content))
   fronted (Err why) = Err why

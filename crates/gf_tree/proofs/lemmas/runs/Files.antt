@@ -3,7 +3,7 @@ use Rattle.gf_tree.proofs.Common.{◌≡◌, ℕ, zero, suc, ◌+◌, ◌-◌, �
 use Rattle.gf_tree.proofs.Common.{[], ◌∷◌, ◌++◌, length, map, option_map, Option, Some, None, Ok}
 use Rattle.gf_tree.proofs.Common.{Err, refl, sym, subst, ◌∙◌, append_assoc, append-nil, arith}
 use Rattle.gf_tree.proofs.Common.{nat_eq, length-append, AllByRecursion, cons_option, Token, Bare}
-use Rattle.gf_tree.proofs.Common.{Each, Entry, Fills, keys_alone, Game, HasChildren, Node, Learns}
+use Rattle.gf_tree.proofs.Common.{Each, Listed, Fills, keys_alone, Game, HasChildren, Node, Learns}
 use Rattle.gf_tree.proofs.Common.{IsNode, InformationSet, SetKey, Outcome, same_set, Described}
 use Rattle.gf_tree.proofs.Common.{description_at, Use, FileNode, set_uses, outcome_uses, Content}
 use Rattle.gf_tree.proofs.Common.{after_node, NodeDue, run_tokens, then_run, game_in, ◌==◌}
@@ -20,17 +20,17 @@ use Rattle.gf_tree.proofs.lemmas.runs.Learned.{uses_of, learns_on, learns_split,
 use Rattle.gf_tree.proofs.lemmas.runs.Learned.{one_use, at_new}
 
 -- the nodes without descriptions
-abbrev pub alone : List (Entry FileNode) → List (Entry Node)
+abbrev pub alone : List (Listed FileNode) → List (Listed Node)
 alone es = map (map_entry keys_alone) es
 
-abbrev pub nodes_of : List (Entry FileNode) → List FileNode
+abbrev pub nodes_of : List (Listed FileNode) → List FileNode
 nodes_of es = map (λ e. e.node) es
 
 -- ---- what was read
 
 -- the nodes that are due, and no more
 pub record NodesRead (ts : List Token) (c r : Content) : Type 0 where
-  pub entries : List (Entry FileNode)
+  pub entries : List (Listed FileNode)
   pub are_nodes : Each (IsNode (length c.players)) ts (nodes_of entries)
   pub fills : Fills c.due entries
   pub title : r.title ≡ c.title
@@ -64,7 +64,7 @@ children_kept sets end (Some key) children same h = grind arith
 nodes_more : (ts : List Token) (due : ℕ) (c r : Content) → c.due ≡ suc due → (h : NodeRead ts c r)
     → NodesRead h.rest (past_node c h.node h.children h.sets h.outcomes) r → NodesRead ts c r
 nodes_more ts due c r is h k =
-    let entry : Entry FileNode = record { node = h.node; children = h.children } in
+    let entry : Listed FileNode = record { node = h.node; children = h.children } in
     let pending : h.children + (c.due - 1) ≡ h.children + due = omega (arith, is) in
     let filled : Fills (suc due) (entry ∷ k.entries) =
     subst (λ (d : ℕ). Fills d k.entries) pending k.fills in
@@ -140,7 +140,7 @@ children_then known mid end None children learns same h = h
 children_then known mid end (Some u) children learns same h = grind (arith, known_after)
 
 -- all that is read after this content
-abbrev pub past_nodes : Content → List (Entry FileNode) → MapOf → List (Described ℕ Outcome)
+abbrev pub past_nodes : Content → List (Listed FileNode) → MapOf → List (Described ℕ Outcome)
     → Content
 past_nodes c es sets outcomes =
     record c { nodes = c.nodes ++ alone es; due = 0; sets = sets; outcomes = outcomes }
@@ -150,7 +150,7 @@ end_again : (c : Content) (sets : MapOf) (outcomes : List (Described ℕ Outcome
     → run_tokens NodeDue c [] ≡ ok_read (past_nodes c [] sets outcomes)
 end_again c sets outcomes is same_sets same_outcomes = grind (arith, append-nil, ok_read)
 
-pub nodes_again : (es : List (Entry FileNode)) (ts : List Token) (c : Content)
+pub nodes_again : (es : List (Listed FileNode)) (ts : List Token) (c : Content)
     (g : Game) (sets : MapOf) (outcomes : List (Described ℕ Outcome)) → g.sets ≡ sets
     → Each (IsNode (length c.players)) ts (nodes_of es)
     → Fills c.due es → Learns same_set c.sets (set_uses es) sets

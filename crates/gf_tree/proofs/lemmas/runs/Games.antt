@@ -3,7 +3,7 @@
 use Rattle.gf_tree.proofs.Common.{◌≡◌, ◌↔◌, ℕ, List, [], ◌∷◌, ◌++◌, length, refl, sym, ap, subst}
 use Rattle.gf_tree.proofs.Common.{◌∙◌, inl, inr, arith, AllByRecursion, Token, Text, Bare}
 use Rattle.gf_tree.proofs.Common.{IsComment, Tree, map_tree, grow, keys_alone, IsSet, FileNode}
-use Rattle.gf_tree.proofs.Common.{FileTree, Sentence, Game, Node, HasChildren, Entry, Fills}
+use Rattle.gf_tree.proofs.Common.{FileTree, Sentence, Game, Node, HasChildren, Listed, Fills}
 use Rattle.gf_tree.proofs.Common.{flatten, Content, nothing, Format, AfterPlayers, NodeDue}
 use Rattle.gf_tree.proofs.Common.{run_tokens, game_in, root, no_node, MeansGame, LearnsGame}
 use Rattle.gf_tree.proofs.lemmas.games.Prefix.{one_tree, fills_one, grows_again}
@@ -67,7 +67,7 @@ comment_again comment nodes note title players h h2 = grind (arith, not_said, he
 -- ---- the tree
 
 -- the tree of nodes that fill one place grows from them
-grown_again : (t : Tree FileNode) (nodes : List (Entry Node)) → nodes ≡ alone (flatten t)
+grown_again : (t : Tree FileNode) (nodes : List (Listed Node)) → nodes ≡ alone (flatten t)
     → root no_node (grow nodes) ≡ map_tree keys_alone t
 grown_again t nodes e = cc (flatten_map keys_alone t, grows_again (map_tree keys_alone t))
 

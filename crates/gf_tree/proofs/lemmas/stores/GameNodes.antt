@@ -2,7 +2,7 @@
 use Rattle.gf_tree.proofs.Common.{◌≡◌, ℕ, zero, suc, ◌+◌, ◌<◌, List, [], ◌∷◌, ◌++◌, length, map}
 use Rattle.gf_tree.proofs.Common.{drop, get_or, slice_get, refl, sym, ap, subst, ◌∙◌, arith}
 use Rattle.gf_tree.proofs.Common.{length-map, drop-map, map-append, Tree, Trees, count, branch}
-use Rattle.gf_tree.proofs.Common.{none, more, Entry, Fills, flatten, flatten_all, grow, Described}
+use Rattle.gf_tree.proofs.Common.{none, more, Listed, Fills, flatten, flatten_all, grow, Described}
 use Rattle.gf_tree.proofs.Common.{Node, subtree_sizes, Begin, skipped, Stored, SetKey}
 use Rattle.gf_tree.proofs.Common.{InformationSet, Outcome, Parts, Kept, IsAmong, AreAmong}
 use Rattle.gf_tree.proofs.Common.{entries_with, kept_of, tree_with, get_or-map, root, subtrees}
@@ -17,7 +17,7 @@ use Rattle.gf_tree.proofs.lemmas.stores.SubtreeSizes.{slice_get_after, stands, s
 
 -- ---- the tree of a list
 
-pub flatten_grown : {N : Type 0} (n : N) (es : List (Entry N)) → Fills 1 es
+pub flatten_grown : {N : Type 0} (n : N) (es : List (Listed N)) → Fills 1 es
     → flatten (root n (grow es)) ≡ es
 flatten_grown n es h =
     let t = one_tree es h in
@@ -223,7 +223,7 @@ next_node {N} t at h =
 
 pub nodes_counted : {N : Type 0} (t : Tree N)
     → length (map (λ e. e.node) (flatten t)) ≡ length (subtrees t)
-nodes_counted {N} t = length-map (flatten t) (λ (e : Entry N). e.node) ∙ sym (subtrees_counted t)
+nodes_counted {N} t = length-map (flatten t) (λ (e : Listed N). e.node) ∙ sym (subtrees_counted t)
 
 -- ---- the first subtree is the tree
 

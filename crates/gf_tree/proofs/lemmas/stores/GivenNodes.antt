@@ -3,7 +3,7 @@ use Rattle.gf_tree.proofs.Common.{◌≡◌, ◌==◌, ℕ, zero, suc, ◌≤◌
 use Rattle.gf_tree.proofs.Common.{max, Option, Some, option_map, nat_eq, refl, sym, ap, ◌∙◌, arith}
 use Rattle.gf_tree.proofs.Common.{append_assoc, append-nil, filter_map, cons_option, Decides-eqb}
 use Rattle.gf_tree.proofs.Common.{map-append, at_position, SetKey, same_set, Described}
-use Rattle.gf_tree.proofs.Common.{description_at, first_uses, Game, Node, IsGame, Entry, flatten}
+use Rattle.gf_tree.proofs.Common.{description_at, first_uses, Game, Node, IsGame, Listed, flatten}
 use Rattle.gf_tree.proofs.Common.{AreAmong, IsAmong, Kept, entries_with, Bool, filter_map-append}
 use Rattle.gf_tree.proofs.Common.{file_nodes, use_after, entry_with, told_from, told_node}
 use Rattle.gf_tree.proofs.Common.{use_with, OfFile}
@@ -53,7 +53,7 @@ module _ {K D : Type 0} (same : K → K → Bool) (tells : IsEquality same)
 
 module _ (g : Game) (game : IsGame g) (nodes : List Kept)
     (flat : flatten g.tree ≡ entries_with g.sets g.outcomes nodes) where
-  abbrev entries : List Kept → List (Entry Node)
+  abbrev entries : List Kept → List (Listed Node)
   entries ns = entries_with g.sets g.outcomes ns
 
   abbrev sets_in : List Kept → List SetKey
@@ -78,8 +78,8 @@ module _ (g : Game) (game : IsGame g) (nodes : List Kept)
         (entry_with g.sets g.outcomes n).node.set n.set met_sets
     set_here = record {
       all = game.one_entry_each_set
-          ∙ ap (λ es. first_uses same_set (filter_map (λ (e : Entry Node). e.node.set) es)) split
-          ∙ ap (first_uses same_set) (filter_map-append (λ (e : Entry Node). e.node.set)
+          ∙ ap (λ es. first_uses same_set (filter_map (λ (e : Listed Node). e.node.set) es)) split
+          ∙ ap (first_uses same_set) (filter_map-append (λ (e : Listed Node). e.node.set)
           (entries front) (entries (n ∷ ns)));
       is = refl;
       within = placed.set;
@@ -90,8 +90,8 @@ module _ (g : Game) (game : IsGame g) (nodes : List Kept)
         (entry_with g.sets g.outcomes n).node.outcome n.outcome met_outcomes
     outcome_here = record {
       all = game.one_entry_each_outcome
-          ∙ ap (λ es. first_uses nat_eq (filter_map (λ (e : Entry Node). e.node.outcome) es)) split
-          ∙ ap (first_uses nat_eq) (filter_map-append (λ (e : Entry Node). e.node.outcome)
+          ∙ ap (λ es. first_uses nat_eq (filter_map (λ (e : Listed Node). e.node.outcome) es)) split
+          ∙ ap (first_uses nat_eq) (filter_map-append (λ (e : Listed Node). e.node.outcome)
           (entries front) (entries (n ∷ ns)));
       is = refl;
       within = placed.outcome;
@@ -117,14 +117,14 @@ module _ (g : Game) (game : IsGame g) (nodes : List Kept)
       sets = met_given same_set same_set_equality g.sets (sets_in front) (sets_in ns)
           (entry_with g.sets g.outcomes n).node.set n.set met_sets set_here
           ∙ ap (λ ks. length (first_uses same_set ks))
-          (sym (ap (filter_map (λ (e : Entry Node). e.node.set)) one_more
-          ∙ filter_map-append (λ (e : Entry Node). e.node.set) (entries front)
+          (sym (ap (filter_map (λ (e : Listed Node). e.node.set)) one_more
+          ∙ filter_map-append (λ (e : Listed Node). e.node.set) (entries front)
           (entries (n ∷ []))));
       outcomes = met_given nat_eq Decides-eqb g.outcomes (outcomes_in front)
           (outcomes_in ns) (entry_with g.sets g.outcomes n).node.outcome n.outcome
           met_outcomes outcome_here ∙ ap (λ ks. length (first_uses nat_eq ks))
-          (sym (ap (filter_map (λ (e : Entry Node). e.node.outcome)) one_more
-          ∙ filter_map-append (λ (e : Entry Node). e.node.outcome) (entries front)
+          (sym (ap (filter_map (λ (e : Listed Node). e.node.outcome)) one_more
+          ∙ filter_map-append (λ (e : Listed Node). e.node.outcome) (entries front)
           (entries (n ∷ []))));
     }
 
@@ -138,11 +138,11 @@ module _ (g : Game) (game : IsGame g) (nodes : List Kept)
       let node = node_here front n ns met_sets met_outcomes here placed.0 in
       let others = given_after (front ++ n ∷ []) ns (max met_sets n.set)
       (max met_outcomes n.outcome) (goes_on front n ns met_sets met_outcomes here placed.0)
-      placed.1 ∙ ap (λ es. map (λ (p : List (Entry Node) × Entry Node).
+      placed.1 ∙ ap (λ es. map (λ (p : List (Listed Node) × Listed Node).
       node_after g (es ++ p.0) p.1.node) (with_those_before (entries ns)))
       (one_more front n ns met_sets met_outcomes here placed.0) in
       (λ i. node i ∷ others i)
-      ∙ sym (past_front (λ before (e : Entry Node). node_after g before e.node)
+      ∙ sym (past_front (λ before (e : Listed Node). node_after g before e.node)
       (entries front) (entry_with g.sets g.outcomes n) (entries ns))
 
   pub nodes_are_given : AreAmong (length g.sets) (length g.outcomes) nodes

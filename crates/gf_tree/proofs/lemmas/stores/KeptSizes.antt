@@ -2,7 +2,7 @@
 use Rattle.gf_tree.proofs.Common.{◌≡◌, ℕ, zero, suc, ◌+◌, ◌-◌, ◌<◌, ◌≤◌, List, [], ◌∷◌, ◌++◌}
 use Rattle.gf_tree.proofs.Common.{length, map, drop, get_or, refl, sym, ap, subst, ◌∙◌, arith}
 use Rattle.gf_tree.proofs.Common.{length-map, drop-map, Tree, count, Described, subtree_sizes}
-use Rattle.gf_tree.proofs.Common.{Entry, flatten, flatten_all, SetKey, InformationSet, Begin}
+use Rattle.gf_tree.proofs.Common.{Listed, flatten, flatten_all, SetKey, InformationSet, Begin}
 use Rattle.gf_tree.proofs.Common.{skipped, AreAmong, kept_of, Stored, get_or-map, sizes_grown}
 use Rattle.gf_tree.proofs.Common.{child_count, child_counts, sizes_of}
 use Rattle.std.proofs.lemmas.List.{map-set, drop-set}
@@ -39,7 +39,7 @@ begin_at {N} t at c rest h e =
     let r = stands t at h in
     let here : drop at (counts_of (flatten t))
     ≡ count r.below ∷ counts_of (flatten_all r.below ++ flatten_all r.others) =
-    drop-map (λ (e : Entry N). e.children) at (flatten t) ∙ ap counts_of r.stands.entries in
+    drop-map (λ (e : Listed N). e.children) at (flatten t) ∙ ap counts_of r.stands.entries in
     let first : c ≡ count r.below = cc in
     let others : rest ≡ counts_of (flatten_all r.below ++ flatten_all r.others) = cc in
     rw (first, others) (begin_children r.below r.others)

@@ -1,7 +1,7 @@
 -- The nodes that are kept, by new numbers of their sets and outcomes.
 use Rattle.gf_tree.proofs.Common.{◌≡◌, ℕ, zero, suc, ◌+◌, List, [], ◌∷◌, map, Option, option_map}
 use Rattle.gf_tree.proofs.Common.{refl, ap, ◌∙◌, arith, slice_get-map, at_position, Tree, Trees}
-use Rattle.gf_tree.proofs.Common.{map_tree, map_trees, none, more, Entry, Fills, flatten, grow}
+use Rattle.gf_tree.proofs.Common.{map_tree, map_trees, none, more, Listed, Fills, flatten, grow}
 use Rattle.gf_tree.proofs.Common.{Described, Node, subtree_sizes, game_with, SetKey, InformationSet}
 use Rattle.gf_tree.proofs.Common.{Parts, Outcome, Kept, entries_with, tree_with, Renumbering}
 use Rattle.gf_tree.proofs.Common.{renumbered, renumbered_node, renumbered_set, first, others, root}
@@ -23,7 +23,7 @@ others_mapped f zero ts = refl
 others_mapped f (suc n) none = refl
 others_mapped f (suc n) (more t ts) = others_mapped f n ts
 
-grow_mapped : {N M : Type 0} (f : N → M) (es : List (Entry N))
+grow_mapped : {N M : Type 0} (f : N → M) (es : List (Listed N))
     → grow (map (map_entry f) es) ≡ map_trees f (grow es)
 grow_mapped f [] = refl
 grow_mapped f (e ∷ es) =
@@ -33,14 +33,14 @@ root_mapped : (r : Renumbering) (ts : Trees Node) → root no_node (map_trees (r
     ≡ map_tree (renumbered_node r) (root no_node ts)
 root_mapped r ts = grind arith
 
-pub fills_mapped : {N M : Type 0} (f : N → M) (due : ℕ) (es : List (Entry N)) → Fills due es
+pub fills_mapped : {N M : Type 0} (f : N → M) (due : ℕ) (es : List (Listed N)) → Fills due es
     → Fills due (map (map_entry f) es)
 fills_mapped f zero [] h = tt
 fills_mapped f zero (e ∷ es) h = absurd h
 fills_mapped f (suc due) [] h = absurd h
 fills_mapped f (suc due) (e ∷ es) h = fills_mapped f (e.children + due) es h
 
-counts_mapped : {N M : Type 0} (f : N → M) (es : List (Entry N))
+counts_mapped : {N M : Type 0} (f : N → M) (es : List (Listed N))
     → counts_of (map (map_entry f) es) ≡ counts_of es
 counts_mapped f [] = refl
 counts_mapped f (e ∷ es) = ap (λ xs. e.children ∷ xs) (counts_mapped f es)

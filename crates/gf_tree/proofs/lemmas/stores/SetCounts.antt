@@ -5,17 +5,17 @@ use Rattle.gf_tree.proofs.Common.{actions_of, KnownSets, described, stored_sets,
 use Rattle.gf_tree.proofs.Common.{slice_get, slice_range, length-drop, length-take-le, AreStretches}
 use Rattle.gf_tree.proofs.Common.{end_of}
 use Rattle.gf_tree.specs.declared.game.action.Action.{Action as Held}
-use Rattle.gf_tree.specs.declared.game.sets.Entry.{Entry}
+use Rattle.gf_tree.specs.declared.game.sets.StoredSet.{StoredSet}
 
-abbrev pub counts_of : List Entry → List ℕ
+abbrev pub counts_of : List StoredSet → List ℕ
 counts_of entries = map (λ e. e.count) entries
 
 module _ (actions : List Held) (from : ℕ) (within : from ≤ length actions) where
-  as_many : (e : Entry) → e.start ≤ end_of e → end_of e ≤ from
+  as_many : (e : StoredSet) → e.start ≤ end_of e → end_of e ≤ from
       → length (actions_of (slice_range actions e.start (end_of e))) ≡ e.count
   as_many e ordered ends = grind (arith, length-drop, length-map, length-take-le)
 
-  counted : (entries : List Entry) (place n : ℕ)
+  counted : (entries : List StoredSet) (place n : ℕ)
       → AllByRecursion (λ e. (e.start ≤ end_of e) × (end_of e ≤ from)) entries
       → n ≡ get_or (counts_of entries) place n → place < length entries
       → option_map (λ s. length s.description.actions)
@@ -24,7 +24,7 @@ module _ (actions : List Held) (from : ℕ) (within : from ≤ length actions) w
   counted (e ∷ es) zero n all is there = ap (λ (k : ℕ). Some k) (as_many e all.0.0 all.0.1 ∙ sym is)
   counted (e ∷ es) (suc place) n all is there = counted es place n all.1 is (omega (arith, there))
 
-pub is_counted : (entries : List Entry) (actions : List Held) (from : ℕ) (counts : List ℕ)
+pub is_counted : (entries : List StoredSet) (actions : List Held) (from : ℕ) (counts : List ℕ)
     (place n : ℕ) (whole : KnownSets) → AreStretches (λ e. e.start) end_of entries actions from
     → counts ≡ counts_of entries → stored_sets entries actions from ≡ whole
     → place < length whole.known → n ≡ get_or counts place n
@@ -36,7 +36,7 @@ is_counted entries actions from counts place n whole stretches each view within 
     List ℕ). get_or ns place n) each) (omega (arith, within, as_long)))
 
 -- one more set
-pub counts_then : (entries stored : List Entry) (counts after : List ℕ) (new : Entry)
+pub counts_then : (entries stored : List StoredSet) (counts after : List ℕ) (new : StoredSet)
     → counts ≡ counts_of entries → stored ≡ entries ++ new ∷ [] → after ≡ counts ++ new.count ∷ []
     → after ≡ counts_of stored
 counts_then entries stored counts after new each is more = grind (arith, map-append)

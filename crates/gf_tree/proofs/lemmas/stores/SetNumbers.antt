@@ -10,18 +10,18 @@ use Rattle.std.proofs.Math.Seq.{get_or-append_seam}
 use Rattle.std.proofs.lemmas.Bool.{ltb-true, ltb-false}
 use Rattle.std.proofs.lemmas.List.{get_or_append_left}
 use Rattle.gf_tree.specs.declared.game.action.Action.{Action as Held}
-use Rattle.gf_tree.specs.declared.game.sets.Entry.{Entry}
+use Rattle.gf_tree.specs.declared.game.sets.StoredSet.{StoredSet}
 use Rattle.gf_tree.specs.inner.StoredSets.{AreNumbered}
 
-abbrev pub of_player : ℕ → List Entry → List Entry
+abbrev pub of_player : ℕ → List StoredSet → List StoredSet
 of_player player entries = filter (λ x. x.player == player) entries
 
-pub as_many : (actions : List Held) (player : ℕ) (entries : List Entry)
+pub as_many : (actions : List Held) (player : ℕ) (entries : List StoredSet)
     → length (known_of player (map (described actions) entries)) ≡ length (of_player player entries)
 as_many actions player [] = refl
 as_many actions player (e ∷ es) = grind (arith, as_many actions player es)
 
-pub is_among : (entries : List Entry) (actions : List Held) (from place : ℕ) (e : Entry)
+pub is_among : (entries : List StoredSet) (actions : List Held) (from place : ℕ) (e : StoredSet)
     (whole : KnownSets) → AreNumbered entries
     → stored_sets entries actions from ≡ whole → place < length whole.known
     → e ≡ get_or entries place e → number_among whole.known place ≡ Some e.among
@@ -30,7 +30,7 @@ is_among entries actions from place e whole numbered view within is =
     ap (λ (k : KnownSets). length k.known) (sym view) ∙ length-map entries (described actions) in
     let at : slice_get entries place ≡ Some e =
     cc (slice_get-get_or entries place e (omega (arith, within, as_long))) in
-    let made : List Entry → List _ = map (described actions) in
+    let made : List StoredSet → List _ = map (described actions) in
     let count : _ → ℕ = λ s. length (known_of s.key.player (take (place + 1) (made entries))) in
     let there : slice_get (made entries) place ≡ Some (described actions e) =
     slice_get-map (described actions) entries place ∙ ap (option_map (described actions)) at in
@@ -41,7 +41,7 @@ is_among entries actions from place e whole numbered view within is =
     ∙ ap (λ (n : ℕ). Some n) same
 
 -- one more set, with the next number of its player
-module _ (entries : List Entry) (new : Entry) (numbered : AreNumbered entries)
+module _ (entries : List StoredSet) (new : StoredSet) (numbered : AreNumbered entries)
     (next : new.among ≡ length (of_player new.player entries) + 1) where
   one_more : length (of_player new.player (entries ++ new ∷ [])) ≡ new.among
   one_more = grind (arith, filter-append, eq-eqb, length-append)
@@ -54,11 +54,11 @@ module _ (entries : List Entry) (new : Entry) (numbered : AreNumbered entries)
       by true is =
           let within : place < length entries = ltb-true place (length entries) is in
           let before : slice_get entries place ≡ Some e =
-          slice_get-get_or entries place new within ∙ ap (λ (x : Entry). Some x) (sym
+          slice_get-get_or entries place new within ∙ ap (λ (x : StoredSet). Some x) (sym
           (get_or_append_left entries (new ∷ []) new place within))
           ∙ sym (slice_get-get_or (entries ++ new ∷ []) place new
           (omega (arith, within, length-append entries (new ∷ [])))) ∙ at in
-          numbered place e before ∙ ap (λ (xs : List Entry). length (of_player e.player xs))
+          numbered place e before ∙ ap (λ (xs : List StoredSet). length (of_player e.player xs))
           (sym (take-append-le (place + 1) entries (new ∷ []) (omega (arith, within))))
       by false is =
           let past : length entries ≤ place = ltb-false place (length entries) is in
@@ -70,7 +70,7 @@ module _ (entries : List Entry) (new : Entry) (numbered : AreNumbered entries)
             length-append entries (new ∷ []),
           ) in
           let it : Some new ≡ Some e =
-          ap (λ (x : Entry). Some x) (sym (get_or-append_seam entries new [] new))
+          ap (λ (x : StoredSet). Some x) (sym (get_or-append_seam entries new [] new))
           ∙ ap (λ (k : ℕ). Some (get_or (entries ++ new ∷ []) k new)) (sym last)
           ∙ sym (slice_get-get_or (entries ++ new ∷ []) place new
           (omega (arith, last, length-append entries (new ∷ [])))) ∙ at in
@@ -78,7 +78,7 @@ module _ (entries : List Entry) (new : Entry) (numbered : AreNumbered entries)
           let all : take (place + 1) (entries ++ new ∷ []) ≡ entries ++ new ∷ [] =
           take_all (place + 1) (entries ++ new ∷ [])
           (omega (arith, last, length-append entries (new ∷ []))) in
-          let P : Entry → Type 0 = λ x. x.among
+          let P : StoredSet → Type 0 = λ x. x.among
           ≡ length (of_player x.player (take (place + 1) (entries ++ new ∷ []))) in
-          subst P same (sym one_more ∙ ap (λ (xs : List Entry). length (of_player new.player xs))
-          (sym all))
+          subst P same (sym one_more
+          ∙ ap (λ (xs : List StoredSet). length (of_player new.player xs)) (sym all))

@@ -4,11 +4,11 @@ use Rattle.gf_tree.proofs.Common.{arith, position, position_from, lookup, length
 use Rattle.gf_tree.proofs.Common.{position_from-zero, same_set, set_of, KnownSets, known_of}
 use Rattle.gf_tree.proofs.Common.{described, stored_sets, get_or, places_from, AreSets, None, sym}
 use Rattle.gf_tree.specs.declared.game.action.Action.{Action as Held}
-use Rattle.gf_tree.specs.declared.game.sets.Entry.{Entry}
+use Rattle.gf_tree.specs.declared.game.sets.StoredSet.{StoredSet}
 use Rattle.gf_tree.proofs.lemmas.stores.Places.{none_at}
 
 -- a number's place is the first place at which its key stands
-found_from : (actions : List Held) (player number : ℕ) (entries : List Entry) (place : ℕ)
+found_from : (actions : List Held) (player number : ℕ) (entries : List StoredSet) (place : ℕ)
     → lookup (nat_eq number) (places_from place player entries)
     ≡ position_from (same_set (set_of player number)) place
     (map (λ s. s.key) (map (described actions) entries))
@@ -17,14 +17,14 @@ found_from actions player number (e ∷ es) place =
     grind (arith, found_from actions player number es (place + 1))
 
 -- the numbers are those of the player's sets
-numbers_from : (actions : List Held) (player : ℕ) (entries : List Entry) (place : ℕ)
+numbers_from : (actions : List Held) (player : ℕ) (entries : List StoredSet) (place : ℕ)
     → map (λ p. p.0) (places_from place player entries)
     ≡ map (λ s. s.key.number) (known_of player (map (described actions) entries))
 numbers_from actions player [] place = refl
 numbers_from actions player (e ∷ es) place =
     grind (arith, numbers_from actions player es (place + 1))
 
-module _ (players : List (List (ℕ × ℕ))) (entries : List Entry) (actions : List Held)
+module _ (players : List (List (ℕ × ℕ))) (entries : List StoredSet) (actions : List Held)
     (from player : ℕ) (whole : KnownSets)
     (are : AreSets players entries actions from) (view : stored_sets entries actions from ≡ whole)
     (ns : List (ℕ × ℕ)) (held : List (List (ℕ × ℕ))) (same : held ≡ players) (own : ns
@@ -43,7 +43,7 @@ module _ (players : List (List (ℕ × ℕ))) (entries : List Entry) (actions : 
   counted = grind (arith, length-map, numbers)
 
 -- the same for a player who has had none
-module _ (players : List (List (ℕ × ℕ))) (entries : List Entry) (actions : List Held)
+module _ (players : List (List (ℕ × ℕ))) (entries : List StoredSet) (actions : List Held)
     (from player : ℕ) (whole : KnownSets)
     (are : AreSets players entries actions from) (view : stored_sets entries actions from ≡ whole)
     (held : List (List (ℕ × ℕ))) (same : held ≡ players) (none : get_or held player [] ≡ []) where

@@ -8,35 +8,35 @@ use Rattle.gf_tree.proofs.Common.{eqb-false, length-take-le, HoldActions, end_of
 use Rattle.gf_tree.proofs.Common.{AreSets, with_pending_set}
 use Rattle.std.proofs.Common.{length-append}
 use Rattle.gf_tree.specs.declared.game.action.Action.{Action as Held}
-use Rattle.gf_tree.specs.declared.game.sets.Entry.{Entry}
+use Rattle.gf_tree.specs.declared.game.sets.StoredSet.{StoredSet}
 use Rattle.gf_tree.proofs.lemmas.stores.SetPlaces.{found}
 use Rattle.gf_tree.proofs.lemmas.stores.StoredActions.{set_made}
 use Rattle.gf_tree.proofs.lemmas.stores.SetNumbers.{of_player, numbered_after}
 use Rattle.gf_tree.proofs.lemmas.stores.Stretching.{entry_within, items_until, part_until}
 
 -- a player has as many places as sets
-places_long : (player : ℕ) (entries : List Entry) (place : ℕ)
+places_long : (player : ℕ) (entries : List StoredSet) (place : ℕ)
     → length (places_from place player entries) ≡ length (of_player player entries)
 places_long player [] place = refl
 places_long player (e ∷ es) place = grind (arith, places_long player es (place + 1))
 
-places_fit : (player : ℕ) (entries : List Entry) (place : ℕ)
+places_fit : (player : ℕ) (entries : List StoredSet) (place : ℕ)
     → length (places_from place player entries) ≤ length entries
 places_fit player [] place = omega arith
 places_fit player (e ∷ es) place = grind (arith, places_fit player es (place + 1))
 
 -- the place of an entry, if it is this player's
-abbrev place_of : ℕ → Entry → ℕ → List (ℕ × ℕ)
+abbrev place_of : ℕ → StoredSet → ℕ → List (ℕ × ℕ)
 place_of player e place = if e.player == player then (e.number, place) ∷ [] else []
 
 -- an entry after them has the last place among its player's
-places_after : (player : ℕ) (entries : List Entry) (new : Entry) (place : ℕ)
+places_after : (player : ℕ) (entries : List StoredSet) (new : StoredSet) (place : ℕ)
     → places_from place player (entries ++ new ∷ [])
     ≡ places_from place player entries ++ place_of player new (place + length entries)
 places_after player [] new place = ap (place_of player new) (omega arith)
 places_after player (e ∷ es) new place = grind (arith, places_after player es new (place + 1))
 
-module _ (players : List (List (ℕ × ℕ))) (entries : List Entry) (actions : List Held) (from : ℕ)
+module _ (players : List (List (ℕ × ℕ))) (entries : List StoredSet) (actions : List Held) (from : ℕ)
     (are : AreSets players entries actions from) where
   pub has_fewer : (player : ℕ) → length (get_or players player []) ≤ length entries
   has_fewer player = grind (arith, places_fit)
@@ -47,7 +47,7 @@ module _ (players : List (List (ℕ × ℕ))) (entries : List Entry) (actions : 
   absent player number whole view none = grind (arith, found)
 
   -- an entry of this set, with the actions from here on, and the actions that are kept
-  module _ (new : Entry) (last : ℕ) (holds : HoldActions actions from new.start (end_of new))
+  module _ (new : StoredSet) (last : ℕ) (holds : HoldActions actions from new.start (end_of new))
       (all : last ≡ max from (end_of new)) where
     behind : from ≤ last
     behind = omega (arith, all)
@@ -59,7 +59,7 @@ module _ (players : List (List (ℕ × ℕ))) (entries : List Entry) (actions : 
     within = omega (arith, all, holds.within, holds.begun)
 
     pub view_then : (whole : KnownSets) → stored_sets entries actions from ≡ whole
-        → (stored : List Entry) → stored ≡ entries ++ new ∷ []
+        → (stored : List StoredSet) → stored ≡ entries ++ new ∷ []
         → (kept : List Held) → kept ≡ take last actions → stored_sets stored kept last
         ≡ with_pending_set whole (set_of new.player new.number) (label_of new.name)
     view_then whole view stored is kept cut =
@@ -104,7 +104,7 @@ module _ (players : List (List (ℕ × ℕ))) (entries : List Entry) (actions : 
       }
 
     -- the same, by what the calls say
-    pub are_stored : (after : List (List (ℕ × ℕ))) (stored : List Entry) (kept : List Held)
+    pub are_stored : (after : List (List (ℕ × ℕ))) (stored : List StoredSet) (kept : List Held)
         (place : ℕ) → stored ≡ entries ++ new ∷ [] → kept ≡ take last actions
         → place ≡ length entries
         → ((other : ℕ) → other ≢ new.player → get_or after other [] ≡ get_or players other [])

@@ -4,17 +4,17 @@ use Rattle.gf_tree.proofs.Common.{label_of, actions_of, InformationSet, SetKey, 
 use Rattle.gf_tree.proofs.Common.{KnownSets, described, stored_sets, drop-append-le, action_of}
 use Rattle.gf_tree.proofs.Common.{end_of, AreSets}
 use Rattle.gf_tree.specs.declared.game.action.Action.{Action as Held}
-use Rattle.gf_tree.specs.declared.game.sets.Entry.{Entry}
+use Rattle.gf_tree.specs.declared.game.sets.StoredSet.{StoredSet}
 use Rattle.gf_tree.proofs.lemmas.stores.Stretching.{items_after}
 
-abbrev pub set_made : Entry → List Held → Described SetKey InformationSet
+abbrev pub set_made : StoredSet → List Held → Described SetKey InformationSet
 set_made e actions = record {
   key = set_of e.player e.number;
   description =
       record { name = label_of e.name; actions = actions_of actions };
 }
 
-pub action_pushed : (players : List (List (ℕ × ℕ))) (entries : List Entry)
+pub action_pushed : (players : List (List (ℕ × ℕ))) (entries : List StoredSet)
     (actions after : List Held) (from : ℕ) (action : Held) (whole : KnownSets)
     → AreSets players entries actions from → stored_sets entries actions from ≡ whole
     → after ≡ actions ++ action ∷ [] → stored_sets entries after from ≡ record whole {

@@ -3,19 +3,19 @@ use Rattle.gf_tree.proofs.Common.{◌≡◌, ℕ, ◌+◌, ◌<◌, ◌^◌, Lis
 use Rattle.gf_tree.proofs.Common.{arith, Ratio, label_of, Outcome, Described, drop-append-le}
 use Rattle.gf_tree.proofs.Common.{KnownOutcomes, stored_outcomes, AreOutcomes}
 use Rattle.std.proofs.Common.{length-append}
-use Rattle.gf_tree.specs.declared.game.outcomes.Entry.{Entry}
+use Rattle.gf_tree.specs.declared.game.outcomes.StoredOutcome.{StoredOutcome}
 use Rattle.gf_tree.specs.inner.StoredOutcomes.{described, end_of}
 use Rattle.gf_tree.proofs.lemmas.stores.OutcomePlaces.{places_then}
 use Rattle.gf_tree.proofs.lemmas.stores.Stretching.{entry_after, items_after}
 
-abbrev made_of : Entry → List Ratio → Described ℕ Outcome
+abbrev made_of : StoredOutcome → List Ratio → Described ℕ Outcome
 made_of e payoffs = record {
   key = e.number;
   description =
       record { name = label_of e.name; payoffs = payoffs };
 }
 
-module _ (ns : List (ℕ × ℕ)) (entries : List Entry) (payoffs : List Ratio) (from : ℕ)
+module _ (ns : List (ℕ × ℕ)) (entries : List StoredOutcome) (payoffs : List Ratio) (from : ℕ)
     (whole : KnownOutcomes) (are : AreOutcomes ns entries payoffs from)
     (view : stored_outcomes entries payoffs from ≡ whole) where
   pub payoff_pushed : (after : List Ratio) (payoff : Ratio) → after ≡ payoffs ++ payoff ∷ []
@@ -34,9 +34,9 @@ module _ (ns : List (ℕ × ℕ)) (entries : List Entry) (payoffs : List Ratio) 
       cc (is, more)
 
   -- one more outcome, with the payoffs from here on
-  module _ (new : Entry) (stored : List Entry) (is : stored ≡ entries ++ new ∷ []) (place last : ℕ)
-      (at : place ≡ length entries) (all : last ≡ length payoffs)
-      (starts : new.start ≡ from) (ends : end_of new ≡ last) where
+  module _ (new : StoredOutcome) (stored : List StoredOutcome)
+      (is : stored ≡ entries ++ new ∷ []) (place last : ℕ) (at : place ≡ length entries)
+      (all : last ≡ length payoffs) (starts : new.start ≡ from) (ends : end_of new ≡ last) where
     pub outcomes_stored : (after : List (ℕ × ℕ)) → after ≡ ns ++ (new.number, place) ∷ []
         → place + 1 < 2 ^ 32 → AreOutcomes after stored payoffs last
     outcomes_stored after own room = grind (arith, entry_after, places_then, length-append)

@@ -2,7 +2,7 @@
 use Rattle.gf_tree.proofs.Common.{◌≡◌, ℕ, zero, suc, ◌+◌, ◌<◌, ◌≤◌, List, [], ◌∷◌, ◌++◌, length}
 use Rattle.gf_tree.proofs.Common.{map, drop, get_or, slice_get, refl, sym, ap, ◌∙◌, append_assoc}
 use Rattle.gf_tree.proofs.Common.{arith, length-map, map-append, drop-map, Tree, Trees, count}
-use Rattle.gf_tree.proofs.Common.{branch, none, more, Entry, flatten, flatten_all, subtree_sizes}
+use Rattle.gf_tree.proofs.Common.{branch, none, more, Listed, flatten, flatten_all, subtree_sizes}
 use Rattle.gf_tree.proofs.Common.{Begin, skipped, zero-add, list_of, subtrees, subtrees_all}
 use Rattle.gf_tree.proofs.Common.{sizes_grown}
 use Rattle.std.proofs.Common.{length-append}
@@ -13,7 +13,7 @@ use Rattle.gf_tree.specs.GrowsAgain.{join}
 abbrev size_of : {N : Type 0} → Tree N → ℕ
 size_of t = length (flatten t)
 
-abbrev pub counts_of : {N : Type 0} → List (Entry N) → List ℕ
+abbrev pub counts_of : {N : Type 0} → List (Listed N) → List ℕ
 counts_of es = map (λ e. e.children) es
 
 -- ---- a list after its first part
@@ -148,12 +148,12 @@ subtrees_join (more t ts) us = ap (λ es. subtrees t ++ es) (subtrees_join ts us
     ∙ sym (append_assoc (subtrees t) (subtrees_all ts) (subtrees_all us))
 
 -- from this place on stands a tree, and other trees after it
-pub record Stands {N : Type 0} (es : List (Entry N)) (ss : List (Tree N)) (at : ℕ) (n : N)
+pub record Stands {N : Type 0} (es : List (Listed N)) (ss : List (Tree N)) (at : ℕ) (n : N)
     (ts us : Trees N) : Type 0 where
   pub entries : drop at es ≡ flatten (branch n ts) ++ flatten_all us
   pub trees : drop at ss ≡ subtrees (branch n ts) ++ subtrees_all us
 
-pub record SomeStands {N : Type 0} (es : List (Entry N)) (ss : List (Tree N))
+pub record SomeStands {N : Type 0} (es : List (Listed N)) (ss : List (Tree N))
     (at : ℕ) : Type 0 where
   pub node : N
   pub below : Trees N

@@ -3,7 +3,7 @@ use Rattle.gf_tree.proofs.Common.{◌≡◌, ◌↔◌, Bool, ℕ, zero, suc, �
 use Rattle.gf_tree.proofs.Common.{length, map, Some, None, Option, MatchOption, option_map, refl}
 use Rattle.gf_tree.proofs.Common.{sym, ap, subst, ◌∙◌, arith, inl, inr, codes, AllByRecursion}
 use Rattle.gf_tree.proofs.Common.{filter_map, Decides-eqb, Ratio, IsFraction, Token, braced}
-use Rattle.gf_tree.proofs.Common.{Closing, Text, Bare, Entry, flatten, Action, SetKey}
+use Rattle.gf_tree.proofs.Common.{Closing, Text, Bare, Listed, flatten, Action, SetKey}
 use Rattle.gf_tree.proofs.Common.{InformationSet, Outcome, same_set, IsSet, Use, FileNode, FileTree}
 use Rattle.gf_tree.proofs.Common.{Described, description_at, first_uses, Sentence, SpellsGame}
 use Rattle.gf_tree.proofs.Common.{IsSpellable, IsSpellableSet, IsSpellableOutcome, Game, IsGame}
@@ -71,9 +71,9 @@ outcome_use g is can (Some k) among =
     (among k refl) in
     grind arith
 
--- the keys of an entry are among those that are used
-among_options : {N K : Type 0} (f : Entry N → Option K) (es : List (Entry N)) (e : Entry N) (k : K)
-    → Has es e → f e ≡ Some k → Has (filter_map f es) k
+-- the keys of a listed node are among those that are used
+among_options : {N K : Type 0} (f : Listed N → Option K) (es : List (Listed N)) (e : Listed N)
+    (k : K) → Has es e → f e ≡ Some k → Has (filter_map f es) k
 among_options f [] e k h q = absurd h
 among_options f (x ∷ xs) e k (inl p) q = has_first (f x) (filter_map f xs) k (ap f p ∙ q)
 among_options f (x ∷ xs) e k (inr m) q =
@@ -183,7 +183,7 @@ nodes_of_game g is can =
     let x = mapped_from (λ e. e.node) (map (map_entry (told g)) es) n
     (subst (λ fs. Has (map (λ e. e.node) fs) n) entries m) in
     let y = mapped_from (map_entry (told g)) es x.0 x.1 in
-    let node : told g y.0.node ≡ n = ap (λ (e : Entry FileNode). e.node) y.2 ∙ x.2 in
+    let node : told g y.0.node ≡ n = ap (λ (e : Listed FileNode). e.node) y.2 ∙ x.2 in
     let name : IsLabel y.0.node.name = each (λ e. IsLabel e.node.name) es y.0 can.nodes y.1 in
     let set =
     set_use g is can y.0.node.set (λ k q. among_options (λ e. e.node.set) es y.0 k y.1 q) in

@@ -1,4 +1,4 @@
-use Rattle.gf_form.proofs.Common.{IfOk-weaker, length-map, label_of, entries, length, Terms, ◌≡◌}
+use Rattle.gf_form.proofs.Common.{IfOk-weaker, length-map, label_of, all_terms, length, Terms, ◌≡◌}
 use Rattle.gf_form.proofs.Common.{◌∙◌, sym, suc, ap}
 use Rattle.gf_form.proofs.lemmas.rows.SummedNodes.{terms_of_sums}
 use Rattle.gf_form.proofs.rows.listed.game_terms.Goals as goal
@@ -9,7 +9,7 @@ returns-clause-terms c =
     let as_many : length players ≡ length c.args.game.now.players =
     sym (length-map players label_of) ∙ ap length c.players-players.ensures.names in
     IfOk-weaker c.listed.result _ _
-    (λ (terms : Terms) told. terms_of_sums c.args.game.now _ _ _ (entries terms)
+    (λ (terms : Terms) told. terms_of_sums c.args.game.now _ _ _ (all_terms terms)
     (λ k. c.in_ok-nodes.ensures.shares c.args.game.now (suc k))
     (rw (as_many, c.deref.ensures.value) at (told c.args.game.now c.requires.payoffs)))
     c.listed.ensures.terms

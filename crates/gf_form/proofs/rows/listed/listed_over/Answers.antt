@@ -1,5 +1,5 @@
 use Rattle.gf_form.proofs.Common.{◌≡◌, ap, arith, length, take-length, get_or_default, Reached}
-use Rattle.gf_form.proofs.lemmas.rows.ListedEntries.{no_node, nodes_listed}
+use Rattle.gf_form.proofs.lemmas.rows.ListedTerms.{no_node, nodes_listed}
 use Rattle.gf_form.proofs.rows.listed.listed_over.Goals as goal
 
 pub loop-start-preserved : goal.loop-start-preserved

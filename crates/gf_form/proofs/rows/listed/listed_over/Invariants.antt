@@ -1,5 +1,5 @@
 use Rattle.gf_form.proofs.Common.{◌-◌, ◌≤◌, length, rows_of}
-use Rattle.gf_form.proofs.lemmas.rows.ListedEntries.{Listing}
+use Rattle.gf_form.proofs.lemmas.rows.ListedTerms.{Listing}
 use Rattle.gf_form.proofs.rows.listed.listed_over.Given as goal
 
 abbrev pub invariant-loop-start : goal.invariant-loop-start

@@ -5,7 +5,7 @@ use Rattle.gf_form.proofs.Common.{◌≡◌, sym, ◌∷◌, suc, ◌+◌, [], �
 use Rattle.gf_form.specs.inner.rows.ListedNodes.{HasShares}
 use Rattle.gf_form.specs.inner.rows.Shares.{IsShare}
 use Rattle.gf_form.proofs.lemmas.rows.ItemRows.{in_bits}
-use Rattle.gf_form.proofs.lemmas.rows.ListedEntries.{shares_append, bounds_append, no_node, node_at}
+use Rattle.gf_form.proofs.lemmas.rows.ListedTerms.{shares_append, bounds_append, no_node, node_at}
 use Rattle.gf_form.specs.declared.rows.share.Share.{Share}
 use Rattle.gf_form.proofs.rows.listed.shares_of.Goals as goal
 

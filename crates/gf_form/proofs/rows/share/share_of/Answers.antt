@@ -3,7 +3,7 @@ use Rattle.gf_form.proofs.Common.{mul_assoc, *ℤ_assoc, term_of, *ℤ-zero, one
 use Rattle.gf_form.proofs.Common.{arith, subst, Ratio, ◌*ℤ◌, ints, of_z, refl, to_z, w128, Path, ap}
 use Rattle.gf_form.proofs.Common.{◌≡◌, ◌∙◌, ◌*◌, pos, sym, ◌/◌, ℕ, ℤ}
 use Rattle.std.proofs.Common.{FitsSigned}
-use Rattle.gf_form.specs.inner.rows.Entries.{IsFactor}
+use Rattle.gf_form.specs.inner.rows.TermLists.{IsFactor}
 use Rattle.gf_form.specs.inner.rows.Shares.{IsShare}
 use Rattle.gf_form.specs.declared.rows.share.Share.{Share}
 use Rattle.gf_form.proofs.rows.share.share_of.Goals as goal

@@ -1,6 +1,6 @@
 use Rattle.gf_form.proofs.Common.{◌∙◌, ◌+ℤ◌, ◌*ℤ◌, ◌++◌, ◌∷◌, [], ℤ, false, lit<, pos, ap, arith}
 use Rattle.gf_form.proofs.Common.{IsWithin, to_z-of_z, w128}
-use Rattle.gf_form.specs.inner.rows.Entries.{IsSumAt}
+use Rattle.gf_form.specs.inner.rows.TermLists.{IsSumAt}
 use Rattle.gf_form.proofs.lemmas.rows.ItemRows.{in_bits, one_item, unknown}
 use Rattle.gf_form.proofs.rows.terms.push_numbers.Goals.{in-None, in-Some}
 use Rattle.gf_form.proofs.rows.terms.push_numbers.Goals as goal

@@ -1,5 +1,5 @@
 use Rattle.gf_form.proofs.Common.{◌+◌, ◌-◌, ◌≤◌, length, vec_capacity, vec_len}
-use Rattle.gf_form.specs.inner.rows.Entries.{IsSumAt}
+use Rattle.gf_form.specs.inner.rows.TermLists.{IsSumAt}
 use Rattle.gf_form.specs.inner.rows.ItemRows.{HasRow}
 use Rattle.gf_form.proofs.rows.terms.push_numbers.Given as goal
 

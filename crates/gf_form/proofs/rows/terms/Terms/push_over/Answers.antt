@@ -1,4 +1,4 @@
-use Rattle.gf_form.proofs.Common.{get_or_default, entry_at, IsWithin, get_or, length, Global, arith}
+use Rattle.gf_form.proofs.Common.{get_or_default, term_at, IsWithin, get_or, length, Global, arith}
 use Rattle.gf_form.proofs.Common.{◌+ℤ◌, ◌*ℤ◌, true, ◌≡◌, ◌∙◌, ◌<◌, pos, sym, Vec, ap, ℕ, ℤ}
 use Rattle.gf_form.proofs.lemmas.rows.FlatRows.{Pushed, is_pushed, all_sums, row_length, sum_made}
 use Rattle.gf_form.proofs.lemmas.rows.ItemRows.{all_by_place}
@@ -45,7 +45,7 @@ returns-clause-sum c =
       demands = c.index.ensures
           ∙ get_or_default from.demands.items c.args.first c.index.result.now 0 c.requires.first;
       adds = λ above.
-          sum_made (entry_at from c.args.first) (entry_at from c.args.second) scale
+          sum_made (term_at from c.args.first) (term_at from c.args.second) scale
           c.in_ok-fits.fits c.index.result.now more.row
           (c.requires.scale (omega (arith, above, (known above).1))) sums c.if-fits.den known
           above;

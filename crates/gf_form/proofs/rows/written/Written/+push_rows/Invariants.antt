@@ -1,5 +1,5 @@
 use Rattle.gf_form.proofs.Common.{◌-◌, ◌≡◌, ◌≤◌, length, AreWritten}
-use Rattle.gf_form.specs.inner.rows.Entries.{AreWithin}
+use Rattle.gf_form.specs.inner.rows.TermLists.{AreWithin}
 use Rattle.gf_form.proofs.rows.written.Written.+push_rows.Given as goal
 
 abbrev pub decreases-push_rows : goal.decreases-push_rows

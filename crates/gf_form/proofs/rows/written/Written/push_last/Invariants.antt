@@ -1,5 +1,5 @@
 use Rattle.gf_form.proofs.Common.{AreWritten}
-use Rattle.gf_form.specs.inner.rows.Entries.{AreWithin}
+use Rattle.gf_form.specs.inner.rows.TermLists.{AreWithin}
 use Rattle.gf_form.proofs.rows.written.Written.push_last.Given as goal
 
 abbrev pub invariant-loop-before : goal.invariant-loop-before

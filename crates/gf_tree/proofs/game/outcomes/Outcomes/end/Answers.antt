@@ -1,12 +1,12 @@
 use Rattle.gf_tree.proofs.Common.{refl, arith, rules}
-use Rattle.gf_tree.specs.declared.game.outcomes.Entry.{Entry}
+use Rattle.gf_tree.specs.declared.game.outcomes.StoredOutcome.{StoredOutcome}
 use Rattle.gf_tree.proofs.lemmas.stores.StoredPayoffs.{outcomes_stored}
 use Rattle.gf_tree.proofs.game.outcomes.Outcomes.end.Goals as goal
 
 pub invariant_of-self-2 : goal.invariant_of-self-2
 invariant_of-self-2 c =
     let o = c.self.inside in
-    let new : Entry = record {
+    let new : StoredOutcome = record {
       number = c.args.number;
       count = c.in-Ok.count;
       name = c.args.name;

@@ -2,13 +2,13 @@ use Rattle.gf_tree.proofs.Common.{List, arith, rules, subst, HoldActions, end_of
 use Rattle.gf_tree.proofs.lemmas.stores.SetCounts.{counts_then}
 use Rattle.gf_tree.proofs.lemmas.stores.SetsEnded.{are_stored, view_then}
 use Rattle.gf_tree.specs.declared.game.action.Action.{Action as Held}
-use Rattle.gf_tree.specs.declared.game.sets.Entry.{Entry}
+use Rattle.gf_tree.specs.declared.game.sets.StoredSet.{StoredSet}
 use Rattle.gf_tree.proofs.game.sets.Sets.end.Goals as goal
 
 pub invariant_of-self-2 : goal.invariant_of-self-2
 invariant_of-self-2 c =
     let s = c.self.inside in
-    let new : Entry = record {
+    let new : StoredSet = record {
       player = c.args.player;
       number = c.args.number;
       among = c.in_ok-among.among;
@@ -34,7 +34,7 @@ invariant_of-self-2 c =
 pub returns-clause-ok : goal.returns-clause-ok
 returns-clause-ok c =
     let s = c.self.inside in
-    let new : Entry = record {
+    let new : StoredSet = record {
       player = c.args.player;
       number = c.args.number;
       among = c.in_ok-among.among;

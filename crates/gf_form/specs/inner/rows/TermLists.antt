@@ -14,12 +14,12 @@ use Rattle.gf_form.specs.declared.rows.terms.Terms.{Terms}
 use Rattle.gf_form.specs.declared.rows.sums.Scale.{Scale}
 
 -- a term
-pub record Entry : Type 0 where
+pub record Term : Type 0 where
   pub head : Head
   pub row : List ℤ
 
 -- the number of the player at this position, from 1; the size stands before those of the players
-abbrev pub number_at : ℕ → Entry → ℤ
+abbrev pub number_at : ℕ → Term → ℤ
 number_at k e = get_or (pos e.head.size ∷ e.row) k (pos 0)
 
 -- what the numbers of the term at a place, from 0, are over
@@ -27,8 +27,8 @@ abbrev pub scaled_at : Terms → ℕ → Scaled
 scaled_at t place = get_or t.scaled.items place (record { den = t.den; size = 0 })
 
 -- the term at a place, from 0
-abbrev pub entry_at : Terms → ℕ → Entry
-entry_at t place = record {
+abbrev pub term_at : Terms → ℕ → Term
+term_at t place = record {
   head = record {
     demands = get_or t.demands.items place 0;
     den = (scaled_at t place).den;
@@ -38,12 +38,12 @@ entry_at t place = record {
 }
 
 -- this many of the first terms
-abbrev pub first_entries : Terms → ℕ → List Entry
-first_entries t zero = []
-first_entries t (suc n) = first_entries t n ++ entry_at t n ∷ []
+abbrev pub first_terms : Terms → ℕ → List Term
+first_terms t zero = []
+first_terms t (suc n) = first_terms t n ++ term_at t n ∷ []
 
-abbrev pub entries : Terms → List Entry
-entries t = first_entries t (length t.demands.items)
+abbrev pub all_terms : Terms → List Term
+all_terms t = first_terms t (length t.demands.items)
 
 -- what the terms are over is as it was, and that of the next one is known
 pub record IsNoted (old new : Terms) (den size : ℕ) : Type 0 where
@@ -84,15 +84,15 @@ abbrev pub EndsBelow : List ℕ → ℕ → Type 0
 EndsBelow demands n =
     (d : ℕ) → 0 < length demands → get_or demands (length demands - 1) d ≤ n
 
-abbrev pub no_entry : Entry
-no_entry = record { head = record { demands = 0; den = 0; size = 0 }; row = [] }
+abbrev pub no_term : Term
+no_term = record { head = record { demands = 0; den = 0; size = 0 }; row = [] }
 
 -- the terms from one place up to another
-abbrev pub part : ℕ → ℕ → List Entry → List Entry
+abbrev pub part : ℕ → ℕ → List Term → List Term
 part start end es = take (end - start) (drop start es)
 
 -- the same with lower demands
-abbrev pub lowered : ℕ → Entry → Entry
+abbrev pub lowered : ℕ → Term → Term
 lowered less e = record {
   head = record { demands = e.head.demands - less; den = e.head.den; size = e.head.size };
   row = e.row;
@@ -118,7 +118,7 @@ IsSumAt first second by_first by_second fits k number = IsWithin number × (fits
     ≡ get_or first k (pos 0) *ℤ pos by_first +ℤ get_or second k (pos 0) *ℤ pos by_second)
 
 -- the term is the sum of two others
-pub record IsSumOf (a b sum : Entry) : Type 0 where
+pub record IsSumOf (a b sum : Term) : Type 0 where
   pub first : 0 < a.head.den
   pub first_divides : a.head.den ∣ sum.head.den
   pub second : 0 < b.head.den
@@ -127,43 +127,43 @@ pub record IsSumOf (a b sum : Entry) : Type 0 where
       +ℤ number_at k b *ℤ pos (sum.head.den / b.head.den)
 
 -- one more term, with the demands of the first, which is the sum of two if it is known to fit
-pub record HasSum (a b : Entry) (old new : List Entry) : Type 0 where
-  pub sum : Entry
+pub record HasSum (a b : Term) (old new : List Term) : Type 0 where
+  pub sum : Term
   pub is : new ≡ old ++ sum ∷ []
   pub demands : sum.head.demands ≡ a.head.demands
   pub adds : 0 < sum.head.den → IsSumOf a b sum
 
 -- ---- what the terms come to, over one denominator, at choices for each digit
 
-abbrev pub IsExactAt : ℕ → List ℕ → List ℕ → Entry → Type 0
+abbrev pub IsExactAt : ℕ → List ℕ → List ℕ → Term → Type 0
 IsExactAt den steps choices e =
     meets steps choices e.head.demands ≡ true → (0 < e.head.den) × (e.head.den ∣ den)
 
 -- the denominators of those that are met are known, and divide this one
-abbrev pub AreExactAt : ℕ → List ℕ → List ℕ → List Entry → Type 0
+abbrev pub AreExactAt : ℕ → List ℕ → List ℕ → List Term → Type 0
 AreExactAt den steps choices es = AllByRecursion (IsExactAt den steps choices) es
 
 -- what the terms that are met come to for the player at this position, from 1, and at 0 their sizes
-abbrev pub sum_of_entries : ℕ → ℕ → List ℕ → List ℕ → List Entry → ℤ
-sum_of_entries k den steps choices [] = pos 0
-sum_of_entries k den steps choices (e ∷ es) =
+abbrev pub sum_of_terms : ℕ → ℕ → List ℕ → List ℕ → List Term → ℤ
+sum_of_terms k den steps choices [] = pos 0
+sum_of_terms k den steps choices (e ∷ es) =
     (if meets steps choices e.head.demands then number_at k e *ℤ pos (den / e.head.den) else pos 0)
-    +ℤ sum_of_entries k den steps choices es
+    +ℤ sum_of_terms k den steps choices es
 
 -- these terms, at choices for their digits, come to what others come to
-pub record ComeTo (den : ℕ) (steps choices : List ℕ) (es : List Entry) (others_steps others_choices
-    : List ℕ) (others : List Entry) : Type 0 where
+pub record ComeTo (den : ℕ) (steps choices : List ℕ) (es : List Term) (others_steps others_choices
+    : List ℕ) (others : List Term) : Type 0 where
   pub exact : AreExactAt den steps choices es
-  pub sums : (k : ℕ) → sum_of_entries k den steps choices es
-      ≡ sum_of_entries k den others_steps others_choices others
+  pub sums : (k : ℕ) → sum_of_terms k den steps choices es
+      ≡ sum_of_terms k den others_steps others_choices others
 
 -- what is left of terms if this action is chosen at the slowest digit
-abbrev pub AreMerged : ℕ → ℕ → List Entry → List Entry → Type 0
+abbrev pub AreMerged : ℕ → ℕ → List Term → List Term → Type 0
 AreMerged step action es left = (den : ℕ) (steps choices : List ℕ)
     → AreExactAt den steps choices left
     → ComeTo den (step ∷ steps) (action ∷ choices) es steps choices left
 
 -- the first come to what the others come to
-abbrev pub ComeAsWell : List Entry → List Entry → Type 0
+abbrev pub ComeAsWell : List Term → List Term → Type 0
 ComeAsWell es others = (den : ℕ) (steps choices : List ℕ) → AreExactAt den steps choices others
     → ComeTo den steps choices es steps choices others

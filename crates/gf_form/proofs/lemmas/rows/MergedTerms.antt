@@ -1,8 +1,8 @@
 -- What terms come to, part by part, and while they are merged.
-use Rattle.gf_form.proofs.Common.{AllByRecursion, sum_of_entries, if◌then◌else◌, unsigned_abs, ◌+ℤ◌}
+use Rattle.gf_form.proofs.Common.{AllByRecursion, sum_of_terms, if◌then◌else◌, unsigned_abs, ◌+ℤ◌}
 use Rattle.gf_form.proofs.Common.{AreExactAt, ComeAsWell, dvd_trans, all_parts, AreMerged, +ℤ_assoc}
 use Rattle.gf_form.proofs.Common.{IsExactAt, number_at, all_both, *ℤ_assoc, zero-*ℤ, IsSumOf, false}
-use Rattle.gf_form.proofs.Common.{lowered, +ℤ_idl, add-*ℤ, ComeTo, arith, meets, ◌≡◌, Entry, ◌*ℤ◌}
+use Rattle.gf_form.proofs.Common.{lowered, +ℤ_idl, add-*ℤ, ComeTo, arith, meets, ◌≡◌, Term, ◌*ℤ◌}
 use Rattle.gf_form.proofs.Common.{Bool, true, List, ◌++◌, refl, ints, pos, ◌+◌, ◌-◌, ℕ, ◌*◌, ◌/◌}
 use Rattle.gf_form.proofs.Common.{◌<◌, ◌≤◌, ◌∷◌, sym, map, ◌⊎◌, ◌∣◌, [], ap, ℤ}
 use Rattle.gf_form.proofs.lemmas.rows.OverOneDenominator.{quotient_through}
@@ -10,19 +10,19 @@ use Rattle.gf_form.proofs.lemmas.rows.OverOneDenominator.{quotient_through}
 false_true : ¬ (false ≡ true)
 false_true e = absurd cc
 
-pub same_come : (es : List Entry) → ComeAsWell es es
+pub same_come : (es : List Term) → ComeAsWell es es
 same_come es den steps choices exact = record { exact = exact; sums = λ k. refl }
 
 -- ---- the first term
 
-module _ (k den : ℕ) (steps choices : List ℕ) (e : Entry) (es : List Entry) where
+module _ (k den : ℕ) (steps choices : List ℕ) (e : Term) (es : List Term) where
   pub first_met : meets steps choices e.head.demands ≡ true
-      → sum_of_entries k den steps choices (e ∷ es)
-      ≡ number_at k e *ℤ pos (den / e.head.den) +ℤ sum_of_entries k den steps choices es
+      → sum_of_terms k den steps choices (e ∷ es)
+      ≡ number_at k e *ℤ pos (den / e.head.den) +ℤ sum_of_terms k den steps choices es
   first_met met = rw met refl
 
   pub none_first : number_at k e ≡ pos 0
-      → sum_of_entries k den steps choices (e ∷ es) ≡ sum_of_entries k den steps choices es
+      → sum_of_terms k den steps choices (e ∷ es) ≡ sum_of_terms k den steps choices es
   none_first none = grind (arith, zero-*ℤ, +ℤ_idl)
 
 -- ---- the sum of two terms
@@ -31,7 +31,7 @@ pub scaled : (z : ℤ) (d m den : ℕ) → 0 < d → d ∣ m → m ∣ den
     → (z *ℤ pos (m / d)) *ℤ pos (den / m) ≡ z *ℤ pos (den / d)
 scaled z d m den above dm mden = grind (arith, *ℤ_assoc, quotient_through, dvd_trans)
 
-module _ (den : ℕ) (a b sum : Entry) (adds : IsSumOf a b sum) (divides : sum.head.den ∣ den) where
+module _ (den : ℕ) (a b sum : Term) (adds : IsSumOf a b sum) (divides : sum.head.den ∣ den) where
   pub numbers_added : (k : ℕ) → number_at k sum *ℤ pos (den / sum.head.den)
       ≡ number_at k a *ℤ pos (den / a.head.den) +ℤ number_at k b *ℤ pos (den / b.head.den)
   numbers_added k = grind (arith, add-*ℤ, scaled)
@@ -39,9 +39,9 @@ module _ (den : ℕ) (a b sum : Entry) (adds : IsSumOf a b sum) (divides : sum.h
 -- ---- parts of a list
 
 module _ (den : ℕ) (steps choices : List ℕ) where
-  pub sum_append : (k : ℕ) (xs ys : List Entry) → sum_of_entries k den steps choices (xs ++ ys)
-      ≡ sum_of_entries k den steps choices xs +ℤ sum_of_entries k den steps choices ys
-  sum_append k [] ys = sym (+ℤ_idl (sum_of_entries k den steps choices ys))
+  pub sum_append : (k : ℕ) (xs ys : List Term) → sum_of_terms k den steps choices (xs ++ ys)
+      ≡ sum_of_terms k den steps choices xs +ℤ sum_of_terms k den steps choices ys
+  sum_append k [] ys = sym (+ℤ_idl (sum_of_terms k den steps choices ys))
   sum_append k (x ∷ xs) ys = grind (arith, +ℤ_assoc, sum_append k xs ys)
 
   one_above : (met : Bool) (m n : ℕ) (s : ℤ) → s ≡ pos (unsigned_abs s)
@@ -49,20 +49,20 @@ module _ (den : ℕ) (steps choices : List ℕ) where
       ≡ pos (unsigned_abs ((if met then pos m *ℤ pos n else pos 0) +ℤ s))
   one_above met m n s above = grind (arith, ints)
 
-  sizes_above : (es : List Entry) → sum_of_entries 0 den steps choices es
-      ≡ pos (unsigned_abs (sum_of_entries 0 den steps choices es))
+  sizes_above : (es : List Term) → sum_of_terms 0 den steps choices es
+      ≡ pos (unsigned_abs (sum_of_terms 0 den steps choices es))
   sizes_above [] = refl
   sizes_above (e ∷ es) =
       one_above (meets steps choices e.head.demands) e.head.size (den / e.head.den)
-      (sum_of_entries 0 den steps choices es) (sizes_above es)
+      (sum_of_terms 0 den steps choices es) (sizes_above es)
 
-  pub size_append : (xs ys : List Entry)
-      → unsigned_abs (sum_of_entries 0 den steps choices (xs ++ ys))
-      ≡ unsigned_abs (sum_of_entries 0 den steps choices xs)
-      + unsigned_abs (sum_of_entries 0 den steps choices ys)
+  pub size_append : (xs ys : List Term)
+      → unsigned_abs (sum_of_terms 0 den steps choices (xs ++ ys))
+      ≡ unsigned_abs (sum_of_terms 0 den steps choices xs)
+      + unsigned_abs (sum_of_terms 0 den steps choices ys)
   size_append xs ys = rw (sum_append 0 xs ys, sizes_above xs, sizes_above ys) refl
 
-pub come_both : (es xs fs ys : List Entry) → ComeAsWell es xs → ComeAsWell fs ys
+pub come_both : (es xs fs ys : List Term) → ComeAsWell es xs → ComeAsWell fs ys
     → ComeAsWell (es ++ fs) (xs ++ ys)
 come_both es xs fs ys first second den steps choices exact =
     let P = IsExactAt den steps choices in
@@ -80,7 +80,7 @@ one_sum : (met : Bool) (x y z : ℤ) → (met ≡ true → z ≡ x +ℤ y)
     → (if met then z else pos 0) ≡ (if met then x else pos 0) +ℤ (if met then y else pos 0)
 one_sum met x y z h = grind arith
 
-module _ (den : ℕ) (steps choices : List ℕ) (a b sum : Entry)
+module _ (den : ℕ) (steps choices : List ℕ) (a b sum : Term)
     (first : sum.head.demands ≡ a.head.demands) (second : sum.head.demands ≡ b.head.demands)
     (adds : 0 < sum.head.den → IsSumOf a b sum) (exact : IsExactAt den steps choices sum) where
   met_first : meets steps choices sum.head.demands ≡ meets steps choices a.head.demands
@@ -110,11 +110,11 @@ module _ (den : ℕ) (steps choices : List ℕ) (a b sum : Entry)
 -- ---- while terms are merged
 
 -- what is left of terms, as those that are made and two kinds of those that are still to come
-abbrev pub Merging : ℕ → ℕ → List Entry → List Entry → List Entry → List Entry → Type 0
+abbrev pub Merging : ℕ → ℕ → List Term → List Term → List Term → List Term → Type 0
 Merging step action terms left more others = AreMerged step action terms (left ++ (more ++ others))
 
 -- one more is made of some that come first
-pub take_next : (step action : ℕ) (terms left more others xs ys : List Entry) (t : Entry)
+pub take_next : (step action : ℕ) (terms left more others xs ys : List Term) (t : Term)
     → ComeAsWell (xs ++ ys) (t ∷ []) → Merging step action terms left (xs ++ more) (ys ++ others)
     → Merging step action terms (left ++ t ∷ []) more others
 take_next step action terms left more others xs ys t come before den steps choices exact =
@@ -148,58 +148,58 @@ take_next step action terms left more others xs ys t come before den steps choic
 -- ---- before anything is merged
 
 -- those of a range that demand nothing at the digit, those that demand the action, and others
-abbrev pub IsFree : ℕ → Entry → Type 0
+abbrev pub IsFree : ℕ → Term → Type 0
 IsFree step e = e.head.demands < step
 
-abbrev pub IsOwn : ℕ → ℕ → Entry → Type 0
+abbrev pub IsOwn : ℕ → ℕ → Term → Type 0
 IsOwn step action e =
     (action * step ≤ e.head.demands) × (e.head.demands < action * step + step)
 
-abbrev pub IsOther : ℕ → ℕ → Entry → Type 0
+abbrev pub IsOther : ℕ → ℕ → Term → Type 0
 IsOther step action e = (step ≤ e.head.demands)
     × (e.head.demands < action * step ⊎ action * step + step ≤ e.head.demands)
 
 module _ (step action : ℕ) (steps choices : List ℕ) where
-  free_met : (e : Entry) → IsFree step e → meets (step ∷ steps) (action ∷ choices) e.head.demands
+  free_met : (e : Term) → IsFree step e → meets (step ∷ steps) (action ∷ choices) e.head.demands
       ≡ meets steps choices (e.head.demands - 0)
   free_met e free = grind arith
 
-  own_met : (e : Entry) → 1 ≤ action → IsOwn step action e
+  own_met : (e : Term) → 1 ≤ action → IsOwn step action e
       → meets (step ∷ steps) (action ∷ choices) e.head.demands
       ≡ meets steps choices (e.head.demands - action * step)
   own_met e some own = grind arith
 
-  other_unmet : (e : Entry) → IsOther step action e
+  other_unmet : (e : Term) → IsOther step action e
       → meets (step ∷ steps) (action ∷ choices) e.head.demands ≡ false
   other_unmet e h = grind arith
 
-  module _ (den : ℕ) (P : Entry → Type 0) where
-    abbrev Come : List Entry → List Entry → Type 0
+  module _ (den : ℕ) (P : Term → Type 0) where
+    abbrev Come : List Term → List Term → Type 0
     Come es others = ComeTo den (step ∷ steps) (action ∷ choices) es steps choices others
 
     -- the same terms with lower demands that are met as theirs are
     come_lowered : (less : ℕ)
-        → ((e : Entry) → P e → meets (step ∷ steps) (action ∷ choices) e.head.demands
-        ≡ meets steps choices (e.head.demands - less)) → (es : List Entry) → AllByRecursion P es
+        → ((e : Term) → P e → meets (step ∷ steps) (action ∷ choices) e.head.demands
+        ≡ meets steps choices (e.head.demands - less)) → (es : List Term) → AllByRecursion P es
         → AreExactAt den steps choices (map (lowered less) es) → Come es (map (lowered less) es)
     come_lowered less met [] all h = record { exact = tt; sums = λ k. refl }
     come_lowered less met (e ∷ es) all h = grind (arith, come_lowered less met es all.1 h.1)
 
-    come_none : ((e : Entry) → P e
-        → meets (step ∷ steps) (action ∷ choices) e.head.demands ≡ false) → (es : List Entry)
+    come_none : ((e : Term) → P e
+        → meets (step ∷ steps) (action ∷ choices) e.head.demands ≡ false) → (es : List Term)
         → AllByRecursion P es → Come es []
     come_none unmet [] all = record { exact = tt; sums = λ k. refl }
     come_none unmet (e ∷ es) all = grind (arith, false_true, come_none unmet es all.1)
 
 -- the four ranges of the terms
-pub record Ranges (step action : ℕ) (terms free between own rest : List Entry) : Type 0 where
+pub record Ranges (step action : ℕ) (terms free between own rest : List Term) : Type 0 where
   pub joined : terms ≡ free ++ (between ++ (own ++ rest))
   pub are_free : AllByRecursion (IsFree step) free
   pub are_between : AllByRecursion (IsOther step action) between
   pub are_own : AllByRecursion (IsOwn step action) own
   pub are_rest : AllByRecursion (IsOther step action) rest
 
-pub first_parts : (step action : ℕ) (terms free between own rest : List Entry) → 1 ≤ action
+pub first_parts : (step action : ℕ) (terms free between own rest : List Term) → 1 ≤ action
     → Ranges step action terms free between own rest
     → AreMerged step action terms (map (lowered 0) free ++ map (lowered (action * step)) own)
 first_parts step action terms free between own rest some ranges den steps choices exact =

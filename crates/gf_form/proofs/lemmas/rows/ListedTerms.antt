@@ -1,16 +1,17 @@
 -- What nodes add, part by part, and that their terms say it.
 use Rattle.gf_form.proofs.Common.{IsNonDecreasingBy, mul-le-mul_right, unsigned_abs-mul, AreExactAt}
-use Rattle.gf_form.proofs.Common.{sum_of_entries, AllByRecursion, get_or_default, sum_of_shares, []}
+use Rattle.gf_form.proofs.Common.{sum_of_terms, AllByRecursion, get_or_default, sum_of_shares, []}
 use Rattle.gf_form.proofs.Common.{node_terms, map-append, all_images, AreOrdered, AreTermsOf, arith}
 use Rattle.gf_form.proofs.Common.{met_bounds, node_term, number_at, EndsBelow, dvd_trans, all_parts}
-use Rattle.gf_form.proofs.Common.{IsExactAt, IsShaped, all_both, Reached, ArePaid, zero-*ℤ, entries}
-use Rattle.gf_form.proofs.Common.{get_or, length, add-*ℤ, Ratio, meets, Entry, Terms, false, subst}
+use Rattle.gf_form.proofs.Common.{IsExactAt, IsShaped, all_both, Reached, ArePaid, zero-*ℤ}
+use Rattle.gf_form.proofs.Common.{all_terms}
+use Rattle.gf_form.proofs.Common.{get_or, length, add-*ℤ, Ratio, meets, Term, Terms, false, subst}
 use Rattle.gf_form.proofs.Common.{take, Game, refl, drop, ◌*ℤ◌, Bool, true, List, ◌++◌, ◌+ℤ◌, ◌≡◌}
 use Rattle.gf_form.proofs.Common.{pos, suc, ◌+◌, ◌/◌, ◌<◌, ◌≤◌, ◌∷◌, sym, ◌∙◌, ◌∣◌, ◌-◌, ap, ℕ}
 use Rattle.std.proofs.Math.Seq.{take-nil}
 use Rattle.gf_form.specs.inner.rows.ListedNodes.{IsTermMore, HasShares, Tells}
 use Rattle.gf_form.proofs.lemmas.rows.Merges.{ordered_more, below_more, all_in}
-use Rattle.gf_form.proofs.lemmas.rows.MergedEntries.{size_append, sum_append, scaled}
+use Rattle.gf_form.proofs.lemmas.rows.MergedTerms.{size_append, sum_append, scaled}
 use Rattle.gf_form.proofs.lemmas.rows.FlatRows.{demands_more}
 
 -- ---- the shares of nodes
@@ -31,40 +32,40 @@ module _ (g : Game) (player den : ℕ) (steps choices : List ℕ) where
 -- ---- terms with the same demands, over a multiple of their denominator
 
 module _ (den : ℕ) (steps choices : List ℕ) (demands : ℕ) where
-  abbrev AreAlike : List Entry → Type 0
-  AreAlike es = AllByRecursion (λ (e : Entry). e.head.demands ≡ demands) es
+  abbrev AreAlike : List Term → Type 0
+  AreAlike es = AllByRecursion (λ (e : Term). e.head.demands ≡ demands) es
 
-  all_met : (m : ℕ) → 0 < m → m ∣ den → meets steps choices demands ≡ true → (es : List Entry)
+  all_met : (m : ℕ) → 0 < m → m ∣ den → meets steps choices demands ≡ true → (es : List Term)
       → AreAlike es → AreExactAt m [] [] es → AreExactAt den steps choices es
-      × ((k : ℕ) → sum_of_entries k den steps choices es
-      ≡ sum_of_entries k m [] [] es *ℤ pos (den / m))
+      × ((k : ℕ) → sum_of_terms k den steps choices es
+      ≡ sum_of_terms k m [] [] es *ℤ pos (den / m))
   all_met m above divides met [] alike exact = (tt, λ k. sym (zero-*ℤ (pos (den / m))))
   all_met m above divides met (e ∷ es) alike exact =
       let later = all_met m above divides met es alike.1 exact.1 in
       let own = exact.0 refl in
       grind (arith, scaled, add-*ℤ, dvd_trans)
 
-  all_unmet : meets steps choices demands ≡ false → (es : List Entry) → AreAlike es
+  all_unmet : meets steps choices demands ≡ false → (es : List Term) → AreAlike es
       → AreExactAt den steps choices es
-      × ((k : ℕ) → sum_of_entries k den steps choices es ≡ pos 0)
+      × ((k : ℕ) → sum_of_terms k den steps choices es ≡ pos 0)
   all_unmet unmet [] alike = (tt, λ k. refl)
   all_unmet unmet (e ∷ es) alike = grind (arith, all_unmet unmet es alike.1)
 
 -- ---- nodes with the same demands, and their term
 
-nodes_told : (g : Game) (k den : ℕ) (steps choices : List ℕ) (rs : List Reached) (e : Entry)
+nodes_told : (g : Game) (k den : ℕ) (steps choices : List ℕ) (rs : List Reached) (e : Term)
     → AllByRecursion (λ (r : Reached). r.path.demands ≡ e.head.demands) rs
     → (0 < e.head.den → HasShares g rs k e.head.den e.head.size (number_at (suc k) e))
     → IsExactAt den steps choices e → Tells g k den steps choices rs (e ∷ [])
 nodes_told g k den steps choices rs e alike says exact =
     by (meets steps choices e.head.demands) refl
   where
-    es : List Entry
+    es : List Term
     es = node_terms g (suc k) rs
 
-    same : AllByRecursion (λ (f : Entry). f.head.demands ≡ e.head.demands) es
+    same : AllByRecursion (λ (f : Term). f.head.demands ≡ e.head.demands) es
     same =
-        all_images (λ (f : Entry). f.head.demands ≡ e.head.demands) (node_term g (suc k)) rs alike
+        all_images (λ (f : Term). f.head.demands ≡ e.head.demands) (node_term g (suc k)) rs alike
 
     by : (b : Bool) → meets steps choices e.head.demands ≡ b
         → Tells g k den steps choices rs (e ∷ [])
@@ -80,7 +81,7 @@ nodes_told g k den steps choices rs e alike says exact =
 
 -- ---- lists of them
 
-nodes_more : (g : Game) (players : ℕ) (rs group : List Reached) (es : List Entry) (e : Entry)
+nodes_more : (g : Game) (players : ℕ) (rs group : List Reached) (es : List Term) (e : Term)
     → AllByRecursion (λ (r : Reached). r.path.demands ≡ e.head.demands) group
     → (0 < e.head.den → (k : ℕ) → k < players
     → HasShares g group k e.head.den e.head.size (number_at (suc k) e))
@@ -104,7 +105,7 @@ node_at nodes place = get_or nodes place no_node
 -- the terms of this many of the first nodes, and the next node demands no less
 pub record Listing (rows : List (List Ratio)) (players : ℕ) (rs : List Reached) (at : ℕ)
     (terms : Terms) : Type 0 where
-  pub told : (g : Game) → ArePaid g rows → AreTermsOf g players (take at rs) (entries terms)
+  pub told : (g : Game) → ArePaid g rows → AreTermsOf g players (take at rs) (all_terms terms)
   pub ordered : AreOrdered terms
   pub next : (d : Reached) → at < length rs
       → EndsBelow terms.demands.items (get_or rs at d).path.demands
@@ -152,10 +153,10 @@ module _ (rows : List (List Ratio)) (players : ℕ) (rs : List Reached)
   pub nodes_listed : IsShaped new → new.players ≡ old.players
       → Listing rows players rs end new
   nodes_listed shaped same = record {
-    told = λ g are. subst (λ (ns : List Reached). AreTermsOf g players ns (entries new))
+    told = λ g are. subst (λ (ns : List Reached). AreTermsOf g players ns (all_terms new))
         (sym joined)
         (subst (AreTermsOf g players (take at rs ++ group)) (sym more.is)
-        (nodes_more g players (take at rs) group (entries old) more.term all_alike
+        (nodes_more g players (take at rs) group (all_terms old) more.term all_alike
         (λ above k there. more.says k (omega (arith, there, before.players_are)) above g are)
         (before.told g are)));
     ordered = ordered_more old.demands.items new.demands.items more.term.head.demands grown
