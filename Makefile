@@ -11,17 +11,12 @@ PREFIX ?= /usr/local
 version = $(shell sed -n 's/^.define GAMEFILE_VERSION "\(.*\)"/\1/p' library/gamefile.h)
 sources := crates.txt $(shell find crates -name out -prune -o -type f -print)
 
-# Proves these crates, lowest first. To prove them by way of the crate above them would begin with a
-# minute's look through all sources.
-below := gf_fraction gf_token gf_nfg gf_tree gf_canon gf_form
-prove = for crate in $(1); do (cd crates/$$crate && $(RT) lib --jobs $$(nproc)) || exit; done
-
 .PHONY: all run library install install-library test bench clean
 
 all: gamefile
 
 gamefile: $(sources)
-	$(call prove,$(below) gf_run)
+	./prove gf_run
 	cd crates/gamefile && $(RT) run --jobs $$(nproc) -- --version
 	cp crates/gamefile/out/gamefile .
 
@@ -32,7 +27,7 @@ run: gamefile
 library: library/out/libgamefile.so.1
 
 library/out/libgamefile.so.1: $(sources) $(wildcard library/gamefile.*) library/build
-	$(call prove,$(below) gf_calls)
+	./prove gf_calls
 	cd crates/gamefile_c && $(RT) lib --jobs $$(nproc)
 	library/build
 
