@@ -1,7 +1,7 @@
 # `make` proves the crates and builds the proved program, ./gamefile, and `make run` shows what it
 # writes of an example; `make library` proves and builds the library for C and Python; `make install
 # PREFIX=..` puts the program, its page and, if it was built, the library in place; `make test` proves
-# and tests everything from nothing; `make bench` times the program and, if it was built, the library;
+# and tests everything; `make bench` times the program and, if it was built, the library;
 # `make clean` removes what was built.
 
 RT ?= rt

@@ -1,4 +1,4 @@
-/* The border between gamefile.h and the proved calls of crates/gamefile_c.
+/* The layer between gamefile.h and the proved calls of crates/gamefile_c.
  *
  * A proved call takes no null pointer and returns no pointer. So this file gives it a place for each
  * answer that its caller does not need, and an empty byte string for NULL; and it holds the texts. */

@@ -119,7 +119,7 @@ gamefile_status gamefile_renumbering(const uint8_t *a, size_t an, const uint8_t 
                                      gamefile_pair *out, size_t cap, size_t *needed,
                                      gamefile_fault *fault, int *which);
 
-/* What a code means, and a hint on how to mend the file, or NULL if there is none. Both are static
+/* What a code means, and a hint on how to fix the file, or NULL if there is none. Both are static
  * English texts. */
 const char *gamefile_message(uint32_t code, uint32_t expected);
 const char *gamefile_hint(uint32_t code, uint32_t expected);

@@ -25,7 +25,7 @@ def metadata():
     return {
         "METADATA": (
             f"Metadata-Version: 2.1\nName: {NAME}\nVersion: {VERSION}\n"
-            "Summary: Game files of Gambit checked, compared, and written as canonical text or as a"
+            "Summary: Checks and compares Gambit game files, and writes them as canonical text or as a"
             " table\nRequires-Python: >=3.9\n"
         ),
         "WHEEL": (

@@ -8,14 +8,19 @@ int main(int argc, char **argv)
 {
     int status = 0;
     for (int i = 1; i < argc; i++) {
-        static uint8_t game[1 << 24];
+        static uint8_t game[(1 << 24) + 1];
         FILE *f = fopen(argv[i], "rb");
         if (f == NULL) {
             perror(argv[i]);
             return 2;
         }
         size_t n = fread(game, 1, sizeof game, f);
+        int failed = ferror(f) || n == sizeof game;
         fclose(f);
+        if (failed) {
+            fprintf(stderr, "%s: cannot be read, or is larger than 16 MiB\n", argv[i]);
+            return 2;
+        }
 
         char hash[65];
         gamefile_fault fault;

@@ -1,7 +1,7 @@
 """Checks Gambit game files (.efg, .nfg), compares them, and writes canonical texts and tables.
 
-Every function takes the bytes of a file and keeps nothing, so you may call it on any thread. The
-interpreter's lock is free during a call.
+Every function takes the bytes of a file and keeps nothing, so you may call it on any thread. A call
+releases the interpreter's lock (GIL).
 
 >>> game = b'EFG 2 R "toss" { "A" } c "" 9 "coin" { "h" 0.5 "t" 2/4 } 0 t "" 7 "win" { 1e0 } t "" 7'
 >>> check(game)
@@ -123,17 +123,17 @@ class GameFileError(ValueError):
 
     #: The code, as ``"E4"``. Codes never change.
     code: str
-    #: The first byte of what is refused, from 0.
+    #: The first byte of what is refused, counted from 0.
     start: int
     #: One past its last byte.
     end: int
-    #: The line of `start`, from 1.
+    #: The line of `start`, counted from 1.
     line: int
-    #: Its column in bytes, from 1.
+    #: Its column in bytes, counted from 1.
     column: int
     #: What is wrong, in English.
     message: str
-    #: How to mend it, or None if there is no hint.
+    #: How to fix it, or None if there is no hint.
     hint: Optional[str]
     #: Which of two files is refused; None if there is only one.
     which: Optional[Literal["a", "b"]]

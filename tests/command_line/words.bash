@@ -1,5 +1,5 @@
 # shellcheck shell=bash disable=SC2034,SC2154
-# What the words of the command line ask for, and which are wrong.
+# How the command line is interpreted, and which arguments are wrong usage.
 
 # Wrong usage has no output, and a text on standard error.
 check_usage() { # WORD..
@@ -53,7 +53,8 @@ check_words() {
     check_own_name
 }
 
-# A file where a command is due has the hint of a command after the usage, and no other word has.
+# If the name of a game file stands in place of a command, a command is suggested after the usage, and
+# not for any other word.
 check_hint() {
     local word wanted
     for word in a.efg folder/a.nfg tree a.txt $'a\tb.efg' .efg.; do
@@ -71,7 +72,7 @@ check_hint() {
     done
 }
 
-# The program's own name is no word that it was given, and may be any bytes.
+# The program's own name is not an argument, and may be any bytes.
 check_own_name() {
     local folder=$scratch/$'folder-\xff'
     mkdir "$folder"

@@ -8,7 +8,7 @@ use std::env::FillError;
 use std::io::ErrorKind;
 use std::rt::Env;
 
-const NOT_UTF8: &str = "error: a word is not UTF-8\n\nFor more information, try '--help'.\n";
+const NOT_UTF8: &str = "error: an argument is not UTF-8\n\nFor more information, try '--help'.\n";
 
 /// The arguments after the program's name. The name itself is left out, and may be any bytes.
 #[derive(Drop)]

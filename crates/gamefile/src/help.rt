@@ -111,9 +111,10 @@ pub const HASH: &str = "Write a hash of each game file";
 pub const AFTER_HASH: &str = "\
 Writes one line for each file, as sha256sum does: the SHA-256 digest of its
 canonical text, two spaces, and its name. So files of the same game have the
-same hash. Standard input has the name '-'. For a folder, every file below it is
-read whose name ends in .efg or .nfg, in upper or lower case, in the order of
-the bytes of their names. No folder below it is visited twice.
+same hash. Standard input has the name '-'. A folder stands for all files below
+it whose names end in .efg or .nfg, in upper or lower case, in the order of the
+bytes of their names. Links are followed, but no folder below it is visited
+twice.
 
 A file that is refused or cannot be read gets no line here, but one on standard
 error, such as game.efg: E4 at 40..43, and the run goes on. The status is the
@@ -132,13 +133,13 @@ pub const AFTER_DUPLICATES: &str = "\
 Writes the groups of two or more files that are the same game: a name on each
 line, and an empty line between two groups. Two files are in the same group if
 'hash' writes the same hash for both, as it does if 'same' finds them the same.
-Files and folders are visited as by hash, and groups come in the order of their
+Files and folders are read as by 'hash', and groups come in the order of their
 first files.
 
 A file that is refused or cannot be read is in no group. Standard error has a
 line for it, such as game.efg: E4 at 40..43, and the run goes on. The status is
-0 if no two files are the same, 1 if some are or, if a file fails, the worst of
-all files: 2, 4 or 5.
+0 if no two files are the same, and 1 if some are; if a file fails, it is the
+worst of all files: 2, 4 or 5.
 
 With --no-names, files are the same if 'same --no-names' finds them so.
 

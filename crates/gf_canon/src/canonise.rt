@@ -55,7 +55,7 @@ fn text_of(alloc: Global, input: &[u8], names: Names) -> Result<TextPieces, Faul
 /// # Errors
 ///
 /// A file is refused as `read_efg` or `read_nfg` refuses a file of its format: at the first token
-/// with which no file goes on, at the end if more is due, or where the profiles of a table pass
+/// that cannot continue any file, at the end if more is due, or where the profiles of a table pass
 /// their limit. Spans are in bytes of the input, from 0. There are also these refusals:
 /// - E2: the first token is an unterminated text; at its opening quote.
 /// - E3: the first token is anything other than these words, or there is none; at that place.

@@ -62,8 +62,8 @@ pub fn check_nfg(alloc: Global, input: &[u8]) -> Result<(), Fault>
 ///
 /// # Errors
 ///
-/// A file is refused at the first token with which no strategic file goes on, or at the end if more
-/// is due. Spans are in bytes of the input, from 0. What is wrong there:
+/// A file is refused at the first token that cannot continue any strategic file, or at the end if
+/// more is due. Spans are in bytes of the input, from 0. What is wrong there:
 /// - E2: a text is unterminated; at its opening quote.
 /// - E3: a token of the wrong kind, or the end.
 /// - E4, E5, E6: a payoff is due, and a bare token does not spell a number, has a zero denominator,

@@ -53,15 +53,15 @@ pub enum Why {
     Unterminated,
     /// E3: a token of the wrong kind, or the end; at the token or the end.
     Expected(What),
-    /// E4: a bare token in the place of a number that does not spell one; at the token.
+    /// E4: a bare token that does not spell a number, where one is due; at the token.
     NotANumber,
     /// E5: a rational number whose denominator is zero; at the token.
     ZeroDenominator,
     /// E6: a number that needs more than 127 bits, or has too many digits after its point; at the
     /// token.
     NumberTooLarge,
-    /// E7: a bare token in the place of an index that is not one, or is zero if a positive one is
-    /// required; at the token.
+    /// E7: a bare token that is not an index, where one is due, or that is zero, where a positive
+    /// one is due; at the token.
     BadIndex,
     /// E8: a player's number above the number of players, at the number; or a personal node in a
     /// game without players, at its letter.

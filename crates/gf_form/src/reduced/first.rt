@@ -68,7 +68,7 @@ fn are_set(flags: &[bool]) -> bool
 }
 
 impl Search {
-    /// Appends so many numbers, from this one on, which are all those of first strategies.
+    /// Appends this many numbers, from this one on, which are all those of first strategies.
     fn push_all(
         &mut self,
         player: &Player<'_, '_>,

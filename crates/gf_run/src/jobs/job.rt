@@ -20,8 +20,8 @@ use std::alloc::Global;
 
 /// Writes the answer of a job over the bytes of its inputs, and returns its exit status.
 ///
-/// The inputs are judged whole, and the memory that the text needs is had, before its first byte is
-/// written.
+/// The inputs are judged whole, and the memory that the text needs is reserved, before its first
+/// byte is written.
 fn write_answer<W: Sink>(
     alloc: Global,
     job: &Job,
@@ -99,8 +99,9 @@ pub(crate) fn run_job<I: Inputs, W: Sink>(
 ///
 /// The inputs that the job names are opened, both before either is read. The first is read whole,
 /// and then the second; only then is the first judged, and then the second. They are judged whole,
-/// and the memory that the answer needs is had, before its first byte is written. So a prefix of it
-/// has been written only after `Write`; before any other fault, nothing is asked of the output.
+/// and the memory that the answer needs is reserved, before its first byte is written. So a prefix
+/// of it has been written only after `Write`; before any other fault, nothing is asked of the
+/// output.
 ///
 /// - `Canon` writes the canonical text of a file, with names or without.
 /// - `Check` writes what a file holds: `tree` or `table`, and a line feed.

@@ -22,8 +22,8 @@ use std::alloc::Global;
 /// Writes the canonical text of the file that it reads, with names or without.
 ///
 /// The input is read whole before it is judged. It is judged whole, and the memory that the text
-/// needs is had, before the first byte is written. So a prefix of the text has been written only
-/// after `Write`; before any other fault, nothing is asked of the output.
+/// needs is reserved, before the first byte is written. So a prefix of the text has been written
+/// only after `Write`; before any other fault, nothing is asked of the output.
 ///
 /// # Errors
 ///

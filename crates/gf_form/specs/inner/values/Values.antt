@@ -1,5 +1,5 @@
--- The bottom-up value, computed. No public contract cites it: proofs/ValuesComputed proves that it
--- is the value of the relation.
+-- The bottom-up value, computed. No public contract cites it: proofs/lemmas/values/ValuesComputed
+-- proves that it is the value of the relation.
 use Rattle.std.specs.Prelude.{ℕ, zero, suc, ◌+◌, ◌==◌, Option, Some, None, if◌then◌else◌}
 use Rattle.gf_fraction.specs.Ratio.{Ratio}
 use Rattle.gf_fraction.specs.Rational.{zero_ratio}
