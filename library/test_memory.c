@@ -103,22 +103,22 @@ static int is_same(const answer *a, const answer *b)
 }
 
 /* Whether memory ran out, and nothing was written; in a file that is refused, before its refusal. */
-static int wants_memory(const answer *a, const answer *wanted)
+static int is_out_of_memory(const answer *a, const answer *expected)
 {
     static const uint8_t zeros[ROOM];
     return a->status == GAMEFILE_NOMEM && memcmp(a->out, zeros, ROOM) == 0
            && (a->fault.code == 0 || a->fault.code == 19)
-           && (wanted->status != GAMEFILE_REFUSED || a->fault.end <= wanted->fault.start);
+           && (expected->status != GAMEFILE_REFUSED || a->fault.end <= expected->fault.start);
 }
 
 /* Whether a call answers well whichever allocation is refused first, and how many are. */
 static int is_well(int call, const uint8_t *game, size_t n, unsigned long count)
 {
-    static answer wanted, found;
+    static answer expected, found;
     unsigned long number;
     left = ALL;
-    make(call, game, n, &wanted);
-    if (wanted.status == GAMEFILE_NOMEM || wanted.status == GAMEFILE_TOO_SMALL)
+    make(call, game, n, &expected);
+    if (expected.status == GAMEFILE_NOMEM || expected.status == GAMEFILE_TOO_SMALL)
         return 0;
     for (number = 0;; number++) {
         left = number;
@@ -126,12 +126,12 @@ static int is_well(int call, const uint8_t *game, size_t n, unsigned long count)
         make(call, game, n, &found);
         /* Each call needs some memory, of each file. */
         if (refusals == count)
-            return number > 0 && is_same(&found, &wanted);
-        if (!wants_memory(&found, &wanted) && !is_same(&found, &wanted))
+            return number > 0 && is_same(&found, &expected);
+        if (!is_out_of_memory(&found, &expected) && !is_same(&found, &expected))
             return 0;
         left = ALL;
         make(call, game, n, &found);
-        if (!is_same(&found, &wanted))
+        if (!is_same(&found, &expected))
             return 0;
     }
 }

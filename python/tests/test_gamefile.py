@@ -67,7 +67,7 @@ def judge_file(data):
     """Gives the names of the calls that do not answer as the program."""
     text = by_program(["canon"], data)
     kind = by_package(gamefile.check, data)
-    wanted = {
+    expected = {
         "check": (f"{kind}\n".encode() if kind in ("tree", "table") else kind, by_program(["check"], data)),
         "canonical": (by_package(gamefile.canonical, data), text),
         "table": (by_package(gamefile.table, data), by_program(["table"], data)),
@@ -82,12 +82,12 @@ def judge_file(data):
     }
     if isinstance(text, bytes):
         aside = gamefile.canonical(data, names=False)
-        wanted["names aside"] = (gamefile.same(data, aside, names=False), True)
-        wanted["key without names"] = (
+        expected["names aside"] = (gamefile.same(data, aside, names=False), True)
+        expected["key without names"] = (
             gamefile.key(data, names=False),
             hashlib.sha256(aside).hexdigest(),
         )
-    return [f"{name}: {got} and not {want}" for name, (got, want) in wanted.items() if got != want]
+    return [f"{name}: {got} and not {want}" for name, (got, want) in expected.items() if got != want]
 
 
 def judge_pair(pair):
@@ -100,12 +100,12 @@ def judge_pair(pair):
         except gamefile.GameFileError as error:
             of = {"a": a, "b": b}[error.which]
             answer = f"{error.code} at {error.start}..{error.end}\n"
-            wanted = by_package(gamefile.check, of)
+            expected = by_package(gamefile.check, of)
         else:
             texts = [gamefile.canonical(game, names=names) for game in (a, b)]
-            wanted = texts[0] == texts[1]
-        if answer != wanted:
-            failed.append(f"same, names={names}: {answer} and not {wanted}")
+            expected = texts[0] == texts[1]
+        if answer != expected:
+            failed.append(f"same, names={names}: {answer} and not {expected}")
     return failed
 
 
@@ -116,8 +116,8 @@ def judge_renumbering(game):
     lines = [f"set {player} {number} {new}" for (player, number), new in pairs.sets.items()]
     lines += [f"outcome {number} {new}" for number, new in pairs.outcomes.items()]
     ran = subprocess.run([PROGRAM, "same", "--map", game, text], capture_output=True, timeout=60)
-    wanted = ran.stdout.decode().splitlines()
-    return [] if ["same", *lines] == wanted else [f"renumbering of {game.name}: {lines} and not {wanted}"]
+    expected = ran.stdout.decode().splitlines()
+    return [] if ["same", *lines] == expected else [f"renumbering of {game.name}: {lines} and not {expected}"]
 
 
 def judge_no_renumbering():

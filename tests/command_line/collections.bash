@@ -1,7 +1,7 @@
 # shellcheck shell=bash disable=SC2034,SC2154
 # `hash` and `duplicates`, over files, folders and lists, and what a terminal is told meanwhile.
 
-# The line that is wanted of a file's hash.
+# The line for a file's hash.
 hash_of() { # FILE NAME OPTION..
     printf '%s  %s\n' "$(launch canon "${@:3}" <"$1" | sha256sum | cut -d ' ' -f 1)" "$2"
 }
@@ -16,12 +16,12 @@ check_hash_files() {
     judge_refusal "hash of a refused standard input" "-: E4 at 26..29" 2
     run hash "$five" "$scratch/refused.nfg" "$copy"
     { hash_of "$five" "$five" && hash_of "$five" "$copy"; } >"$scratch/lines"
-    echo "$scratch/refused.nfg: E4 at 26..29" >"$scratch/wanted"
-    judge "hash of three files" "$scratch/lines" "$scratch/wanted" 2
+    echo "$scratch/refused.nfg: E4 at 26..29" >"$scratch/expected"
+    judge "hash of three files" "$scratch/lines" "$scratch/expected" 2
     run hash "$missing" "$scratch/refused.nfg" "$five"
     hash_of "$five" "$five" >"$scratch/lines"
-    printf '%s: E20\n%s: E4 at 26..29\n' "$missing" "$scratch/refused.nfg" >"$scratch/wanted"
-    judge "hash of a missing file" "$scratch/lines" "$scratch/wanted" 4
+    printf '%s: E20\n%s: E4 at 26..29\n' "$missing" "$scratch/refused.nfg" >"$scratch/expected"
+    judge "hash of a missing file" "$scratch/lines" "$scratch/expected" 4
     run hash --no-names "$scratch/prize.efg" "$scratch/names.efg"
     { hash_of "$scratch/names.efg" "$scratch/prize.efg" --no-names &&
         hash_of "$scratch/prize.efg" "$scratch/names.efg" --no-names; } >"$scratch/lines"
@@ -56,25 +56,25 @@ check_hash_folders() {
     judge "hash of a folder" "$scratch/lines" "$nothing" 0
     ln -s games "$scratch/linked"
     run hash "$scratch/linked"
-    sed "s|  $folder/|  $scratch/linked/|" "$scratch/lines" >"$scratch/wanted"
-    judge "hash of a link to a folder" "$scratch/wanted" "$nothing" 0
+    sed "s|  $folder/|  $scratch/linked/|" "$scratch/lines" >"$scratch/expected"
+    judge "hash of a link to a folder" "$scratch/expected" "$nothing" 0
     rm "$scratch/linked"
     run hash "$folder/empty"
     judge "hash of an empty folder" "$nothing" "$nothing" 0
     cp "$scratch/five.efg" "$folder/"$'d-\xff.efg'
     run hash "$folder/"
-    echo "$folder/"$'d-\ufffd.efg: E20' >"$scratch/wanted"
-    judge "hash of a folder with a name that is not UTF-8" "$scratch/lines" "$scratch/wanted" 4
+    echo "$folder/"$'d-\ufffd.efg: E20' >"$scratch/expected"
+    judge "hash of a folder with a name that is not UTF-8" "$scratch/lines" "$scratch/expected" 4
     rm "$folder/"$'d-\xff.efg'
     mkdir "$folder/"$'c\xff'
     run hash "$folder"
-    echo "$folder/"$'c\ufffd: E20' >"$scratch/wanted"
-    judge "hash of a folder with a folder whose name is not UTF-8" "$scratch/lines" "$scratch/wanted" 4
+    echo "$folder/"$'c\ufffd: E20' >"$scratch/expected"
+    judge "hash of a folder with a folder whose name is not UTF-8" "$scratch/lines" "$scratch/expected" 4
     rmdir "$folder/"$'c\xff'
     ln -s nowhere "$folder/e.efg"
     run hash "$folder"
-    echo "$folder/e.efg: E20" >"$scratch/wanted"
-    judge "hash of a folder with a link to nothing" "$scratch/lines" "$scratch/wanted" 4
+    echo "$folder/e.efg: E20" >"$scratch/expected"
+    judge "hash of a folder with a link to nothing" "$scratch/lines" "$scratch/expected" 4
     rm "$folder/e.efg"
     check_unreadable "$folder"
     check_vanishing "$folder"
@@ -87,8 +87,8 @@ check_unreadable() { # FOLDER
     mkdir "$1/closed"
     chmod a= "$1/closed.efg" "$1/closed"
     run_as_nobody hash "$1"
-    printf '%s: E20\n%s: E20\n' "$1/closed" "$1/closed.efg" >"$scratch/wanted"
-    judge "hash of a folder with what cannot be read" "$scratch/lines" "$scratch/wanted" 4
+    printf '%s: E20\n%s: E20\n' "$1/closed" "$1/closed.efg" >"$scratch/expected"
+    judge "hash of a folder with what cannot be read" "$scratch/lines" "$scratch/expected" 4
     chmod 755 "$1/closed"
     rm -r "$1/closed" "$1/closed.efg"
 }
@@ -108,8 +108,8 @@ check_vanishing() { # FOLDER
     } >"$1/A.efg"
     status=0
     wait "$reader" || status=$?
-    echo "$1/z.efg: E20" >"$scratch/wanted"
-    judge "hash of a folder with a file that goes" "$scratch/more" "$scratch/wanted" 4
+    echo "$1/z.efg: E20" >"$scratch/expected"
+    judge "hash of a folder with a file that goes" "$scratch/more" "$scratch/expected" 4
     rm "$1/A.efg"
 }
 
@@ -134,8 +134,8 @@ check_hash_list() {
     run hash --files-from "$nothing" <"$accepted.nfg"
     judge "hash of an empty list" "$nothing" "$nothing" 0
     run hash --files-from - < <(printf '%s\n\n%s\n' "$scratch/missing.efg" $'d-\xff.efg')
-    printf '%s: E20\n: E20\nd-\ufffd.efg: E20\n' "$scratch/missing.efg" >"$scratch/wanted"
-    judge "hash of a list of what cannot be opened" "$nothing" "$scratch/wanted" 4
+    printf '%s: E20\n: E20\nd-\ufffd.efg: E20\n' "$scratch/missing.efg" >"$scratch/expected"
+    judge "hash of a list of what cannot be opened" "$nothing" "$scratch/expected" 4
     run hash --files-from "$scratch/missing"
     judge_refusal "hash of a missing list" "$scratch/missing: E20" 4
     run hash --files-from "$games"
@@ -181,21 +181,21 @@ check_progress() {
         hash_of "$scratch/five.efg" "$scratch/five.efg"
     } >"$scratch/lines"
     run_at_terminal piped hash "${files[@]}"
-    printf '%s1 of 3 files%s%s: E4 at 26..29\n%s' "$erase" "$erase" "$scratch/refused.nfg" "$erase" >"$scratch/wanted"
-    judge "progress at a terminal" "$scratch/lines" "$scratch/wanted" 2
+    printf '%s1 of 3 files%s%s: E4 at 26..29\n%s' "$erase" "$erase" "$scratch/refused.nfg" "$erase" >"$scratch/expected"
+    judge "progress at a terminal" "$scratch/lines" "$scratch/expected" 2
     run_at_terminal piped hash --quiet "${files[@]}"
-    echo "$scratch/refused.nfg: E4 at 26..29" >"$scratch/wanted"
-    judge "progress with --quiet" "$scratch/lines" "$scratch/wanted" 2
+    echo "$scratch/refused.nfg: E4 at 26..29" >"$scratch/expected"
+    judge "progress with --quiet" "$scratch/lines" "$scratch/expected" 2
     run_at_terminal there hash "${files[0]}" "${files[2]}"
     {
         printf '%s' "$erase" && head -n 1 "$scratch/lines"
         printf '%s1 of 2 files%s' "$erase" "$erase" && tail -n 1 "$scratch/lines" && printf '%s' "$erase"
-    } >"$scratch/wanted"
-    judge "progress at a terminal that has the output" "$nothing" "$scratch/wanted" 0
+    } >"$scratch/expected"
+    judge "progress at a terminal that has the output" "$nothing" "$scratch/expected" 0
     run_at_terminal piped duplicates "${files[@]}"
     printf '%s\n' "$scratch/late.efg" "$scratch/five.efg" >"$scratch/lines"
-    printf '%s1 of 3 files%s%s: E4 at 26..29\n%s' "$erase" "$erase" "$scratch/refused.nfg" "$erase" >"$scratch/wanted"
-    judge "progress of duplicates" "$scratch/lines" "$scratch/wanted" 2
+    printf '%s1 of 3 files%s%s: E4 at 26..29\n%s' "$erase" "$erase" "$scratch/refused.nfg" "$erase" >"$scratch/expected"
+    judge "progress of duplicates" "$scratch/lines" "$scratch/expected" 2
 }
 
 # Groups of two or more files, in order of their first files, whatever else is refused or missing.
@@ -224,15 +224,15 @@ check_duplicates() {
     cp "$scratch/refused.nfg" "$folder"
     run duplicates -- "$folder"
     printf '%s\n' "${names[@]}" >"$scratch/lines"
-    echo "$folder/refused.nfg: E4 at 26..29" >"$scratch/wanted"
-    judge "duplicates: a refused file" "$scratch/lines" "$scratch/wanted" 2
+    echo "$folder/refused.nfg: E4 at 26..29" >"$scratch/expected"
+    judge "duplicates: a refused file" "$scratch/lines" "$scratch/expected" 2
     run duplicates "$scratch/missing.efg" -- "$folder"
-    printf '%s: E20\n%s: E4 at 26..29\n' "$scratch/missing.efg" "$folder/refused.nfg" >"$scratch/wanted"
-    judge "duplicates: a missing file" "$scratch/lines" "$scratch/wanted" 4
+    printf '%s: E20\n%s: E4 at 26..29\n' "$scratch/missing.efg" "$folder/refused.nfg" >"$scratch/expected"
+    judge "duplicates: a missing file" "$scratch/lines" "$scratch/expected" 4
     launch duplicates -- "$folder" >/dev/full 2>"$scratch/err"
     : >"$scratch/out"
-    printf '%s: E4 at 26..29\nE21\n' "$folder/refused.nfg" >"$scratch/wanted"
-    judge "duplicates: standard output full" "$nothing" "$scratch/wanted" 4
+    printf '%s: E4 at 26..29\nE21\n' "$folder/refused.nfg" >"$scratch/expected"
+    judge "duplicates: standard output full" "$nothing" "$scratch/expected" 4
 }
 
 # Many small files take at most twice the processor time that `sha256sum` of them takes, each at its best
@@ -280,6 +280,6 @@ check_parallel() {
     find "$root/examples" -name '*.[en]fg' -print0 |
         parallel -0 -X "$program" hash 2>"$scratch/err" | sort >"$scratch/out"
     status=0
-    echo "$root/examples/refused/three-doors.efg: E13 at 94..95" >"$scratch/wanted"
-    judge "hash by parallel" "$scratch/lines" "$scratch/wanted" 0
+    echo "$root/examples/refused/three-doors.efg: E13 at 94..95" >"$scratch/expected"
+    judge "hash by parallel" "$scratch/lines" "$scratch/expected" 0
 }

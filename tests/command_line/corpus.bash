@@ -2,9 +2,9 @@
 # The files of tests/corpus/, as standard input and by their names.
 #
 # A case is a game file, NAME.nfg or NAME.efg. Beside it lies one of
-#   NAME.out   the bytes that are wanted on standard output; the status is 0 then,
-#   NAME.err   the bytes that are wanted on standard error; the status is 2 then.
-# Nothing is wanted on the other stream. What is wanted on standard output is canonical text: as
+#   NAME.out   the bytes that are expected on standard output; the status is 0 then,
+#   NAME.err   the bytes that are expected on standard error; the status is 2 then.
+# Nothing is expected on the other stream. What is expected on standard output is canonical text: as
 # standard input it has to come out as it is. `check` has to tell the kind of file, or to refuse it so.
 
 # What `check` writes of a file that is right, by its name.
@@ -16,19 +16,19 @@ kind_of() { # GAME-FILE
 }
 
 check_case() { # GAME-FILE
-    local base=${1%.*} wanted=0 kind=$nothing
+    local base=${1%.*} expected=0 kind=$nothing
     if [[ -e $base.err ]]; then
-        wanted=2
+        expected=2
     else
         kind=$scratch/kind
         kind_of "$1" >"$kind"
     fi
     run <"$1"
-    judge "${1##*/}" "$base.out" "$base.err" "$wanted"
+    judge "${1##*/}" "$base.out" "$base.err" "$expected"
     run canon "$1" <"$nothing"
-    judge "canon ${1##*/}" "$base.out" "$base.err" "$wanted"
+    judge "canon ${1##*/}" "$base.out" "$base.err" "$expected"
     run check "$1" <"$nothing"
-    judge "check ${1##*/}" "$kind" "$base.err" "$wanted"
+    judge "check ${1##*/}" "$kind" "$base.err" "$expected"
 }
 
 # Canonical text canonises to itself.
@@ -51,7 +51,7 @@ check_corpus() {
     fi
 }
 
-# A file that belongs to no case would never be looked at, and a case wants a text or a refusal.
+# A file that belongs to no case would never be looked at, and a case needs a text or a refusal.
 check_strays() {
     local file base
     for file in "$corpus"/*; do
@@ -59,7 +59,7 @@ check_strays() {
         case $file in
         *.nfg | *.efg)
             if [[ -e $base.out && -e $base.err || ! -e $base.out && ! -e $base.err ]]; then
-                fail "${file##*/}: one of .out and .err is wanted"
+                fail "${file##*/}: one of .out and .err is expected"
             fi
             ;;
         *.out | *.err)

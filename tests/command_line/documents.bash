@@ -42,7 +42,7 @@ check_page() {
         fail "docs/gamefile.1 and help name other commands or options: $(tr '\n' ' ' <"$scratch/differs")"
     fi
     check_layout
-    if make -s -C "$root" install PREFIX="$scratch/usr" &&
+    if make -s -o gamefile -C "$root" install PREFIX="$scratch/usr" &&
         cmp -s "$program" "$scratch/usr/bin/gamefile" &&
         cmp -s "$root/docs/gamefile.1" "$scratch/usr/share/man/man1/gamefile.1"; then
         passed=$((passed + 1))

@@ -19,10 +19,10 @@ check_explain() {
         echo '  1 | NFG 1 R "z" { "A" } { 1 } one'
         echo '    |                           ^^^'
         echo '  hint: write 3, -0.5, 1e-3 or 1/3'
-    } >"$scratch/wanted"
-    judge "same --explain with a refused file" "$nothing" "$scratch/wanted" 2
+    } >"$scratch/expected"
+    judge "same --explain with a refused file" "$nothing" "$scratch/expected" 2
     run same --explain "$b" "$a"
-    judge "same --explain with a refused first file" "$nothing" "$scratch/wanted" 2
+    judge "same --explain with a refused first file" "$nothing" "$scratch/expected" 2
     run same --explain "$a" "$scratch/label.efg"
     judge_lines "same --explain of other files" 1 different
     run check --explain < <(spaces $((limit + 1)))

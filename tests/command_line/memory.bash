@@ -166,7 +166,7 @@ check_labels_pieces() {
 
 check_memory() {
     local least=1024
-    # An empty file takes no memory beyond that of the words. With less the program doesn't get there.
+    # An empty file takes no memory beyond what the arguments take. With less, the program does not get there.
     while run_within "$least" <"$nothing" && [[ $status != 2 ]] && ((least < 16384)); do
         least=$((least + 16))
     done

@@ -87,10 +87,10 @@ fn assert_paid(
     alloc: Global,
     file: &[u8],
     choices: &[&[u32]],
-    wanted: &[Fraction],
+    expected: &[Fraction],
 ) {
     let payoffs = paid(rt, alloc, file, choices).expect(rt, "payoffs");
-    assert!(rt; payoffs.as_slice() == wanted);
+    assert!(rt; payoffs.as_slice() == expected);
 }
 
 fn fraction(rt: &impl Abort, num: i128, den: u128) -> Fraction {

@@ -31,9 +31,9 @@ fn text_of(rt: &impl Abort, alloc: Global, game: &Game<'_>) -> Vec<u8> {
 }
 
 /// Asserts the text of a game by its own numbers.
-fn assert_text(rt: &impl Abort, alloc: Global, game: &Game<'_>, wanted: &[u8]) {
+fn assert_text(rt: &impl Abort, alloc: Global, game: &Game<'_>, expected: &[u8]) {
     let text = text_of(rt, alloc, game);
-    assert!(rt; text.strip_prefix(b"; ".as_slice()) == Some(wanted));
+    assert!(rt; text.strip_prefix(b"; ".as_slice()) == Some(expected));
 }
 
 /// A game with one player, one set of chance, two sets of his and one outcome, by other numbers.

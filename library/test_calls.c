@@ -23,7 +23,7 @@ typedef struct {
 typedef struct {
     char path[512];
     bytes game;
-    bytes wanted;
+    bytes expected;
     int is_right;
 } file;
 
@@ -84,11 +84,11 @@ static void list_folder(const char *folder)
         if ((size_t)snprintf(f->path, sizeof f->path, "%s/%s", folder, e->d_name) >= sizeof f->path)
             continue;
         f->game = read_file(f->path);
-        f->wanted = beside(f->path, ".out");
-        f->is_right = f->wanted.at != NULL;
+        f->expected = beside(f->path, ".out");
+        f->is_right = f->expected.at != NULL;
         if (!f->is_right)
-            f->wanted = beside(f->path, ".err");
-        if (f->game.at != NULL && f->wanted.at != NULL)
+            f->expected = beside(f->path, ".err");
+        if (f->game.at != NULL && f->expected.at != NULL)
             file_count++;
     }
     closedir(d);
@@ -157,17 +157,17 @@ static void try_renumbering(score *s, const file *f)
 {
     gamefile_pair *pairs, *back;
     size_t needed = 0, again = 0;
-    gamefile_status status = gamefile_renumbering(f->game.at, f->game.n, f->wanted.at, f->wanted.n, NULL,
+    gamefile_status status = gamefile_renumbering(f->game.at, f->game.n, f->expected.at, f->expected.n, NULL,
                                                   0, &needed, NULL, NULL);
     expect(s, status == (needed > 0 ? GAMEFILE_TOO_SMALL : GAMEFILE_OK), f->path, "how many pairs");
-    expect(s, needed == 0 || f->wanted.at[0] == 'E', f->path, "a table has no pairs");
+    expect(s, needed == 0 || f->expected.at[0] == 'E', f->path, "a table has no pairs");
     pairs = (gamefile_pair *)calloc(needed + 1, sizeof *pairs);
     back = (gamefile_pair *)calloc(needed + 1, sizeof *back);
     if (pairs == NULL || back == NULL)
         abort();
-    expect(s, gamefile_renumbering(f->game.at, f->game.n, f->wanted.at, f->wanted.n, pairs, needed, &again,
+    expect(s, gamefile_renumbering(f->game.at, f->game.n, f->expected.at, f->expected.n, pairs, needed, &again,
                                    NULL, NULL) == GAMEFILE_OK && again == needed, f->path, "pairs");
-    expect(s, gamefile_renumbering(f->wanted.at, f->wanted.n, f->game.at, f->game.n, back, needed + 1,
+    expect(s, gamefile_renumbering(f->expected.at, f->expected.n, f->game.at, f->game.n, back, needed + 1,
                                    &again, NULL, NULL) == GAMEFILE_OK && again == needed, f->path, "back");
     expect(s, are_canonical(pairs, back, needed) && back[needed].kind == 0, f->path, "canonical numbers");
     free(pairs);
@@ -183,16 +183,16 @@ static void try_right(score *s, const file *f)
     char hash[65], other[65];
     bytes text;
     size_t i;
-    int is_tree = f->wanted.at[0] == 'E';
+    int is_tree = f->expected.at[0] == 'E';
 
     expect(s, gamefile_check(f->game.at, f->game.n, &kind, &fault) == GAMEFILE_OK, f->path, "check");
     expect(s, kind == (is_tree ? GAMEFILE_TREE : GAMEFILE_TABLE), f->path, "kind");
     text = text_of(s, f, 0, 0, &status);
-    expect(s, text.at != NULL && is_same_text(text, f->wanted), f->path, "canonical text");
+    expect(s, text.at != NULL && is_same_text(text, f->expected), f->path, "canonical text");
     expect(s, gamefile_hash(f->game.at, f->game.n, 0, hash, NULL) == GAMEFILE_OK, f->path, "hash");
-    expect(s, gamefile_hash(f->wanted.at, f->wanted.n, 0, other, NULL) == GAMEFILE_OK
+    expect(s, gamefile_hash(f->expected.at, f->expected.n, 0, other, NULL) == GAMEFILE_OK
                   && strcmp(hash, other) == 0 && strlen(hash) == 64, f->path, "hash of the text");
-    expect(s, gamefile_same(f->game.at, f->game.n, f->wanted.at, f->wanted.n, 0, NULL, NULL)
+    expect(s, gamefile_same(f->game.at, f->game.n, f->expected.at, f->expected.n, 0, NULL, NULL)
                   == GAMEFILE_OK, f->path, "same as its canonical text");
     try_renumbering(s, f);
     free(text.at);
@@ -205,7 +205,7 @@ static void try_right(score *s, const file *f)
         if (status == GAMEFILE_OK) {
             expect(s, gamefile_check(text.at, text.n, &kind, NULL) == GAMEFILE_OK
                           && kind == GAMEFILE_TABLE, f->path, "a table");
-            expect(s, is_tree || is_same_text(text, f->wanted), f->path, "a table's own text");
+            expect(s, is_tree || is_same_text(text, f->expected), f->path, "a table's own text");
         }
         free(text.at);
     }
@@ -222,41 +222,41 @@ static void try_refused(score *s, const file *f)
     int which = 7;
 
     expect(s, gamefile_check(f->game.at, f->game.n, NULL, &fault) == GAMEFILE_REFUSED
-                  && is_fault(&fault, f->wanted), f->path, "refused by check");
+                  && is_fault(&fault, f->expected), f->path, "refused by check");
     expect(s, (fault.code == 3) == (fault.expected >= 1 && fault.expected <= 11), f->path, "expected");
     expect(s, strcmp(gamefile_message(fault.code, fault.expected), "no such code") != 0, f->path,
            "message");
     memset(&fault, 0, sizeof fault);
     expect(s, gamefile_canonical(f->game.at, f->game.n, 0, out, sizeof out, &needed, &fault)
-                  == GAMEFILE_REFUSED && is_fault(&fault, f->wanted), f->path, "refused by canonical");
+                  == GAMEFILE_REFUSED && is_fault(&fault, f->expected), f->path, "refused by canonical");
     expect(s, needed == 7 && strcmp((char *)out, "as it was") == 0, f->path, "the buffer stays");
     memset(&fault, 0, sizeof fault);
     expect(s, gamefile_hash(f->game.at, f->game.n, 0, hash, &fault) == GAMEFILE_REFUSED
-                  && is_fault(&fault, f->wanted), f->path, "refused by hash");
+                  && is_fault(&fault, f->expected), f->path, "refused by hash");
     memset(&fault, 0, sizeof fault);
     expect(s, gamefile_table(f->game.at, f->game.n, 0, out, sizeof out, &needed, &fault, NULL)
-                  == GAMEFILE_REFUSED && is_fault(&fault, f->wanted), f->path, "refused by table");
+                  == GAMEFILE_REFUSED && is_fault(&fault, f->expected), f->path, "refused by table");
     memset(&fault, 0, sizeof fault);
     expect(s, gamefile_same(f->game.at, f->game.n, game, sizeof game - 1, 0, &fault, &which)
-                  == GAMEFILE_REFUSED && which == 0 && is_fault(&fault, f->wanted), f->path,
+                  == GAMEFILE_REFUSED && which == 0 && is_fault(&fault, f->expected), f->path,
            "refused as the first of two");
     memset(&fault, 0, sizeof fault);
     expect(s, gamefile_same(game, sizeof game - 1, f->game.at, f->game.n, 0, &fault, &which)
-                  == GAMEFILE_REFUSED && which == 1 && is_fault(&fault, f->wanted), f->path,
+                  == GAMEFILE_REFUSED && which == 1 && is_fault(&fault, f->expected), f->path,
            "refused as the second of two");
     memset(&fault, 0, sizeof fault);
     expect(s, gamefile_renumbering(f->game.at, f->game.n, game, sizeof game - 1, &pair, 1, &needed, &fault,
                                    &which) == GAMEFILE_REFUSED && which == 0
-                  && is_fault(&fault, f->wanted), f->path, "refused by renumbering");
+                  && is_fault(&fault, f->expected), f->path, "refused by renumbering");
     memset(&fault, 0, sizeof fault);
     expect(s, gamefile_renumbering(game, sizeof game - 1, f->game.at, f->game.n, &pair, 1, &needed, &fault,
                                    &which) == GAMEFILE_REFUSED && which == 1
-                  && is_fault(&fault, f->wanted), f->path, "refused by renumbering as the second");
+                  && is_fault(&fault, f->expected), f->path, "refused by renumbering as the second");
     expect(s, needed == 7 && pair.kind == 7, f->path, "the pairs stay");
 }
 
 /* What no file shows: null pointers, flags, and numbers that are never changed. */
-static void try_border(score *s)
+static void try_layer(score *s)
 {
     static const uint8_t game[] = "NFG 1 R \"a\" { \"A\" } { 1 } 2";
     static const uint8_t other[] = "NFG 1 R \"b\" { \"A\" } { 1 } 2";
@@ -283,7 +283,7 @@ static void try_border(score *s)
     expect(s, gamefile_check(NULL, 0, NULL, &fault) == GAMEFILE_REFUSED && fault.code == 3
                   && fault.expected == GAMEFILE_WHAT_FORMAT && fault.end == 0, "NULL", "empty");
     expect(s, gamefile_check(NULL, 1, &kind, &fault) == GAMEFILE_MISUSE, "NULL", "not empty");
-    expect(s, gamefile_check(game, n, NULL, NULL) == GAMEFILE_OK, "NULL", "no answer wanted");
+    expect(s, gamefile_check(game, n, NULL, NULL) == GAMEFILE_OK, "NULL", "no answer expected");
     expect(s, gamefile_canonical(NULL, 0, 0, NULL, 0, NULL, NULL) == GAMEFILE_REFUSED, "NULL",
            "canonical");
     expect(s, gamefile_canonical(game, n, 0, NULL, 1, NULL, NULL) == GAMEFILE_MISUSE, "NULL", "buffer");
@@ -325,7 +325,7 @@ static void *try_all(void *to)
 {
     score *s = (score *)to;
     size_t i;
-    try_border(s);
+    try_layer(s);
     for (i = 0; i < file_count; i++) {
         if (files[i].is_right)
             try_right(s, &files[i]);
@@ -360,7 +360,7 @@ int main(int argc, char **argv)
     }
     for (k = 0; k < file_count; k++) {
         free(files[k].game.at);
-        free(files[k].wanted.at);
+        free(files[k].expected.at);
     }
     printf("%lu passed, %lu failed\n", sum.passed, sum.failed);
     return sum.failed != 0;

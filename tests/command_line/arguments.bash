@@ -7,7 +7,7 @@ check_usage() { # WORD..
     if [[ $status == 3 && ! -s $scratch/out ]] && grep -q '^error: ' "$scratch/err"; then
         passed=$((passed + 1))
     else
-        fail "words '$*': wrong usage is wanted, and status is $status"
+        fail "arguments '$*': wrong usage is expected, and status is $status"
     fi
 }
 
@@ -18,7 +18,7 @@ check_help() { # WORD..
         ! grep -Eq '.{81}' "$scratch/out"; then
         passed=$((passed + 1))
     else
-        fail "words '$*': help of at most 80 columns is wanted, and status is $status"
+        fail "arguments '$*': help of at most 80 columns is expected, and status is $status"
     fi
 }
 
@@ -56,18 +56,18 @@ check_words() {
 # If the name of a game file stands in place of a command, a command is suggested after the usage, and
 # not for any other word.
 check_hint() {
-    local word wanted
+    local word expected
     for word in a.efg folder/a.nfg tree a.txt $'a\tb.efg' .efg.; do
-        wanted=0
+        expected=0
         case $word in
-        a.efg | folder/a.nfg) wanted=1 ;;
+        a.efg | folder/a.nfg) expected=1 ;;
         esac
         run "$word" <"$nothing"
         if [[ $status == 3 && ! -s $scratch/out ]] && grep -q '^Usage: ' "$scratch/err" &&
-            [[ $(tail -n 1 "$scratch/err" | grep -c "gamefile canon $word\$") == "$wanted" ]]; then
+            [[ $(tail -n 1 "$scratch/err" | grep -c "gamefile canon $word\$") == "$expected" ]]; then
             passed=$((passed + 1))
         else
-            fail "word '$word': $wanted hints are wanted"
+            fail "argument '$word': $expected hints are expected"
         fi
     done
 }

@@ -1,5 +1,5 @@
 # shellcheck shell=bash disable=SC2034,SC2154
-# Runs of the program and what is wanted of them, for all parts of tests/cli.
+# Runs of the program, compared with what is expected, for all parts of tests/cli.
 
 # Runs a command with the caller's standard streams.
 launch_by() { # COMMAND WORD..
@@ -7,7 +7,7 @@ launch_by() { # COMMAND WORD..
     timeout 60 "$@" || status=$?
 }
 
-# Runs the program on the words given.
+# Runs the program with the arguments given.
 launch() { # WORD..
     launch_by "$program" "$@"
 }
@@ -33,8 +33,8 @@ fail() { # MESSAGE
     printf 'FAILED %s\n' "$1"
 }
 
-# Whether a file has the bytes of the wanted one, where an absent one wants none.
-has_bytes() { # WANTED FILE
+# Whether a file has the bytes of the expected one; an absent one stands for none.
+has_bytes() { # EXPECTED FILE
     if [[ -e $1 ]]; then
         cmp -s "$1" "$2"
     else
@@ -42,7 +42,7 @@ has_bytes() { # WANTED FILE
     fi
 }
 
-# Compares what the last run left with what is wanted.
+# Compares what the last run left with what is expected.
 judge() { # NAME OUT-FILE ERR-FILE STATUS
     local differs=""
     has_bytes "$2" "$scratch/out" || differs+="; standard output differs"
@@ -55,13 +55,13 @@ judge() { # NAME OUT-FILE ERR-FILE STATUS
     fi
 }
 
-# Wants nothing on standard output, and one line on standard error.
+# Expects nothing on standard output, and one line on standard error.
 judge_refusal() { # NAME LINE STATUS
     printf '%s\n' "$2" >"$scratch/line"
     judge "$1" "$nothing" "$scratch/line" "$3"
 }
 
-# Wants these lines on standard output, and nothing on standard error.
+# Expects these lines on standard output, and nothing on standard error.
 judge_lines() { # NAME STATUS LINE..
     local name=$1 status_wanted=$2
     shift 2
