@@ -8,9 +8,14 @@ use Rattle.gf_calls.specs.declared.fault.FaultNumbers.{FaultNumbers}
 use Rattle.gf_calls.specs.declared.status.Status.{Status}
 use Rattle.gf_calls.specs.declared.status.Status.TheVariants.{Done}
 
--- the bytes mean a file of this kind, or are refused
-pub data IsChecked (bytes : List ℕ) (kind : ℕ) (numbers : FaultNumbers) (status : Status)
-    : Type 0 where
+-- what the call can write: the kind of a file, and the numbers of a refusal
+pub record CheckOutput : Type 0 where
+  pub kind : ℕ
+  pub numbers : FaultNumbers
+
+-- the bytes mean a file of this kind, or are refused; nothing else is written
+pub data IsChecked (bytes : List ℕ) (old new : CheckOutput) (status : Status) : Type 0 where
   right : (format : Format) → status ≡ Done → MeansFileOf bytes format
-      → kind ≡ kind_number format → IsChecked bytes kind numbers status
-  refused : IsRefusedAs bytes status numbers → IsChecked bytes kind numbers status
+      → new.kind ≡ kind_number format → new.numbers ≡ old.numbers → IsChecked bytes old new status
+  refused : IsRefusedAs bytes status new.numbers → new.kind ≡ old.kind
+      → IsChecked bytes old new status

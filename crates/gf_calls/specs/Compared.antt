@@ -5,8 +5,7 @@ use Rattle.gf_canon.specs.CanonicalText.{SpellsWithin}
 use Rattle.gf_canon.specs.Judgement.{MeansFile}
 use Rattle.gf_canon.specs.SameBy.{SameBy}
 use Rattle.gf_canon.specs.declared.sameness.Names.{Names}
-use Rattle.gf_calls.specs.Refused.{AreRefusedAs}
-use Rattle.gf_calls.specs.declared.fault.FaultNumbers.{FaultNumbers}
+use Rattle.gf_calls.specs.Refused.{AreRefusedAs, Refusal}
 use Rattle.gf_calls.specs.declared.status.Status.{Status}
 use Rattle.gf_calls.specs.declared.status.Status.TheVariants.{Different, Done, Misuse}
 
@@ -23,13 +22,13 @@ pub record IsSameAnswer (names : Names) (a b : List ℕ) (same : Bool) : Type 0 
       → IsTrue same ↔ SameBy names x y
 
 -- the answer, or why there is none
-pub data IsCompared (names : Names) (a b : List ℕ) (which : ℕ) (numbers : FaultNumbers)
-    (status : Status) : Type 0 where
+pub data IsCompared (names : Names) (a b : List ℕ) (old new : Refusal) (status : Status)
+    : Type 0 where
   compared : (same : Bool) → status ≡ same_status same → IsSameAnswer names a b same
-      → IsCompared names a b which numbers status
-  refused : AreRefusedAs a b which status numbers → IsCompared names a b which numbers status
+      → new ≡ old → IsCompared names a b old new status
+  refused : AreRefusedAs a b old new status → IsCompared names a b old new status
 
 -- the same, with names as the flags say; other flags are not understood
-abbrev pub IsComparedBy : Option Names → List ℕ → List ℕ → ℕ → FaultNumbers → Status → Type 0
-IsComparedBy (Some names) a b which numbers status = IsCompared names a b which numbers status
-IsComparedBy None a b which numbers status = status ≡ Misuse
+abbrev pub IsComparedBy : Option Names → List ℕ → List ℕ → Refusal → Refusal → Status → Type 0
+IsComparedBy (Some names) a b old new status = IsCompared names a b old new status
+IsComparedBy None a b old new status = (status ≡ Misuse) × (new ≡ old)

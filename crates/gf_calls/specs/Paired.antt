@@ -4,20 +4,25 @@ use Rattle.gf_canon.specs.GameFile.{GameFile, SameFile}
 use Rattle.gf_canon.specs.CanonicalText.{SpellsWithin}
 use Rattle.gf_calls.specs.Handed.{IsHandedOut}
 use Rattle.gf_calls.specs.Pairs.{ArePairs}
-use Rattle.gf_calls.specs.Refused.{AreRefusedAs}
-use Rattle.gf_calls.specs.declared.fault.FaultNumbers.{FaultNumbers}
+use Rattle.gf_calls.specs.Refused.{AreRefusedAs, Refusal}
 use Rattle.gf_calls.specs.declared.pair.Pair.{Pair}
 use Rattle.gf_calls.specs.declared.status.Status.{Status}
 use Rattle.gf_calls.specs.declared.status.Status.TheVariants.{Different}
 
+-- what the call can write: the buffer, how many pairs there are, and a refusal
+pub record PairsOutput : Type 0 where
+  pub out : List Pair
+  pub needed : ℕ
+  pub refusal : Refusal
+
 -- Both mean files, and these are the same, and their pairs are handed out; or they are not. Or the
--- files have no answer.
-pub data IsPaired (a b : List ℕ) (old new : List Pair) (needed which : ℕ) (numbers : FaultNumbers)
-    (status : Status) : Type 0 where
+-- files have no answer. Nothing else is written.
+pub data IsPaired (a b : List ℕ) (old new : PairsOutput) (status : Status) : Type 0 where
   paired : (x y : GameFile) → SpellsWithin a x → SpellsWithin b y → SameFile x y
-      → (pairs : List Pair) → ArePairs x y pairs → IsHandedOut pairs old new needed status
-      → IsPaired a b old new needed which numbers status
+      → (pairs : List Pair) → ArePairs x y pairs
+      → IsHandedOut pairs old.out new.out new.needed status → new.refusal ≡ old.refusal
+      → IsPaired a b old new status
   different : (x y : GameFile) → SpellsWithin a x → SpellsWithin b y → ¬ (SameFile x y)
-      → status ≡ Different → new ≡ old → IsPaired a b old new needed which numbers status
-  refused : AreRefusedAs a b which status numbers → new ≡ old
-      → IsPaired a b old new needed which numbers status
+      → status ≡ Different → new ≡ old → IsPaired a b old new status
+  refused : AreRefusedAs a b old.refusal new.refusal status
+      → new ≡ record old { refusal = new.refusal } → IsPaired a b old new status

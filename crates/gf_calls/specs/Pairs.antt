@@ -1,5 +1,5 @@
 -- Which numbers of two files correspond, in the form that C gets.
-use Rattle.std.specs.Prelude.{◌≡◌, ℕ, List, map}
+use Rattle.std.specs.Prelude.{◌≡◌, List, map}
 use Rattle.gf_canon.specs.GameFile.{GameFile}
 use Rattle.gf_canon.specs.Pairs as numbers
 use Rattle.gf_canon.specs.declared.numbering.pairs.NumberPair.{NumberPair}

@@ -21,12 +21,16 @@ pub record IsRefusedAs (bytes : List ℕ) (status : Status) (numbers : FaultNumb
   pub is_status : status ≡ refusal_status fault.why
   pub are_numbers : numbers ≡ fault_numbers fault
 
--- the first of two files, 0, is refused; or it is not, and the second, 1, is; or memory ran out
--- although both mean files
-pub data AreRefusedAs (a b : List ℕ) (which : ℕ) (status : Status) (numbers : FaultNumbers)
-    : Type 0 where
-  first : IsRefusedAs a status numbers → which ≡ 0 → AreRefusedAs a b which status numbers
-  second : MeansFile a → IsRefusedAs b status numbers → which ≡ 1
-      → AreRefusedAs a b which status numbers
-  out_of_memory : status ≡ OutOfMemory → MeansFile a → MeansFile b
-      → AreRefusedAs a b which status numbers
+-- what a call on two files can write of a refusal: which of them it is, and its numbers
+pub record Refusal : Type 0 where
+  pub which : ℕ
+  pub numbers : FaultNumbers
+
+-- The first of two files, 0, is refused; or it is not, and the second, 1, is; or memory ran out
+-- although both mean files, and nothing is written.
+pub data AreRefusedAs (a b : List ℕ) (old new : Refusal) (status : Status) : Type 0 where
+  first : IsRefusedAs a status new.numbers → new.which ≡ 0 → AreRefusedAs a b old new status
+  second : MeansFile a → IsRefusedAs b status new.numbers → new.which ≡ 1
+      → AreRefusedAs a b old new status
+  out_of_memory : status ≡ OutOfMemory → MeansFile a → MeansFile b → new ≡ old
+      → AreRefusedAs a b old new status

@@ -37,37 +37,48 @@ form_status form.TooManyProfiles = TooManyProfiles
 form_status (form.Overflow profile) = Overflow
 form_status form.Memory = OutOfMemory
 
--- the number of the profile that overflows, and otherwise no number
-abbrev pub IsProfileOf : FormFault → ℕ → Type 0
-IsProfileOf (form.Overflow at) profile = profile ≡ at
-IsProfileOf _ profile = Unit {0}
+-- the number of the profile that overflows; without one, the number from before
+abbrev pub profile_of : FormFault → ℕ → ℕ
+profile_of (form.Overflow at) profile = at
+profile_of _ profile = profile
+
+-- what the call can write: the buffer, the length of the text, the numbers of a refusal, and the
+-- number of a profile that overflows
+pub record TableOutput : Type 0 where
+  pub out : List ℕ
+  pub needed : ℕ
+  pub numbers : FaultNumbers
+  pub profile : ℕ
 
 -- the text of a table is handed out, or memory ran out
-pub data IsMadeText (t : Table) (old new : List ℕ) (needed : ℕ) (status : Status) : Type 0 where
-  made : IsHandedOut (table_text t) old new needed status → IsMadeText t old new needed status
-  not_made : status ≡ OutOfMemory → new ≡ old → IsMadeText t old new needed status
+pub data IsMadeText (t : Table) (old new : List ℕ) (before needed : ℕ) (status : Status)
+    : Type 0 where
+  made : IsHandedOut (table_text t) old new needed status
+      → IsMadeText t old new before needed status
+  not_made : status ≡ OutOfMemory → new ≡ old → needed ≡ before
+      → IsMadeText t old new before needed status
 
 -- The text of the table is handed out; or the bytes are refused; or they mean a game that has no
--- table, or more players than a table can have; or memory ran out although they are valid.
-pub data IsTabled (strategies : Strategies) (bytes old new : List ℕ) (needed profile : ℕ)
-    (numbers : FaultNumbers) (status : Status) : Type 0 where
+-- table, or more players than a table can have; or memory ran out although they are valid. Nothing
+-- else is written.
+pub data IsTabled (strategies : Strategies) (bytes : List ℕ) (old new : TableOutput)
+    (status : Status) : Type 0 where
   written : (text : List ℕ) → IsTableText strategies bytes text
-      → IsHandedOut text old new needed status
-      → IsTabled strategies bytes old new needed profile numbers status
-  refused : IsRefusedAs bytes status numbers → new ≡ old
-      → IsTabled strategies bytes old new needed profile numbers status
+      → IsHandedOut text old.out new.out new.needed status
+      → new ≡ record old { out = new.out; needed = new.needed }
+      → IsTabled strategies bytes old new status
+  refused : IsRefusedAs bytes status new.numbers → new ≡ record old { numbers = new.numbers }
+      → IsTabled strategies bytes old new status
   without_form : (g : Game) → SpellsWithin bytes (extensive g) → (fault : FormFault)
-      → IsWithoutForm strategies g fault → status ≡ form_status fault → IsProfileOf fault profile
-      → new ≡ old → IsTabled strategies bytes old new needed profile numbers status
+      → IsWithoutForm strategies g fault → status ≡ form_status fault
+      → new ≡ record old { profile = profile_of fault old.profile }
+      → IsTabled strategies bytes old new status
   too_many_players : (g : Game) → SpellsWithin bytes (extensive g) → ¬ (HasFewPlayers g)
-      → status ≡ Misuse → new ≡ old
-      → IsTabled strategies bytes old new needed profile numbers status
+      → status ≡ Misuse → new ≡ old → IsTabled strategies bytes old new status
   out_of_memory : status ≡ OutOfMemory → MeansFile bytes → new ≡ old
-      → IsTabled strategies bytes old new needed profile numbers status
+      → IsTabled strategies bytes old new status
 
 -- the same, with strategies as the flags say; other flags are not understood
-abbrev pub IsTabledBy : Option Strategies → List ℕ → List ℕ → List ℕ → ℕ → ℕ → FaultNumbers
-    → Status → Type 0
-IsTabledBy (Some strategies) bytes old new needed profile numbers status =
-    IsTabled strategies bytes old new needed profile numbers status
-IsTabledBy None bytes old new needed profile numbers status = (status ≡ Misuse) × (new ≡ old)
+abbrev pub IsTabledBy : Option Strategies → List ℕ → TableOutput → TableOutput → Status → Type 0
+IsTabledBy (Some strategies) bytes old new status = IsTabled strategies bytes old new status
+IsTabledBy None bytes old new status = (status ≡ Misuse) × (new ≡ old)

@@ -17,20 +17,26 @@ pub record IsHashBy (names : Names) (bytes hash : List ℕ) : Type 0 where
   pub is_text : IsTextBy names bytes text
   pub is_digest : hash ≡ encode_lower (sha256 text)
 
+-- what the call can write: the buffer, the length of the text, and the numbers of a refusal
+pub record TextOutput : Type 0 where
+  pub out : List ℕ
+  pub needed : ℕ
+  pub numbers : FaultNumbers
+
 -- A text of the bytes is handed out, or they are refused; or memory ran out although they are
--- valid.
-pub data IsWritten (IsText : List ℕ → Type 0) (bytes old new : List ℕ) (needed : ℕ)
-    (numbers : FaultNumbers) (status : Status) : Type 0 where
-  written : (text : List ℕ) → IsText text → IsHandedOut text old new needed status
-      → IsWritten IsText bytes old new needed numbers status
-  refused : IsRefusedAs bytes status numbers → new ≡ old
-      → IsWritten IsText bytes old new needed numbers status
+-- valid. Nothing else is written.
+pub data IsWritten (IsText : List ℕ → Type 0) (bytes : List ℕ) (old new : TextOutput)
+    (status : Status) : Type 0 where
+  written : (text : List ℕ) → IsText text → IsHandedOut text old.out new.out new.needed status
+      → new.numbers ≡ old.numbers → IsWritten IsText bytes old new status
+  refused : IsRefusedAs bytes status new.numbers → new ≡ record old { numbers = new.numbers }
+      → IsWritten IsText bytes old new status
   out_of_memory : status ≡ OutOfMemory → MeansFile bytes → new ≡ old
-      → IsWritten IsText bytes old new needed numbers status
+      → IsWritten IsText bytes old new status
 
 -- the same, with names as the flags say; other flags are not understood
-abbrev pub IsWrittenBy : (Names → List ℕ → List ℕ → Type 0) → Option Names → List ℕ → List ℕ
-    → List ℕ → ℕ → FaultNumbers → Status → Type 0
-IsWrittenBy IsText (Some names) bytes old new needed numbers status =
-    IsWritten (IsText names bytes) bytes old new needed numbers status
-IsWrittenBy IsText None bytes old new needed numbers status = (status ≡ Misuse) × (new ≡ old)
+abbrev pub IsWrittenBy : (Names → List ℕ → List ℕ → Type 0) → Option Names → List ℕ
+    → TextOutput → TextOutput → Status → Type 0
+IsWrittenBy IsText (Some names) bytes old new status =
+    IsWritten (IsText names bytes) bytes old new status
+IsWrittenBy IsText None bytes old new status = (status ≡ Misuse) × (new ≡ old)

@@ -23,8 +23,9 @@ fn write_text(
     needed: &mut usize,
     fault: &mut FaultNumbers,
 ) -> Status
-    ensures { IsWritten (IsTextBy names input.now) input.now out.old out.new needed.new fault.new
-        result }
+    ensures { IsWritten (IsTextBy names input.now) input.now
+        (record { out = out.old; needed = needed.old; numbers = fault.old })
+        (record { out = out.new; needed = needed.new; numbers = fault.new }) result }
 {
     match canonical_by(alloc, input, names) {
         Ok(text) => hand_out(&text, out, needed),
@@ -41,8 +42,9 @@ pub fn write_canonical(
     needed: &mut usize,
     fault: &mut FaultNumbers,
 ) -> Status
-    ensures { IsWrittenBy IsTextBy (names_by flags) input.now out.old out.new needed.new fault.new
-        result }
+    ensures { IsWrittenBy IsTextBy (names_by flags) input.now
+        (record { out = out.old; needed = needed.old; numbers = fault.old })
+        (record { out = out.new; needed = needed.new; numbers = fault.new }) result }
 {
     match names_by(flags) {
         Some(names) => write_text(alloc, input, names, out, needed, fault),
@@ -65,8 +67,9 @@ fn write_hash_by(
     needed: &mut usize,
     fault: &mut FaultNumbers,
 ) -> Status
-    ensures { IsWritten (IsHashBy names input.now) input.now out.old out.new needed.new fault.new
-        result }
+    ensures { IsWritten (IsHashBy names input.now) input.now
+        (record { out = out.old; needed = needed.old; numbers = fault.old })
+        (record { out = out.new; needed = needed.new; numbers = fault.new }) result }
 {
     let text = match canonical_text(alloc, input, names) {
         Ok(text) => text,
@@ -87,8 +90,9 @@ pub fn write_hash(
     needed: &mut usize,
     fault: &mut FaultNumbers,
 ) -> Status
-    ensures { IsWrittenBy IsHashBy (names_by flags) input.now out.old out.new needed.new fault.new
-        result }
+    ensures { IsWrittenBy IsHashBy (names_by flags) input.now
+        (record { out = out.old; needed = needed.old; numbers = fault.old })
+        (record { out = out.new; needed = needed.new; numbers = fault.new }) result }
 {
     match names_by(flags) {
         Some(names) => write_hash_by(alloc, input, names, out, needed, fault),

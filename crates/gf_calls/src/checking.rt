@@ -20,7 +20,8 @@ fn kind_number(format: Format) -> u32
 
 /// Checks a file, and reports its kind or its refusal.
 pub fn check_file(alloc: Global, input: &[u8], kind: &mut u32, fault: &mut FaultNumbers) -> Status
-    ensures { IsChecked input.now kind.new fault.new result }
+    ensures { IsChecked input.now (record { kind = kind.old; numbers = fault.old })
+        (record { kind = kind.new; numbers = fault.new }) result }
 {
     match check(alloc, input) {
         Ok(format) => {

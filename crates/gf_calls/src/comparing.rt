@@ -26,7 +26,8 @@ fn same_status(same: bool) -> Status
 /// second.
 pub fn tell_of_two(refusal: SameFault, fault: &mut FaultNumbers, which: &mut u32) -> Status
     ensures { (a b : List ℕ) → AreRefusedWith a b refusal
-        → AreRefusedAs a b which.new result fault.new }
+        → AreRefusedAs a b (record { which = which.old; numbers = fault.old })
+        (record { which = which.new; numbers = fault.new }) result }
 {
     match refusal {
         SameFault::First(refusal) => {
@@ -49,7 +50,8 @@ fn compare_by(
     fault: &mut FaultNumbers,
     which: &mut u32,
 ) -> Status
-    ensures { IsCompared names a.now b.now which.new fault.new result }
+    ensures { IsCompared names a.now b.now (record { which = which.old; numbers = fault.old })
+        (record { which = which.new; numbers = fault.new }) result }
 {
     match same_by(alloc, a, b, names) {
         Ok(same) => same_status(same),
@@ -66,7 +68,9 @@ pub fn compare(
     fault: &mut FaultNumbers,
     which: &mut u32,
 ) -> Status
-    ensures { IsComparedBy (names_by flags) a.now b.now which.new fault.new result }
+    ensures { IsComparedBy (names_by flags) a.now b.now
+        (record { which = which.old; numbers = fault.old })
+        (record { which = which.new; numbers = fault.new }) result }
 {
     match names_by(flags) {
         Some(names) => compare_by(alloc, a, b, names, fault, which),

@@ -20,7 +20,17 @@ pub fn write_renumbering(
     fault: &mut FaultNumbers,
     which: &mut u32,
 ) -> Status
-    ensures { IsPaired a.now b.now out.old out.new needed.new which.new fault.new result }
+    ensures { IsPaired a.now b.now
+        (record {
+          out = out.old;
+          needed = needed.old;
+          refusal = record { which = which.old; numbers = fault.old };
+        })
+        (record {
+          out = out.new;
+          needed = needed.new;
+          refusal = record { which = which.new; numbers = fault.new };
+        }) result }
 {
     let mut told = ToldPairs {
         pairs: Vec::new(alloc),

@@ -6,8 +6,8 @@ ghost use Rattle.gf_canon.specs.GameFile.GameFile.{extensive};
 ghost use Rattle.gf_canon.specs.CanonicalText.{SpellsWithin};
 ghost use Rattle.gf_canon.specs.MeaningOf.{file_of};
 ghost use Rattle.gf_calls.specs.Numbers.{strategies_by};
-ghost use Rattle.gf_calls.specs.Tabled.{IsMadeText, IsProfileOf, IsTabled};
-ghost use Rattle.gf_calls.specs.Tabled.{IsTabledBy, form_status};
+ghost use Rattle.gf_calls.specs.Tabled.{IsMadeText, IsTabled};
+ghost use Rattle.gf_calls.specs.Tabled.{IsTabledBy, form_status, profile_of};
 
 use crate::fault::{FaultNumbers, tell};
 use crate::flags::strategies_by;
@@ -34,7 +34,7 @@ fn text_of(alloc: Global, table: &Table) -> Result<Vec<u8>, AllocError>
 /// Reports why a game has no table.
 fn tell_form(fault: FormFault, profile: &mut u64) -> Status
     ensures status { result ≡ form_status fault }
-    ensures profile { IsProfileOf fault profile.new }
+    ensures profile { profile.new ≡ profile_of fault profile.old }
 {
     match fault {
         FormFault::TooManyProfiles => Status::TooManyProfiles,
@@ -48,7 +48,7 @@ fn tell_form(fault: FormFault, profile: &mut u64) -> Status
 
 /// Writes the text of a table that was made.
 fn write_made(alloc: Global, table: &Table, out: &mut [u8], needed: &mut usize) -> Status
-    ensures { IsMadeText table.now out.old out.new needed.new result }
+    ensures { IsMadeText table.now out.old out.new needed.old needed.new result }
 {
     match text_of(alloc, table) {
         Ok(text) => hand_out(&text, out, needed),
@@ -65,7 +65,10 @@ fn write_form(
     profile: &mut u64,
 ) -> Status
     ensures { (bytes : List ℕ) (numbers : FaultNumbers) → SpellsWithin bytes (extensive game.now)
-        → IsTabled strategies bytes out.old out.new needed.new profile.new numbers result }
+        → IsTabled strategies bytes
+        (record { out = out.old; needed = needed.old; numbers = numbers; profile = profile.old })
+        (record { out = out.new; needed = needed.new; numbers = numbers; profile = profile.new })
+        result }
 {
     if game.players().len() > MOST_PLAYERS {
         return Status::Misuse;
@@ -85,7 +88,10 @@ fn write_meaning(
     profile: &mut u64,
 ) -> Status
     ensures { (bytes : List ℕ) (numbers : FaultNumbers) → SpellsWithin bytes (file_of meaning.now)
-        → IsTabled strategies bytes out.old out.new needed.new profile.new numbers result }
+        → IsTabled strategies bytes
+        (record { out = out.old; needed = needed.old; numbers = numbers; profile = profile.old })
+        (record { out = out.new; needed = needed.new; numbers = numbers; profile = profile.new })
+        result }
 {
     match meaning {
         Meaning::Tree(game) => write_form(alloc, game, strategies, out, needed, profile),
@@ -102,7 +108,9 @@ fn write_by(
     fault: &mut FaultNumbers,
     profile: &mut u64,
 ) -> Status
-    ensures { IsTabled strategies input.now out.old out.new needed.new profile.new fault.new
+    ensures { IsTabled strategies input.now
+        (record { out = out.old; needed = needed.old; numbers = fault.old; profile = profile.old })
+        (record { out = out.new; needed = needed.new; numbers = fault.new; profile = profile.new })
         result }
 {
     match read_file(alloc, input) {
@@ -121,8 +129,10 @@ pub fn write_table(
     fault: &mut FaultNumbers,
     profile: &mut u64,
 ) -> Status
-    ensures { IsTabledBy (strategies_by flags) input.now out.old out.new needed.new profile.new
-        fault.new result }
+    ensures { IsTabledBy (strategies_by flags) input.now
+        (record { out = out.old; needed = needed.old; numbers = fault.old; profile = profile.old })
+        (record { out = out.new; needed = needed.new; numbers = fault.new; profile = profile.new })
+        result }
 {
     match strategies_by(flags) {
         Some(strategies) => write_by(alloc, input, strategies, out, needed, fault, profile),

@@ -1,5 +1,5 @@
 -- What a run over many files does, file by file.
-use Rattle.std.specs.Prelude.{◌≡◌, ◌⊎◌, ℕ, max, List, [], ◌∷◌, ◌++◌, codes, Option, Result}
+use Rattle.std.specs.Prelude.{◌≡◌, ◌≢◌, ◌⊎◌, ℕ, max, List, [], ◌∷◌, ◌++◌, codes, Option, Result}
 use Rattle.std.specs.String.{string_bytes}
 use Rattle.std.specs.declared.io.Error.{Error}
 use Rattle.gf_canon.specs.declared.sameness.Names.{Names}
@@ -52,11 +52,10 @@ module _ {S : Type 0} (standard : S → Type 0) (opens : List ℕ → Result S E
       Answers (IsHashLine names (name_of input)) (IsReadWhole remaining gives old new) written)
       input
 
-  -- the file was not opened, or it was read until this fault
+  -- the file was not opened, or it was read until this fault, which is not one of the output
   abbrev pub IsNotHashed : RunFault → Input → Type 0
-  IsNotHashed fault input =
-      EndsOver standard opens remaining count gives (ReadsFileUntil remaining count gives) fault
-      input
+  IsNotHashed fault input = (fault ≢ Write) × EndsOver standard opens remaining count gives
+      (ReadsFileUntil remaining count gives) fault input
 
   -- and for standard output and for standard error
   module _ {W E : Type 0} (contents : W → Option (List ℕ)) (failures : W → ℕ)

@@ -5,6 +5,11 @@ use Rattle.gf_calls.proofs.canonising.write_hash.Goals as goal
 
 pub returns-in-Some : goal.returns-in-Some
 returns-in-Some c = subst (λ (asked : Option Names). IsWrittenBy IsHashBy asked c.args.input.now
-    c.args.out.now c.write_hash_by.new.out c.write_hash_by.new.needed c.write_hash_by.new.fault
+    (record { out = c.args.out.now; needed = c.args.needed.now; numbers = c.args.fault.now })
+    (record {
+      out = c.write_hash_by.new.out;
+      needed = c.write_hash_by.new.needed;
+      numbers = c.write_hash_by.new.fault;
+    })
     c.write_hash_by.result)
     (sym c.in-Some.is ∙ c.names_by.ensures) c.write_hash_by.ensures

@@ -1,4 +1,4 @@
-use Rattle.std.proofs.Common.{◌∙◌}
+use Rattle.std.proofs.Common.{◌∙◌, refl}
 use Rattle.gf_calls.specs.Written.{written}
 use Rattle.gf_calls.proofs.canonising.write_hash_by.Goals as goal
 
@@ -8,4 +8,4 @@ returns-in-Ok-hash_of c = written c.as_bytes.result.now
       text = c.in-Ok.text.rest;
       is_text = c.in-Ok.ensures.text;
       is_digest = c.as_bytes.ensures.value ∙ c.in-Ok-hash_of.ensures;
-    }) c.hand_out.ensures
+    }) c.hand_out.ensures refl

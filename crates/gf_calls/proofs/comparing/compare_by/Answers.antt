@@ -1,3 +1,4 @@
+use Rattle.std.proofs.Common.{refl}
 use Rattle.gf_calls.specs.Compared.{compared}
 use Rattle.gf_calls.proofs.comparing.compare_by.Goals as goal
 
@@ -7,4 +8,4 @@ returns-in-Ok c = compared c.in-Ok.same c.same_status.ensures
       first = c.in-Ok.ensures.accepted.0;
       second = c.in-Ok.ensures.accepted.1;
       right = c.in-Ok.ensures.same;
-    })
+    }) refl

@@ -14,6 +14,7 @@ returns-in-Ok-true c =
     (record { found = told.0; right = told.1; told = told.2 })
     (subst (λ (pairs : List Pair). IsHandedOut pairs c.args.out.now c.hand_out.new.out
     c.hand_out.new.needed c.hand_out.result) c.deref.ensures.value c.hand_out.ensures)
+    refl
 
 pub returns-in-Ok-false : goal.returns-in-Ok-false
 returns-in-Ok-false c =

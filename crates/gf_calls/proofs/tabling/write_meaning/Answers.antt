@@ -12,7 +12,6 @@ returns-in-Tree c bytes numbers spelled = c.write_form.ensures bytes numbers
 
 pub returns-in-Table : goal.returns-in-Table
 returns-in-Table c bytes numbers spelled =
-    made_answers c.args.strategies bytes (strategic c.in-Table.table) c.in-Table.table _ _ _ _
-    numbers _
+    made_answers c.args.strategies bytes (strategic c.in-Table.table) c.in-Table.table _ _ _
     (subst (λ (meaning : Meaning). SpellsWithin bytes (file_of meaning)) c.in-Table.is spelled)
-    refl c.write_made.ensures
+    refl c.write_made.ensures refl
