@@ -1,7 +1,6 @@
 """Trees whose strategic form is too slow at full size, which docs/DECISIONS.md lists: at a size that passes, each
 with an honest twin.
 """
-from fractions import Fraction
 from functools import partial
 
 from .reduced import wide_tree
@@ -57,26 +56,6 @@ def move_beside(actions, sets):
     return tree.game(relevant=True)
 
 
-def smooth(count):
-    """Divisors of one number, of which each sum of fractions over them is a fraction within the bounds."""
-    found = [1]
-    for prime, most in ((2, 14), (3, 9), (5, 6), (7, 4), (11, 3), (13, 2), (17, 1), (19, 1), (23, 1)):
-        found = [number * prime**power for number in found for power in range(most + 1)]
-    return sorted(found)[1 : count + 1]
-
-
-def tosses_apart(players, width):
-    """Tosses that pay all players on one side, each with a denominator of its own."""
-    tree = Tree(players)
-    tree.toss(1, [Fraction(1, 2**20)] * width + [1 - Fraction(width, 2**20)])
-    for number, under in enumerate(smooth(width), 2):
-        tree.toss(number, [Fraction(1, under), 1 - Fraction(1, under)])
-        tree.end(1, *[1] * players)
-        tree.end()
-    tree.end()
-    return tree.game(relevant=True)
-
-
 # Names with what makes the tree and what makes its twin.
 KNOWN = {
     "a toss that never comes": (
@@ -85,6 +64,5 @@ KNOWN = {
     ),
     "a wide tree": (partial(wide_tree, 500, 8, 20, without=["reduced"]), MOST_ROWS),
     "many players paid at each demand": (partial(met_or_not, 20, 12), partial(many_players, 20, 300)),
-    "many players and denominators": (partial(tosses_apart, 1000, 4000), partial(tosses_apart, 1, 4000)),
     "many demands beside a move": (partial(move_beside, 2**12, 6), partial(side_by_side, 18)),
 }

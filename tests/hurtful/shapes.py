@@ -76,6 +76,27 @@ def many_players(players, width):
     return tree.game(relevant=True)
 
 
+def smooth(count):
+    """Divisors of one number, of which each sum of fractions over them is a fraction within the bounds."""
+    found = [1]
+    for prime, most in ((2, 14), (3, 9), (5, 6), (7, 4), (11, 3), (13, 2), (17, 1), (19, 1), (23, 1)):
+        found = [number * prime**power for number in found for power in range(most + 1)]
+    return sorted(found)[1 : count + 1]
+
+
+def tosses_apart(players, width):
+    """Tosses that pay all players on one side, each with a denominator of its own."""
+    tree = Tree(players)
+    tree.pays(1, *[1] * players)
+    tree.toss(1, [Fraction(1, 2**20)] * width + [1 - Fraction(width, 2**20)])
+    for number, under in enumerate(smooth(width), 2):
+        tree.toss(number, [Fraction(1, under), 1 - Fraction(1, under)])
+        tree.end(1)
+        tree.end()
+    tree.end()
+    return tree.game(relevant=True)
+
+
 def actions(count, apart=False):
     """One move with many actions, whose outcome is one, or one for each."""
     tree = Tree(1)
@@ -277,6 +298,7 @@ SHAPES = {
         partial(sums_of_denominators, 8, [7] * 32),
     ),
     "many players": (partial(many_players, 1000, 300), partial(many_players, 1, 300)),
+    "many players and denominators": (partial(tosses_apart, 10_000, 10_000), partial(tosses_apart, 1, 10_000)),
     "many actions": (partial(actions, 2**17), partial(side_by_side, 17)),
     "many actions paid apart": (partial(actions, 2**17, True), partial(side_by_side, 17)),
     "a matrix": (partial(matrix, 1000, few_outcomes), MOST_ROWS),

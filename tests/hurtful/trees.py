@@ -87,7 +87,10 @@ class Tree:
     @cached_property
     def owned(self):
         """The sets of chance and of each player, in order of first use."""
-        return [(owner, [key for key in self.sets if key[0] == owner]) for owner in range(len(self.players) + 1)]
+        found = [(owner, []) for owner in range(len(self.players) + 1)]
+        for key in self.sets:
+            found[key[0]][1].append(key)
+        return found
 
     @cached_property
     def children(self):

@@ -30,41 +30,22 @@ use std::alloc::{AllocError, Global};
 /// The greatest denominator, and the greatest sum of sizes.
 const LARGEST: u128 = i128::MAX as u128;
 
-/// A multiple of a denominator: this one, if it is a multiple, and otherwise the denominator
-/// itself.
-fn served(den: u128, common: u128) -> u128 {
-    if den == 0 || den == common || common % den != 0 {
-        return den;
-    }
-    common
-}
-
-/// A denominator that serves what a path adds to each of these payoffs: this one, if it does, and
-/// otherwise the least that does; 0 if that is too large.
-fn denominator(path: Path, row: &[Fraction], common: u128) -> u128 {
+/// The least denominator that serves what a path adds to each of these payoffs; `None` if it is too
+/// large.
+fn denominator(path: Path, row: &[Fraction]) -> Option<u128> {
     let mut least = 1;
     for payoff in row {
-        if payoff.den() != least {
-            let Some(more) = multiple(least, payoff.den()) else {
-                return 0;
-            };
-            least = more;
-        }
+        least = multiple(least, payoff.den())?;
     }
-    match path.den.checked_mul(least) {
-        Some(own) => served(own, common),
-        None => 0,
-    }
+    path.den.checked_mul(least)
 }
 
 /// A denominator that serves all of these nodes: this one, if it does; `None` if it is too large.
 fn common_denominator(nodes: &[Reached], payoffs: &Payoffs<'_>, start: u128) -> Option<u128> {
     let mut common = start;
     for node in nodes {
-        let own = denominator(node.path, payoffs.at(node.outcome), common);
-        if own != common {
-            common = multiple(common, own)?;
-        }
+        let own = denominator(node.path, payoffs.at(node.outcome))?;
+        common = multiple(common, own)?;
     }
     Some(common)
 }
@@ -76,6 +57,9 @@ fn shares_of(nodes: &[Reached], payoffs: &Payoffs<'_>, place: usize, den: u128) 
         → HasShares g nodes.now place den sum.bound sum.amount) }
     ensures within { IfSome result (λ sum. IsWithin sum.amount) }
 {
+    if den == 0 {
+        return None;
+    }
     let mut sum = Share {
         amount: 0,
         bound: 0,

@@ -1,21 +1,64 @@
 //! The nodes that pay somebody something, among those that choices can reach.
 
-ghost use Rattle.std.specs.Prelude.{◌≡◌, IfOk, false, map, true};
+ghost use Rattle.std.specs.Prelude.{◌≡◌, ◌*◌, IfOk, IfSome, false, map, true};
 ghost use Rattle.std.specs.List.Sorted.{IsNonDecreasingBy};
 ghost use Rattle.gf_form.specs.inner.rows.KeptNodes.{paid_reached};
-ghost use Rattle.gf_form.specs.inner.rows.SummedNodes.{HaveSharesOf, IsNodeSum};
+ghost use Rattle.gf_form.specs.inner.rows.SummedNodes.{HaveSharesOf, IsNodeSum, IsPathSum};
 ghost use Rattle.gf_form.specs.inner.values.PaidRows.{rows_of};
 ghost use Rattle.gf_form.specs.Strategies.{choices_by};
 ghost use Rattle.gf_form.specs.declared.rows.paths.Reached.{Reached};
 
 use crate::rows::digits::Digits;
-use crate::rows::paths::{Paths, Reached};
+use crate::rows::paths::{Path, Paths, Reached};
+use crate::rows::sums::scale_of;
+use crate::rows::terms::Head;
 use crate::values::payoffs::Payoffs;
 use gf_tree::Game;
 use std::alloc::{AllocError, Global};
 
 /// Above each outcome.
 const RADIX: u128 = 1 << 32;
+
+/// What a path demands, and what its weight is over.
+#[inline(always)]
+fn head_of(path: Path) -> Head
+    ensures { result ≡ record { demands = path.demands; den = path.den; size = path.bound } }
+{
+    Head {
+        demands: path.demands,
+        den: path.den,
+        size: path.bound,
+    }
+}
+
+/// A number times a factor, without a multiplication if that is 1; `None` if it does not fit.
+#[inline(always)]
+fn times(number: u128, by: u128) -> Option<u128>
+    ensures { IfSome result (λ product. product ≡ number * by) }
+{
+    if by == 1 {
+        return Some(number);
+    }
+    number.checked_mul(by)
+}
+
+/// What the nodes at the ends of two paths add together, if they demand the same and pay the same
+/// outcome: over the least denominator that serves both. `None` if the numbers do not fit.
+#[inline(always)]
+fn sum_of(a: Path, b: Path) -> Option<Path>
+    ensures sum { IfSome result (IsPathSum a b) }
+    ensures demands { IfSome result (λ sum. sum.demands ≡ a.demands) }
+{
+    let scale = scale_of(head_of(a), head_of(b))?;
+    let own = times(a.weight, scale.first)?;
+    let other = times(b.weight, scale.second)?;
+    Some(Path {
+        weight: own.checked_add(other)?,
+        bound: scale.size,
+        den: scale.den,
+        demands: a.demands,
+    })
+}
 
 impl Reached {
     /// A number that orders nodes by demands, those with the same demands by outcome, and those
@@ -26,24 +69,26 @@ impl Reached {
         (demands * RADIX + outcome) * RADIX + self.path.den % RADIX
     }
 
-    /// Adds another node to this one, if they differ in weight alone and the sum of their weights
-    /// fits.
+    /// Adds another node to this one, if it has the same demands and outcome. If the sum does not
+    /// fit, it is not known; then what the nodes add would not fit either.
+    #[inline(always)]
     fn absorbs(&mut self, other: Reached) -> bool
         ensures sum { result ≡ true → IsNodeSum self.old other self.new }
         ensures same { result ≡ false → self.new ≡ self.old }
     {
         let path = self.path;
-        let alike = path.den == other.path.den && path.demands == other.path.demands;
-        if !alike || self.outcome != other.outcome {
+        if path.demands != other.path.demands || self.outcome != other.outcome {
             return false;
         }
-        let weight = path.weight.checked_add(other.path.weight);
-        let bound = path.bound.checked_add(other.path.bound);
-        let (Some(weight), Some(bound)) = (weight, bound) else {
-            return false;
+        self.path = match sum_of(path, other.path) {
+            Some(sum) => sum,
+            None => Path {
+                weight: 0,
+                bound: 1,
+                den: 0,
+                demands: path.demands,
+            },
         };
-        self.path.weight = weight;
-        self.path.bound = bound;
         true
     }
 }
@@ -68,14 +113,16 @@ fn paid_nodes(
     Ok(nodes)
 }
 
-/// Adds up neighbours that differ in weight alone.
+/// Adds up neighbours with the same demands and outcome.
 fn add_up(nodes: &mut Vec<Reached>)
     ensures { HaveSharesOf nodes.old.items nodes.new.items }
 {
+    // First those over the same denominator, which takes no division.
+    nodes.dedup_by(|node, last| node.path.den == last.path.den && last.absorbs(*node));
     nodes.dedup_by(|node, last| last.absorbs(*node));
 }
 
-/// These nodes in order of demands, with those that differ in weight alone as one.
+/// These nodes in order of demands, with those that have the same demands and outcome as one.
 pub(crate) fn paid_sums(
     alloc: Global,
     game: &Game<'_>,

@@ -20,9 +20,10 @@ pub(crate) struct Scale {
 
 /// The least denominator that serves both; `None` if it is too large. The denominator of `a / b` in
 /// lowest terms is the factor by which `a` has to be multiplied for it.
+#[inline]
 pub(crate) fn multiple(a: u128, b: u128) -> Option<u128> {
-    if a == 1 && b > 0 {
-        return Some(b);
+    if b == 1 || a == b || a.checked_rem(b)? == 0 {
+        return Some(a);
     }
     let ratio = Fraction::new(i128::try_from(a).ok()?, b).ok()?;
     a.checked_mul(ratio.den())

@@ -1,15 +1,20 @@
--- Nodes that differ in weight alone have the shares of their sum.
-use Rattle.gf_form.proofs.Common.{All-from_recursion, recursion_from_All, All-permutation, Reached}
-use Rattle.gf_form.proofs.Common.{sum_of_terms, if◌then◌else◌, IsPermutation, map-append, add-*ℤ}
-use Rattle.gf_form.proofs.Common.{node_terms, AreTermsOf, ComeAsWell, IsExactAt, node_term, pay_at}
-use Rattle.gf_form.proofs.Common.{number_at, MatchBool, false, arith, subst, meets, Term, zero, []}
-use Rattle.gf_form.proofs.Common.{◌*ℤ◌, Bool, true, List, ◌++◌, refl, ◌+ℤ◌, ints, Game, ◌≡◌, suc, ℕ}
-use Rattle.gf_form.proofs.Common.{pos, ◌+◌, ◌∷◌, sym, ◌∙◌, ◌/◌, ap, ℤ}
+-- Nodes with the same demands and outcome have the shares of their sum.
+use Rattle.gf_form.proofs.Common.{All-from_recursion, recursion_from_All, All-permutation}
+use Rattle.gf_form.proofs.Common.{if◌then◌else◌, IsPermutation, mul_pos_right, sum_of_terms}
+use Rattle.gf_form.proofs.Common.{unsigned_abs, map-append, node_terms, AreTermsOf, ComeAsWell}
+use Rattle.gf_form.proofs.Common.{IsExactAt, node_term, number_at, MatchBool, mul_above, Reached}
+use Rattle.gf_form.proofs.Common.{term_of, IsSumOf, IsScale, *ℤ-zero, zero-*ℤ, one-dvd, add-*ℤ}
+use Rattle.gf_form.proofs.Common.{pay_at, false, arith, subst, meets, Ratio, Scale, Term, zero}
+use Rattle.gf_form.proofs.Common.{◌*ℤ◌, Bool, true, List, ◌++◌, refl, ◌+ℤ◌, ints, Game, Path, ◌==◌}
+use Rattle.gf_form.proofs.Common.{◌≡◌, suc, pos, ◌+◌, ◌∷◌, sym, ◌∙◌, ◌/◌, ◌<◌, ◌*◌, [], ap, ℕ, ℤ}
 use Rattle.std.specs.List.Retain.{DedupsFrom, IsDeduped}
 use Rattle.std.proofs.lemmas.List.Sorted.{sum_by-IsPermutation, IsPermutation-map}
 use Rattle.std.proofs.lemmas.List.Sorted.{IsPermutation-sym}
-use Rattle.gf_form.specs.inner.rows.SummedNodes.{HaveSharesOf, IsNodeSum, weighing}
-use Rattle.gf_form.proofs.lemmas.rows.MergedTerms.{come_both, same_come}
+use Rattle.gf_form.specs.inner.rows.SummedNodes.{HaveSharesOf, IsNodeSum, IsPathSum}
+use Rattle.gf_form.proofs.lemmas.rows.MergedTerms.{both_come, come_both, same_come}
+use Rattle.gf_fraction.proofs.Integers.{*ℤ_right_comm}
+use Rattle.gf_fraction.proofs.LowestTerms.{mul_pos_left}
+use Rattle.std.proofs.Math.Nat.{mul-div-mul_right, mul-dvd-mul_right}
 use borrow.Author.Differences.{sum_is_lem, same_in, down, up}
 use Rattle.std.specs.List.{sum_by}
 use Rattle.std.proofs.lemmas.List.Sums.{sum_by-cons}
@@ -77,40 +82,69 @@ have_permuted rs ss order g player =
 
 -- ---- two nodes and their sum
 
-both_met : (met : Bool) (x y z : ℤ) (n : ℕ) → x +ℤ y ≡ z → (if met then x *ℤ pos n else pos 0)
-    +ℤ ((if met then y *ℤ pos n else pos 0) +ℤ pos 0)
-    ≡ (if met then z *ℤ pos n else pos 0) +ℤ pos 0
-both_met true x y z n is =
-    let sum : (x +ℤ y) *ℤ pos n ≡ z *ℤ pos n = ap (λ (s : ℤ). s *ℤ pos n) is in
-    omega (arith, ints, sum, add-*ℤ x y (pos n))
-both_met false x y z n is = refl
+module _ (pay : Ratio) (a b sum : Path) where
+  number_added : (q r k : ℕ) → sum.weight ≡ a.weight * q + b.weight * r
+      → sum.bound ≡ a.bound * q + b.bound * r
+      → number_at k (term_of sum pay)
+      ≡ number_at k (term_of a pay) *ℤ pos q +ℤ number_at k (term_of b pay) *ℤ pos r
+  number_added q r zero weight bound = rw bound (ap pos (omega arith))
+  number_added q r (suc zero) weight bound =
+      rw weight (add-*ℤ (pos (a.weight * q)) (pos (b.weight * r)) pay.num
+      ∙ (λ i. *ℤ_right_comm (pos a.weight) (pos q) pay.num i
+      +ℤ *ℤ_right_comm (pos b.weight) (pos r) pay.num i))
+  number_added q r (suc (suc k)) weight bound = grind (arith, zero-*ℤ)
 
-weights_sum : (r : Reached) (w b : ℕ) → HaveSharesOf (r ∷ weighing r w b ∷ [])
-    (weighing r (r.path.weight + w) (r.path.bound + b) ∷ [])
-weights_sum r w b g player den steps choices exact = record {
-  exact = (exact.0, (exact.0, tt));
-  sums = λ k. both_met (meets steps choices r.path.demands) (number_at k one) (number_at k other)
-      (number_at k sum) (den / one.head.den) (added k);
-}
-  where
-    one : Term
-    one = node_term g player r
+  none_added : (q r k : ℕ) → pay.num ≡ pos 0 → number_at k (term_of sum pay)
+      ≡ number_at k (term_of a pay) *ℤ pos q +ℤ number_at k (term_of b pay) *ℤ pos r
+  none_added q r zero nothing = rw nothing (ap pos (omega arith))
+  none_added q r (suc zero) nothing = rw nothing (grind (arith, zero-*ℤ, *ℤ-zero))
+  none_added q r (suc (suc k)) nothing = grind (arith, zero-*ℤ)
 
-    other : Term
-    other = node_term g player (weighing r w b)
+  terms_added : (0 < sum.den → IsPathSum a b sum) → 0 < (term_of sum pay).head.den
+      → IsSumOf (term_of a pay) (term_of b pay) (term_of sum pay)
+  terms_added adds known = by (unsigned_abs pay.num == 0) refl
+    where
+      by : (none : Bool) → (unsigned_abs pay.num == 0) ≡ none
+          → IsSumOf (term_of a pay) (term_of b pay) (term_of sum pay)
+      by true is =
+          let nothing : pay.num ≡ pos 0 = grind (arith, ints) in
+          rw is (record {
+            first = omega arith;
+            first_divides = one-dvd 1;
+            second = omega arith;
+            second_divides = one-dvd 1;
+            numbers = λ k. none_added 1 1 k nothing;
+          })
+      by false is =
+          let above = rw is at known in
+          let pays : 0 < pay.den = mul_pos_right sum.den pay.den _ refl above in
+          let told = adds (mul_pos_left sum.den pay.den _ refl above) in
+          rw is (record {
+            first = mul_above a.den pay.den told.first pays;
+            first_divides = mul-dvd-mul_right a.den told.first_divides pay.den;
+            second = mul_above b.den pay.den told.second pays;
+            second_divides = mul-dvd-mul_right b.den told.second_divides pay.den;
+            numbers = rw (
+              mul-div-mul_right sum.den a.den pays,
+              mul-div-mul_right sum.den b.den pays,
+            )
+                (λ k. number_added (sum.den / a.den) (sum.den / b.den) k told.weight told.bound);
+          })
 
-    sum : Term
-    sum = node_term g player (weighing r (r.path.weight + w) (r.path.bound + b))
-
-    added : (k : ℕ) → number_at k one +ℤ number_at k other ≡ number_at k sum
-    added zero = ap pos (omega arith)
-    added (suc zero) = sym (add-*ℤ (pos r.path.weight) (pos w) (pay_at g player r).num)
-    added (suc (suc k)) = refl
+-- over a common denominator
+pub path_sum : (a b : Path) (s : Scale) (weight demands : ℕ) → IsScale
+    (record { demands = a.demands; den = a.den; size = a.bound })
+    (record { demands = b.demands; den = b.den; size = b.bound }) s
+    → weight ≡ a.weight * s.first + b.weight * s.second → IsPathSum a b
+    (record { weight = weight; bound = s.size; den = s.den; demands = demands })
+path_sum a b s weight demands is adds = grind arith
 
 sum_shares : (r s sum : Reached) → IsNodeSum r s sum → HaveSharesOf (r ∷ s ∷ []) (sum ∷ [])
-sum_shares r s sum h =
-    let like : s ≡ weighing r s.path.weight s.path.bound = grind arith in
-    rw (h.is, like) (weights_sum r s.path.weight s.path.bound)
+sum_shares r s sum h g player den steps choices exact =
+    both_come den steps choices (node_term g player r) (node_term g player s)
+    (node_term g player sum) h.first_demands h.second_demands
+    (rw (h.first_outcome, h.second_outcome)
+    (terms_added (pay_at g player sum) r.path s.path sum.path h.adds)) exact.0
 
 -- ---- node by node
 

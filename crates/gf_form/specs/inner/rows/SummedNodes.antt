@@ -1,23 +1,28 @@
--- Nodes that differ in weight alone, added up.
-use Rattle.std.specs.Prelude.{◌≡◌, ℕ, ◌+◌, List}
+-- Nodes with the same demands and the same outcome, added up.
+use Rattle.std.specs.Prelude.{◌≡◌, ℕ, ◌+◌, ◌*◌, ◌/◌, ◌<◌, List}
+use Rattle.std.specs.Int.{◌∣◌}
 use Rattle.gf_tree.specs.Game.{Game}
 use Rattle.gf_form.specs.inner.rows.TermLists.{ComeAsWell}
 use Rattle.gf_form.specs.inner.rows.Shares.{node_terms}
+use Rattle.gf_form.specs.declared.rows.paths.Path.{Path}
 use Rattle.gf_form.specs.declared.rows.paths.Reached.{Reached}
 
--- the same node with another weight
-abbrev pub weighing : Reached → ℕ → ℕ → Reached
-weighing r weight bound = record {
-  path = record { weight = weight; bound = bound; den = r.path.den; demands = r.path.demands };
-  outcome = r.outcome;
-}
+-- the weights and the bounds of the two are added over a denominator that serves both
+pub record IsPathSum (a b sum : Path) : Type 0 where
+  pub first : 0 < a.den
+  pub first_divides : a.den ∣ sum.den
+  pub second : 0 < b.den
+  pub second_divides : b.den ∣ sum.den
+  pub weight : sum.weight ≡ a.weight * (sum.den / a.den) + b.weight * (sum.den / b.den)
+  pub bound : sum.bound ≡ a.bound * (sum.den / a.den) + b.bound * (sum.den / b.den)
 
--- the two differ in weight alone, and this is their sum
+-- all have the same demands and outcome, and the last is the sum of the others, if it is known
 pub record IsNodeSum (r s sum : Reached) : Type 0 where
-  pub is : sum ≡ weighing r (r.path.weight + s.path.weight) (r.path.bound + s.path.bound)
-  pub den : s.path.den ≡ r.path.den
-  pub demands : s.path.demands ≡ r.path.demands
-  pub outcome : s.outcome ≡ r.outcome
+  pub first_demands : sum.path.demands ≡ r.path.demands
+  pub second_demands : sum.path.demands ≡ s.path.demands
+  pub first_outcome : r.outcome ≡ sum.outcome
+  pub second_outcome : s.outcome ≡ sum.outcome
+  pub adds : 0 < sum.path.den → IsPathSum r.path s.path sum.path
 
 -- the shares of the first are those of the second, over any denominator and at any choices
 abbrev pub HaveSharesOf : List Reached → List Reached → Type 0
