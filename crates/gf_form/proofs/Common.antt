@@ -57,6 +57,7 @@ pub use Rattle.gf_form.specs.inner.rows.DigitSteps.{steps_after, picked, width, 
 pub use Rattle.gf_form.specs.inner.rows.TermLists.{Term, IsScale, IsShaped, IsSumOf, all_terms}
 pub use Rattle.gf_form.specs.inner.rows.TermLists.{first_terms, term_at, scaled_at, no_term}
 pub use Rattle.gf_form.specs.inner.rows.TermLists.{number_at, AreOrdered, EndsBelow, HasSum}
+pub use Rattle.gf_form.specs.inner.rows.TermLists.{demanding}
 pub use Rattle.gf_form.specs.inner.rows.TermLists.{lowered}
 pub use Rattle.gf_form.specs.inner.rows.TermLists.{IsExactAt, AreExactAt, AreMerged, ComeAsWell}
 pub use Rattle.gf_form.specs.inner.rows.TermLists.{sum_of_terms, AreAlike, AreChosen, part, ComeTo}

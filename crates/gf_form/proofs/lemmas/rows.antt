@@ -1,3 +1,4 @@
+pub mod ChoiceSums
 pub mod DemandDigits
 pub mod DigitChoices
 pub mod DigitPlaces
@@ -14,6 +15,7 @@ pub mod PairRows
 pub mod PathsTold
 pub mod PayingTerms
 pub mod ReachedValues
+pub mod PushedTerms
 pub mod RowsMade
 pub mod SettledRows
 pub mod SummedNodes

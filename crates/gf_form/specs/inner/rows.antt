@@ -1,3 +1,4 @@
+pub mod ChoiceSums
 pub mod Demands
 pub mod DigitSteps
 pub mod TermLists

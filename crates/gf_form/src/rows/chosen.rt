@@ -17,7 +17,7 @@ pub(crate) struct Chosen {
 }
 
 /// How many of these demands, in order, are below a number. Quick if a guess is close.
-fn count_near(demands: &[u64], number: u64, guess: usize) -> usize
+pub(crate) fn count_near(demands: &[u64], number: u64, guess: usize) -> usize
     requires ordered { IsNonDecreasing demands.now }
     requires within { guess ≤ length demands.now }
     ensures { CountsBelow demands.now number result }

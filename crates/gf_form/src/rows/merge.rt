@@ -12,6 +12,7 @@ use std::alloc::AllocError;
 impl Terms {
     /// Replaces these by what the terms of a list become if this action is chosen at the slowest
     /// digit, whose step is given. Those that count there are given.
+    #[inline(always)]
     pub(crate) fn merge(
         &mut self,
         from: &Terms,
@@ -30,6 +31,7 @@ impl Terms {
         ensures ordered { OnOk result (AreOrdered self.new) }
         ensures shaped { OnOk result (IsShaped self.new) }
         ensures players { self.new.players ≡ self.old.players }
+        ensures den { self.new.den ≡ from.now.den }
     {
         self.clear(from.den);
         let lowest = action * step;

@@ -4,8 +4,8 @@
 ghost use Rattle.std.specs.Prelude.{◌≡◌, ◌+◌, ◌<◌, ◌≤◌, ◌++◌, [], ◌∷◌, IfOk, IsTrue, OnOk, get_or};
 ghost use Rattle.std.specs.Prelude.{length};
 ghost use Rattle.gf_form.specs.inner.rows.TermLists.{AreAlike, HasSum, IsScale, IsShaped, IsSumAt};
-ghost use Rattle.gf_form.specs.inner.rows.TermLists.{IsNoted, all_terms, term_at, lowered};
-ghost use Rattle.gf_form.specs.inner.rows.TermLists.{scaled_at};
+ghost use Rattle.gf_form.specs.inner.rows.TermLists.{IsNoted, all_terms, demanding, lowered};
+ghost use Rattle.gf_form.specs.inner.rows.TermLists.{scaled_at, term_at};
 ghost use Rattle.gf_form.specs.inner.rows.ItemRows.{HasRow};
 
 use crate::rows::sums::{Scale, combined, number_at, scale_of};
@@ -240,6 +240,27 @@ impl Terms {
         Ok(())
     }
 
+    /// Appends the term of an alike list at this place, from 0, with these demands.
+    #[inline(always)]
+    pub(crate) fn push_as(
+        &mut self,
+        from: &Terms,
+        place: usize,
+        demands: u64,
+    ) -> Result<(), AllocError>
+        requires alike { AreAlike self.old from.now }
+        requires shaped { IsShaped self.old × IsShaped from.now }
+        requires within { place < length from.now.demands.items }
+        ensures pushed { OnOk result (all_terms self.new
+            ≡ all_terms self.old ++ demanding demands (term_at from.now place) ∷ []) }
+        ensures alike { AreAlike self.new self.old }
+        ensures shaped { OnOk result (IsShaped self.new) }
+    {
+        push_few(&mut self.numbers, from.row(place))?;
+        self.push_like(from, place, demands)?;
+        Ok(())
+    }
+
     /// Appends the term of an alike list at this place, from 0, with its demands lowered by this.
     #[inline(always)]
     pub(crate) fn push(&mut self, from: &Terms, place: usize, less: u64) -> Result<(), AllocError>
@@ -252,9 +273,7 @@ impl Terms {
         ensures alike { AreAlike self.new self.old }
         ensures shaped { OnOk result (IsShaped self.new) }
     {
-        push_few(&mut self.numbers, from.row(place))?;
-        self.push_like(from, place, from.demands[place] - less)?;
-        Ok(())
+        self.push_as(from, place, from.demands[place] - less)
     }
 
     /// How the terms at these places, from 0, are brought over one denominator.

@@ -20,6 +20,7 @@ use crate::fault::{EvalFault, FormFault};
 use crate::rows::chosen::Chosen;
 use crate::rows::digits::Digit;
 use crate::rows::pairs::Pair;
+use crate::rows::spare::SpareTerms;
 use crate::rows::terms::{Terms, push_few};
 use crate::strategies::counts::Counts;
 use crate::strategies::profile::{no_actions, write_strategies};
@@ -63,8 +64,7 @@ pub(crate) struct Written {
     pub spare_rows: SpareRows,
     /// The denominator of the last pair.
     pub shared: SharedDenominator,
-    /// Lists whose room is used again.
-    pub spare: Vec<Terms>,
+    pub spare: SpareTerms,
 }
 
 /// What each player is paid at the profile with this number, from 0, by a walk through the tree.
@@ -91,6 +91,19 @@ fn row_by_walk(
     expected_with(alloc, game, payoffs, strategies, spare)
 }
 
+impl Asked<'_, '_, '_> {
+    /// How far the numbers of these profiles are apart, if they ascend.
+    fn span(&self, run: Run) -> u32
+        requires within { run.to ≤ length self.now.numbers.now }
+    {
+        if run.from >= run.to {
+            return 0;
+        }
+        let last = self.numbers[run.to as usize - 1];
+        last.saturating_sub(self.numbers[run.from as usize])
+    }
+}
+
 impl Written {
     /// No rows yet, and room for those of this many profiles.
     pub(crate) fn new(
@@ -110,7 +123,7 @@ impl Written {
             strategies: no_actions(alloc, counts.actions.len())?,
             spare_rows: SpareRows::new(alloc),
             shared: SharedDenominator::new(1),
-            spare: Vec::new(alloc),
+            spare: SpareTerms::new(alloc),
         })
     }
 
@@ -251,23 +264,9 @@ impl Written {
         Ok(())
     }
 
-    /// A list to be filled anew, with the room of one that is not used any more.
-    fn list(&mut self, players: usize) -> Terms
-        ensures players { result.players ≡ players }
-        ensures rows { self.new.rows ≡ self.old.rows }
-        ensures strategies { self.new.strategies ≡ self.old.strategies }
-    {
-        match self.spare.pop() {
-            Some(mut list) => {
-                list.players = players;
-                list
-            }
-            None => Terms::new(self.alloc, players, 0),
-        }
-    }
-
     /// Appends the rows of these profiles, by what the terms come to at the choices for these
     /// digits.
+    #[cycle(rows)]
     pub(crate) fn push_rows(
         &mut self,
         asked: &Asked<'_, '_, '_>,
@@ -293,16 +292,73 @@ impl Written {
         if faster.is_empty() {
             return self.push_last(asked, terms, run);
         }
-        let mut level = self.list(terms.players);
+        if terms.have_many_free(*slowest, run.count)
+            && asked.span(run) >= run.count / slowest.actions.max(1)
+        {
+            return self.push_summed(asked, terms, *slowest, faster, run);
+        }
+        self.push_each(asked, terms, *slowest, faster, run)
+    }
+
+    /// The same for a slowest digit and faster ones. The terms that demand nothing at the slowest
+    /// one are first added up.
+    #[cycle(rows)]
+    #[inline(never)]
+    fn push_summed(
+        &mut self,
+        asked: &Asked<'_, '_, '_>,
+        terms: &Terms,
+        slowest: Digit,
+        faster: &[Digit],
+        run: Run,
+    ) -> Result<(), FormFault>
+        requires due { AreDue asked.now run self.old }
+        requires terms { AreTermsFor asked.now terms.now }
+        requires steps { HaveSteps faster.now }
+        requires step { slowest.step ≡ product (spans (actions_at faster.now)) }
+        requires spans { (slowest.actions + 1) * slowest.step < 2 ^ 64 }
+        requires count { run.count ≡ slowest.actions * product (actions_at faster.now) }
+        requires settles { SettleRows asked.now (slowest.actions ∷ actions_at faster.now) terms.now
+            run }
+        ensures written { OnOk result (AreWritten asked.now run.to self.new) }
+        ensures refused { IsRightlyRefused asked.now result }
+    {
+        let summed = terms.summed(slowest, faster, run.count, &mut self.spare)?;
+        self.push_each(asked, &summed, slowest, faster, run)
+    }
+
+    /// The same for a slowest digit and faster ones.
+    #[cycle(rows)]
+    #[inline(always)]
+    fn push_each(
+        &mut self,
+        asked: &Asked<'_, '_, '_>,
+        terms: &Terms,
+        slowest: Digit,
+        faster: &[Digit],
+        run: Run,
+    ) -> Result<(), FormFault>
+        requires due { AreDue asked.now run self.old }
+        requires terms { AreTermsFor asked.now terms.now }
+        requires steps { HaveSteps faster.now }
+        requires step { slowest.step ≡ product (spans (actions_at faster.now)) }
+        requires spans { (slowest.actions + 1) * slowest.step < 2 ^ 64 }
+        requires count { run.count ≡ slowest.actions * product (actions_at faster.now) }
+        requires settles { SettleRows asked.now (slowest.actions ∷ actions_at faster.now) terms.now
+            run }
+        ensures written { OnOk result (AreWritten asked.now run.to self.new) }
+        ensures refused { IsRightlyRefused asked.now result }
+    {
+        let mut level = self.spare.list(terms.players);
         let mut rest = run;
         let mut chosen = Chosen::none();
         while rest.from < rest.to {
-            let (next, now) = level.choose(asked, terms, *slowest, faster, rest, chosen)?;
+            let (next, now) = level.choose(asked, terms, slowest, faster, rest, chosen)?;
             chosen = now;
             self.push_rows(asked, &level, faster, next)?;
             rest.from = next.to;
         }
-        self.spare.push(level)?;
+        self.spare.give_back(level)?;
         Ok(())
     }
 }
@@ -311,6 +367,7 @@ impl Terms {
     /// Replaces these terms by what they come to at the choice of the first of these profiles at
     /// the slowest digit. Returns those profiles, from the first on, at which the choice is the
     /// same, and the terms that count there. Quick if those of the choice before it are given.
+    #[inline(always)]
     fn choose(
         &mut self,
         asked: &Asked<'_, '_, '_>,

@@ -160,11 +160,11 @@ IsOther step action e = (step ≤ e.head.demands)
     × (e.head.demands < action * step ⊎ action * step + step ≤ e.head.demands)
 
 module _ (step action : ℕ) (steps choices : List ℕ) where
-  free_met : (e : Term) → IsFree step e → meets (step ∷ steps) (action ∷ choices) e.head.demands
+  pub free_met : (e : Term) → IsFree step e → meets (step ∷ steps) (action ∷ choices) e.head.demands
       ≡ meets steps choices (e.head.demands - 0)
   free_met e free = grind arith
 
-  own_met : (e : Term) → 1 ≤ action → IsOwn step action e
+  pub own_met : (e : Term) → 1 ≤ action → IsOwn step action e
       → meets (step ∷ steps) (action ∷ choices) e.head.demands
       ≡ meets steps choices (e.head.demands - action * step)
   own_met e some own = grind arith
@@ -178,12 +178,21 @@ module _ (step action : ℕ) (steps choices : List ℕ) where
     Come es others = ComeTo den (step ∷ steps) (action ∷ choices) es steps choices others
 
     -- the same terms with lower demands that are met as theirs are
-    come_lowered : (less : ℕ)
+    pub come_lowered : (less : ℕ)
         → ((e : Term) → P e → meets (step ∷ steps) (action ∷ choices) e.head.demands
         ≡ meets steps choices (e.head.demands - less)) → (es : List Term) → AllByRecursion P es
         → AreExactAt den steps choices (map (lowered less) es) → Come es (map (lowered less) es)
     come_lowered less met [] all h = record { exact = tt; sums = λ k. refl }
     come_lowered less met (e ∷ es) all h = grind (arith, come_lowered less met es all.1 h.1)
+
+    -- what is known of the terms is known of them with lower demands
+    pub exact_lowered : (less : ℕ)
+        → ((e : Term) → P e → meets (step ∷ steps) (action ∷ choices) e.head.demands
+        ≡ meets steps choices (e.head.demands - less)) → (es : List Term) → AllByRecursion P es
+        → AreExactAt den (step ∷ steps) (action ∷ choices) es
+        → AreExactAt den steps choices (map (lowered less) es)
+    exact_lowered less met [] all h = tt
+    exact_lowered less met (e ∷ es) all h = grind (arith, exact_lowered less met es all.1 h.1)
 
     come_none : ((e : Term) → P e
         → meets (step ∷ steps) (action ∷ choices) e.head.demands ≡ false) → (es : List Term)

@@ -31,7 +31,7 @@ all_in P d xs n i within each = all_by_place P (take n (drop i xs)) (λ k e less
     subst P (grind (arith, get_or-take, get_or-drop, get_or_default, length-take-le, length-drop))
     (each (i + k) (omega arith) (omega (arith, less, length-take n (drop i xs)))))
 
-cut : (es : List Term) (i j : ℕ) → i ≤ j → drop i es ≡ part i j es ++ drop j es
+pub cut : (es : List Term) (i j : ℕ) → i ≤ j → drop i es ≡ part i j es ++ drop j es
 cut es i j le =
     let on : i + (j - i) ≡ j = omega arith in
     cc (take-append-drop (j - i) (drop i es), drop-drop (j - i) i es)
@@ -51,7 +51,7 @@ pub demands_read : (t : Terms) (place d : ℕ) → place < length t.demands.item
 demands_read t place d within is = grind (arith, get_or_default)
 
 -- all of the terms from one place up to another, by their places
-range : (P : Term → Type 0) (from : Terms) (i j : ℕ) → i ≤ j → j ≤ length from.demands.items
+pub range : (P : Term → Type 0) (from : Terms) (i j : ℕ) → i ≤ j → j ≤ length from.demands.items
     → ((k : ℕ) → i ≤ k → k < j → P (term_at from k)) → AllByRecursion P (part i j (all_terms from))
 range P from i j le within each =
     all_in P no_term (all_terms from) (j - i) i (omega (arith, within, le, terms_count from))

@@ -78,7 +78,7 @@ paid_pair g ns from least number action chosen pair one before is are come =
     absurd (omega (arith, one))
 
 -- a term that demands nothing is met by all choices
-free_met : (ns choices : List ℕ) → meets (steps_of ns) choices 0 ≡ true
+pub free_met : (ns choices : List ℕ) → meets (steps_of ns) choices 0 ≡ true
 free_met (n ∷ ns) (c ∷ choices) = grind (arith, spans_above, free_met ns choices)
 free_met ns choices = grind arith
 

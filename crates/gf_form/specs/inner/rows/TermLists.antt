@@ -91,12 +91,15 @@ no_term = record { head = record { demands = 0; den = 0; size = 0 }; row = [] }
 abbrev pub part : ℕ → ℕ → List Term → List Term
 part start end es = take (end - start) (drop start es)
 
--- the same with lower demands
-abbrev pub lowered : ℕ → Term → Term
-lowered less e = record {
-  head = record { demands = e.head.demands - less; den = e.head.den; size = e.head.size };
+-- the same with other demands
+abbrev pub demanding : ℕ → Term → Term
+demanding demands e = record {
+  head = record { demands = demands; den = e.head.den; size = e.head.size };
   row = e.row;
 }
+
+abbrev pub lowered : ℕ → Term → Term
+lowered less e = demanding (e.head.demands - less) e
 
 -- ---- sums of two terms
 

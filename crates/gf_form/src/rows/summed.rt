@@ -1,0 +1,190 @@
+//! Terms that demand nothing at the slowest digit, added up for each choice at the faster ones. If
+//! they are many, they are then not merged anew for each action.
+
+ghost use Rattle.std.specs.Prelude.{◌≡◌, ◌+◌, ◌*◌, ◌<◌, ◌≤◌, ◌^◌, ◌++◌, ◌∷◌, IfOk, OnOk};
+ghost use Rattle.std.specs.Prelude.{get_or, length, map};
+ghost use Rattle.gf_nfg.specs.Profiles.{product};
+ghost use Rattle.gf_form.specs.inner.rows.ChoiceSums.{AddUpTo, HasSums};
+ghost use Rattle.gf_form.specs.inner.rows.Demands.{spans};
+ghost use Rattle.gf_form.specs.inner.rows.GameDigits.{HaveSteps, actions_at};
+ghost use Rattle.gf_form.specs.inner.rows.TermLists.{AreAlike, AreOrdered, EndsBelow, IsShaped};
+ghost use Rattle.gf_form.specs.inner.rows.TermLists.{all_terms, demanding, part};
+
+use crate::rows::chosen::{Chosen, count_near};
+use crate::rows::digits::Digit;
+use crate::rows::spare::SpareTerms;
+use crate::rows::terms::Terms;
+use std::alloc::AllocError;
+
+/// So many times as many terms as choices are many.
+const MANY: usize = 4;
+
+impl Terms {
+    /// Whether the terms that demand nothing at the slowest digit are many: for the choices at the
+    /// faster ones, and beside those that demand an action. There are so many choices at all
+    /// digits.
+    #[inline(always)]
+    pub(crate) fn have_many_free(&self, slowest: Digit, choices: u32) -> bool {
+        let all = self.demands.len();
+        let actions = (slowest.actions as usize).max(1);
+        let many = MANY * choices as usize;
+        if all.saturating_mul(actions) <= many {
+            return false;
+        }
+        let least = (many / actions).max(all / (actions / 2 + 1));
+        match self.demands.get(least) {
+            Some(demands) => *demands < slowest.step,
+            None => false,
+        }
+    }
+
+    /// Appends the terms of an alike list from one place up to another.
+    fn push_part(&mut self, from: &Terms, start: usize, end: usize) -> Result<(), AllocError>
+        requires alike { AreAlike self.old from.now }
+        requires shaped { IsShaped self.old × IsShaped from.now }
+        requires ordered { AreOrdered self.old × AreOrdered from.now }
+        requires places { start ≤ end }
+        requires within { end ≤ length from.now.demands.items }
+        requires ends { start < end
+            → EndsBelow self.old.demands.items (get_or from.now.demands.items start 0) }
+        ensures pushed { OnOk result (all_terms self.new
+            ≡ all_terms self.old ++ part start end (all_terms from.now)) }
+        ensures alike { AreAlike self.new self.old }
+        ensures shaped { OnOk result (IsShaped self.new) }
+        ensures ordered { OnOk result (AreOrdered self.new) }
+    {
+        for place in start..end {
+            self.push(from, place, 0)?;
+        }
+        Ok(())
+    }
+
+    /// Appends all terms of an alike list, with these demands.
+    fn push_all(&mut self, from: &Terms, demands: u64) -> Result<(), AllocError>
+        requires alike { AreAlike self.old from.now }
+        requires shaped { IsShaped self.old × IsShaped from.now }
+        requires ordered { AreOrdered self.old }
+        requires ends { EndsBelow self.old.demands.items demands }
+        ensures pushed { OnOk result (all_terms self.new
+            ≡ all_terms self.old ++ map (demanding demands) (all_terms from.now)) }
+        ensures alike { AreAlike self.new self.old }
+        ensures shaped { OnOk result (IsShaped self.new) }
+        ensures ordered { OnOk result (AreOrdered self.new) }
+        ensures ends { OnOk result (EndsBelow self.new.demands.items demands) }
+    {
+        for place in 0..from.demands.len() {
+            self.push_as(from, place, demands)?;
+        }
+        Ok(())
+    }
+
+    /// These terms, of which those that demand nothing at the slowest digit are added up for each
+    /// choice at the faster ones. There are so many choices at all digits.
+    #[cycle(sums)]
+    pub(crate) fn summed(
+        &self,
+        slowest: Digit,
+        faster: &[Digit],
+        choices: u32,
+        spare: &mut SpareTerms,
+    ) -> Result<Terms, AllocError>
+        requires shaped { IsShaped self.now }
+        requires ordered { AreOrdered self.now }
+        requires steps { HaveSteps faster.now }
+        requires step { slowest.step ≡ product (spans (actions_at faster.now)) }
+        requires spans { (slowest.actions + 1) * slowest.step < 2 ^ 64 }
+        ensures sums { IfOk result (λ list. AddUpTo (slowest.actions ∷ actions_at faster.now)
+            (all_terms self.now) (all_terms list)) }
+        ensures alike { IfOk result (λ list. AreAlike list self.now) }
+        ensures shaped { IfOk result IsShaped }
+        ensures ordered { IfOk result AreOrdered }
+    {
+        let free = count_near(&self.demands, slowest.step, 0);
+        let mut first = spare.list(self.players);
+        first.clear(self.den);
+        first.push_part(self, 0, free)?;
+        let mut list = spare.list(self.players);
+        list.clear(self.den);
+        list.push_sums(&first, faster, choices / slowest.actions.max(1), 0, spare)?;
+        spare.give_back(first)?;
+        list.push_part(self, free, self.demands.len())?;
+        Ok(list)
+    }
+
+    /// Appends what the terms of a list come to at each choice for these digits, as terms that
+    /// demand it, raised by a number. There are so many choices.
+    #[cycle(sums)]
+    fn push_sums(
+        &mut self,
+        from: &Terms,
+        digits: &[Digit],
+        choices: u32,
+        least: u64,
+        spare: &mut SpareTerms,
+    ) -> Result<(), AllocError>
+        requires alike { AreAlike self.old from.now }
+        requires shaped { IsShaped self.old × IsShaped from.now }
+        requires ordered { AreOrdered self.old × AreOrdered from.now }
+        requires ends { EndsBelow self.old.demands.items least }
+        requires steps { HaveSteps digits.now }
+        requires within { least + product (spans (actions_at digits.now)) < 2 ^ 64 }
+        ensures sums { OnOk result (HasSums (actions_at digits.now) least (all_terms from.now)
+            (all_terms self.old) (all_terms self.new)) }
+        ensures alike { AreAlike self.new self.old }
+        ensures shaped { OnOk result (IsShaped self.new) }
+        ensures ordered { OnOk result (AreOrdered self.new) }
+        ensures ends { OnOk result (EndsBelow self.new.demands.items
+            (least + product (spans (actions_at digits.now)))) }
+    {
+        let Some((slowest, faster)) = digits.split_first() else {
+            return self.push_all(from, least);
+        };
+        if from.demand_nothing() {
+            return self.push_all(from, least);
+        }
+        if from.have_many_free(*slowest, choices) {
+            let list = from.summed(*slowest, faster, choices, spare)?;
+            return self.push_each(&list, *slowest, faster, choices, least, spare);
+        }
+        self.push_each(from, *slowest, faster, choices, least, spare)
+    }
+
+    /// The same for a slowest digit and faster ones.
+    #[cycle(sums)]
+    fn push_each(
+        &mut self,
+        from: &Terms,
+        slowest: Digit,
+        faster: &[Digit],
+        choices: u32,
+        least: u64,
+        spare: &mut SpareTerms,
+    ) -> Result<(), AllocError>
+        requires alike { AreAlike self.old from.now }
+        requires shaped { IsShaped self.old × IsShaped from.now }
+        requires ordered { AreOrdered self.old × AreOrdered from.now }
+        requires ends { EndsBelow self.old.demands.items least }
+        requires steps { HaveSteps faster.now }
+        requires step { slowest.step ≡ product (spans (actions_at faster.now)) }
+        requires within { least + (slowest.actions + 1) * slowest.step < 2 ^ 64 }
+        ensures sums { OnOk result (HasSums (slowest.actions ∷ actions_at faster.now) least
+            (all_terms from.now) (all_terms self.old) (all_terms self.new)) }
+        ensures alike { AreAlike self.new self.old }
+        ensures shaped { OnOk result (IsShaped self.new) }
+        ensures ordered { OnOk result (AreOrdered self.new) }
+        ensures ends { OnOk result (EndsBelow self.new.demands.items
+            (least + (slowest.actions + 1) * slowest.step)) }
+    {
+        let mut level = spare.list(from.players);
+        let mut chosen = Chosen::none();
+        for before in 0..slowest.actions {
+            let action = u64::from(before) + 1;
+            chosen = chosen.next(&from.demands, slowest.step, action);
+            level.merge(from, chosen, slowest.step, action)?;
+            let first = least + action * slowest.step;
+            self.push_sums(&level, faster, choices / slowest.actions, first, spare)?;
+        }
+        spare.give_back(level)?;
+        Ok(())
+    }
+}
