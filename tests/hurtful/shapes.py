@@ -256,6 +256,34 @@ def groups_beside(sets, size, payoff):
     return tree.game(relevant=True, without=["reduced"])
 
 
+def sets_by_chance(tree, sets):
+    """Chance says of each set whether play comes to it, and each leaf has the first outcome: there are as many
+    demands as ways to choose or not to choose at each set."""
+    due = [1]
+    while due:
+        step = due.pop()
+        if step == sets + 1:
+            tree.end(1)
+        elif step > 0:
+            tree.toss(1, ["1/2", "1/2"])
+            due += [-step, step + 1]
+        else:
+            tree.move(1, -step)
+            due += [1 - step] * 2
+
+
+def move_beside(actions, sets):
+    """What is paid at each demand of some sets is paid again beside each action of a move."""
+    tree = Tree(2)
+    tree.pays(1, 1, 1)
+    tree.toss(2, ["1/2", "1/2"])
+    tree.move(2, 1, actions)
+    for action in range(actions):
+        tree.end(2, 3, 2)
+    sets_by_chance(tree, sets)
+    return tree.game(relevant=True)
+
+
 def golden():
     """The greatest fraction within the bounds for which Euclid's algorithm takes the most steps."""
     low, high = 1, 1
@@ -314,6 +342,7 @@ SHAPES = {
     "overflow at half of them": (partial(overflow_at_half, 20), MOST_ROWS),
     "a deep payoff": (partial(deep_payoff, 14), partial(side_by_side, 14)),
     "the largest payoffs of two": (partial(largest_payoffs_of_two, 14), partial(side_by_side, 14)),
+    "many demands beside a move": (partial(move_beside, 256, 12), MOST_ROWS),
     "a golden payoff": (
         partial(paid_at_the_root, 20, golden()),
         partial(paid_at_the_root, 20, Fraction(LARGEST - 1, LARGEST)),

@@ -19,14 +19,10 @@ pub use Rattle.gf_form.specs.Strategies.{strategy_at, strategy_label, AreStrateg
 pub use Rattle.gf_form.specs.WorkedForms.{overflowing, unlikely, balancing, ending, contradicted}
 pub use Rattle.gf_form.specs.declared.reduced.digits.OwnDigit.{OwnDigit}
 pub use Rattle.gf_form.specs.declared.reduced.level.Level.{Level}
-pub use Rattle.gf_form.specs.declared.reduced.survey.Open.{Open}
-pub use Rattle.gf_form.specs.declared.reduced.survey.Owner.{Owner}
-pub use Rattle.gf_form.specs.declared.reduced.survey.Survey.{Survey}
 pub use Rattle.gf_form.specs.declared.reduced.visits.Visit.{Visit}
 pub use Rattle.gf_form.specs.declared.rows.chosen.Chosen.{Chosen}
 pub use Rattle.gf_form.specs.declared.rows.digits.Digit.{Digit}
 pub use Rattle.gf_form.specs.declared.rows.digits.Digits.{Digits}
-pub use Rattle.gf_form.specs.declared.rows.paths.Open.TheVariants.{Chance, Choice}
 pub use Rattle.gf_form.specs.declared.rows.paths.Path.{Path}
 pub use Rattle.gf_form.specs.declared.rows.paths.Reached.{Reached}
 pub use Rattle.gf_form.specs.declared.rows.sums.Scale.{Scale}
@@ -49,15 +45,15 @@ pub use Rattle.gf_form.specs.inner.reduced.Search.{IsNextBelow, IsSearched, IsTo
 pub use Rattle.gf_form.specs.inner.reduced.Search.{actions_of, digit_at, is_relevant_at, is_settled}
 pub use Rattle.gf_form.specs.inner.reduced.Search.{numbered, choices_at}
 pub use Rattle.gf_form.specs.inner.reduced.Shown.{relevant_sets, shown}
-pub use Rattle.gf_form.specs.inner.reduced.Survey.{FindsMore, sizes, survey_size, visits_at}
-pub use Rattle.gf_form.specs.inner.reduced.Survey.{visits_below, own_step, own_visit}
+pub use Rattle.gf_form.specs.inner.reduced.Survey.{own_visit, visit_at, visit_handing, visits_by}
+pub use Rattle.gf_form.specs.inner.reduced.Survey.{visits_of}
 pub use Rattle.gf_form.specs.inner.reduced.Visits.{is_met, is_met_on, AreActions}
 pub use Rattle.gf_form.specs.inner.rows.Demands.{meets, spans, steps_of}
 pub use Rattle.gf_form.specs.inner.rows.DigitSteps.{steps_after, picked, width, in_order}
 pub use Rattle.gf_form.specs.inner.rows.TermLists.{Term, IsScale, IsShaped, IsSumOf, all_terms}
 pub use Rattle.gf_form.specs.inner.rows.TermLists.{first_terms, term_at, scaled_at, no_term}
 pub use Rattle.gf_form.specs.inner.rows.TermLists.{number_at, AreOrdered, EndsBelow, HasSum}
-pub use Rattle.gf_form.specs.inner.rows.TermLists.{demanding}
+pub use Rattle.gf_form.specs.inner.rows.TermLists.{with_demands}
 pub use Rattle.gf_form.specs.inner.rows.TermLists.{lowered}
 pub use Rattle.gf_form.specs.inner.rows.TermLists.{IsExactAt, AreExactAt, AreMerged, ComeAsWell}
 pub use Rattle.gf_form.specs.inner.rows.TermLists.{sum_of_terms, AreAlike, AreChosen, part, ComeTo}
@@ -66,11 +62,13 @@ pub use Rattle.gf_form.specs.inner.rows.GameDigits.{digit_actions, actions_at}
 pub use Rattle.gf_form.specs.inner.rows.KeptNodes.{paid_reached, is_paid}
 pub use Rattle.gf_form.specs.inner.rows.ListedNodes.{AreTermsOf}
 pub use Rattle.gf_form.specs.inner.rows.Pairs.{HasPairRow, IsPaidPair, pair_number}
-pub use Rattle.gf_form.specs.inner.rows.PathsLeft.{steps_of_paths, nodes_left}
+pub use Rattle.gf_form.specs.inner.rows.PathsLeft.{nodes_left}
 pub use Rattle.gf_form.specs.inner.rows.ProfileRows.{AreRowsAt}
-pub use Rattle.gf_form.specs.inner.rows.ReachedNodes.{demanded, by_chance, is_sum_at, reached}
-pub use Rattle.gf_form.specs.inner.rows.ReachedNodes.{root_path, by_action, by_choice, by_each}
-pub use Rattle.gf_form.specs.inner.rows.ReachedNodes.{drawn, over_set, below_set}
+pub use Rattle.gf_form.specs.inner.rows.DescentLeft.{Stop, own_step, stop_at, stops, stops_left}
+pub use Rattle.gf_form.specs.inner.rows.Descents.{Entering, Handing, descent, descent_all}
+pub use Rattle.gf_form.specs.inner.rows.Descents.{choosing, demanding, demanded, comes_by, kept}
+pub use Rattle.gf_form.specs.inner.rows.ReachedNodes.{by_chance, is_sum_at, reached, followed}
+pub use Rattle.gf_form.specs.inner.rows.ReachedNodes.{root_path, path_handing, is_personal}
 pub use Rattle.gf_form.specs.inner.rows.SettledRows.{Settles, SettlesAt, SettleRows, AreWritten}
 pub use Rattle.gf_form.specs.inner.rows.SettledRows.{asked_profiles}
 pub use Rattle.gf_form.specs.inner.rows.Shares.{IsDigitOf, AreDigits, FitsAt, AreExactShares}

@@ -10,6 +10,7 @@ use gf_fraction::Fraction;
 use std::alloc::AllocError;
 
 pub(crate) mod chosen;
+pub(crate) mod descent;
 pub(crate) mod digits;
 pub(crate) mod full;
 pub(crate) mod listed;

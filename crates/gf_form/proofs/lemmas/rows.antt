@@ -12,12 +12,12 @@ pub mod MergedTerms
 pub mod Merges
 pub mod OverOneDenominator
 pub mod PairRows
-pub mod PathsTold
+pub mod DescentTold
 pub mod PayingTerms
 pub mod ReachedValues
 pub mod PushedTerms
 pub mod RowsMade
 pub mod SettledRows
 pub mod SummedNodes
-pub mod UnmetShares
+pub mod MetNodes
 pub mod ValuedNodes

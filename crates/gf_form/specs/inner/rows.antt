@@ -1,9 +1,10 @@
 pub mod ChoiceSums
 pub mod Demands
+pub mod DescentLeft
+pub mod Descents
 pub mod DigitSteps
 pub mod TermLists
 pub mod FitsTable
-pub mod FollowedNodes
 pub mod GameDigits
 pub mod ItemRows
 pub mod KeptNodes

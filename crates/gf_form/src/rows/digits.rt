@@ -7,7 +7,7 @@ ghost use Rattle.gf_tree.specs.IsGame.{IsGame};
 ghost use Rattle.gf_form.specs.inner.strategies.Counted.{AreCounts};
 ghost use Rattle.gf_form.specs.inner.rows.DigitSteps.{steps_after, width};
 ghost use Rattle.gf_form.specs.inner.rows.GameDigits.{AreDigitsOf, HasDigits};
-ghost use Rattle.gf_form.specs.inner.rows.ReachedNodes.{demanded};
+ghost use Rattle.gf_form.specs.inner.rows.Descents.{demanded};
 
 use crate::strategies::counts::Counts;
 use std::alloc::{AllocError, Global};

@@ -1,5 +1,5 @@
-//! Terms that demand nothing at the slowest digit, added up for each choice at the faster ones. If
-//! they are many, they are then not merged anew for each action.
+//! Terms that demand nothing at the slowest digit, added up for each choice at the faster ones: if
+//! they are many, they are not to be merged anew for each action.
 
 ghost use Rattle.std.specs.Prelude.{◌≡◌, ◌+◌, ◌*◌, ◌<◌, ◌≤◌, ◌^◌, ◌++◌, ◌∷◌, IfOk, OnOk};
 ghost use Rattle.std.specs.Prelude.{get_or, length, map};
@@ -8,7 +8,7 @@ ghost use Rattle.gf_form.specs.inner.rows.ChoiceSums.{AddUpTo, HasSums};
 ghost use Rattle.gf_form.specs.inner.rows.Demands.{spans};
 ghost use Rattle.gf_form.specs.inner.rows.GameDigits.{HaveSteps, actions_at};
 ghost use Rattle.gf_form.specs.inner.rows.TermLists.{AreAlike, AreOrdered, EndsBelow, IsShaped};
-ghost use Rattle.gf_form.specs.inner.rows.TermLists.{all_terms, demanding, part};
+ghost use Rattle.gf_form.specs.inner.rows.TermLists.{all_terms, with_demands, part};
 
 use crate::rows::chosen::{Chosen, count_near};
 use crate::rows::digits::Digit;
@@ -16,13 +16,13 @@ use crate::rows::spare::SpareTerms;
 use crate::rows::terms::Terms;
 use std::alloc::AllocError;
 
-/// So many times as many terms as choices are many.
+/// Terms are many if there are more than this for each choice.
 const MANY: usize = 4;
 
 impl Terms {
-    /// Whether the terms that demand nothing at the slowest digit are many: for the choices at the
-    /// faster ones, and beside those that demand an action. There are so many choices at all
-    /// digits.
+    /// Whether the terms that demand nothing at the slowest digit are many, both for the choices at
+    /// the faster ones and beside the terms that demand an action. The choices at all digits are
+    /// counted.
     #[inline(always)]
     pub(crate) fn have_many_free(&self, slowest: Digit, choices: u32) -> bool {
         let all = self.demands.len();
@@ -31,7 +31,9 @@ impl Terms {
         if all.saturating_mul(actions) <= many {
             return false;
         }
-        let least = (many / actions).max(all / (actions / 2 + 1));
+        // With few actions, little is saved at this digit alone.
+        let most = all.saturating_sub(all / (4 / actions + 1));
+        let least = most.max(many / actions);
         match self.demands.get(least) {
             Some(demands) => *demands < slowest.step,
             None => false,
@@ -66,7 +68,7 @@ impl Terms {
         requires ordered { AreOrdered self.old }
         requires ends { EndsBelow self.old.demands.items demands }
         ensures pushed { OnOk result (all_terms self.new
-            ≡ all_terms self.old ++ map (demanding demands) (all_terms from.now)) }
+            ≡ all_terms self.old ++ map (with_demands demands) (all_terms from.now)) }
         ensures alike { AreAlike self.new self.old }
         ensures shaped { OnOk result (IsShaped self.new) }
         ensures ordered { OnOk result (AreOrdered self.new) }
@@ -79,7 +81,7 @@ impl Terms {
     }
 
     /// These terms, of which those that demand nothing at the slowest digit are added up for each
-    /// choice at the faster ones. There are so many choices at all digits.
+    /// choice at the faster ones. The choices at all digits are counted.
     #[cycle(sums)]
     pub(crate) fn summed(
         &self,
@@ -111,8 +113,8 @@ impl Terms {
         Ok(list)
     }
 
-    /// Appends what the terms of a list come to at each choice for these digits, as terms that
-    /// demand it, raised by a number. There are so many choices.
+    /// Appends what the terms of a list come to at each choice for these digits, as a term that
+    /// demands the choice, raised by a number. The choices are counted.
     #[cycle(sums)]
     fn push_sums(
         &mut self,

@@ -4,7 +4,7 @@
 ghost use Rattle.std.specs.Prelude.{◌≡◌, ◌+◌, ◌<◌, ◌≤◌, ◌++◌, [], ◌∷◌, IfOk, IsTrue, OnOk, get_or};
 ghost use Rattle.std.specs.Prelude.{length};
 ghost use Rattle.gf_form.specs.inner.rows.TermLists.{AreAlike, HasSum, IsScale, IsShaped, IsSumAt};
-ghost use Rattle.gf_form.specs.inner.rows.TermLists.{IsNoted, all_terms, demanding, lowered};
+ghost use Rattle.gf_form.specs.inner.rows.TermLists.{IsNoted, all_terms, with_demands, lowered};
 ghost use Rattle.gf_form.specs.inner.rows.TermLists.{scaled_at, term_at};
 ghost use Rattle.gf_form.specs.inner.rows.ItemRows.{HasRow};
 
@@ -252,7 +252,7 @@ impl Terms {
         requires shaped { IsShaped self.old × IsShaped from.now }
         requires within { place < length from.now.demands.items }
         ensures pushed { OnOk result (all_terms self.new
-            ≡ all_terms self.old ++ demanding demands (term_at from.now place) ∷ []) }
+            ≡ all_terms self.old ++ with_demands demands (term_at from.now place) ∷ []) }
         ensures alike { AreAlike self.new self.old }
         ensures shaped { OnOk result (IsShaped self.new) }
     {

@@ -2,11 +2,11 @@
 use Rattle.gf_form.proofs.Common.{AllByRecursion, AreExactAt, AreMerged, ComeTo}
 use Rattle.gf_form.proofs.Common.{Game, IsExactAt, SettlesAt, Term, Terms}
 use Rattle.gf_form.proofs.Common.{all_both, all_choices, all_images, all_parts, all_terms}
-use Rattle.gf_form.proofs.Common.{all_weaker, append-nil, arith, cases_lt, demanding, first_terms}
+use Rattle.gf_form.proofs.Common.{all_weaker, append-nil, arith, cases_lt, with_demands, first_terms}
 use Rattle.gf_form.proofs.Common.{get_or, length, lowered, map, map-append, meets, part}
 use Rattle.gf_form.proofs.Common.{product, refl, spans, steps_of, subst, sym}
 use Rattle.gf_form.proofs.Common.{List, ◌++◌, ◌∷◌, [], ℕ, suc, zero, true, ap, ◌≡◌, ◌∙◌, inl, inr}
-use Rattle.gf_form.proofs.Common.{◌+◌, ◌-◌, ◌*◌, ◌<◌, ◌≤◌, ◌⊎◌, mul-le-mul_right, drop}
+use Rattle.gf_form.proofs.Common.{◌+◌, ◌-◌, ◌*◌, ◌<◌, ◌≤◌, ◌⊎◌, mul-le-mul_right}
 use Rattle.std.proofs.lemmas.List.{append_assoc, take_rest}
 use Rattle.gf_form.specs.declared.rows.digits.Digit.{Digit}
 use Rattle.gf_form.specs.inner.rows.GameDigits.{actions_at}
@@ -235,9 +235,9 @@ last_met (d ∷ digits) es none = absurd (omega (arith, none))
 module _ (actions : List ℕ) (least den : ℕ) (choices : List ℕ) where
   all_come : (es : List Term) → AllByRecursion (IsMet actions) es
       → AreExactAt den (steps_of actions) choices
-      (map (lowered least) (map (demanding least) es))
+      (map (lowered least) (map (with_demands least) es))
       → ComeTo den (steps_of actions) choices es (steps_of actions) choices
-      (map (lowered least) (map (demanding least) es))
+      (map (lowered least) (map (with_demands least) es))
   all_come [] all exact = record { exact = tt; sums = λ k. refl }
   all_come (e ∷ es) all exact =
       let met = all.0 choices in
@@ -246,14 +246,14 @@ module _ (actions : List ℕ) (least den : ℕ) (choices : List ℕ) where
       grind (arith, all_come es all.1 exact.1)
 
 pub none_demanded : (actions : List ℕ) (least : ℕ) (es old new : List Term)
-    → AllByRecursion (IsMet actions) es → new ≡ old ++ map (demanding least) es
+    → AllByRecursion (IsMet actions) es → new ≡ old ++ map (with_demands least) es
     → HasSums actions least es old new
 none_demanded actions least es old new met is = record {
-  sums = map (demanding least) es;
+  sums = map (with_demands least) es;
   is = is;
-  within = all_images (IsBetween least (least + product (spans actions))) (demanding least) es
+  within = all_images (IsBetween least (least + product (spans actions))) (with_demands least) es
       (all_weaker (IsMet actions)
-      (λ e. IsBetween least (least + product (spans actions)) (demanding least e))
+      (λ e. IsBetween least (least + product (spans actions)) (with_demands least e))
       (λ e h. (omega arith, omega (arith, spans_above actions))) es met);
   add_up = λ den choices valid exact. all_come actions least den choices es met exact;
 }

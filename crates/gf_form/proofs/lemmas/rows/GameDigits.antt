@@ -7,6 +7,7 @@ use Rattle.gf_form.proofs.Common.{AreStepsOf, get_or-map, slice_get, choice_at, 
 use Rattle.gf_form.proofs.Common.{Described, HasDigits, AreDigits, in_order, all_both, product, ◌≡◌}
 use Rattle.gf_form.proofs.Common.{IsGame, set_at, Digits, length, get_or, SetKey, picked, false, []}
 use Rattle.gf_form.proofs.Common.{cond, List, Some, refl, find, Game, Bool, true, suc, ◌-◌, ◌<◌, ℕ}
+use Rattle.gf_form.proofs.Common.{eq-eqb, is_personal, player_keys}
 use Rattle.gf_form.proofs.Common.{◌∷◌, map, sym, ◌∙◌, append-nil, ap, ◌≤◌}
 use Rattle.gf_form.proofs.lemmas.strategies.Choices.{IsChoice, choice_length, length-all_choices}
 use Rattle.gf_form.proofs.lemmas.strategies.Chosen.{among_his, have_actions, profile_strategies}
@@ -16,7 +17,6 @@ use Rattle.gf_form.proofs.lemmas.rows.DigitChoices.{choice_at_number, in_order_n
 use Rattle.gf_form.proofs.lemmas.rows.DigitChoices.{product_in_order, product_picked}
 use Rattle.gf_form.proofs.lemmas.rows.DigitPlaces.{at_spot, length-in_order, own_alone, own_digit}
 use Rattle.gf_form.proofs.lemmas.rows.DigitPlaces.{spot}
-use Rattle.gf_form.proofs.lemmas.strategies.ActionCounts.{choice_at as choice_bounds}
 use Rattle.gf_form.proofs.lemmas.strategies.Lookups.{set_is, strategy_before}
 use Rattle.gf_form.proofs.lemmas.strategies.PickedProfiles.{numbered, numbered_strategies}
 
@@ -61,6 +61,15 @@ among (s ∷ ss) key set is = by (same_set s.key key) refl (among ss key set) is
         }
 
 -- ---- the game
+
+-- chance chooses nothing
+no_strategy : (g : Game) (all : List (List ℕ)) (key : SetKey) → key.player ≡ 0
+    → choices_by g all key ≡ 0
+no_strategy g all key chance = grind (arith, at_none (player_keys g key.player) key)
+  where
+    at_none : (keys : List SetKey) (key : SetKey) → choice_at keys [] key ≡ 0
+    at_none [] key = refl
+    at_none (k ∷ keys) key = refl
 
 -- a player's set: its place among those of all
 record IsHis (g : Game) (counted : List (List ℕ)) (key : SetKey) (set : InformationSet)
@@ -146,34 +155,31 @@ module _ (g : Game) (game : IsGame g) (d : Digits) (values : ℕ) where
     choice : IsChoice (digit_actions d) choices
     choice = grind (arith, choice_at_number, below, product_picked, product_in_order, positive_for)
 
-    bounds : (place : ℕ) → place < length (digit_actions d)
-        → (1 ≤ get_or choices place 0) × (get_or choices place 0 ≤ get_or (digit_actions d) place 0)
-    bounds place within = choice_bounds choices (digit_actions d) place choice
-        (omega (arith, within, choice_length (digit_actions d) choices choice))
-
     long : length (in_order profile) ≡ length sets
     long = grind (arith, length-in_order, chosen)
 
-    digits_are : AreDigits g (choices_by g steps) (choices_by g profile) (digit_actions d) choices
+    above : (key : SetKey) → is_personal key ≡ true → 0 < key.player
+    above key personal = grind (arith, eq-eqb)
+
+    digits_are : AreDigits g is_personal (choices_by g steps) (choices_by g profile) (digit_actions d) choices
     digits_are = record {
       within = grind arith;
       one_each = choice_length (digit_actions d) choices choice;
-      some = λ place within. (bounds place within).0;
-      valid = λ place within. (bounds place within).1;
+      other = λ key none. no_strategy g steps key (grind (arith, eq-eqb));
       chosen = λ key set is personal. have_actions g game profile
           (profile_strategies g (get_or (full_profiles g) number []) (
             number,
             less,
             get_or_default (full_profiles g) number (get_or (full_profiles g) number []) [] less,
           ))
-          key set is (omega (arith, personal));
+          key set is (above key personal);
       alone = λ key set is personal none.
-          let h = his key set is (omega (arith, personal)) in
+          let h = his key set is (above key personal) in
           let few = own_alone sets 1 h.place (omega arith)
           (cc (h.said steps made.as_many, made.each)) in
           omega (arith, few, h.count, h.some_action);
       several = λ key set is personal some.
-          let h = his key set is (omega (arith, personal)) in
+          let h = his key set is (above key personal) in
           let step : get_or (steps_after 1 sets) h.place 0 ≡ choices_by g steps key =
           cc (h.said steps made.as_many, made.each) in
           let digit = own_digit sets (in_order profile) [] [] 1 h.place refl long h.within

@@ -1,6 +1,6 @@
 -- Terms of a list that are appended to another one in turn.
 use Rattle.gf_form.proofs.Common.{AreAlike, AreOrdered, EndsBelow, IsShaped, List, Term, Terms}
-use Rattle.gf_form.proofs.Common.{add-one, all_terms, append-nil, arith, demanding, first_terms}
+use Rattle.gf_form.proofs.Common.{add-one, all_terms, append-nil, arith, with_demands, first_terms}
 use Rattle.gf_form.proofs.Common.{get_or, length, length-drop, lowered, map, map-append, no_term}
 use Rattle.gf_form.proofs.Common.{part, term_at, drop, ap, refl, sym, ◌≡◌, ◌∙◌}
 use Rattle.gf_form.proofs.Common.{◌++◌, ◌∷◌, [], ℕ, ◌+◌, ◌-◌, ◌<◌, ◌≤◌}
@@ -88,7 +88,7 @@ more_parting from start end next old to after sorted le less before is alike sha
 -- ---- all of them, with the same demands
 
 pub record Giving (from : Terms) (demands next : ℕ) (old to : Terms) : Type 0 where
-  pub is : all_terms to ≡ all_terms old ++ map (demanding demands) (first_terms from next)
+  pub is : all_terms to ≡ all_terms old ++ map (with_demands demands) (first_terms from next)
   pub shaped : IsShaped to
   pub alike : AreAlike to old
   pub ordered : AreOrdered to
@@ -96,11 +96,11 @@ pub record Giving (from : Terms) (demands next : ℕ) (old to : Terms) : Type 0 
 
 pub more_giving : (from : Terms) (demands next : ℕ) (old to after : Terms)
     → Giving from demands next old to
-    → all_terms after ≡ all_terms to ++ demanding demands (term_at from next) ∷ []
+    → all_terms after ≡ all_terms to ++ with_demands demands (term_at from next) ∷ []
     → AreAlike after to → IsShaped after → Giving from demands (next + 1) old after
 more_giving from demands next old to after before is alike shaped =
     let t = term_at from next in
-    let grown = demands_more to after (demanding demands t) is in
+    let grown = demands_more to after (with_demands demands t) is in
     let one : first_terms from (next + 1) ≡ first_terms from next ++ t ∷ [] =
     ap (first_terms from) (add-one next) in
     record {
@@ -108,9 +108,9 @@ more_giving from demands next old to after before is alike shaped =
         is,
         before.is,
         one,
-        map-append (demanding demands) (first_terms from next) (t ∷ []),
-        append_assoc (all_terms old) (map (demanding demands) (first_terms from next))
-            (demanding demands t ∷ []),
+        map-append (with_demands demands) (first_terms from next) (t ∷ []),
+        append_assoc (all_terms old) (map (with_demands demands) (first_terms from next))
+            (with_demands demands t ∷ []),
       );
       shaped = shaped;
       alike = (alike.0 ∙ before.alike.0, alike.1 ∙ before.alike.1);

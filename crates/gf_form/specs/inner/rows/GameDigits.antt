@@ -4,6 +4,7 @@ use Rattle.gf_nfg.specs.Profiles.{product}
 use Rattle.gf_tree.specs.Game.{Game}
 use Rattle.gf_form.specs.inner.rows.Demands.{spans, steps_of}
 use Rattle.gf_form.specs.inner.rows.DigitSteps.{in_order, picked, steps_after, width}
+use Rattle.gf_form.specs.inner.rows.ReachedNodes.{is_personal}
 use Rattle.gf_form.specs.inner.rows.Shares.{AreDigits}
 use Rattle.gf_form.specs.Strategies.{all_choices, choices_by, full_profiles, strategies_at}
 use Rattle.gf_form.specs.declared.rows.digits.Digit.{Digit}
@@ -44,6 +45,6 @@ pub record HasDigits (g : Game) (d : Digits) : Type 0 where
   pub within : product (spans (digit_actions d)) < 2 ^ 64
   pub as_many : product (digit_actions d) ≡ length (full_profiles g)
   pub choices : (number : ℕ) → number < length (full_profiles g)
-      → AreDigits g (choices_by g (map (λ own. own.items) d.steps.items))
+      → AreDigits g is_personal (choices_by g (map (λ own. own.items) d.steps.items))
       (choices_by g (strategies_at g (get_or (full_profiles g) number []))) (digit_actions d)
       (get_or (all_choices (digit_actions d)) number [])

@@ -2,15 +2,14 @@
 -- demands. At a set that is met again below itself, play goes on with the action that is demanded
 -- there. Below a child of probability 0, nothing counts but whether its value is defined; so what a
 -- leaf pays is left out there, and where something is added, the path starts anew.
-use Rattle.std.specs.Prelude.{ℕ, suc, zero, ◌+◌, ◌*◌, ◌/◌, ◌%◌, ◌^◌, ◌==◌, ◌&&◌, ◌||◌, Bool, List}
-use Rattle.std.specs.Prelude.{[], ◌∷◌, false}
-use Rattle.std.specs.Prelude.{◌++◌, Option, Some, None, nat_lt, unsigned_abs, if◌then◌else◌}
+use Rattle.std.specs.Prelude.{ℕ, ◌*◌, ◌^◌, ◌==◌, ◌&&◌, ◌||◌, not, Bool, List}
+use Rattle.std.specs.Prelude.{Option, Some, None, false, nat_lt, unsigned_abs, if◌then◌else◌}
+use Rattle.std.specs.Option.{option_map_or}
 use Rattle.gf_fraction.specs.Ratio.{Ratio}
-use Rattle.gf_tree.specs.Tree.{Tree, Trees, count}
-use Rattle.gf_tree.specs.Tree.Tree.{branch}
-use Rattle.gf_tree.specs.Tree.Trees.{none, more}
+use Rattle.gf_tree.specs.Tree.{Tree}
 use Rattle.gf_tree.specs.Description.{SetKey}
 use Rattle.gf_tree.specs.Game.{Game, Node}
+use Rattle.gf_form.specs.inner.rows.Descents.{Handing, choosing, demanding, descent}
 use Rattle.gf_form.specs.inner.values.Rows.{paid_at_node}
 use Rattle.gf_form.specs.inner.values.Values.{chances_at}
 use Rattle.gf_form.specs.declared.rows.paths.Path.{Path}
@@ -32,25 +31,6 @@ by_chance path chance = record {
   den = if has_room path chance then path.den * chance.den else 0;
   demands = path.demands;
 }
-
--- one step further, by the action at this position, at a set whose digit has this step, in 64 bits
-abbrev pub by_choice : Path → ℕ → ℕ → Path
-by_choice path step position = record {
-  weight = path.weight;
-  bound = path.bound;
-  den = path.den;
-  demands = (path.demands + position * step) % 2 ^ 64;
-}
-
--- the action that is demanded at the digit with this step, if there are this many actions; 0 if any
--- will do
-abbrev pub demanded : ℕ → ℕ → ℕ → ℕ
-demanded demands step actions = demands / step % (actions + 1)
-
--- the action that is taken at a set with this many actions whose digit has this step; 0 if any
--- will do
-abbrev pub taken : Path → ℕ → ℕ → ℕ
-taken path step actions = if step == 0 then 1 else demanded path.demands step actions
 
 -- the path on which nobody has chosen
 abbrev pub root_path : Path
@@ -88,48 +68,35 @@ met_node g path n = met_if (is_idle path) (is_sum g n) path (paid_at_node g n)
 abbrev pub onward : Game → Path → Node → Path
 onward g path n = (met_node g path n).path
 
-abbrev pub over_set : Option SetKey → (SetKey → List Reached) → List Reached
-over_set None below = []
-over_set (Some key) below = below key
+-- whether chance moves at a node
+abbrev pub is_drawn : Node → Bool
+is_drawn n = option_map_or (λ key. key.player == 0) n.set false
 
--- the paths to the children of a node of chance, by their positions
-abbrev pub drawn : Path → (ℕ → Ratio) → ℕ → Path
-drawn path chances k = by_chance path (chances k)
+-- a path with other demands
+abbrev pub demanding_path : Path → ℕ → Path
+demanding_path path demands =
+    record { weight = path.weight; bound = path.bound; den = path.den; demands = demands }
 
-abbrev mutual
-  -- Each set has the step of its digit, or 0 if it has only one action.
-  pub reached : Game → (SetKey → ℕ) → Path → Tree Node → List Reached
-  reached g steps path (branch n ts) =
-      met_node g path n ∷ over_set n.set
-      (λ key. if key.player == 0
-      then by_each g steps (drawn (onward g path n) (chances_at g n)) 1 ts
-      else if taken path (steps key) (count ts) == 0
-      then by_each g steps (by_choice (onward g path n) (steps key)) 1 ts
-      else by_action g steps (onward g path n) (taken path (steps key) (count ts)) ts)
+-- the path to the child of a node at this position, with these demands, from the node's on
+abbrev pub drawn : Game → Node → Path → ℕ → Path
+drawn g n path k = if is_drawn n then by_chance path (chances_at g n k) else path
 
-  -- below these children, by the path to each; the first one has position k
-  pub by_each : Game → (SetKey → ℕ) → (ℕ → Path) → ℕ → Trees Node → List Reached
-  by_each g steps paths k none = []
-  by_each g steps paths k (more t ts) =
-      reached g steps (paths k) t ++ by_each g steps paths (k + 1) ts
+abbrev pub path_handing : Handing Path
+path_handing = record {
+  demands = λ path. path.demands;
+  below = λ g n path k demands. drawn g n (demanding_path (onward g path n) demands) k;
+}
 
-  -- below the child at this position, from 1
-  pub by_action : Game → (SetKey → ℕ) → Path → ℕ → Trees Node → List Reached
-  by_action g steps path position none = []
-  by_action g steps path zero (more t ts) = []
-  by_action g steps path (suc zero) (more t ts) = reached g steps path t
-  by_action g steps path (suc (suc position)) (more t ts) =
-      by_action g steps path (suc position) ts
+-- Each set has the step of its digit, or 0 if it has only one action.
+abbrev pub reached : Game → (SetKey → ℕ) → Path → Tree Node → List Reached
+reached g steps path t =
+    descent (λ n path. met_node g path n) (demanding path_handing g steps) path t
 
--- those below a player's node with these children, whose set has a digit with this step, if this
--- action is taken, or any if it is 0
-abbrev pub by_taken : Game → (SetKey → ℕ) → Path → ℕ → ℕ → Trees Node → List Reached
-by_taken g steps path step action ts =
-    if action == 0 then by_each g steps (by_choice path step) 1 ts
-    else by_action g steps path action ts
+-- whether a player moves at a set
+abbrev pub is_personal : SetKey → Bool
+is_personal key = not (key.player == 0)
 
--- those below a node of this set, where the path goes on so
-abbrev pub below_set : Game → (SetKey → ℕ) → Path → Node → Trees Node → SetKey → List Reached
-below_set g steps path n ts key =
-    if key.player == 0 then by_each g steps (drawn path (chances_at g n)) 1 ts
-    else by_taken g steps path (steps key) (taken path (steps key) (count ts)) ts
+-- those that choices reach, by the choices alone
+abbrev pub followed : Game → (SetKey → ℕ) → Path → Tree Node → List Reached
+followed g choose path t =
+    descent (λ n path. met_node g path n) (choosing path_handing g is_personal choose) path t

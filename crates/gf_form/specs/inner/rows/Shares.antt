@@ -1,4 +1,5 @@
 -- What the nodes that choices reach add to a player's payoff, over one denominator for all.
+use Rattle.std.specs.Prelude.{Bool, false, true}
 use Rattle.std.specs.Prelude.{◌≡◌, ℕ, ℤ, pos, ◌*◌, ◌/◌, ◌<◌, ◌≤◌, ◌==◌, ◌^◌, ◌*ℤ◌, List, [], ◌∷◌}
 use Rattle.std.specs.Prelude.{Some, unsigned_abs, if◌then◌else◌, length, get_or, map}
 use Rattle.gf_fraction.specs.Ratio.{Ratio}
@@ -76,19 +77,18 @@ pub record IsDigitOf (actions choices : List ℕ) (step count choice : ℕ) : Ty
   pub choice_is : get_or choices place 0 ≡ choice
 
 -- These are the numbers of actions at the digits, from the slowest on, and the choices at them, if
--- each set of a player has the step of its digit, or 0 if it has only one action. All values of all
--- digits are within 64 bits.
-pub record AreDigits (g : Game) (steps choose : SetKey → ℕ) (actions choices : List ℕ) : Type 0
+-- each of these sets has the step of its digit, or 0 if it has only one action, and all others have
+-- none. All values of all digits are within 64 bits.
+pub record AreDigits (g : Game) (owns : SetKey → Bool) (steps choose : SetKey → ℕ)
+    (actions choices : List ℕ) : Type 0
   where
     pub within : product (spans actions) < 2 ^ 64
     pub one_each : length choices ≡ length actions
-    pub some : (place : ℕ) → place < length actions → 1 ≤ get_or choices place 0
-    pub valid : (place : ℕ) → place < length actions
-        → get_or choices place 0 ≤ get_or actions place 0
+    pub other : (key : SetKey) → owns key ≡ false → steps key ≡ 0
     pub chosen : (key : SetKey) (set : InformationSet) → set_at g key ≡ Some set
-        → ¬ (key.player ≡ 0) → (1 ≤ choose key) × (choose key ≤ length set.actions)
+        → owns key ≡ true → (1 ≤ choose key) × (choose key ≤ length set.actions)
     pub alone : (key : SetKey) (set : InformationSet) → set_at g key ≡ Some set
-        → ¬ (key.player ≡ 0) → steps key ≡ 0 → length set.actions ≡ 1
+        → owns key ≡ true → steps key ≡ 0 → length set.actions ≡ 1
     pub several : (key : SetKey) (set : InformationSet) → set_at g key ≡ Some set
-        → ¬ (key.player ≡ 0) → ¬ (steps key ≡ 0)
+        → owns key ≡ true → ¬ (steps key ≡ 0)
         → IsDigitOf actions choices (steps key) (length set.actions) (choose key)

@@ -92,14 +92,14 @@ abbrev pub part : ℕ → ℕ → List Term → List Term
 part start end es = take (end - start) (drop start es)
 
 -- the same with other demands
-abbrev pub demanding : ℕ → Term → Term
-demanding demands e = record {
+abbrev pub with_demands : ℕ → Term → Term
+with_demands demands e = record {
   head = record { demands = demands; den = e.head.den; size = e.head.size };
   row = e.row;
 }
 
 abbrev pub lowered : ℕ → Term → Term
-lowered less e = demanding (e.head.demands - less) e
+lowered less e = with_demands (e.head.demands - less) e
 
 -- ---- sums of two terms
 

@@ -1,16 +1,16 @@
-use Rattle.gf_form.proofs.Common.{term_at, demanding, Global, ◌∙◌, Vec, sym, ap, ℤ}
+use Rattle.gf_form.proofs.Common.{term_at, with_demands, Global, ◌∙◌, Vec, sym, ap, ℤ}
 use Rattle.gf_form.proofs.lemmas.rows.FlatRows.{Pushed, is_pushed, row_in_bound, row_length}
 use Rattle.gf_form.proofs.rows.terms.Terms.push_as.Goals as goal
 
 made : (c : goal.In_ok-push_like) → Pushed c.args.self.now c.push_like.new.self
-    (demanding c.args.demands (term_at c.args.from.now c.args.place))
+    (with_demands c.args.demands (term_at c.args.from.now c.args.place))
 made c =
     let from = c.args.from.now in
     let place = c.args.place in
     let shaped = c.requires.shaped.1 in
     let within = c.requires.within in
     let after = c.in_ok-push_like.ensures in
-    is_pushed c.args.self.now c.push_like.new.self (demanding c.args.demands (term_at from place))
+    is_pushed c.args.self.now c.push_like.new.self (with_demands c.args.demands (term_at from place))
     c.requires.shaped.0 (row_in_bound from place shaped within)
     (row_length from place shaped within ∙ sym c.requires.alike.0) after.alike.0
     (record { kept = after.noted.kept; next = after.noted.next }) after.demands
