@@ -12,11 +12,11 @@ const NOT_UTF8: &str = "error: an argument is not UTF-8\n\nFor more information,
 
 /// The arguments after the program's name. The name itself is left out, and may be any bytes.
 #[derive(Drop)]
-struct PastName<'a, R> {
+struct AfterName<'a, R> {
     rt: &'a R,
 }
 
-impl<R: Env> Env for PastName<'_, R> {
+impl<R: Env> Env for AfterName<'_, R> {
     fn arg(&self, i: usize, buf: &mut [u8]) -> Result<usize, FillError> {
         match i.checked_add(1) {
             Some(place) => self.rt.arg(place, buf),
@@ -42,7 +42,7 @@ fn no_words(alloc: Global, kind: ErrorKind) -> WordsFault {
 }
 
 fn words_given<R: Env>(rt: &R, alloc: Global) -> Result<Vec<String>, WordsFault> {
-    match env::args(&(PastName { rt }, alloc)) {
+    match env::args(&(AfterName { rt }, alloc)) {
         Ok(words) => Ok(words.collect(alloc)?),
         Err(error) => Err(no_words(alloc, error.kind())),
     }

@@ -4,8 +4,7 @@
 
 use arguments::job_asked;
 use gf_run::{
-    Asked, Collection, Counted, Erasing, Shown, answer, duplicates_at, hash_paths, perform,
-    perform_explained,
+    Asked, Collection, Counted, Erasing, Shown, answer, perform, perform_explained, run_collection,
 };
 use std::io::{IsTerminal, Stdout};
 use std::process::ExitCode;
@@ -28,17 +27,12 @@ fn erasing_output(rt: &HostRuntime, shows: bool) -> Counted<Erasing<Stdout>> {
 }
 
 /// Says which files are the same game, or writes the hash of each.
-fn run_over(rt: &HostRuntime, files: &Collection, finds_duplicates: bool) -> u8 {
+fn run_over(rt: &HostRuntime, files: &Collection) -> u8 {
     let shows = is_told(rt, files);
     let mut progress = Shown::new(rt, rt.stderr(), shows);
     let mut output = erasing_output(rt, shows);
     let mut errors = Counted::new(Erasing::new(rt.stderr(), shows));
-    let (paths, names) = (&files.paths, files.names);
-    if finds_duplicates {
-        duplicates_at(rt, paths, names, &mut progress, &mut output, &mut errors)
-    } else {
-        hash_paths(rt, paths, names, &mut progress, &mut output, &mut errors)
-    }
+    run_collection(rt, files, &mut progress, &mut output, &mut errors)
 }
 
 fn main(rt: HostRuntime) -> ExitCode {
@@ -52,8 +46,7 @@ fn main(rt: HostRuntime) -> ExitCode {
                 perform(rt.alloc(), &rt, &job, &mut output, &mut errors)
             }
         }
-        Ok(Asked::Hash(files)) => run_over(&rt, &files, false),
-        Ok(Asked::Duplicates(files)) => run_over(&rt, &files, true),
+        Ok(Asked::Files(files)) => run_over(&rt, &files),
         Err(fault) => answer(&fault, &mut output, &mut errors),
     })
 }

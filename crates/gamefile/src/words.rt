@@ -106,13 +106,13 @@ fn job_of(alloc: Global, name: &str, given: &ArgMatches<'_>) -> Result<Job, Allo
     })
 }
 
-/// The arguments that name files and folders.
-fn words_of(alloc: Global, given: &ArgMatches<'_>) -> Result<Vec<String>, AllocError> {
-    let mut words = Vec::new(alloc);
-    for word in given.get_strs("FILES").unwrap_or(&[]) {
-        words.push(String::from_str(alloc, word)?)?;
+/// The files and folders that arguments name.
+fn words_of(alloc: Global, words: &[&str]) -> Result<Paths, AllocError> {
+    let mut paths = Vec::new(alloc);
+    for word in words {
+        paths.push(Vec::from_slice(alloc, word.as_bytes())?)?;
     }
-    Ok(words)
+    Ok(Paths::Words(paths))
 }
 
 /// The list of names that an argument means; `-` is standard input.
@@ -123,16 +123,20 @@ fn list_of(alloc: Global, name: &str, is_null: bool) -> Result<Paths, AllocError
 }
 
 fn paths_of(alloc: Global, given: &ArgMatches<'_>) -> Result<Paths, AllocError> {
-    match given.get_str("files-from") {
-        Some(name) => list_of(alloc, name, given.get_flag("null")),
-        None => Ok(Paths::Words(words_of(alloc, given)?)),
+    if let Some(name) = given.get_str("files-from") {
+        return list_of(alloc, name, given.get_flag("null"));
+    }
+    match given.get_strs("FILES") {
+        Some(words) => words_of(alloc, words),
+        None => Ok(Paths::Standard),
     }
 }
 
-fn files_of(alloc: Global, given: &ArgMatches<'_>) -> Result<Collection, AllocError> {
+fn files_of(alloc: Global, name: &str, given: &ArgMatches<'_>) -> Result<Collection, AllocError> {
     Ok(Collection {
         paths: paths_of(alloc, given)?,
         names: names_of(given),
+        finds_duplicates: name == "duplicates",
         quiet: given.get_flag("quiet"),
     })
 }
@@ -141,8 +145,7 @@ fn files_of(alloc: Global, given: &ArgMatches<'_>) -> Result<Collection, AllocEr
 fn asked_of(alloc: Global, matches: &ArgMatches<'_>) -> Result<Asked, WordsFault> {
     let (name, given) = matches.subcommand().unwrap_or(("canon", matches));
     Ok(match name {
-        "hash" => Asked::Hash(files_of(alloc, given)?),
-        "duplicates" => Asked::Duplicates(files_of(alloc, given)?),
+        "hash" | "duplicates" => Asked::Files(files_of(alloc, name, given)?),
         _ => Asked::Job {
             job: job_of(alloc, name, given)?,
             explain: given.get_flag("explain"),

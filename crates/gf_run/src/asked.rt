@@ -45,8 +45,10 @@ pub enum Job {
 /// What names the files of a collection.
 #[derive(Drop)]
 pub enum Paths {
-    /// These files and folders; standard input if there are none.
-    Words(Vec<String>),
+    /// Nothing does: it is standard input.
+    Standard,
+    /// The files and folders of these names.
+    Words(Vec<Vec<u8>>),
     /// The files and folders in this list, in which each name ends with this byte.
     List { list: Input, end: u8 },
 }
@@ -57,6 +59,8 @@ pub struct Collection {
     pub paths: Paths,
     /// Whether their names count.
     pub names: Names,
+    /// Whether it is written which of them are the same game, in place of their hashes.
+    pub finds_duplicates: bool,
     /// Whether the terminal does not show how many files are done.
     pub quiet: bool,
 }
@@ -66,10 +70,8 @@ pub struct Collection {
 pub enum Asked {
     /// A job, whose fault is explained in words if `explain` is true.
     Job { job: Job, explain: bool },
-    /// The hashes of these files.
-    Hash(Collection),
-    /// Which of these files are the same game.
-    Duplicates(Collection),
+    /// The hashes of these files, or which of them are the same game.
+    Files(Collection),
 }
 
 /// Why the arguments ask for no job.

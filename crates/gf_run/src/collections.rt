@@ -1,5 +1,6 @@
 //! The runs over many files: which files, their hashes, and which of them are one game.
 
+pub mod collection;
 pub mod duplicates;
 pub mod folders;
 pub mod groups;

@@ -13,9 +13,10 @@ mod streams;
 mod texts;
 
 pub use asked::{Asked, Collection, Input, Job, Paths, WordsFault};
-pub use collections::duplicates::{duplicates_at, run_duplicates};
+pub use collections::collection::run_collection;
+pub use collections::duplicates::run_duplicates;
 pub use collections::hash::run_hash;
-pub use collections::hashes::{hash_paths, run_hashes};
+pub use collections::hashes::run_hashes;
 pub use collections::paths::files_at;
 pub use collections::progress::{Erasing, Progress, Shown};
 pub use fault::{RunFault, Which, WriteFault, answer_status, status};

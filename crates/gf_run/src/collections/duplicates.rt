@@ -5,11 +5,10 @@ ghost use Rattle.gf_run.specs.Duplicates.{HashedFile, IsKeptOf};
 ghost use Rattle.gf_run.specs.DuplicatesRun.{Closes, Finds, HasHash, Reads};
 ghost use Rattle.gf_run.specs.Hashes.{IsNotHashed};
 
-use crate::asked::{Input, Paths};
+use crate::asked::Input;
 use crate::collections::groups::Groups;
 use crate::collections::hash::read_hash;
 use crate::collections::hashes::{name_of, tell_of};
-use crate::collections::paths::{files_at, tell_unlisted};
 use crate::collections::progress::Progress;
 use crate::fault::RunFault;
 use crate::jobs::ending::tell;
@@ -18,7 +17,6 @@ use crate::opening::read::open_input;
 use crate::streams::sink::{Sink, push_all};
 use gf_canon::Names;
 use std::alloc::{AllocError, Global};
-use std::rt::Files;
 
 /// Opens a file, and gives the hash of its canonical text.
 fn hash_of_file<I: Inputs>(
@@ -123,33 +121,4 @@ pub fn run_duplicates<I: Inputs, P: Progress, W: Sink, E: Sink>(
     }
     progress.end();
     write_groups(alloc, &groups, worst, output, errors)
-}
-
-/// Writes which of the files at these paths are the same game, as `run_duplicates` does, and
-/// returns the exit status.
-///
-/// All paths are followed before a file is opened. If memory runs out then, E19 is reported; if a
-/// list of names cannot be read, E20 is reported after its name.
-pub fn duplicates_at<R: Inputs + Files + AllocGlobal, P: Progress, W: Sink, E: Sink>(
-    rt: &R,
-    paths: &Paths,
-    names: Names,
-    progress: &mut P,
-    output: &mut W,
-    errors: &mut E,
-) -> u8 {
-    match files_at(rt, paths) {
-        Ok(files) => {
-            run_duplicates(
-                rt.alloc(),
-                rt,
-                files.as_slice(),
-                names,
-                progress,
-                output,
-                errors,
-            )
-        }
-        Err(fault) => tell_unlisted(rt.alloc(), paths, &fault, errors),
-    }
 }

@@ -9,6 +9,14 @@ use std::os::unix::fs::MetadataExt;
 use std::rt::Files;
 use std::{fs, io};
 
+/// The file of this name in a folder. One whose name is not UTF-8 cannot be opened.
+fn file_in(alloc: Global, folder: &[u8], name: &[u8]) -> Result<Input, AllocError> {
+    match String::from_utf8(joined(alloc, &[folder, name])?) {
+        Ok(path) => Ok(Input::File(path)),
+        Err(error) => Ok(Input::NotText(String::from_utf8_lossy(alloc, error.as_bytes())?)),
+    }
+}
+
 /// Whether a name ends like that of a game file, in upper or lower case.
 fn is_game_file(name: &str) -> bool {
     match name.rsplit_once('.') {
@@ -30,7 +38,7 @@ fn folder_at<R: Files>(rt: &R, path: &str) -> Option<(u64, u64)> {
 
 /// Adds the names that a reader gives, each ended by this byte. Those that came before an error
 /// stay.
-pub fn push_names<R: Read + Drop>(
+pub(crate) fn push_names<R: Read + Drop>(
     alloc: Global,
     input: R,
     end: u8,
@@ -43,7 +51,7 @@ pub fn push_names<R: Read + Drop>(
 }
 
 /// Whether something was read whole, unless memory ran out.
-pub fn is_whole(read: io::Result<()>) -> Result<bool, AllocError> {
+pub(crate) fn is_whole(read: io::Result<()>) -> Result<bool, AllocError> {
     match read {
         Ok(()) => Ok(true),
         Err(error) if error.kind() == ErrorKind::OutOfMemory => Err(AllocError),
@@ -51,14 +59,8 @@ pub fn is_whole(read: io::Result<()>) -> Result<bool, AllocError> {
     }
 }
 
-/// The path of a folder with a slash at its end, by which a link to a folder can be opened.
-fn with_slash(alloc: Global, folder: &str) -> Result<String, AllocError> {
-    let end = if folder.ends_with('/') { "" } else { "/" };
-    [folder, end].concat(alloc)
-}
-
-/// Adds what is in a folder, by name.
-fn push_entries<R: Files + AllocGlobal>(
+/// Adds the names of what is in a folder.
+fn push_names_in<R: Files + AllocGlobal>(
     rt: &R,
     folder: &str,
     names: &mut Vec<Vec<u8>>,
@@ -66,16 +68,17 @@ fn push_entries<R: Files + AllocGlobal>(
     push_names(rt.alloc(), rt.open_dir(folder)?, 0, names)
 }
 
-/// Puts the paths of names in a folder before everything that waits, so that the first comes first.
-fn push_paths(
+/// Puts the files of these names in a folder before everything that waits, so that the first comes
+/// first.
+fn push_entries(
     alloc: Global,
     folder: &str,
     names: &[Vec<u8>],
-    waiting: &mut Vec<Vec<u8>>,
+    waiting: &mut Vec<Input>,
 ) -> Result<(), AllocError> {
     for name in names.iter().rev() {
-        if name.as_slice() != b".".as_slice() && name.as_slice() != b"..".as_slice() {
-            waiting.push(joined(alloc, &[folder.as_bytes(), name.as_slice()])?)?;
+        if !matches!(name.as_slice(), b"." | b"..") {
+            waiting.push(file_in(alloc, folder.as_bytes(), name.as_slice())?)?;
         }
     }
     Ok(())
@@ -86,41 +89,35 @@ fn push_paths(
 fn open_folder<R: Files + AllocGlobal>(
     rt: &R,
     folder: &str,
-    waiting: &mut Vec<Vec<u8>>,
+    waiting: &mut Vec<Input>,
 ) -> Result<bool, AllocError> {
-    let path = with_slash(rt.alloc(), folder)?;
+    // A link to a folder can be opened only by a path with a slash at its end.
+    let slash = if folder.ends_with('/') { "" } else { "/" };
+    let path = [folder, slash].concat(rt.alloc())?;
     let mut names = Vec::new(rt.alloc());
-    let is_whole = is_whole(push_entries(rt, path.as_str(), &mut names))?;
-    names.sort()?;
-    push_paths(rt.alloc(), path.as_str(), names.as_slice(), waiting)?;
+    let is_whole = is_whole(push_names_in(rt, path.as_str(), &mut names))?;
+    names.sort_unstable();
+    push_entries(rt.alloc(), path.as_str(), names.as_slice(), waiting)?;
     Ok(is_whole)
 }
 
-/// Adds the file at a path, if it is a game file or was named itself; or opens the folder there,
-/// unless it was visited already. A folder that cannot be read whole is kept as a file, which
-/// cannot be read either.
-fn push_path<R: Files + AllocGlobal>(
+/// Whether a file that waited is kept: it is a game file, was named itself, or has a name that is
+/// not UTF-8. The folder at its path is opened, unless it was visited already; one that cannot be
+/// read whole is kept as a file, which cannot be read either.
+fn is_kept<R: Files + AllocGlobal>(
     rt: &R,
-    path: String,
+    file: &Input,
     is_named: bool,
     folders: &mut BTreeSet<(u64, u64)>,
-    waiting: &mut Vec<Vec<u8>>,
-    files: &mut Vec<Input>,
-) -> Result<(), AllocError> {
-    let is_file = match folder_at(rt, path.as_str()) {
-        Some(folder) => folders.insert(folder)? && !open_folder(rt, path.as_str(), waiting)?,
-        None => is_named || is_game_file(path.as_str()),
+    waiting: &mut Vec<Input>,
+) -> Result<bool, AllocError> {
+    let Input::File(path) = file else {
+        return Ok(true);
     };
-    if is_file {
-        files.push(Input::File(path))?;
+    match folder_at(rt, path.as_str()) {
+        Some(folder) => Ok(folders.insert(folder)? && !open_folder(rt, path.as_str(), waiting)?),
+        None => Ok(is_named || is_game_file(path.as_str())),
     }
-    Ok(())
-}
-
-/// Adds a file whose name is not UTF-8.
-fn push_not_text(alloc: Global, name: &[u8], files: &mut Vec<Input>) -> Result<(), AllocError> {
-    files.push(Input::NotText(String::from_utf8_lossy(alloc, name)?))?;
-    Ok(())
 }
 
 /// Adds the file at a path, or the game files below the folder there: those whose names end in
@@ -132,17 +129,15 @@ pub fn push_files<R: Files + AllocGlobal>(
     path: &[u8],
     files: &mut Vec<Input>,
 ) -> Result<(), AllocError> {
-    let mut waiting = Vec::with_capacity(rt.alloc(), 1)?;
-    waiting.push_reserved(Vec::from_slice(rt.alloc(), path)?);
+    let mut waiting = vec![in rt.alloc(); file_in(rt.alloc(), b"", path)?]?;
     let mut folders = BTreeSet::new(rt.alloc());
     for turn in 0..u64::MAX {
-        let Some(path) = waiting.pop() else {
+        let Some(file) = waiting.pop() else {
             break;
         };
-        match String::from_utf8(path) {
-            Ok(path) => push_path(rt, path, turn == 0, &mut folders, &mut waiting, files),
-            Err(error) => push_not_text(rt.alloc(), error.as_bytes(), files),
-        }?;
+        if is_kept(rt, &file, turn == 0, &mut folders, &mut waiting)? {
+            files.push(file)?;
+        }
     }
     Ok(())
 }

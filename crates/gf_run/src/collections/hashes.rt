@@ -5,9 +5,8 @@ ghost use Rattle.gf_run.specs.Hashes.{IsHashed, IsNotHashed, IsToldOf, Runs, Ste
 ghost use Rattle.gf_run.specs.Hashes.{name_of, named_line};
 ghost use Rattle.gf_run.specs.Output.{IsWriteFault, IsWritten};
 
-use crate::asked::{Input, Paths};
+use crate::asked::Input;
 use crate::collections::hash::run_hash;
-use crate::collections::paths::{files_at, tell_unlisted};
 use crate::collections::progress::Progress;
 use crate::fault::{RunFault, WriteFault, status};
 use crate::jobs::ending::tell;
@@ -18,7 +17,6 @@ use crate::texts::joined::joined;
 use crate::texts::report::line_of;
 use gf_canon::Names;
 use std::alloc::{AllocError, Global};
-use std::rt::Files;
 
 /// What an input is called.
 pub(crate) fn name_of(input: &Input) -> &str
@@ -139,31 +137,4 @@ pub fn run_hashes<I: Inputs, P: Progress, W: Sink, E: Sink>(
     }
     progress.end();
     worst
-}
-
-/// Writes the hashes of the files at these paths, as `run_hashes` does, and returns the exit
-/// status.
-///
-/// All paths are followed before a file is opened. If memory runs out then, E19 is reported; if a
-/// list of names cannot be read, E20 is reported after its name.
-pub fn hash_paths<R: Inputs + Files + AllocGlobal, P: Progress, W: Sink, E: Sink>(
-    rt: &R,
-    paths: &Paths,
-    names: Names,
-    progress: &mut P,
-    output: &mut W,
-    errors: &mut E,
-) -> u8 {
-    match files_at(rt, paths) {
-        Ok(files) => run_hashes(
-            rt.alloc(),
-            rt,
-            files.as_slice(),
-            names,
-            progress,
-            output,
-            errors,
-        ),
-        Err(fault) => tell_unlisted(rt.alloc(), paths, &fault, errors),
-    }
 }

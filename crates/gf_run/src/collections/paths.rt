@@ -26,28 +26,11 @@ fn names_in<R: Inputs + AllocGlobal>(
     }
 }
 
-/// The files that arguments name, in their order; standard input if there are none.
-fn files_named<R: Files + AllocGlobal>(rt: &R, words: &[String]) -> Result<Vec<Input>, RunFault> {
-    let mut files = Vec::with_capacity(rt.alloc(), 1)?;
-    if words.is_empty() {
-        files.push_reserved(Input::Standard);
-    }
-    for word in words {
-        push_files(rt, word.as_bytes(), &mut files)?;
-    }
-    Ok(files)
-}
-
-/// The files that a list names, in its order.
-fn files_listed<R: Inputs + Files + AllocGlobal>(
-    rt: &R,
-    list: &Input,
-    end: u8,
-) -> Result<Vec<Input>, RunFault> {
-    let names = names_in(rt, list, end)?;
+/// The files that paths lead to, in their order.
+fn files_below<R: Files + AllocGlobal>(rt: &R, paths: &[Vec<u8>]) -> Result<Vec<Input>, RunFault> {
     let mut files = Vec::new(rt.alloc());
-    for name in &names {
-        push_files(rt, name.as_slice(), &mut files)?;
+    for path in paths {
+        push_files(rt, path.as_slice(), &mut files)?;
     }
     Ok(files)
 }
@@ -65,8 +48,16 @@ pub fn files_at<R: Inputs + Files + AllocGlobal>(
     paths: &Paths,
 ) -> Result<Vec<Input>, RunFault> {
     match paths {
-        Paths::Words(words) => files_named(rt, words.as_slice()),
-        Paths::List { list, end } => files_listed(rt, list, *end),
+        Paths::Standard => {
+            let mut files = Vec::with_capacity(rt.alloc(), 1)?;
+            files.push_reserved(Input::Standard);
+            Ok(files)
+        }
+        Paths::Words(words) => files_below(rt, words.as_slice()),
+        Paths::List { list, end } => {
+            let names = names_in(rt, list, *end)?;
+            files_below(rt, names.as_slice())
+        }
     }
 }
 

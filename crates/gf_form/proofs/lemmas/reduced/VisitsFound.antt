@@ -1,18 +1,19 @@
 -- The visits of a player that a walk through the tree meets show which of his sets are relevant.
 use Rattle.gf_form.proofs.Common.{get_or-numbers_from, unwrap_or-slice_get, same_set_equality, none}
-use Rattle.gf_form.proofs.Common.{list_any-append, InformationSet, AllByRecursion, is_own_choice}
-use Rattle.gf_form.proofs.Common.{FindRelevance, more, if◌then◌else◌, action_counts, option_map_or}
-use Rattle.gf_form.proofs.Common.{steps_after, numbers_from, slice_get, HasChildren, flatten_all, ◌∙◌}
-use Rattle.gf_form.proofs.Common.{AllZip-long, MatchOption, player_keys, player_sets, at_position}
-use Rattle.gf_form.proofs.Common.{AreDistinct, append-nil, AreActions, option_map, length-map, refl}
-use Rattle.gf_form.proofs.Common.{tree_comes, trees_come, eqb-false, own_steps, all_parts, choice_at}
-use Rattle.gf_form.proofs.Common.{own_visit, visit_at, visits_of, visit_handing, is_met_on, list_any}
-use Rattle.gf_form.proofs.Common.{same_set, eqb-true, eq-eqb, flatten, picked, Option, SetKey, set_at}
-use Rattle.gf_form.proofs.Common.{IsGame, branch, has_at, length, ℕ, get_or, width, subst, Trees, ap}
-use Rattle.gf_form.proofs.Common.{count, Visit, true, false, Bool, List, ◌==◌, ◌&&◌, Some, None, ◌||◌}
-use Rattle.gf_form.proofs.Common.{◌++◌, Game, Node, Tree, zero, ◌<◌, ◌≤◌, sym, ◌^◌, arith, meets, kept}
-use Rattle.gf_form.proofs.Common.{◌≡◌, ◌+◌, suc, ◌∷◌, ◌-◌, [], AreDigits, Stop, stop_at, descent}
-use Rattle.gf_form.proofs.Common.{descent_all, choosing, demanding, own_step, visits_by}
+use Rattle.gf_form.proofs.Common.{list_any-append, InformationSet, AllByRecursion}
+use Rattle.gf_form.proofs.Common.{FindRelevance, more, action_counts, option_map_or}
+use Rattle.gf_form.proofs.Common.{steps_after, numbers_from, slice_get, HasChildren, flatten_all}
+use Rattle.gf_form.proofs.Common.{◌∙◌, AllZip-long, MatchOption, player_keys, player_sets}
+use Rattle.gf_form.proofs.Common.{at_position, AreDistinct, append-nil, AreActions, option_map}
+use Rattle.gf_form.proofs.Common.{length-map, refl, tree_comes, trees_come, eqb-false, own_steps}
+use Rattle.gf_form.proofs.Common.{all_parts, choice_at, own_visit, visit_at, visits_of}
+use Rattle.gf_form.proofs.Common.{visit_handing, is_met_on, list_any, same_set, eqb-true, eq-eqb}
+use Rattle.gf_form.proofs.Common.{flatten, picked, Option, SetKey, set_at, IsGame, branch, has_at}
+use Rattle.gf_form.proofs.Common.{length, ℕ, get_or, width, subst, Trees, ap, count, Visit, true}
+use Rattle.gf_form.proofs.Common.{false, Bool, List, ◌==◌, ◌&&◌, Some, None, ◌||◌, Game, Node}
+use Rattle.gf_form.proofs.Common.{Tree, zero, ◌<◌, ◌≤◌, sym, ◌^◌, arith, meets, kept, ◌≡◌, ◌+◌, suc}
+use Rattle.gf_form.proofs.Common.{◌∷◌, ◌-◌, [], AreDigits, Stop, stop_at, descent, descent_all}
+use Rattle.gf_form.proofs.Common.{choosing, demanding, own_step, visits_by}
 use Rattle.gf_form.proofs.lemmas.rows.DemandDigits.{none_within, no_demands, none_pack, none_met}
 use Rattle.gf_form.proofs.lemmas.rows.DigitPlaces.{as_many_picked, own_alone, own_digit}
 use Rattle.gf_form.proofs.lemmas.strategies.Lookups.{zip_at, keys_distinct, own_set}
@@ -132,11 +133,12 @@ module _ (g : Game) (game : IsGame g) (player : ℕ) where
   module _ (all : List ℕ) (are : all ≡ steps_after 1 counts) (fits : width counts < 2 ^ 64)
       (strategy : List ℕ) (chosen : AreActions counts strategy) where
     wide : length strategy ≡ length counts
-    wide = sym (AllZip-long (λ action count. (1 ≤ action) × (action ≤ count)) strategy counts chosen)
+    wide = sym (AllZip-long _ strategy counts chosen)
 
     step_is : (key : SetKey) (set : InformationSet) (is : set_at g key ≡ Some set)
         (his : owns key ≡ true)
-        → own_step g player all key ≡ get_or (steps_after 1 counts) (own_among key set is his).place 0
+        → own_step g player all key
+        ≡ get_or (steps_after 1 counts) (own_among key set is his).place 0
     step_is key set is his =
         let here = own_among key set is his in grind (arith, are, here.choice)
 
@@ -146,8 +148,8 @@ module _ (g : Game) (game : IsGame g) (player : ℕ) where
         let here = own_among key set is his in
         grind (arith, zip_at, here.choice, here.count, here.within, wide, length-map)
 
-    own_digits_are : AreDigits g owns (own_step g player all) (choice_at keys strategy) (picked counts counts)
-        (picked counts strategy)
+    own_digits_are : AreDigits g owns (own_step g player all) (choice_at keys strategy)
+        (picked counts counts) (picked counts strategy)
     own_digits_are = record {
       within = fits;
       one_each = as_many_picked counts strategy wide;
@@ -186,7 +188,8 @@ module _ (g : Game) (game : IsGame g) (player : ℕ) where
     enters = choosing visit_handing g owns choices
 
     here : (key : SetKey) (set : InformationSet) → set_at g key ≡ Some set → (b : Bool)
-        → owns key ≡ b → option_map_or (λ visit. visit.set == place) (own_visit g player 0 key) false
+        → owns key ≡ b
+        → option_map_or (λ visit. visit.set == place) (own_visit g player 0 key) false
         ≡ same_set asked key
     here key set is true his =
         let own = own_among key set is his in

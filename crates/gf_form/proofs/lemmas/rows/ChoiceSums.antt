@@ -2,7 +2,8 @@
 use Rattle.gf_form.proofs.Common.{AllByRecursion, AreExactAt, AreMerged, ComeTo}
 use Rattle.gf_form.proofs.Common.{Game, IsExactAt, SettlesAt, Term, Terms}
 use Rattle.gf_form.proofs.Common.{all_both, all_choices, all_images, all_parts, all_terms}
-use Rattle.gf_form.proofs.Common.{all_weaker, append-nil, arith, cases_lt, with_demands, first_terms}
+use Rattle.gf_form.proofs.Common.{all_weaker, append-nil, arith, cases_lt, with_demands}
+use Rattle.gf_form.proofs.Common.{first_terms}
 use Rattle.gf_form.proofs.Common.{get_or, length, lowered, map, map-append, meets, part}
 use Rattle.gf_form.proofs.Common.{product, refl, spans, steps_of, subst, sym}
 use Rattle.gf_form.proofs.Common.{List, ◌++◌, ◌∷◌, [], ℕ, suc, zero, true, ap, ◌≡◌, ◌∙◌, inl, inr}

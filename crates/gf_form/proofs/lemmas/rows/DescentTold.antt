@@ -1,22 +1,22 @@
 -- What a walk meets, given by a walk through branches.
 use Rattle.gf_form.proofs.Common.{append_assoc, at_position, child_trees, player_keys, choice_at, ℕ}
-use Rattle.gf_form.proofs.Common.{Entering, Handing, descent, descent_all, demanding, Option, length}
-use Rattle.gf_form.proofs.Common.{root_node, list_of, arith, eq-eqb, branch, SetKey, Trees, count, []}
-use Rattle.gf_form.proofs.Common.{none, more, Game, Node, List, ◌++◌, Some, None, refl, stop_at, Stop}
-use Rattle.gf_form.proofs.Common.{Tree, IsGame, ◌≡◌, ◌+◌, ◌∷◌, sym, suc, ap, map, map-append, ◌∙◌}
-use Rattle.gf_form.proofs.Common.{option_map, demanded, game_of, tree_of, game_of_branches, stops_left}
-use Rattle.gf_form.proofs.Common.{branches_left, branches_given, Path, path_handing, reached, root_path}
+use Rattle.gf_form.proofs.Common.{Entering, Handing, descent, descent_all, demanding, Option}
+use Rattle.gf_form.proofs.Common.{length, root_node, list_of, arith, eq-eqb, branch, SetKey, Trees}
+use Rattle.gf_form.proofs.Common.{count, [], none, more, Game, Node, List, ◌++◌, Some, None, refl}
+use Rattle.gf_form.proofs.Common.{stop_at, Stop, Tree, IsGame, ◌≡◌, ◌+◌, ◌∷◌, sym, suc, ap, map}
+use Rattle.gf_form.proofs.Common.{map-append, ◌∙◌, option_map, demanded, game_of, tree_of}
+use Rattle.gf_form.proofs.Common.{game_of_branches, stops_left, branches_left, branches_given, Path}
+use Rattle.gf_form.proofs.Common.{path_handing, reached, root_path}
 use Rattle.std.specs.Option.{option_map_or}
 use Rattle.gf_form.specs.inner.rows.Descents.{demands_below}
 use Rattle.gf_form.proofs.lemmas.values.Walks.{trees_of_list, choice_is, choice_there}
 use Rattle.gf_form.proofs.lemmas.strategies.Lookups.{keys_distinct}
 use Rattle.gf_tree.specs.declared.game.branch.Branch.{Branch}
 use Rattle.gf_form.specs.inner.rows.DescentLeft.{below, next_stops, open_stops, open_turns, step_at}
-use Rattle.gf_form.specs.inner.rows.DescentLeft.{steps_by, stops, turns, stops_after}
+use Rattle.gf_form.specs.inner.rows.DescentLeft.{steps_by, stops, turns}
 use Rattle.gf_form.specs.inner.rows.PathsLeft.{node_at}
 use Rattle.gf_form.specs.inner.values.ValueLeft.{trees_of}
 use Rattle.gf_tree.specs.declared.game.branches.Branches.{Branches}
-use Rattle.gf_form.specs.declared.rows.descent.Descent.{Descent}
 use Rattle.gf_form.specs.declared.rows.descent.Open.{Open}
 use Rattle.gf_form.specs.declared.rows.descent.Steps.{Steps}
 use Rattle.gf_form.specs.declared.rows.descent.Steps.TheVariants.{All, Own}
@@ -96,7 +96,8 @@ module _ {S : Type 0} (h : Handing S) (steps : Steps) where
 
 pub last_pushed : {S : Type 0} (h : Handing S) (steps : Steps) (next : Option (Branch × S))
     (os items : List (Open S)) (o : Open S) → next ≡ None → items ≡ os ++ o ∷ []
-    → open_stops h steps o ++ below h steps os [] ≡ next_stops h steps next ++ below h steps items []
+    → open_stops h steps o ++ below h steps os []
+    ≡ next_stops h steps next ++ below h steps items []
 last_pushed h steps next os items o nothing are =
     rw (nothing, are) (sym (below_last h steps os o []))
 
@@ -118,7 +119,8 @@ opened {S} h steps b s key step action rest next os items at here own game trees
     let told = move_told (stop_at g) enter s (tree_of b) key at in
     let first = first_entered stop_at h (λ g. steps_by g steps) g (game_of_branches rest)
     (root_node (tree_of b)) key s (length (child_trees (tree_of b))) step action
-    (branches_given rest) (child_trees (tree_of b)) (branches_left rest) game trees given here own in
+    (branches_given rest) (child_trees (tree_of b)) (branches_left rest) game trees given here own
+    in
     let last = last_pushed h steps next os items
     (record { node = b; rest = rest; state = s; step = step; action = action }) nothing are in
     ap (λ (vs : List (Stop S)). vs ++ below h steps os [])

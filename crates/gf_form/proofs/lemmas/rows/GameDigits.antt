@@ -7,8 +7,8 @@ use Rattle.gf_form.proofs.Common.{AreStepsOf, get_or-map, slice_get, choice_at, 
 use Rattle.gf_form.proofs.Common.{Described, HasDigits, AreDigits, in_order, all_both, product, ◌≡◌}
 use Rattle.gf_form.proofs.Common.{IsGame, set_at, Digits, length, get_or, SetKey, picked, false, []}
 use Rattle.gf_form.proofs.Common.{cond, List, Some, refl, find, Game, Bool, true, suc, ◌-◌, ◌<◌, ℕ}
-use Rattle.gf_form.proofs.Common.{eq-eqb, is_personal, player_keys}
-use Rattle.gf_form.proofs.Common.{◌∷◌, map, sym, ◌∙◌, append-nil, ap, ◌≤◌}
+use Rattle.gf_form.proofs.Common.{eq-eqb, is_personal, player_keys, ◌∷◌, map, sym, ◌∙◌, append-nil}
+use Rattle.gf_form.proofs.Common.{ap}
 use Rattle.gf_form.proofs.lemmas.strategies.Choices.{IsChoice, choice_length, length-all_choices}
 use Rattle.gf_form.proofs.lemmas.strategies.Chosen.{among_his, have_actions, profile_strategies}
 use Rattle.gf_form.proofs.lemmas.strategies.CountedActions.{actions_positive, as_many_players}
@@ -161,7 +161,8 @@ module _ (g : Game) (game : IsGame g) (d : Digits) (values : ℕ) where
     above : (key : SetKey) → is_personal key ≡ true → 0 < key.player
     above key personal = grind (arith, eq-eqb)
 
-    digits_are : AreDigits g is_personal (choices_by g steps) (choices_by g profile) (digit_actions d) choices
+    digits_are : AreDigits g is_personal (choices_by g steps) (choices_by g profile)
+        (digit_actions d) choices
     digits_are = record {
       within = grind arith;
       one_each = choice_length (digit_actions d) choices choice;

@@ -1,15 +1,16 @@
--- The nodes that a walk by demands meets; of these, choices meet the demands of those that a walk by
--- the choices meets.
-use Rattle.gf_form.proofs.Common.{AllByRecursion, InformationSet, sum_of_terms, if◌then◌else◌, []}
+-- Of the nodes that a walk by demands meets, choices meet the demands of those that a walk by the
+-- choices meets.
+use Rattle.gf_form.proofs.Common.{AllByRecursion, InformationSet, if◌then◌else◌, []}
 use Rattle.gf_form.proofs.Common.{mod-eq_of_lt, MatchOption, flatten_all, HasChildren, option_map}
-use Rattle.gf_form.proofs.Common.{append-nil, node_terms, AreExactAt, eqb-false, ne_eqb, AreDigits}
-use Rattle.gf_form.proofs.Common.{all_parts, IsDigitOf, eqb-true, steps_of, demanded, flatten, false}
-use Rattle.gf_form.proofs.Common.{product, Reached, eq-eqb, Option, length, arith, Entering, Handing}
-use Rattle.gf_form.proofs.Common.{get_or, branch, SetKey, set_at, +ℤ_idl, FitsAt, Trees, count, ◌∷◌}
-use Rattle.gf_form.proofs.Common.{meets, spans, Term, zero, Bool, true, List, ◌++◌, subst, ◌*◌, ◌||◌}
-use Rattle.gf_form.proofs.Common.{Some, None, refl, ◌==◌, ◌&&◌, Tree, none, more, Game, Node, Path}
-use Rattle.gf_form.proofs.Common.{suc, ◌+◌, ◌^◌, ◌<◌, ◌≤◌, set, ◌-◌, ◌%◌, ◌≡◌, ℕ, not, ap, sym, ◌∙◌}
-use Rattle.gf_form.proofs.Common.{descent, descent_all, demanding, choosing, comes_by, kept}
+use Rattle.gf_form.proofs.Common.{eqb-false, AreDigits}
+use Rattle.gf_form.proofs.Common.{all_parts, IsDigitOf, eqb-true, steps_of, demanded, flatten}
+use Rattle.gf_form.proofs.Common.{false, eq-eqb, Option, length, arith}
+use Rattle.gf_form.proofs.Common.{Handing, get_or, branch, SetKey, set_at, Trees}
+use Rattle.gf_form.proofs.Common.{count, ◌∷◌, meets, Bool, true, List, ◌++◌}
+use Rattle.gf_form.proofs.Common.{subst, ◌*◌, ◌||◌, Some, None, refl, ◌==◌, ◌&&◌, Tree, none, more}
+use Rattle.gf_form.proofs.Common.{Game, Node, ◌+◌, ◌^◌, ◌≤◌, set, ◌%◌, ◌≡◌, ℕ}
+use Rattle.gf_form.proofs.Common.{not, ap, sym, ◌∙◌, descent, descent_all, demanding, choosing}
+use Rattle.gf_form.proofs.Common.{comes_by, kept}
 use Rattle.std.specs.Option.{option_map_or}
 use Rattle.std.proofs.Math.Nat.{div-zero}
 use Rattle.gf_form.specs.inner.rows.Descents.{demands_below}
@@ -90,8 +91,8 @@ module _ {g : Game} {owns : SetKey → Bool} {steps choose : SetKey → ℕ} {ac
           (digits.several key set is his (eqb-false (steps key) 0 e))
 
   module _ {S R : Type 0} (tell : Node → S → R) (h : Handing S) (free : S → S) (is_met : R → Bool)
-      (freed : R → R) (laws : AreFreed g tell h free is_met freed (meets (steps_of actions) choices))
-      where
+      (freed : R → R)
+      (laws : AreFreed g tell h free is_met freed (meets (steps_of actions) choices)) where
     -- these are left of what is told, if choices meet these digits
     abbrev Keeps : List ℕ → List R → List R → Type 0
     Keeps ds rs fs = kept is_met freed rs ≡ (if met choices ds then fs else [])
@@ -115,7 +116,8 @@ module _ {g : Game} {owns : SetKey → Bool} {steps choose : SetKey → ℕ} {ac
     chosen_by s t = descent tell (choosing h g owns choose) s t
 
     abbrev KeepsTree : Tree Node → Type 0
-    KeepsTree t = (s : S) (ds : List ℕ) → HasDigits s ds → Keeps ds (met_by s t) (chosen_by (free s) t)
+    KeepsTree t = (s : S) (ds : List ℕ) → HasDigits s ds
+        → Keeps ds (met_by s t) (chosen_by (free s) t)
 
     child_kept : (t : Tree Node) (n : Node) (s : S) (ds : List ℕ) (step action k : ℕ) (comes : Bool)
         → KeepsTree t → HasDigits s ds → Leads actions choices ds step action k comes
@@ -164,8 +166,9 @@ module _ {g : Game} {owns : SetKey → Bool} {steps choose : SetKey → ℕ} {ac
       tree_kept (branch n ts) children s ds has =
           node_kept n ts s ds n.set _ _ has children.0 (λ key at.
           let set = set_there g key (count ts) at in
-          subst (λ m. Keeps ds (descent_all tell (demanding h g steps) (demanding h g steps n key m s)
-          1 ts) (descent_all tell (choosing h g owns choose)
+          subst (λ m. Keeps ds
+          (descent_all tell (demanding h g steps) (demanding h g steps n key m s) 1 ts)
+          (descent_all tell (choosing h g owns choose)
           (choosing h g owns choose n key m (free s)) 1 ts)) set.2
           (all_kept ts n key set.0 s ds 1 children.1 set.1 has (omega arith)
           (omega (arith, set.2))))
@@ -188,4 +191,3 @@ module _ {g : Game} {owns : SetKey → Bool} {steps choose : SetKey → ℕ} {ac
           (demanded d (steps key) (length set.actions)) k (comes_by owns choose key k))
           (sym has.0) led))
           (all_kept ts n key set s ds (k + 1) both.1 at has (omega arith) (omega (arith, upto)))
-

@@ -38,7 +38,8 @@ module _ (g : Game) (game : IsGame g) (spellable : IsSpellable g) (choose : SetK
 
   abbrev told_all : (ℕ → Option Path) → ℕ → Trees Node → List Reached
   told_all states k ts =
-      descent_all (λ n path. met_node g path n) (choosing path_handing g is_personal choose) states k ts
+      descent_all (λ n path. met_node g path n) (choosing path_handing g is_personal choose) states
+      k ts
 
   -- the nodes below one of this set, by the path from it on
   abbrev below_followed : Node → Trees Node → Path → SetKey → List Reached

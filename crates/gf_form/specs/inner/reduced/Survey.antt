@@ -1,6 +1,6 @@
 -- The visits of a player in a tree.
-use Rattle.std.specs.Prelude.{ℕ, ◌==◌, ◌++◌, List, [], ◌∷◌, Option, Some, None, if◌then◌else◌, length}
-use Rattle.std.specs.Prelude.{option_and_then}
+use Rattle.std.specs.Prelude.{ℕ, ◌==◌, ◌++◌, List, [], ◌∷◌, Option, Some, None, if◌then◌else◌}
+use Rattle.std.specs.Prelude.{length, option_and_then}
 use Rattle.std.specs.Option.{option_map_or}
 use Rattle.gf_nfg.specs.Profiles.{numbers_from}
 use Rattle.gf_tree.specs.Description.{SetKey}

@@ -11,7 +11,7 @@ use Rattle.gf_tree.specs.Subtrees.{root_node}
 use Rattle.gf_tree.specs.Tree.{Tree}
 use Rattle.gf_tree.specs.declared.game.branch.Branch.{Branch}
 use Rattle.gf_form.specs.inner.values.ValueLeft.{trees_of}
-use Rattle.gf_form.specs.inner.rows.Descents.{Entering, descent, descent_all, demands_below}
+use Rattle.gf_form.specs.inner.rows.Descents.{descent, descent_all, demands_below}
 use Rattle.gf_form.specs.inner.rows.Descents.{Handing, demanding}
 use Rattle.gf_form.specs.Strategies.{choice_at, choices_by, strategy_at}
 use Rattle.gf_form.specs.declared.rows.descent.Descent.{Descent}

@@ -1,6 +1,6 @@
 -- What a walk down a tree meets: each node hands a state to each of its children that is entered.
-use Rattle.std.specs.Prelude.{ℕ, ◌+◌, ◌*◌, ◌/◌, ◌%◌, ◌^◌, ◌==◌, ◌||◌, ◌++◌, not, Bool, List}
-use Rattle.std.specs.Prelude.{[], ◌∷◌, Option, Some, None, if◌then◌else◌, option_map}
+use Rattle.std.specs.Prelude.{ℕ, ◌+◌, ◌*◌, ◌/◌, ◌%◌, ◌^◌, ◌==◌, ◌||◌, ◌++◌, not, Bool, List, []}
+use Rattle.std.specs.Prelude.{◌∷◌, Option, Some, None, if◌then◌else◌, option_map}
 use Rattle.std.specs.Option.{option_map_or}
 use Rattle.gf_tree.specs.Tree.{Tree, Trees, count}
 use Rattle.gf_tree.specs.Tree.Tree.{branch}

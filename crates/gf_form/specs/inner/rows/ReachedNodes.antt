@@ -2,8 +2,8 @@
 -- demands. At a set that is met again below itself, play goes on with the action that is demanded
 -- there. Below a child of probability 0, nothing counts but whether its value is defined; so what a
 -- leaf pays is left out there, and where something is added, the path starts anew.
-use Rattle.std.specs.Prelude.{ℕ, ◌*◌, ◌^◌, ◌==◌, ◌&&◌, ◌||◌, not, Bool, List}
-use Rattle.std.specs.Prelude.{Option, Some, None, false, nat_lt, unsigned_abs, if◌then◌else◌}
+use Rattle.std.specs.Prelude.{ℕ, ◌*◌, ◌^◌, ◌==◌, ◌&&◌, ◌||◌, not, Bool, List, Option, Some, None}
+use Rattle.std.specs.Prelude.{false, nat_lt, unsigned_abs, if◌then◌else◌}
 use Rattle.std.specs.Option.{option_map_or}
 use Rattle.gf_fraction.specs.Ratio.{Ratio}
 use Rattle.gf_tree.specs.Tree.{Tree}

@@ -1,14 +1,13 @@
 -- What the nodes that choices reach add to a player's payoff, over one denominator for all.
-use Rattle.std.specs.Prelude.{Bool, false, true}
-use Rattle.std.specs.Prelude.{◌≡◌, ℕ, ℤ, pos, ◌*◌, ◌/◌, ◌<◌, ◌≤◌, ◌==◌, ◌^◌, ◌*ℤ◌, List, [], ◌∷◌}
-use Rattle.std.specs.Prelude.{Some, unsigned_abs, if◌then◌else◌, length, get_or, map}
+use Rattle.std.specs.Prelude.{Bool, false, true, ◌≡◌, ℕ, ℤ, pos, ◌*◌, ◌/◌, ◌<◌, ◌≤◌, ◌==◌, ◌^◌}
+use Rattle.std.specs.Prelude.{◌*ℤ◌, List, [], ◌∷◌, Some, unsigned_abs, if◌then◌else◌, length}
+use Rattle.std.specs.Prelude.{get_or, map}
 use Rattle.gf_fraction.specs.Ratio.{Ratio}
 use Rattle.gf_nfg.specs.Profiles.{product}
 use Rattle.gf_tree.specs.Description.{SetKey, InformationSet}
 use Rattle.gf_tree.specs.Game.{Game, set_at}
 use Rattle.gf_form.specs.inner.rows.Demands.{spans, steps_of}
-use Rattle.gf_form.specs.inner.rows.TermLists.{AreExactAt, Term, IsExactAt, number_at}
-use Rattle.gf_form.specs.inner.rows.TermLists.{sum_of_terms}
+use Rattle.gf_form.specs.inner.rows.TermLists.{AreExactAt, Term, IsExactAt, number_at, sum_of_terms}
 use Rattle.gf_form.specs.inner.values.Rows.{paid}
 use Rattle.gf_form.specs.declared.rows.paths.Path.{Path}
 use Rattle.gf_form.specs.declared.rows.paths.Reached.{Reached}

@@ -1,4 +1,5 @@
-use Rattle.gf_form.proofs.Common.{◌≡◌, ◌++◌, length, stops_left, visit_handing, visits_by, visits_of}
+use Rattle.gf_form.proofs.Common.{◌≡◌, ◌++◌, length, stops_left, visit_handing, visits_by}
+use Rattle.gf_form.proofs.Common.{visits_of}
 use Rattle.gf_form.proofs.reduced.survey.all_visits.Given as goal
 
 abbrev pub invariant-loop-walk : goal.invariant-loop-walk

@@ -10,8 +10,9 @@ made c =
     let shaped = c.requires.shaped.1 in
     let within = c.requires.within in
     let after = c.in_ok-push_like.ensures in
-    is_pushed c.args.self.now c.push_like.new.self (with_demands c.args.demands (term_at from place))
-    c.requires.shaped.0 (row_in_bound from place shaped within)
+    is_pushed c.args.self.now c.push_like.new.self
+    (with_demands c.args.demands (term_at from place)) c.requires.shaped.0
+    (row_in_bound from place shaped within)
     (row_length from place shaped within ∙ sym c.requires.alike.0) after.alike.0
     (record { kept = after.noted.kept; next = after.noted.next }) after.demands
     after.scaled (ap (λ (v : Vec ℤ Global). v.items) after.numbers
