@@ -284,6 +284,20 @@ def move_beside(actions, sets):
     return tree.game(relevant=True)
 
 
+def slow_sets_beside(slow, sets):
+    """The same beside slower sets of two actions, of which chance picks one."""
+    tree = Tree(2)
+    tree.pays(1, 1, 1)
+    tree.toss(2, ["1/2", "1/2"])
+    tree.toss(3, [f"1/{slow}"] * slow)
+    for number in range(1, slow + 1):
+        tree.move(2, number)
+        tree.end(2, 3, 2)
+        tree.end(2 + number, 5, number)
+    sets_by_chance(tree, sets)
+    return tree.game(relevant=True)
+
+
 def golden():
     """The greatest fraction within the bounds for which Euclid's algorithm takes the most steps."""
     low, high = 1, 1
@@ -343,6 +357,7 @@ SHAPES = {
     "a deep payoff": (partial(deep_payoff, 14), partial(side_by_side, 14)),
     "the largest payoffs of two": (partial(largest_payoffs_of_two, 14), partial(side_by_side, 14)),
     "many demands beside a move": (partial(move_beside, 256, 12), MOST_ROWS),
+    "many demands beside sets": (partial(slow_sets_beside, 8, 12), MOST_ROWS),
     "a golden payoff": (
         partial(paid_at_the_root, 20, golden()),
         partial(paid_at_the_root, 20, Fraction(LARGEST - 1, LARGEST)),

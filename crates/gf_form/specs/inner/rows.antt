@@ -1,6 +1,5 @@
 pub mod ChoiceSums
 pub mod Demands
-pub mod DescentLeft
 pub mod Descents
 pub mod DigitSteps
 pub mod TermLists
@@ -10,7 +9,6 @@ pub mod ItemRows
 pub mod KeptNodes
 pub mod ListedNodes
 pub mod Pairs
-pub mod PathsLeft
 pub mod Paying
 pub mod ProfileRows
 pub mod ReachedNodes

@@ -7,7 +7,7 @@ ghost use Rattle.gf_tree.specs.Subtrees.{root_node};
 ghost use Rattle.gf_form.specs.Strategies.{action_counts};
 ghost use Rattle.gf_form.specs.inner.reduced.Relevance.{FindRelevance};
 ghost use Rattle.gf_form.specs.inner.reduced.Survey.{visit_at, visit_handing, visits_by};
-ghost use Rattle.gf_form.specs.inner.rows.DescentLeft.{stop_at};
+ghost use Rattle.gf_form.specs.inner.rows.Descents.{stop_at};
 ghost use Rattle.gf_form.specs.inner.rows.DigitSteps.{steps_after, width};
 
 use crate::reduced::visits::{Visit, drop_repeats, put_in_order};

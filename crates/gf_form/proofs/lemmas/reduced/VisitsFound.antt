@@ -1,19 +1,18 @@
 -- The visits of a player that a walk through the tree meets show which of his sets are relevant.
 use Rattle.gf_form.proofs.Common.{get_or-numbers_from, unwrap_or-slice_get, same_set_equality, none}
-use Rattle.gf_form.proofs.Common.{list_any-append, InformationSet, AllByRecursion}
-use Rattle.gf_form.proofs.Common.{FindRelevance, more, action_counts, option_map_or}
-use Rattle.gf_form.proofs.Common.{steps_after, numbers_from, slice_get, HasChildren, flatten_all}
-use Rattle.gf_form.proofs.Common.{◌∙◌, AllZip-long, MatchOption, player_keys, player_sets}
-use Rattle.gf_form.proofs.Common.{at_position, AreDistinct, append-nil, AreActions, option_map}
-use Rattle.gf_form.proofs.Common.{length-map, refl, tree_comes, trees_come, eqb-false, own_steps}
-use Rattle.gf_form.proofs.Common.{all_parts, choice_at, own_visit, visit_at, visits_of}
-use Rattle.gf_form.proofs.Common.{visit_handing, is_met_on, list_any, same_set, eqb-true, eq-eqb}
-use Rattle.gf_form.proofs.Common.{flatten, picked, Option, SetKey, set_at, IsGame, branch, has_at}
-use Rattle.gf_form.proofs.Common.{length, ℕ, get_or, width, subst, Trees, ap, count, Visit, true}
-use Rattle.gf_form.proofs.Common.{false, Bool, List, ◌==◌, ◌&&◌, Some, None, ◌||◌, Game, Node}
-use Rattle.gf_form.proofs.Common.{Tree, zero, ◌<◌, ◌≤◌, sym, ◌^◌, arith, meets, kept, ◌≡◌, ◌+◌, suc}
-use Rattle.gf_form.proofs.Common.{◌∷◌, ◌-◌, [], AreDigits, Stop, stop_at, descent, descent_all}
-use Rattle.gf_form.proofs.Common.{choosing, demanding, own_step, visits_by}
+use Rattle.gf_form.proofs.Common.{list_any-append, InformationSet, AllByRecursion, FindRelevance}
+use Rattle.gf_form.proofs.Common.{more, action_counts, option_map_or, steps_after, numbers_from}
+use Rattle.gf_form.proofs.Common.{slice_get, HasChildren, flatten_all, ◌∙◌, AllZip-long}
+use Rattle.gf_form.proofs.Common.{MatchOption, player_keys, player_sets, at_position, AreDistinct}
+use Rattle.gf_form.proofs.Common.{append-nil, AreActions, option_map, length-map, refl, tree_comes}
+use Rattle.gf_form.proofs.Common.{trees_come, eqb-false, own_steps, all_parts, choice_at, own_visit}
+use Rattle.gf_form.proofs.Common.{visit_at, visits_of, visit_handing, is_met_on, list_any, same_set}
+use Rattle.gf_form.proofs.Common.{eqb-true, eq-eqb, flatten, picked, Option, SetKey, set_at, IsGame}
+use Rattle.gf_form.proofs.Common.{branch, has_at, length, ℕ, get_or, width, subst, Trees, ap, count}
+use Rattle.gf_form.proofs.Common.{Visit, true, false, Bool, List, ◌==◌, ◌&&◌, Some, None, ◌||◌}
+use Rattle.gf_form.proofs.Common.{Game, Node, Tree, zero, ◌<◌, ◌≤◌, sym, ◌^◌, arith, meets, kept}
+use Rattle.gf_form.proofs.Common.{◌≡◌, ◌+◌, suc, ◌∷◌, ◌-◌, [], AreDigits, Stop, stop_at, descent}
+use Rattle.gf_form.proofs.Common.{descent_all, choosing, demanding, own_step, visits_by}
 use Rattle.gf_form.proofs.lemmas.rows.DemandDigits.{none_within, no_demands, none_pack, none_met}
 use Rattle.gf_form.proofs.lemmas.rows.DigitPlaces.{as_many_picked, own_alone, own_digit}
 use Rattle.gf_form.proofs.lemmas.strategies.Lookups.{zip_at, keys_distinct, own_set}
@@ -77,21 +76,10 @@ pub ruleset survey_steps = (visit_there, no_visit)
 
 -- ---- the visits whose demands are met
 
--- a node without its demands
-abbrev freed_stop : Stop ℕ → Stop ℕ
-freed_stop v = stop_at v.game v.node 0
-
-abbrev is_met_stop : List ℕ → List ℕ → Stop ℕ → Bool
-is_met_stop steps choices v = meets steps choices v.state
-
-stops_freed : (g : Game) (steps choices : List ℕ) → AreFreed g (stop_at g) visit_handing (λ _. 0)
-    (is_met_stop steps choices) freed_stop (meets steps choices)
-stops_freed g steps choices = record {
-  demands_are = λ n s k d. refl;
-  below_freed = λ n s k d. refl;
-  told_met = λ n s. refl;
-  told_freed = λ n s. refl;
-}
+-- the same without demands
+visits_freed : (g : Game) → AreFreed g visit_handing (λ _. 0)
+visits_freed g =
+    record { demands_are = λ n s k d. refl; below_freed = λ n s k d. refl }
 
 module _ (player place : ℕ) (steps choices : List ℕ) where
   abbrev pub is_at : Stop ℕ → Bool
@@ -105,7 +93,7 @@ module _ (player place : ℕ) (steps choices : List ℕ) where
   one_met g n d (Some key) at = grind arith
 
   all_met : (vs : List (Stop ℕ)) → list_any (is_met_on place steps choices) (visits_of player vs)
-      ≡ list_any is_at (kept (is_met_stop steps choices) freed_stop vs)
+      ≡ list_any is_at (kept (meets steps choices) (λ _. 0) vs)
   all_met [] = refl
   all_met (v ∷ vs) =
       let own = one_met v.game v.node v.state v.node.set refl in
@@ -205,10 +193,10 @@ module _ (g : Game) (game : IsGame g) (player : ℕ) where
         → MatchOption o (count ts ≡ 0)
         (λ key. option_map (λ set. length set.actions) (set_at g key) ≡ Some (count ts))
         → ((key : SetKey) → o ≡ Some key → trees_come choices asked n 1 ts ≡ list_any is_there
-        (descent_all (stop_at g) enters (enters n key (count ts) 0) 1 ts))
+        (descent_all g enters (enters n key (count ts) 0) 1 ts))
         → option_map_or (λ own. same_set asked own || trees_come choices asked n 1 ts) o false
         ≡ list_any is_there (stop_at g n 0 ∷ option_map_or
-        (λ key. descent_all (stop_at g) enters (enters n key (count ts) 0) 1 ts) o [])
+        (λ key. descent_all g enters (enters n key (count ts) 0) 1 ts) o [])
     comes_node n ts None at children below = grind arith
     comes_node n ts (Some key) at children below =
         let set = set_there g key (count ts) children in
@@ -218,13 +206,13 @@ module _ (g : Game) (game : IsGame g) (player : ℕ) where
 
     mutual
       comes : (t : Tree Node) → AllByRecursion (HasChildren g) (flatten t)
-          → tree_comes choices asked t ≡ list_any is_there (descent (stop_at g) enters 0 t)
+          → tree_comes choices asked t ≡ list_any is_there (descent g enters 0 t)
       comes (branch n ts) children = comes_node n ts n.set refl children.0
           (λ key at. comes_below ts n key (count ts) 1 at children.1)
 
       comes_below : (ts : Trees Node) (n : Node) (key : SetKey) (m k : ℕ) → n.set ≡ Some key
           → AllByRecursion (HasChildren g) (flatten_all ts) → trees_come choices asked n k ts
-          ≡ list_any is_there (descent_all (stop_at g) enters (enters n key m 0) k ts)
+          ≡ list_any is_there (descent_all g enters (enters n key m 0) k ts)
       comes_below none n key m k at children = refl
       comes_below (more t ts) n key m k at children =
           let both = all_parts (HasChildren g) (flatten t) (flatten_all ts) children in
@@ -244,10 +232,9 @@ module _ (g : Game) (game : IsGame g) (player : ℕ) where
         let choices = picked counts strategy in
         let found = same (is_met_on place own choices) in
         let met = all_met player place own choices
-        (descent (stop_at g) (demanding visit_handing g (own_step g player all)) 0 g.tree) in
-        let left = tree_kept (own_digits_are all are fits strategy chosen) (stop_at g)
-        visit_handing (λ _. 0) (is_met_stop own choices) freed_stop (stops_freed g own choices)
-        g.tree game.children 0 (no_demands (picked counts counts))
+        (descent g (demanding visit_handing g (own_step g player all)) 0 g.tree) in
+        let left = tree_kept (own_digits_are all are fits strategy chosen) visit_handing
+        (λ _. 0) (visits_freed g) g.tree game.children 0 (no_demands (picked counts counts))
         (sym (none_pack (picked counts counts)), none_within (picked counts counts)) in
         let come = comes (choice_at keys strategy) place key there g.tree game.children in
         let is_relevant = relevant_is g game (choice_at keys strategy) key in

@@ -10,10 +10,10 @@ use Rattle.gf_form.proofs.Common.{false, subst, arith, Ratio, Trees, count, zero
 use Rattle.gf_form.proofs.Common.{◌++◌, Some, None, refl, Tree, none, more, Game, Node, Path, meets}
 use Rattle.gf_form.proofs.Common.{◌+◌, ◌/◌, ◌≤◌, ◌∷◌, sym, [], is_personal, path_handing, comes_by}
 use Rattle.gf_form.proofs.Common.{choosing, descent_all, kept, eq-eqb, ne_eqb, false_from_ne_true}
-use Rattle.gf_form.proofs.Common.{sum_of_terms, node_terms, Term, AreExactAt, +ℤ_idl}
+use Rattle.gf_form.proofs.Common.{sum_of_terms, node_terms, Term, AreExactAt, +ℤ_idl, Stop, node_at}
+use Rattle.gf_form.proofs.Common.{map, map-append, descent, demanding}
 use Rattle.std.specs.Option.{option_map_or}
-use Rattle.gf_form.specs.inner.rows.ReachedNodes.{demanding_path, drawn, is_drawn, met_if, met_node}
-use Rattle.gf_form.specs.inner.rows.ReachedNodes.{is_sum}
+use Rattle.gf_form.specs.inner.rows.ReachedNodes.{demanding_path, drawn, met_if, is_sum}
 use Rattle.gf_form.proofs.lemmas.values.Denominators.{probability_fraction, payoff_fraction}
 use Rattle.gf_form.proofs.lemmas.values.Denominators.{chance_size}
 use Rattle.gf_form.proofs.lemmas.rows.DemandDigits.{none_within, no_demands, none_pack, none_met}
@@ -36,14 +36,13 @@ module _ (g : Game) (game : IsGame g) (spellable : IsSpellable g) (choose : SetK
   abbrev IfFits : Option Ratio → Path → List Reached → Type 0
   IfFits value path rs = FitsAt g player den [] [] rs → IsValued g player den value path rs
 
-  abbrev told_all : (ℕ → Option Path) → ℕ → Trees Node → List Reached
-  told_all states k ts =
-      descent_all (λ n path. met_node g path n) (choosing path_handing g is_personal choose) states
-      k ts
+  abbrev entered : (ℕ → Option Path) → ℕ → Trees Node → List (Stop Path)
+  entered states k ts =
+      descent_all g (choosing path_handing g is_personal choose) states k ts
 
   -- the nodes below one of this set, by the path from it on
-  abbrev below_followed : Node → Trees Node → Path → SetKey → List Reached
-  below_followed n ts path key = told_all
+  abbrev below_followed : Node → Trees Node → Path → SetKey → List (Stop Path)
+  below_followed n ts path key = entered
       (λ k. if comes_by is_personal choose key k then Some (drawn g n path k) else None) 1 ts
 
   abbrev value_below : Node → Trees Node → SetKey → Option Ratio
@@ -55,18 +54,18 @@ module _ (g : Game) (game : IsGame g) (spellable : IsSpellable g) (choose : SetK
   -- what is below a node, on any path that is not idle where chance moves
   abbrev Below : Node → Trees Node → Type 0
   Below n ts = (path : Path) (key : SetKey) → n.set ≡ Some key → (key.player ≡ 0 → 1 ≤ path.bound)
-      → IfFits (value_below n ts key) path (below_followed n ts path key)
+      → IfFits (value_below n ts key) path (map node_at (below_followed n ts path key))
 
   awake_valued : (n : Node) (ts : Trees Node) (path : Path) → 1 ≤ path.bound → Below n ts
       → (o : Option SetKey) → n.set ≡ o
       → IfFits (value_over (payoff_at g player n) o (value_below n ts)) path
       (record { path = path; outcome = paid_at_node g n }
-      ∷ option_map_or (below_followed n ts path) o [])
+      ∷ map node_at (option_map_or (below_followed n ts path) o []))
   awake_valued n ts path some below None at fits =
       leaf_valued _ _ _ _ (paid_is g player n) (payoff_fraction g spellable player n) fits
   awake_valued n ts path some below (Some key) at fits =
       let own : Reached = record { path = path; outcome = paid_at_node g n } in
-      let rs = below_followed n ts path key in
+      let rs = map node_at (below_followed n ts path key) in
       let both = fits_parts _ _ _ (own ∷ []) rs fits in
       sum_valued _ _ _ (own ∷ []) rs some fits
       (leaf_valued _ _ _ own (paid_is g player n) (payoff_fraction g spellable player n) both.0)
@@ -76,8 +75,8 @@ module _ (g : Game) (game : IsGame g) (spellable : IsSpellable g) (choose : SetK
       → (o : Option SetKey) → n.set ≡ o → (idle : Bool) → (path.bound == 0) ≡ idle
       → (adds : Bool) → is_sum_at (paid_at_node g n) o ≡ adds
       → IfFits (value_over (payoff_at g player n) o (value_below n ts)) path
-      (met_if idle adds path (paid_at_node g n) ∷ option_map_or
-      (below_followed n ts (met_if idle adds path (paid_at_node g n)).path) o [])
+      (met_if idle adds path (paid_at_node g n) ∷ map node_at (option_map_or
+      (below_followed n ts (met_if idle adds path (paid_at_node g n)).path) o []))
   node_valued n ts path below o at false idle adds is =
       let above = eqb-false path.bound 0 idle in
       awake_valued n ts path (omega (arith, above)) below o at
@@ -110,24 +109,12 @@ module _ (g : Game) (game : IsGame g) (spellable : IsSpellable g) (choose : SetK
 
   -- none of these children is entered
   none_entered : (states : ℕ → Option Path) (k : ℕ) (ts : Trees Node)
-      → ((j : ℕ) → k ≤ j → states j ≡ None) → told_all states k ts ≡ []
+      → ((j : ℕ) → k ≤ j → states j ≡ None) → entered states k ts ≡ []
   none_entered states k none h = refl
   none_entered states k (more t ts) h =
       let here = h k (omega arith) in
       let later = none_entered states (k + 1) ts (λ j from. h j (omega (arith, from))) in
       grind arith
-
-  -- the paths to the children of a node where chance moves, and where a player does
-  all_drawn : (n : Node) (key : SetKey) (path : Path) (k : ℕ) → n.set ≡ Some key → key.player ≡ 0
-      → (if comes_by is_personal choose key k then Some (drawn g n path k) else None)
-      ≡ Some (by_chance path (chances_at g n k))
-  all_drawn n key path k at chance = grind (arith, at)
-
-  one_taken : (n : Node) (key : SetKey) (path : Path) (k : ℕ) → n.set ≡ Some key
-      → ¬ (key.player ≡ 0)
-      → (if comes_by is_personal choose key k then Some (drawn g n path k) else None)
-      ≡ (if choose key == k then Some path else None)
-  one_taken n key path k at personal = grind (arith, at, false_from_ne_true)
 
   either : (path : Path) (b : Bool) (player : ℕ) → (player == 0) ≡ b → {v w : Option Ratio}
       {rs : List Reached} → (player ≡ 0 → IfFits v path rs)
@@ -141,11 +128,11 @@ module _ (g : Game) (game : IsGame g) (spellable : IsSpellable g) (choose : SetK
     valued (branch n ts) path children =
         node_valued n ts path
         (λ p key at some. either p (key.player == 0) key.player refl
-        (λ chance. lot_valued ts n key 1 p _ [] (λ k. all_drawn n key p k at chance) at chance
+        (λ chance. lot_valued ts n key 1 p _ [] (λ k. grind (arith, at, chance)) at chance
         children.1 (some chance) (zero_valued _ _ _ p [] zero_fraction (λ _. refl) refl))
         (λ personal. let there = chosen n ts key at personal children.0 in
-        action_valued ts (choose key) (choose key) 1 p _ (λ k. one_taken n key p k at personal) refl
-        there.0 there.1 children.1))
+        action_valued ts (choose key) (choose key) 1 p _
+        (λ k. grind (arith, at, false_from_ne_true)) refl there.0 there.1 children.1))
         n.set refl (path.bound == 0) refl (is_sum g n) refl
 
     lot_valued : (ts : Trees Node) (n : Node) (key : SetKey) (k : ℕ) (path : Path)
@@ -154,14 +141,14 @@ module _ (g : Game) (game : IsGame g) (spellable : IsSpellable g) (choose : SetK
         → n.set ≡ Some key → key.player ≡ 0 → AllByRecursion (HasChildren g) (flatten_all ts)
         → 1 ≤ path.bound → IsValued g player den sum path before
         → IfFits (chance_value g choose player (chances_at g n) k sum ts) path
-        (before ++ told_all states k ts)
+        (before ++ map node_at (entered states k ts))
     lot_valued none n key k path states before each at chance children some h =
         λ fits. rw append-nil h
     lot_valued (more t ts) n key k path states before each at chance children some h =
-        rw (each k) (λ fits.
+        rw (each k, map-append node_at) (λ fits.
         let c = chances_at g n k in
         let xs = followed g choose (by_chance path c) t in
-        let ys = told_all states (k + 1) ts in
+        let ys = map node_at (entered states (k + 1) ts) in
         let both = all_parts (HasChildren g) (flatten t) (flatten_all ts) children in
         let whole = rw (sym (append_assoc before xs ys)) at fits in
         let sums = (fits_parts _ _ _ (before ++ xs) ys whole).0 in
@@ -179,7 +166,7 @@ module _ (g : Game) (game : IsGame g) (spellable : IsSpellable g) (choose : SetK
         → ((j : ℕ) → states j ≡ (if action == j then Some path else None))
         → action + 1 ≡ position + k → 1 ≤ position → position ≤ count ts
         → AllByRecursion (HasChildren g) (flatten_all ts)
-        → IfFits (child_value g choose player position ts) path (told_all states k ts)
+        → IfFits (child_value g choose player position ts) path (map node_at (entered states k ts))
     action_valued (more t ts) (suc zero) action k path states each at some within children =
         let here : states k ≡ Some path = grind (arith, each, eq-eqb) in
         let later = none_entered states (k + 1) ts (λ j from. grind (arith, each, ne_eqb)) in
@@ -197,62 +184,33 @@ module _ (g : Game) (game : IsGame g) (spellable : IsSpellable g) (choose : SetK
 
 -- a path without its demands
 abbrev freed : Path → Path
-freed path =
-    record { weight = path.weight; bound = path.bound; den = path.den; demands = 0 }
+freed path = demanding_path path 0
 
-abbrev freed_node : Reached → Reached
-freed_node r = record { path = freed r.path; outcome = r.outcome }
-
--- whether choices, one for each digit, meet the demands of a node
-abbrev is_met_at : List ℕ → List ℕ → Reached → Bool
-is_met_at steps choices r = meets steps choices r.path.demands
-
-abbrev met_nodes : List ℕ → List ℕ → List Reached → List Reached
-met_nodes steps choices rs = kept (is_met_at steps choices) freed_node rs
-
-paths_freed : (g : Game) (steps choices : List ℕ) → AreFreed g (λ n path. met_node g path n)
-    path_handing freed (is_met_at steps choices) freed_node (meets steps choices)
-paths_freed g steps choices = record {
-  demands_are = λ n path k d. demands_are n path k d (is_drawn n);
-  below_freed = λ n path k d. below_freed n path k d (is_drawn n);
-  told_met = λ n path. refl;
-  told_freed = λ n path. refl;
-}
-  where
-    onward_with : Node → Path → ℕ → Path
-    onward_with n path d = demanding_path (met_node g path n).path d
-
-    demands_are : (n : Node) (path : Path) (k d : ℕ) (b : Bool)
-        → (if b then by_chance (onward_with n path d) (chances_at g n k)
-        else onward_with n path d).demands ≡ d
-    demands_are n path k d b = grind arith
-
-    below_freed : (n : Node) (path : Path) (k d : ℕ) (b : Bool)
-        → freed (if b then by_chance (onward_with n path d) (chances_at g n k)
-        else onward_with n path d)
-        ≡ (if b then by_chance (onward_with n (freed path) 0) (chances_at g n k)
-        else onward_with n (freed path) 0)
-    below_freed n path k d true = refl
-    below_freed n path k d false = refl
+paths_freed : (g : Game) → AreFreed g path_handing freed
+paths_freed g =
+    record { demands_are = λ n path k d. grind arith; below_freed = λ n path k d. grind arith }
 
 -- what the nodes that are met come to
 module _ (g : Game) (player den : ℕ) (steps choices : List ℕ) where
-  abbrev terms : List Reached → List Term
-  terms rs = node_terms g player rs
+  abbrev terms : List (Stop Path) → List Term
+  terms vs = node_terms g player (map node_at vs)
 
-  met_sum : (k : ℕ) (rs : List Reached) → sum_of_terms k den steps choices (terms rs)
-      ≡ sum_of_terms k den [] [] (terms (met_nodes steps choices rs))
+  abbrev met_stops : List (Stop Path) → List (Stop Path)
+  met_stops vs = kept (λ path. meets steps choices path.demands) freed vs
+
+  met_sum : (k : ℕ) (vs : List (Stop Path)) → sum_of_terms k den steps choices (terms vs)
+      ≡ sum_of_terms k den [] [] (terms (met_stops vs))
   met_sum k [] = refl
-  met_sum k (r ∷ rs) = grind (arith, met_sum k rs, +ℤ_idl)
+  met_sum k (v ∷ vs) = grind (arith, met_sum k vs, +ℤ_idl)
 
-  met_exact : (rs : List Reached) → AreExactAt den steps choices (terms rs)
-      → AreExactAt den [] [] (terms (met_nodes steps choices rs))
+  met_exact : (vs : List (Stop Path)) → AreExactAt den steps choices (terms vs)
+      → AreExactAt den [] [] (terms (met_stops vs))
   met_exact [] h = h
-  met_exact (r ∷ rs) h = grind (arith, met_exact rs h.1)
+  met_exact (v ∷ vs) h = grind (arith, met_exact vs h.1)
 
-  met_fits : (rs : List Reached) → FitsAt g player den steps choices rs
-      → FitsAt g player den [] [] (met_nodes steps choices rs)
-  met_fits rs h = grind (arith, met_sum, met_exact)
+  met_fits : (vs : List (Stop Path)) → FitsAt g player den steps choices (map node_at vs)
+      → FitsAt g player den [] [] (map node_at (met_stops vs))
+  met_fits vs h = grind (arith, met_sum, met_exact)
 
 -- the player counts from 1
 pub reached_value : (g : Game) → IsGame g → IsSpellable g → (steps choose : SetKey → ℕ)
@@ -263,14 +221,14 @@ pub reached_value : (g : Game) → IsGame g → IsSpellable g → (steps choose 
     × HasValue v (sum_of_shares g player den (steps_of actions) choices
     (reached g steps root_path g.tree)) den
 reached_value g game spellable steps choose actions choices digits player den fits =
-    let rs = reached g steps root_path g.tree in
-    let left = tree_kept digits (λ n path. met_node g path n) path_handing freed _ freed_node
-    (paths_freed g (steps_of actions) choices) g.tree game.children root_path (no_demands actions)
-    (sym (none_pack actions), none_within actions) in
-    let same : met_nodes (steps_of actions) choices rs ≡ followed g choose root_path g.tree =
+    let vs = descent g (demanding path_handing g steps) root_path g.tree in
+    let fs = descent g (choosing path_handing g is_personal choose) root_path g.tree in
+    let left = tree_kept digits path_handing freed (paths_freed g) g.tree game.children root_path
+    (no_demands actions) (sym (none_pack actions), none_within actions) in
+    let same : met_stops g player den (steps_of actions) choices vs ≡ fs =
     grind (arith, none_met) in
     let whole = valued g game spellable choose digits.chosen player den g.tree root_path
-    game.children (subst (FitsAt g player den [] []) same
-    (met_fits g player den (steps_of actions) choices rs fits)) in
-    let sums = met_sum g player den (steps_of actions) choices 1 rs in
+    game.children (subst (λ vs. FitsAt g player den [] [] (map node_at vs)) same
+    (met_fits g player den (steps_of actions) choices vs fits)) in
+    let sums = met_sum g player den (steps_of actions) choices 1 vs in
     let over : den / 1 ≡ den = omega arith in grind arith

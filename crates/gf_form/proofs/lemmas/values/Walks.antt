@@ -8,8 +8,7 @@ use Rattle.gf_form.proofs.Common.{one_ratio, root_node, choice_at, zero_ratio, s
 use Rattle.gf_form.proofs.Common.{[], flatten, payoff_at, IsGame, set_at, plus_of, game_of, tree_of}
 use Rattle.gf_form.proofs.Common.{has_at, length, Option, Global, eq-eqb, branch, Action, SetKey, ℕ}
 use Rattle.gf_form.proofs.Common.{Ratio, arith, List, ◌++◌, value, Some, None, zero, refl, Tree, ap}
-use Rattle.gf_form.proofs.Common.{suc, none, more, Game, ◌+◌, Node, ◌<◌, ◌∷◌, map, Vec, ◌∙◌}
-use Rattle.gf_form.proofs.Common.{sym}
+use Rattle.gf_form.proofs.Common.{suc, none, more, Game, ◌+◌, Node, ◌<◌, ◌∷◌, map, Vec, ◌∙◌, sym}
 use Rattle.std.proofs.Common.{reverse}
 use Rattle.std.proofs.lemmas.List.Sums.{sum_by_push}
 use Rattle.std.proofs.lemmas.List.{reverse-append}

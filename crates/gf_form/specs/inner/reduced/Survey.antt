@@ -7,8 +7,7 @@ use Rattle.gf_tree.specs.Description.{SetKey}
 use Rattle.gf_tree.specs.Game.{Game}
 use Rattle.gf_tree.specs.KeysInOrder.{player_keys}
 use Rattle.gf_form.specs.Strategies.{choice_at}
-use Rattle.gf_form.specs.inner.rows.DescentLeft.{Stop, own_step, stop_at}
-use Rattle.gf_form.specs.inner.rows.Descents.{Handing, demanding, descent}
+use Rattle.gf_form.specs.inner.rows.Descents.{own_step, Handing, Stop, demanding, descent}
 use Rattle.gf_form.specs.declared.reduced.visits.Visit.{Visit}
 
 -- a walk hands demands down as they are
@@ -38,4 +37,4 @@ visits_of player (v ∷ vs) =
 abbrev pub visits_by : Game → ℕ → List ℕ → List Visit
 visits_by g player steps =
     visits_of player
-    (descent (stop_at g) (demanding visit_handing g (own_step g player steps)) 0 g.tree)
+    (descent g (demanding visit_handing g (own_step g player steps)) 0 g.tree)

@@ -1,31 +1,54 @@
--- What a walk down a tree meets: each node hands a state to each of its children that is entered.
+-- What a walk down a tree meets, and what is left of it while the walk goes on: each node hands a
+-- state to each of its children that is entered.
 use Rattle.std.specs.Prelude.{ℕ, ◌+◌, ◌*◌, ◌/◌, ◌%◌, ◌^◌, ◌==◌, ◌||◌, ◌++◌, not, Bool, List, []}
-use Rattle.std.specs.Prelude.{◌∷◌, Option, Some, None, if◌then◌else◌, option_map}
+use Rattle.std.specs.Prelude.{◌∷◌, Option, Some, None, if◌then◌else◌, option_map, suc, length, map}
+use Rattle.std.specs.Prelude.{unwrap_or}
 use Rattle.std.specs.Option.{option_map_or}
 use Rattle.gf_tree.specs.Tree.{Tree, Trees, count}
 use Rattle.gf_tree.specs.Tree.Tree.{branch}
 use Rattle.gf_tree.specs.Tree.Trees.{none, more}
 use Rattle.gf_tree.specs.Description.{SetKey}
 use Rattle.gf_tree.specs.Game.{Game, Node}
+use Rattle.gf_token.specs.Positions.{at_position}
+use Rattle.gf_tree.specs.Branches.{game_of, tree_of}
+use Rattle.gf_tree.specs.BranchesLeft.{branches_given, branches_left, game_of_branches}
+use Rattle.gf_tree.specs.KeysInOrder.{player_keys}
+use Rattle.gf_tree.specs.Subtrees.{root_node}
+use Rattle.gf_tree.specs.declared.game.branch.Branch.{Branch}
+use Rattle.gf_form.specs.inner.values.ValueLeft.{trees_of}
+use Rattle.gf_form.specs.Strategies.{choice_at, choices_by, strategy_at}
+use Rattle.gf_form.specs.declared.rows.descent.Descent.{Descent}
+use Rattle.gf_form.specs.declared.rows.descent.Open.{Open}
+use Rattle.gf_form.specs.declared.rows.descent.Steps.{Steps}
+use Rattle.gf_form.specs.declared.rows.descent.Steps.TheVariants.{All, Own}
 
 -- what a node of this set, with so many children, hands from its state to the child at a position;
 -- none if it is not entered
 abbrev pub Entering : Type 0 → Type 0
 Entering S = Node → SetKey → ℕ → S → ℕ → Option S
 
-abbrev mutual
-  -- what is told of the nodes in prefix order, by their states
-  pub descent : {S R : Type 0} → (Node → S → R) → Entering S → S → Tree Node → List R
-  descent tell enter s (branch n ts) = tell n s
-      ∷ option_map_or (λ key. descent_all tell enter (enter n key (count ts) s) 1 ts) n.set []
+-- a node that a walk meets, and its state
+pub record Stop (S : Type 0) : Type 0 where
+  pub game : Game
+  pub node : Node
+  pub state : S
 
-  -- of those in these children, by the state of each; the first one has position k
-  pub descent_all : {S R : Type 0} → (Node → S → R) → Entering S → (ℕ → Option S) → ℕ → Trees Node
-      → List R
-  descent_all tell enter states k none = []
-  descent_all tell enter states k (more t ts) =
-      option_map_or (λ s. descent tell enter s t) (states k) []
-      ++ descent_all tell enter states (k + 1) ts
+abbrev pub stop_at : {S : Type 0} → Game → Node → S → Stop S
+stop_at g n s = record { game = g; node = n; state = s }
+
+abbrev mutual
+  -- the nodes that are entered in prefix order, with their states
+  pub descent : {S : Type 0} → Game → Entering S → S → Tree Node → List (Stop S)
+  descent g enter s (branch n ts) = stop_at g n s
+      ∷ option_map_or (λ key. descent_all g enter (enter n key (count ts) s) 1 ts) n.set []
+
+  -- those in these children, by the state of each; the first one has position k
+  pub descent_all : {S : Type 0} → Game → Entering S → (ℕ → Option S) → ℕ → Trees Node
+      → List (Stop S)
+  descent_all g enter states k none = []
+  descent_all g enter states k (more t ts) =
+      option_map_or (λ s. descent g enter s t) (states k) []
+      ++ descent_all g enter states (k + 1) ts
 
 -- the action that is demanded at the digit with this step, if there are this many actions; 0 if any
 -- will do
@@ -60,8 +83,73 @@ abbrev pub choosing : {S : Type 0} → Handing S → Game → (SetKey → Bool) 
 choosing h g owns choose n key m s k =
     if comes_by owns choose key k then Some (h.below g n s k (h.demands s)) else None
 
--- what is told of nodes whose demands are met, without these demands
-abbrev pub kept : {R : Type 0} → (R → Bool) → (R → R) → List R → List R
-kept is_met freed [] = []
-kept is_met freed (r ∷ rs) =
-    if is_met r then freed r ∷ kept is_met freed rs else kept is_met freed rs
+-- the nodes whose states pass, without the demands of these
+abbrev pub kept : {S : Type 0} → (S → Bool) → (S → S) → List (Stop S) → List (Stop S)
+kept is_met free [] = []
+kept is_met free (v ∷ vs) =
+    if is_met v.state then stop_at v.game v.node (free v.state) ∷ kept is_met free vs
+    else kept is_met free vs
+
+-- ---- what is left
+
+-- the step of the digit of a player's set at this position, from 1; 0 if there is none
+abbrev pub step_at : Steps → ℕ → ℕ → ℕ
+step_at (All steps) player position =
+    unwrap_or (at_position (strategy_at (map (λ own. own.items) steps.now) player) position) 0
+step_at (Own own steps) player position =
+    if player == own then unwrap_or (at_position steps.now position) 0 else 0
+
+-- the step of the digit of a player's set, if his sets have these; 0 if it is not his
+abbrev pub own_step : Game → ℕ → List ℕ → SetKey → ℕ
+own_step g player steps key =
+    if key.player == player then choice_at (player_keys g player) steps key else 0
+
+-- the same by the set
+abbrev pub steps_by : Game → Steps → SetKey → ℕ
+steps_by g (All steps) key = choices_by g (map (λ own. own.items) steps.now) key
+steps_by g (Own player steps) key = own_step g player steps.now key
+
+-- the nodes of a tree that are met, from this state on
+abbrev pub stops : {S : Type 0} → Handing S → Steps → Game → S → Tree Node → List (Stop S)
+stops h steps g s t = descent g (demanding h g (steps_by g steps)) s t
+
+-- those below the children that are left at an open node
+abbrev pub open_stops : {S : Type 0} → Handing S → Steps → Open S → List (Stop S)
+open_stops h steps o =
+    let g = game_of_branches o.rest in
+    descent_all g (demanding h g (steps_by g steps))
+    (λ k. option_map (h.below (game_of o.node) (root_node (tree_of o.node)) o.state k)
+    (demands_below (h.demands o.state) o.step o.action k))
+    (branches_given o.rest + 1) (trees_of (branches_left o.rest))
+
+-- among the open nodes, the last one comes first
+abbrev pub below : {S : Type 0} → Handing S → Steps → List (Open S) → List (Stop S) → List (Stop S)
+below h steps [] vs = vs
+below h steps (o ∷ os) vs = below h steps os (open_stops h steps o ++ vs)
+
+abbrev pub next_stops : {S : Type 0} → Handing S → Steps → Option (Branch × S) → List (Stop S)
+next_stops h steps None = []
+next_stops h steps (Some next) = stops h steps (game_of next.0) next.1 (tree_of next.0)
+
+-- what the open nodes are followed by
+abbrev pub stops_after : {S : Type 0} → Handing S → Descent S → List (Stop S)
+stops_after h d = below h d.steps d.open.items []
+
+-- all that is left
+abbrev pub stops_left : {S : Type 0} → Handing S → Descent S → List (Stop S)
+stops_left h d = next_stops h d.steps d.next ++ stops_after h d
+
+-- how many turns can come before a node is given
+abbrev pub open_turns : {S : Type 0} → Open S → ℕ
+open_turns o = suc (length (branches_left o.rest))
+
+abbrev pub turns : {S : Type 0} → List (Open S) → ℕ
+turns [] = 0
+turns (o ∷ os) = open_turns o + turns os
+
+abbrev pub turns_before : {S : Type 0} → Option (Branch × S) → List (Open S) → ℕ
+turns_before None os = suc (turns os)
+turns_before (Some next) os = 0
+
+abbrev pub turns_left : {S : Type 0} → Descent S → ℕ
+turns_left d = turns_before d.next d.open.items

@@ -3,16 +3,18 @@
 -- there. Below a child of probability 0, nothing counts but whether its value is defined; so what a
 -- leaf pays is left out there, and where something is added, the path starts anew.
 use Rattle.std.specs.Prelude.{ℕ, ◌*◌, ◌^◌, ◌==◌, ◌&&◌, ◌||◌, not, Bool, List, Option, Some, None}
-use Rattle.std.specs.Prelude.{false, nat_lt, unsigned_abs, if◌then◌else◌}
+use Rattle.std.specs.Prelude.{false, nat_lt, unsigned_abs, if◌then◌else◌, map}
 use Rattle.std.specs.Option.{option_map_or}
 use Rattle.gf_fraction.specs.Ratio.{Ratio}
 use Rattle.gf_tree.specs.Tree.{Tree}
 use Rattle.gf_tree.specs.Description.{SetKey}
 use Rattle.gf_tree.specs.Game.{Game, Node}
-use Rattle.gf_form.specs.inner.rows.Descents.{Handing, choosing, demanding, descent}
+use Rattle.gf_form.specs.inner.rows.Descents.{Handing, Stop, stops_left, choosing, demanding}
+use Rattle.gf_form.specs.inner.rows.Descents.{descent}
 use Rattle.gf_form.specs.inner.values.Rows.{paid_at_node}
 use Rattle.gf_form.specs.inner.values.Values.{chances_at}
 use Rattle.gf_form.specs.declared.rows.paths.Path.{Path}
+use Rattle.gf_form.specs.declared.rows.paths.Paths.{Paths}
 use Rattle.gf_form.specs.declared.rows.paths.Reached.{Reached}
 
 -- whether the numbers of a path still fit after an action of this probability
@@ -87,10 +89,13 @@ path_handing = record {
   below = λ g n path k demands. drawn g n (demanding_path (onward g path n) demands) k;
 }
 
+abbrev pub node_at : Stop Path → Reached
+node_at v = met_node v.game v.state v.node
+
 -- Each set has the step of its digit, or 0 if it has only one action.
 abbrev pub reached : Game → (SetKey → ℕ) → Path → Tree Node → List Reached
 reached g steps path t =
-    descent (λ n path. met_node g path n) (demanding path_handing g steps) path t
+    map node_at (descent g (demanding path_handing g steps) path t)
 
 -- whether a player moves at a set
 abbrev pub is_personal : SetKey → Bool
@@ -99,4 +104,8 @@ is_personal key = not (key.player == 0)
 -- those that choices reach, by the choices alone
 abbrev pub followed : Game → (SetKey → ℕ) → Path → Tree Node → List Reached
 followed g choose path t =
-    descent (λ n path. met_node g path n) (choosing path_handing g is_personal choose) path t
+    map node_at (descent g (choosing path_handing g is_personal choose) path t)
+
+-- what is left of them while a walk gives them
+abbrev pub nodes_left : Paths → List Reached
+nodes_left p = map node_at (stops_left path_handing p.walk)

@@ -1,13 +1,11 @@
-use Rattle.gf_form.proofs.Common.{Vec, Global, ℕ, List, ap, choices_by, map, stops_left}
-use Rattle.gf_form.proofs.Common.{path_handing}
-use Rattle.gf_form.specs.declared.rows.descent.Steps.TheVariants.{All}
-use Rattle.gf_form.proofs.lemmas.rows.DescentTold.{all_told}
+use Rattle.gf_form.proofs.Common.{Vec, Global, ℕ, List, ap, choices_by, map, node_at, reached, Path}
+use Rattle.gf_form.proofs.Common.{◌∙◌}
 use Rattle.gf_form.proofs.rows.paths.Paths.new.Goals as goal
 
 pub returns : goal.returns
 returns c =
-    let steps = λ (all : List (Vec ℕ Global)).
-    choices_by c.args.game.now (map (λ own. own.items) all) in
-    all_told c.args.game.now (All c.deref.result) (steps c.args.digits.now.steps.items)
-    c.root.result (stops_left path_handing c.new.result) (ap steps c.deref.ensures.value)
-    c.root.ensures c.new.ensures
+    let g = c.args.game.now in
+    let by = λ (all : List (Vec ℕ Global)) (path : Path).
+    reached g (choices_by g (map (λ own. own.items) all)) path g.tree in
+    ap (map node_at) c.new.ensures ∙ ap (λ all. by all c.root.result) c.deref.ensures.value
+    ∙ ap (λ path. by c.args.digits.now.steps.items path) c.root.ensures
