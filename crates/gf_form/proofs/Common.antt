@@ -62,13 +62,13 @@ pub use Rattle.gf_form.specs.inner.rows.GameDigits.{digit_actions, actions_at}
 pub use Rattle.gf_form.specs.inner.rows.KeptNodes.{paid_reached, is_paid}
 pub use Rattle.gf_form.specs.inner.rows.ListedNodes.{AreTermsOf}
 pub use Rattle.gf_form.specs.inner.rows.Pairs.{HasPairRow, IsPaidPair, pair_number}
-pub use Rattle.gf_form.specs.inner.rows.ReachedNodes.{nodes_left}
 pub use Rattle.gf_form.specs.inner.rows.ProfileRows.{AreRowsAt}
-pub use Rattle.gf_form.specs.inner.rows.Descents.{own_step, stops, stops_left, stop_at, demanded}
-pub use Rattle.gf_form.specs.inner.rows.Descents.{Entering, Handing, Stop, descent, descent_all}
-pub use Rattle.gf_form.specs.inner.rows.Descents.{choosing, demanding, comes_by, kept}
+pub use Rattle.gf_form.specs.inner.rows.Descents.{own_step, stops_left, stop_at, demanded, Stop}
+pub use Rattle.gf_form.specs.inner.rows.Descents.{Entering, Handing, descent, descent_all, kept}
+pub use Rattle.gf_form.specs.inner.rows.Descents.{choosing, demanding, comes_by}
 pub use Rattle.gf_form.specs.inner.rows.ReachedNodes.{by_chance, is_sum_at, reached, followed}
 pub use Rattle.gf_form.specs.inner.rows.ReachedNodes.{root_path, path_handing, is_personal, node_at}
+pub use Rattle.gf_form.specs.inner.rows.ReachedNodes.{nodes_left}
 pub use Rattle.gf_form.specs.inner.rows.SettledRows.{Settles, SettlesAt, SettleRows, AreWritten}
 pub use Rattle.gf_form.specs.inner.rows.SettledRows.{asked_profiles}
 pub use Rattle.gf_form.specs.inner.rows.Shares.{IsDigitOf, AreDigits, FitsAt, AreExactShares}

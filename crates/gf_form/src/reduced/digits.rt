@@ -1,6 +1,6 @@
 //! The digits of one player's demands: one for each of his sets at which he has several actions.
 
-ghost use Rattle.std.specs.Prelude.{◌≡◌, ◌<◌, ◌^◌, IfOk, get_or};
+ghost use Rattle.std.specs.Prelude.{◌≡◌, ◌<◌, ◌^◌, IfOk};
 ghost use Rattle.gf_nfg.specs.Profiles.{product};
 ghost use Rattle.gf_form.specs.inner.reduced.Levels.{ArePositive};
 ghost use Rattle.gf_form.specs.inner.reduced.OwnDigits.{digits_from};
@@ -31,16 +31,6 @@ pub(crate) fn own_steps(alloc: Global, counts: &[u32]) -> Result<Vec<u64>, Alloc
     let mut digits = Vec::new(alloc);
     let (steps, _) = put_digits(alloc, counts, 1, &mut digits)?.unwrap();
     Ok(steps)
-}
-
-/// The step of the digit of the set at this place; 0 if there is no such set.
-pub(crate) fn step_at(steps: &[u64], place: u32) -> u64
-    ensures { result ≡ get_or steps.now place 0 }
-{
-    match steps.get(place as usize) {
-        Some(step) => *step,
-        None => 0,
-    }
 }
 
 /// The digits of sets with this many actions, from the slowest on, and with these steps.

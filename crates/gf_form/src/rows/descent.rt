@@ -5,10 +5,9 @@ ghost use Rattle.std.specs.Prelude.{OnErr, option_map, vec_capacity, vec_len};
 ghost use Rattle.gf_tree.specs.Branches.{game_of, tree_of};
 ghost use Rattle.gf_tree.specs.BranchesLeft.{branches_given};
 ghost use Rattle.gf_tree.specs.Subtrees.{root_node};
-ghost use Rattle.gf_form.specs.inner.rows.Descents.{open_stops, open_turns, step_at};
-ghost use Rattle.gf_form.specs.inner.rows.Descents.{stops, stops_after, stops_left, turns};
-ghost use Rattle.gf_form.specs.inner.rows.Descents.{turns_left};
-ghost use Rattle.gf_form.specs.inner.rows.Descents.{Handing, demands_below, stop_at};
+ghost use Rattle.gf_form.specs.inner.rows.Descents.{Handing, demands_below, open_stops, open_turns};
+ghost use Rattle.gf_form.specs.inner.rows.Descents.{step_at, stop_at, stops, stops_after};
+ghost use Rattle.gf_form.specs.inner.rows.Descents.{stops_left, turns, turns_left};
 
 use crate::rows::digits::demanded;
 use crate::values::positions::at;

@@ -7,8 +7,7 @@
 ghost use Rattle.std.specs.Prelude.{◌≡◌, [], ◌∷◌, IfOk, MatchOption, map};
 ghost use Rattle.gf_tree.specs.Branches.{game_of, tree_of};
 ghost use Rattle.gf_tree.specs.Subtrees.{root_node};
-ghost use Rattle.gf_form.specs.inner.rows.ReachedNodes.{nodes_left};
-ghost use Rattle.gf_form.specs.inner.rows.ReachedNodes.{by_chance, is_sum, met_node};
+ghost use Rattle.gf_form.specs.inner.rows.ReachedNodes.{by_chance, is_sum, met_node, nodes_left};
 ghost use Rattle.gf_form.specs.inner.rows.ReachedNodes.{reached, root_path};
 ghost use Rattle.gf_form.specs.Strategies.{choices_by};
 

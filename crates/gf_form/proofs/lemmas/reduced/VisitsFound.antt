@@ -78,8 +78,7 @@ pub ruleset survey_steps = (visit_there, no_visit)
 
 -- the same without demands
 visits_freed : (g : Game) → AreFreed g visit_handing (λ _. 0)
-visits_freed g =
-    record { demands_are = λ n s k d. refl; below_freed = λ n s k d. refl }
+visits_freed g = record { demands_are = λ n s k d. refl; below_freed = λ n s k d. refl }
 
 module _ (player place : ℕ) (steps choices : List ℕ) where
   abbrev pub is_at : Stop ℕ → Bool

@@ -62,14 +62,10 @@ among (s ∷ ss) key set is = by (same_set s.key key) refl (among ss key set) is
 
 -- ---- the game
 
--- chance chooses nothing
-no_strategy : (g : Game) (all : List (List ℕ)) (key : SetKey) → key.player ≡ 0
-    → choices_by g all key ≡ 0
-no_strategy g all key chance = grind (arith, at_none (player_keys g key.player) key)
-  where
-    at_none : (keys : List SetKey) (key : SetKey) → choice_at keys [] key ≡ 0
-    at_none [] key = refl
-    at_none (k ∷ keys) key = refl
+-- without a strategy, nothing is chosen
+none_chosen : (keys : List SetKey) (key : SetKey) → choice_at keys [] key ≡ 0
+none_chosen [] key = refl
+none_chosen (k ∷ keys) key = refl
 
 -- a player's set: its place among those of all
 record IsHis (g : Game) (counted : List (List ℕ)) (key : SetKey) (set : InformationSet)
@@ -158,29 +154,26 @@ module _ (g : Game) (game : IsGame g) (d : Digits) (values : ℕ) where
     long : length (in_order profile) ≡ length sets
     long = grind (arith, length-in_order, chosen)
 
-    above : (key : SetKey) → is_personal key ≡ true → 0 < key.player
-    above key personal = grind (arith, eq-eqb)
-
     digits_are : AreDigits g is_personal (choices_by g steps) (choices_by g profile)
         (digit_actions d) choices
     digits_are = record {
       within = grind arith;
       one_each = choice_length (digit_actions d) choices choice;
-      other = λ key none. no_strategy g steps key (grind (arith, eq-eqb));
+      other = λ key none. grind (arith, eq-eqb, none_chosen (player_keys g key.player) key);
       chosen = λ key set is personal. have_actions g game profile
           (profile_strategies g (get_or (full_profiles g) number []) (
             number,
             less,
             get_or_default (full_profiles g) number (get_or (full_profiles g) number []) [] less,
           ))
-          key set is (above key personal);
+          key set is (grind (arith, eq-eqb));
       alone = λ key set is personal none.
-          let h = his key set is (above key personal) in
+          let h = his key set is (grind (arith, eq-eqb)) in
           let few = own_alone sets 1 h.place (omega arith)
           (cc (h.said steps made.as_many, made.each)) in
           omega (arith, few, h.count, h.some_action);
       several = λ key set is personal some.
-          let h = his key set is (above key personal) in
+          let h = his key set is (grind (arith, eq-eqb)) in
           let step : get_or (steps_after 1 sets) h.place 0 ≡ choices_by g steps key =
           cc (h.said steps made.as_many, made.each) in
           let digit = own_digit sets (in_order profile) [] [] 1 h.place refl long h.within

@@ -96,14 +96,9 @@ module _ {g : Game} {owns : SetKey → Bool} {steps choose : SetKey → ℕ} {ac
     abbrev Keeps : List ℕ → List (Stop S) → List (Stop S) → Type 0
     Keeps ds rs fs = keep rs ≡ (if met choices ds then fs else [])
 
-    kept_append : (xs ys : List (Stop S))
-        → keep (xs ++ ys) ≡ keep xs ++ keep ys
+    kept_append : (xs ys : List (Stop S)) → keep (xs ++ ys) ≡ keep xs ++ keep ys
     kept_append [] ys = refl
     kept_append (x ∷ xs) ys = grind (arith, kept_append xs ys)
-
-    both_kept : (ds : List ℕ) (xs ys fs gs : List (Stop S)) → Keeps ds xs fs → Keeps ds ys gs
-        → Keeps ds (xs ++ ys) (fs ++ gs)
-    both_kept ds xs ys fs gs h k = grind (arith, kept_append)
 
     abbrev HasDigits : S → List ℕ → Type 0
     HasDigits s ds = (h.demands s ≡ pack actions ds) × AreWithin actions ds
@@ -171,8 +166,9 @@ module _ {g : Game} {owns : SetKey → Bool} {steps choose : SetKey → ℕ} {ac
       all_kept (more t ts) n key m s ds k children at has from upto =
           let both = all_parts (HasChildren g) (flatten t) (flatten_all ts) children in
           let led = leads_on ds key m k has.1 at from (omega (arith, upto)) in
-          both_kept ds _ _ _ _
-          (child_kept t n s ds (steps key) (demanded (h.demands s) (steps key) m) k
+          let first = child_kept t n s ds (steps key) (demanded (h.demands s) (steps key) m) k
           (comes_by owns choose key k) _ _ (tree_kept t both.0) has (rw (sym has.0) at led) refl
-          refl)
-          (all_kept ts n key m s ds (k + 1) both.1 at has (omega arith) (omega (arith, upto)))
+          refl in
+          let later = all_kept ts n key m s ds (k + 1) both.1 at has (omega arith)
+          (omega (arith, upto)) in
+          grind (arith, kept_append)

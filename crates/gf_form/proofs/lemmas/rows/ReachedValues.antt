@@ -37,8 +37,7 @@ module _ (g : Game) (game : IsGame g) (spellable : IsSpellable g) (choose : SetK
   IfFits value path rs = FitsAt g player den [] [] rs → IsValued g player den value path rs
 
   abbrev entered : (ℕ → Option Path) → ℕ → Trees Node → List (Stop Path)
-  entered states k ts =
-      descent_all g (choosing path_handing g is_personal choose) states k ts
+  entered states k ts = descent_all g (choosing path_handing g is_personal choose) states k ts
 
   -- the nodes below one of this set, by the path from it on
   abbrev below_followed : Node → Trees Node → Path → SetKey → List (Stop Path)

@@ -36,5 +36,4 @@ visits_of player (v ∷ vs) =
 -- those in the whole tree, if the digits of his sets have these steps
 abbrev pub visits_by : Game → ℕ → List ℕ → List Visit
 visits_by g player steps =
-    visits_of player
-    (descent g (demanding visit_handing g (own_step g player steps)) 0 g.tree)
+    visits_of player (descent g (demanding visit_handing g (own_step g player steps)) 0 g.tree)

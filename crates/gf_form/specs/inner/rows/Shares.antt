@@ -79,15 +79,14 @@ pub record IsDigitOf (actions choices : List ℕ) (step count choice : ℕ) : Ty
 -- each of these sets has the step of its digit, or 0 if it has only one action, and all others have
 -- none. All values of all digits are within 64 bits.
 pub record AreDigits (g : Game) (owns : SetKey → Bool) (steps choose : SetKey → ℕ)
-    (actions choices : List ℕ) : Type 0
-  where
-    pub within : product (spans actions) < 2 ^ 64
-    pub one_each : length choices ≡ length actions
-    pub other : (key : SetKey) → owns key ≡ false → steps key ≡ 0
-    pub chosen : (key : SetKey) (set : InformationSet) → set_at g key ≡ Some set
-        → owns key ≡ true → (1 ≤ choose key) × (choose key ≤ length set.actions)
-    pub alone : (key : SetKey) (set : InformationSet) → set_at g key ≡ Some set
-        → owns key ≡ true → steps key ≡ 0 → length set.actions ≡ 1
-    pub several : (key : SetKey) (set : InformationSet) → set_at g key ≡ Some set
-        → owns key ≡ true → ¬ (steps key ≡ 0)
-        → IsDigitOf actions choices (steps key) (length set.actions) (choose key)
+    (actions choices : List ℕ) : Type 0 where
+  pub within : product (spans actions) < 2 ^ 64
+  pub one_each : length choices ≡ length actions
+  pub other : (key : SetKey) → owns key ≡ false → steps key ≡ 0
+  pub chosen : (key : SetKey) (set : InformationSet) → set_at g key ≡ Some set
+      → owns key ≡ true → (1 ≤ choose key) × (choose key ≤ length set.actions)
+  pub alone : (key : SetKey) (set : InformationSet) → set_at g key ≡ Some set
+      → owns key ≡ true → steps key ≡ 0 → length set.actions ≡ 1
+  pub several : (key : SetKey) (set : InformationSet) → set_at g key ≡ Some set
+      → owns key ≡ true → ¬ (steps key ≡ 0)
+      → IsDigitOf actions choices (steps key) (length set.actions) (choose key)
