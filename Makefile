@@ -15,10 +15,9 @@ sources := crates.txt $(shell find crates -name out -prune -o -type f -print)
 
 all: gamefile
 
-# More jobs for gamefile would each load most of the program again.
 gamefile: $(sources)
 	./prove gf_run
-	cd crates/gamefile && $(RT) run --jobs 2 -- --version
+	cd crates/gamefile && $(RT) run --jobs $$(nproc) -- --version
 	cp crates/gamefile/out/gamefile .
 
 run: gamefile

@@ -45,9 +45,8 @@ pub use Rattle.gf_token.specs.declared.fault.Fault.{Fault}
 pub use Rattle.gf_token.specs.declared.fault.Span.{Span}
 pub use Rattle.gf_token.specs.declared.fault.What.TheVariants.{Format}
 pub use Rattle.gf_token.specs.declared.fault.Why.{Why}
-pub use Rattle.gf_token.specs.declared.fault.Why.TheVariants.{Expected, Memory}
-pub use Rattle.gf_token.specs.declared.fault.Why.TheVariants.{TooManyProfiles}
-pub use Rattle.gf_token.specs.declared.fault.Why.TheVariants.{Unterminated}
+pub use Rattle.gf_token.specs.declared.fault.Why.TheVariants.{TooManyProfiles, Unterminated, Memory}
+pub use Rattle.gf_token.specs.declared.fault.Why.TheVariants.{Expected}
 pub use Rattle.gf_tree.proofs.lemmas.games.Canonical.{canonical_is_game, canonical_twice}
 pub use Rattle.gf_tree.proofs.lemmas.games.Canonical.{carries_to_canonical, outcome_numbers_carried}
 pub use Rattle.gf_tree.proofs.lemmas.games.Canonical.{same_by_canonical, set_numbers_carried}
@@ -58,9 +57,8 @@ pub use Rattle.gf_tree.proofs.lemmas.games.FirstUses.{AreDistinct, first_uses_di
 pub use Rattle.gf_tree.proofs.lemmas.games.FirstUses.{is_used, of_filter, was_used}
 pub use Rattle.gf_tree.proofs.lemmas.games.MappedTrees.{held, map_tree_twice}
 pub use Rattle.gf_tree.proofs.lemmas.games.Members.{map_same, map_twice}
-pub use Rattle.gf_tree.proofs.lemmas.games.Renumberings.{Agree, agreed_games, agreed_trees}
-pub use Rattle.gf_tree.proofs.lemmas.games.Renumberings.{outcome_number_positive}
-pub use Rattle.gf_tree.proofs.lemmas.games.Renumberings.{set_number_positive}
+pub use Rattle.gf_tree.proofs.lemmas.games.Renumberings.{outcome_number_positive, agreed_games}
+pub use Rattle.gf_tree.proofs.lemmas.games.Renumberings.{set_number_positive, agreed_trees, Agree}
 pub use Rattle.gf_tree.proofs.lemmas.games.Same.{carried_outcomes, carried_sets, only_outcomes}
 pub use Rattle.gf_tree.proofs.lemmas.games.Same.{only_sets, same_back, same_itself, same_on}
 pub use Rattle.gf_tree.proofs.lemmas.games.TreesOnce.{same_set_equality, spells_one_game}
@@ -76,13 +74,10 @@ pub use Rattle.gf_tree.specs.FileNodes.{file_nodes, node_after, use_after, with_
 pub use Rattle.gf_tree.specs.FileTree.{FileNode, FileTree, Use, outcome_uses, set_uses}
 pub use Rattle.gf_tree.specs.Fills.{Fills}
 pub use Rattle.gf_tree.specs.FiniteMap.{Described, description_at, first_uses}
-pub use Rattle.gf_tree.specs.FirstUse.{first_use_number, first_use_numbers}
-pub use Rattle.gf_tree.specs.KeysInOrder.{outcome_numbers}
-pub use Rattle.gf_tree.specs.FirstUse.{sets_of}
-pub use Rattle.gf_tree.specs.KeysInOrder.{player_keys}
-pub use Rattle.gf_tree.specs.Game.{Game, Node, outcome_at, set_at}
+pub use Rattle.gf_tree.specs.FirstUse.{first_use_numbers, first_use_number, sets_of}
+pub use Rattle.gf_tree.specs.KeysInOrder.{outcome_numbers, player_keys}
+pub use Rattle.gf_tree.specs.Game.{used_outcomes, outcome_at, used_sets, set_at, Game, Node}
 pub use Rattle.gf_tree.specs.IsGame.{HasChildren, IsGame}
-pub use Rattle.gf_tree.specs.Game.{used_outcomes, used_sets}
 pub use Rattle.gf_tree.specs.GameOf.{IsGameOf, SpellsGame, keys_alone}
 pub use Rattle.gf_tree.specs.PrefixOrder.{Listed, flatten}
 pub use Rattle.gf_tree.specs.Renumbering.{HasOutcome, HasSet, IsRenumbering, Renumbering}

@@ -38,25 +38,22 @@ pub use Rattle.gf_form.specs.inner.reduced.Levels.{ArePositive, IsLevel, is_left
 pub use Rattle.gf_form.specs.inner.reduced.Levels.{can_be_met, IsChosen, IsChosenAt}
 pub use Rattle.gf_form.specs.inner.reduced.OwnDigits.{digits_from, own_steps}
 pub use Rattle.gf_form.specs.inner.reduced.Relevance.{FindRelevance}
-pub use Rattle.gf_form.specs.inner.reduced.Search.{AreFirstBelow, AreFoundTo, AreInTurn, IsFine}
-pub use Rattle.gf_form.specs.inner.reduced.Search.{IsFirst, AreLabelledTo, AreOwn, HaveChoices}
-pub use Rattle.gf_form.specs.inner.reduced.Search.{steps_to}
-pub use Rattle.gf_form.specs.inner.reduced.Search.{IsNextBelow, IsSearched, IsToldBy, IsShown}
-pub use Rattle.gf_form.specs.inner.reduced.Search.{actions_of, digit_at, is_relevant_at, is_settled}
-pub use Rattle.gf_form.specs.inner.reduced.Search.{numbered, choices_at}
+pub use Rattle.gf_form.specs.inner.reduced.Search.{is_relevant_at, AreFirstBelow, AreLabelledTo}
+pub use Rattle.gf_form.specs.inner.reduced.Search.{HaveChoices, IsNextBelow, AreFoundTo, IsSearched}
+pub use Rattle.gf_form.specs.inner.reduced.Search.{actions_of, is_settled, choices_at, AreInTurn}
+pub use Rattle.gf_form.specs.inner.reduced.Search.{steps_to, IsToldBy, digit_at, numbered, IsFirst}
+pub use Rattle.gf_form.specs.inner.reduced.Search.{IsShown, IsFine, AreOwn}
 pub use Rattle.gf_form.specs.inner.reduced.Shown.{relevant_sets, shown}
 pub use Rattle.gf_form.specs.inner.reduced.Survey.{own_visit, visit_at, visit_handing, visits_by}
 pub use Rattle.gf_form.specs.inner.reduced.Survey.{visits_of}
 pub use Rattle.gf_form.specs.inner.reduced.Visits.{is_met, is_met_on, AreActions}
 pub use Rattle.gf_form.specs.inner.rows.Demands.{meets, spans, steps_of}
 pub use Rattle.gf_form.specs.inner.rows.DigitSteps.{steps_after, picked, width, in_order}
-pub use Rattle.gf_form.specs.inner.rows.TermLists.{Term, IsScale, IsShaped, IsSumOf, all_terms}
-pub use Rattle.gf_form.specs.inner.rows.TermLists.{first_terms, term_at, scaled_at, no_term}
-pub use Rattle.gf_form.specs.inner.rows.TermLists.{number_at, AreOrdered, EndsBelow, HasSum}
-pub use Rattle.gf_form.specs.inner.rows.TermLists.{with_demands}
-pub use Rattle.gf_form.specs.inner.rows.TermLists.{lowered}
-pub use Rattle.gf_form.specs.inner.rows.TermLists.{IsExactAt, AreExactAt, AreMerged, ComeAsWell}
-pub use Rattle.gf_form.specs.inner.rows.TermLists.{sum_of_terms, AreAlike, AreChosen, part, ComeTo}
+pub use Rattle.gf_form.specs.inner.rows.TermLists.{with_demands, sum_of_terms, first_terms, IsScale}
+pub use Rattle.gf_form.specs.inner.rows.TermLists.{AreOrdered, AreExactAt, ComeAsWell, all_terms}
+pub use Rattle.gf_form.specs.inner.rows.TermLists.{scaled_at, number_at, EndsBelow, IsExactAt, Term}
+pub use Rattle.gf_form.specs.inner.rows.TermLists.{AreMerged, AreChosen, IsShaped, AreAlike, HasSum}
+pub use Rattle.gf_form.specs.inner.rows.TermLists.{IsSumOf, term_at, no_term, lowered, ComeTo, part}
 pub use Rattle.gf_form.specs.inner.rows.GameDigits.{AreDigitsOf, AreStepsOf, HasDigits}
 pub use Rattle.gf_form.specs.inner.rows.GameDigits.{digit_actions, actions_at}
 pub use Rattle.gf_form.specs.inner.rows.KeptNodes.{paid_reached, is_paid}
@@ -100,9 +97,8 @@ pub use Rattle.gf_fraction.proofs.Rationals.{total_above, plus_comm}
 pub use Rattle.gf_fraction.proofs.Sums.{IsLcm-from_gcd}
 pub use Rattle.gf_fraction.proofs.WholeNumbers.{whole_fraction}
 pub use Rattle.gf_fraction.specs.Computed.{product_of, sum_of}
-pub use Rattle.gf_fraction.specs.Sum.{AddsTo, SumFits, IsLcm, IsSum}
+pub use Rattle.gf_fraction.specs.Sum.{scaled_num, SumFits, AddsTo, IsLcm, IsSum}
 pub use Rattle.gf_fraction.specs.Product.{MultipliesTo, IsProduct}
-pub use Rattle.gf_fraction.specs.Sum.{scaled_num}
 pub use Rattle.gf_fraction.specs.Ratio.{Ratio, IsFraction, whole, IsWithin, HasValue}
 pub use Rattle.gf_fraction.specs.Rational.{IsEqual, zero_ratio, one_ratio, times, total, plus}
 pub use Rattle.gf_nfg.proofs.lemmas.tables.NumbersInTurn.{length-numbers_from, get_or-numbers_from}

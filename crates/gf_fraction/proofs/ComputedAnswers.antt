@@ -5,9 +5,8 @@ use Rattle.std.specs.Prelude.{◌≤ℤ◌}
 use Rattle.std.proofs.lemmas.Int.{ints}
 use Rattle.std.proofs.lemmas.Result.{MatchResult-weaker}
 use Rattle.gf_fraction.specs.Ratio.{Ratio}
-use Rattle.gf_fraction.specs.NumberSpelling.{Reading, IsNumber, IsBounded}
+use Rattle.gf_fraction.specs.NumberSpelling.{power_of_ten, IsBounded, IsNumber, Reading, den_of}
 use Rattle.gf_fraction.specs.NoNumber.{Reads}
-use Rattle.gf_fraction.specs.NumberSpelling.{den_of, power_of_ten}
 use Rattle.gf_fraction.specs.NumberScan.{IsValueOf, HasReadingFault, scan}
 use Rattle.gf_fraction.specs.NumberScan.{after_sign, is_minus, reading_of}
 use Rattle.gf_fraction.specs.Computed.{is_bounded, value_of, answer_of, number_of}

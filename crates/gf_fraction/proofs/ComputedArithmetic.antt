@@ -13,9 +13,8 @@ use Rattle.gf_fraction.specs.Product.{IsProduct, ProductFits}
 use Rattle.gf_fraction.specs.Steps.{IsLowest, PartsFit}
 use Rattle.gf_fraction.specs.Computed.{gcd_within, lowest_of, is_within, sum_of, product_of}
 use Rattle.gf_fraction.proofs.Divisors.{HoldsCommon-self, IsLowest-div}
-use Rattle.gf_fraction.proofs.LowestTerms.{IsLowestRatio, IsLowestRatio-fraction, one_fraction}
-use Rattle.gf_fraction.proofs.LowestTerms.{one_lowest, mul_pos_left}
-use Rattle.gf_fraction.proofs.LowestTerms.{reduced_fraction, reduced_value}
+use Rattle.gf_fraction.proofs.LowestTerms.{IsLowestRatio-fraction, reduced_fraction, IsLowestRatio}
+use Rattle.gf_fraction.proofs.LowestTerms.{reduced_value, one_fraction, mul_pos_left, one_lowest}
 use Rattle.gf_fraction.proofs.Integers.{unsigned_abs-signed}
 use Rattle.gf_fraction.proofs.Products.{mul_above}
 use Rattle.gf_fraction.proofs.Sums.{Adding, sum_fits, sum_overflows, sum_value, sum_den_above}

@@ -1,7 +1,6 @@
 -- The digits at the head of a text: their value, how many there are, and what follows them.
-use Rattle.std.proofs.Common.{◌≡◌, ℕ, ◌+◌, ◌-◌, ◌*◌, ◌<◌, ◌≤◌, true}
-use Rattle.std.proofs.Common.{List, [], ◌∷◌, ◌++◌, length, get_or, drop}
-use Rattle.std.proofs.Common.{arith, refl, ap, sym, ◌∙◌, add-one, length-append}
+use Rattle.std.proofs.Common.{length-append, add-one, length, get_or, arith, true, List, ◌++◌, drop}
+use Rattle.std.proofs.Common.{refl, ◌≡◌, ◌+◌, ◌-◌, ◌*◌, ◌<◌, ◌≤◌, ◌∷◌, sym, ◌∙◌, [], ap, ℕ}
 use Rattle.std.specs.Char.{digit_value, is_ascii_digit}
 use Rattle.std.specs.Str.Parse.{digits_value_after}
 use Rattle.std.proofs.lemmas.Bool.Decides.{nat_tests}

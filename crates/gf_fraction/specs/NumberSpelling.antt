@@ -1,7 +1,6 @@
 -- How a text spells a number, and within which bounds (this project's profile).
-use Rattle.std.specs.Prelude.{◌≡◌, ◌⊎◌, ℕ, ℤ, Bool, true, false, List, [], ◌++◌}
-use Rattle.std.specs.Prelude.{length, codes, pos, negsuc}
-use Rattle.std.specs.Prelude.{suc, unsigned_abs, ◌-ℤ◌, ◌≤ℤ◌, ◌*◌, ◌^◌, ◌<◌, ◌≤◌}
+use Rattle.std.specs.Prelude.{unsigned_abs, length, negsuc, false, codes, Bool, true, List, ◌++◌, ℕ}
+use Rattle.std.specs.Prelude.{◌-ℤ◌, ◌≤ℤ◌, ◌≡◌, ◌⊎◌, pos, suc, ◌*◌, ◌^◌, ◌<◌, ◌≤◌, [], ℤ}
 use Rattle.std.specs.Str.Parse.{IsNumeral, digits_value}
 use Rattle.gf_fraction.specs.Ratio.{Ratio, IsFraction, HasValue, signed}
 

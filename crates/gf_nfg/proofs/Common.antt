@@ -73,8 +73,7 @@ unfoldable pub use Rattle.gf_token.specs.Indices.{index_of}
 pub use Rattle.gf_token.specs.Label.{label_of}
 pub use Rattle.gf_token.specs.LabelSpelling.{IsLabel, is_spelling, is_spelling_after}
 pub use Rattle.gf_token.specs.NumberWhy.{why_of}
-pub use Rattle.gf_token.specs.Place.{Begins, IsOffendingPlace, IsSpanOf, MayFollow}
-pub use Rattle.gf_token.specs.Place.{tokens_of}
+pub use Rattle.gf_token.specs.Place.{IsOffendingPlace, MayFollow, tokens_of, IsSpanOf, Begins}
 pub use Rattle.gf_token.specs.Remaining.{AreInOrder, Remaining, StandsBefore}
 pub use Rattle.gf_token.specs.Token.Token.{Bare, Broken, Closing, Comma, Opening, Text}
 pub use Rattle.gf_token.specs.Token.{Lexeme, Token, lexeme}

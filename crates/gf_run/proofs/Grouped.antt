@@ -1,9 +1,7 @@
 -- How a file is put into the group of its hash.
-use Rattle.std.proofs.Common.{◌≡◌, ℕ, suc, ◌+◌, ◌<◌, ◌≤◌, Bool, true, false, not, cond, List, []}
-use Rattle.std.proofs.Common.{◌∷◌}
-use Rattle.std.proofs.Common.{◌++◌, length, map, get_or, set, filter, refl, sym, ap, subst, ◌∙◌}
-use Rattle.std.proofs.Common.{arith}
-use Rattle.std.proofs.Common.{inl, inr}
+use Rattle.std.proofs.Common.{length, get_or, filter, false, subst, arith, Bool, true, cond, List}
+use Rattle.std.proofs.Common.{◌++◌, refl, ◌≡◌, suc, ◌+◌, ◌<◌, ◌≤◌, not, ◌∷◌, map, set, sym, ◌∙◌, []}
+use Rattle.std.proofs.Common.{inl, inr, ap, ℕ}
 use Rattle.std.proofs.lemmas.Bool.{both_ways}
 use Rattle.std.proofs.lemmas.Bool.Decides.{Decides-eqb}
 use Rattle.std.proofs.lemmas.List.{append-nil, get_or-map, length-map, map-append, map-set}

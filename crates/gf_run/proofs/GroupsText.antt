@@ -1,8 +1,7 @@
 -- The text of groups, with one more group.
-use Rattle.std.proofs.Common.{◌≡◌, ℕ, ◌+◌, ◌<◌, ◌≤◌, Bool, true, false, List, [], ◌∷◌, ◌++◌, length}
-use Rattle.std.proofs.Common.{map, filter}
-use Rattle.std.proofs.Common.{codes, refl, sym, ap, ◌∙◌, arith, inl, inr, append_assoc, take}
-use Rattle.std.proofs.Common.{get_or}
+use Rattle.std.proofs.Common.{append_assoc, length, filter, get_or, false, codes, arith, Bool, true}
+use Rattle.std.proofs.Common.{List, ◌++◌, refl, take, ◌≡◌, ◌+◌, ◌<◌, ◌≤◌, ◌∷◌, map, sym, ◌∙◌, inl}
+use Rattle.std.proofs.Common.{inr, [], ap, ℕ}
 use Rattle.std.proofs.lemmas.Bool.{le-ltb, lt-ltb}
 use Rattle.std.proofs.lemmas.Grind.{flat_map-append}
 use Rattle.std.proofs.lemmas.List.{append-nil, get_or-map, length-map, take_more}

@@ -5,8 +5,7 @@ use Rattle.std.specs.Prelude.{not}
 use Rattle.std.proofs.lemmas.Bool.{and_parts}
 use Rattle.std.proofs.lemmas.Bool.Decides.{nat_tests}
 use Rattle.gf_token.specs.LabelSpelling.{is_spelling, is_spelling_after}
-use Rattle.gf_token.specs.EscapedQuotes.{EndsInBackslash}
-use Rattle.gf_token.specs.EscapedQuotes.{EscapesQuotes}
+use Rattle.gf_token.specs.EscapedQuotes.{EndsInBackslash, EscapesQuotes}
 
 -- the last of the bytes after one
 last_of : ℕ → List ℕ → ℕ

@@ -10,9 +10,8 @@ use Rattle.gf_token.specs.Index.{IsPositive}
 use Rattle.gf_token.specs.Token.{Token}
 use Rattle.gf_token.specs.Token.Token.{Bare, Broken}
 use Rattle.gf_token.specs.declared.fault.Why.{Why}
-use Rattle.gf_token.specs.declared.fault.Why.TheVariants.{BadIndex, Expected, NotANumber}
-use Rattle.gf_token.specs.declared.fault.Why.TheVariants.{NumberTooLarge, Unterminated}
-use Rattle.gf_token.specs.declared.fault.Why.TheVariants.{ZeroDenominator}
+use Rattle.gf_token.specs.declared.fault.Why.TheVariants.{ZeroDenominator, NumberTooLarge, BadIndex}
+use Rattle.gf_token.specs.declared.fault.Why.TheVariants.{Unterminated, NotANumber, Expected}
 
 -- for a language
 module _ (IsFile : List Token → Type 0) where

@@ -1,6 +1,5 @@
 -- Which bytes spell which tokens.
-use Rattle.std.specs.Prelude.{◌≡◌, ℕ, ◌+◌, true, false, List}
-use Rattle.std.specs.Prelude.{[], ◌∷◌, ◌++◌, length}
+use Rattle.std.specs.Prelude.{length, false, true, List, ◌++◌, ◌≡◌, ◌+◌, ◌∷◌, [], ℕ}
 use Rattle.std.specs.List.{AllByRecursion}
 use Rattle.gf_token.specs.Byte.{is_space, is_bare}
 use Rattle.gf_token.specs.LabelSpelling.{is_spelling}

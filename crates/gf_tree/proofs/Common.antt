@@ -31,11 +31,10 @@ pub use Rattle.gf_token.specs.declared.fault.Fault.{Fault}
 pub use Rattle.gf_token.specs.declared.fault.Span.{Span}
 pub use Rattle.gf_token.specs.declared.fault.What.{What}
 pub use Rattle.gf_token.specs.declared.fault.Why.{Why}
-pub use Rattle.gf_token.specs.declared.fault.Why.TheVariants.{BadIndex, SumAboveOne, Unterminated}
-pub use Rattle.gf_token.specs.declared.fault.Why.TheVariants.{Expected, SumBelowOne, SumOverflow}
-pub use Rattle.gf_token.specs.declared.fault.Why.TheVariants.{Memory, UnknownPlayer}
-pub use Rattle.gf_token.specs.declared.fault.Why.TheVariants.{Mismatch, NoEntry}
 pub use Rattle.gf_token.specs.declared.fault.Why.TheVariants.{NegativeProbability, TooManyProfiles}
+pub use Rattle.gf_token.specs.declared.fault.Why.TheVariants.{UnknownPlayer, Unterminated, BadIndex}
+pub use Rattle.gf_token.specs.declared.fault.Why.TheVariants.{SumAboveOne, SumBelowOne, SumOverflow}
+pub use Rattle.gf_token.specs.declared.fault.Why.TheVariants.{Expected, Mismatch, NoEntry, Memory}
 pub use Rattle.gf_token.specs.inner.Machine.{placed, ◌>>=◌ as then_run}
 pub use Rattle.gf_tree.specs.Actions.{action_of, actions_of}
 pub use Rattle.gf_tree.specs.Consistent.{AreConsistent, Describes, HasChildrenAsDescribed}
@@ -47,17 +46,13 @@ pub use Rattle.gf_tree.specs.FileNodes.{file_nodes, use_after}
 pub use Rattle.gf_tree.specs.FileTree.{FileNode, FileTree, Use, outcome_uses, set_uses}
 pub use Rattle.gf_tree.specs.Fills.{Fills}
 pub use Rattle.gf_tree.specs.FiniteMap.{Described, description_at, first_uses}
-pub use Rattle.gf_tree.specs.FirstUse.{first_use_number, first_use_numbers}
-pub use Rattle.gf_tree.specs.KeysInOrder.{outcome_numbers}
-pub use Rattle.gf_tree.specs.FirstUse.{sets_of}
-pub use Rattle.gf_tree.specs.KeysInOrder.{player_keys}
-pub use Rattle.gf_tree.specs.Front.{PastOutcomeNumber, PastSetNumber, EndsInNode, InActions}
-pub use Rattle.gf_tree.specs.Front.{InPayoffs, IsExtensiveFile, IsNewOutcome, IsNewSet}
-pub use Rattle.gf_tree.specs.Front.{KnowsOutcome, KnowsSet, ToOutcomeNumber}
-pub use Rattle.gf_tree.specs.Front.{ToProbability, ToSetNumber}
-pub use Rattle.gf_tree.specs.Game.{Game, Node, outcome_at, set_at}
+pub use Rattle.gf_tree.specs.FirstUse.{first_use_numbers, first_use_number, sets_of}
+pub use Rattle.gf_tree.specs.KeysInOrder.{outcome_numbers, player_keys}
+pub use Rattle.gf_tree.specs.Front.{PastOutcomeNumber, IsExtensiveFile, ToOutcomeNumber, EndsInNode}
+pub use Rattle.gf_tree.specs.Front.{PastSetNumber, ToProbability, IsNewOutcome, KnowsOutcome}
+pub use Rattle.gf_tree.specs.Front.{ToSetNumber, InActions, InPayoffs, IsNewSet, KnowsSet}
+pub use Rattle.gf_tree.specs.Game.{used_outcomes, outcome_at, used_sets, set_at, Game, Node}
 pub use Rattle.gf_tree.specs.IsGame.{HasChildren, IsGame}
-pub use Rattle.gf_tree.specs.Game.{used_outcomes, used_sets}
 pub use Rattle.gf_tree.specs.GameCode.{no_node}
 pub use Rattle.gf_tree.specs.GameOf.{IsGameOf, MeansGame, SpellsGame, keys_alone}
 pub use Rattle.gf_tree.specs.Grown.{first, grow, others, root}
@@ -82,9 +77,8 @@ pub use Rattle.gf_tree.specs.Rows.{a_player_name, a_probability, a_set, a_text, 
 pub use Rattle.gf_tree.specs.Rows.{an_opening, an_outcome, no_label, or_comma, or_name, or_text}
 pub use Rattle.gf_tree.specs.Rows.{this_label, this_number}
 pub use Rattle.gf_tree.specs.SameGame.{Carries, SameGame}
-pub use Rattle.gf_tree.specs.Sentence.{IsAction, IsDescription, IsInformationSet, SpellsMover}
-pub use Rattle.gf_tree.specs.Sentence.{IsNode, IsOutcomeDescription, IsResult, IsStep}
-pub use Rattle.gf_tree.specs.Sentence.{Sentence}
+pub use Rattle.gf_tree.specs.Sentence.{IsOutcomeDescription, IsInformationSet, IsDescription}
+pub use Rattle.gf_tree.specs.Sentence.{SpellsMover, IsAction, IsResult, Sentence, IsNode, IsStep}
 pub use Rattle.gf_tree.specs.SomeRow.{IsBeforeRow, IsInHeading, IsInNode}
 pub use Rattle.gf_tree.specs.Spellable.{IsSpellable, IsSpellableAction, IsSpellableOutcome}
 pub use Rattle.gf_tree.specs.Spellable.{IsSpellableSet}

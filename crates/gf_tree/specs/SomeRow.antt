@@ -5,14 +5,12 @@ use Rattle.gf_fraction.specs.Ratio.{Ratio}
 use Rattle.gf_token.specs.Token.{Token}
 use Rattle.gf_token.specs.Token.Token.{Bare}
 use Rattle.gf_tree.specs.Description.{Action, InformationSet, Outcome, SetKey, set_of}
-use Rattle.gf_tree.specs.Front.{PastOutcomeNumber, PastSetNumber, InActions, IsNewOutcome}
-use Rattle.gf_tree.specs.Front.{IsNewSet, KnowsOutcome, KnowsSet, ToProbability}
-use Rattle.gf_tree.specs.Front.{ToSetNumber}
+use Rattle.gf_tree.specs.Front.{PastOutcomeNumber, PastSetNumber, ToProbability, IsNewOutcome}
+use Rattle.gf_tree.specs.Front.{KnowsOutcome, ToSetNumber, InActions, IsNewSet, KnowsSet}
 use Rattle.gf_tree.specs.Reason.{GoesOnWith, HasSum}
-use Rattle.gf_tree.specs.RowPlaces.{PastComment, PastLetter, PastNode, PastOutcomeName}
-use Rattle.gf_tree.specs.RowPlaces.{PastPayoff, PastPlayers, PastSet, PastSetName}
-use Rattle.gf_tree.specs.RowPlaces.{FileFront, InPlayers, ToPayoff, ToPlayerNumber, ToPlayers}
-use Rattle.gf_tree.specs.RowPlaces.{ToTitle}
+use Rattle.gf_tree.specs.RowPlaces.{PastOutcomeName, ToPlayerNumber, PastComment, PastPlayers}
+use Rattle.gf_tree.specs.RowPlaces.{PastSetName, PastLetter, PastPayoff, FileFront, InPlayers}
+use Rattle.gf_tree.specs.RowPlaces.{ToPlayers, PastNode, ToPayoff, PastSet, ToTitle}
 
 -- a row of the heading
 pub data IsInHeading (before : List Token) : Type 0 where

@@ -19,8 +19,7 @@ use Rattle.gf_tree.specs.PrefixOrder.{Listed}
 use Rattle.gf_tree.specs.Told.{used_sets_from, Heading, Told, heading_in, kept_as, told_from}
 use Rattle.gf_tree.specs.Told.{told_node, used_outcomes_from}
 use Rattle.gf_tree.specs.KeptNodes.{AreAmong, IsAmong, Kept, child_count, entries_with, entry_with}
-use Rattle.gf_tree.specs.inner.Machine.{Begun, Content, Position, State, nothing, run}
-use Rattle.gf_tree.specs.inner.Machine.{with_node}
+use Rattle.gf_tree.specs.inner.Machine.{with_node, Position, Content, nothing, Begun, State, run}
 use Rattle.gf_tree.specs.inner.Machine.Position.{Format, NodeDue}
 use Rattle.gf_tree.specs.declared.game.numbered_node.Numbering.TheVariants.{ByFirstUse}
 use Rattle.gf_tree.specs.inner.ReadGame.{game_in}

@@ -1,10 +1,9 @@
 -- If a file is refused in its format, it is refused in the language of both: the first token tells
 -- them apart.
-use Rattle.gf_canon.proofs.Common.{arith, ◌≡◌, ℕ, List, [], ◌∷◌, ◌++◌, refl, sym, ap, ◌∙◌, inl, inr}
-use Rattle.gf_canon.proofs.Common.{codes, map-append, append-nil, tokens_of, IsAccepted}
-use Rattle.gf_canon.proofs.Common.{IsAcceptedThrough, IsOffendingPlace, Token, Lexeme, Spells, Span}
-use Rattle.gf_canon.proofs.Common.{Why, TooManyProfiles, Memory}
-use Rattle.gf_canon.proofs.Common.{BeginsWithWord, IsInEitherFormat, IsPlaced}
+use Rattle.gf_canon.proofs.Common.{IsAcceptedThrough, IsOffendingPlace, IsInEitherFormat, tokens_of}
+use Rattle.gf_canon.proofs.Common.{TooManyProfiles, BeginsWithWord, map-append, append-nil, Lexeme}
+use Rattle.gf_canon.proofs.Common.{IsAccepted, IsPlaced, Spells, Memory, arith, codes, Token, List}
+use Rattle.gf_canon.proofs.Common.{◌++◌, refl, Span, ◌≡◌, ◌∷◌, sym, ◌∙◌, inl, inr, Why, [], ap, ℕ}
 use Rattle.gf_nfg.specs.Sentence.{IsStrategicFile}
 use Rattle.gf_tree.specs.Front.{IsExtensiveFile}
 use Rattle.gf_canon.proofs.lemmas.files.Formats.{begun_word, extensive_word, first_word}

@@ -1,11 +1,10 @@
 -- The first token of a game file names its format, and no file begins with another.
-use Rattle.gf_canon.proofs.Common.{IsSpanOf, ◌≡◌, ◌≢◌, ℕ, false, List, [], ◌∷◌, ◌++◌, length, refl}
-use Rattle.gf_canon.proofs.Common.{sym, ap, ◌∙◌, inr, arith, codes, if◌then◌else◌, pointwise}
-use Rattle.gf_canon.proofs.Common.{map-append, tokens_of, Begins, IsAccepted, refusal, Token}
-use Rattle.gf_canon.proofs.Common.{Lexeme, Bare, Broken, Spells, Span, Format, Why, Unterminated}
-use Rattle.gf_canon.proofs.Common.{Expected, same_tokens, GameFile, SpellsFile, extensive}
-use Rattle.gf_canon.proofs.Common.{strategic, BeginsWithWord, IsFormatReason, IsInEitherFormat}
-use Rattle.gf_canon.proofs.Common.{IsWithoutFormat, nat_eq}
+use Rattle.gf_canon.proofs.Common.{IsInEitherFormat, IsWithoutFormat, BeginsWithWord, if◌then◌else◌}
+use Rattle.gf_canon.proofs.Common.{IsFormatReason, Unterminated, same_tokens, map-append, pointwise}
+use Rattle.gf_canon.proofs.Common.{IsAccepted, SpellsFile, tokens_of, extensive, strategic, refusal}
+use Rattle.gf_canon.proofs.Common.{IsSpanOf, Expected, GameFile, length, Begins, Lexeme, Broken, []}
+use Rattle.gf_canon.proofs.Common.{Spells, Format, nat_eq, false, arith, codes, Token, List, ◌++◌}
+use Rattle.gf_canon.proofs.Common.{refl, Bare, Span, ◌≡◌, ◌≢◌, ◌∷◌, sym, ◌∙◌, inr, Why, ap, ℕ}
 use Rattle.gf_token.specs.Next.{is_bare_token, is_broken, starts}
 use Rattle.gf_token.proofs.Places.{no_file}
 use Rattle.gf_token.proofs.Reading.{begins}

@@ -1,10 +1,9 @@
 -- How a file is refused, by the refusal of its format.
-use Rattle.gf_canon.proofs.Common.{◌≡◌, ℕ, List, ◌∷◌, Err, subst, sym, inl, inr, tokens_of, Token}
-use Rattle.gf_canon.proofs.Common.{Broken, Fault, Span, Why, Expected, Memory, Unterminated, Table}
-use Rattle.gf_canon.proofs.Common.{SpellsTable, Game, SpellsGame, BeginsWithWord, IsFormatReason}
-use Rattle.gf_canon.proofs.Common.{IsPlaced, IsRefusedWith, IsWithoutFormat, GameFile, SpellsWithin}
-use Rattle.gf_canon.proofs.Common.{codes, extensive, strategic, Result, Ok, IfErr, ◌⊎◌}
-use Rattle.gf_canon.proofs.Common.{IsWithinLimit}
+use Rattle.gf_canon.proofs.Common.{IsWithoutFormat, BeginsWithWord, IsFormatReason, IsRefusedWith}
+use Rattle.gf_canon.proofs.Common.{IsWithinLimit, Unterminated, SpellsWithin, SpellsTable, Expected}
+use Rattle.gf_canon.proofs.Common.{SpellsGame, tokens_of, extensive, strategic, IsPlaced, GameFile}
+use Rattle.gf_canon.proofs.Common.{Broken, Memory, Result, subst, Token, Fault, Table, codes, IfErr}
+use Rattle.gf_canon.proofs.Common.{List, Span, Game, ◌≡◌, ◌∷◌, Err, sym, inl, inr, Why, ◌⊎◌, Ok, ℕ}
 use Rattle.gf_canon.specs.Judgement.IsJudged.{of_extensive, of_neither, of_strategic}
 use Rattle.gf_canon.specs.declared.format.Format.{Format}
 use Rattle.gf_canon.specs.declared.format.Format.TheVariants.{Extensive, Strategic}

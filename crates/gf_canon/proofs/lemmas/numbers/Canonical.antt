@@ -1,13 +1,12 @@
 -- The canonical numbers as lists.
-use Rattle.gf_canon.proofs.Common.{◌≡◌, ℕ, zero, suc, ◌+◌, ◌<◌, ◌≤◌, ◌^◌, Bool, List, [], ◌∷◌, ◌++◌}
-use Rattle.gf_canon.proofs.Common.{length, map, get_or, filter, Vec, Global, inl, inr, refl, sym}
-use Rattle.gf_canon.proofs.Common.{ap, ◌∙◌, arith, ◌==◌, AllByRecursion, ne_eqb, Decides-eqb}
-use Rattle.gf_canon.proofs.Common.{get_or-map, length-map, map-append, numbers_from, positions}
-use Rattle.gf_canon.proofs.Common.{InformationSet, SetKey, same_set, Described, first_use_numbers}
-use Rattle.gf_canon.proofs.Common.{outcome_numbers, player_keys, Game, IsGame, used_outcomes}
-use Rattle.gf_canon.proofs.Common.{renumbered, IsSpellable, IsSpellableSet, in_keys, Agree}
-use Rattle.gf_canon.proofs.Common.{agreed_games, same_set_equality, Has, IsEquality, has}
-use Rattle.gf_canon.proofs.Common.{canonical_game, nat_eq}
+use Rattle.gf_canon.proofs.Common.{first_use_numbers, same_set_equality, outcome_numbers, positions}
+use Rattle.gf_canon.proofs.Common.{AllByRecursion, InformationSet, IsSpellableSet, canonical_game}
+use Rattle.gf_canon.proofs.Common.{used_outcomes, numbers_from, agreed_games, Decides-eqb, same_set}
+use Rattle.gf_canon.proofs.Common.{player_keys, IsSpellable, get_or-map, length-map, map-append, []}
+use Rattle.gf_canon.proofs.Common.{renumbered, IsEquality, Described, in_keys, length, get_or, zero}
+use Rattle.gf_canon.proofs.Common.{filter, Global, ne_eqb, SetKey, IsGame, nat_eq, arith, Agree, ap}
+use Rattle.gf_canon.proofs.Common.{Bool, List, ◌++◌, refl, ◌==◌, Game, ◌≡◌, suc, ◌+◌, ◌<◌, ◌≤◌, ◌^◌}
+use Rattle.gf_canon.proofs.Common.{◌∷◌, map, Vec, inl, inr, sym, ◌∙◌, Has, has, ℕ}
 use Rattle.gf_nfg.proofs.lemmas.tables.NumbersInTurn.{get_or-numbers_from, length-numbers_from}
 use Rattle.gf_nfg.proofs.lemmas.tables.NumbersInTurn.{numbers_joined}
 use Rattle.gf_tree.specs.ListedNumbers.{AreListed, AreNumbers, listed_numbers, number_listed}

@@ -1,10 +1,9 @@
 -- Two renumberings that carry a game to another have the same pairs.
-use Rattle.gf_canon.proofs.Common.{◌≡◌, ℕ, suc, List, ◌++◌, ◌∷◌, [], map, refl, length, sym, ◌∙◌}
-use Rattle.gf_canon.proofs.Common.{flat_map, numbers_from, SetKey, outcome_numbers, player_keys}
-use Rattle.gf_canon.proofs.Common.{Game, IsGame, Renumbering, map_twice, Carries}
-use Rattle.gf_canon.proofs.Common.{outcome_numbers_carried, set_numbers_carried, outcome_pairs}
-use Rattle.gf_canon.proofs.Common.{renumbering_pairs, set_numbers, set_pairs, NumberPair, Set}
-use Rattle.gf_canon.proofs.Common.{Outcome}
+use Rattle.gf_canon.proofs.Common.{outcome_numbers_carried, set_numbers_carried, renumbering_pairs}
+use Rattle.gf_canon.proofs.Common.{outcome_numbers, outcome_pairs, numbers_from, player_keys, List}
+use Rattle.gf_canon.proofs.Common.{Renumbering, set_numbers, NumberPair, map_twice, set_pairs, ◌++◌}
+use Rattle.gf_canon.proofs.Common.{flat_map, Carries, Outcome, length, SetKey, IsGame, refl, Game}
+use Rattle.gf_canon.proofs.Common.{◌≡◌, suc, ◌∷◌, map, sym, ◌∙◌, Set, [], ℕ}
 
 module _ (r : Renumbering) (g h : Game) (games : IsGame g × IsGame h) (c : Carries r g h) where
   pub numbers_carried : (player : ℕ)

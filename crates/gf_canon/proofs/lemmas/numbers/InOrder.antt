@@ -1,12 +1,11 @@
 -- Keys in order of first use have the numbers 1, 2 and so on, and so do a player's sets and the
 -- outcomes of a game.
-use Rattle.gf_canon.proofs.Common.{◌≡◌, ◌+◌, ℕ, Bool, List, [], ◌∷◌, ◌++◌, length, map, refl, sym}
-use Rattle.gf_canon.proofs.Common.{◌∙◌, arith, append_assoc, length-append, subst, nat_eq, eqb-true}
-use Rattle.gf_canon.proofs.Common.{Decides-eqb, numbers_from, positions, SetKey, same_set}
-use Rattle.gf_canon.proofs.Common.{first_uses, first_use_number, first_use_numbers, outcome_numbers}
-use Rattle.gf_canon.proofs.Common.{player_keys, sets_of, Game, IsGame, used_outcomes, used_sets}
-use Rattle.gf_canon.proofs.Common.{of_filter, was_used, map_same, same_set_equality, Has}
-use Rattle.gf_canon.proofs.Common.{IsEquality}
+use Rattle.gf_canon.proofs.Common.{first_use_numbers, same_set_equality, first_use_number, eqb-true}
+use Rattle.gf_canon.proofs.Common.{outcome_numbers, length-append, used_outcomes, append_assoc, ◌≡◌}
+use Rattle.gf_canon.proofs.Common.{numbers_from, Decides-eqb, player_keys, first_uses, IsEquality}
+use Rattle.gf_canon.proofs.Common.{positions, used_sets, of_filter, same_set, was_used, map_same, ℕ}
+use Rattle.gf_canon.proofs.Common.{sets_of, length, nat_eq, SetKey, IsGame, arith, subst, Bool, ◌+◌}
+use Rattle.gf_canon.proofs.Common.{List, ◌++◌, refl, Game, ◌∷◌, map, sym, ◌∙◌, Has, []}
 use Rattle.gf_tree.proofs.lemmas.games.FirstUseNumbers.{number_at}
 use Rattle.gf_tree.proofs.lemmas.games.PlayerSets.{sets_by_first_use}
 

@@ -1,13 +1,12 @@
 -- The nodes of a game without its names are its nodes without theirs.
-use Rattle.gf_canon.proofs.Common.{arith, ◌≡◌, List, [], ◌∷◌, ◌++◌, map, Option, Some, None, refl}
-use Rattle.gf_canon.proofs.Common.{sym, ap, ◌∙◌, nat_eq, option_map, filter_map, map-append}
-use Rattle.gf_canon.proofs.Common.{same_set, set_of, file_nodes, node_after, use_after, FileNode}
-use Rattle.gf_canon.proofs.Common.{Use, first_use_number, first_use_numbers, sets_of, Game, Node}
-use Rattle.gf_canon.proofs.Common.{outcome_at, set_at, Listed, flatten, Renumbering, renumbered}
-use Rattle.gf_canon.proofs.Common.{renumbered_node, flatten_map, map_entry, map_tree_twice}
-use Rattle.gf_canon.proofs.Common.{map_twice, canonical_game, node_by, outcome_by, set_by, use_by}
-use Rattle.gf_canon.proofs.Common.{unnamed_game, unnamed_node, Aside, Kept, Names, game_by}
-use Rattle.gf_canon.proofs.Common.{heading_by, heading_in, Bool}
+use Rattle.gf_canon.proofs.Common.{first_use_numbers, first_use_number, renumbered_node, option_map}
+use Rattle.gf_canon.proofs.Common.{map_tree_twice, canonical_game, unnamed_game, unnamed_node, List}
+use Rattle.gf_canon.proofs.Common.{Renumbering, flatten_map, filter_map, map-append, file_nodes, []}
+use Rattle.gf_canon.proofs.Common.{node_after, outcome_at, renumbered, outcome_by, heading_by, ◌++◌}
+use Rattle.gf_canon.proofs.Common.{heading_in, use_after, map_entry, map_twice, same_set, FileNode}
+use Rattle.gf_canon.proofs.Common.{sets_of, flatten, node_by, game_by, Option, nat_eq, set_of, Some}
+use Rattle.gf_canon.proofs.Common.{set_at, Listed, set_by, use_by, arith, Aside, Names, None, refl}
+use Rattle.gf_canon.proofs.Common.{Game, Node, Kept, Bool, ◌≡◌, ◌∷◌, map, sym, ◌∙◌, Use, ap}
 use Rattle.std.proofs.lemmas.Iterator.Adapters.{option_map_id}
 use Rattle.std.proofs.lemmas.List.{map-id}
 use Rattle.gf_canon.proofs.lemmas.sameness.Unnamed.{keys_still, unnamed_outcome_at}

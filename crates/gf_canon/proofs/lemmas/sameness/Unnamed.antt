@@ -1,17 +1,16 @@
 -- Without its names a game is still a game, and games that are the same are also the same aside
 -- from names.
-use Rattle.gf_canon.proofs.Common.{InformationSet, arith, ◌≡◌, ℕ, Bool, List, [], ◌∷◌, length, map}
-use Rattle.gf_canon.proofs.Common.{Option, Some, refl, sym, ap, ◌∙◌, subst, nat_eq, option_map}
-use Rattle.gf_canon.proofs.Common.{MatchOption, ◌↔◌, AllByRecursion, filter_map, cons_option}
-use Rattle.gf_canon.proofs.Common.{IsLabel, Table, Listed, flatten, SetKey, same_set, Described}
-use Rattle.gf_canon.proofs.Common.{description_at, Node, Game, IsGame, HasChildren, used_sets}
-use Rattle.gf_canon.proofs.Common.{used_outcomes, set_at, outcome_at, IsSpellable, Renumbering}
-use Rattle.gf_canon.proofs.Common.{IsRenumbering, renumbered, renumbered_set, renumbered_node}
-use Rattle.gf_canon.proofs.Common.{map_entry, flatten_map, map_twice, map_tree_twice, Carries}
-use Rattle.gf_canon.proofs.Common.{GameFile, SpellsFile, SameFile, canonical_text, extensive}
-use Rattle.gf_canon.proofs.Common.{strategic, unnamed_node, unnamed_set, unnamed_outcome}
-use Rattle.gf_canon.proofs.Common.{unnamed_game, unnamed_table, unnamed, SameAsideNames, all_images}
-use Rattle.gf_canon.proofs.Common.{all_weaker}
+use Rattle.gf_canon.proofs.Common.{renumbered_node, unnamed_outcome, InformationSet, AllByRecursion}
+use Rattle.gf_canon.proofs.Common.{description_at, renumbered_set, map_tree_twice, canonical_text}
+use Rattle.gf_canon.proofs.Common.{SameAsideNames, used_outcomes, IsRenumbering, unnamed_table, ◌≡◌}
+use Rattle.gf_canon.proofs.Common.{unnamed_node, unnamed_game, MatchOption, cons_option, option_map}
+use Rattle.gf_canon.proofs.Common.{HasChildren, IsSpellable, Renumbering, flatten_map, unnamed_set}
+use Rattle.gf_canon.proofs.Common.{filter_map, outcome_at, renumbered, SpellsFile, all_images, Bool}
+use Rattle.gf_canon.proofs.Common.{all_weaker, Described, used_sets, map_entry, map_twice, same_set}
+use Rattle.gf_canon.proofs.Common.{extensive, strategic, GameFile, SameFile, IsLabel, flatten, List}
+use Rattle.gf_canon.proofs.Common.{Carries, unnamed, length, Option, nat_eq, Listed, SetKey, IsGame}
+use Rattle.gf_canon.proofs.Common.{set_at, arith, subst, Table, Some, refl, Node, Game, ◌∷◌, map, ℕ}
+use Rattle.gf_canon.proofs.Common.{sym, ◌∙◌, ◌↔◌, [], ap}
 use Rattle.gf_nfg.specs.SameTable.{SamePlay}
 use Rattle.gf_nfg.proofs.lemmas.texts.OneTable.{text_reads_back as table_reads_back}
 use Rattle.gf_nfg.proofs.lemmas.tables.Spelled.{spelled_is_spellable as spelled_table}

@@ -1,8 +1,7 @@
 -- The texts of two files, with names or without, are equal exactly when the files are the same in
 -- this sense.
-use Rattle.gf_canon.proofs.Common.{◌≡◌, ℕ, List, sym, ◌∙◌, ◌↔◌, GameFile, SpellsFile}
-use Rattle.gf_canon.proofs.Common.{canonical_text, IsTextBy, SpellsWithin, file_by, SameBy, Names}
-use Rattle.gf_canon.proofs.Common.{Aside, Kept}
+use Rattle.gf_canon.proofs.Common.{canonical_text, SpellsWithin, SpellsFile, GameFile, IsTextBy, ℕ}
+use Rattle.gf_canon.proofs.Common.{file_by, SameBy, Names, Aside, List, Kept, ◌≡◌, sym, ◌∙◌, ◌↔◌}
 use Rattle.gf_canon.proofs.lemmas.files.Judged.{text_is}
 use Rattle.gf_canon.proofs.lemmas.files.Texts.{equal_canonical_texts}
 use Rattle.gf_canon.proofs.lemmas.sameness.Unnamed.{equal_texts_aside}

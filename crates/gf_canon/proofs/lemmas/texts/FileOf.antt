@@ -1,16 +1,15 @@
 -- A file tree of each game: each set and each outcome is described at its first use, and not again.
-use Rattle.gf_canon.proofs.Common.{entry_used, in_keys, arith, ◌≡◌, ℕ, zero, suc, ◌+◌, Bool, false}
-use Rattle.gf_canon.proofs.Common.{List, [], ◌∷◌, ◌++◌, map, Option, None, Some, refl, sym, ap}
-use Rattle.gf_canon.proofs.Common.{subst, ◌∙◌, inl, inr, append_assoc, nat_eq, option_map}
-use Rattle.gf_canon.proofs.Common.{filter_map, cons_option, list_any, Decides-eqb, Listed, flatten}
-use Rattle.gf_canon.proofs.Common.{Fills, same_set, Described, description_at, first_uses, Use}
-use Rattle.gf_canon.proofs.Common.{FileNode, FileTree, set_uses, outcome_uses, Describes}
-use Rattle.gf_canon.proofs.Common.{AreConsistent, IsDescribed, IsFirstUse, Node, Game, IsGame}
-use Rattle.gf_canon.proofs.Common.{used_sets, used_outcomes, set_at, outcome_at, keys_alone, Has}
-use Rattle.gf_canon.proofs.Common.{IsEquality, has, contains, has_map, all_of_each, has_place}
-use Rattle.gf_canon.proofs.Common.{found, first_uses_distinct, same_set_equality, map_entry}
-use Rattle.gf_canon.proofs.Common.{flatten_map, map_twice, with_those_before, use_after}
-use Rattle.gf_canon.proofs.Common.{node_after, file_nodes, append-nil}
+use Rattle.gf_canon.proofs.Common.{first_uses_distinct, same_set_equality, with_those_before, arith}
+use Rattle.gf_canon.proofs.Common.{description_at, AreConsistent, used_outcomes, append_assoc, zero}
+use Rattle.gf_canon.proofs.Common.{outcome_uses, cons_option, Decides-eqb, IsDescribed, all_of_each}
+use Rattle.gf_canon.proofs.Common.{flatten_map, entry_used, option_map, filter_map, first_uses, ◌≡◌}
+use Rattle.gf_canon.proofs.Common.{IsFirstUse, outcome_at, keys_alone, IsEquality, node_after, Bool}
+use Rattle.gf_canon.proofs.Common.{file_nodes, append-nil, Described, Describes, used_sets, in_keys}
+use Rattle.gf_canon.proofs.Common.{has_place, map_entry, map_twice, use_after, list_any, same_set}
+use Rattle.gf_canon.proofs.Common.{FileNode, FileTree, set_uses, contains, flatten, has_map, Option}
+use Rattle.gf_canon.proofs.Common.{nat_eq, Listed, IsGame, set_at, false, subst, Fills, found, List}
+use Rattle.gf_canon.proofs.Common.{◌++◌, None, Some, refl, Node, Game, suc, ◌+◌, ◌∷◌, map, sym, ◌∙◌}
+use Rattle.gf_canon.proofs.Common.{inl, inr, Use, Has, has, [], ap, ℕ}
 use Rattle.std.proofs.lemmas.List.Folds.{list_any-append}
 use Rattle.std.proofs.lemmas.List.Elements.{filter_map-append}
 use Rattle.gf_tree.specs.Tree.{map_tree}

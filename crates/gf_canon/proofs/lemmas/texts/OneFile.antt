@@ -1,13 +1,12 @@
 -- A game has one file tree in which exactly the first uses are described.
-use Rattle.gf_canon.proofs.Common.{arith, ◌≡◌, Bool, List, [], ◌∷◌, ◌++◌, Option, Some, None, map}
-use Rattle.gf_canon.proofs.Common.{refl, sym, ap, subst, ◌∙◌, append_assoc, nat_eq, option_map}
-use Rattle.gf_canon.proofs.Common.{if◌then◌else◌, AllByRecursion, cons_option, list_any}
-use Rattle.gf_canon.proofs.Common.{Decides-eqb, map-append, Listed, flatten, same_set, use_after}
-use Rattle.gf_canon.proofs.Common.{Described, description_at, first_uses, Use, FileNode, FileTree}
-use Rattle.gf_canon.proofs.Common.{set_uses, outcome_uses, AreConsistent, Describes, Game}
-use Rattle.gf_canon.proofs.Common.{used_sets, used_outcomes, keys_alone, flatten_map, map_entry}
-use Rattle.gf_canon.proofs.Common.{sets_in_order, outcomes_in_order, same_set_equality, Has}
-use Rattle.gf_canon.proofs.Common.{IsEquality, contains, has_place}
+use Rattle.gf_canon.proofs.Common.{outcomes_in_order, same_set_equality, AllByRecursion, option_map}
+use Rattle.gf_canon.proofs.Common.{description_at, if◌then◌else◌, AreConsistent, used_outcomes, ◌≡◌}
+use Rattle.gf_canon.proofs.Common.{sets_in_order, append_assoc, outcome_uses, cons_option, list_any}
+use Rattle.gf_canon.proofs.Common.{Decides-eqb, flatten_map, map-append, first_uses, keys_alone, []}
+use Rattle.gf_canon.proofs.Common.{IsEquality, use_after, Described, Describes, used_sets, same_set}
+use Rattle.gf_canon.proofs.Common.{map_entry, has_place, FileNode, FileTree, set_uses, contains, ap}
+use Rattle.gf_canon.proofs.Common.{flatten, Option, nat_eq, Listed, arith, subst, Bool, List, ◌++◌}
+use Rattle.gf_canon.proofs.Common.{Some, None, refl, Game, ◌∷◌, map, sym, ◌∙◌, Use, Has}
 use Rattle.gf_tree.proofs.lemmas.games.Learned.{told_found}
 use Rattle.gf_tree.proofs.lemmas.games.Prefix.{flatten_once}
 use Rattle.gf_canon.specs.FirstDescribed.{DescribeFirstUses, IsFileOf}

@@ -1,13 +1,12 @@
 -- The fields of a node's line say the tokens of the node.
-use Rattle.gf_canon.proofs.Common.{◌≡◌, ℕ, zero, suc, ◌^◌, ◌<◌, List, [], ◌∷◌, ◌++◌, map, Option}
-use Rattle.gf_canon.proofs.Common.{Some, None, refl, subst, ◌∙◌, codes, decimal, MatchOption, ⊤}
-use Rattle.gf_canon.proofs.Common.{AllByRecursion, flat_map, option_to_list, flat_map-append}
-use Rattle.gf_canon.proofs.Common.{map-append, append-nil, Token, Text, Bare, IsLabel, IsSpelled}
-use Rattle.gf_canon.proofs.Common.{spaced, list_text, quoted, Action, SetKey, InformationSet, IsSet}
-use Rattle.gf_canon.proofs.Common.{IsOutcome, Use, FileNode, IsSpellableAction, IsSpellableSet}
-use Rattle.gf_canon.proofs.Common.{IsSpellableOutcome, action_fields, set_fields, outcome_fields}
-use Rattle.gf_canon.proofs.Common.{described_fields, mover_fields, step_fields, result_fields}
-use Rattle.gf_canon.proofs.Common.{node_text}
+use Rattle.gf_canon.proofs.Common.{IsSpellableOutcome, IsSpellableAction, described_fields, decimal}
+use Rattle.gf_canon.proofs.Common.{flat_map-append, AllByRecursion, option_to_list, InformationSet}
+use Rattle.gf_canon.proofs.Common.{IsSpellableSet, outcome_fields, action_fields, result_fields, []}
+use Rattle.gf_canon.proofs.Common.{mover_fields, MatchOption, step_fields, map-append, append-nil}
+use Rattle.gf_canon.proofs.Common.{set_fields, IsSpelled, list_text, IsOutcome, node_text, flat_map}
+use Rattle.gf_canon.proofs.Common.{FileNode, IsLabel, Option, spaced, quoted, Action, SetKey, subst}
+use Rattle.gf_canon.proofs.Common.{codes, Token, IsSet, zero, List, ◌++◌, Some, None, refl, Text, ℕ}
+use Rattle.gf_canon.proofs.Common.{Bare, ◌≡◌, suc, ◌^◌, ◌<◌, ◌∷◌, map, ◌∙◌, Use, ⊤}
 use Rattle.gf_fraction.specs.NumberText.{number_text}
 use Rattle.std.specs.Fmt.{digits}
 use Rattle.gf_fraction.specs.Ratio.{Ratio, IsFraction}

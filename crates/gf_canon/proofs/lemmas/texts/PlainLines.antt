@@ -1,12 +1,11 @@
 -- The line of a node that describes nothing, piece by piece.
-use Rattle.gf_canon.proofs.Common.{◌≡◌, ℕ, zero, suc, ◌+◌, ◌<◌, List, [], ◌∷◌, ◌++◌, length, drop}
-use Rattle.gf_canon.proofs.Common.{set, Option, None, Some, refl, ap, append_assoc, false, OnOk}
-use Rattle.gf_canon.proofs.Common.{Result, Ok, Err, ◌≤◌, ◌-◌, arith, take, length-append}
-use Rattle.gf_canon.proofs.Common.{length-drop, drop-set, codes, decimal, set_use_of}
-use Rattle.gf_canon.proofs.Common.{InformationSet, SetKey, FileNode, Use, quoted, spaced}
-use Rattle.gf_canon.proofs.Common.{described_fields, mover_fields, set_fields, mover_letter}
-use Rattle.gf_canon.proofs.Common.{node_line, number_then, plain_line, player_letter, player_then}
-use Rattle.gf_canon.proofs.Common.{tail_text, option_map, is_some}
+use Rattle.gf_canon.proofs.Common.{described_fields, InformationSet, length-append, player_letter}
+use Rattle.gf_canon.proofs.Common.{append_assoc, mover_fields, mover_letter, length-drop, node_line}
+use Rattle.gf_canon.proofs.Common.{number_then, player_then, set_use_of, set_fields, plain_line, []}
+use Rattle.gf_canon.proofs.Common.{option_map, tail_text, drop-set, FileNode, decimal, is_some, ◌≡◌}
+use Rattle.gf_canon.proofs.Common.{length, Option, Result, SetKey, quoted, spaced, false, arith, ap}
+use Rattle.gf_canon.proofs.Common.{codes, zero, List, ◌++◌, drop, None, Some, refl, OnOk, take, suc}
+use Rattle.gf_canon.proofs.Common.{◌+◌, ◌<◌, ◌∷◌, set, Err, ◌≤◌, ◌-◌, Use, Ok, ℕ}
 use Rattle.std.specs.Fmt.{digits}
 use Rattle.std.proofs.Math.Seq.{take-append-add, take-append_seam}
 use Rattle.gf_tree.specs.declared.game.file_node.SetUse.{SetUse}

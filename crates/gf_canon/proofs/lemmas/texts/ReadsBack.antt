@@ -1,14 +1,13 @@
 -- The text of a game spells that game.
-use Rattle.gf_canon.proofs.Common.{first_line, ◌≡◌, ℕ, Bool, true, false, List, [], ◌∷◌, ◌++◌}
-use Rattle.gf_canon.proofs.Common.{length, map, Option, Some, None, refl, sym, ap, subst, inl, inr}
-use Rattle.gf_canon.proofs.Common.{nat_eq, codes, option_map, MatchOption, ⊤, if◌then◌else◌}
-use Rattle.gf_canon.proofs.Common.{AllByRecursion, flat_map, Decides-eqb, Token, Text, Bare}
-use Rattle.gf_canon.proofs.Common.{IsLabel, quoted, Listed, flatten, SetKey, same_set, IsSet}
-use Rattle.gf_canon.proofs.Common.{IsOutcome, FileNode, FileTree, Node, Game, IsGame, used_sets}
-use Rattle.gf_canon.proofs.Common.{used_outcomes, set_at, outcome_at, IsConsistent, IsGameOf}
-use Rattle.gf_canon.proofs.Common.{SpellsGame, IsSpellable, IsSpellableSet, IsSpellableOutcome, Has}
-use Rattle.gf_canon.proofs.Common.{each, found, same_set_equality, held, in_keys, node_after}
-use Rattle.gf_canon.proofs.Common.{file_nodes, node_text, game_text}
+use Rattle.gf_canon.proofs.Common.{IsSpellableOutcome, same_set_equality, AllByRecursion, IsOutcome}
+use Rattle.gf_canon.proofs.Common.{IsSpellableSet, if◌then◌else◌, used_outcomes, IsConsistent, Bool}
+use Rattle.gf_canon.proofs.Common.{MatchOption, Decides-eqb, IsSpellable, first_line, option_map, ℕ}
+use Rattle.gf_canon.proofs.Common.{outcome_at, SpellsGame, node_after, file_nodes, used_sets, false}
+use Rattle.gf_canon.proofs.Common.{node_text, game_text, flat_map, same_set, FileNode, FileTree, []}
+use Rattle.gf_canon.proofs.Common.{IsGameOf, IsLabel, flatten, in_keys, length, Option, nat_eq, ◌≡◌}
+use Rattle.gf_canon.proofs.Common.{quoted, Listed, SetKey, IsGame, set_at, subst, codes, Token, ◌∷◌}
+use Rattle.gf_canon.proofs.Common.{IsSet, found, true, List, ◌++◌, Some, None, refl, Text, Bare, ap}
+use Rattle.gf_canon.proofs.Common.{Node, Game, each, held, map, sym, inl, inr, Has, ⊤}
 use Rattle.gf_token.specs.Grammar.{Each, braced}
 use Rattle.gf_token.proofs.LaidOut.{AreSaid, Says, Tells, both, each_field, empty, fields, label}
 use Rattle.gf_token.proofs.LaidOut.{labels, lines, list, word}

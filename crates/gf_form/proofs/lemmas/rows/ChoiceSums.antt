@@ -1,22 +1,19 @@
 -- Terms that are added up for each choice of an action at each digit.
-use Rattle.gf_form.proofs.Common.{AllByRecursion, AreExactAt, AreMerged, ComeTo}
-use Rattle.gf_form.proofs.Common.{Game, IsExactAt, SettlesAt, Term, Terms}
-use Rattle.gf_form.proofs.Common.{all_both, all_choices, all_images, all_parts, all_terms}
-use Rattle.gf_form.proofs.Common.{all_weaker, append-nil, arith, cases_lt, with_demands}
-use Rattle.gf_form.proofs.Common.{first_terms}
-use Rattle.gf_form.proofs.Common.{get_or, length, lowered, map, map-append, meets, part}
-use Rattle.gf_form.proofs.Common.{product, refl, spans, steps_of, subst, sym}
-use Rattle.gf_form.proofs.Common.{List, ◌++◌, ◌∷◌, [], ℕ, suc, zero, true, ap, ◌≡◌, ◌∙◌, inl, inr}
-use Rattle.gf_form.proofs.Common.{◌+◌, ◌-◌, ◌*◌, ◌<◌, ◌≤◌, ◌⊎◌, mul-le-mul_right}
+use Rattle.gf_form.proofs.Common.{mul-le-mul_right, AllByRecursion, with_demands, all_choices, Game}
+use Rattle.gf_form.proofs.Common.{first_terms, AreExactAt, all_images, all_weaker, append-nil, Term}
+use Rattle.gf_form.proofs.Common.{map-append, AreMerged, IsExactAt, SettlesAt, all_parts, all_terms}
+use Rattle.gf_form.proofs.Common.{all_both, cases_lt, steps_of, lowered, product, ComeTo, get_or, ℕ}
+use Rattle.gf_form.proofs.Common.{length, Terms, arith, meets, spans, subst, part, refl, List, ◌++◌}
+use Rattle.gf_form.proofs.Common.{zero, true, map, sym, ◌∷◌, suc, ◌≡◌, ◌∙◌, inl, inr, ◌+◌, ◌-◌, ◌*◌}
+use Rattle.gf_form.proofs.Common.{◌<◌, ◌≤◌, ◌⊎◌, [], ap}
 use Rattle.std.proofs.lemmas.List.{append_assoc, take_rest}
 use Rattle.gf_form.specs.declared.rows.digits.Digit.{Digit}
 use Rattle.gf_form.specs.inner.rows.GameDigits.{actions_at}
 use Rattle.gf_form.specs.inner.rows.TermLists.{CountsBelow}
 use Rattle.gf_form.specs.inner.rows.ChoiceSums.{AddUpTo, AreActions, HasSums, IsBetween}
 use Rattle.gf_form.proofs.lemmas.rows.DigitChoices.{choice_at_number}
-use Rattle.gf_form.proofs.lemmas.rows.MergedTerms.{IsFree, IsOther, IsOwn, come_lowered}
-use Rattle.gf_form.proofs.lemmas.rows.MergedTerms.{exact_lowered, first_parts, free_met, own_met}
-use Rattle.gf_form.proofs.lemmas.rows.MergedTerms.{sum_append}
+use Rattle.gf_form.proofs.lemmas.rows.MergedTerms.{exact_lowered, come_lowered, first_parts, IsFree}
+use Rattle.gf_form.proofs.lemmas.rows.MergedTerms.{sum_append, free_met, IsOther, own_met, IsOwn}
 use Rattle.gf_form.proofs.lemmas.rows.DemandDigits.{spans_above}
 use Rattle.gf_form.proofs.lemmas.rows.FlatRows.{terms_count}
 use Rattle.gf_form.proofs.lemmas.rows.Merges.{cut, lowered_none, range}

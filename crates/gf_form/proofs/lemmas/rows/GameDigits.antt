@@ -1,14 +1,13 @@
 -- What is made from the numbers of actions are the digits of the game.
 use Rattle.gf_form.proofs.Common.{length-profiles, get_or_default, InformationSet, description_at}
-use Rattle.gf_form.proofs.Common.{digit_actions, action_counts, full_profiles, strategies_at}
+use Rattle.gf_form.proofs.Common.{digit_actions, action_counts, full_profiles, strategies_at, arith}
 use Rattle.gf_form.proofs.Common.{steps_after, player_sets, all_choices, AreDigitsOf, ArePositive}
-use Rattle.gf_form.proofs.Common.{option_map, length-map, choices_by, players_of, strategies, arith}
-use Rattle.gf_form.proofs.Common.{AreStepsOf, get_or-map, slice_get, choice_at, none-some, same_set}
-use Rattle.gf_form.proofs.Common.{Described, HasDigits, AreDigits, in_order, all_both, product, ◌≡◌}
-use Rattle.gf_form.proofs.Common.{IsGame, set_at, Digits, length, get_or, SetKey, picked, false, []}
-use Rattle.gf_form.proofs.Common.{cond, List, Some, refl, find, Game, Bool, true, suc, ◌-◌, ◌<◌, ℕ}
-use Rattle.gf_form.proofs.Common.{eq-eqb, is_personal, player_keys, ◌∷◌, map, sym, ◌∙◌, append-nil}
-use Rattle.gf_form.proofs.Common.{ap}
+use Rattle.gf_form.proofs.Common.{is_personal, player_keys, option_map, length-map, choices_by, ◌≡◌}
+use Rattle.gf_form.proofs.Common.{players_of, strategies, AreStepsOf, get_or-map, append-nil, false}
+use Rattle.gf_form.proofs.Common.{slice_get, choice_at, none-some, Described, HasDigits, AreDigits}
+use Rattle.gf_form.proofs.Common.{same_set, in_order, all_both, product, IsGame, set_at, Digits, []}
+use Rattle.gf_form.proofs.Common.{length, get_or, SetKey, picked, eq-eqb, cond, List, Some, refl, ℕ}
+use Rattle.gf_form.proofs.Common.{find, Game, Bool, true, suc, ◌-◌, ◌<◌, ◌∷◌, map, sym, ◌∙◌, ap}
 use Rattle.gf_form.proofs.lemmas.strategies.Choices.{IsChoice, choice_length, length-all_choices}
 use Rattle.gf_form.proofs.lemmas.strategies.Chosen.{among_his, have_actions, profile_strategies}
 use Rattle.gf_form.proofs.lemmas.strategies.CountedActions.{actions_positive, as_many_players}

@@ -2,12 +2,11 @@
 use Rattle.gf_form.proofs.Common.{AreProfileNumbers, digit_actions, full_profiles, strategies_at, ℕ}
 use Rattle.gf_form.proofs.Common.{if◌then◌else◌, paid_reached, IsSpellable, all_choices, AreTermsOf}
 use Rattle.gf_form.proofs.Common.{choices_by, zero_ratio, ComeAsWell, node_terms, HasDigits, get_or}
-use Rattle.gf_form.proofs.Common.{SettlesAt, root_path, number_at, steps_of, at_place, all_terms}
-use Rattle.gf_form.proofs.Common.{◌≡◌}
+use Rattle.gf_form.proofs.Common.{SettlesAt, root_path, number_at, all_terms, steps_of, at_place}
 use Rattle.gf_form.proofs.Common.{ArePaid, Settles, is_paid, reached, Reached, *ℤ-zero, one-dvd, []}
 use Rattle.gf_form.proofs.Common.{term_of, length, IsGame, Digits, nat_lt, row_at, pay_at, arith}
-use Rattle.gf_form.proofs.Common.{Ratio, Terms, false, Term, List, Game, refl, zero, Bool, true}
-use Rattle.gf_form.proofs.Common.{Path, ◌-◌, ◌<◌, map, suc, ◌∷◌, sym, pos, ◌∙◌, ap}
+use Rattle.gf_form.proofs.Common.{Ratio, Terms, false, Term, List, Game, refl, zero, Bool, true, ap}
+use Rattle.gf_form.proofs.Common.{Path, ◌≡◌, ◌-◌, ◌<◌, map, suc, ◌∷◌, sym, pos, ◌∙◌}
 use Rattle.gf_form.proofs.lemmas.strategies.StrategiesByNumber.{all_at}
 use Rattle.gf_form.proofs.lemmas.rows.MergedTerms.{come_both, none_first, same_come}
 use Rattle.gf_form.proofs.lemmas.rows.SummedNodes.{terms_of_sums}

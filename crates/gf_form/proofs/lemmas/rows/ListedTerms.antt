@@ -1,13 +1,12 @@
 -- What nodes add, part by part, and that their terms say it.
 use Rattle.gf_form.proofs.Common.{IsNonDecreasingBy, mul-le-mul_right, unsigned_abs-mul, AreExactAt}
-use Rattle.gf_form.proofs.Common.{sum_of_terms, AllByRecursion, get_or_default, sum_of_shares, []}
+use Rattle.gf_form.proofs.Common.{AllByRecursion, get_or_default, sum_of_shares, sum_of_terms, Term}
 use Rattle.gf_form.proofs.Common.{node_terms, map-append, all_images, AreOrdered, AreTermsOf, arith}
 use Rattle.gf_form.proofs.Common.{met_bounds, node_term, number_at, EndsBelow, dvd_trans, all_parts}
-use Rattle.gf_form.proofs.Common.{IsExactAt, IsShaped, all_both, Reached, ArePaid, zero-*ℤ}
-use Rattle.gf_form.proofs.Common.{all_terms}
-use Rattle.gf_form.proofs.Common.{get_or, length, add-*ℤ, Ratio, meets, Term, Terms, false, subst}
-use Rattle.gf_form.proofs.Common.{take, Game, refl, drop, ◌*ℤ◌, Bool, true, List, ◌++◌, ◌+ℤ◌, ◌≡◌}
-use Rattle.gf_form.proofs.Common.{pos, suc, ◌+◌, ◌/◌, ◌<◌, ◌≤◌, ◌∷◌, sym, ◌∙◌, ◌∣◌, ◌-◌, ap, ℕ}
+use Rattle.gf_form.proofs.Common.{IsExactAt, all_terms, IsShaped, all_both, Reached, ArePaid, Ratio}
+use Rattle.gf_form.proofs.Common.{zero-*ℤ, get_or, length, add-*ℤ, meets, Terms, false, subst, take}
+use Rattle.gf_form.proofs.Common.{Game, refl, drop, ◌*ℤ◌, Bool, true, List, ◌++◌, ◌+ℤ◌, ◌≡◌, pos, ℕ}
+use Rattle.gf_form.proofs.Common.{suc, ◌+◌, ◌/◌, ◌<◌, ◌≤◌, ◌∷◌, sym, ◌∙◌, ◌∣◌, ◌-◌, [], ap}
 use Rattle.std.proofs.Math.Seq.{take-nil}
 use Rattle.gf_form.specs.inner.rows.ListedNodes.{IsTermMore, HasShares, Tells}
 use Rattle.gf_form.proofs.lemmas.rows.Merges.{ordered_more, below_more, all_in}

@@ -1,14 +1,13 @@
 -- Of the nodes that a walk by demands meets, choices meet the demands of those that a walk by the
 -- choices meets.
-use Rattle.gf_form.proofs.Common.{AllByRecursion, InformationSet, if◌then◌else◌, [], mod-eq_of_lt}
-use Rattle.gf_form.proofs.Common.{MatchOption, flatten_all, HasChildren, option_map, eqb-false}
-use Rattle.gf_form.proofs.Common.{AreDigits, all_parts, IsDigitOf, eqb-true, steps_of, demanded}
-use Rattle.gf_form.proofs.Common.{flatten, false, eq-eqb, Option, length, arith, Handing, get_or}
-use Rattle.gf_form.proofs.Common.{branch, SetKey, set_at, Trees, count, ◌∷◌, meets, Bool, true}
-use Rattle.gf_form.proofs.Common.{List, ◌++◌, ◌*◌, ◌||◌, Some, None, refl, ◌==◌, ◌&&◌, Tree, none}
-use Rattle.gf_form.proofs.Common.{more, Game, Node, ◌+◌, ◌^◌, ◌≤◌, set, ◌%◌, ◌≡◌, ℕ, not, ap, sym}
-use Rattle.gf_form.proofs.Common.{◌∙◌, descent, descent_all, demanding, choosing, comes_by, kept}
-use Rattle.gf_form.proofs.Common.{Stop, stop_at}
+use Rattle.gf_form.proofs.Common.{AllByRecursion, InformationSet, if◌then◌else◌, mod-eq_of_lt, Bool}
+use Rattle.gf_form.proofs.Common.{MatchOption, flatten_all, HasChildren, descent_all, option_map, ℕ}
+use Rattle.gf_form.proofs.Common.{eqb-false, AreDigits, all_parts, IsDigitOf, demanding, eqb-true}
+use Rattle.gf_form.proofs.Common.{steps_of, demanded, choosing, comes_by, flatten, Handing, descent}
+use Rattle.gf_form.proofs.Common.{stop_at, eq-eqb, Option, length, get_or, branch, SetKey, set_at}
+use Rattle.gf_form.proofs.Common.{false, arith, Trees, count, meets, true, List, ◌++◌, ◌||◌, Some}
+use Rattle.gf_form.proofs.Common.{None, refl, ◌==◌, ◌&&◌, Tree, none, more, Game, Node, kept, Stop}
+use Rattle.gf_form.proofs.Common.{◌∷◌, ◌*◌, ◌+◌, ◌^◌, ◌≤◌, set, ◌%◌, ◌≡◌, not, sym, ◌∙◌, [], ap}
 use Rattle.std.specs.Option.{option_map_or}
 use Rattle.std.proofs.Math.Nat.{div-zero}
 use Rattle.gf_form.proofs.lemmas.rows.DemandDigits.{within_length, pack_below, set_within, digit_is}

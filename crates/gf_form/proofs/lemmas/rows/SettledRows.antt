@@ -1,8 +1,7 @@
 -- What is left of terms once an action is chosen, and the profiles that it settles.
 use Rattle.gf_form.proofs.Common.{mul-le-mul_right, mul-div_cancel, all_choices, SettleRows, get_or}
-use Rattle.gf_form.proofs.Common.{AreMerged, SettlesAt, steps_of, cases_lt, product, all_terms}
-use Rattle.gf_form.proofs.Common.{arith}
-use Rattle.gf_form.proofs.Common.{Settles, spans, Term, Asked, Terms, subst, List, Game, ◌≡◌, ◌+◌}
+use Rattle.gf_form.proofs.Common.{AreMerged, SettlesAt, all_terms, steps_of, cases_lt, product, ◌≡◌}
+use Rattle.gf_form.proofs.Common.{Settles, arith, spans, Asked, Terms, subst, Term, List, Game, ◌+◌}
 use Rattle.gf_form.proofs.Common.{◌-◌, ◌*◌, ◌/◌, ◌<◌, ◌≤◌, ◌^◌, ◌⊎◌, inl, inr, ◌∷◌, ◌∙◌, Run, [], ℕ}
 use Rattle.gf_form.proofs.Common.{ap}
 use Rattle.gf_form.proofs.lemmas.strategies.StrategiesByNumber.{choices_row, positive_parts}

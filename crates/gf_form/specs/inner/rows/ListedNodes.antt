@@ -1,6 +1,5 @@
 -- The terms of nodes that choices can reach.
-use Rattle.std.specs.Prelude.{◌≡◌, ℕ, ℤ, suc, ◌<◌, ◌≤◌, List, [], ◌∷◌, ◌++◌}
-use Rattle.std.specs.Prelude.{unsigned_abs}
+use Rattle.std.specs.Prelude.{unsigned_abs, List, ◌++◌, ◌≡◌, suc, ◌<◌, ◌≤◌, ◌∷◌, [], ℕ, ℤ}
 use Rattle.gf_fraction.specs.Ratio.{IsWithin, Ratio}
 use Rattle.gf_tree.specs.Game.{Game}
 use Rattle.gf_form.specs.inner.rows.TermLists.{AreExactAt, Term, all_terms, number_at, sum_of_terms}

@@ -1,18 +1,17 @@
 -- Where the reader refuses, no file goes on, or each file that does is above the limit. What the
 -- machine answers to the tokens of an input is what the file means, or the refusal that is due.
-use Rattle.gf_nfg.proofs.Common.{IsAcceptedWithinLimit, IsJudged, IsRefusal, IsRefused, IsReason, p}
-use Rattle.gf_nfg.proofs.Common.{profile_limit, BeginsPastLimit, IsBareOrClosing, StaysWithinLimit}
-use Rattle.gf_nfg.proofs.Common.{IsLimitPlace, IsWithinLimit, IsStrategicFile, Table, SpellsTable}
-use Rattle.gf_nfg.proofs.Common.{Reader, Answer, Fails, HasPassedPlace, heard, ℕ, finish}
-use Rattle.gf_nfg.proofs.Common.{read_on, taken, within, Content, State, due_at, ended, Ok}
-use Rattle.gf_nfg.proofs.Common.{nothing, start, step, answer, content_in, PartsBefore, overtaken}
-use Rattle.gf_nfg.proofs.Common.{begins_front, parts, same_span, tokens_on, same_tokens, []}
-use Rattle.gf_nfg.proofs.Common.{IsOffendingPlace, IsSpanOf, tokens_of, AreInOrder, Why}
-use Rattle.gf_nfg.proofs.Common.{Remaining, StandsBefore, Broken, Lexeme, Token, lexeme, Spells}
-use Rattle.gf_nfg.proofs.Common.{Fault, Span, What, Expected, Memory, TooManyProfiles, Err, List}
-use Rattle.gf_nfg.proofs.Common.{Unterminated, Result, append-nil, append_assoc, inl, arith}
-use Rattle.gf_nfg.proofs.Common.{inr, length, refl, subst, sym, ◌++◌, ◌<◌, ◌∷◌, ◌≡◌, ◌≤◌}
-use Rattle.gf_nfg.proofs.Common.{map-append, table_of, ◌⊎◌, ◌∙◌}
+use Rattle.gf_nfg.proofs.Common.{IsAcceptedWithinLimit, StaysWithinLimit, IsOffendingPlace, read_on}
+use Rattle.gf_nfg.proofs.Common.{BeginsPastLimit, IsBareOrClosing, IsStrategicFile, TooManyProfiles}
+use Rattle.gf_nfg.proofs.Common.{HasPassedPlace, profile_limit, IsWithinLimit, IsLimitPlace, Reader}
+use Rattle.gf_nfg.proofs.Common.{begins_front, StandsBefore, Unterminated, append_assoc, content_in}
+use Rattle.gf_nfg.proofs.Common.{SpellsTable, PartsBefore, same_tokens, AreInOrder, append-nil, Why}
+use Rattle.gf_nfg.proofs.Common.{map-append, IsRefusal, IsRefused, overtaken, same_span, tokens_on}
+use Rattle.gf_nfg.proofs.Common.{tokens_of, Remaining, IsJudged, IsReason, IsSpanOf, Expected, step}
+use Rattle.gf_nfg.proofs.Common.{table_of, Content, nothing, Answer, finish, within, due_at, answer}
+use Rattle.gf_nfg.proofs.Common.{Broken, Lexeme, lexeme, Spells, Memory, Result, length, Table, Err}
+use Rattle.gf_nfg.proofs.Common.{Fails, heard, taken, State, ended, start, parts, Token, Fault, inl}
+use Rattle.gf_nfg.proofs.Common.{arith, subst, Span, What, List, refl, ◌++◌, inr, sym, ◌<◌, ◌∷◌, Ok}
+use Rattle.gf_nfg.proofs.Common.{◌≡◌, ◌≤◌, ◌⊎◌, ◌∙◌, [], p, ℕ}
 use Rattle.gf_token.proofs.Following.{refused_why}
 pub use Rattle.gf_token.proofs.Following.{carried}
 use Rattle.gf_token.proofs.Reading.{begins, not_accepted}

@@ -1,12 +1,11 @@
 -- The machine reads the strategic files. No token makes the number of profiles smaller, so above
 -- their limit they stay there.
-use Rattle.gf_nfg.proofs.Common.{profile_limit, BeginsWithinLimit, IsBareOrClosing, product, Table}
-use Rattle.gf_nfg.proofs.Common.{StaysWithinLimit, IsStrategicFile, Sentence, SpellsTable, is_past}
-use Rattle.gf_nfg.proofs.Common.{Content, State, finish, run, start, step, taken, within, table_of}
-use Rattle.gf_nfg.proofs.Common.{p, Position, same_tokens, tokens_of, Lexeme, Ok, Err, Broken}
-use Rattle.gf_nfg.proofs.Common.{Token, Spells, Why, List, Result, [], append-nil, arith}
-use Rattle.gf_nfg.proofs.Common.{false, length, subst, sym, true, ℕ, ◌*◌, ◌++◌}
-use Rattle.gf_nfg.proofs.Common.{◌<◌, ◌∙◌, ◌∷◌, ◌≡◌, ◌≤◌, mul_assoc}
+use Rattle.gf_nfg.proofs.Common.{BeginsWithinLimit, StaysWithinLimit, IsBareOrClosing, SpellsTable}
+use Rattle.gf_nfg.proofs.Common.{IsStrategicFile, profile_limit, same_tokens, append-nil, tokens_of}
+use Rattle.gf_nfg.proofs.Common.{mul_assoc, Sentence, table_of, Position, product, is_past, Content}
+use Rattle.gf_nfg.proofs.Common.{finish, within, Lexeme, Broken, Spells, Result, length, Table, run}
+use Rattle.gf_nfg.proofs.Common.{State, start, taken, Token, arith, false, subst, step, List, true}
+use Rattle.gf_nfg.proofs.Common.{◌++◌, Err, Why, sym, ◌*◌, ◌<◌, ◌∙◌, ◌∷◌, ◌≡◌, ◌≤◌, Ok, [], p, ℕ}
 use Rattle.gf_token.specs.inner.Machine as any_format
 use Rattle.gf_token.proofs.Reading.{IsReader}
 use Rattle.gf_token.proofs.Walks.{kept, run_after, run_split, then_ok, walk_more, walk_split}

@@ -1,20 +1,19 @@
 -- The table of positions: what each row accepts and how it refuses the rest, and that the machine
 -- does so. What a row accepts tells what is due there, so the code of each refusal is the reason
 -- for it.
-use Rattle.gf_nfg.proofs.Common.{Applies, BadIndex, Bare, Begins, Bool, Broken, Closing, Comma}
-use Rattle.gf_nfg.proofs.Common.{Content, Err, Expected, HasNumberFault, IndexIsDue, IsDue, IsIndex}
-use Rattle.gf_nfg.proofs.Common.{IsNumber, IsPositive, IsReason, IsStrategicFile, List, MayFollow}
-use Rattle.gf_nfg.proofs.Common.{NoEntry, None, NotANumber, NumberFault, NumberIsDue, Ok, Opening}
-use Rattle.gf_nfg.proofs.Common.{Option, Position, Ratio, Reads, Result, Some, State, TakesLabels}
-use Rattle.gf_nfg.proofs.Common.{Text, Token, UnknownOutcome, Unterminated, What, Why}
-use Rattle.gf_nfg.proofs.Common.{ZeroDenominator, [], ap, arith, at, chosen, code_of, codes}
-use Rattle.gf_nfg.proofs.Common.{count_again, count_is, count_of, counted, due_at, ended, false}
-use Rattle.gf_nfg.proofs.Common.{false_from_ne_true, finish, gcd_within, index_again, index_is}
-use Rattle.gf_nfg.proofs.Common.{index_of, inl, inr, is_ok, length, lowest_of, map, nat_eq}
-use Rattle.gf_nfg.proofs.Common.{nat_tests, number_again, number_is, number_is_computed, number_of}
-use Rattle.gf_nfg.proofs.Common.{p, paid, pointwise, refl, same_fault, start, step, step_at, subst}
-use Rattle.gf_nfg.proofs.Common.{suc, sym, true, why_of, zero, ℕ, ◌++◌, ◌+◌, ◌<◌, ◌||◌, ◌↔◌, ◌∙◌}
-use Rattle.gf_nfg.proofs.Common.{◌∷◌, ◌≡◌, ◌≢◌, ◌≤◌, ◌⊎◌}
+use Rattle.gf_nfg.proofs.Common.{false_from_ne_true, number_is_computed, IsStrategicFile, MayFollow}
+use Rattle.gf_nfg.proofs.Common.{ZeroDenominator, HasNumberFault, UnknownOutcome, Unterminated, Err}
+use Rattle.gf_nfg.proofs.Common.{number_again, NumberFault, NumberIsDue, TakesLabels, count_again}
+use Rattle.gf_nfg.proofs.Common.{index_again, IndexIsDue, IsPositive, NotANumber, gcd_within, Comma}
+use Rattle.gf_nfg.proofs.Common.{same_fault, lowest_of, nat_tests, number_is, number_of, pointwise}
+use Rattle.gf_nfg.proofs.Common.{BadIndex, Expected, IsNumber, IsReason, Position, count_is, Begins}
+use Rattle.gf_nfg.proofs.Common.{count_of, index_is, index_of, Applies, Closing, Content, IsIndex}
+use Rattle.gf_nfg.proofs.Common.{NoEntry, Opening, code_of, counted, step_at, Broken, Option, IsDue}
+use Rattle.gf_nfg.proofs.Common.{Result, chosen, due_at, finish, length, nat_eq, why_of, Ratio, Why}
+use Rattle.gf_nfg.proofs.Common.{Reads, State, Token, arith, codes, ended, false, is_ok, start, inl}
+use Rattle.gf_nfg.proofs.Common.{subst, Bare, Bool, List, None, Some, Text, What, paid, refl, step}
+use Rattle.gf_nfg.proofs.Common.{true, zero, ◌++◌, ◌||◌, inr, map, suc, sym, ◌+◌, ◌<◌, ◌↔◌, ◌∙◌, Ok}
+use Rattle.gf_nfg.proofs.Common.{◌∷◌, ◌≡◌, ◌≢◌, ◌≤◌, ◌⊎◌, [], ap, at, p, ℕ}
 use Rattle.gf_nfg.proofs.lemmas.places.Led.{is_reader}
 use Rattle.gf_token.proofs.Reading.{begins, follows, not_accepted, stops}
 use Rattle.gf_token.proofs.Walks.{run_whole, then_ok, walk_on}

@@ -1,13 +1,12 @@
 -- A run of the machine that succeeds has read a sentence, and each sentence is read.
-use Rattle.gf_nfg.proofs.Common.{◌≡◌, arith, length, subst, Token, braced, row_of, IsTable, IsCount}
-use Rattle.gf_nfg.proofs.Common.{ℕ, ◌≤◌, [], ◌∷◌, Ok, map, sym, ◌∙◌, inl, inr, ◌⊎◌, at, p, run, sum}
-use Rattle.gf_nfg.proofs.Common.{◌+◌, ◌*◌, ◌<◌, ◌++◌, refl, Text, Each, Ratio, Table, rows, start}
-use Rattle.gf_nfg.proofs.Common.{finish, step}
-use Rattle.gf_nfg.proofs.Common.{List, AllByRecursion, IsOutcomeBody, counted_labels, strategies_of}
-use Rattle.gf_nfg.proofs.Common.{append_assoc, IsPayoffBody, with_comment, HasPayoffs, IsLabelList}
-use Rattle.gf_nfg.proofs.Common.{Opening, IsComment, all_weaker, length-map, all_images, IsComplete}
-use Rattle.gf_nfg.proofs.Common.{strategies_end, Closing, Content, rows_by, product, Sentence}
-use Rattle.gf_nfg.proofs.Common.{table_of, HasLabels}
+use Rattle.gf_nfg.proofs.Common.{AllByRecursion, counted_labels, strategies_end, IsOutcomeBody, ◌≡◌}
+use Rattle.gf_nfg.proofs.Common.{strategies_of, append_assoc, IsPayoffBody, with_comment, IsComment}
+use Rattle.gf_nfg.proofs.Common.{IsLabelList, HasPayoffs, all_weaker, length-map, all_images, arith}
+use Rattle.gf_nfg.proofs.Common.{IsComplete, HasLabels, Sentence, table_of, IsTable, IsCount, subst}
+use Rattle.gf_nfg.proofs.Common.{Opening, Closing, Content, rows_by, product, length, braced, Token}
+use Rattle.gf_nfg.proofs.Common.{row_of, finish, Ratio, Table, start, ◌++◌, refl, Text, Each, rows}
+use Rattle.gf_nfg.proofs.Common.{step, List, ◌≤◌, ◌∷◌, map, sym, ◌∙◌, inl, inr, ◌⊎◌, run, sum, ◌+◌}
+use Rattle.gf_nfg.proofs.Common.{◌*◌, ◌<◌, [], Ok, at, ℕ, p}
 use Rattle.gf_nfg.proofs.lemmas.tables.Lists.{joined, length-joined_rows, length-counted_labels}
 use Rattle.gf_nfg.proofs.lemmas.tables.Lists.{length-joined, product_above_zero, rows_again}
 use Rattle.gf_nfg.proofs.lemmas.tables.Meaning.{is_table, rows-table_of, strategies_of-joined}

@@ -1,10 +1,9 @@
 -- Lists in braces, which are written in several parts.
-use Rattle.gf_nfg.proofs.Common.{◌≡◌, ℕ, ◌+◌, ◌-◌, ◌<◌, ◌≤◌, List, [], ◌∷◌, ◌++◌, length, map, refl}
-use Rattle.gf_nfg.proofs.Common.{false, true, take, drop, get_or, Some, slice_get, append_assoc}
-use Rattle.gf_nfg.proofs.Common.{append-nil, codes, arith, drop_more, drop_all, drop-drop}
-use Rattle.gf_nfg.proofs.Common.{take-append-drop, get_or_from_slice_get, length-append, list_text}
-use Rattle.gf_nfg.proofs.Common.{quoted, sum, Names, pieces, RisesTo, heading_text}
-use Rattle.gf_nfg.proofs.Common.{slice_get_within}
+use Rattle.gf_nfg.proofs.Common.{get_or_from_slice_get, take-append-drop, slice_get_within, RisesTo}
+use Rattle.gf_nfg.proofs.Common.{length-append, append_assoc, heading_text, append-nil, slice_get}
+use Rattle.gf_nfg.proofs.Common.{drop_more, drop-drop, list_text, drop_all, length, get_or, quoted}
+use Rattle.gf_nfg.proofs.Common.{pieces, false, codes, arith, Names, List, ◌++◌, refl, true, take}
+use Rattle.gf_nfg.proofs.Common.{drop, Some, ◌≡◌, ◌+◌, ◌-◌, ◌<◌, ◌≤◌, ◌∷◌, map, sum, [], ℕ}
 use Rattle.std.specs.List.{sum_by}
 use Rattle.std.proofs.lemmas.List.Sums.{get_or-le-sum_by, sum-map, sum_by-append, sum_by-cons}
 use Rattle.gf_nfg.specs.inner.ListsLeft.{items_text, lists_text, size_of}

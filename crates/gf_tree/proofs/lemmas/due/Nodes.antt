@@ -1,17 +1,16 @@
 -- The rows of a node up to the braces of its set.
-use Rattle.gf_tree.proofs.Common.{◌≡◌, ℕ, zero, suc, ◌<◌, Bool, true, false, cond, List, [], ◌∷◌}
-use Rattle.gf_tree.proofs.Common.{◌++◌, length, Option, Some, None, Result, Ok, Err, refl, sym, ap}
-use Rattle.gf_tree.proofs.Common.{◌∙◌, arith, inl, inr, nat_eq, codes, pointwise, Token, count_of}
-use Rattle.gf_tree.proofs.Common.{Why, Opening, Text, Bare, Expected, UnknownPlayer, count_again}
-use Rattle.gf_tree.proofs.Common.{InformationSet, SetKey, same_set, description_at, or_name, Row}
-use Rattle.gf_tree.proofs.Common.{a_first_name, a_text, an_opening, an_outcome, PastSetNumber}
-use Rattle.gf_tree.proofs.Common.{IsNewSet, KnowsSet, Begun, Content, Position, State, at, begun}
-use Rattle.gf_tree.proofs.Common.{past_set, node_letter, outcome_number, personal_node}
-use Rattle.gf_tree.proofs.Common.{player_number, set_number, NodeDue, ChanceName, PersonalName}
-use Rattle.gf_tree.proofs.Common.{TerminalName, PlayerNumber, SetNumber, NewSetName, NewSetOpening}
-use Rattle.gf_tree.proofs.Common.{KnownSetName, KnownSetOpening, run_tokens, then_run, FileFront}
-use Rattle.gf_tree.proofs.Common.{nat_le, count_is, index_is, a_player, a_set, ToPlayerNumber}
-use Rattle.gf_tree.proofs.Common.{ToSetNumber, same_text}
+use Rattle.gf_tree.proofs.Common.{KnownSetOpening, InformationSet, description_at, outcome_number}
+use Rattle.gf_tree.proofs.Common.{ToPlayerNumber, UnknownPlayer, PastSetNumber, personal_node, zero}
+use Rattle.gf_tree.proofs.Common.{player_number, NewSetOpening, a_first_name, PersonalName, Opening}
+use Rattle.gf_tree.proofs.Common.{TerminalName, PlayerNumber, KnownSetName, count_again, an_opening}
+use Rattle.gf_tree.proofs.Common.{node_letter, ToSetNumber, an_outcome, set_number, ChanceName, ◌≡◌}
+use Rattle.gf_tree.proofs.Common.{NewSetName, run_tokens, pointwise, SetNumber, FileFront, count_of}
+use Rattle.gf_tree.proofs.Common.{same_text, Expected, same_set, IsNewSet, KnowsSet, Position, Bool}
+use Rattle.gf_tree.proofs.Common.{past_set, then_run, count_is, index_is, a_player, or_name, length}
+use Rattle.gf_tree.proofs.Common.{Content, NodeDue, Option, Result, nat_eq, SetKey, a_text, nat_le}
+use Rattle.gf_tree.proofs.Common.{false, arith, codes, Token, Begun, State, begun, a_set, true, suc}
+use Rattle.gf_tree.proofs.Common.{cond, List, ◌++◌, Some, None, refl, Text, Bare, ◌<◌, ◌∷◌, Err, []}
+use Rattle.gf_tree.proofs.Common.{sym, ◌∙◌, inl, inr, Why, Row, Ok, ap, at, ℕ}
 use Rattle.std.proofs.lemmas.Bool.Decides.{nat_tests}
 use Rattle.gf_token.specs.Indices.{index_of}
 use Rattle.gf_tree.specs.RowPlaces.{PastLetter, PastSetName}

@@ -1,14 +1,13 @@
 -- The rows of the payoffs of an outcome, for a new outcome and for a known one.
-use Rattle.gf_tree.proofs.Common.{◌≡◌, ℕ, zero, suc, ◌<◌, Bool, true, false, List, [], ◌∷◌, ◌++◌}
-use Rattle.gf_tree.proofs.Common.{length, Result, Ok, Err, refl, sym, ap, subst, ◌∙◌, append_assoc}
-use Rattle.gf_tree.proofs.Common.{arith, inl, inr, nat_eq, length-append, Ratio, NumberFault}
-use Rattle.gf_tree.proofs.Common.{number_again, number_is, Token, Why, Opening, Closing, Comma}
-use Rattle.gf_tree.proofs.Common.{Text, Bare, Each, IsPayoffInBraces, Outcome, description_at}
-use Rattle.gf_tree.proofs.Common.{run_tokens, FileFront, InPayoffs, IsExtensiveFile, IsNewOutcome}
-use Rattle.gf_tree.proofs.Common.{KnowsOutcome, Begun, Content, State, at, paid, NodeDue}
-use Rattle.gf_tree.proofs.Common.{AfterKnownPayoff, Row, a_node, an_end, or_comma, this_number, not}
-use Rattle.gf_tree.proofs.Common.{append_cancel_left, is_comma, ToPayoff, PastNode, PastPayoff}
-use Rattle.gf_tree.proofs.Common.{outcome_ends, a_closing, a_payoff}
+use Rattle.gf_tree.proofs.Common.{append_cancel_left, IsPayoffInBraces, AfterKnownPayoff, number_is}
+use Rattle.gf_tree.proofs.Common.{IsExtensiveFile, description_at, length-append, append_assoc, ◌≡◌}
+use Rattle.gf_tree.proofs.Common.{number_again, IsNewOutcome, KnowsOutcome, outcome_ends, FileFront}
+use Rattle.gf_tree.proofs.Common.{NumberFault, this_number, run_tokens, PastPayoff, InPayoffs, zero}
+use Rattle.gf_tree.proofs.Common.{a_closing, or_comma, is_comma, ToPayoff, PastNode, a_payoff, Bool}
+use Rattle.gf_tree.proofs.Common.{Opening, Closing, Outcome, Content, NodeDue, length, Result, true}
+use Rattle.gf_tree.proofs.Common.{nat_eq, a_node, an_end, false, subst, arith, Ratio, Token, Comma}
+use Rattle.gf_tree.proofs.Common.{Begun, State, List, ◌++◌, refl, Text, Bare, Each, paid, suc, ◌<◌}
+use Rattle.gf_tree.proofs.Common.{◌∷◌, Err, sym, ◌∙◌, inl, inr, Why, Row, not, [], Ok, ap, at, ℕ}
 use Rattle.gf_fraction.specs.Computed.{number_of}
 use Rattle.gf_tree.specs.RowPlaces.{PastComma, PastPayoffs}
 use Rattle.gf_tree.proofs.lemmas.fronts.Cuts.{each_more}

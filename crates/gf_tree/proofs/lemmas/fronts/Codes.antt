@@ -1,14 +1,13 @@
 -- The front of a node after whole nodes: the machine of the reader reads it from what was learned
 -- in them, expects in the braces of a known set what is left of it, and refuses a player if there
 -- are none.
-use Rattle.gf_tree.proofs.Common.{◌≡◌, ℕ, ◌≤◌, List, [], ◌∷◌, ◌++◌, length, Option, Some, None}
-use Rattle.gf_tree.proofs.Common.{Result, Err, refl, sym, ap, ◌∙◌, nat_eq, inl, inr, filter_map}
-use Rattle.gf_tree.proofs.Common.{Decides-eqb, Token, Opening, Text, Bare, Why, Expected}
-use Rattle.gf_tree.proofs.Common.{InformationSet, IsOutcome, Outcome, SetKey, same_set, set_of}
-use Rattle.gf_tree.proofs.Common.{Action, description_at, run_tokens, PastOutcomeNumber}
-use Rattle.gf_tree.proofs.Common.{PastSetNumber, EndsInNode, InActions, InPayoffs, KnowsOutcome}
-use Rattle.gf_tree.proofs.Common.{KnowsSet, Content, nothing, Begun, begun, Format, NodeDue}
-use Rattle.gf_tree.proofs.Common.{KnownAction, code_of, ToProbability}
+use Rattle.gf_tree.proofs.Common.{PastOutcomeNumber, InformationSet, description_at, PastSetNumber}
+use Rattle.gf_tree.proofs.Common.{ToProbability, KnowsOutcome, Decides-eqb, KnownAction, filter_map}
+use Rattle.gf_tree.proofs.Common.{run_tokens, EndsInNode, IsOutcome, InActions, InPayoffs, Expected}
+use Rattle.gf_tree.proofs.Common.{same_set, KnowsSet, Opening, Outcome, Content, nothing, NodeDue}
+use Rattle.gf_tree.proofs.Common.{code_of, length, Option, Result, nat_eq, SetKey, set_of, Action}
+use Rattle.gf_tree.proofs.Common.{Format, Token, Begun, begun, List, ◌++◌, Some, None, refl, Text}
+use Rattle.gf_tree.proofs.Common.{Bare, ◌≡◌, ◌≤◌, ◌∷◌, Err, sym, ◌∙◌, inl, inr, Why, [], ap, ℕ}
 use Rattle.gf_tree.proofs.lemmas.fronts.Nodes.{learned_at, parted}
 use Rattle.gf_tree.proofs.lemmas.runs.Tokens.{Reads}
 use Rattle.gf_tree.proofs.lemmas.Once.{none_or_some, one_some}

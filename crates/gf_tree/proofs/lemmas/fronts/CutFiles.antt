@@ -1,15 +1,14 @@
 -- Tokens that some file begins with stand before a row of the table of positions: the sentence is
 -- cut where they end.
-use Rattle.gf_tree.proofs.Common.{◌≡◌, ℕ, zero, suc, List, [], ◌∷◌, ◌++◌, drop, length, map, Option}
-use Rattle.gf_tree.proofs.Common.{Some, None, MatchOption, refl, sym, ap, subst, ◌∙◌, append_assoc}
-use Rattle.gf_tree.proofs.Common.{append-nil, inl, inr, codes, cons_option, filter_map, Token}
-use Rattle.gf_tree.proofs.Common.{braced, IsComment, Begins, Opening, Closing, Text, Bare}
-use Rattle.gf_tree.proofs.Common.{AreConsistent, Describes, InformationSet, IsOutcome, IsSet}
-use Rattle.gf_tree.proofs.Common.{Outcome, SetKey, set_of, Use, FileNode, FileTree, outcome_uses}
-use Rattle.gf_tree.proofs.Common.{set_uses, PastSetNumber, IsExtensiveFile, Listed, flatten}
-use Rattle.gf_tree.proofs.Common.{FileFront, IsDescription, IsInformationSet, SpellsMover, IsNode}
-use Rattle.gf_tree.proofs.Common.{IsPositive, IsResult, IsStep, filter_map-append, PastPlayers}
-use Rattle.gf_tree.proofs.Common.{IsBeforeRow, IsInHeading, IsInNode}
+use Rattle.gf_tree.proofs.Common.{filter_map-append, IsInformationSet, IsExtensiveFile, MatchOption}
+use Rattle.gf_tree.proofs.Common.{InformationSet, AreConsistent, PastSetNumber, IsDescription, zero}
+use Rattle.gf_tree.proofs.Common.{append_assoc, outcome_uses, cons_option, SpellsMover, PastPlayers}
+use Rattle.gf_tree.proofs.Common.{IsBeforeRow, IsInHeading, append-nil, filter_map, IsPositive, ◌≡◌}
+use Rattle.gf_tree.proofs.Common.{IsComment, Describes, IsOutcome, FileFront, FileNode, FileTree, ℕ}
+use Rattle.gf_tree.proofs.Common.{set_uses, IsResult, IsInNode, Opening, Closing, Outcome, flatten}
+use Rattle.gf_tree.proofs.Common.{length, Option, braced, Begins, SetKey, set_of, Listed, IsNode}
+use Rattle.gf_tree.proofs.Common.{IsStep, subst, codes, Token, IsSet, List, ◌++◌, drop, Some, None}
+use Rattle.gf_tree.proofs.Common.{refl, Text, Bare, suc, ◌∷◌, map, sym, ◌∙◌, inl, inr, Use, [], ap}
 use Rattle.gf_tree.specs.RowPlaces.{InPlayers}
 use Rattle.gf_tree.specs.Sentence.{Says}
 use Rattle.gf_tree.proofs.lemmas.fronts.CutPlaces.{AllHere, IsOutcomeHere, IsSetHere, actions_place}

@@ -1,18 +1,17 @@
 -- The machine of the reader refuses for the reason at the place.
-use Rattle.gf_tree.proofs.Common.{◌≡◌, ℕ, zero, suc, List, [], ◌∷◌, ◌++◌, length, Err, sym, ap}
-use Rattle.gf_tree.proofs.Common.{subst, ◌∙◌, arith, inl, inr, refl, append-nil, pos, ◌⊎◌, ◌≤ℤ◌}
-use Rattle.gf_tree.proofs.Common.{ints, Token, Lexeme, Closing, Text, Bare, Broken, Spells}
-use Rattle.gf_tree.proofs.Common.{tokens_of, Begins, Fault, Why, Expected, UnknownPlayer, Mismatch}
-use Rattle.gf_tree.proofs.Common.{NegativeProbability, IsRefusal, or_name, this_number, Row}
-use Rattle.gf_tree.proofs.Common.{IsNoNumber, a_first_name, a_node, an_end, an_outcome, or_comma}
-use Rattle.gf_tree.proofs.Common.{FileFront, State, at, nothing, run, Format, Ratio, whole}
-use Rattle.gf_tree.proofs.Common.{IsNumber, NumberFault, number_again, Action, InformationSet}
-use Rattle.gf_tree.proofs.Common.{SetKey, set_of, set_with, InActions, IsExtensiveFile, KnowsSet}
-use Rattle.gf_tree.proofs.Common.{EndsInNode, code_of, why_of, Unterminated, BadIndex, SumAboveOne}
-use Rattle.gf_tree.proofs.Common.{SumBelowOne, SumOverflow, NoEntry, this_label, a_new_action}
-use Rattle.gf_tree.proofs.Common.{a_new_branch, Refuses, no_label, IsReason, DiffersFromOutcome}
-use Rattle.gf_tree.proofs.Common.{DiffersFromSet, EndsInFirstUse, IsWrongAfter, ListsActions}
-use Rattle.gf_tree.proofs.Common.{SumFits, HasNumberFault, answer_is, Applies}
+use Rattle.gf_tree.proofs.Common.{NegativeProbability, DiffersFromOutcome, IsExtensiveFile, Closing}
+use Rattle.gf_tree.proofs.Common.{InformationSet, DiffersFromSet, EndsInFirstUse, HasNumberFault, ℕ}
+use Rattle.gf_tree.proofs.Common.{UnknownPlayer, a_first_name, number_again, Unterminated, Expected}
+use Rattle.gf_tree.proofs.Common.{a_new_action, a_new_branch, IsWrongAfter, ListsActions, tokens_of}
+use Rattle.gf_tree.proofs.Common.{this_number, NumberFault, SumAboveOne, SumBelowOne, SumOverflow}
+use Rattle.gf_tree.proofs.Common.{append-nil, IsNoNumber, an_outcome, EndsInNode, this_label, subst}
+use Rattle.gf_tree.proofs.Common.{IsRefusal, FileFront, InActions, answer_is, Mismatch, or_comma}
+use Rattle.gf_tree.proofs.Common.{IsNumber, set_with, KnowsSet, BadIndex, no_label, IsReason, arith}
+use Rattle.gf_tree.proofs.Common.{or_name, nothing, code_of, NoEntry, Refuses, SumFits, Applies, []}
+use Rattle.gf_tree.proofs.Common.{length, Lexeme, Broken, Spells, Begins, a_node, an_end, Format}
+use Rattle.gf_tree.proofs.Common.{Action, SetKey, set_of, why_of, Token, Fault, State, Ratio, whole}
+use Rattle.gf_tree.proofs.Common.{zero, List, ◌++◌, refl, ◌≤ℤ◌, ints, Text, Bare, ◌≡◌, suc, ◌∷◌, ap}
+use Rattle.gf_tree.proofs.Common.{Err, sym, ◌∙◌, inl, inr, pos, ◌⊎◌, Why, Row, run, at}
 use Rattle.gf_token.specs.declared.fault.Why.TheVariants.{NotANumber, ZeroDenominator}
 use Rattle.gf_token.specs.declared.fault.Why.TheVariants.{NumberTooLarge, NotDescribed}
 use Rattle.gf_token.specs.Reason.{IsBadIndex, IsFaultyNumber}

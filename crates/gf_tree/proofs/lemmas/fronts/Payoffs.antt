@@ -1,18 +1,16 @@
 -- What the machine of the reader answers after the front of a node, among the payoffs of its
 -- outcome: the shape of the front determines this too.
-use Rattle.gf_tree.proofs.Common.{◌≡◌, ℕ, zero, suc, ◌+◌, Bool, true, false, List, [], ◌∷◌, ◌++◌}
-use Rattle.gf_tree.proofs.Common.{length, Option, Some, None, refl, sym, ap, subst, ◌∙◌, arith, inl}
-use Rattle.gf_tree.proofs.Common.{inr, nat_eq, ◌⊎◌, Ratio, IsNumber, number_again, Token, Each}
-use Rattle.gf_tree.proofs.Common.{IsPayoffInBraces, Opening, Comma, Text, Bare, Outcome}
-use Rattle.gf_tree.proofs.Common.{description_at, InPayoffs, Begun, Content, at, past_outcome}
-use Rattle.gf_tree.proofs.Common.{with_node, NodeDue, AfterKnownPayoff, KnownOutcomeName}
-use Rattle.gf_tree.proofs.Common.{KnownOutcomeOpening, run_tokens, then_run, not, is_comma}
-use Rattle.gf_tree.proofs.Common.{with_payoff}
+use Rattle.gf_tree.proofs.Common.{KnownOutcomeOpening, IsPayoffInBraces, AfterKnownPayoff, IsNumber}
+use Rattle.gf_tree.proofs.Common.{KnownOutcomeName, description_at, number_again, past_outcome, ◌≡◌}
+use Rattle.gf_tree.proofs.Common.{with_payoff, run_tokens, InPayoffs, with_node, then_run, is_comma}
+use Rattle.gf_tree.proofs.Common.{Opening, Outcome, Content, NodeDue, length, Option, nat_eq, false}
+use Rattle.gf_tree.proofs.Common.{subst, arith, Ratio, Token, Comma, Begun, zero, Bool, true, List}
+use Rattle.gf_tree.proofs.Common.{◌++◌, Some, None, refl, Each, Text, Bare, suc, ◌+◌, ◌∷◌, sym, ◌∙◌}
+use Rattle.gf_tree.proofs.Common.{inl, inr, ◌⊎◌, not, [], ap, at, ℕ}
 use Rattle.gf_tree.proofs.lemmas.fronts.Runs.{GoesOn, goes_before}
 use Rattle.gf_tree.proofs.lemmas.fronts.Groups.{numbers_once, regroup}
-use Rattle.gf_tree.proofs.lemmas.runs.Payoffs.{known_at, known_comma, more_payoffs, new_at}
-use Rattle.gf_tree.proofs.lemmas.runs.Payoffs.{new_comma, new_step, no_payoffs, number_found}
-use Rattle.gf_tree.proofs.lemmas.runs.Payoffs.{with_payoffs}
+use Rattle.gf_tree.proofs.lemmas.runs.Payoffs.{more_payoffs, number_found, with_payoffs, no_payoffs}
+use Rattle.gf_tree.proofs.lemmas.runs.Payoffs.{known_comma, new_comma, known_at, new_step, new_at}
 use Rattle.gf_tree.proofs.lemmas.runs.Tokens.{Reads, run_on, text_again, text_found}
 use Rattle.gf_tree.proofs.lemmas.fronts.Lists.{PastOutcome, past_outcome_number}
 

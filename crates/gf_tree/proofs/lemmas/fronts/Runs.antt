@@ -1,16 +1,15 @@
 -- What the machine of the reader answers after the front of a node: the shape of the front
 -- determines this.
-use Rattle.gf_tree.proofs.Common.{◌≡◌, ℕ, zero, suc, ◌≤◌, List, [], ◌∷◌, ◌++◌, length, Option, Some}
-use Rattle.gf_tree.proofs.Common.{None, Ok, refl, sym, ap, subst, ◌∙◌, arith, codes, pos, ◌⊎◌, ◌≤ℤ◌}
-use Rattle.gf_tree.proofs.Common.{AllByRecursion, ints, Ratio, IsFraction, whole, AddsTo, IsNumber}
-use Rattle.gf_tree.proofs.Common.{whole_fraction, Token, count_of, Each, Opening, Text, Bare}
-use Rattle.gf_tree.proofs.Common.{count_again, Action, InformationSet, SetKey, same_set, set_of}
-use Rattle.gf_tree.proofs.Common.{IsSet, description_at, IsAction, SpellsMover, PastSetNumber}
-use Rattle.gf_tree.proofs.Common.{InActions, Begun, Content, at, begun, past_label, past_set}
-use Rattle.gf_tree.proofs.Common.{personal_node, set_number, shared, with_action, NodeDue}
-use Rattle.gf_tree.proofs.Common.{PlayerNumber, SetNumber, NewAction, KnownAction, KnownProbability}
-use Rattle.gf_tree.proofs.Common.{KnownSetOpening, share_of, run_tokens, then_run, ToPlayerNumber}
-use Rattle.gf_tree.proofs.Common.{ToSetNumber}
+use Rattle.gf_tree.proofs.Common.{KnownProbability, KnownSetOpening, AllByRecursion, whole_fraction}
+use Rattle.gf_tree.proofs.Common.{InformationSet, description_at, ToPlayerNumber, PastSetNumber, []}
+use Rattle.gf_tree.proofs.Common.{personal_node, PlayerNumber, count_again, SpellsMover, IsFraction}
+use Rattle.gf_tree.proofs.Common.{with_action, KnownAction, ToSetNumber, past_label, set_number, Ok}
+use Rattle.gf_tree.proofs.Common.{run_tokens, InActions, SetNumber, NewAction, IsNumber, count_of}
+use Rattle.gf_tree.proofs.Common.{same_set, IsAction, past_set, share_of, then_run, Opening, length}
+use Rattle.gf_tree.proofs.Common.{Content, NodeDue, Option, AddsTo, Action, SetKey, set_of, shared}
+use Rattle.gf_tree.proofs.Common.{subst, arith, codes, Ratio, whole, Token, IsSet, Begun, begun, ap}
+use Rattle.gf_tree.proofs.Common.{zero, List, ◌++◌, Some, None, refl, ◌≤ℤ◌, ints, Each, Text, Bare}
+use Rattle.gf_tree.proofs.Common.{◌≡◌, suc, ◌≤◌, ◌∷◌, sym, ◌∙◌, pos, ◌⊎◌, at, ℕ}
 use Rattle.gf_tree.proofs.lemmas.fronts.Groups.{numbers_once, regroup}
 use Rattle.gf_tree.proofs.lemmas.Once.{one_some}
 use Rattle.gf_tree.proofs.lemmas.runs.Actions.{more_actions, no_actions, shared_found, with_actions}

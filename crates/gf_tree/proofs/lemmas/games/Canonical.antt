@@ -1,12 +1,11 @@
 -- The canonical game: it is a game, the same as the first, and there is one for all games that are
 -- the same.
-use Rattle.gf_tree.proofs.Common.{◌≡◌, ℕ, Bool, List, map, refl, sym, ap, subst, ◌∙◌, eqb-true}
-use Rattle.gf_tree.proofs.Common.{Decides-eqb, InformationSet, Outcome, SetKey, same_set, set_of}
-use Rattle.gf_tree.proofs.Common.{Described, first_uses, outcome_numbers, sets_of, player_keys}
-use Rattle.gf_tree.proofs.Common.{Game, IsGame, used_sets, used_outcomes, Renumbering}
-use Rattle.gf_tree.proofs.Common.{IsRenumbering, HasSet, renumbered_set, renumbered, nat_eq, ◌↔◌}
-use Rattle.gf_tree.proofs.Common.{first_use_number, first_use_numbers, Carries, SameGame}
-use Rattle.gf_tree.proofs.Common.{HasOutcome}
+use Rattle.gf_tree.proofs.Common.{first_use_numbers, first_use_number, outcome_numbers, Decides-eqb}
+use Rattle.gf_tree.proofs.Common.{InformationSet, renumbered_set, used_outcomes, IsRenumbering, ◌≡◌}
+use Rattle.gf_tree.proofs.Common.{player_keys, Renumbering, first_uses, renumbered, HasOutcome, map}
+use Rattle.gf_tree.proofs.Common.{Described, used_sets, eqb-true, same_set, SameGame, Outcome, Bool}
+use Rattle.gf_tree.proofs.Common.{sets_of, Carries, SetKey, set_of, IsGame, HasSet, nat_eq, subst}
+use Rattle.gf_tree.proofs.Common.{List, refl, Game, sym, ◌∙◌, ◌↔◌, ap, ℕ}
 use Rattle.std.proofs.Common.{filter}
 use Rattle.gf_tree.specs.CanonicalGame.{canonical_game}
 use Rattle.gf_tree.specs.CarriedParts.{CarriesParts}

@@ -1,14 +1,13 @@
 -- A file tree of each game: each use has its description.
-use Rattle.gf_tree.proofs.Common.{◌≡◌, ◌↔◌, ℕ, Bool, true, false, List, [], ◌∷◌, length, map, Some}
-use Rattle.gf_tree.proofs.Common.{inr, None, Option, MatchOption, option_map, refl, sym, ap, subst}
-use Rattle.gf_tree.proofs.Common.{◌∙◌, inl, arith, Decides-eqb, AllByRecursion, filter_map}
-use Rattle.gf_tree.proofs.Common.{cons_option, Tree, Trees, map_tree, map_trees, branch, none, more}
-use Rattle.gf_tree.proofs.Common.{Listed, flatten, Node, Game, HasChildren, IsGame, used_sets}
-use Rattle.gf_tree.proofs.Common.{used_outcomes, set_at, keys_alone, IsGameOf, SetKey}
-use Rattle.gf_tree.proofs.Common.{InformationSet, Outcome, same_set, IsSet, IsOutcome, Described}
-use Rattle.gf_tree.proofs.Common.{description_at, first_uses, Use, FileNode, FileTree, set_uses}
-use Rattle.gf_tree.proofs.Common.{outcome_uses, Describes, AreConsistent, IsConsistent}
-use Rattle.gf_tree.proofs.Common.{HasChildrenAsDescribed, nat_eq, outcome_at}
+use Rattle.gf_tree.proofs.Common.{HasChildrenAsDescribed, AllByRecursion, InformationSet, map_trees}
+use Rattle.gf_tree.proofs.Common.{description_at, used_outcomes, AreConsistent, outcome_uses, false}
+use Rattle.gf_tree.proofs.Common.{IsConsistent, MatchOption, Decides-eqb, cons_option, HasChildren}
+use Rattle.gf_tree.proofs.Common.{option_map, filter_map, keys_alone, first_uses, outcome_at, subst}
+use Rattle.gf_tree.proofs.Common.{used_sets, IsOutcome, Described, Describes, map_tree, IsGameOf, ℕ}
+use Rattle.gf_tree.proofs.Common.{same_set, FileNode, FileTree, set_uses, flatten, Outcome, length}
+use Rattle.gf_tree.proofs.Common.{Option, branch, Listed, IsGame, set_at, SetKey, nat_eq, arith, []}
+use Rattle.gf_tree.proofs.Common.{Trees, IsSet, Bool, true, List, Some, None, refl, Tree, none, ◌≡◌}
+use Rattle.gf_tree.proofs.Common.{more, Node, Game, ◌↔◌, ◌∷◌, map, inr, sym, ◌∙◌, inl, Use, ap}
 use Rattle.gf_tree.proofs.lemmas.games.Uses.{Has, IsEquality, has_map, mapped_from, each}
 use Rattle.gf_tree.proofs.lemmas.games.Uses.{all_of_each, contains, has, has_place}
 use Rattle.gf_tree.proofs.lemmas.games.FirstUses.{AreDistinct, Found, found, is_used, was_used}

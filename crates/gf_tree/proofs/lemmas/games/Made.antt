@@ -1,11 +1,10 @@
 -- Games that are made from others by new numbers.
-use Rattle.gf_tree.proofs.Common.{◌≡◌, ℕ, ◌<◌, ◌^◌, List, [], ◌∷◌, length, map, sym, ap, subst, ◌∙◌}
-use Rattle.gf_tree.proofs.Common.{AllByRecursion, length-map, Listed, flatten, SetKey}
-use Rattle.gf_tree.proofs.Common.{InformationSet, Outcome, Described, Node, Game, IsGame}
-use Rattle.gf_tree.proofs.Common.{subtree_sizes, Stored, Parts, game_with, entries_with, kept_of}
-use Rattle.gf_tree.proofs.Common.{tree_with, Renumbering, IsRenumbering, renumbered}
-use Rattle.gf_tree.proofs.Common.{renumbered_node, IsSpellable, IsSpellableOutcome, IsSpellableSet}
-use Rattle.gf_tree.proofs.Common.{IsLabel, AreListed, AreNodes, IsHeld}
+use Rattle.gf_tree.proofs.Common.{IsSpellableOutcome, renumbered_node, AllByRecursion, entries_with}
+use Rattle.gf_tree.proofs.Common.{InformationSet, IsSpellableSet, subtree_sizes, IsRenumbering, ◌≡◌}
+use Rattle.gf_tree.proofs.Common.{Renumbering, IsSpellable, length-map, renumbered, Described, List}
+use Rattle.gf_tree.proofs.Common.{game_with, tree_with, AreListed, AreNodes, flatten, Outcome, Node}
+use Rattle.gf_tree.proofs.Common.{kept_of, IsLabel, length, Listed, SetKey, IsGame, Stored, IsHeld}
+use Rattle.gf_tree.proofs.Common.{subst, Parts, Game, ◌<◌, ◌^◌, ◌∷◌, map, sym, ◌∙◌, [], ap, ℕ}
 use Rattle.gf_tree.proofs.lemmas.games.Consistent.{map_entry, flatten_map}
 use Rattle.gf_tree.proofs.lemmas.games.Renumbered.{renumbered_is_game}
 use Rattle.gf_tree.proofs.lemmas.stores.RenumberedKept.{entries_mapped, fills_mapped, game_mapped}

@@ -1,8 +1,7 @@
 -- Trees and their flat lists in prefix order determine each other.
-use Rattle.gf_tree.proofs.Common.{◌≡◌, ℕ, zero, suc, ◌+◌, List, [], ◌∷◌, ◌++◌, refl, sym, ap, subst}
-use Rattle.gf_tree.proofs.Common.{◌∙◌, append_assoc, arith, Tree, Trees, count, branch, none, more}
-use Rattle.gf_tree.proofs.Common.{Listed, flatten, flatten_all, Fills, grow, zero-add, first}
-use Rattle.gf_tree.proofs.Common.{others}
+use Rattle.gf_tree.proofs.Common.{append_assoc, flatten_all, zero-add, flatten, branch, Listed, ◌≡◌}
+use Rattle.gf_tree.proofs.Common.{others, subst, arith, Trees, count, Fills, first, zero, List, suc}
+use Rattle.gf_tree.proofs.Common.{◌++◌, refl, Tree, none, more, grow, ◌+◌, ◌∷◌, sym, ◌∙◌, [], ap, ℕ}
 use Rattle.std.proofs.lemmas.List.{append-nil}
 pub use Rattle.gf_tree.specs.GrowsAgain.{grows_again}
 

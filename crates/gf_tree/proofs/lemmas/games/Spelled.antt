@@ -1,14 +1,13 @@
 -- What a file means is a game that a file can hold.
-use Rattle.gf_tree.proofs.Common.{◌≡◌, ℕ, zero, suc, ◌^◌, ◌<◌, List, [], ◌∷◌, ◌++◌, length, map}
-use Rattle.gf_tree.proofs.Common.{Some, None, Option, MatchOption, sym, ap, subst, ◌∙◌, arith}
-use Rattle.gf_tree.proofs.Common.{AllByRecursion, cons_option, IsFraction, Token, Closing, Text}
-use Rattle.gf_tree.proofs.Common.{Each, IsPayoffInBraces, Listed, flatten, Action, SetKey}
-use Rattle.gf_tree.proofs.Common.{InformationSet, Outcome, Use, FileNode, FileTree, set_uses}
-use Rattle.gf_tree.proofs.Common.{outcome_uses, Describes, Game, IsGame, IsSpellable}
-use Rattle.gf_tree.proofs.Common.{IsSpellableSet, IsSpellableOutcome, IsDescription, IsAction}
-use Rattle.gf_tree.proofs.Common.{IsInformationSet, SpellsMover, IsStep, IsResult, IsNode, Sentence}
-use Rattle.gf_tree.proofs.Common.{IsOutcomeDescription, keys_alone, IsGameOf, SpellsGame, IsLabel}
-use Rattle.gf_tree.proofs.Common.{IsSpelled, IsSpellableAction}
+use Rattle.gf_tree.proofs.Common.{IsOutcomeDescription, IsSpellableOutcome, IsSpellableAction, zero}
+use Rattle.gf_tree.proofs.Common.{IsPayoffInBraces, IsInformationSet, AllByRecursion, IsDescription}
+use Rattle.gf_tree.proofs.Common.{InformationSet, IsSpellableSet, outcome_uses, MatchOption, length}
+use Rattle.gf_tree.proofs.Common.{cons_option, IsSpellable, SpellsMover, IsFraction, keys_alone, []}
+use Rattle.gf_tree.proofs.Common.{SpellsGame, Describes, IsSpelled, FileNode, FileTree, set_uses, ℕ}
+use Rattle.gf_tree.proofs.Common.{IsAction, IsResult, Sentence, IsGameOf, Closing, flatten, Outcome}
+use Rattle.gf_tree.proofs.Common.{IsLabel, Option, Listed, Action, SetKey, IsGame, IsStep, IsNode}
+use Rattle.gf_tree.proofs.Common.{subst, arith, Token, List, ◌++◌, Some, None, Text, Each, Game, ap}
+use Rattle.gf_tree.proofs.Common.{◌≡◌, suc, ◌^◌, ◌<◌, ◌∷◌, map, sym, ◌∙◌, Use}
 use Rattle.gf_fraction.proofs.AllElements.{all_parts, all_mapped}
 use Rattle.gf_token.proofs.SpelledTokens.{AllSpelled, all_spelled, braced_spelled, comment_spelled}
 use Rattle.gf_tree.proofs.lemmas.games.Uses.{each, all_of_each, has}

@@ -1,7 +1,6 @@
 -- Worked files: what the machine of the reader answers to them is computed.
-use Rattle.gf_tree.proofs.Common.{◌≡◌, ℕ, List, length, Result, Ok, Err, refl, Fault, Span, Why}
-use Rattle.gf_tree.proofs.Common.{Game, SpellsGame, IsRefusal, game_in, Content, nothing, run}
-use Rattle.gf_tree.proofs.Common.{Format}
+use Rattle.gf_tree.proofs.Common.{SpellsGame, IsRefusal, game_in, Content, nothing, length, Result}
+use Rattle.gf_tree.proofs.Common.{Format, Fault, List, refl, Span, Game, ◌≡◌, Err, Why, run, Ok, ℕ}
 use Rattle.std.specs.Fmt.{digits}
 use Rattle.gf_fraction.specs.Computed.{gcd_within, lowest_of, number_of, sum_of}
 use Rattle.gf_token.specs.Indices.{index_of}

@@ -1,11 +1,10 @@
 -- The answer of the machine to the tokens of a file is what the file means: the one game that its
 -- bytes spell, or a refusal where one is due.
-use Rattle.gf_tree.proofs.Common.{◌≡◌, ℕ, List, ◌++◌, length, Ok, Err, refl, ap, subst}
-use Rattle.gf_tree.proofs.Common.{◌∙◌, Lexeme, Spells, tokens_of, Fault, Span, Why, Game}
-use Rattle.gf_tree.proofs.Common.{IsGame, Node, Parts, SpellsGame, game_with, IsRefusal, Kept}
-use Rattle.gf_tree.proofs.Common.{entries_with, game_in, IsSpellable, Content, nothing, run, Format}
-use Rattle.gf_tree.proofs.Common.{arith, Listed, Fills, Memory}
-use Rattle.gf_tree.proofs.Common.{same_tokens, IsJudged, Fails, to_all}
+use Rattle.gf_tree.proofs.Common.{entries_with, IsSpellable, same_tokens, SpellsGame, tokens_of, Ok}
+use Rattle.gf_tree.proofs.Common.{game_with, IsRefusal, IsJudged, game_in, Content, nothing, length}
+use Rattle.gf_tree.proofs.Common.{Lexeme, Spells, IsGame, Format, Listed, Memory, to_all, subst, ap}
+use Rattle.gf_tree.proofs.Common.{Fault, Parts, arith, Fills, Fails, List, ◌++◌, refl, Span, Game}
+use Rattle.gf_tree.proofs.Common.{Node, Kept, ◌≡◌, Err, ◌∙◌, Why, run, ℕ}
 use Rattle.gf_token.specs.inner.Machine.Fails.{of_file, of_memory}
 use Rattle.gf_token.specs.inner.Machine.{HasPassedPlace}
 use Rattle.gf_token.proofs.Reading.{accepted}

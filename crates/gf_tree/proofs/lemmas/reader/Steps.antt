@@ -1,22 +1,19 @@
 -- What the reader keeps still stands for the same when more is known.
-use Rattle.gf_tree.proofs.Common.{◌≡◌, ◌+◌, ◌<◌, ◌≤◌, ℕ, zero, suc, Bool, true, false, List, []}
-use Rattle.gf_tree.proofs.Common.{◌∷◌, ◌++◌, length, map, Option, Some, None, option_map, slice_get}
-use Rattle.gf_tree.proofs.Common.{refl, sym, ap, ◌∙◌, arith, subst, Decides-eqb, position, ◌==◌}
-use Rattle.gf_tree.proofs.Common.{length-map, KnownSets, set_with, Action, InformationSet, Outcome}
-use Rattle.gf_tree.proofs.Common.{SetKey, same_set, set_of, Game, actions_of, slice_get_within}
-use Rattle.gf_tree.proofs.Common.{position_from-zero, Ratio, label_of, at_position, count_of}
-use Rattle.gf_tree.proofs.Common.{Described, description_at, Remaining, Span, Fault, AreAmong, Kept}
-use Rattle.gf_tree.proofs.Common.{entries_with, Begun, Content, begun, past_set, nothing, run}
-use Rattle.gf_tree.proofs.Common.{set_ends, Position, State, new_set_ends, with_action, Format}
-use Rattle.gf_tree.proofs.Common.{KnownSetName, NewAction, OutcomeNumber, SetNumber, Why, Lexeme}
-use Rattle.gf_tree.proofs.Common.{set_number}
-use Rattle.gf_tree.proofs.Common.{Bare, Closing, heard, nat_eq, Result, Ok, Err, if◌then◌else◌}
-use Rattle.gf_tree.proofs.Common.{find, with_pending_set, KnownOutcomes, Reader, outcome_with}
-use Rattle.gf_tree.proofs.Common.{StandsBefore, actions_counted, at, placed, set_known}
-use Rattle.gf_tree.proofs.Common.{then_run}
-use Rattle.gf_tree.proofs.Common.{with_outcome, with_set, Memory, SumBelowOne, lexeme, Answer}
-use Rattle.gf_tree.proofs.Common.{Fails, Grows}
-use Rattle.gf_tree.proofs.Common.{answer, begun_with, content_of}
+use Rattle.gf_tree.proofs.Common.{position_from-zero, slice_get_within, with_pending_set, slice_get}
+use Rattle.gf_tree.proofs.Common.{actions_counted, InformationSet, description_at, OutcomeNumber, ℕ}
+use Rattle.gf_tree.proofs.Common.{if◌then◌else◌, KnownOutcomes, entries_with, new_set_ends, Outcome}
+use Rattle.gf_tree.proofs.Common.{KnownSetName, outcome_with, StandsBefore, with_outcome, KnownSets}
+use Rattle.gf_tree.proofs.Common.{Decides-eqb, at_position, with_action, SumBelowOne, option_map}
+use Rattle.gf_tree.proofs.Common.{length-map, actions_of, set_number, begun_with, content_of, false}
+use Rattle.gf_tree.proofs.Common.{Described, Remaining, NewAction, SetNumber, set_known, position}
+use Rattle.gf_tree.proofs.Common.{set_with, same_set, label_of, count_of, AreAmong, past_set, arith}
+use Rattle.gf_tree.proofs.Common.{set_ends, Position, then_run, with_set, Content, nothing, Closing}
+use Rattle.gf_tree.proofs.Common.{length, Option, Action, SetKey, set_of, Format, Lexeme, nat_eq}
+use Rattle.gf_tree.proofs.Common.{Result, Reader, placed, Memory, lexeme, Answer, answer, subst, []}
+use Rattle.gf_tree.proofs.Common.{Ratio, Fault, Begun, begun, State, heard, Fails, Grows, zero, ◌≡◌}
+use Rattle.gf_tree.proofs.Common.{Bool, true, List, ◌++◌, Some, None, refl, ◌==◌, Game, Span, Kept}
+use Rattle.gf_tree.proofs.Common.{Bare, find, ◌+◌, ◌<◌, ◌≤◌, suc, ◌∷◌, map, sym, ◌∙◌, run, Why, Err}
+use Rattle.gf_tree.proofs.Common.{ap, Ok, at}
 use Rattle.std.specs.Prelude.{OnOk, IfOk, IfNone, MatchResult}
 use Rattle.std.proofs.lemmas.List.Quantifiers.{position-Some}
 use Rattle.gf_tree.specs.inner.KnownOutcomes.{with_pending_outcome}

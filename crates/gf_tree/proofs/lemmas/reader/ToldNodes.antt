@@ -1,16 +1,14 @@
 -- The nodes that a reader tells are those of the game by its first-use numbers, as a file gives
 -- them.
-use Rattle.gf_tree.proofs.Common.{◌≡◌, ℕ, suc, ◌+◌, ◌≤◌, List, [], ◌∷◌, ◌++◌, length, map, take}
-use Rattle.gf_tree.proofs.Common.{max, Some, option_map, slice_get, refl, sym, ap, subst, ◌∙◌}
-use Rattle.gf_tree.proofs.Common.{arith, ◌==◌, filter, eq-eqb, length-map, map-append}
-use Rattle.gf_tree.proofs.Common.{slice_get-map, Lexeme, Spells, SetKey, InformationSet, Outcome}
-use Rattle.gf_tree.proofs.Common.{same_set, nat_eq, Decides-eqb, Game, IsGame, used_outcomes}
-use Rattle.gf_tree.proofs.Common.{used_sets, known_of, flatten, Described}
-use Rattle.gf_tree.proofs.Common.{first_uses, sets_of, AreAmong, Kept, entries_with, game_in}
-use Rattle.gf_tree.proofs.Common.{Content, nothing, run, Format, Renumbering, renumbered}
-use Rattle.gf_tree.proofs.Common.{renumbered_node, Bool, true, Ok, file_nodes, no_node}
-use Rattle.gf_tree.proofs.Common.{first_use_numbers, OfFile, ByFirstUse, told_from, told_outcome}
-use Rattle.gf_tree.proofs.Common.{told_set}
+use Rattle.gf_tree.proofs.Common.{first_use_numbers, renumbered_node, InformationSet, slice_get-map}
+use Rattle.gf_tree.proofs.Common.{used_outcomes, entries_with, told_outcome, Decides-eqb, slice_get}
+use Rattle.gf_tree.proofs.Common.{Renumbering, option_map, length-map, map-append, first_uses, List}
+use Rattle.gf_tree.proofs.Common.{renumbered, file_nodes, ByFirstUse, used_sets, Described, Outcome}
+use Rattle.gf_tree.proofs.Common.{told_from, same_set, known_of, AreAmong, told_set, flatten, subst}
+use Rattle.gf_tree.proofs.Common.{sets_of, game_in, Content, nothing, no_node, length, filter, ◌++◌}
+use Rattle.gf_tree.proofs.Common.{eq-eqb, Lexeme, Spells, SetKey, nat_eq, IsGame, Format, OfFile, ℕ}
+use Rattle.gf_tree.proofs.Common.{arith, take, Some, refl, ◌==◌, Game, Kept, Bool, true, ◌≡◌, suc}
+use Rattle.gf_tree.proofs.Common.{◌+◌, ◌≤◌, ◌∷◌, map, max, sym, ◌∙◌, run, [], ap, Ok}
 use Rattle.std.proofs.Common.{length-append}
 use Rattle.gf_tree.specs.inner.GameParts.{game_by}
 use Rattle.gf_tree.specs.declared.game.numbered_node.Numbering.{Numbering}

@@ -1,20 +1,18 @@
 -- The rows of nodes refuse for reasons, and so does each row after the front of a file.
-use Rattle.gf_tree.proofs.Common.{◌≡◌, ℕ, ◌<◌, List, [], ◌∷◌, ◌++◌, length, Bool, true, false}
-use Rattle.gf_tree.proofs.Common.{codes, Some, None, refl, sym, ap, subst, ◌∙◌, arith, inl, inr}
-use Rattle.gf_tree.proofs.Common.{length-append, same_Some, ◌⊎◌, Ratio, IsNumber, Token, Closing}
-use Rattle.gf_tree.proofs.Common.{Text, Bare, IsIndex, Begins, Why, Expected, UnknownPlayer}
-use Rattle.gf_tree.proofs.Common.{Mismatch, Action, InformationSet, Outcome, SetKey, set_of}
-use Rattle.gf_tree.proofs.Common.{set_with, IsDue, IndexIsDue, NumberIsDue, FileFront}
-use Rattle.gf_tree.proofs.Common.{PastOutcomeNumber, PastSetNumber, InActions, IsExtensiveFile}
-use Rattle.gf_tree.proofs.Common.{IsNewOutcome, IsNewSet, KnowsOutcome, ToOutcomeNumber, IsNoNumber}
-use Rattle.gf_tree.proofs.Common.{Row, a_first_name, an_outcome, or_comma, or_name, this_number}
-use Rattle.gf_tree.proofs.Common.{◌≢◌, append_cancel_left, why_of, NoEntry, BadIndex, SumBelowOne}
-use Rattle.gf_tree.proofs.Common.{PastPayoff, Comma, Accepts, append_assoc, whole, pos}
-use Rattle.gf_tree.proofs.Common.{NewProbabilityIsDue, GoesOnWith, DiffersFromOutcome}
-use Rattle.gf_tree.proofs.Common.{DiffersFromSet, EndsInFirstUse, ListsActions, PastNode}
-use Rattle.gf_tree.proofs.Common.{a_closing, a_new_action, a_new_branch, a_payoff, a_player}
-use Rattle.gf_tree.proofs.Common.{a_probability, a_set, no_label, this_label, IsBeforeRow, IsInNode}
-use Rattle.gf_tree.proofs.Common.{IsPositive}
+use Rattle.gf_tree.proofs.Common.{NewProbabilityIsDue, append_cancel_left, DiffersFromOutcome, List}
+use Rattle.gf_tree.proofs.Common.{PastOutcomeNumber, IsExtensiveFile, ToOutcomeNumber, IsNewOutcome}
+use Rattle.gf_tree.proofs.Common.{InformationSet, DiffersFromSet, EndsInFirstUse, length-append, []}
+use Rattle.gf_tree.proofs.Common.{UnknownPlayer, PastSetNumber, a_probability, KnowsOutcome, length}
+use Rattle.gf_tree.proofs.Common.{a_first_name, append_assoc, ListsActions, a_new_action, same_Some}
+use Rattle.gf_tree.proofs.Common.{a_new_branch, NumberIsDue, this_number, SumBelowOne, IsBeforeRow}
+use Rattle.gf_tree.proofs.Common.{IndexIsDue, IsNoNumber, an_outcome, PastPayoff, GoesOnWith, false}
+use Rattle.gf_tree.proofs.Common.{this_label, IsPositive, FileFront, InActions, a_closing, IsNumber}
+use Rattle.gf_tree.proofs.Common.{Expected, Mismatch, set_with, IsNewSet, or_comma, BadIndex, codes}
+use Rattle.gf_tree.proofs.Common.{PastNode, a_payoff, a_player, no_label, IsInNode, Closing, Begins}
+use Rattle.gf_tree.proofs.Common.{IsIndex, Outcome, or_name, NoEntry, Accepts, Action, SetKey, ◌++◌}
+use Rattle.gf_tree.proofs.Common.{set_of, why_of, subst, arith, Ratio, Token, IsDue, Comma, whole}
+use Rattle.gf_tree.proofs.Common.{a_set, Bool, true, Some, None, refl, Text, Bare, ◌≡◌, ◌<◌, ◌∷◌, ℕ}
+use Rattle.gf_tree.proofs.Common.{sym, ◌∙◌, inl, inr, ◌⊎◌, Why, Row, ◌≢◌, pos, ap}
 use Rattle.gf_tree.proofs.lemmas.fronts.CutFiles.{some_row}
 use Rattle.gf_tree.proofs.lemmas.fronts.Cuts.{first_is}
 use Rattle.gf_tree.proofs.lemmas.due.Nodes.{parts}

@@ -1,10 +1,8 @@
 -- Each list of bytes spells a game, or is refused at one place with one code.
-use Rattle.gf_tree.proofs.Common.{◌≡◌, ℕ, List, length, Result, Ok, Err, refl, arith}
-use Rattle.gf_tree.proofs.Common.{inl, inr, map-append, ◌⊎◌, Lexeme, Spells, tokens_of, Fault, Span}
-use Rattle.gf_tree.proofs.Common.{Why, IsExtensiveFile, Game, SpellsGame, IsRefusal, game_in}
-use Rattle.gf_tree.proofs.Common.{Memory}
-use Rattle.gf_tree.proofs.Common.{Content, nothing, run, Format, code_of}
-use Rattle.gf_tree.proofs.Common.{same_tokens}
+use Rattle.gf_tree.proofs.Common.{IsExtensiveFile, same_tokens, map-append, SpellsGame, tokens_of}
+use Rattle.gf_tree.proofs.Common.{IsRefusal, game_in, Content, nothing, code_of, length, Result, Ok}
+use Rattle.gf_tree.proofs.Common.{Lexeme, Spells, Memory, Format, arith, Fault, List, refl, Span, ℕ}
+use Rattle.gf_tree.proofs.Common.{Game, ◌≡◌, Err, inl, inr, ◌⊎◌, Why, run}
 use Rattle.gf_token.proofs.Places.{no_file, one_code, one_offending_place, one_span}
 use Rattle.gf_token.proofs.Spelled.{spelled_once}
 use Rattle.gf_tree.specs.Judgement.{IsRefused}

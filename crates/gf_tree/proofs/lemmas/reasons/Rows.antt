@@ -1,22 +1,20 @@
 -- What a row of the table of positions refuses, it refuses for a reason: the code applies there, or
 -- what is named is due.
-use Rattle.gf_tree.proofs.Common.{◌≡◌, ℕ, ◌<◌, List, [], ◌∷◌, length, refl, sym, subst, arith, inl}
-use Rattle.gf_tree.proofs.Common.{inr, codes, ◌⊎◌, Ratio, NumberFault, IsNumber, Token, IsAccepted}
-use Rattle.gf_tree.proofs.Common.{Opening, Closing, Comma, Text, Bare, Broken, Why, Expected}
-use Rattle.gf_tree.proofs.Common.{UnknownPlayer, Mismatch, NegativeProbability, Action}
-use Rattle.gf_tree.proofs.Common.{IsExtensiveFile, IsDue, Row, a_letter, a_node, a_text, a_word}
-use Rattle.gf_tree.proofs.Common.{an_end, an_opening, or_name, ◌≢◌, HasNumberFault, why_of, What}
-use Rattle.gf_tree.proofs.Common.{SumAboveOne, SumOverflow, Unterminated, IsInHeading, NumberIsDue}
-use Rattle.gf_tree.proofs.Common.{IndexIsDue, MayBeNext, Some, None, IsIndex, index_is, IsNoNumber}
-use Rattle.gf_tree.proofs.Common.{IsPositive, BadIndex, Option, append-nil, append_assoc, ◌++◌}
-use Rattle.gf_tree.proofs.Common.{IsWrongAfter, NewProbabilityIsDue, Accepts, Refuses}
-use Rattle.gf_tree.proofs.Common.{a_player_name, or_text, Applies, ap}
+use Rattle.gf_tree.proofs.Common.{NegativeProbability, NewProbabilityIsDue, IsExtensiveFile, length}
+use Rattle.gf_tree.proofs.Common.{HasNumberFault, UnknownPlayer, a_player_name, Unterminated, subst}
+use Rattle.gf_tree.proofs.Common.{append_assoc, IsWrongAfter, NumberFault, SumAboveOne, SumOverflow}
+use Rattle.gf_tree.proofs.Common.{IsInHeading, NumberIsDue, IsAccepted, an_opening, IndexIsDue, ◌≡◌}
+use Rattle.gf_tree.proofs.Common.{IsNoNumber, IsPositive, append-nil, MayBeNext, IsNumber, Expected}
+use Rattle.gf_tree.proofs.Common.{Mismatch, a_letter, index_is, BadIndex, Opening, Closing, or_name}
+use Rattle.gf_tree.proofs.Common.{IsIndex, Accepts, Refuses, or_text, Applies, Broken, Action, List}
+use Rattle.gf_tree.proofs.Common.{a_node, a_text, a_word, an_end, why_of, Option, arith, codes, ◌<◌}
+use Rattle.gf_tree.proofs.Common.{Ratio, Token, Comma, IsDue, refl, Text, Bare, What, Some, None, ℕ}
+use Rattle.gf_tree.proofs.Common.{◌++◌, ◌∷◌, sym, inl, inr, ◌⊎◌, Why, Row, ◌≢◌, [], ap}
 use Rattle.gf_tree.proofs.lemmas.due.Rows.{Stands, accepted}
 use Rattle.gf_tree.proofs.lemmas.due.Answers.{no_index}
-use Rattle.gf_tree.proofs.lemmas.due.BareTokens.{IsWord, no_letter, plus_no_index, plus_number}
-use Rattle.gf_tree.proofs.lemmas.due.BareTokens.{t_no_index, t_no_number, two_index}
-use Rattle.gf_tree.proofs.lemmas.due.BareTokens.{letter_from_zero, two_word, t_no_word}
-use Rattle.gf_tree.proofs.lemmas.due.BareTokens.{word_from_zero}
+use Rattle.gf_tree.proofs.lemmas.due.BareTokens.{letter_from_zero, word_from_zero, plus_no_index}
+use Rattle.gf_tree.proofs.lemmas.due.BareTokens.{plus_number, t_no_number, t_no_index, no_letter}
+use Rattle.gf_tree.proofs.lemmas.due.BareTokens.{two_index, t_no_word, two_word, IsWord}
 use Rattle.gf_token.specs.Indices.{index_of}
 use Rattle.gf_tree.specs.Rows.{Always, IsNodeLetter, none}
 use Rattle.gf_fraction.specs.declared.fraction.NumberFault.TheVariants as number

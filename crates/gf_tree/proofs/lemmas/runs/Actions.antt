@@ -1,12 +1,11 @@
 -- Runs over the actions of a new information set in braces.
-use Rattle.gf_tree.proofs.Common.{◌≡◌, ℕ, zero, suc, ◌<◌, List, [], ◌∷◌, ◌++◌, length, Option, Some}
-use Rattle.gf_tree.proofs.Common.{None, Result, Ok, Err, refl, sym, ap, subst, ◌∙◌, append_assoc}
-use Rattle.gf_tree.proofs.Common.{append-nil, arith, ints, pos, ◌≤ℤ◌, AllByRecursion, Token, Each}
-use Rattle.gf_tree.proofs.Common.{Why, Closing, Text, Bare, Ratio, IsFraction, whole, AddsTo}
-use Rattle.gf_tree.proofs.Common.{Action, InformationSet, SetKey, set_of, AreActions, Share}
-use Rattle.gf_tree.proofs.Common.{share_of, IsAction, with_action, Content, begun, new_set_ends}
-use Rattle.gf_tree.proofs.Common.{set_ends, shared, NewAction, OutcomeNumber, run_tokens, then_run}
-use Rattle.gf_tree.proofs.Common.{with_set, AddUpTo}
+use Rattle.gf_tree.proofs.Common.{AllByRecursion, InformationSet, OutcomeNumber, append_assoc, zero}
+use Rattle.gf_tree.proofs.Common.{new_set_ends, with_action, append-nil, IsFraction, AreActions, []}
+use Rattle.gf_tree.proofs.Common.{run_tokens, NewAction, share_of, IsAction, set_ends, then_run, Ok}
+use Rattle.gf_tree.proofs.Common.{with_set, Closing, Content, AddUpTo, length, Option, Result, List}
+use Rattle.gf_tree.proofs.Common.{AddsTo, Action, SetKey, set_of, shared, subst, arith, Token, ◌++◌}
+use Rattle.gf_tree.proofs.Common.{Ratio, whole, Share, begun, Some, None, refl, ints, ◌≤ℤ◌, Each, ℕ}
+use Rattle.gf_tree.proofs.Common.{Text, Bare, ◌≡◌, suc, ◌<◌, ◌∷◌, Err, sym, ◌∙◌, pos, Why, ap}
 use Rattle.gf_tree.proofs.lemmas.runs.Tokens.{Reads, run_on, guard_ok, ratio_is}
 use Rattle.gf_tree.proofs.lemmas.runs.Shares.{share_found, share_again, sum_high}
 

@@ -1,21 +1,19 @@
 -- Nodes that were read before change nothing in what the machine does.
-use Rattle.gf_tree.proofs.Common.{◌≡◌, ℕ, zero, suc, Bool, cond, List, [], ◌∷◌, length, Option}
-use Rattle.gf_tree.proofs.Common.{Result, Ok, Err, refl, append_assoc, nat_eq, arith, codes}
-use Rattle.gf_tree.proofs.Common.{pointwise, Ratio, NumberFault, Remaining, Token, Lexeme, count_of}
-use Rattle.gf_tree.proofs.Common.{Opening, Closing, Comma, Text, Bare, Why, Expected, Action}
-use Rattle.gf_tree.proofs.Common.{InformationSet, Outcome, SetKey, Node, Listed, Share, Begun}
-use Rattle.gf_tree.proofs.Common.{Content, Position, State, after_node, at, past_outcome}
-use Rattle.gf_tree.proofs.Common.{new_set_ends, node_letter, outcome_number, paid, personal_node}
-use Rattle.gf_tree.proofs.Common.{player_number, run, set_ends, set_number, shared, step, with_node}
-use Rattle.gf_tree.proofs.Common.{Format, Version, Letter, Title, BeforePlayers, InPlayers}
-use Rattle.gf_tree.proofs.Common.{AfterPlayers, NodeDue, ChanceName, PersonalName, TerminalName}
-use Rattle.gf_tree.proofs.Common.{PlayerNumber, SetNumber, NewSetName, NewSetOpening, NewAction}
-use Rattle.gf_tree.proofs.Common.{NewProbability, KnownSetName, KnownSetOpening, KnownAction}
-use Rattle.gf_tree.proofs.Common.{KnownProbability, OutcomeNumber, NewOutcomeName}
-use Rattle.gf_tree.proofs.Common.{NewOutcomeOpening, NewPayoff, AfterNewPayoff, KnownOutcomeName}
-use Rattle.gf_tree.proofs.Common.{KnownOutcomeOpening, KnownPayoff, AfterKnownPayoff, heard}
-use Rattle.gf_tree.proofs.Common.{outcome_ends, same_number, then_run, new_label, after_nodes}
-use Rattle.gf_tree.proofs.Common.{placed}
+use Rattle.gf_tree.proofs.Common.{KnownOutcomeOpening, NewOutcomeOpening, KnownProbability, Opening}
+use Rattle.gf_tree.proofs.Common.{KnownOutcomeName, AfterKnownPayoff, KnownSetOpening, append_assoc}
+use Rattle.gf_tree.proofs.Common.{InformationSet, outcome_number, NewProbability, NewOutcomeName, ℕ}
+use Rattle.gf_tree.proofs.Common.{AfterNewPayoff, personal_node, player_number, BeforePlayers, zero}
+use Rattle.gf_tree.proofs.Common.{NewSetOpening, OutcomeNumber, past_outcome, new_set_ends, Closing}
+use Rattle.gf_tree.proofs.Common.{AfterPlayers, PersonalName, TerminalName, PlayerNumber, pointwise}
+use Rattle.gf_tree.proofs.Common.{KnownSetName, outcome_ends, NumberFault, node_letter, KnownAction}
+use Rattle.gf_tree.proofs.Common.{KnownPayoff, same_number, after_nodes, after_node, set_number, []}
+use Rattle.gf_tree.proofs.Common.{ChanceName, NewSetName, Remaining, with_node, InPlayers, count_of}
+use Rattle.gf_tree.proofs.Common.{SetNumber, NewAction, NewPayoff, new_label, Expected, Position}
+use Rattle.gf_tree.proofs.Common.{set_ends, then_run, Outcome, Content, Version, NodeDue, length}
+use Rattle.gf_tree.proofs.Common.{Option, Result, nat_eq, Lexeme, Action, SetKey, Listed, shared}
+use Rattle.gf_tree.proofs.Common.{Format, Letter, placed, arith, codes, Ratio, Token, Comma, Share}
+use Rattle.gf_tree.proofs.Common.{Begun, State, Title, heard, Bool, cond, List, refl, Text, Bare}
+use Rattle.gf_tree.proofs.Common.{Node, paid, step, ◌≡◌, suc, ◌∷◌, Err, Why, run, Ok, at}
 use Rattle.gf_fraction.specs.Computed.{number_of}
 use Rattle.gf_token.specs.Indices.{index_of}
 use Rattle.gf_tree.specs.inner.ReaderState.{with_front, with_nodes}

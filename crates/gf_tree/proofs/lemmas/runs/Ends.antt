@@ -1,20 +1,19 @@
 -- Each state that the machine of the reader comes to can be completed.
-use Rattle.gf_tree.proofs.Common.{◌≡◌, ℕ, zero, suc, ◌<◌, true, List, [], ◌∷◌, length, Option, Some}
-use Rattle.gf_tree.proofs.Common.{None, MatchOption, Ok, refl, ap, ◌∙◌, arith, codes, pos, ints}
-use Rattle.gf_tree.proofs.Common.{length-append, Ratio, IsFraction, whole, Token, count_of, Opening}
-use Rattle.gf_tree.proofs.Common.{Closing, Text, Bare, Action, InformationSet, Outcome, SetKey}
-use Rattle.gf_tree.proofs.Common.{same_set, set_of, description_at, then_run, Begun, Content}
-use Rattle.gf_tree.proofs.Common.{Position, State, at, begun, past_label, past_set}
-use Rattle.gf_tree.proofs.Common.{new_set_ends, outcome_number, paid, player_number, set_ends}
-use Rattle.gf_tree.proofs.Common.{set_number, shared, step, with_action, with_node, Format, Version}
-use Rattle.gf_tree.proofs.Common.{Letter, Title, BeforePlayers, InPlayers, AfterPlayers, NodeDue}
-use Rattle.gf_tree.proofs.Common.{ChanceName, PersonalName, TerminalName, PlayerNumber, SetNumber}
-use Rattle.gf_tree.proofs.Common.{NewSetName, NewSetOpening, NewAction, NewProbability}
-use Rattle.gf_tree.proofs.Common.{KnownSetName, KnownSetOpening, KnownAction, KnownProbability}
-use Rattle.gf_tree.proofs.Common.{OutcomeNumber, NewOutcomeName, NewOutcomeOpening, NewPayoff}
-use Rattle.gf_tree.proofs.Common.{AfterNewPayoff, KnownOutcomeName, KnownOutcomeOpening}
-use Rattle.gf_tree.proofs.Common.{KnownPayoff, AfterKnownPayoff, nat_le, le-leb, number_text}
-use Rattle.gf_tree.proofs.Common.{written_is_read, set_known}
+use Rattle.gf_tree.proofs.Common.{KnownOutcomeOpening, NewOutcomeOpening, KnownProbability, Opening}
+use Rattle.gf_tree.proofs.Common.{KnownOutcomeName, AfterKnownPayoff, KnownSetOpening, new_set_ends}
+use Rattle.gf_tree.proofs.Common.{written_is_read, InformationSet, description_at, outcome_number}
+use Rattle.gf_tree.proofs.Common.{NewProbability, NewOutcomeName, AfterNewPayoff, length-append, []}
+use Rattle.gf_tree.proofs.Common.{player_number, BeforePlayers, NewSetOpening, OutcomeNumber, arith}
+use Rattle.gf_tree.proofs.Common.{AfterPlayers, PersonalName, TerminalName, PlayerNumber, with_node}
+use Rattle.gf_tree.proofs.Common.{KnownSetName, MatchOption, with_action, KnownAction, KnownPayoff}
+use Rattle.gf_tree.proofs.Common.{number_text, IsFraction, past_label, set_number, ChanceName, zero}
+use Rattle.gf_tree.proofs.Common.{NewSetName, InPlayers, SetNumber, NewAction, NewPayoff, set_known}
+use Rattle.gf_tree.proofs.Common.{count_of, same_set, then_run, Position, past_set, set_ends, codes}
+use Rattle.gf_tree.proofs.Common.{Closing, Outcome, Content, Version, NodeDue, length, Option, true}
+use Rattle.gf_tree.proofs.Common.{Action, SetKey, set_of, shared, Format, Letter, nat_le, le-leb, ℕ}
+use Rattle.gf_tree.proofs.Common.{Ratio, whole, Token, Begun, State, begun, Title, List, Some, None}
+use Rattle.gf_tree.proofs.Common.{refl, ints, Text, Bare, paid, step, ◌≡◌, suc, ◌<◌, ◌∷◌, ◌∙◌, pos}
+use Rattle.gf_tree.proofs.Common.{Ok, ap, at}
 use Rattle.gf_fraction.specs.Computed.{number_of, lowest_of, gcd_within}
 use Rattle.gf_token.specs.Indices.{index_of}
 use Rattle.gf_tree.proofs.lemmas.runs.Tokens.{Reads, run_on, text_again}

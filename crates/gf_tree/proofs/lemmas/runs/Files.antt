@@ -1,13 +1,12 @@
 -- Runs over all nodes of a file, in prefix order.
-use Rattle.gf_tree.proofs.Common.{◌≡◌, ℕ, zero, suc, ◌+◌, ◌-◌, ◌<◌, Bool, true, false, cond, List}
-use Rattle.gf_tree.proofs.Common.{[], ◌∷◌, ◌++◌, length, map, option_map, Option, Some, None, Ok}
-use Rattle.gf_tree.proofs.Common.{Err, refl, sym, subst, ◌∙◌, append_assoc, append-nil, arith}
-use Rattle.gf_tree.proofs.Common.{nat_eq, length-append, AllByRecursion, cons_option, Token, Bare}
-use Rattle.gf_tree.proofs.Common.{Each, Listed, Fills, keys_alone, Game, HasChildren, Node, Learns}
-use Rattle.gf_tree.proofs.Common.{IsNode, InformationSet, SetKey, Outcome, same_set, Described}
-use Rattle.gf_tree.proofs.Common.{description_at, Use, FileNode, set_uses, outcome_uses, Content}
-use Rattle.gf_tree.proofs.Common.{after_node, NodeDue, run_tokens, then_run, game_in, ◌==◌}
-use Rattle.gf_tree.proofs.Common.{node_or_end}
+use Rattle.gf_tree.proofs.Common.{AllByRecursion, InformationSet, description_at, length-append, []}
+use Rattle.gf_tree.proofs.Common.{append_assoc, outcome_uses, cons_option, HasChildren, node_or_end}
+use Rattle.gf_tree.proofs.Common.{option_map, append-nil, keys_alone, after_node, run_tokens, false}
+use Rattle.gf_tree.proofs.Common.{Described, same_set, FileNode, set_uses, then_run, Outcome, subst}
+use Rattle.gf_tree.proofs.Common.{Content, NodeDue, game_in, length, Option, nat_eq, Listed, Learns}
+use Rattle.gf_tree.proofs.Common.{IsNode, SetKey, arith, Token, Fills, zero, Bool, true, cond, List}
+use Rattle.gf_tree.proofs.Common.{◌++◌, Some, None, refl, Bare, Each, Game, Node, ◌==◌, ◌≡◌, suc, ℕ}
+use Rattle.gf_tree.proofs.Common.{◌+◌, ◌-◌, ◌<◌, ◌∷◌, map, Err, sym, ◌∙◌, Use, Ok}
 use Rattle.gf_tree.proofs.lemmas.games.Consistent.{map_entry}
 use Rattle.gf_tree.proofs.lemmas.games.TreesOnce.{same_set_equality}
 use Rattle.gf_tree.proofs.lemmas.runs.Tokens.{Reads, run_on, ok_read, ok_is}

@@ -1,10 +1,9 @@
 -- Runs over the heading of an extensive file: its format, title and players.
-use Rattle.gf_tree.proofs.Common.{◌≡◌, ℕ, Bool, true, false, List, [], ◌∷◌, ◌++◌, map, refl, sym}
-use Rattle.gf_tree.proofs.Common.{ap, subst, ◌∙◌, append_assoc, append-nil, inl, inr, nat_eq, arith}
-use Rattle.gf_tree.proofs.Common.{codes, ◌⊎◌, pointwise, Token, braced, Opening, Closing, Text}
-use Rattle.gf_tree.proofs.Common.{Bare, Content, at, nothing, Format, Version, Letter, Title}
-use Rattle.gf_tree.proofs.Common.{BeforePlayers, InPlayers, AfterPlayers, run_tokens, ◌||◌}
-use Rattle.gf_tree.proofs.Common.{with_player}
+use Rattle.gf_tree.proofs.Common.{BeforePlayers, append_assoc, AfterPlayers, with_player, pointwise}
+use Rattle.gf_tree.proofs.Common.{append-nil, run_tokens, InPlayers, Opening, Closing, Content, ◌≡◌}
+use Rattle.gf_tree.proofs.Common.{nothing, Version, nat_eq, braced, Format, Letter, false, subst, ℕ}
+use Rattle.gf_tree.proofs.Common.{arith, codes, Token, Title, Bool, true, List, ◌++◌, refl, Text}
+use Rattle.gf_tree.proofs.Common.{Bare, ◌||◌, ◌∷◌, map, sym, ◌∙◌, inl, inr, ◌⊎◌, [], ap, at}
 use Rattle.gf_tree.proofs.lemmas.runs.Tokens.{Reads, guard_ok, same_bytes}
 
 -- ---- what was read

@@ -1,22 +1,21 @@
 -- What holds wherever the machine goes on: numbers that it knows are fractions, a sum of
 -- probabilities is at most one, and if a player moves, there is such a player.
-use Rattle.gf_tree.proofs.Common.{◌≡◌, ℕ, zero, suc, ◌<◌, Bool, true, false, cond, List, [], ◌∷◌}
-use Rattle.gf_tree.proofs.Common.{◌++◌, length, Option, Some, None, MatchOption, Result, Ok, Err}
-use Rattle.gf_tree.proofs.Common.{refl, arith, nat_eq, Decides-eqb, codes, pointwise}
-use Rattle.gf_tree.proofs.Common.{AllByRecursion, Ratio, IsFraction, NumberFault, number_is, Token}
-use Rattle.gf_tree.proofs.Common.{count_of, Opening, Closing, Comma, Text, Bare, Why, Action}
-use Rattle.gf_tree.proofs.Common.{InformationSet, Outcome, SetKey, same_set, set_of, Described}
-use Rattle.gf_tree.proofs.Common.{description_at, Share, share_of, Begun, Content, Position, State}
-use Rattle.gf_tree.proofs.Common.{after_node, at, begun, past_outcome, past_set, new_set_ends}
-use Rattle.gf_tree.proofs.Common.{node_letter, outcome_number, paid, player_number, set_ends}
-use Rattle.gf_tree.proofs.Common.{set_number, shared, step, Format, Version, Letter, Title}
-use Rattle.gf_tree.proofs.Common.{BeforePlayers, InPlayers, AfterPlayers, NodeDue, ChanceName}
-use Rattle.gf_tree.proofs.Common.{PersonalName, TerminalName, PlayerNumber, SetNumber, NewSetName}
-use Rattle.gf_tree.proofs.Common.{NewSetOpening, NewAction, NewProbability, KnownSetName}
-use Rattle.gf_tree.proofs.Common.{KnownSetOpening, KnownAction, KnownProbability, OutcomeNumber}
-use Rattle.gf_tree.proofs.Common.{NewOutcomeName, NewOutcomeOpening, NewPayoff, AfterNewPayoff}
-use Rattle.gf_tree.proofs.Common.{KnownOutcomeName, KnownOutcomeOpening, KnownPayoff}
-use Rattle.gf_tree.proofs.Common.{AfterKnownPayoff, new_label}
+use Rattle.gf_tree.proofs.Common.{KnownOutcomeOpening, NewOutcomeOpening, KnownProbability, Opening}
+use Rattle.gf_tree.proofs.Common.{KnownOutcomeName, AfterKnownPayoff, KnownSetOpening, past_outcome}
+use Rattle.gf_tree.proofs.Common.{AllByRecursion, InformationSet, description_at, outcome_number, ℕ}
+use Rattle.gf_tree.proofs.Common.{NewProbability, NewOutcomeName, AfterNewPayoff, player_number, []}
+use Rattle.gf_tree.proofs.Common.{BeforePlayers, NewSetOpening, OutcomeNumber, new_set_ends, length}
+use Rattle.gf_tree.proofs.Common.{AfterPlayers, PersonalName, TerminalName, PlayerNumber, pointwise}
+use Rattle.gf_tree.proofs.Common.{KnownSetName, MatchOption, Decides-eqb, NumberFault, node_letter}
+use Rattle.gf_tree.proofs.Common.{KnownAction, KnownPayoff, IsFraction, after_node, set_number, ◌≡◌}
+use Rattle.gf_tree.proofs.Common.{ChanceName, NewSetName, number_is, Described, InPlayers, count_of}
+use Rattle.gf_tree.proofs.Common.{SetNumber, NewAction, NewPayoff, new_label, same_set, share_of}
+use Rattle.gf_tree.proofs.Common.{Position, past_set, set_ends, Closing, Outcome, Content, Version}
+use Rattle.gf_tree.proofs.Common.{NodeDue, Option, Result, nat_eq, Action, SetKey, set_of, shared}
+use Rattle.gf_tree.proofs.Common.{Format, Letter, false, arith, codes, Ratio, Token, Comma, Share}
+use Rattle.gf_tree.proofs.Common.{Begun, State, begun, Title, zero, Bool, true, cond, List, ◌++◌}
+use Rattle.gf_tree.proofs.Common.{Some, None, refl, Text, Bare, paid, step, suc, ◌<◌, ◌∷◌, Err, Why}
+use Rattle.gf_tree.proofs.Common.{Ok, at}
 use Rattle.gf_fraction.specs.Computed.{number_of}
 use Rattle.gf_token.specs.Indices.{index_of}
 use Rattle.gf_tree.specs.inner.Probability.{is_one}

@@ -1,15 +1,14 @@
 -- Runs over one node: its letter, its name, its set and its outcome.
-use Rattle.gf_tree.proofs.Common.{◌≡◌, ℕ, zero, suc, ◌+◌, ◌-◌, ◌<◌, ◌≤◌, Bool, true, false, cond}
-use Rattle.gf_tree.proofs.Common.{List, [], ◌∷◌, ◌++◌, length, option_map, Option, Some, None}
-use Rattle.gf_tree.proofs.Common.{MatchOption, Ok, Err, refl, sym, ap, subst, ◌∙◌, append_assoc}
-use Rattle.gf_tree.proofs.Common.{arith, nat_eq, codes, pointwise, Token, Text, Bare, count_of}
-use Rattle.gf_tree.proofs.Common.{IsIndex, count_again, Expected, UnknownPlayer, InformationSet}
-use Rattle.gf_tree.proofs.Common.{SetKey, Outcome, set_of, same_set, IsSet, Described}
-use Rattle.gf_tree.proofs.Common.{description_at, Use, FileNode, keys_alone, Learns, SpellsMover}
-use Rattle.gf_tree.proofs.Common.{IsStep, IsResult, IsNode, Content, at, begun, node_letter}
-use Rattle.gf_tree.proofs.Common.{personal_node, player_number, after_node, NodeDue, ChanceName}
-use Rattle.gf_tree.proofs.Common.{PersonalName, TerminalName, SetNumber, OutcomeNumber, run_tokens}
-use Rattle.gf_tree.proofs.Common.{then_run, nat_le, le-leb, count_is}
+use Rattle.gf_tree.proofs.Common.{InformationSet, description_at, UnknownPlayer, personal_node, ◌≡◌}
+use Rattle.gf_tree.proofs.Common.{player_number, OutcomeNumber, append_assoc, PersonalName, IsIndex}
+use Rattle.gf_tree.proofs.Common.{TerminalName, MatchOption, count_again, SpellsMover, node_letter}
+use Rattle.gf_tree.proofs.Common.{option_map, keys_alone, after_node, ChanceName, run_tokens, false}
+use Rattle.gf_tree.proofs.Common.{pointwise, Described, SetNumber, count_of, Expected, same_set, []}
+use Rattle.gf_tree.proofs.Common.{FileNode, IsResult, then_run, count_is, Outcome, Content, NodeDue}
+use Rattle.gf_tree.proofs.Common.{length, Option, nat_eq, SetKey, set_of, Learns, IsStep, IsNode, ℕ}
+use Rattle.gf_tree.proofs.Common.{nat_le, le-leb, subst, arith, codes, Token, IsSet, begun, zero}
+use Rattle.gf_tree.proofs.Common.{Bool, true, cond, List, ◌++◌, Some, None, refl, Text, Bare, suc}
+use Rattle.gf_tree.proofs.Common.{◌+◌, ◌-◌, ◌<◌, ◌≤◌, ◌∷◌, Err, sym, ◌∙◌, Use, Ok, ap, at}
 use Rattle.gf_tree.proofs.lemmas.fronts.Groups.{NoText}
 use Rattle.gf_tree.proofs.lemmas.games.TreesOnce.{same_set_equality}
 use Rattle.gf_tree.proofs.lemmas.runs.Tokens.{Reads, run_on, same_bytes}

@@ -1,12 +1,11 @@
 -- Runs over the payoffs of an outcome in braces, for a new outcome and for a known one.
-use Rattle.gf_tree.proofs.Common.{◌≡◌, ℕ, zero, suc, Bool, true, false, List, [], ◌∷◌, ◌++◌, length}
-use Rattle.gf_tree.proofs.Common.{Some, Result, Ok, Err, refl, sym, ap, ◌∙◌, append_assoc}
-use Rattle.gf_tree.proofs.Common.{append-nil, inl, inr, arith, ◌⊎◌, Token, Closing, Comma, Bare}
-use Rattle.gf_tree.proofs.Common.{Each, IsPayoffInBraces, Why, Ratio, IsNumber, NumberFault}
-use Rattle.gf_tree.proofs.Common.{number_is, number_again, Outcome, run_tokens, then_run}
-use Rattle.gf_tree.proofs.Common.{AfterKnownPayoff, NodeDue, NewPayoff, AfterNewPayoff, KnownPayoff}
-use Rattle.gf_tree.proofs.Common.{Begun, Content, Position, State, at, paid, with_node, same_number}
-use Rattle.gf_tree.proofs.Common.{with_outcome, with_payoff}
+use Rattle.gf_tree.proofs.Common.{IsPayoffInBraces, AfterKnownPayoff, AfterNewPayoff, append_assoc}
+use Rattle.gf_tree.proofs.Common.{number_again, with_outcome, NumberFault, KnownPayoff, same_number}
+use Rattle.gf_tree.proofs.Common.{with_payoff, append-nil, run_tokens, number_is, NewPayoff, length}
+use Rattle.gf_tree.proofs.Common.{with_node, IsNumber, then_run, Position, Closing, Outcome, Result}
+use Rattle.gf_tree.proofs.Common.{NodeDue, Content, false, arith, Token, Comma, Ratio, Begun, State}
+use Rattle.gf_tree.proofs.Common.{zero, Bool, true, List, ◌++◌, Some, refl, Bare, Each, paid, ◌≡◌}
+use Rattle.gf_tree.proofs.Common.{suc, ◌∷◌, Err, sym, ◌∙◌, inl, inr, ◌⊎◌, Why, [], Ok, ap, at, ℕ}
 use Rattle.gf_fraction.specs.Computed.{number_of}
 use Rattle.gf_tree.proofs.lemmas.runs.Tokens.{Reads, run_on, ratio_same}
 

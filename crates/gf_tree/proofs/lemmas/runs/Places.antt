@@ -1,10 +1,9 @@
 -- The machine of the reader is one of those of which gf_token speaks, and it reads the extensive
 -- files.
-use Rattle.gf_tree.proofs.Common.{◌≡◌, ℕ, List, [], ◌∷◌, ◌++◌, Result, Ok, refl, sym, subst, ◌∙◌}
-use Rattle.gf_tree.proofs.Common.{Err, placed, then_run, Token, Lexeme, tokens_of, Why, Format}
-use Rattle.gf_tree.proofs.Common.{IsExtensiveFile}
-use Rattle.gf_tree.proofs.Common.{Content, Position, State, at, nothing, finish, game_in, run, step}
-use Rattle.gf_tree.proofs.Common.{run_tokens, ◌↔◌}
+use Rattle.gf_tree.proofs.Common.{IsExtensiveFile, run_tokens, tokens_of, then_run, Position, subst}
+use Rattle.gf_tree.proofs.Common.{Content, nothing, game_in, Result, placed, Lexeme, Format, finish}
+use Rattle.gf_tree.proofs.Common.{Token, State, List, ◌++◌, refl, step, ◌≡◌, ◌∷◌, sym, ◌∙◌, Err, []}
+use Rattle.gf_tree.proofs.Common.{Why, run, ◌↔◌, Ok, at, ℕ}
 use Rattle.gf_token.specs.inner.Machine as any_format
 use Rattle.gf_token.proofs.Reading.{IsReader}
 use Rattle.gf_token.proofs.Walks as any_walk

@@ -1,14 +1,13 @@
 -- Runs over the outcome of a node: its number, and its description.
-use Rattle.gf_tree.proofs.Common.{◌≡◌, ℕ, zero, suc, ◌<◌, false, List, [], ◌∷◌, ◌++◌, length}
-use Rattle.gf_tree.proofs.Common.{option_map, Option, Some, None, Ok, refl, ap, append_assoc, arith}
-use Rattle.gf_tree.proofs.Common.{inl, inr, nat_eq, ◌⊎◌, AllByRecursion, Decides-eqb, Token, braced}
-use Rattle.gf_tree.proofs.Common.{IsIndex, Opening, Closing, Text, Bare, index_again, Ratio}
-use Rattle.gf_tree.proofs.Common.{Outcome, IsOutcome, Use, Learns, Described, description_at}
-use Rattle.gf_tree.proofs.Common.{IsDescription, IsOutcomeDescription, IsResult, Begun, Content, at}
-use Rattle.gf_tree.proofs.Common.{past_outcome, outcome_number, with_node, run_tokens, then_run}
-use Rattle.gf_tree.proofs.Common.{NodeDue, OutcomeNumber, NewOutcomeName, NewOutcomeOpening}
-use Rattle.gf_tree.proofs.Common.{NewPayoff, KnownOutcomeName, KnownOutcomeOpening, KnownPayoff}
-use Rattle.gf_tree.proofs.Common.{index_is}
+use Rattle.gf_tree.proofs.Common.{IsOutcomeDescription, KnownOutcomeOpening, NewOutcomeOpening, ◌≡◌}
+use Rattle.gf_tree.proofs.Common.{KnownOutcomeName, AllByRecursion, description_at, outcome_number}
+use Rattle.gf_tree.proofs.Common.{NewOutcomeName, IsDescription, OutcomeNumber, append_assoc, false}
+use Rattle.gf_tree.proofs.Common.{past_outcome, Decides-eqb, index_again, KnownPayoff, option_map}
+use Rattle.gf_tree.proofs.Common.{run_tokens, IsOutcome, Described, with_node, NewPayoff, IsResult}
+use Rattle.gf_tree.proofs.Common.{then_run, index_is, IsIndex, Opening, Closing, Outcome, Content}
+use Rattle.gf_tree.proofs.Common.{NodeDue, length, Option, nat_eq, braced, Learns, arith, Token, []}
+use Rattle.gf_tree.proofs.Common.{Ratio, Begun, zero, List, ◌++◌, Some, None, refl, Text, Bare, suc}
+use Rattle.gf_tree.proofs.Common.{◌<◌, ◌∷◌, inl, inr, ◌⊎◌, Use, Ok, ap, at, ℕ}
 use Rattle.gf_token.specs.Indices.{index_of}
 use Rattle.gf_tree.proofs.lemmas.fronts.Groups.{NoText}
 use Rattle.gf_tree.proofs.lemmas.games.Members.{all_more}

@@ -1,14 +1,13 @@
 -- Runs over the information set of a node: its number, and its description.
-use Rattle.gf_tree.proofs.Common.{◌≡◌, ℕ, ◌<◌, ◌≤◌, List, [], ◌∷◌, ◌++◌, length, Option, Some, None}
-use Rattle.gf_tree.proofs.Common.{Ok, refl, sym, ap, subst, ◌∙◌, append_assoc, arith, inl, inr, ◌⊎◌}
-use Rattle.gf_tree.proofs.Common.{pos, AllByRecursion, Token, braced, count_of, Opening, Closing}
-use Rattle.gf_tree.proofs.Common.{Text, Bare, count_again, IsFraction, whole, whole_fraction}
-use Rattle.gf_tree.proofs.Common.{Action, InformationSet, SetKey, set_of, same_set, IsSet}
-use Rattle.gf_tree.proofs.Common.{Described, description_at, Use, Learns, OutcomeNumber, SetNumber}
-use Rattle.gf_tree.proofs.Common.{NewSetName, NewSetOpening, NewAction, KnownSetName}
-use Rattle.gf_tree.proofs.Common.{KnownSetOpening, KnownAction, IsPositive, IsDescription}
-use Rattle.gf_tree.proofs.Common.{IsInformationSet, Content, at, begun, past_set, set_number}
-use Rattle.gf_tree.proofs.Common.{run_tokens, then_run, count_is}
+use Rattle.gf_tree.proofs.Common.{IsInformationSet, KnownSetOpening, AllByRecursion, whole_fraction}
+use Rattle.gf_tree.proofs.Common.{InformationSet, description_at, OutcomeNumber, NewSetOpening, ◌≡◌}
+use Rattle.gf_tree.proofs.Common.{IsDescription, append_assoc, KnownSetName, count_again, Described}
+use Rattle.gf_tree.proofs.Common.{KnownAction, IsFraction, NewSetName, IsPositive, set_number, List}
+use Rattle.gf_tree.proofs.Common.{run_tokens, SetNumber, NewAction, count_of, same_set, past_set, ℕ}
+use Rattle.gf_tree.proofs.Common.{then_run, count_is, Opening, Closing, Content, length, Option, []}
+use Rattle.gf_tree.proofs.Common.{braced, Action, SetKey, set_of, Learns, subst, arith, Token, ◌++◌}
+use Rattle.gf_tree.proofs.Common.{whole, IsSet, begun, Some, None, refl, Text, Bare, ◌<◌, ◌≤◌, ◌∷◌}
+use Rattle.gf_tree.proofs.Common.{sym, ◌∙◌, inl, inr, ◌⊎◌, pos, Use, Ok, ap, at}
 use Rattle.gf_tree.proofs.lemmas.games.TreesOnce.{same_set_equality}
 use Rattle.gf_tree.proofs.lemmas.games.Members.{all_more}
 use Rattle.gf_tree.proofs.lemmas.runs.Tokens.{Reads, run_on, text_found, text_again}

@@ -1,12 +1,11 @@
 -- Probabilities as the machine adds them: each is judged by itself, and the sums are those of a
 -- lottery.
-use Rattle.gf_tree.proofs.Common.{◌≡◌, ◌<◌, ◌≤◌, ◌+◌, ℕ, Bool, true, false, cond, List, refl, ap}
-use Rattle.gf_tree.proofs.Common.{◌∙◌, arith, Result, Ok, Err, Option, Some, None, pos, ◌≤ℤ◌, ints}
-use Rattle.gf_tree.proofs.Common.{Ratio, IsFraction, IsNumber, IsSum, AddsTo, NumberFault}
-use Rattle.gf_tree.proofs.Common.{number_is, number_again, Why, NegativeProbability, Share}
-use Rattle.gf_tree.proofs.Common.{share_of, ℤ, negsuc, ◌*ℤ◌, ◌+ℤ◌, int_lt, MatchOption, SumFits}
-use Rattle.gf_tree.proofs.Common.{sum_is_computed, sum_of-some, mul_above, SumAboveOne, share_by}
-use Rattle.gf_tree.proofs.Common.{up_to_one}
+use Rattle.gf_tree.proofs.Common.{NegativeProbability, sum_is_computed, number_again, NumberFault}
+use Rattle.gf_tree.proofs.Common.{MatchOption, sum_of-some, SumAboveOne, IsFraction, number_is, ◌≡◌}
+use Rattle.gf_tree.proofs.Common.{mul_above, up_to_one, IsNumber, share_of, share_by, SumFits, Bool}
+use Rattle.gf_tree.proofs.Common.{Result, Option, AddsTo, negsuc, int_lt, false, arith, Ratio, true}
+use Rattle.gf_tree.proofs.Common.{IsSum, Share, cond, List, refl, Some, None, ◌≤ℤ◌, ints, ◌*ℤ◌, ◌<◌}
+use Rattle.gf_tree.proofs.Common.{◌+ℤ◌, ◌≤◌, ◌+◌, ◌∙◌, Err, pos, Why, ap, Ok, ℕ, ℤ}
 use Rattle.std.proofs.Common.{◌*◌}
 use Rattle.std.proofs.Math.Nat.{mul-le-mul_right, le_of_mul-le-mul_right}
 use Rattle.gf_fraction.specs.Computed.{number_of, sum_of}

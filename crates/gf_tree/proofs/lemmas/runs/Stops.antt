@@ -1,7 +1,6 @@
 -- What the machine of the reader reads from bytes.
-use Rattle.gf_tree.proofs.Common.{◌≡◌, ◌↔◌, ℕ, List, length, Ok, Lexeme, Spells, tokens_of, Game}
-use Rattle.gf_tree.proofs.Common.{SpellsGame, Content, nothing, run, Format}
-use Rattle.gf_tree.proofs.Common.{game_in}
+use Rattle.gf_tree.proofs.Common.{SpellsGame, tokens_of, Content, nothing, game_in, length, Lexeme}
+use Rattle.gf_tree.proofs.Common.{Spells, Format, List, Game, ◌≡◌, ◌↔◌, run, Ok, ℕ}
 use Rattle.gf_tree.proofs.lemmas.runs.Games.{machine_means}
 use Rattle.gf_tree.proofs.lemmas.runs.Places.{run_reads}
 

@@ -1,8 +1,7 @@
 -- What the lemmas on runs of the machine share.
-use Rattle.gf_tree.proofs.Common.{◌≡◌, ℕ, Bool, true, false, cond, List, Result, Ok, Err, refl}
-use Rattle.gf_tree.proofs.Common.{nat_eq, ◌==◌, pointwise, Decides-eqb, Ratio, Token, Why}
-use Rattle.gf_tree.proofs.Common.{run_tokens, then_run, Content, Position, State, same_ratio}
-use Rattle.gf_tree.proofs.Common.{same_text}
+use Rattle.gf_tree.proofs.Common.{Decides-eqb, run_tokens, same_ratio, pointwise, same_text, Result}
+use Rattle.gf_tree.proofs.Common.{then_run, Position, Content, nat_eq, false, Ratio, Token, State}
+use Rattle.gf_tree.proofs.Common.{Bool, true, cond, List, refl, ◌==◌, ◌≡◌, Err, Why, Ok, ℕ}
 use Rattle.std.specs.Ordering.{int_eq}
 use Rattle.std.proofs.lemmas.Bool.{and_parts}
 use Rattle.std.proofs.lemmas.Slice.Eq.{slice_eq-Decides}

@@ -1,12 +1,11 @@
 -- The nodes of a game as they are kept, given one after another, are those that a file gives.
-use Rattle.gf_tree.proofs.Common.{◌≡◌, ◌==◌, ℕ, zero, suc, ◌≤◌, List, [], ◌∷◌, ◌++◌, length, map}
-use Rattle.gf_tree.proofs.Common.{max, Option, Some, option_map, nat_eq, refl, sym, ap, ◌∙◌, arith}
-use Rattle.gf_tree.proofs.Common.{append_assoc, append-nil, filter_map, cons_option, Decides-eqb}
-use Rattle.gf_tree.proofs.Common.{map-append, at_position, SetKey, same_set, Described}
-use Rattle.gf_tree.proofs.Common.{description_at, first_uses, Game, Node, IsGame, Listed, flatten}
-use Rattle.gf_tree.proofs.Common.{AreAmong, IsAmong, Kept, entries_with, Bool, filter_map-append}
-use Rattle.gf_tree.proofs.Common.{file_nodes, use_after, entry_with, told_from, told_node}
-use Rattle.gf_tree.proofs.Common.{use_with, OfFile}
+use Rattle.gf_tree.proofs.Common.{filter_map-append, description_at, append_assoc, entries_with, []}
+use Rattle.gf_tree.proofs.Common.{cons_option, Decides-eqb, at_position, option_map, append-nil, ap}
+use Rattle.gf_tree.proofs.Common.{filter_map, map-append, first_uses, file_nodes, entry_with, arith}
+use Rattle.gf_tree.proofs.Common.{Described, use_after, told_from, told_node, same_set, AreAmong, ℕ}
+use Rattle.gf_tree.proofs.Common.{use_with, flatten, IsAmong, length, Option, nat_eq, SetKey, ◌==◌}
+use Rattle.gf_tree.proofs.Common.{IsGame, Listed, OfFile, zero, List, ◌++◌, Some, refl, Game, Node}
+use Rattle.gf_tree.proofs.Common.{Kept, Bool, ◌≡◌, suc, ◌≤◌, ◌∷◌, map, max, sym, ◌∙◌}
 use Rattle.std.proofs.Math.Nat.{max-zero}
 use Rattle.gf_tree.specs.FileNodes.{node_after, with_those_before}
 use Rattle.gf_tree.proofs.lemmas.stores.KnownKeys.{known_there, use_there}

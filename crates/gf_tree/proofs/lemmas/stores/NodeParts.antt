@@ -1,16 +1,15 @@
 -- The parts of a node as it is kept: who moves there, its actions, and the place after its subtree.
-use Rattle.gf_tree.proofs.Common.{◌≡◌, ℕ, zero, suc, ◌+◌, ◌-◌, ◌<◌, ◌≤◌, List, [], ◌∷◌, ◌++◌}
-use Rattle.gf_tree.proofs.Common.{length, map, drop, take, get_or, slice_get, Some, None}
-use Rattle.gf_tree.proofs.Common.{option_map, MatchOption, refl, sym, ap, subst, ◌∙◌, arith, false}
-use Rattle.gf_tree.proofs.Common.{position, position_from, eqb-true, false_from_ne_true}
-use Rattle.gf_tree.proofs.Common.{Decides-eqb, position_from-zero, same_Some, slice_get-map}
-use Rattle.gf_tree.proofs.Common.{slice_get_within, drop-map, at_position, Tree, branch, more}
-use Rattle.gf_tree.proofs.Common.{flatten, Described, outcome_numbers, Parts, game_with, known_of}
-use Rattle.gf_tree.proofs.Common.{subtree_sizes, Stored, Action, SetKey, InformationSet, Outcome}
-use Rattle.gf_tree.proofs.Common.{set_of, Game, IsGame, Node, set_at, used_outcomes, IsAmong}
-use Rattle.gf_tree.proofs.Common.{kept_of, tree_with, Begin, skipped, nat_eq, get_or_from_slice_get}
-use Rattle.gf_tree.proofs.Common.{AreNodes, number_among, subtrees_all, child_trees, root_node}
-use Rattle.gf_tree.proofs.Common.{subtree_at, subtrees}
+use Rattle.gf_tree.proofs.Common.{get_or_from_slice_get, false_from_ne_true, position_from-zero, []}
+use Rattle.gf_tree.proofs.Common.{slice_get_within, outcome_numbers, InformationSet, position_from}
+use Rattle.gf_tree.proofs.Common.{slice_get-map, subtree_sizes, used_outcomes, number_among, length}
+use Rattle.gf_tree.proofs.Common.{subtrees_all, MatchOption, Decides-eqb, at_position, child_trees}
+use Rattle.gf_tree.proofs.Common.{option_map, subtree_at, slice_get, same_Some, Described, position}
+use Rattle.gf_tree.proofs.Common.{game_with, tree_with, root_node, eqb-true, drop-map, known_of, ap}
+use Rattle.gf_tree.proofs.Common.{AreNodes, subtrees, flatten, Outcome, IsAmong, kept_of, skipped}
+use Rattle.gf_tree.proofs.Common.{get_or, branch, Stored, Action, SetKey, set_of, IsGame, set_at, ℕ}
+use Rattle.gf_tree.proofs.Common.{nat_eq, subst, arith, false, Parts, Begin, zero, List, ◌++◌, drop}
+use Rattle.gf_tree.proofs.Common.{take, Some, None, refl, Tree, more, Game, Node, ◌≡◌, suc, ◌+◌}
+use Rattle.gf_tree.proofs.Common.{◌-◌, ◌<◌, ◌≤◌, ◌∷◌, map, sym, ◌∙◌}
 use Rattle.std.proofs.lemmas.List.{append-nil, drop-drop}
 use Rattle.gf_tree.specs.inner.GameParts.{IsKeptAt}
 use Rattle.gf_tree.specs.Movers.{IsMover}

@@ -1,9 +1,8 @@
 -- A set or an outcome that is known, with no description after its number.
-use Rattle.gf_tree.proofs.Common.{◌≡◌, ℕ, false, List, [], ◌∷◌, refl, Remaining, Lexeme, Token}
-use Rattle.gf_tree.proofs.Common.{Bare, Broken, Closing, Comma, Opening, Text, InformationSet}
-use Rattle.gf_tree.proofs.Common.{Outcome, SetKey, Content, Position, begun, OutcomeNumber}
-use Rattle.gf_tree.proofs.Common.{KnownOutcomeName, KnownSetName, NodeDue, heard, is_quoted, starts}
-use Rattle.gf_tree.proofs.Common.{lexeme}
+use Rattle.gf_tree.proofs.Common.{KnownOutcomeName, InformationSet, OutcomeNumber, KnownSetName, []}
+use Rattle.gf_tree.proofs.Common.{Remaining, is_quoted, Position, Closing, Opening, Outcome, Lexeme}
+use Rattle.gf_tree.proofs.Common.{Content, NodeDue, Broken, SetKey, starts, lexeme, false, Token, ℕ}
+use Rattle.gf_tree.proofs.Common.{Comma, begun, heard, List, refl, Bare, Text, ◌≡◌, ◌∷◌}
 
 abbrev remaining : List ℕ → List Lexeme → Remaining
 remaining input ahead = record { input = input; ahead = ahead }

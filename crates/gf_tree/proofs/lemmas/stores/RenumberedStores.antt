@@ -1,15 +1,14 @@
 -- Sets and outcomes that are known, renumbered one after another.
-use Rattle.gf_tree.proofs.Common.{◌≡◌, ℕ, zero, suc, ◌+◌, ◌-◌, ◌<◌, ◌≤◌, ◌^◌, Bool, true, false}
-use Rattle.gf_tree.proofs.Common.{List, [], ◌∷◌, ◌++◌, length, map, take, get_or, slice_get, Some}
-use Rattle.gf_tree.proofs.Common.{None, MatchOption, option_map, inl, inr, refl, sym, ap, subst}
-use Rattle.gf_tree.proofs.Common.{◌∙◌, arith, same_Some, slice_get-map, slice_get_within}
-use Rattle.gf_tree.proofs.Common.{position_from-zero, position, ◌==◌, AllByRecursion, position_from}
-use Rattle.gf_tree.proofs.Common.{false_from_ne_true, Decides-eqb, SetKey, InformationSet, Outcome}
-use Rattle.gf_tree.proofs.Common.{same_set, set_of, Described, known_of, outcome_numbers}
-use Rattle.gf_tree.proofs.Common.{player_keys, sets_of, Game, IsGame, used_sets, used_outcomes}
-use Rattle.gf_tree.proofs.Common.{Renumbering, renumbered, Vec, Global, get_or_from_slice_get}
-use Rattle.gf_tree.proofs.Common.{get_or-map, take-map, nat_eq, number_among, AreListed}
-use Rattle.gf_tree.proofs.Common.{listed_numbers, number_listed}
+use Rattle.gf_tree.proofs.Common.{get_or_from_slice_get, position_from-zero, false_from_ne_true, []}
+use Rattle.gf_tree.proofs.Common.{slice_get_within, outcome_numbers, AllByRecursion, InformationSet}
+use Rattle.gf_tree.proofs.Common.{listed_numbers, slice_get-map, position_from, used_outcomes, zero}
+use Rattle.gf_tree.proofs.Common.{number_listed, number_among, MatchOption, Decides-eqb, option_map}
+use Rattle.gf_tree.proofs.Common.{player_keys, Renumbering, renumbered, get_or-map, slice_get, Bool}
+use Rattle.gf_tree.proofs.Common.{same_Some, Described, used_sets, AreListed, position, same_set, ℕ}
+use Rattle.gf_tree.proofs.Common.{known_of, take-map, Outcome, sets_of, length, get_or, SetKey, ◌≡◌}
+use Rattle.gf_tree.proofs.Common.{set_of, IsGame, Global, nat_eq, false, subst, arith, true, List}
+use Rattle.gf_tree.proofs.Common.{◌++◌, take, Some, None, refl, ◌==◌, Game, suc, ◌+◌, ◌-◌, ◌<◌, ◌≤◌}
+use Rattle.gf_tree.proofs.Common.{◌^◌, ◌∷◌, map, inl, inr, sym, ◌∙◌, Vec, ap}
 use Rattle.std.specs.Prelude.{⊤}
 use Rattle.gf_tree.proofs.lemmas.games.Carried.{entry_used}
 use Rattle.gf_tree.proofs.lemmas.games.ListedNumbers.{some_player, as_long, listed_is_renumbering}

@@ -1,11 +1,10 @@
 -- What is stored of sets, once the description of one more is complete.
-use Rattle.gf_tree.proofs.Common.{◌≡◌, ℕ, ◌+◌, ◌<◌, ◌≤◌, ◌^◌, List, [], ◌∷◌, ◌++◌, length, map}
-use Rattle.gf_tree.proofs.Common.{take, drop, None, nat_eq, refl, ap, arith, append-nil, ◌==◌}
-use Rattle.gf_tree.proofs.Common.{position, lookup, eqb-true, map-append, label_of, same_set}
-use Rattle.gf_tree.proofs.Common.{set_of, actions_of, described, stored_sets, KnownSets, ◌≢◌}
-use Rattle.gf_tree.proofs.Common.{get_or, max, slice_range, if◌then◌else◌, drop_of_length-le}
-use Rattle.gf_tree.proofs.Common.{eqb-false, length-take-le, HoldActions, end_of, places_from}
-use Rattle.gf_tree.proofs.Common.{AreSets, with_pending_set}
+use Rattle.gf_tree.proofs.Common.{drop_of_length-le, with_pending_set, length-take-le, stored_sets}
+use Rattle.gf_tree.proofs.Common.{if◌then◌else◌, slice_range, HoldActions, places_from, append-nil}
+use Rattle.gf_tree.proofs.Common.{map-append, actions_of, described, KnownSets, eqb-false, position}
+use Rattle.gf_tree.proofs.Common.{eqb-true, label_of, same_set, AreSets, length, nat_eq, lookup, []}
+use Rattle.gf_tree.proofs.Common.{set_of, get_or, end_of, arith, List, ◌++◌, take, drop, None, refl}
+use Rattle.gf_tree.proofs.Common.{◌==◌, ◌≡◌, ◌+◌, ◌<◌, ◌≤◌, ◌^◌, ◌∷◌, map, ◌≢◌, max, ap, ℕ}
 use Rattle.std.proofs.Common.{length-append}
 use Rattle.gf_tree.specs.declared.game.action.Action.{Action as Held}
 use Rattle.gf_tree.specs.declared.game.sets.StoredSet.{StoredSet}

@@ -1,8 +1,7 @@
 -- Stretches of a list of items, if items or entries are appended.
-use Rattle.gf_tree.proofs.Common.{◌≡◌, ℕ, ◌≤◌, List, [], ◌∷◌, ◌++◌, length, map, take, drop, refl}
-use Rattle.gf_tree.proofs.Common.{sym, ap, ◌∙◌, arith, AllByRecursion, length-take-le}
-use Rattle.gf_tree.proofs.Common.{take-append-le, drop-append-le, length-drop, slice_range}
-use Rattle.gf_tree.proofs.Common.{AreStretches}
+use Rattle.gf_tree.proofs.Common.{AllByRecursion, length-take-le, take-append-le, drop-append-le, ℕ}
+use Rattle.gf_tree.proofs.Common.{AreStretches, length-drop, slice_range, length, arith, List, ◌++◌}
+use Rattle.gf_tree.proofs.Common.{take, drop, refl, ◌≡◌, ◌≤◌, ◌∷◌, map, sym, ◌∙◌, [], ap}
 use Rattle.std.proofs.lemmas.List.{take-append-drop}
 use Rattle.gf_tree.proofs.lemmas.games.Members.{all_more}
 

@@ -1,10 +1,9 @@
 -- The sizes of subtrees, and what they skip.
-use Rattle.gf_tree.proofs.Common.{◌≡◌, ℕ, zero, suc, ◌+◌, ◌<◌, ◌≤◌, List, [], ◌∷◌, ◌++◌, length}
-use Rattle.gf_tree.proofs.Common.{map, drop, get_or, slice_get, refl, sym, ap, ◌∙◌, append_assoc}
-use Rattle.gf_tree.proofs.Common.{arith, length-map, map-append, drop-map, Tree, Trees, count}
-use Rattle.gf_tree.proofs.Common.{branch, none, more, Listed, flatten, flatten_all, subtree_sizes}
-use Rattle.gf_tree.proofs.Common.{Begin, skipped, zero-add, list_of, subtrees, subtrees_all}
-use Rattle.gf_tree.proofs.Common.{sizes_grown}
+use Rattle.gf_tree.proofs.Common.{subtree_sizes, append_assoc, subtrees_all, flatten_all, slice_get}
+use Rattle.gf_tree.proofs.Common.{sizes_grown, length-map, map-append, drop-map, zero-add, subtrees}
+use Rattle.gf_tree.proofs.Common.{flatten, skipped, list_of, length, get_or, branch, Listed, arith}
+use Rattle.gf_tree.proofs.Common.{Trees, count, Begin, zero, List, ◌++◌, drop, refl, Tree, none, []}
+use Rattle.gf_tree.proofs.Common.{more, ◌≡◌, suc, ◌+◌, ◌<◌, ◌≤◌, ◌∷◌, map, sym, ◌∙◌, ap, ℕ}
 use Rattle.std.proofs.Common.{length-append}
 use Rattle.std.proofs.Math.Seq.{drop-append_seam}
 use Rattle.std.proofs.lemmas.List.{append-nil}

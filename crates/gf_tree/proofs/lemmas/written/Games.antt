@@ -1,15 +1,14 @@
 -- A file for each game that a file can hold.
-use Rattle.gf_tree.proofs.Common.{◌≡◌, ◌↔◌, Bool, ℕ, zero, suc, ◌^◌, ◌<◌, List, [], ◌∷◌, ◌++◌}
-use Rattle.gf_tree.proofs.Common.{length, map, Some, None, Option, MatchOption, option_map, refl}
-use Rattle.gf_tree.proofs.Common.{sym, ap, subst, ◌∙◌, arith, inl, inr, codes, AllByRecursion}
-use Rattle.gf_tree.proofs.Common.{filter_map, Decides-eqb, Ratio, IsFraction, Token, braced}
-use Rattle.gf_tree.proofs.Common.{Closing, Text, Bare, Listed, flatten, Action, SetKey}
-use Rattle.gf_tree.proofs.Common.{InformationSet, Outcome, same_set, IsSet, Use, FileNode, FileTree}
-use Rattle.gf_tree.proofs.Common.{Described, description_at, first_uses, Sentence, SpellsGame}
-use Rattle.gf_tree.proofs.Common.{IsSpellable, IsSpellableSet, IsSpellableOutcome, Game, IsGame}
-use Rattle.gf_tree.proofs.Common.{used_sets, used_outcomes, set_at, decimal, nat_eq, flat_map}
-use Rattle.gf_tree.proofs.Common.{option_to_list, number_text, IsLabel, IsSpellableAction}
-use Rattle.gf_tree.proofs.Common.{outcome_at}
+use Rattle.gf_tree.proofs.Common.{IsSpellableOutcome, IsSpellableAction, AllByRecursion, option_map}
+use Rattle.gf_tree.proofs.Common.{InformationSet, description_at, IsSpellableSet, option_to_list, ℕ}
+use Rattle.gf_tree.proofs.Common.{used_outcomes, MatchOption, Decides-eqb, IsSpellable, number_text}
+use Rattle.gf_tree.proofs.Common.{filter_map, IsFraction, first_uses, SpellsGame, outcome_at, subst}
+use Rattle.gf_tree.proofs.Common.{Described, used_sets, same_set, FileNode, FileTree, Sentence, ◌≡◌}
+use Rattle.gf_tree.proofs.Common.{flat_map, Closing, flatten, Outcome, decimal, IsLabel, length, []}
+use Rattle.gf_tree.proofs.Common.{Option, braced, Listed, Action, SetKey, IsGame, set_at, nat_eq}
+use Rattle.gf_tree.proofs.Common.{arith, codes, Ratio, Token, IsSet, Bool, zero, List, ◌++◌, Some}
+use Rattle.gf_tree.proofs.Common.{None, refl, Text, Bare, Game, ◌↔◌, suc, ◌^◌, ◌<◌, ◌∷◌, map, sym}
+use Rattle.gf_tree.proofs.Common.{◌∙◌, inl, inr, Use, ap}
 use Rattle.gf_fraction.proofs.AllElements.{all_weaker, all_both, all_images}
 use Rattle.gf_token.proofs.SpelledNumbers.{number_spelled, index_spelled}
 use Rattle.gf_tree.proofs.lemmas.games.Uses.{Has, IsEquality, each, all_of_each, has_first}

@@ -1,13 +1,12 @@
 -- The tokens of a node in the spelling of canonical text, and that they say this node.
-use Rattle.gf_tree.proofs.Common.{◌≡◌, ℕ, zero, suc, ◌^◌, ◌<◌, List, [], ◌∷◌, ◌++◌, length, map}
-use Rattle.gf_tree.proofs.Common.{Some, None, Option, MatchOption, refl, arith, inl, codes}
-use Rattle.gf_tree.proofs.Common.{AllByRecursion, Ratio, IsFraction, Token, Text, Bare, Each}
-use Rattle.gf_tree.proofs.Common.{braced, IsPayoffInBraces, Action, SetKey, InformationSet, Outcome}
-use Rattle.gf_tree.proofs.Common.{IsSet, AreActions, Use, FileNode, IsDescription, IsAction}
-use Rattle.gf_tree.proofs.Common.{IsInformationSet, SpellsMover, IsStep, IsResult, IsNode}
-use Rattle.gf_tree.proofs.Common.{IsOutcomeDescription, IsSpellableSet, IsSpellableOutcome, decimal}
-use Rattle.gf_tree.proofs.Common.{flat_map, option_to_list, number_text, written_is_read}
-use Rattle.gf_tree.proofs.Common.{IsSpellableAction}
+use Rattle.gf_tree.proofs.Common.{IsOutcomeDescription, IsSpellableOutcome, IsSpellableAction, zero}
+use Rattle.gf_tree.proofs.Common.{IsPayoffInBraces, IsInformationSet, written_is_read, MatchOption}
+use Rattle.gf_tree.proofs.Common.{AllByRecursion, InformationSet, IsSpellableSet, option_to_list, ℕ}
+use Rattle.gf_tree.proofs.Common.{IsDescription, SpellsMover, number_text, IsFraction, AreActions}
+use Rattle.gf_tree.proofs.Common.{FileNode, IsAction, IsResult, flat_map, Outcome, decimal, length}
+use Rattle.gf_tree.proofs.Common.{Option, braced, Action, SetKey, IsStep, IsNode, arith, codes, ◌≡◌}
+use Rattle.gf_tree.proofs.Common.{Ratio, Token, IsSet, List, ◌++◌, Some, None, refl, Text, Bare, []}
+use Rattle.gf_tree.proofs.Common.{Each, suc, ◌^◌, ◌<◌, ◌∷◌, map, inl, Use}
 use Rattle.std.proofs.lemmas.List.{append-nil}
 use Rattle.gf_token.proofs.Grammar.{each_group}
 use Rattle.gf_token.proofs.SpelledNumbers.{decimal_is_index}

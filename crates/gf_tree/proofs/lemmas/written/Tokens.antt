@@ -1,8 +1,7 @@
 -- Bytes that spell given tokens: one space follows each.
-use Rattle.gf_tree.proofs.Common.{◌≡◌, ℕ, ◌+◌, List, [], ◌∷◌, ◌++◌, length, map, refl, ap}
-use Rattle.gf_tree.proofs.Common.{append_assoc, arith, AllByRecursion, Token, Lexeme, Opening}
-use Rattle.gf_tree.proofs.Common.{Closing, Comma, Text, Bare, Broken, Spells, flat_map, lexeme}
-use Rattle.gf_tree.proofs.Common.{IsSpelled}
+use Rattle.gf_tree.proofs.Common.{AllByRecursion, append_assoc, IsSpelled, flat_map, Opening, arith}
+use Rattle.gf_tree.proofs.Common.{Closing, length, Lexeme, Broken, Spells, lexeme, Token, Comma, []}
+use Rattle.gf_tree.proofs.Common.{List, ◌++◌, refl, Text, Bare, ◌≡◌, ◌+◌, ◌∷◌, map, ap, ℕ}
 use Rattle.gf_token.specs.Token.{spelling}
 use Rattle.gf_token.specs.TokenSpelling.{MayPrecede, GoesOn}
 use Rattle.gf_token.proofs.Spelled.{wider}

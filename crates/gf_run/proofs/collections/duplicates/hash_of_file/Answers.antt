@@ -6,9 +6,12 @@ pub returns-clause-failed : goal.returns-clause-failed
 returns-clause-failed g c =
     IfErr-both c.read_hash.result _ _ _ c.read_hash.ensures.refused
     c.read_hash.ensures.before_writing
-    (λ fault refused other. (other, inr (record {
-      old = c.in_ok-input.input;
-      new = c.read_hash.new.input;
-      opened = c.in_ok-input.ensures;
-      run = refused;
-    })))
+    (λ fault refused other. (
+      other,
+      inr (record {
+        old = c.in_ok-input.input;
+        new = c.read_hash.new.input;
+        opened = c.in_ok-input.ensures;
+        run = refused;
+      }),
+    ))

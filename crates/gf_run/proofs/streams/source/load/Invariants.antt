@@ -1,6 +1,5 @@
 use Rattle.std.proofs.Common.{◌≤◌, ◌-◌, vec_len}
-use Rattle.gf_run.specs.Input.{IsRead}
-use Rattle.gf_run.specs.Input.{limit}
+use Rattle.gf_run.specs.Input.{IsRead, limit}
 use Rattle.gf_run.proofs.streams.source.load.Given as goal
 
 -- the bytes so far are those that came

@@ -1,5 +1,4 @@
-use Rattle.std.proofs.Common.{[], ◌∷◌, map, subst, sym, ap}
-use Rattle.std.proofs.Common.{◌∙◌, arith}
+use Rattle.std.proofs.Common.{subst, arith, ◌∷◌, map, sym, ◌∙◌, [], ap}
 use Rattle.std.proofs.lemmas.List.{map-append, length-map}
 use Rattle.gf_run.specs.Duplicates.{IsKeptOf, KeptNames}
 use Rattle.gf_run.proofs.Grouped.{more_new, more_there, put_last, put_there}
