@@ -100,11 +100,11 @@ ratio_completes n d p q text under rest num_short den_short slash h above low = 
   lowest = low;
 }
 
-pub decimal_completes : (n v p q places : ℕ) (text behind rest : List ℕ) → v < 2 ^ 64
-    → text ≡ 46 ∷ behind → AreRead n behind v rest → places ≡ length behind - length rest
+pub decimal_completes : (n v p q places : ℕ) (text after rest : List ℕ) → v < 2 ^ 64
+    → text ≡ 46 ∷ after → AreRead n after v rest → places ≡ length after - length rest
     → places ≤ 19 → IsLowest v (10 ^ places) p q → Completes n text p q rest
-decimal_completes n v p q places text behind rest short point h count few low =
-    let long : length behind ≡ length h.digits + length rest =
+decimal_completes n v p q places text after rest short point h count few low =
+    let long : length after ≡ length h.digits + length rest =
     ap length h.spelled ∙ length-append h.digits rest in
     let same : places ≡ length h.digits = omega (arith, long) in
     let whole : (pos places -ℤ pos 0) ≡ pos places = omega (arith, ints) in
@@ -146,10 +146,10 @@ ratio_left n d text under rest slash h zero =
     subst (IsLeft n) (sym (slash ∙ ap (λ t. 47 ∷ t) h.spelled))
     (no_denominator h.digits rest h.run (sym h.is ∙ zero))
 
-pub decimal_left : (n v places : ℕ) (text behind rest : List ℕ) → text ≡ 46 ∷ behind
-    → AreRead n behind v rest → places ≡ length behind - length rest → 19 < places → IsLeft n text
-decimal_left n v places text behind rest point h count many =
-    let long : length behind ≡ length h.digits + length rest =
+pub decimal_left : (n v places : ℕ) (text after rest : List ℕ) → text ≡ 46 ∷ after
+    → AreRead n after v rest → places ≡ length after - length rest → 19 < places → IsLeft n text
+decimal_left n v places text after rest point h count many =
+    let long : length after ≡ length h.digits + length rest =
     ap length h.spelled ∙ length-append h.digits rest in
     subst (IsLeft n) (sym (point ∙ ap (λ t. 46 ∷ t) h.spelled))
     (many_places h.digits rest h.run (omega (arith, long, count, many)))

@@ -1,5 +1,5 @@
 -- Products of ratios, and when they fit.
-use Rattle.std.specs.Prelude.{ℤ, ◌*ℤ◌, ◌*◌}
+use Rattle.std.specs.Prelude.{◌*ℤ◌, ◌*◌}
 use Rattle.gf_fraction.specs.Ratio.{Ratio, IsFraction, HasValue}
 
 -- r has the value of x times y

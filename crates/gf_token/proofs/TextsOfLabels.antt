@@ -79,7 +79,7 @@ quoted bytes label rest start is =
     let all = ap length is in
     let parts = length-append label (34 ∷ rest) in
     let within : start + 1 + length label < length bytes = omega (arith, left, all, parts) in
-    let behind : drop (start + 1) bytes ≡ label ++ 34 ∷ rest =
+    let after : drop (start + 1) bytes ≡ label ++ 34 ∷ rest =
     sym (at_drop_more (drop 1) bytes start 0 (omega (arith, within))) ∙ ap (drop 1) is in
     record {
       within = within;
@@ -88,7 +88,7 @@ quoted bytes label rest start is =
           ∙ ap (λ (x : List ℕ). get_or x 0 0) is;
       same =
           ap (λ (n : ℕ). take n (drop (start + 1) bytes)) size
-          ∙ ap (take (length label)) behind ∙ take-append_seam label (34 ∷ rest);
+          ∙ ap (take (length label)) after ∙ take-append_seam label (34 ∷ rest);
       ends =
           ap (λ (i : ℕ). get_or bytes i 0) (sym place)
           ∙ sym (get_or-drop start bytes (suc (length label)) 0)

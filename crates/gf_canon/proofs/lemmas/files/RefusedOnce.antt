@@ -1,11 +1,10 @@
 -- Each list of bytes means a file of one format, or is refused at one place with one code.
-use Rattle.gf_canon.proofs.Common.{◌≡◌, ℕ, Bool, true, false, List, [], ◌∷◌, ◌++◌, length, refl}
-use Rattle.gf_canon.proofs.Common.{sym, ap, ◌∙◌, inl, inr, ◌⊎◌, codes, pointwise, tokens_of}
-use Rattle.gf_canon.proofs.Common.{MayFollow, refusal, Token, Lexeme, Bare, Broken, Spells, Span}
-use Rattle.gf_canon.proofs.Common.{Format, Why, Expected, Memory, same_tokens, spelled_once}
-use Rattle.gf_canon.proofs.Common.{GameFile, extensive, strategic, BeginsWithWord, IsFormatReason}
-use Rattle.gf_canon.proofs.Common.{IsInEitherFormat, IsJudged, IsPlaced, IsRefused, IsWithoutFormat}
-use Rattle.gf_canon.proofs.Common.{MeansFile, SpellsWithin, nat_eq}
+use Rattle.gf_canon.proofs.Common
+use Common.{IsInEitherFormat, IsWithoutFormat, BeginsWithWord, IsFormatReason, spelled_once, length}
+use Common.{SpellsWithin, same_tokens, pointwise, tokens_of, MayFollow, extensive, strategic, false}
+use Common.{IsRefused, MeansFile, Expected, GameFile, IsJudged, IsPlaced, refusal, Lexeme, Broken}
+use Common.{Spells, Format, Memory, nat_eq, codes, Token, Bool, true, List, ◌++◌, refl, Bare, Span}
+use Common.{◌≡◌, ◌∷◌, sym, ◌∙◌, inl, inr, ◌⊎◌, Why, [], ap, ℕ}
 use Rattle.gf_token.specs.Code.{code_of}
 use Rattle.gf_token.specs.Next.{is_bare_token}
 use Rattle.gf_token.proofs.Places.{one_offending_place, one_span}

@@ -1,12 +1,11 @@
 -- The canonical numbers as lists.
-use Rattle.gf_canon.proofs.Common.{first_use_numbers, same_set_equality, outcome_numbers, positions}
-use Rattle.gf_canon.proofs.Common.{AllByRecursion, InformationSet, IsSpellableSet, canonical_game}
-use Rattle.gf_canon.proofs.Common.{used_outcomes, numbers_from, agreed_games, Decides-eqb, same_set}
-use Rattle.gf_canon.proofs.Common.{player_keys, IsSpellable, get_or-map, length-map, map-append, []}
-use Rattle.gf_canon.proofs.Common.{renumbered, IsEquality, Described, in_keys, length, get_or, zero}
-use Rattle.gf_canon.proofs.Common.{filter, Global, ne_eqb, SetKey, IsGame, nat_eq, arith, Agree, ap}
-use Rattle.gf_canon.proofs.Common.{Bool, List, ◌++◌, refl, ◌==◌, Game, ◌≡◌, suc, ◌+◌, ◌<◌, ◌≤◌, ◌^◌}
-use Rattle.gf_canon.proofs.Common.{◌∷◌, map, Vec, inl, inr, sym, ◌∙◌, Has, has, ℕ}
+use Rattle.gf_canon.proofs.Common
+use Common.{first_use_numbers, same_set_equality, outcome_numbers, AllByRecursion, InformationSet}
+use Common.{IsSpellableSet, canonical_game, used_outcomes, numbers_from, agreed_games, Decides-eqb}
+use Common.{player_keys, IsSpellable, get_or-map, length-map, map-append, renumbered, IsEquality, ℕ}
+use Common.{positions, Described, same_set, in_keys, length, get_or, filter, Global, ne_eqb, SetKey}
+use Common.{IsGame, nat_eq, arith, Agree, zero, Bool, List, ◌++◌, refl, ◌==◌, Game, ◌≡◌, suc, ◌+◌}
+use Common.{◌<◌, ◌≤◌, ◌^◌, ◌∷◌, map, Vec, inl, inr, sym, ◌∙◌, Has, has, [], ap}
 use Rattle.gf_nfg.proofs.lemmas.tables.NumbersInTurn.{get_or-numbers_from, length-numbers_from}
 use Rattle.gf_nfg.proofs.lemmas.tables.NumbersInTurn.{numbers_joined}
 use Rattle.gf_tree.specs.ListedNumbers.{AreListed, AreNumbers, listed_numbers, number_listed}

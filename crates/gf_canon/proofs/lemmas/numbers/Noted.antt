@@ -1,16 +1,14 @@
 -- The new numbers that are noted node by node are those of the renumbering that carries one game to
 -- the other.
-use Rattle.gf_canon.proofs.Common.{◌≡◌, ℕ, zero, suc, Bool, cond, List, [], ◌∷◌, map, Option, None}
-use Rattle.gf_canon.proofs.Common.{Some, refl, sym, ap, subst, ◌∙◌, inl, inr, arith, ◌↔◌, IsSome}
-use Rattle.gf_canon.proofs.Common.{nat_eq, option_map, unwrap_or, filter_map, cons_option, BTreeMap}
-use Rattle.gf_canon.proofs.Common.{get, is_eq, nat_cmp, Decides-eqb, nat_tests, SetKey, same_set}
-use Rattle.gf_canon.proofs.Common.{set_of, Game, IsGame, Node, used_outcomes}
-use Rattle.gf_canon.proofs.Common.{used_sets, Listed, flatten, HasOutcome, HasSet, renumbered_node}
-use Rattle.gf_canon.proofs.Common.{renumbered_set, flatten_map, map_entry, map_twice, Agree}
-use Rattle.gf_canon.proofs.Common.{agreed_games, outcome_number_positive, same_set_equality, Has}
-use Rattle.gf_canon.proofs.Common.{IsEquality, contains, has, IsOnlyRenumbering, new_numbers}
-use Rattle.gf_canon.proofs.Common.{new_outcome_number, new_set_number, number_of_set, set_order}
-use Rattle.gf_canon.proofs.Common.{Carries, SameGame, only_outcomes, only_sets, ◌⊎◌}
+use Rattle.gf_canon.proofs.Common
+use Common.{outcome_number_positive, new_outcome_number, same_set_equality, IsOnlyRenumbering, zero}
+use Common.{renumbered_node, renumbered_set, new_set_number, used_outcomes, number_of_set, BTreeMap}
+use Common.{only_outcomes, agreed_games, cons_option, Decides-eqb, flatten_map, new_numbers, Option}
+use Common.{option_map, filter_map, HasOutcome, IsEquality, unwrap_or, nat_tests, used_sets, IsSome}
+use Common.{map_entry, map_twice, set_order, only_sets, same_set, contains, SameGame, nat_cmp, Bool}
+use Common.{flatten, Carries, nat_eq, SetKey, set_of, IsGame, Listed, HasSet, subst, arith, is_eq}
+use Common.{Agree, cond, List, None, Some, refl, Game, Node, ◌≡◌, suc, ◌∷◌, map, sym, ◌∙◌, inl, inr}
+use Common.{◌↔◌, get, Has, has, ◌⊎◌, [], ap, ℕ}
 use Rattle.gf_canon.specs.inner.Noted.{noted}
 use Rattle.gf_canon.specs.declared.numbering.new_numbers.Renumbering.{Renumbering}
 use Rattle.gf_tree.specs.Renumbering as numbers

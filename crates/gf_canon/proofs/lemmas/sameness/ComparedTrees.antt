@@ -1,11 +1,10 @@
 -- A tree that was told whole is the same as a game exactly when no difference was found, and
 -- nothing is left of the game.
-use Rattle.gf_canon.proofs.Common.{arith, ◌≡◌, ℕ, Bool, false, List, [], map, ap, ◌∙◌, subst, ◌↔◌}
-use Rattle.gf_canon.proofs.Common.{IsTrue, Table, file_nodes, FileNode, Game, IsGame, SpellsGame}
-use Rattle.gf_canon.proofs.Common.{IsSpellable, Told, heading_in, canonical_game, extensive}
-use Rattle.gf_canon.proofs.Common.{strategic, SpellsWithin, node_by, SameBy, Names, Aside, Kept}
-use Rattle.gf_canon.proofs.Common.{Result, Ok, Err, IfOk, Fault, SpellsTable, GameFile, append-nil}
-use Rattle.gf_canon.proofs.Common.{IsWithinLimit, ◌∷◌, refl}
+use Rattle.gf_canon.proofs.Common
+use Common.{canonical_game, IsWithinLimit, SpellsWithin, IsSpellable, SpellsTable, file_nodes, Bool}
+use Common.{SpellsGame, heading_in, append-nil, extensive, strategic, FileNode, GameFile, node_by}
+use Common.{IsTrue, IsGame, SameBy, Result, arith, false, subst, Table, Names, Aside, Fault, List}
+use Common.{Game, Told, Kept, IfOk, refl, ◌≡◌, map, ◌∙◌, ◌↔◌, Err, ◌∷◌, [], ap, Ok, ℕ}
 use Rattle.gf_nfg.specs.SameTable.{SameTable}
 use Rattle.gf_nfg.specs.NamedBy.{named_by}
 use Rattle.gf_canon.specs.inner.NamedBy.{are_kept}

@@ -1,12 +1,11 @@
 -- The nodes of a game without its names are its nodes without theirs.
-use Rattle.gf_canon.proofs.Common.{first_use_numbers, first_use_number, renumbered_node, option_map}
-use Rattle.gf_canon.proofs.Common.{map_tree_twice, canonical_game, unnamed_game, unnamed_node, List}
-use Rattle.gf_canon.proofs.Common.{Renumbering, flatten_map, filter_map, map-append, file_nodes, []}
-use Rattle.gf_canon.proofs.Common.{node_after, outcome_at, renumbered, outcome_by, heading_by, ◌++◌}
-use Rattle.gf_canon.proofs.Common.{heading_in, use_after, map_entry, map_twice, same_set, FileNode}
-use Rattle.gf_canon.proofs.Common.{sets_of, flatten, node_by, game_by, Option, nat_eq, set_of, Some}
-use Rattle.gf_canon.proofs.Common.{set_at, Listed, set_by, use_by, arith, Aside, Names, None, refl}
-use Rattle.gf_canon.proofs.Common.{Game, Node, Kept, Bool, ◌≡◌, ◌∷◌, map, sym, ◌∙◌, Use, ap}
+use Rattle.gf_canon.proofs.Common
+use Common.{first_use_numbers, first_use_number, renumbered_node, map_tree_twice, canonical_game}
+use Common.{unnamed_game, unnamed_node, Renumbering, flatten_map, option_map, filter_map, use_after}
+use Common.{map-append, file_nodes, node_after, outcome_at, renumbered, outcome_by, heading_by, ◌≡◌}
+use Common.{heading_in, map_entry, map_twice, same_set, FileNode, sets_of, flatten, node_by, Option}
+use Common.{game_by, nat_eq, set_of, set_at, Listed, set_by, use_by, arith, Aside, Names, List, ◌∷◌}
+use Common.{◌++◌, Some, None, refl, Game, Node, Kept, Bool, map, sym, ◌∙◌, Use, [], ap}
 use Rattle.std.proofs.lemmas.Iterator.Adapters.{option_map_id}
 use Rattle.std.proofs.lemmas.List.{map-id}
 use Rattle.gf_canon.proofs.lemmas.sameness.Unnamed.{keys_still, unnamed_outcome_at}

@@ -1,16 +1,14 @@
 -- Without its names a game is still a game, and games that are the same are also the same aside
 -- from names.
-use Rattle.gf_canon.proofs.Common.{renumbered_node, unnamed_outcome, InformationSet, AllByRecursion}
-use Rattle.gf_canon.proofs.Common.{description_at, renumbered_set, map_tree_twice, canonical_text}
-use Rattle.gf_canon.proofs.Common.{SameAsideNames, used_outcomes, IsRenumbering, unnamed_table, ◌≡◌}
-use Rattle.gf_canon.proofs.Common.{unnamed_node, unnamed_game, MatchOption, cons_option, option_map}
-use Rattle.gf_canon.proofs.Common.{HasChildren, IsSpellable, Renumbering, flatten_map, unnamed_set}
-use Rattle.gf_canon.proofs.Common.{filter_map, outcome_at, renumbered, SpellsFile, all_images, Bool}
-use Rattle.gf_canon.proofs.Common.{all_weaker, Described, used_sets, map_entry, map_twice, same_set}
-use Rattle.gf_canon.proofs.Common.{extensive, strategic, GameFile, SameFile, IsLabel, flatten, List}
-use Rattle.gf_canon.proofs.Common.{Carries, unnamed, length, Option, nat_eq, Listed, SetKey, IsGame}
-use Rattle.gf_canon.proofs.Common.{set_at, arith, subst, Table, Some, refl, Node, Game, ◌∷◌, map, ℕ}
-use Rattle.gf_canon.proofs.Common.{sym, ◌∙◌, ◌↔◌, [], ap}
+use Rattle.gf_canon.proofs.Common
+use Common.{renumbered_node, unnamed_outcome, InformationSet, AllByRecursion, description_at, arith}
+use Common.{renumbered_set, map_tree_twice, canonical_text, SameAsideNames, used_outcomes, same_set}
+use Common.{IsRenumbering, unnamed_table, unnamed_node, unnamed_game, MatchOption, cons_option, ◌≡◌}
+use Common.{HasChildren, IsSpellable, Renumbering, flatten_map, unnamed_set, option_map, filter_map}
+use Common.{outcome_at, renumbered, SpellsFile, all_images, all_weaker, Described, used_sets, subst}
+use Common.{map_entry, map_twice, extensive, strategic, GameFile, SameFile, IsLabel, flatten, Table}
+use Common.{Carries, unnamed, length, Option, nat_eq, Listed, SetKey, IsGame, set_at, Bool, List, ℕ}
+use Common.{Some, refl, Node, Game, ◌∷◌, map, sym, ◌∙◌, ◌↔◌, [], ap}
 use Rattle.gf_nfg.specs.SameTable.{SamePlay}
 use Rattle.gf_nfg.proofs.lemmas.texts.OneTable.{text_reads_back as table_reads_back}
 use Rattle.gf_nfg.proofs.lemmas.tables.Spelled.{spelled_is_spellable as spelled_table}

@@ -1,15 +1,13 @@
 -- A file tree of each game: each set and each outcome is described at its first use, and not again.
-use Rattle.gf_canon.proofs.Common.{first_uses_distinct, same_set_equality, with_those_before, arith}
-use Rattle.gf_canon.proofs.Common.{description_at, AreConsistent, used_outcomes, append_assoc, zero}
-use Rattle.gf_canon.proofs.Common.{outcome_uses, cons_option, Decides-eqb, IsDescribed, all_of_each}
-use Rattle.gf_canon.proofs.Common.{flatten_map, entry_used, option_map, filter_map, first_uses, ◌≡◌}
-use Rattle.gf_canon.proofs.Common.{IsFirstUse, outcome_at, keys_alone, IsEquality, node_after, Bool}
-use Rattle.gf_canon.proofs.Common.{file_nodes, append-nil, Described, Describes, used_sets, in_keys}
-use Rattle.gf_canon.proofs.Common.{has_place, map_entry, map_twice, use_after, list_any, same_set}
-use Rattle.gf_canon.proofs.Common.{FileNode, FileTree, set_uses, contains, flatten, has_map, Option}
-use Rattle.gf_canon.proofs.Common.{nat_eq, Listed, IsGame, set_at, false, subst, Fills, found, List}
-use Rattle.gf_canon.proofs.Common.{◌++◌, None, Some, refl, Node, Game, suc, ◌+◌, ◌∷◌, map, sym, ◌∙◌}
-use Rattle.gf_canon.proofs.Common.{inl, inr, Use, Has, has, [], ap, ℕ}
+use Rattle.gf_canon.proofs.Common
+use Common.{first_uses_distinct, same_set_equality, with_those_before, description_at, append_assoc}
+use Common.{AreConsistent, used_outcomes, outcome_uses, cons_option, Decides-eqb, IsDescribed, zero}
+use Common.{all_of_each, flatten_map, entry_used, option_map, filter_map, first_uses, IsFirstUse, ℕ}
+use Common.{outcome_at, keys_alone, IsEquality, node_after, file_nodes, append-nil, Described, Bool}
+use Common.{Describes, used_sets, has_place, map_entry, map_twice, use_after, list_any, same_set}
+use Common.{FileNode, FileTree, set_uses, contains, in_keys, flatten, has_map, Option, nat_eq, List}
+use Common.{Listed, IsGame, set_at, arith, false, subst, Fills, found, ◌++◌, None, Some, refl, Node}
+use Common.{Game, ◌≡◌, suc, ◌+◌, ◌∷◌, map, sym, ◌∙◌, inl, inr, Use, Has, has, [], ap}
 use Rattle.std.proofs.lemmas.List.Folds.{list_any-append}
 use Rattle.std.proofs.lemmas.List.Elements.{filter_map-append}
 use Rattle.gf_tree.specs.Tree.{map_tree}

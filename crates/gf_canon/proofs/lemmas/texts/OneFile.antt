@@ -1,12 +1,11 @@
 -- A game has one file tree in which exactly the first uses are described.
-use Rattle.gf_canon.proofs.Common.{outcomes_in_order, same_set_equality, AllByRecursion, option_map}
-use Rattle.gf_canon.proofs.Common.{description_at, if◌then◌else◌, AreConsistent, used_outcomes, ◌≡◌}
-use Rattle.gf_canon.proofs.Common.{sets_in_order, append_assoc, outcome_uses, cons_option, list_any}
-use Rattle.gf_canon.proofs.Common.{Decides-eqb, flatten_map, map-append, first_uses, keys_alone, []}
-use Rattle.gf_canon.proofs.Common.{IsEquality, use_after, Described, Describes, used_sets, same_set}
-use Rattle.gf_canon.proofs.Common.{map_entry, has_place, FileNode, FileTree, set_uses, contains, ap}
-use Rattle.gf_canon.proofs.Common.{flatten, Option, nat_eq, Listed, arith, subst, Bool, List, ◌++◌}
-use Rattle.gf_canon.proofs.Common.{Some, None, refl, Game, ◌∷◌, map, sym, ◌∙◌, Use, Has}
+use Rattle.gf_canon.proofs.Common
+use Common.{outcomes_in_order, same_set_equality, AllByRecursion, description_at, if◌then◌else◌, []}
+use Common.{AreConsistent, used_outcomes, sets_in_order, append_assoc, outcome_uses, cons_option}
+use Common.{Decides-eqb, flatten_map, option_map, map-append, first_uses, keys_alone, IsEquality}
+use Common.{use_after, Described, Describes, used_sets, map_entry, has_place, list_any, same_set}
+use Common.{FileNode, FileTree, set_uses, contains, flatten, Option, nat_eq, Listed, arith, subst}
+use Common.{Bool, List, ◌++◌, Some, None, refl, Game, ◌≡◌, ◌∷◌, map, sym, ◌∙◌, Use, Has, ap}
 use Rattle.gf_tree.proofs.lemmas.games.Learned.{told_found}
 use Rattle.gf_tree.proofs.lemmas.games.Prefix.{flatten_once}
 use Rattle.gf_canon.specs.FirstDescribed.{DescribeFirstUses, IsFileOf}

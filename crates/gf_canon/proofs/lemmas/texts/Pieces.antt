@@ -1,16 +1,13 @@
 -- The fields of a node's line say the tokens of the node.
-use Rattle.gf_canon.proofs.Common.{IsSpellableOutcome, IsSpellableAction, described_fields, decimal}
-use Rattle.gf_canon.proofs.Common.{flat_map-append, AllByRecursion, option_to_list, InformationSet}
-use Rattle.gf_canon.proofs.Common.{IsSpellableSet, outcome_fields, action_fields, result_fields, []}
-use Rattle.gf_canon.proofs.Common.{mover_fields, MatchOption, step_fields, map-append, append-nil}
-use Rattle.gf_canon.proofs.Common.{set_fields, IsSpelled, list_text, IsOutcome, node_text, flat_map}
-use Rattle.gf_canon.proofs.Common.{FileNode, IsLabel, Option, spaced, quoted, Action, SetKey, subst}
-use Rattle.gf_canon.proofs.Common.{codes, Token, IsSet, zero, List, ◌++◌, Some, None, refl, Text, ℕ}
-use Rattle.gf_canon.proofs.Common.{Bare, ◌≡◌, suc, ◌^◌, ◌<◌, ◌∷◌, map, ◌∙◌, Use, ⊤}
+use Rattle.gf_canon.proofs.Common
+use Common.{IsSpellableOutcome, IsSpellableAction, described_fields, AllByRecursion, option_to_list}
+use Common.{InformationSet, IsSpellableSet, outcome_fields, action_fields, result_fields, IsOutcome}
+use Common.{mover_fields, MatchOption, step_fields, set_fields, node_text, flat_map, FileNode, zero}
+use Common.{decimal, IsLabel, Option, Action, SetKey, codes, Token, IsSet, List, Some, None, refl}
+use Common.{Text, Bare, suc, ◌^◌, ◌<◌, ◌∷◌, map, Use, [], ℕ, ⊤}
 use Rattle.gf_fraction.specs.NumberText.{number_text}
 use Rattle.std.specs.Fmt.{digits}
 use Rattle.gf_fraction.specs.Ratio.{Ratio, IsFraction}
-use Rattle.gf_token.specs.Grammar.{braced}
 use Rattle.gf_token.proofs.SpelledNumbers.{number_spelled, index_spelled}
 use Rattle.gf_token.proofs.LaidOut.{AreSaid, Says, both, each, each_token, label, line, list, none}
 use Rattle.gf_token.proofs.LaidOut.{says_word, word}

@@ -1,11 +1,10 @@
 -- The line of a node that describes nothing, piece by piece.
-use Rattle.gf_canon.proofs.Common.{described_fields, InformationSet, length-append, player_letter}
-use Rattle.gf_canon.proofs.Common.{append_assoc, mover_fields, mover_letter, length-drop, node_line}
-use Rattle.gf_canon.proofs.Common.{number_then, player_then, set_use_of, set_fields, plain_line, []}
-use Rattle.gf_canon.proofs.Common.{option_map, tail_text, drop-set, FileNode, decimal, is_some, ◌≡◌}
-use Rattle.gf_canon.proofs.Common.{length, Option, Result, SetKey, quoted, spaced, false, arith, ap}
-use Rattle.gf_canon.proofs.Common.{codes, zero, List, ◌++◌, drop, None, Some, refl, OnOk, take, suc}
-use Rattle.gf_canon.proofs.Common.{◌+◌, ◌<◌, ◌∷◌, set, Err, ◌≤◌, ◌-◌, Use, Ok, ℕ}
+use Rattle.gf_canon.proofs.Common
+use Common.{described_fields, InformationSet, length-append, player_letter, append_assoc, node_line}
+use Common.{mover_fields, mover_letter, length-drop, number_then, player_then, set_use_of, drop-set}
+use Common.{set_fields, plain_line, option_map, tail_text, FileNode, decimal, is_some, length, zero}
+use Common.{Option, Result, SetKey, quoted, spaced, false, arith, codes, List, ◌++◌, drop, None, []}
+use Common.{Some, refl, OnOk, take, ◌≡◌, suc, ◌+◌, ◌<◌, ◌∷◌, set, Err, ◌≤◌, ◌-◌, Use, ap, Ok, ℕ}
 use Rattle.std.specs.Fmt.{digits}
 use Rattle.std.proofs.Math.Seq.{take-append-add, take-append_seam}
 use Rattle.gf_tree.specs.declared.game.file_node.SetUse.{SetUse}

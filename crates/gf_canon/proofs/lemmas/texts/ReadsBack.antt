@@ -1,13 +1,12 @@
 -- The text of a game spells that game.
-use Rattle.gf_canon.proofs.Common.{IsSpellableOutcome, same_set_equality, AllByRecursion, IsOutcome}
-use Rattle.gf_canon.proofs.Common.{IsSpellableSet, if◌then◌else◌, used_outcomes, IsConsistent, Bool}
-use Rattle.gf_canon.proofs.Common.{MatchOption, Decides-eqb, IsSpellable, first_line, option_map, ℕ}
-use Rattle.gf_canon.proofs.Common.{outcome_at, SpellsGame, node_after, file_nodes, used_sets, false}
-use Rattle.gf_canon.proofs.Common.{node_text, game_text, flat_map, same_set, FileNode, FileTree, []}
-use Rattle.gf_canon.proofs.Common.{IsGameOf, IsLabel, flatten, in_keys, length, Option, nat_eq, ◌≡◌}
-use Rattle.gf_canon.proofs.Common.{quoted, Listed, SetKey, IsGame, set_at, subst, codes, Token, ◌∷◌}
-use Rattle.gf_canon.proofs.Common.{IsSet, found, true, List, ◌++◌, Some, None, refl, Text, Bare, ap}
-use Rattle.gf_canon.proofs.Common.{Node, Game, each, held, map, sym, inl, inr, Has, ⊤}
+use Rattle.gf_canon.proofs.Common
+use Common.{IsSpellableOutcome, same_set_equality, AllByRecursion, IsSpellableSet, if◌then◌else◌, ℕ}
+use Common.{used_outcomes, IsConsistent, MatchOption, Decides-eqb, IsSpellable, first_line, IsLabel}
+use Common.{option_map, outcome_at, SpellsGame, node_after, file_nodes, IsOutcome, used_sets, false}
+use Common.{node_text, game_text, flat_map, same_set, FileNode, FileTree, IsGameOf, flatten, length}
+use Common.{in_keys, Option, nat_eq, Listed, SetKey, IsGame, set_at, subst, codes, Token, IsSet, []}
+use Common.{found, Bool, true, List, ◌++◌, Some, None, refl, Text, Bare, Node, Game, each, held, ap}
+use Common.{◌≡◌, ◌∷◌, map, sym, inl, inr, Has, ⊤}
 use Rattle.gf_token.specs.Grammar.{Each, braced}
 use Rattle.gf_token.proofs.LaidOut.{AreSaid, Says, Tells, both, each_field, empty, fields, label}
 use Rattle.gf_token.proofs.LaidOut.{labels, lines, list, word}

@@ -1,16 +1,14 @@
 -- A canonical game can be spelled if the game can: its numbers are no greater than the greatest
 -- number of the game.
-use Rattle.gf_canon.proofs.Common.{◌≡◌, ℕ, Bool, ◌^◌, ◌<◌, true, eqb, List, [], ◌∷◌, length, map}
-use Rattle.gf_canon.proofs.Common.{sym, subst, ◌∙◌, arith, inl, inr, nat_eq, AllByRecursion}
-use Rattle.gf_canon.proofs.Common.{list_any, eqb-true, ne_eqb, or_cases, Decides-eqb, length-map}
-use Rattle.gf_canon.proofs.Common.{IsLabel, flatten, SetKey, InformationSet, same_set, Described}
-use Rattle.gf_canon.proofs.Common.{first_uses, Game, IsGame, used_sets, used_outcomes, IsSpellable}
-use Rattle.gf_canon.proofs.Common.{IsSpellableSet, IsSpellableOutcome, renumbered_set}
-use Rattle.gf_canon.proofs.Common.{renumbered_node, first_use_number, sets_of, first_use_numbers}
-use Rattle.gf_canon.proofs.Common.{Has, IsEquality, mapped_from, each, all_of_each, AreDistinct}
-use Rattle.gf_canon.proofs.Common.{was_used, first_uses_distinct, of_filter, same_set_equality}
-use Rattle.gf_canon.proofs.Common.{flatten_map, in_keys, entry_used, set_number_positive}
-use Rattle.gf_canon.proofs.Common.{outcome_number_positive, canonical_game, all_images, all_weaker}
+use Rattle.gf_canon.proofs.Common
+use Common.{outcome_number_positive, first_uses_distinct, set_number_positive, IsSpellableOutcome}
+use Common.{first_use_numbers, same_set_equality, first_use_number, renumbered_node, AllByRecursion}
+use Common.{InformationSet, IsSpellableSet, renumbered_set, canonical_game, used_outcomes, list_any}
+use Common.{Decides-eqb, IsSpellable, mapped_from, all_of_each, AreDistinct, flatten_map, Described}
+use Common.{length-map, first_uses, IsEquality, entry_used, all_images, all_weaker, used_sets, Bool}
+use Common.{of_filter, eqb-true, or_cases, same_set, was_used, IsLabel, flatten, sets_of, in_keys}
+use Common.{length, nat_eq, ne_eqb, SetKey, IsGame, subst, arith, true, List, Game, each, ◌≡◌, ◌^◌}
+use Common.{◌<◌, eqb, ◌∷◌, map, sym, ◌∙◌, inl, inr, Has, [], ℕ}
 use Rattle.std.specs.List.{IsDistinct}
 use Rattle.std.proofs.lemmas.Map.Steps.{length-le_from_distinct_below}
 use Rattle.gf_tree.specs.Description.{Outcome}

@@ -1,13 +1,11 @@
 -- Lists in braces and fields of lines, piece by piece.
-use Rattle.gf_canon.proofs.Common.{◌≡◌, ℕ, zero, suc, ◌+◌, ◌<◌, List, [], ◌∷◌, ◌++◌, length, map}
-use Rattle.gf_canon.proofs.Common.{drop, Option, None, Some, refl, sym, ap, ◌∙◌, append_assoc, ◌-◌}
-use Rattle.gf_canon.proofs.Common.{◌≤◌, OnOk, Result, Ok, Err, arith, is_ok, set, take}
-use Rattle.gf_canon.proofs.Common.{length-append, length-drop, append-nil, drop-set, drop_all}
-use Rattle.gf_canon.proofs.Common.{take_all, codes, decimal, flat_map, flat_map-append, lines_text}
-use Rattle.gf_canon.proofs.Common.{list_text, quoted, spaced, others_text, label_of, InformationSet}
-use Rattle.gf_canon.proofs.Common.{SetKey, file_nodes, FileNode, Use, Game, action_fields}
-use Rattle.gf_canon.proofs.Common.{mover_fields, step_fields, game_text, node_text, first_line}
-use Rattle.gf_canon.proofs.Common.{heading_text, node_line, if◌then◌else◌, ◌^◌}
+use Rattle.gf_canon.proofs.Common
+use Common.{flat_map-append, InformationSet, length-append, action_fields, if◌then◌else◌, list_text}
+use Common.{append_assoc, mover_fields, heading_text, length-drop, others_text, step_fields, length}
+use Common.{append-nil, lines_text, file_nodes, first_line, game_text, node_text, node_line, Option}
+use Common.{drop-set, drop_all, take_all, flat_map, label_of, FileNode, decimal, Result, quoted, []}
+use Common.{spaced, SetKey, arith, is_ok, codes, zero, List, ◌++◌, drop, None, Some, refl, OnOk, ap}
+use Common.{take, Game, ◌≡◌, suc, ◌+◌, ◌<◌, ◌∷◌, map, sym, ◌∙◌, ◌-◌, ◌≤◌, Err, set, Use, ◌^◌, Ok, ℕ}
 use Rattle.gf_fraction.specs.NumberText.{number_text}
 use Rattle.std.proofs.lemmas.Fmt.{length-decimal-le}
 use Rattle.gf_fraction.specs.Ratio.{Ratio}

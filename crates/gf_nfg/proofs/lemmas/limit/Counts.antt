@@ -1,20 +1,20 @@
 -- If counts pass the limit, so do the profiles of all files with them; and the limit place is where
 -- all files that begin with the tokens through it are above the limit.
-use Rattle.gf_nfg.proofs.Common.{all_images, all_mapped, all_parts, profile_limit, BeginsPastLimit}
-use Rattle.gf_nfg.proofs.Common.{IsBareOrClosing, IsLimitByFiles, StaysWithinLimit, GivesCounts, at}
-use Rattle.gf_nfg.proofs.Common.{IsLimitPlace, product, IsCount, IsLabelList, Sentence, p, Position}
-use Rattle.gf_nfg.proofs.Common.{parts, PartsBefore, Table, Content, State, start, step, Each}
-use Rattle.gf_nfg.proofs.Common.{tokens_of, Bare, Closing, Opening, Token, Span, List, Ok, [], ap}
-use Rattle.gf_nfg.proofs.Common.{append_assoc, arith, drop, inl, inr, length, length-append}
-use Rattle.gf_nfg.proofs.Common.{length-take, map, refl, subst, ℕ, suc, sym, take, zero, ◌++◌, ◌-◌}
-use Rattle.gf_nfg.proofs.Common.{◌<◌, ◌∙◌, ◌∷◌, ◌≡◌, ◌≤◌, take_all, take-append_seam, cases_lt}
-use Rattle.gf_nfg.proofs.Common.{length-map, take-append-drop, take-map, take-take, codes, ◌↔◌, ◌⊎◌}
+use Rattle.gf_nfg.proofs.Common
+use Common.{StaysWithinLimit, take-append_seam, take-append-drop, BeginsPastLimit, IsBareOrClosing}
+use Common.{IsLimitByFiles, profile_limit, length-append, IsLimitPlace, append_assoc, GivesCounts}
+use Common.{IsLabelList, PartsBefore, length-take, all_images, all_mapped, length-map, all_parts, p}
+use Common.{tokens_of, take-take, Sentence, Position, take_all, cases_lt, take-map, product, length}
+use Common.{IsCount, Content, Closing, Opening, parts, Table, State, start, Token, arith, subst, at}
+use Common.{codes, step, Each, Bare, Span, List, drop, refl, take, zero, ◌++◌, inl, inr, map, suc}
+use Common.{sym, ◌-◌, ◌<◌, ◌∙◌, ◌∷◌, ◌≡◌, ◌≤◌, ◌↔◌, ◌⊎◌, Ok, [], ap, ℕ}
 use Rattle.gf_nfg.proofs.lemmas.places.Led.{is_reader, last_count, makes_more, products}
 use Rattle.gf_nfg.proofs.lemmas.places.Led.{read_past, stays_within}
 use Rattle.gf_nfg.proofs.lemmas.runs.Sentence.{kind_of}
 use Rattle.gf_nfg.proofs.lemmas.runs.Strategies.{Kind, Strategies, all_groups, all_in, and_more}
-use Rattle.gf_nfg.proofs.lemmas.runs.Strategies.{and_more_is, behind, each_parts, groups_walk, next}
+use Rattle.gf_nfg.proofs.lemmas.runs.Strategies.{and_more_is, after_groups, each_parts, groups_walk}
 use Rattle.gf_nfg.proofs.lemmas.runs.Strategies.{heading, heading_leads, heading_line, with_group}
+use Rattle.gf_nfg.proofs.lemmas.runs.Strategies.{next}
 use Rattle.gf_nfg.proofs.lemmas.runs.Common.{Leads, walk}
 use Rattle.gf_token.proofs.Reading.{begins}
 use Rattle.gf_token.proofs.Walks.{then_ok, walk_more, walk_on, walk_split}
@@ -98,7 +98,7 @@ abbrev pub AreGroups : List Token → Strategies → Type 0
 AreGroups inner strategies = Each IsCount inner strategies ⊎ Each IsLabelList inner strategies
 
 some_after : (k : Kind) (strategies : Strategies) (due : ℕ) (q : Position)
-    → profile_limit < product (map length strategies) → behind k strategies due q ≡ next k due
+    → profile_limit < product (map length strategies) → after_groups k strategies due q ≡ next k due
 some_after k [] due q over = absurd (omega arith)
 some_after k (labels ∷ strategies) due q over = refl
 
@@ -118,7 +118,7 @@ passes_given ts t counts g h =
     let due = length g.players - length g.strategies in
     let d : Content = all_in (with_group k.0) c g.strategies in
     let first : Position = p.FirstStrategies (and_more g.strategies due) in
-    let after : State = at (behind k.0 g.strategies due first) d in
+    let after : State = at (after_groups k.0 g.strategies due first) d in
     let fewer = g.first_players in
     let passes = h.passes in
     let size = length-map g.strategies length in
@@ -178,10 +178,10 @@ found tokens t s over =
     let i = group_parts first (drop c.0 t.strategies) inner (subst (AreGroups inner)
     (sym (take-append-drop c.0 t.strategies)) s.is_strategies.2) in
     let others = s.comment ++ s.body in
-    let behind = i.1 ++ Closing ∷ others in
+    let after = i.1 ++ Closing ∷ others in
     let line = heading_line s.letter t.title t.players in
     let through = line ++ Opening ∷ i.0 in
-    let whole : tokens ≡ through ++ behind =
+    let whole : tokens ≡ through ++ after =
     grind (arith, append_assoc, s.parts, s.is_strategies.1, i.2) in
     let l = last_of (Bare (codes "NFG")) (drop 1 through) in
     let some = all_images (λ (n : ℕ). 0 < n) length t.strategies table.some_strategy in
@@ -199,8 +199,8 @@ found tokens t s over =
           (rw (take-append-drop c.0 ns) some)).0;
       first_players = grind (arith, length-map, length, length-take);
     } in
-    let parts = whole ∙ ap (λ ts. ts ++ behind) l.2 ∙ append_assoc l.0 (l.1 ∷ []) behind in
-    (l.0, l.1, behind, take c.0 ns, parts, gives, c.1)
+    let parts = whole ∙ ap (λ ts. ts ++ after) l.2 ∙ append_assoc l.0 (l.1 ∷ []) after in
+    (l.0, l.1, after, take c.0 ns, parts, gives, c.1)
 
 -- ---- there is one such token
 

@@ -1,17 +1,15 @@
 -- Where the reader refuses, no file goes on, or each file that does is above the limit. What the
 -- machine answers to the tokens of an input is what the file means, or the refusal that is due.
-use Rattle.gf_nfg.proofs.Common.{IsAcceptedWithinLimit, StaysWithinLimit, IsOffendingPlace, read_on}
-use Rattle.gf_nfg.proofs.Common.{BeginsPastLimit, IsBareOrClosing, IsStrategicFile, TooManyProfiles}
-use Rattle.gf_nfg.proofs.Common.{HasPassedPlace, profile_limit, IsWithinLimit, IsLimitPlace, Reader}
-use Rattle.gf_nfg.proofs.Common.{begins_front, StandsBefore, Unterminated, append_assoc, content_in}
-use Rattle.gf_nfg.proofs.Common.{SpellsTable, PartsBefore, same_tokens, AreInOrder, append-nil, Why}
-use Rattle.gf_nfg.proofs.Common.{map-append, IsRefusal, IsRefused, overtaken, same_span, tokens_on}
-use Rattle.gf_nfg.proofs.Common.{tokens_of, Remaining, IsJudged, IsReason, IsSpanOf, Expected, step}
-use Rattle.gf_nfg.proofs.Common.{table_of, Content, nothing, Answer, finish, within, due_at, answer}
-use Rattle.gf_nfg.proofs.Common.{Broken, Lexeme, lexeme, Spells, Memory, Result, length, Table, Err}
-use Rattle.gf_nfg.proofs.Common.{Fails, heard, taken, State, ended, start, parts, Token, Fault, inl}
-use Rattle.gf_nfg.proofs.Common.{arith, subst, Span, What, List, refl, ◌++◌, inr, sym, ◌<◌, ◌∷◌, Ok}
-use Rattle.gf_nfg.proofs.Common.{◌≡◌, ◌≤◌, ◌⊎◌, ◌∙◌, [], p, ℕ}
+use Rattle.gf_nfg.proofs.Common
+use Common.{IsAcceptedWithinLimit, StaysWithinLimit, IsOffendingPlace, BeginsPastLimit, SpellsTable}
+use Common.{IsBareOrClosing, IsStrategicFile, TooManyProfiles, HasPassedPlace, profile_limit, Table}
+use Common.{IsWithinLimit, IsLimitPlace, begins_front, StandsBefore, Unterminated, append_assoc, Ok}
+use Common.{PartsBefore, same_tokens, content_in, AreInOrder, append-nil, map-append, IsRefusal, []}
+use Common.{IsRefused, overtaken, same_span, tokens_on, tokens_of, Remaining, IsJudged, IsReason, p}
+use Common.{IsSpanOf, Expected, table_of, read_on, Content, nothing, Reader, Answer, finish, within}
+use Common.{due_at, answer, Broken, Lexeme, lexeme, Spells, Memory, Result, length, Fails, heard, ℕ}
+use Common.{taken, State, ended, start, parts, Token, Fault, arith, subst, step, Span, What, List}
+use Common.{refl, ◌++◌, Why, Err, inl, inr, sym, ◌<◌, ◌∷◌, ◌≡◌, ◌≤◌, ◌⊎◌, ◌∙◌}
 use Rattle.gf_token.proofs.Following.{refused_why}
 pub use Rattle.gf_token.proofs.Following.{carried}
 use Rattle.gf_token.proofs.Reading.{begins, not_accepted}
@@ -83,7 +81,7 @@ span_of l = record { start = l.start; end = l.end }
 abbrev pub end_of : ℕ → Span
 end_of size = record { start = size; end = size }
 
--- it stands behind the tokens up to which they stay within it
+-- it stands after the tokens up to which they stay within it
 past_limit : (bytes : List ℕ) (front back : List Lexeme) (from : ℕ) (limit : Span)
     → Spells 0 bytes (front ++ back) → StaysWithinLimit (tokens_of front)
     → AreInOrder (length bytes) from back → IsLimitPlace bytes limit → from ≤ limit.start

@@ -1,19 +1,17 @@
 -- The table of positions: what each row accepts and how it refuses the rest, and that the machine
 -- does so. What a row accepts tells what is due there, so the code of each refusal is the reason
 -- for it.
-use Rattle.gf_nfg.proofs.Common.{false_from_ne_true, number_is_computed, IsStrategicFile, MayFollow}
-use Rattle.gf_nfg.proofs.Common.{ZeroDenominator, HasNumberFault, UnknownOutcome, Unterminated, Err}
-use Rattle.gf_nfg.proofs.Common.{number_again, NumberFault, NumberIsDue, TakesLabels, count_again}
-use Rattle.gf_nfg.proofs.Common.{index_again, IndexIsDue, IsPositive, NotANumber, gcd_within, Comma}
-use Rattle.gf_nfg.proofs.Common.{same_fault, lowest_of, nat_tests, number_is, number_of, pointwise}
-use Rattle.gf_nfg.proofs.Common.{BadIndex, Expected, IsNumber, IsReason, Position, count_is, Begins}
-use Rattle.gf_nfg.proofs.Common.{count_of, index_is, index_of, Applies, Closing, Content, IsIndex}
-use Rattle.gf_nfg.proofs.Common.{NoEntry, Opening, code_of, counted, step_at, Broken, Option, IsDue}
-use Rattle.gf_nfg.proofs.Common.{Result, chosen, due_at, finish, length, nat_eq, why_of, Ratio, Why}
-use Rattle.gf_nfg.proofs.Common.{Reads, State, Token, arith, codes, ended, false, is_ok, start, inl}
-use Rattle.gf_nfg.proofs.Common.{subst, Bare, Bool, List, None, Some, Text, What, paid, refl, step}
-use Rattle.gf_nfg.proofs.Common.{true, zero, ◌++◌, ◌||◌, inr, map, suc, sym, ◌+◌, ◌<◌, ◌↔◌, ◌∙◌, Ok}
-use Rattle.gf_nfg.proofs.Common.{◌∷◌, ◌≡◌, ◌≢◌, ◌≤◌, ◌⊎◌, [], ap, at, p, ℕ}
+use Rattle.gf_nfg.proofs.Common
+use Common.{false_from_ne_true, number_is_computed, IsStrategicFile, ZeroDenominator, Unterminated}
+use Common.{HasNumberFault, UnknownOutcome, number_again, NumberFault, NumberIsDue, TakesLabels, Ok}
+use Common.{count_again, index_again, IndexIsDue, IsPositive, NotANumber, gcd_within, same_fault, p}
+use Common.{MayFollow, lowest_of, nat_tests, number_is, number_of, pointwise, BadIndex, Expected, ℕ}
+use Common.{IsNumber, IsReason, Position, count_is, count_of, index_is, index_of, Applies, Closing}
+use Common.{Content, IsIndex, NoEntry, Opening, code_of, counted, step_at, Begins, Broken, Option}
+use Common.{Result, chosen, due_at, finish, length, nat_eq, why_of, Comma, IsDue, Ratio, Reads, Err}
+use Common.{State, Token, arith, codes, ended, false, is_ok, start, subst, Bare, Bool, List, None}
+use Common.{Some, Text, What, paid, refl, step, true, zero, ◌++◌, ◌||◌, Why, inl, inr, map, suc, []}
+use Common.{sym, ◌+◌, ◌<◌, ◌↔◌, ◌∙◌, ◌∷◌, ◌≡◌, ◌≢◌, ◌≤◌, ◌⊎◌, ap, at}
 use Rattle.gf_nfg.proofs.lemmas.places.Led.{is_reader}
 use Rattle.gf_token.proofs.Reading.{begins, follows, not_accepted, stops}
 use Rattle.gf_token.proofs.Walks.{run_whole, then_ok, walk_on}

@@ -1,10 +1,9 @@
 -- Each state of the machine can be completed.
-use Rattle.gf_nfg.proofs.Common.{gcd_within, lowest_of, number_of, Ratio, whole, Content, State, at}
-use Rattle.gf_nfg.proofs.Common.{next_outcome, run, step, with_choices, with_count, with_labels, p}
-use Rattle.gf_nfg.proofs.Common.{with_payoffs, with_title, Position, count_of, index_of, Bare, Text}
-use Rattle.gf_nfg.proofs.Common.{Closing, Comma, Opening, Token, List, Ok, Some, [], arith, length}
-use Rattle.gf_nfg.proofs.Common.{pos, refl, suc, zero, ℕ, ◌*◌, ◌∙◌, ◌∷◌, ◌≡◌, mul-one, le-leb}
-use Rattle.gf_nfg.proofs.Common.{codes}
+use Rattle.gf_nfg.proofs.Common
+use Common.{next_outcome, with_choices, with_payoffs, with_labels, gcd_within, with_count, Position}
+use Common.{with_title, lowest_of, number_of, count_of, index_of, Content, Closing, Opening, length}
+use Common.{mul-one, le-leb, Ratio, whole, State, Comma, Token, arith, codes, step, Bare, Text, run}
+use Common.{List, Some, refl, zero, pos, suc, ◌*◌, ◌∙◌, ◌∷◌, ◌≡◌, at, Ok, [], p, ℕ}
 
 -- it can be completed, to this many profiles
 pub record Ends (s : State) (profiles : ℕ) : Type 0 where

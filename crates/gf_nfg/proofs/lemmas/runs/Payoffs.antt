@@ -1,15 +1,14 @@
 -- Runs over payoffs: the flat list, the outcomes in braces, and the outcome numbers after them; and
 -- the rows that they are.
-use Rattle.gf_nfg.proofs.Common.{IsOutcomeInBraces, IsPayoffInBraces, NumberFault, take-append-drop}
-use Rattle.gf_nfg.proofs.Common.{AllByRecursion, IsOutcomeNumber, length-append, slice_get_within}
-use Rattle.gf_nfg.proofs.Common.{append-nil, next_outcome, number_again, with_choices, with_payoffs}
-use Rattle.gf_nfg.proofs.Common.{Pays, append_assoc, index_again, length-drop, number_is, number_of}
-use Rattle.gf_nfg.proofs.Common.{Content, IsIndex, IsPayoff, Position, index_is, index_of, rows_of}
-use Rattle.gf_nfg.proofs.Common.{Closing, Opening, Option, Result, braced, chosen, mul-suc, row_of}
-use Rattle.gf_nfg.proofs.Common.{Comma, Ratio, State, Token, arith, false, length, paid, run, ◌>>=◌}
-use Rattle.gf_nfg.proofs.Common.{Bare, Bool, Each, List, Some, Text, drop, refl, take, true, zero}
-use Rattle.gf_nfg.proofs.Common.{inr, map, min, suc, ◌*◌, ◌++◌, ◌+◌, ◌-◌, ◌<◌, ◌^◌, ◌∙◌, ◌∷◌, ◌≡◌}
-use Rattle.gf_nfg.proofs.Common.{Ok, [], ap, at, p, ℕ, ◌≤◌, ◌⊎◌}
+use Rattle.gf_nfg.proofs.Common
+use Common.{IsOutcomeInBraces, IsPayoffInBraces, take-append-drop, slice_get_within, AllByRecursion}
+use Common.{IsOutcomeNumber, length-append, next_outcome, number_again, with_choices, with_payoffs}
+use Common.{append_assoc, NumberFault, index_again, length-drop, append-nil, number_is, number_of}
+use Common.{IsPayoff, Position, index_is, index_of, Content, IsIndex, rows_of, Closing, Opening, Ok}
+use Common.{mul-suc, Option, Result, braced, chosen, row_of, length, Comma, Ratio, State, Token, []}
+use Common.{arith, false, ◌>>=◌, Pays, paid, Bare, Bool, Each, List, Some, Text, drop, refl, take}
+use Common.{true, zero, ◌++◌, run, inr, map, min, suc, ◌*◌, ◌+◌, ◌-◌, ◌<◌, ◌^◌, ◌∙◌, ◌∷◌, ◌≡◌, ◌≤◌}
+use Common.{◌⊎◌, ap, at, p, ℕ}
 use Rattle.gf_token.proofs.Grammar.{each_both}
 use Rattle.gf_nfg.proofs.lemmas.runs.Common.{ok_is}
 use Rattle.gf_nfg.proofs.lemmas.runs.Strategies.{First, all_in, each_parts, groups_found}

@@ -1,11 +1,10 @@
 -- What the methods of the reader rest on: answers carried back, and steps with a test of what is
 -- due.
-use Rattle.gf_nfg.proofs.Common.{HasToldAll, MatchResult, StandsBefore, content_told, p}
-use Rattle.gf_nfg.proofs.Common.{Position, Remaining, StandsAt, Telling, at, content_in, length-map}
-use Rattle.gf_nfg.proofs.Common.{Answer, Content, Goes, Heading, Opening, read_on, Lexeme, Memory}
-use Rattle.gf_nfg.proofs.Common.{Ok, Reader, Result, answer, length, lexeme, Fails, Fault, List}
-use Rattle.gf_nfg.proofs.Common.{Span, Text, Told, arith, heard, refl, subst, ℕ, Err, [], ap, sym}
-use Rattle.gf_nfg.proofs.Common.{◌-◌, ◌<◌, ◌∙◌, ◌∷◌, ◌≡◌}
+use Rattle.gf_nfg.proofs.Common
+use Common.{StandsBefore, content_told, MatchResult, HasToldAll, content_in, length-map, Remaining}
+use Common.{Position, StandsAt, Telling, Content, Heading, Opening, read_on, Answer, Lexeme, Memory}
+use Common.{Reader, Result, answer, length, lexeme, Fails, Fault, arith, heard, subst, Goes, List}
+use Common.{Span, Text, Told, refl, Err, sym, ◌-◌, ◌<◌, ◌∙◌, ◌∷◌, ◌≡◌, at, Ok, [], ap, p, ℕ}
 use Rattle.gf_nfg.proofs.lemmas.places.Judged.{carried, lacks_memory}
 pub use Rattle.gf_token.proofs.Following.{goes_back, fails_back as ends_back}
 use Rattle.gf_nfg.specs.declared.reader.receive.Version.TheVariants as version

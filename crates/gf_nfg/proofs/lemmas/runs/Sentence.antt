@@ -1,12 +1,11 @@
 -- A run of the machine that succeeds has read a sentence, and each sentence is read.
-use Rattle.gf_nfg.proofs.Common.{AllByRecursion, counted_labels, strategies_end, IsOutcomeBody, ◌≡◌}
-use Rattle.gf_nfg.proofs.Common.{strategies_of, append_assoc, IsPayoffBody, with_comment, IsComment}
-use Rattle.gf_nfg.proofs.Common.{IsLabelList, HasPayoffs, all_weaker, length-map, all_images, arith}
-use Rattle.gf_nfg.proofs.Common.{IsComplete, HasLabels, Sentence, table_of, IsTable, IsCount, subst}
-use Rattle.gf_nfg.proofs.Common.{Opening, Closing, Content, rows_by, product, length, braced, Token}
-use Rattle.gf_nfg.proofs.Common.{row_of, finish, Ratio, Table, start, ◌++◌, refl, Text, Each, rows}
-use Rattle.gf_nfg.proofs.Common.{step, List, ◌≤◌, ◌∷◌, map, sym, ◌∙◌, inl, inr, ◌⊎◌, run, sum, ◌+◌}
-use Rattle.gf_nfg.proofs.Common.{◌*◌, ◌<◌, [], Ok, at, ℕ, p}
+use Rattle.gf_nfg.proofs.Common
+use Common.{AllByRecursion, counted_labels, strategies_end, IsOutcomeBody, strategies_of, IsComment}
+use Common.{append_assoc, IsPayoffBody, with_comment, IsLabelList, HasPayoffs, all_weaker, Sentence}
+use Common.{length-map, all_images, IsComplete, HasLabels, table_of, IsTable, IsCount, Opening, ◌≡◌}
+use Common.{Closing, Content, rows_by, product, length, braced, row_of, finish, arith, subst, Token}
+use Common.{Ratio, Table, start, ◌++◌, refl, Text, Each, rows, step, List, ◌≤◌, ◌∷◌, map, sym, ◌∙◌}
+use Common.{inl, inr, ◌⊎◌, run, sum, ◌+◌, ◌*◌, ◌<◌, [], Ok, at, ℕ, p}
 use Rattle.gf_nfg.proofs.lemmas.tables.Lists.{joined, length-joined_rows, length-counted_labels}
 use Rattle.gf_nfg.proofs.lemmas.tables.Lists.{length-joined, product_above_zero, rows_again}
 use Rattle.gf_nfg.proofs.lemmas.tables.Meaning.{is_table, rows-table_of, strategies_of-joined}
@@ -35,7 +34,7 @@ rows_chosen c choices some = grind arith
 
 -- ---- what was read
 
--- a body, behind what is not of it
+-- a body, after what is not of it
 pub record Body (body : List Token) (c r : Content) : Type 0 where
   pub payoffs : List Ratio
   pub choices : List ℕ
@@ -77,7 +76,7 @@ body_found : (ts : List Token) (c r : Content) → 0 < c.profiles
 body_found (Opening ∷ ts) c r above e = outcome_body ts c r above e
 body_found ts c r above e = flat_body ts c r (grind arith)
 
--- the comment and the body, behind what is neither
+-- the comment and the body, after what is neither
 abbrev Commented : List Token → Content → Content → Type 0
 Commented ts c r = (comment : List Token) × (body : List Token) × (said : List ℕ)
     × (ts ≡ comment ++ body) × IsComment comment said × Body body (with_comment c said) r
@@ -273,10 +272,10 @@ sentence_again ts t s =
     let lists = strategies_again k.0 t.strategies inner rest (heading t.title t.players) k.1
     h.some_strategy in
     let seam = append_assoc inner (Closing ∷ []) rest in
-    let behind = past_comment s.comment s.body t.comment c (rows t) s.is_comment b refl in
+    let after = past_comment s.comment s.body t.comment c (rows t) s.is_comment b refl in
     record {
       content = kept t k.0 b.payoffs b.choices;
-      read = cc (s.parts, s.is_strategies.1, leads, seam, h.one_list_each, lists, behind);
+      read = cc (s.parts, s.is_strategies.1, leads, seam, h.one_list_each, lists, after);
       means = table_again t k.0 b.payoffs b.choices h
           (strategies_mean k.0 t.strategies inner k.1 h.some_strategy) b.means;
     }

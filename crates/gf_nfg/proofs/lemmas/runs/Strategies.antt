@@ -1,13 +1,12 @@
 -- Runs over the heading, and over the strategies: a count for each player, or a list of labels for
 -- each.
-use Rattle.gf_nfg.proofs.Common.{AllByRecursion, Each, counted_labels, strategies_end, with_players}
-use Rattle.gf_nfg.proofs.Common.{IsLabelList, append_assoc, count_again, p, with_count, with_labels}
-use Rattle.gf_nfg.proofs.Common.{Position, append-nil, count_is, count_of, mul_assoc, with_title, ℕ}
-use Rattle.gf_nfg.proofs.Common.{Closing, Content, IsCount, Opening, counted, nothing, product, run}
-use Rattle.gf_nfg.proofs.Common.{Bare, Option, State, braced, length, listed, mul-one, start, ◌>>=◌}
-use Rattle.gf_nfg.proofs.Common.{List, Some, Text, Token, arith, codes, inl, inr, refl, zero, ◌++◌}
-use Rattle.gf_nfg.proofs.Common.{Ok, [], ap, at, map, suc, ◌*◌, ◌+◌, ◌<◌, ◌∙◌, ◌∷◌, ◌≡◌, ◌⊎◌}
-use Rattle.gf_nfg.proofs.Common.{finish, step}
+use Rattle.gf_nfg.proofs.Common
+use Common.{AllByRecursion, counted_labels, strategies_end, with_players, append_assoc, IsLabelList}
+use Common.{count_again, with_labels, with_count, append-nil, with_title, mul_assoc, Position, Each}
+use Common.{count_is, count_of, Closing, Content, IsCount, Opening, counted, nothing, product, Bare}
+use Common.{mul-one, Option, braced, length, listed, finish, State, start, ◌>>=◌, Token, arith, run}
+use Common.{codes, List, Some, Text, refl, zero, ◌++◌, step, inl, inr, map, suc, ◌*◌, ◌+◌, ◌<◌, ◌∙◌}
+use Common.{◌∷◌, ◌≡◌, ◌⊎◌, Ok, [], ap, at, p, ℕ}
 use Rattle.gf_nfg.proofs.lemmas.runs.Common.{same_bytes, Leads, walk}
 use Rattle.gf_token.proofs.Walks.{run_after, walk_on}
 use Rattle.gf_nfg.proofs.lemmas.tables.Lists.{joined, length-counted_labels}
@@ -289,19 +288,19 @@ group_walk ByLists due q takes c group labels h some =
     grind arith
 
 -- where groups of some players lead, if this many more are due
-abbrev pub behind : Kind → Strategies → ℕ → Position → Position
-behind k [] due q = q
-behind k (labels ∷ strategies) due q = next k due
+abbrev pub after_groups : Kind → Strategies → ℕ → Position → Position
+after_groups k [] due q = q
+after_groups k (labels ∷ strategies) due q = next k due
 
 past_next : (k : Kind) (strategies : Strategies) (due : ℕ)
-    → behind k strategies due (next k (and_more strategies due)) ≡ next k due
+    → after_groups k strategies due (next k (and_more strategies due)) ≡ next k due
 past_next k strategies due = grind arith
 
 pub groups_walk : (k : Kind) (strategies : Strategies) (inner : List Token) (due : ℕ) (q : Position)
     → Takes k (and_more strategies due) q → (c : Content) → Each (IsGroup k) inner strategies
     → AllSome strategies
     → walk (at q c) inner
-    ≡ Ok (at (behind k strategies due q) (all_in (with_group k) c strategies))
+    ≡ Ok (at (after_groups k strategies due q) (all_in (with_group k) c strategies))
 groups_walk k [] inner due q takes c h some = ap (walk (at q c)) h
 groups_walk k (labels ∷ strategies) inner due q takes c h some =
     let first = group_walk k (and_more strategies due) q takes c h.0 labels h.3 some.0 in
@@ -311,7 +310,7 @@ groups_walk k (labels ∷ strategies) inner due q takes c h some =
     grind (arith, walk_on step, past_next)
 
 closed : (k : Kind) (strategies : Strategies) (rest : List Token) (c : Content)
-    → run (at (behind k strategies 0 (p.FirstStrategies 0)) c) (Closing ∷ rest)
+    → run (at (after_groups k strategies 0 (p.FirstStrategies 0)) c) (Closing ∷ rest)
     ≡ run (strategies_end c) rest
 closed k strategies rest c = grind arith
 

@@ -1,10 +1,9 @@
 -- Places in classes that are merged, and the rows at them.
-use Rattle.gf_nfg.proofs.Common.{◌≡◌, ◌≢◌, ℕ, ◌+◌, ◌-◌, ◌<◌, ◌≤◌, List, length, get_or, set, take}
-use Rattle.gf_nfg.proofs.Common.{Some, slice_get, refl, ◌∙◌, arith, if◌then◌else◌, max, min, nat_lt}
-use Rattle.gf_nfg.proofs.Common.{range_with_len, cases_eq, cases_lt, lt-ltb, get_or-set_at}
-use Rattle.gf_nfg.proofs.Common.{get_or_default_zero, get_or-set_other, get_or_past, length-set}
-use Rattle.gf_nfg.proofs.Common.{slice_get-get_or, slice_get-map, Ratio, all_at, LeadBack}
-use Rattle.gf_nfg.proofs.Common.{ShareRows, AreShared, kept_row}
+use Rattle.gf_nfg.proofs.Common
+use Common.{get_or_default_zero, get_or-set_other, slice_get-get_or, range_with_len, if◌then◌else◌}
+use Common.{get_or-set_at, slice_get-map, get_or_past, length-set, slice_get, ShareRows, AreShared}
+use Common.{cases_eq, cases_lt, LeadBack, kept_row, length, get_or, nat_lt, lt-ltb, all_at, arith}
+use Common.{Ratio, List, take, Some, refl, ◌≡◌, ◌≢◌, ◌+◌, ◌-◌, ◌<◌, ◌≤◌, set, ◌∙◌, max, min, ℕ}
 use Rattle.std.proofs.lemmas.List.FromFn.{get_or-range_with_len, length-range_with_len}
 use Rattle.gf_nfg.proofs.lemmas.tables.Agreement.{same_more}
 

@@ -1,12 +1,11 @@
 -- Tables that are only compared: what is kept of their payoffs, and that it means the table; and a
 -- file that was told whole is the same as a table exactly when no difference was found.
-use Rattle.gf_nfg.proofs.Common.{◌≡◌, ℕ, ◌<◌, ◌+◌, List, [], ◌∷◌, ◌++◌, length, sym, ap, ◌∙◌}
-use Rattle.gf_nfg.proofs.Common.{subst, arith, mul_comm, Ratio, IsTable, Table, rows, Some}
-use Rattle.gf_nfg.proofs.Common.{Names, table_with, Content, IsComplete, names_in}
-use Rattle.gf_nfg.proofs.Common.{table_of, content_in, content_of, content_with, HasToldTable}
-use Rattle.gf_nfg.proofs.Common.{Payoffs, Heading, Bool, true, ◌==◌, append-nil, drop, slice_get}
-use Rattle.gf_nfg.proofs.Common.{◌↔◌, IsTrue, length-map, IsCompared, SameTable, named_by, names_by}
-use Rattle.gf_nfg.proofs.Common.{IsWithinLimit, MeansTable, SpellsTable}
+use Rattle.gf_nfg.proofs.Common
+use Common.{IsWithinLimit, content_with, HasToldTable, SpellsTable, table_with, IsComplete, IsTable}
+use Common.{content_in, content_of, append-nil, length-map, IsCompared, MeansTable, slice_get, List}
+use Common.{SameTable, mul_comm, names_in, table_of, named_by, names_by, Content, Payoffs, Heading}
+use Common.{length, IsTrue, subst, arith, Ratio, Table, Names, ◌++◌, rows, Some, Bool, true, ◌==◌}
+use Common.{drop, ◌≡◌, ◌<◌, ◌+◌, ◌∷◌, sym, ◌∙◌, ◌↔◌, [], ap, ℕ}
 use Rattle.gf_nfg.specs.inner.ListedTable.{IsListed, IsListing, listed}
 use Rattle.gf_nfg.specs.declared.table.listed.Body.{Body}
 use Rattle.gf_nfg.specs.declared.table.listed.Body.TheVariants.{InTurn}

@@ -1,11 +1,10 @@
 -- The places of profiles.
-use Rattle.gf_nfg.proofs.Common.{◌≡◌, ℕ, zero, suc, ◌+◌, ◌-◌, ◌*◌, ◌<◌, ◌≤◌, nat_eq, List, [], ◌∷◌}
-use Rattle.gf_nfg.proofs.Common.{length, map, drop, get_or, None, slice_get, refl, sym, ap, ◌∙◌}
-use Rattle.gf_nfg.proofs.Common.{arith, ◌⊎◌, AllByRecursion, pointwise, drop_more, Decides-eqb}
-use Rattle.gf_nfg.proofs.Common.{slice_eq-Decides, mul_comm, mul-le-mul_right, Ratio, all_images}
-use Rattle.gf_nfg.proofs.Common.{profile_limit, IsProfile, place, product, profiles, Table, IsTable}
-use Rattle.gf_nfg.proofs.Common.{rows, payoffs_at, Names, entries_of, IsHeld, IsPlaced, own_of}
-use Rattle.gf_nfg.proofs.Common.{table_with, length-map, get_or-map}
+use Rattle.gf_nfg.proofs.Common
+use Common.{slice_eq-Decides, mul-le-mul_right, AllByRecursion, profile_limit, Decides-eqb, product}
+use Common.{all_images, payoffs_at, entries_of, table_with, length-map, get_or-map, slice_get, zero}
+use Common.{pointwise, drop_more, IsProfile, mul_comm, profiles, IsPlaced, IsTable, nat_eq, length}
+use Common.{get_or, IsHeld, own_of, arith, Ratio, place, Table, Names, List, drop, None, refl, rows}
+use Common.{◌≡◌, suc, ◌+◌, ◌-◌, ◌*◌, ◌<◌, ◌≤◌, ◌∷◌, map, sym, ◌∙◌, ◌⊎◌, [], ap, ℕ}
 use Rattle.std.proofs.lemmas.List.Elements.{AllZip-get_or, length_all_zip}
 use Rattle.gf_nfg.proofs.lemmas.tables.Profiles.{every_profile, length-profiles}
 use Rattle.gf_nfg.proofs.lemmas.tables.Profiles.{place_at as stands_at}

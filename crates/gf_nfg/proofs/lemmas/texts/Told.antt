@@ -1,11 +1,10 @@
 -- What a text has of a file that is being told, and that it is the canonical text at the end.
-use Rattle.gf_nfg.proofs.Common.{◌≡◌, ℕ, zero, suc, ◌*◌, ◌<◌, Bool, List, [], ◌∷◌, ◌++◌, length}
-use Rattle.gf_nfg.proofs.Common.{map, refl, sym, ap, ◌∙◌, append_assoc, arith, append-nil}
-use Rattle.gf_nfg.proofs.Common.{all_weaker, Ratio, Content, IsComplete, names_in, rows_by}
-use Rattle.gf_nfg.proofs.Common.{table_of, content_with, IsWithinLimit, content_of, Table}
-use Rattle.gf_nfg.proofs.Common.{SpellsTable, lines_text, named_by, table_text, heading_text}
-use Rattle.gf_nfg.proofs.Common.{names_by, row_text, rows_of, mul_comm, HasToldTable, MeansTable}
-use Rattle.gf_nfg.proofs.Common.{AreLaid, HasText, laid_lines, Heading, Outcomes, Payoffs}
+use Rattle.gf_nfg.proofs.Common
+use Common.{IsWithinLimit, append_assoc, content_with, heading_text, HasToldTable, SpellsTable, ◌≡◌}
+use Common.{append-nil, all_weaker, IsComplete, content_of, lines_text, table_text, MeansTable, suc}
+use Common.{laid_lines, names_in, table_of, named_by, names_by, row_text, mul_comm, Outcomes, arith}
+use Common.{Content, rows_by, rows_of, AreLaid, HasText, Heading, Payoffs, length, Ratio, Table, []}
+use Common.{zero, Bool, List, ◌++◌, refl, ◌*◌, ◌<◌, ◌∷◌, map, sym, ◌∙◌, ap, ℕ}
 use Rattle.gf_fraction.specs.NumberText.{number_text}
 use Rattle.gf_nfg.specs.inner.TextParts.{payoffs_text}
 use Rattle.gf_nfg.specs.declared.text.Text.{Text}

@@ -1,18 +1,15 @@
 -- The rows of the actions of a set, for a new set and for a known one.
-use Rattle.gf_tree.proofs.Common.{◌≡◌, ℕ, zero, suc, ◌<◌, Bool, true, false, cond, List, [], ◌∷◌}
-use Rattle.gf_tree.proofs.Common.{Option, Some, None, MatchOption, Result, Ok, Err, refl, sym, ap}
-use Rattle.gf_tree.proofs.Common.{subst, ◌∙◌, append-nil, arith, inl, inr, pos, ◌≤ℤ◌, ◌⊎◌, ints}
-use Rattle.gf_tree.proofs.Common.{same_Some, Ratio, IsFraction, whole, IsSum, IsNumber, NumberFault}
-use Rattle.gf_tree.proofs.Common.{number_again, number_is, whole_fraction, Token, Closing, Text}
-use Rattle.gf_tree.proofs.Common.{Bare, Why, Mismatch, NegativeProbability, Action, InformationSet}
-use Rattle.gf_tree.proofs.Common.{SetKey, same_set, set_of, description_at, FileFront, InActions}
-use Rattle.gf_tree.proofs.Common.{IsNewSet, KnowsSet, Begun, Content, State, at, new_set_ends}
-use Rattle.gf_tree.proofs.Common.{shared, step, KnownProbability, NewAction, NewProbability}
-use Rattle.gf_tree.proofs.Common.{KnownAction, Share, share_of, IsNoNumber, Row, this_number, ℤ}
-use Rattle.gf_tree.proofs.Common.{int_lt, ◌*ℤ◌, ◌≢◌, *ℤ_comm, SumFits, sum_is_computed}
-use Rattle.gf_tree.proofs.Common.{ToProbability, same_number, same_ratio, share_by, up_to_one}
-use Rattle.gf_tree.proofs.Common.{GoesOnWith, HasSum, IsWrongAfter, a_new_action, a_new_branch}
-use Rattle.gf_tree.proofs.Common.{a_probability, no_label, this_label, append_cancel_left}
+use Rattle.gf_tree.proofs.Common
+use Common.{NegativeProbability, append_cancel_left, KnownProbability, sum_is_computed, MatchOption}
+use Common.{whole_fraction, InformationSet, description_at, NewProbability, ToProbability, IsNumber}
+use Common.{a_probability, number_again, new_set_ends, IsWrongAfter, a_new_action, a_new_branch, []}
+use Common.{NumberFault, KnownAction, this_number, same_number, append-nil, IsFraction, IsNoNumber}
+use Common.{same_ratio, GoesOnWith, this_label, same_Some, number_is, FileFront, InActions, Closing}
+use Common.{NewAction, up_to_one, Mismatch, same_set, IsNewSet, KnowsSet, share_of, share_by, false}
+use Common.{no_label, Content, *ℤ_comm, SumFits, Option, Result, Action, SetKey, set_of, shared, Ok}
+use Common.{int_lt, HasSum, subst, arith, Ratio, whole, IsSum, Token, Begun, State, Share, zero, ap}
+use Common.{Bool, true, cond, List, Some, None, refl, ◌≤ℤ◌, ints, Text, Bare, step, ◌*ℤ◌, ◌≡◌, suc}
+use Common.{◌<◌, ◌∷◌, Err, sym, ◌∙◌, inl, inr, pos, ◌⊎◌, Why, Row, ◌≢◌, at, ℕ, ℤ}
 use Rattle.std.specs.Prelude.{◌<ℤ◌}
 use Rattle.gf_fraction.specs.Computed.{number_of}
 use Rattle.gf_fraction.proofs.LowestTerms.{one_fraction}

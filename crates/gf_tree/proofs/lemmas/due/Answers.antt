@@ -1,14 +1,13 @@
 -- The answers of the machine of the reader in the heading and at nodes, by the rows of the table of
 -- positions.
-use Rattle.gf_tree.proofs.Common.{◌≡◌, ℕ, suc, Bool, true, false, cond, List, [], ◌∷◌, length, Ok}
-use Rattle.gf_tree.proofs.Common.{Err, refl, sym, subst, arith, None, inl, inr, nat_eq, codes}
-use Rattle.gf_tree.proofs.Common.{pointwise, NumberFault, Opening, Closing, Text, Bare, Broken}
-use Rattle.gf_tree.proofs.Common.{Expected, IsIndex, count_of, count_again, index_again, Content}
-use Rattle.gf_tree.proofs.Common.{State, after_node, at, node_letter, personal_node, Format}
-use Rattle.gf_tree.proofs.Common.{Version, Letter, Title, BeforePlayers, InPlayers, AfterPlayers}
-use Rattle.gf_tree.proofs.Common.{NodeDue, ChanceName, PersonalName, TerminalName, a_letter, a_node}
-use Rattle.gf_tree.proofs.Common.{a_text, a_word, an_end, an_opening, IsPositive, ◌||◌, ◌≢◌}
-use Rattle.gf_tree.proofs.Common.{HasNumberFault, What, a_player_name, or_text}
+use Rattle.gf_tree.proofs.Common
+use Common.{HasNumberFault, personal_node, BeforePlayers, a_player_name, AfterPlayers, PersonalName}
+use Common.{TerminalName, NumberFault, count_again, index_again, node_letter, after_node, pointwise}
+use Common.{ChanceName, an_opening, IsPositive, InPlayers, Expected, count_of, a_letter, Opening, ℕ}
+use Common.{Closing, IsIndex, Content, Version, NodeDue, or_text, length, nat_eq, Broken, Format}
+use Common.{Letter, a_node, a_text, a_word, an_end, false, subst, arith, codes, State, Title, Bool}
+use Common.{true, cond, List, refl, None, Text, Bare, ◌||◌, What, ◌≡◌, suc, ◌∷◌, Err, sym, inl, inr}
+use Common.{◌≢◌, [], Ok, at}
 use Rattle.gf_fraction.specs.Computed.{number_of}
 use Rattle.gf_fraction.specs.NoNumber.{Reads as Spelled}
 use Rattle.gf_fraction.proofs.ComputedAnswers.{number_is_computed}

@@ -1,11 +1,10 @@
 -- The rows of the heading of an extensive file.
-use Rattle.gf_tree.proofs.Common.{◌≡◌, ℕ, List, [], ◌∷◌, ◌++◌, length, map, Result, Ok, refl, sym}
-use Rattle.gf_tree.proofs.Common.{ap, subst, ◌∙◌, append_assoc, append-nil, inl, inr, codes, ◌⊎◌}
-use Rattle.gf_tree.proofs.Common.{Token, Why, Opening, Closing, Text, Bare, Content, Position}
-use Rattle.gf_tree.proofs.Common.{State, at, nothing, step, Format, Version, Letter, Title}
-use Rattle.gf_tree.proofs.Common.{BeforePlayers, AfterPlayers, NodeDue, Row, a_letter, a_node}
-use Rattle.gf_tree.proofs.Common.{a_text, a_word, an_opening, with_player, PastComment}
-use Rattle.gf_tree.proofs.Common.{PastPlayers, a_player_name, or_text}
+use Rattle.gf_tree.proofs.Common
+use Common.{BeforePlayers, a_player_name, append_assoc, AfterPlayers, with_player, PastComment, ◌≡◌}
+use Common.{PastPlayers, append-nil, an_opening, Position, a_letter, Opening, Closing, Content, ◌∷◌}
+use Common.{nothing, Version, NodeDue, or_text, length, Result, Format, Letter, a_node, a_text, map}
+use Common.{a_word, subst, codes, Token, State, Title, List, ◌++◌, refl, Text, Bare, step, sym, ◌∙◌}
+use Common.{inl, inr, ◌⊎◌, Why, Row, [], Ok, ap, at, ℕ}
 use Rattle.gf_tree.specs.inner.Machine.Position.{InPlayers as Players}
 use Rattle.gf_tree.specs.RowPlaces.{InPlayers, ToPlayers, ToTitle}
 use Rattle.gf_tree.proofs.lemmas.due.Rows.{Stands, EndLaw, Law, stands_by}

@@ -1,16 +1,14 @@
 -- The rows of a node up to the braces of its set.
-use Rattle.gf_tree.proofs.Common.{KnownSetOpening, InformationSet, description_at, outcome_number}
-use Rattle.gf_tree.proofs.Common.{ToPlayerNumber, UnknownPlayer, PastSetNumber, personal_node, zero}
-use Rattle.gf_tree.proofs.Common.{player_number, NewSetOpening, a_first_name, PersonalName, Opening}
-use Rattle.gf_tree.proofs.Common.{TerminalName, PlayerNumber, KnownSetName, count_again, an_opening}
-use Rattle.gf_tree.proofs.Common.{node_letter, ToSetNumber, an_outcome, set_number, ChanceName, ◌≡◌}
-use Rattle.gf_tree.proofs.Common.{NewSetName, run_tokens, pointwise, SetNumber, FileFront, count_of}
-use Rattle.gf_tree.proofs.Common.{same_text, Expected, same_set, IsNewSet, KnowsSet, Position, Bool}
-use Rattle.gf_tree.proofs.Common.{past_set, then_run, count_is, index_is, a_player, or_name, length}
-use Rattle.gf_tree.proofs.Common.{Content, NodeDue, Option, Result, nat_eq, SetKey, a_text, nat_le}
-use Rattle.gf_tree.proofs.Common.{false, arith, codes, Token, Begun, State, begun, a_set, true, suc}
-use Rattle.gf_tree.proofs.Common.{cond, List, ◌++◌, Some, None, refl, Text, Bare, ◌<◌, ◌∷◌, Err, []}
-use Rattle.gf_tree.proofs.Common.{sym, ◌∙◌, inl, inr, Why, Row, Ok, ap, at, ℕ}
+use Rattle.gf_tree.proofs.Common
+use Common.{KnownSetOpening, InformationSet, description_at, outcome_number, ToPlayerNumber, length}
+use Common.{UnknownPlayer, PastSetNumber, personal_node, player_number, NewSetOpening, a_first_name}
+use Common.{PersonalName, TerminalName, PlayerNumber, KnownSetName, count_again, node_letter, false}
+use Common.{ToSetNumber, an_opening, an_outcome, set_number, ChanceName, NewSetName, run_tokens, []}
+use Common.{pointwise, SetNumber, FileFront, same_text, count_of, Expected, same_set, IsNewSet, ◌≡◌}
+use Common.{KnowsSet, Position, past_set, then_run, count_is, index_is, a_player, Opening, or_name}
+use Common.{Content, NodeDue, Option, Result, nat_eq, SetKey, a_text, nat_le, arith, codes, Token}
+use Common.{Begun, State, begun, a_set, zero, Bool, true, cond, List, ◌++◌, Some, None, refl, Text}
+use Common.{Bare, suc, ◌<◌, ◌∷◌, Err, sym, ◌∙◌, inl, inr, Why, Row, Ok, ap, at, ℕ}
 use Rattle.std.proofs.lemmas.Bool.Decides.{nat_tests}
 use Rattle.gf_token.specs.Indices.{index_of}
 use Rattle.gf_tree.specs.RowPlaces.{PastLetter, PastSetName}

@@ -1,13 +1,12 @@
 -- The rows of the outcome of a node up to its braces, and those after a whole node.
-use Rattle.gf_tree.proofs.Common.{◌≡◌, ℕ, zero, suc, List, [], ◌∷◌, ◌++◌, length, Option, Some}
-use Rattle.gf_tree.proofs.Common.{None, refl, sym, ap, subst, ◌∙◌, inl, inr, nat_eq, false, ◌⊎◌}
-use Rattle.gf_tree.proofs.Common.{Ratio, Token, Opening, Text, Bare, Broken, index_again, Outcome}
-use Rattle.gf_tree.proofs.Common.{description_at, PastOutcomeNumber, IsNewOutcome, KnowsOutcome}
-use Rattle.gf_tree.proofs.Common.{ToOutcomeNumber, Begun, Content, after_node, at, past_outcome}
-use Rattle.gf_tree.proofs.Common.{with_node, KnownOutcomeOpening, NodeDue, OutcomeNumber}
-use Rattle.gf_tree.proofs.Common.{NewOutcomeName, NewOutcomeOpening, KnownOutcomeName, run_tokens}
-use Rattle.gf_tree.proofs.Common.{then_run, FileFront, a_first_name, a_node, an_end, an_opening}
-use Rattle.gf_tree.proofs.Common.{an_outcome, or_name, rules, same_text, PastSet}
+use Rattle.gf_tree.proofs.Common
+use Common.{KnownOutcomeOpening, PastOutcomeNumber, NewOutcomeOpening, KnownOutcomeName, after_node}
+use Common.{ToOutcomeNumber, description_at, NewOutcomeName, OutcomeNumber, IsNewOutcome, with_node}
+use Common.{KnowsOutcome, past_outcome, a_first_name, index_again, run_tokens, an_opening, then_run}
+use Common.{an_outcome, FileFront, same_text, Opening, Outcome, Content, NodeDue, or_name, PastSet}
+use Common.{length, Option, nat_eq, Broken, a_node, an_end, subst, false, Ratio, Token, Begun, zero}
+use Common.{rules, List, ◌++◌, Some, None, refl, Text, Bare, ◌≡◌, suc, ◌∷◌, sym, ◌∙◌, inl, inr, ◌⊎◌}
+use Common.{[], ap, at, ℕ}
 use Rattle.std.proofs.Common.{tests}
 use Rattle.gf_token.specs.Indices.{index_of}
 use Rattle.gf_tree.specs.RowPlaces.{PastOutcomeName, PastZero}

@@ -1,13 +1,12 @@
 -- The rows of the payoffs of an outcome, for a new outcome and for a known one.
-use Rattle.gf_tree.proofs.Common.{append_cancel_left, IsPayoffInBraces, AfterKnownPayoff, number_is}
-use Rattle.gf_tree.proofs.Common.{IsExtensiveFile, description_at, length-append, append_assoc, ◌≡◌}
-use Rattle.gf_tree.proofs.Common.{number_again, IsNewOutcome, KnowsOutcome, outcome_ends, FileFront}
-use Rattle.gf_tree.proofs.Common.{NumberFault, this_number, run_tokens, PastPayoff, InPayoffs, zero}
-use Rattle.gf_tree.proofs.Common.{a_closing, or_comma, is_comma, ToPayoff, PastNode, a_payoff, Bool}
-use Rattle.gf_tree.proofs.Common.{Opening, Closing, Outcome, Content, NodeDue, length, Result, true}
-use Rattle.gf_tree.proofs.Common.{nat_eq, a_node, an_end, false, subst, arith, Ratio, Token, Comma}
-use Rattle.gf_tree.proofs.Common.{Begun, State, List, ◌++◌, refl, Text, Bare, Each, paid, suc, ◌<◌}
-use Rattle.gf_tree.proofs.Common.{◌∷◌, Err, sym, ◌∙◌, inl, inr, Why, Row, not, [], Ok, ap, at, ℕ}
+use Rattle.gf_tree.proofs.Common
+use Common.{append_cancel_left, IsPayoffInBraces, AfterKnownPayoff, IsExtensiveFile, description_at}
+use Common.{length-append, append_assoc, number_again, IsNewOutcome, KnowsOutcome, outcome_ends, []}
+use Common.{NumberFault, this_number, run_tokens, PastPayoff, number_is, FileFront, InPayoffs, zero}
+use Common.{a_closing, or_comma, is_comma, ToPayoff, PastNode, a_payoff, Opening, Closing, Outcome}
+use Common.{Content, NodeDue, length, Result, nat_eq, a_node, an_end, false, subst, arith, Ratio, ℕ}
+use Common.{Token, Comma, Begun, State, Bool, true, List, ◌++◌, refl, Text, Bare, Each, paid, ◌≡◌}
+use Common.{suc, ◌<◌, ◌∷◌, Err, sym, ◌∙◌, inl, inr, Why, Row, not, Ok, ap, at}
 use Rattle.gf_fraction.specs.Computed.{number_of}
 use Rattle.gf_tree.specs.RowPlaces.{PastComma, PastPayoffs}
 use Rattle.gf_tree.proofs.lemmas.fronts.Cuts.{each_more}

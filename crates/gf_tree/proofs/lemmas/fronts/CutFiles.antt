@@ -1,14 +1,13 @@
 -- Tokens that some file begins with stand before a row of the table of positions: the sentence is
 -- cut where they end.
-use Rattle.gf_tree.proofs.Common.{filter_map-append, IsInformationSet, IsExtensiveFile, MatchOption}
-use Rattle.gf_tree.proofs.Common.{InformationSet, AreConsistent, PastSetNumber, IsDescription, zero}
-use Rattle.gf_tree.proofs.Common.{append_assoc, outcome_uses, cons_option, SpellsMover, PastPlayers}
-use Rattle.gf_tree.proofs.Common.{IsBeforeRow, IsInHeading, append-nil, filter_map, IsPositive, ◌≡◌}
-use Rattle.gf_tree.proofs.Common.{IsComment, Describes, IsOutcome, FileFront, FileNode, FileTree, ℕ}
-use Rattle.gf_tree.proofs.Common.{set_uses, IsResult, IsInNode, Opening, Closing, Outcome, flatten}
-use Rattle.gf_tree.proofs.Common.{length, Option, braced, Begins, SetKey, set_of, Listed, IsNode}
-use Rattle.gf_tree.proofs.Common.{IsStep, subst, codes, Token, IsSet, List, ◌++◌, drop, Some, None}
-use Rattle.gf_tree.proofs.Common.{refl, Text, Bare, suc, ◌∷◌, map, sym, ◌∙◌, inl, inr, Use, [], ap}
+use Rattle.gf_tree.proofs.Common
+use Common.{filter_map-append, IsInformationSet, IsExtensiveFile, InformationSet, AreConsistent, []}
+use Common.{PastSetNumber, IsDescription, append_assoc, outcome_uses, MatchOption, cons_option, ◌≡◌}
+use Common.{SpellsMover, PastPlayers, IsBeforeRow, IsInHeading, append-nil, filter_map, IsPositive}
+use Common.{IsComment, Describes, IsOutcome, FileFront, FileNode, FileTree, set_uses, IsResult, suc}
+use Common.{IsInNode, Opening, Closing, Outcome, flatten, length, Option, braced, Begins, SetKey, ℕ}
+use Common.{set_of, Listed, IsNode, IsStep, subst, codes, Token, IsSet, zero, List, ◌++◌, drop, ◌∷◌}
+use Common.{Some, None, refl, Text, Bare, map, sym, ◌∙◌, inl, inr, Use, ap}
 use Rattle.gf_tree.specs.RowPlaces.{InPlayers}
 use Rattle.gf_tree.specs.Sentence.{Says}
 use Rattle.gf_tree.proofs.lemmas.fronts.CutPlaces.{AllHere, IsOutcomeHere, IsSetHere, actions_place}

@@ -1,15 +1,13 @@
 -- If the front of a file ends in a node, it stands before a row of the table of positions: the node
 -- is cut there.
-use Rattle.gf_tree.proofs.Common.{◌≡◌, ℕ, zero, suc, ◌<◌, List, [], ◌∷◌, ◌++◌, drop, length, Option}
-use Rattle.gf_tree.proofs.Common.{Some, None, MatchOption, refl, sym, ap, subst, ◌∙◌, append_assoc}
-use Rattle.gf_tree.proofs.Common.{append-nil, arith, inl, inr, nat_eq, pos, ◌⊎◌, length-append}
-use Rattle.gf_tree.proofs.Common.{Ratio, whole, Token, Each, IsPayoffInBraces, Opening, Closing}
-use Rattle.gf_tree.proofs.Common.{Comma, Text, Bare, Action, AreActions, InformationSet, IsOutcome}
-use Rattle.gf_tree.proofs.Common.{IsSet, Outcome, SetKey, same_set, set_of, set_with, Use}
-use Rattle.gf_tree.proofs.Common.{description_at, PastOutcomeNumber, PastSetNumber, InActions}
-use Rattle.gf_tree.proofs.Common.{IsNewSet, KnowsOutcome, KnowsSet, ToOutcomeNumber, FileFront}
-use Rattle.gf_tree.proofs.Common.{IsAction, IsDescription, IsOutcomeDescription, IsResult, IsInNode}
-use Rattle.gf_tree.proofs.Common.{HasSum, AddUpTo, PastPayoff, ToPayoff}
+use Rattle.gf_tree.proofs.Common
+use Common.{IsOutcomeDescription, PastOutcomeNumber, IsPayoffInBraces, ToOutcomeNumber, MatchOption}
+use Common.{InformationSet, description_at, length-append, PastSetNumber, IsDescription, append-nil}
+use Common.{append_assoc, KnowsOutcome, AreActions, PastPayoff, IsOutcome, InActions, FileFront, []}
+use Common.{same_set, set_with, IsNewSet, KnowsSet, IsAction, IsResult, IsInNode, ToPayoff, Opening}
+use Common.{Closing, Outcome, AddUpTo, length, Option, nat_eq, Action, SetKey, set_of, HasSum, zero}
+use Common.{subst, arith, Ratio, whole, Token, Comma, IsSet, List, ◌++◌, drop, Some, None, refl, ap}
+use Common.{Each, Text, Bare, ◌≡◌, suc, ◌<◌, ◌∷◌, sym, ◌∙◌, inl, inr, pos, ◌⊎◌, Use, ℕ}
 use Rattle.gf_tree.proofs.lemmas.fronts.Cuts.{Last, Within, cut, each_last, each_more, first_is}
 use Rattle.gf_tree.proofs.lemmas.fronts.Cuts.{none_left, within}
 use Rattle.gf_tree.proofs.lemmas.fronts.Codes.{BeginsBare}

@@ -1,17 +1,15 @@
 -- The machine of the reader refuses for the reason at the place.
-use Rattle.gf_tree.proofs.Common.{NegativeProbability, DiffersFromOutcome, IsExtensiveFile, Closing}
-use Rattle.gf_tree.proofs.Common.{InformationSet, DiffersFromSet, EndsInFirstUse, HasNumberFault, ℕ}
-use Rattle.gf_tree.proofs.Common.{UnknownPlayer, a_first_name, number_again, Unterminated, Expected}
-use Rattle.gf_tree.proofs.Common.{a_new_action, a_new_branch, IsWrongAfter, ListsActions, tokens_of}
-use Rattle.gf_tree.proofs.Common.{this_number, NumberFault, SumAboveOne, SumBelowOne, SumOverflow}
-use Rattle.gf_tree.proofs.Common.{append-nil, IsNoNumber, an_outcome, EndsInNode, this_label, subst}
-use Rattle.gf_tree.proofs.Common.{IsRefusal, FileFront, InActions, answer_is, Mismatch, or_comma}
-use Rattle.gf_tree.proofs.Common.{IsNumber, set_with, KnowsSet, BadIndex, no_label, IsReason, arith}
-use Rattle.gf_tree.proofs.Common.{or_name, nothing, code_of, NoEntry, Refuses, SumFits, Applies, []}
-use Rattle.gf_tree.proofs.Common.{length, Lexeme, Broken, Spells, Begins, a_node, an_end, Format}
-use Rattle.gf_tree.proofs.Common.{Action, SetKey, set_of, why_of, Token, Fault, State, Ratio, whole}
-use Rattle.gf_tree.proofs.Common.{zero, List, ◌++◌, refl, ◌≤ℤ◌, ints, Text, Bare, ◌≡◌, suc, ◌∷◌, ap}
-use Rattle.gf_tree.proofs.Common.{Err, sym, ◌∙◌, inl, inr, pos, ◌⊎◌, Why, Row, run, at}
+use Rattle.gf_tree.proofs.Common
+use Common.{NegativeProbability, DiffersFromOutcome, IsExtensiveFile, InformationSet, UnknownPlayer}
+use Common.{DiffersFromSet, EndsInFirstUse, HasNumberFault, a_first_name, number_again, this_number}
+use Common.{Unterminated, a_new_action, a_new_branch, IsWrongAfter, ListsActions, NumberFault, zero}
+use Common.{SumAboveOne, SumBelowOne, SumOverflow, append-nil, IsNoNumber, an_outcome, EndsInNode}
+use Common.{this_label, tokens_of, IsRefusal, FileFront, InActions, answer_is, Expected, Mismatch}
+use Common.{or_comma, IsNumber, set_with, KnowsSet, BadIndex, no_label, IsReason, Closing, or_name}
+use Common.{nothing, code_of, NoEntry, Refuses, SumFits, Applies, length, Lexeme, Broken, Spells, ℕ}
+use Common.{Begins, a_node, an_end, Format, Action, SetKey, set_of, why_of, subst, arith, Token, []}
+use Common.{Fault, State, Ratio, whole, List, ◌++◌, refl, ◌≤ℤ◌, ints, Text, Bare, ◌≡◌, suc, ◌∷◌, ap}
+use Common.{Err, sym, ◌∙◌, inl, inr, pos, ◌⊎◌, Why, Row, run, at}
 use Rattle.gf_token.specs.declared.fault.Why.TheVariants.{NotANumber, ZeroDenominator}
 use Rattle.gf_token.specs.declared.fault.Why.TheVariants.{NumberTooLarge, NotDescribed}
 use Rattle.gf_token.specs.Reason.{IsBadIndex, IsFaultyNumber}

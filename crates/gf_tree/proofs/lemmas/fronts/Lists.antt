@@ -1,15 +1,13 @@
 -- What the machine of the reader answers after the front of a node, from a probability up to the
 -- number of the outcome: the shape of the front determines this too.
-use Rattle.gf_tree.proofs.Common.{◌≡◌, past_outcome, NewProbability, OutcomeNumber, IsDescription}
-use Rattle.gf_tree.proofs.Common.{ℕ, [], Some, None, refl, ◌∙◌, inl, inr, pos, ◌⊎◌, Text, Bare, Use}
-use Rattle.gf_tree.proofs.Common.{List, Opening, Closing, NewAction, then_run, IsPositive, with_set}
-use Rattle.gf_tree.proofs.Common.{◌∷◌, IsFraction, past_set, KnownAction, run_tokens, SpellsMover}
-use Rattle.gf_tree.proofs.Common.{◌++◌, sym, subst, arith, Ratio, whole, Token, IsSet, Begun, begun}
-use Rattle.gf_tree.proofs.Common.{length, Option, nat_eq, Action, SetKey, set_of, Content, NodeDue}
-use Rattle.gf_tree.proofs.Common.{MatchOption, InActions, past_label, new_set_ends, ToProbability}
-use Rattle.gf_tree.proofs.Common.{Ok, ap, at}
-use Rattle.gf_tree.proofs.Common.{AllByRecursion, InformationSet, description_at, ToOutcomeNumber}
-use Rattle.gf_tree.proofs.Common.{same_set, PastOutcomeNumber, KnownProbability, IsInformationSet}
+use Rattle.gf_tree.proofs.Common
+use Common.{PastOutcomeNumber, KnownProbability, IsInformationSet, ToOutcomeNumber, NewProbability}
+use Common.{AllByRecursion, InformationSet, description_at, OutcomeNumber, IsDescription, NewAction}
+use Common.{ToProbability, past_outcome, new_set_ends, KnownAction, SpellsMover, MatchOption, subst}
+use Common.{IsPositive, IsFraction, run_tokens, past_label, InActions, then_run, with_set, past_set}
+use Common.{same_set, Opening, Closing, Content, NodeDue, length, Option, nat_eq, Action, SetKey, ℕ}
+use Common.{set_of, arith, Ratio, whole, Token, IsSet, Begun, begun, Some, None, refl, Text, Bare}
+use Common.{List, ◌++◌, ◌≡◌, ◌∙◌, inl, inr, pos, ◌⊎◌, Use, ◌∷◌, sym, [], Ok, ap, at}
 use Rattle.gf_tree.proofs.lemmas.fronts.Runs.{GoesOn, HaveSumFrom, past_number, due_is}
 use Rattle.gf_tree.proofs.lemmas.fronts.Runs.{goes_before, in_actions}
 use Rattle.gf_tree.proofs.lemmas.fronts.Groups.{regroup}

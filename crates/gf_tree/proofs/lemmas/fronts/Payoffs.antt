@@ -1,12 +1,11 @@
 -- What the machine of the reader answers after the front of a node, among the payoffs of its
 -- outcome: the shape of the front determines this too.
-use Rattle.gf_tree.proofs.Common.{KnownOutcomeOpening, IsPayoffInBraces, AfterKnownPayoff, IsNumber}
-use Rattle.gf_tree.proofs.Common.{KnownOutcomeName, description_at, number_again, past_outcome, ◌≡◌}
-use Rattle.gf_tree.proofs.Common.{with_payoff, run_tokens, InPayoffs, with_node, then_run, is_comma}
-use Rattle.gf_tree.proofs.Common.{Opening, Outcome, Content, NodeDue, length, Option, nat_eq, false}
-use Rattle.gf_tree.proofs.Common.{subst, arith, Ratio, Token, Comma, Begun, zero, Bool, true, List}
-use Rattle.gf_tree.proofs.Common.{◌++◌, Some, None, refl, Each, Text, Bare, suc, ◌+◌, ◌∷◌, sym, ◌∙◌}
-use Rattle.gf_tree.proofs.Common.{inl, inr, ◌⊎◌, not, [], ap, at, ℕ}
+use Rattle.gf_tree.proofs.Common
+use Common.{KnownOutcomeOpening, IsPayoffInBraces, AfterKnownPayoff, KnownOutcomeName, number_again}
+use Common.{description_at, past_outcome, with_payoff, run_tokens, InPayoffs, with_node, IsNumber}
+use Common.{then_run, is_comma, Opening, Outcome, Content, NodeDue, length, Option, nat_eq, false}
+use Common.{subst, arith, Ratio, Token, Comma, Begun, zero, Bool, true, List, ◌++◌, Some, None, ◌≡◌}
+use Common.{refl, Each, Text, Bare, suc, ◌+◌, ◌∷◌, sym, ◌∙◌, inl, inr, ◌⊎◌, not, [], ap, at, ℕ}
 use Rattle.gf_tree.proofs.lemmas.fronts.Runs.{GoesOn, goes_before}
 use Rattle.gf_tree.proofs.lemmas.fronts.Groups.{numbers_once, regroup}
 use Rattle.gf_tree.proofs.lemmas.runs.Payoffs.{more_payoffs, number_found, with_payoffs, no_payoffs}

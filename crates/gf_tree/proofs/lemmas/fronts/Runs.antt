@@ -1,15 +1,14 @@
 -- What the machine of the reader answers after the front of a node: the shape of the front
 -- determines this.
-use Rattle.gf_tree.proofs.Common.{KnownProbability, KnownSetOpening, AllByRecursion, whole_fraction}
-use Rattle.gf_tree.proofs.Common.{InformationSet, description_at, ToPlayerNumber, PastSetNumber, []}
-use Rattle.gf_tree.proofs.Common.{personal_node, PlayerNumber, count_again, SpellsMover, IsFraction}
-use Rattle.gf_tree.proofs.Common.{with_action, KnownAction, ToSetNumber, past_label, set_number, Ok}
-use Rattle.gf_tree.proofs.Common.{run_tokens, InActions, SetNumber, NewAction, IsNumber, count_of}
-use Rattle.gf_tree.proofs.Common.{same_set, IsAction, past_set, share_of, then_run, Opening, length}
-use Rattle.gf_tree.proofs.Common.{Content, NodeDue, Option, AddsTo, Action, SetKey, set_of, shared}
-use Rattle.gf_tree.proofs.Common.{subst, arith, codes, Ratio, whole, Token, IsSet, Begun, begun, ap}
-use Rattle.gf_tree.proofs.Common.{zero, List, ◌++◌, Some, None, refl, ◌≤ℤ◌, ints, Each, Text, Bare}
-use Rattle.gf_tree.proofs.Common.{◌≡◌, suc, ◌≤◌, ◌∷◌, sym, ◌∙◌, pos, ◌⊎◌, at, ℕ}
+use Rattle.gf_tree.proofs.Common
+use Common.{KnownProbability, KnownSetOpening, AllByRecursion, whole_fraction, InformationSet, zero}
+use Common.{description_at, ToPlayerNumber, PastSetNumber, personal_node, PlayerNumber, count_again}
+use Common.{SpellsMover, with_action, KnownAction, ToSetNumber, IsFraction, past_label, set_number}
+use Common.{run_tokens, InActions, SetNumber, NewAction, IsNumber, count_of, same_set, IsAction, []}
+use Common.{past_set, share_of, then_run, Opening, Content, NodeDue, length, Option, AddsTo, Action}
+use Common.{SetKey, set_of, shared, subst, arith, codes, Ratio, whole, Token, IsSet, Begun, begun}
+use Common.{List, ◌++◌, Some, None, refl, ◌≤ℤ◌, ints, Each, Text, Bare, ◌≡◌, suc, ◌≤◌, ◌∷◌, sym, Ok}
+use Common.{◌∙◌, pos, ◌⊎◌, ap, at, ℕ}
 use Rattle.gf_tree.proofs.lemmas.fronts.Groups.{numbers_once, regroup}
 use Rattle.gf_tree.proofs.lemmas.Once.{one_some}
 use Rattle.gf_tree.proofs.lemmas.runs.Actions.{more_actions, no_actions, shared_found, with_actions}

@@ -1,13 +1,12 @@
 -- The game of a consistent file tree: there is one, and it is a game.
-use Rattle.gf_tree.proofs.Common.{◌≡◌, ℕ, suc, ◌++◌, List, [], ◌∷◌, length, map, Some, None, Option}
-use Rattle.gf_tree.proofs.Common.{Bool, MatchOption, option_map, refl, sym, ap, subst, ◌∙◌, inl}
-use Rattle.gf_tree.proofs.Common.{inr, arith, Decides-eqb, map-append, AllByRecursion, filter_map}
-use Rattle.gf_tree.proofs.Common.{cons_option, Tree, Trees, count, map_tree, map_trees, branch}
-use Rattle.gf_tree.proofs.Common.{none, more, Listed, flatten, flatten_all, SetKey, InformationSet}
-use Rattle.gf_tree.proofs.Common.{same_set, IsSet, IsOutcome, first_uses, keys_alone, IsGameOf, Use}
-use Rattle.gf_tree.proofs.Common.{FileNode, FileTree, set_uses, outcome_uses, Describes}
-use Rattle.gf_tree.proofs.Common.{AreConsistent, IsConsistent, HasChildrenAsDescribed, Game}
-use Rattle.gf_tree.proofs.Common.{HasChildren, IsGame, used_sets, used_outcomes, set_at, nat_eq}
+use Rattle.gf_tree.proofs.Common
+use Common.{HasChildrenAsDescribed, AllByRecursion, InformationSet, AreConsistent, used_outcomes, ℕ}
+use Common.{outcome_uses, IsConsistent, MatchOption, Decides-eqb, cons_option, flatten_all, flatten}
+use Common.{HasChildren, option_map, map-append, filter_map, first_uses, keys_alone, map_trees, ◌≡◌}
+use Common.{IsOutcome, Describes, used_sets, map_tree, same_set, IsGameOf, FileNode, FileTree, ◌++◌}
+use Common.{set_uses, length, Option, branch, Listed, SetKey, IsGame, set_at, nat_eq, subst, arith}
+use Common.{Trees, count, IsSet, List, Some, None, Bool, refl, Tree, none, more, Game, suc, ◌∷◌, []}
+use Common.{map, sym, ◌∙◌, inl, inr, Use, ap}
 use Rattle.gf_tree.proofs.lemmas.games.Uses.{Has, IsEquality, has_map, mapped_from, each}
 use Rattle.gf_tree.proofs.lemmas.games.Uses.{all_of_each, has_first, has_later, described}
 use Rattle.gf_tree.proofs.lemmas.games.FirstUses.{is_used, was_used, describe_all, found}

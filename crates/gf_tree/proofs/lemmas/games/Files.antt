@@ -1,13 +1,12 @@
 -- A file tree of each game: each use has its description.
-use Rattle.gf_tree.proofs.Common.{HasChildrenAsDescribed, AllByRecursion, InformationSet, map_trees}
-use Rattle.gf_tree.proofs.Common.{description_at, used_outcomes, AreConsistent, outcome_uses, false}
-use Rattle.gf_tree.proofs.Common.{IsConsistent, MatchOption, Decides-eqb, cons_option, HasChildren}
-use Rattle.gf_tree.proofs.Common.{option_map, filter_map, keys_alone, first_uses, outcome_at, subst}
-use Rattle.gf_tree.proofs.Common.{used_sets, IsOutcome, Described, Describes, map_tree, IsGameOf, ℕ}
-use Rattle.gf_tree.proofs.Common.{same_set, FileNode, FileTree, set_uses, flatten, Outcome, length}
-use Rattle.gf_tree.proofs.Common.{Option, branch, Listed, IsGame, set_at, SetKey, nat_eq, arith, []}
-use Rattle.gf_tree.proofs.Common.{Trees, IsSet, Bool, true, List, Some, None, refl, Tree, none, ◌≡◌}
-use Rattle.gf_tree.proofs.Common.{more, Node, Game, ◌↔◌, ◌∷◌, map, inr, sym, ◌∙◌, inl, Use, ap}
+use Rattle.gf_tree.proofs.Common
+use Common.{HasChildrenAsDescribed, AllByRecursion, InformationSet, description_at, used_outcomes}
+use Common.{AreConsistent, outcome_uses, IsConsistent, MatchOption, Decides-eqb, cons_option, false}
+use Common.{HasChildren, option_map, filter_map, keys_alone, first_uses, outcome_at, map_trees, ◌≡◌}
+use Common.{used_sets, IsOutcome, Described, Describes, map_tree, IsGameOf, same_set, FileNode, ◌↔◌}
+use Common.{FileTree, set_uses, flatten, Outcome, length, Option, branch, Listed, IsGame, set_at, ℕ}
+use Common.{SetKey, nat_eq, subst, arith, Trees, IsSet, Bool, true, List, Some, None, refl, Tree}
+use Common.{none, more, Node, Game, ◌∷◌, map, inr, sym, ◌∙◌, inl, Use, [], ap}
 use Rattle.gf_tree.proofs.lemmas.games.Uses.{Has, IsEquality, has_map, mapped_from, each}
 use Rattle.gf_tree.proofs.lemmas.games.Uses.{all_of_each, contains, has, has_place}
 use Rattle.gf_tree.proofs.lemmas.games.FirstUses.{AreDistinct, Found, found, is_used, was_used}

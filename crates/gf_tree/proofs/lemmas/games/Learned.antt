@@ -1,11 +1,10 @@
 -- A game learned in the order of its file is the game of a consistent file tree.
-use Rattle.gf_tree.proofs.Common.{◌≡◌, ◌↔◌, ℕ, Bool, List, length, map, Some, None, Option}
-use Rattle.gf_tree.proofs.Common.{MatchOption, option_map, sym, ap, subst, ◌∙◌, AllByRecursion}
-use Rattle.gf_tree.proofs.Common.{Decides-eqb, flatten, Game, HasChildren, used_sets, used_outcomes}
-use Rattle.gf_tree.proofs.Common.{keys_alone, IsGameOf, SetKey, InformationSet, same_set, IsSet}
-use Rattle.gf_tree.proofs.Common.{IsOutcome, Described, description_at, first_uses, Use, FileTree}
-use Rattle.gf_tree.proofs.Common.{set_uses, outcome_uses, Describes, AreConsistent, IsConsistent}
-use Rattle.gf_tree.proofs.Common.{HasChildrenAsDescribed, nat_eq, LearnsGame}
+use Rattle.gf_tree.proofs.Common
+use Common.{HasChildrenAsDescribed, AllByRecursion, InformationSet, description_at, used_outcomes}
+use Common.{AreConsistent, outcome_uses, IsConsistent, MatchOption, Decides-eqb, HasChildren, subst}
+use Common.{option_map, keys_alone, first_uses, LearnsGame, used_sets, IsOutcome, Described, length}
+use Common.{Describes, IsGameOf, same_set, FileTree, set_uses, flatten, Option, SetKey, nat_eq, ◌≡◌}
+use Common.{IsSet, Bool, List, Some, None, Game, ◌↔◌, map, sym, ◌∙◌, Use, ap, ℕ}
 use Rattle.gf_tree.proofs.lemmas.games.Uses.{Has, IsEquality, has_map, each, all_of_each, has}
 use Rattle.gf_tree.proofs.lemmas.games.FirstUses.{found, is_used}
 use Rattle.gf_tree.proofs.lemmas.games.TreesOnce.{same_set_equality}

@@ -1,11 +1,10 @@
 -- Numbers that are listed in the order of first use are new numbers.
-use Rattle.gf_tree.proofs.Common.{◌≡◌, ℕ, zero, suc, ◌<◌, ◌≤◌, Bool, true, false, cond, List, []}
-use Rattle.gf_tree.proofs.Common.{◌∷◌, length, get_or, slice_get, Some, inl, inr, refl, sym, ap}
-use Rattle.gf_tree.proofs.Common.{subst, arith, AllByRecursion, both_ways, false_from_ne_true}
-use Rattle.gf_tree.proofs.Common.{Decides-eqb, SetKey, InformationSet, same_set, set_of, IsSet}
-use Rattle.gf_tree.proofs.Common.{Described, IsRenumbering, HasSet, outcome_numbers, player_keys}
-use Rattle.gf_tree.proofs.Common.{Game, IsGame, used_sets, used_outcomes, nat_eq, AreListed}
-use Rattle.gf_tree.proofs.Common.{listed_numbers, number_listed}
+use Rattle.gf_tree.proofs.Common
+use Common.{false_from_ne_true, outcome_numbers, AllByRecursion, InformationSet, listed_numbers, []}
+use Common.{IsRenumbering, used_outcomes, number_listed, Decides-eqb, player_keys, slice_get, false}
+use Common.{both_ways, Described, used_sets, AreListed, same_set, length, get_or, SetKey, set_of, ℕ}
+use Common.{HasSet, IsGame, nat_eq, subst, arith, IsSet, zero, Bool, true, cond, List, Some, refl}
+use Common.{Game, ◌≡◌, suc, ◌<◌, ◌≤◌, ◌∷◌, inl, inr, sym, ap}
 use Rattle.gf_tree.specs.ListedNumbers.{AreNumbers}
 use Rattle.gf_tree.proofs.lemmas.games.Carried.{in_keys}
 use Rattle.gf_tree.proofs.lemmas.games.PlayerSets.{sets_by_first_use}

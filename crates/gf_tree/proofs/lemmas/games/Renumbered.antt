@@ -1,11 +1,10 @@
 -- A game by new numbers is a game; first-use numbers are new numbers.
-use Rattle.gf_tree.proofs.Common.{◌≡◌, ℕ, map, length, Option, None, Some, refl, sym, ap, subst}
-use Rattle.gf_tree.proofs.Common.{◌∙◌, arith, AllByRecursion, eq-eqb, Decides-eqb, Listed, flatten}
-use Rattle.gf_tree.proofs.Common.{SetKey, InformationSet, Outcome, same_set, IsSet, IsOutcome}
-use Rattle.gf_tree.proofs.Common.{set_of, Node, Game, IsGame, HasChildren, used_sets, used_outcomes}
-use Rattle.gf_tree.proofs.Common.{set_at, renumbered_node, renumbered, Renumbering, IsRenumbering}
-use Rattle.gf_tree.proofs.Common.{HasSet, renumbered_set, sets_of, Described, first_uses, nat_eq}
-use Rattle.gf_tree.proofs.Common.{option_map, MatchOption, outcome_at, first_use_numbers}
+use Rattle.gf_tree.proofs.Common
+use Common.{first_use_numbers, renumbered_node, AllByRecursion, InformationSet, renumbered_set, ◌≡◌}
+use Common.{used_outcomes, IsRenumbering, Decides-eqb, HasChildren, Renumbering, MatchOption, subst}
+use Common.{renumbered, first_uses, option_map, outcome_at, IsOutcome, used_sets, Described, length}
+use Common.{same_set, flatten, Outcome, sets_of, Option, eq-eqb, Listed, SetKey, set_of, IsGame, ap}
+use Common.{set_at, HasSet, nat_eq, arith, IsSet, None, Some, refl, Node, Game, map, sym, ◌∙◌, ℕ}
 use Rattle.gf_tree.proofs.lemmas.games.FirstUseNumbers.{numbers_apart}
 use Rattle.gf_tree.proofs.lemmas.games.Lookups.{at_images}
 use Rattle.gf_tree.proofs.lemmas.games.MappedTrees.{held}

@@ -1,13 +1,12 @@
 -- What a file means is a game that a file can hold.
-use Rattle.gf_tree.proofs.Common.{IsOutcomeDescription, IsSpellableOutcome, IsSpellableAction, zero}
-use Rattle.gf_tree.proofs.Common.{IsPayoffInBraces, IsInformationSet, AllByRecursion, IsDescription}
-use Rattle.gf_tree.proofs.Common.{InformationSet, IsSpellableSet, outcome_uses, MatchOption, length}
-use Rattle.gf_tree.proofs.Common.{cons_option, IsSpellable, SpellsMover, IsFraction, keys_alone, []}
-use Rattle.gf_tree.proofs.Common.{SpellsGame, Describes, IsSpelled, FileNode, FileTree, set_uses, ℕ}
-use Rattle.gf_tree.proofs.Common.{IsAction, IsResult, Sentence, IsGameOf, Closing, flatten, Outcome}
-use Rattle.gf_tree.proofs.Common.{IsLabel, Option, Listed, Action, SetKey, IsGame, IsStep, IsNode}
-use Rattle.gf_tree.proofs.Common.{subst, arith, Token, List, ◌++◌, Some, None, Text, Each, Game, ap}
-use Rattle.gf_tree.proofs.Common.{◌≡◌, suc, ◌^◌, ◌<◌, ◌∷◌, map, sym, ◌∙◌, Use}
+use Rattle.gf_tree.proofs.Common
+use Common.{IsOutcomeDescription, IsSpellableOutcome, IsSpellableAction, IsPayoffInBraces, FileNode}
+use Common.{IsInformationSet, AllByRecursion, InformationSet, IsSpellableSet, IsDescription, length}
+use Common.{outcome_uses, MatchOption, cons_option, IsSpellable, SpellsMover, IsFraction, Describes}
+use Common.{keys_alone, SpellsGame, IsSpelled, FileTree, set_uses, IsAction, IsResult, Sentence, []}
+use Common.{IsGameOf, Closing, flatten, Outcome, IsLabel, Option, Listed, Action, SetKey, IsGame, ℕ}
+use Common.{IsStep, IsNode, subst, arith, Token, zero, List, ◌++◌, Some, None, Text, Each, Game, ap}
+use Common.{◌≡◌, suc, ◌^◌, ◌<◌, ◌∷◌, map, sym, ◌∙◌, Use}
 use Rattle.gf_fraction.proofs.AllElements.{all_parts, all_mapped}
 use Rattle.gf_token.proofs.SpelledTokens.{AllSpelled, all_spelled, braced_spelled, comment_spelled}
 use Rattle.gf_tree.proofs.lemmas.games.Uses.{each, all_of_each, has}

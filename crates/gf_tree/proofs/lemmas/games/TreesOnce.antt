@@ -1,11 +1,10 @@
 -- Tokens mean at most one consistent file tree, and at most one game.
-use Rattle.gf_tree.proofs.Common.{◌≡◌, ℕ, nat_eq, List, [], ◌∷◌, map, drop, Some, None, Option}
-use Rattle.gf_tree.proofs.Common.{refl, sym, ap, subst, ◌∙◌, AllByRecursion, filter_map}
-use Rattle.gf_tree.proofs.Common.{cons_option, Decides-eqb, Token, Listed, flatten, Sentence}
-use Rattle.gf_tree.proofs.Common.{first_uses, Game, used_sets, used_outcomes, SetKey}
-use Rattle.gf_tree.proofs.Common.{InformationSet, same_set, Use, FileNode, FileTree, set_uses}
-use Rattle.gf_tree.proofs.Common.{outcome_uses, AreConsistent, IsConsistent, HasChildrenAsDescribed}
-use Rattle.gf_tree.proofs.Common.{IsGameOf, SpellsGame, ◌==◌, same_tokens, MeansGame}
+use Rattle.gf_tree.proofs.Common
+use Common.{HasChildrenAsDescribed, AllByRecursion, InformationSet, used_outcomes, AreConsistent, ℕ}
+use Common.{outcome_uses, IsConsistent, cons_option, Decides-eqb, same_tokens, filter_map, Sentence}
+use Common.{first_uses, SpellsGame, used_sets, MeansGame, same_set, FileNode, FileTree, set_uses}
+use Common.{IsGameOf, flatten, nat_eq, Option, Listed, SetKey, subst, Token, List, drop, Some, None}
+use Common.{refl, Game, ◌==◌, ◌≡◌, ◌∷◌, map, sym, ◌∙◌, Use, [], ap}
 use Rattle.std.proofs.lemmas.Bool.Decides.{Decides-and}
 use Rattle.gf_tree.proofs.lemmas.games.Prefix.{flatten_once}
 use Rattle.gf_tree.proofs.lemmas.games.Uses.{described_once, Has, has_first, has_later, IsEquality}

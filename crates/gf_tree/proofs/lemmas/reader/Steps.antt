@@ -1,19 +1,16 @@
 -- What the reader keeps still stands for the same when more is known.
-use Rattle.gf_tree.proofs.Common.{position_from-zero, slice_get_within, with_pending_set, slice_get}
-use Rattle.gf_tree.proofs.Common.{actions_counted, InformationSet, description_at, OutcomeNumber, ℕ}
-use Rattle.gf_tree.proofs.Common.{if◌then◌else◌, KnownOutcomes, entries_with, new_set_ends, Outcome}
-use Rattle.gf_tree.proofs.Common.{KnownSetName, outcome_with, StandsBefore, with_outcome, KnownSets}
-use Rattle.gf_tree.proofs.Common.{Decides-eqb, at_position, with_action, SumBelowOne, option_map}
-use Rattle.gf_tree.proofs.Common.{length-map, actions_of, set_number, begun_with, content_of, false}
-use Rattle.gf_tree.proofs.Common.{Described, Remaining, NewAction, SetNumber, set_known, position}
-use Rattle.gf_tree.proofs.Common.{set_with, same_set, label_of, count_of, AreAmong, past_set, arith}
-use Rattle.gf_tree.proofs.Common.{set_ends, Position, then_run, with_set, Content, nothing, Closing}
-use Rattle.gf_tree.proofs.Common.{length, Option, Action, SetKey, set_of, Format, Lexeme, nat_eq}
-use Rattle.gf_tree.proofs.Common.{Result, Reader, placed, Memory, lexeme, Answer, answer, subst, []}
-use Rattle.gf_tree.proofs.Common.{Ratio, Fault, Begun, begun, State, heard, Fails, Grows, zero, ◌≡◌}
-use Rattle.gf_tree.proofs.Common.{Bool, true, List, ◌++◌, Some, None, refl, ◌==◌, Game, Span, Kept}
-use Rattle.gf_tree.proofs.Common.{Bare, find, ◌+◌, ◌<◌, ◌≤◌, suc, ◌∷◌, map, sym, ◌∙◌, run, Why, Err}
-use Rattle.gf_tree.proofs.Common.{ap, Ok, at}
+use Rattle.gf_tree.proofs.Common
+use Common.{position_from-zero, slice_get_within, with_pending_set, actions_counted, InformationSet}
+use Common.{description_at, OutcomeNumber, if◌then◌else◌, KnownOutcomes, entries_with, new_set_ends}
+use Common.{KnownSetName, outcome_with, StandsBefore, with_outcome, Decides-eqb, at_position, false}
+use Common.{with_action, SumBelowOne, option_map, length-map, actions_of, set_number, begun_with, ℕ}
+use Common.{content_of, slice_get, KnownSets, Described, Remaining, NewAction, SetNumber, set_known}
+use Common.{position, set_with, same_set, label_of, count_of, AreAmong, past_set, set_ends, Outcome}
+use Common.{Position, then_run, with_set, Content, nothing, Closing, length, Option, Action, SetKey}
+use Common.{set_of, Format, Lexeme, nat_eq, Result, Reader, placed, Memory, lexeme, Answer, answer}
+use Common.{arith, subst, Ratio, Fault, Begun, begun, State, heard, Fails, Grows, zero, Bool, true}
+use Common.{List, ◌++◌, Some, None, refl, ◌==◌, Game, Span, Kept, Bare, find, ◌≡◌, ◌+◌, ◌<◌, ◌≤◌}
+use Common.{suc, ◌∷◌, map, sym, ◌∙◌, run, Why, Err, [], ap, Ok, at}
 use Rattle.std.specs.Prelude.{OnOk, IfOk, IfNone, MatchResult}
 use Rattle.std.proofs.lemmas.List.Quantifiers.{position-Some}
 use Rattle.gf_tree.specs.inner.KnownOutcomes.{with_pending_outcome}

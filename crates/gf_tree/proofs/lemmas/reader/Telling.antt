@@ -1,13 +1,12 @@
 -- What a reader has told of the nodes of a file, and that the machine goes on after it.
-use Rattle.gf_tree.proofs.Common.{◌≡◌, ◌≤◌, ◌+◌, ◌-◌, ◌∷◌, max, map, Err, sym, ap, ◌∙◌, Told}
-use Rattle.gf_tree.proofs.Common.{ℕ, Described, AreAmong, Position, with_node, told_from, told_node}
-use Rattle.gf_tree.proofs.Common.{List, append_assoc, length-append, InformationSet, take-append-le}
-use Rattle.gf_tree.proofs.Common.{[], length, Outcome, IsAmong, NodeDue, HasRead, Heading, told_set}
-use Rattle.gf_tree.proofs.Common.{◌++◌, refl, Fault, Node, Kept, Listed, heard, Bool, Goes, Grows}
-use Rattle.gf_tree.proofs.Common.{option_map, at_position, entries_with, child_count, told_outcome}
-use Rattle.gf_tree.proofs.Common.{Result, Ok, arith, Lexeme, SetKey, Reader, Answer, answer}
-use Rattle.gf_tree.proofs.Common.{after_nodes}
-use Rattle.gf_tree.proofs.Common.{subst, append-nil, entry_with, ByFirstUse, begun_with, content_of}
+use Rattle.gf_tree.proofs.Common
+use Common.{InformationSet, take-append-le, length-append, append_assoc, entries_with, told_outcome}
+use Common.{at_position, child_count, after_nodes, option_map, append-nil, entry_with, ByFirstUse}
+use Common.{begun_with, content_of, Described, with_node, told_from, told_node, AreAmong, Position}
+use Common.{told_set, Outcome, IsAmong, NodeDue, HasRead, Heading, length, Listed, Result, Lexeme}
+use Common.{SetKey, Reader, Answer, answer, Fault, heard, Grows, arith, subst, Told, List, ◌++◌, ap}
+use Common.{refl, Node, Kept, Bool, Goes, ◌≡◌, ◌≤◌, ◌+◌, ◌-◌, ◌∷◌, max, map, Err, sym, ◌∙◌, [], Ok}
+use Common.{ℕ}
 use Rattle.std.specs.Prelude.{OnOk}
 use Rattle.gf_tree.specs.inner.ReaderState.{GoesTelling, HasTold, IsNoLonger, ReadsTokens, Tells}
 use Rattle.gf_tree.specs.inner.ReaderState.{TellsNode, with_children, with_front}

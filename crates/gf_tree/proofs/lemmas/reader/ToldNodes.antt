@@ -1,14 +1,13 @@
 -- The nodes that a reader tells are those of the game by its first-use numbers, as a file gives
 -- them.
-use Rattle.gf_tree.proofs.Common.{first_use_numbers, renumbered_node, InformationSet, slice_get-map}
-use Rattle.gf_tree.proofs.Common.{used_outcomes, entries_with, told_outcome, Decides-eqb, slice_get}
-use Rattle.gf_tree.proofs.Common.{Renumbering, option_map, length-map, map-append, first_uses, List}
-use Rattle.gf_tree.proofs.Common.{renumbered, file_nodes, ByFirstUse, used_sets, Described, Outcome}
-use Rattle.gf_tree.proofs.Common.{told_from, same_set, known_of, AreAmong, told_set, flatten, subst}
-use Rattle.gf_tree.proofs.Common.{sets_of, game_in, Content, nothing, no_node, length, filter, ◌++◌}
-use Rattle.gf_tree.proofs.Common.{eq-eqb, Lexeme, Spells, SetKey, nat_eq, IsGame, Format, OfFile, ℕ}
-use Rattle.gf_tree.proofs.Common.{arith, take, Some, refl, ◌==◌, Game, Kept, Bool, true, ◌≡◌, suc}
-use Rattle.gf_tree.proofs.Common.{◌+◌, ◌≤◌, ◌∷◌, map, max, sym, ◌∙◌, run, [], ap, Ok}
+use Rattle.gf_tree.proofs.Common
+use Common.{first_use_numbers, renumbered_node, InformationSet, slice_get-map, used_outcomes, subst}
+use Common.{entries_with, told_outcome, Decides-eqb, Renumbering, option_map, length-map, slice_get}
+use Common.{map-append, first_uses, renumbered, file_nodes, ByFirstUse, used_sets, Described, arith}
+use Common.{told_from, same_set, known_of, AreAmong, told_set, Outcome, flatten, sets_of, game_in}
+use Common.{Content, nothing, no_node, length, filter, eq-eqb, Lexeme, Spells, SetKey, nat_eq, List}
+use Common.{IsGame, Format, OfFile, ◌++◌, take, Some, refl, ◌==◌, Game, Kept, Bool, true, ◌≡◌, suc}
+use Common.{◌+◌, ◌≤◌, ◌∷◌, map, max, sym, ◌∙◌, run, [], ap, Ok, ℕ}
 use Rattle.std.proofs.Common.{length-append}
 use Rattle.gf_tree.specs.inner.GameParts.{game_by}
 use Rattle.gf_tree.specs.declared.game.numbered_node.Numbering.{Numbering}

@@ -1,18 +1,16 @@
 -- The rows of nodes refuse for reasons, and so does each row after the front of a file.
-use Rattle.gf_tree.proofs.Common.{NewProbabilityIsDue, append_cancel_left, DiffersFromOutcome, List}
-use Rattle.gf_tree.proofs.Common.{PastOutcomeNumber, IsExtensiveFile, ToOutcomeNumber, IsNewOutcome}
-use Rattle.gf_tree.proofs.Common.{InformationSet, DiffersFromSet, EndsInFirstUse, length-append, []}
-use Rattle.gf_tree.proofs.Common.{UnknownPlayer, PastSetNumber, a_probability, KnowsOutcome, length}
-use Rattle.gf_tree.proofs.Common.{a_first_name, append_assoc, ListsActions, a_new_action, same_Some}
-use Rattle.gf_tree.proofs.Common.{a_new_branch, NumberIsDue, this_number, SumBelowOne, IsBeforeRow}
-use Rattle.gf_tree.proofs.Common.{IndexIsDue, IsNoNumber, an_outcome, PastPayoff, GoesOnWith, false}
-use Rattle.gf_tree.proofs.Common.{this_label, IsPositive, FileFront, InActions, a_closing, IsNumber}
-use Rattle.gf_tree.proofs.Common.{Expected, Mismatch, set_with, IsNewSet, or_comma, BadIndex, codes}
-use Rattle.gf_tree.proofs.Common.{PastNode, a_payoff, a_player, no_label, IsInNode, Closing, Begins}
-use Rattle.gf_tree.proofs.Common.{IsIndex, Outcome, or_name, NoEntry, Accepts, Action, SetKey, ◌++◌}
-use Rattle.gf_tree.proofs.Common.{set_of, why_of, subst, arith, Ratio, Token, IsDue, Comma, whole}
-use Rattle.gf_tree.proofs.Common.{a_set, Bool, true, Some, None, refl, Text, Bare, ◌≡◌, ◌<◌, ◌∷◌, ℕ}
-use Rattle.gf_tree.proofs.Common.{sym, ◌∙◌, inl, inr, ◌⊎◌, Why, Row, ◌≢◌, pos, ap}
+use Rattle.gf_tree.proofs.Common
+use Common.{NewProbabilityIsDue, append_cancel_left, DiffersFromOutcome, PastOutcomeNumber, Closing}
+use Common.{IsExtensiveFile, ToOutcomeNumber, InformationSet, DiffersFromSet, EndsInFirstUse, false}
+use Common.{length-append, UnknownPlayer, PastSetNumber, a_probability, IsNewOutcome, KnowsOutcome}
+use Common.{a_first_name, append_assoc, ListsActions, a_new_action, a_new_branch, NumberIsDue, List}
+use Common.{this_number, SumBelowOne, IsBeforeRow, IndexIsDue, IsNoNumber, an_outcome, PastPayoff}
+use Common.{GoesOnWith, this_label, IsPositive, same_Some, FileFront, InActions, a_closing, IsIndex}
+use Common.{IsNumber, Expected, Mismatch, set_with, IsNewSet, or_comma, BadIndex, PastNode, Outcome}
+use Common.{a_payoff, a_player, no_label, IsInNode, or_name, NoEntry, Accepts, length, Begins, ◌++◌}
+use Common.{Action, SetKey, set_of, why_of, codes, subst, arith, Ratio, Token, IsDue, Comma, whole}
+use Common.{a_set, Bool, true, Some, None, refl, Text, Bare, ◌≡◌, ◌<◌, ◌∷◌, sym, ◌∙◌, inl, inr, ◌⊎◌}
+use Common.{Why, Row, ◌≢◌, pos, [], ap, ℕ}
 use Rattle.gf_tree.proofs.lemmas.fronts.CutFiles.{some_row}
 use Rattle.gf_tree.proofs.lemmas.fronts.Cuts.{first_is}
 use Rattle.gf_tree.proofs.lemmas.due.Nodes.{parts}

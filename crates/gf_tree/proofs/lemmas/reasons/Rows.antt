@@ -1,15 +1,14 @@
 -- What a row of the table of positions refuses, it refuses for a reason: the code applies there, or
 -- what is named is due.
-use Rattle.gf_tree.proofs.Common.{NegativeProbability, NewProbabilityIsDue, IsExtensiveFile, length}
-use Rattle.gf_tree.proofs.Common.{HasNumberFault, UnknownPlayer, a_player_name, Unterminated, subst}
-use Rattle.gf_tree.proofs.Common.{append_assoc, IsWrongAfter, NumberFault, SumAboveOne, SumOverflow}
-use Rattle.gf_tree.proofs.Common.{IsInHeading, NumberIsDue, IsAccepted, an_opening, IndexIsDue, ◌≡◌}
-use Rattle.gf_tree.proofs.Common.{IsNoNumber, IsPositive, append-nil, MayBeNext, IsNumber, Expected}
-use Rattle.gf_tree.proofs.Common.{Mismatch, a_letter, index_is, BadIndex, Opening, Closing, or_name}
-use Rattle.gf_tree.proofs.Common.{IsIndex, Accepts, Refuses, or_text, Applies, Broken, Action, List}
-use Rattle.gf_tree.proofs.Common.{a_node, a_text, a_word, an_end, why_of, Option, arith, codes, ◌<◌}
-use Rattle.gf_tree.proofs.Common.{Ratio, Token, Comma, IsDue, refl, Text, Bare, What, Some, None, ℕ}
-use Rattle.gf_tree.proofs.Common.{◌++◌, ◌∷◌, sym, inl, inr, ◌⊎◌, Why, Row, ◌≢◌, [], ap}
+use Rattle.gf_tree.proofs.Common
+use Common.{NegativeProbability, NewProbabilityIsDue, IsExtensiveFile, HasNumberFault, Unterminated}
+use Common.{UnknownPlayer, a_player_name, append_assoc, IsWrongAfter, NumberFault, SumAboveOne, ◌≡◌}
+use Common.{SumOverflow, IsInHeading, NumberIsDue, IsAccepted, an_opening, IndexIsDue, IsNoNumber}
+use Common.{IsPositive, append-nil, MayBeNext, IsNumber, Expected, Mismatch, a_letter, index_is, []}
+use Common.{BadIndex, Opening, Closing, or_name, IsIndex, Accepts, Refuses, or_text, Applies, subst}
+use Common.{length, Broken, Action, a_node, a_text, a_word, an_end, why_of, Option, arith, codes, ℕ}
+use Common.{Ratio, Token, Comma, IsDue, List, refl, Text, Bare, What, Some, None, ◌++◌, ◌<◌, ◌∷◌}
+use Common.{sym, inl, inr, ◌⊎◌, Why, Row, ◌≢◌, ap}
 use Rattle.gf_tree.proofs.lemmas.due.Rows.{Stands, accepted}
 use Rattle.gf_tree.proofs.lemmas.due.Answers.{no_index}
 use Rattle.gf_tree.proofs.lemmas.due.BareTokens.{letter_from_zero, word_from_zero, plus_no_index}

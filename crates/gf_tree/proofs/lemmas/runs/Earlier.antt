@@ -1,19 +1,17 @@
 -- Nodes that were read before change nothing in what the machine does.
-use Rattle.gf_tree.proofs.Common.{KnownOutcomeOpening, NewOutcomeOpening, KnownProbability, Opening}
-use Rattle.gf_tree.proofs.Common.{KnownOutcomeName, AfterKnownPayoff, KnownSetOpening, append_assoc}
-use Rattle.gf_tree.proofs.Common.{InformationSet, outcome_number, NewProbability, NewOutcomeName, ℕ}
-use Rattle.gf_tree.proofs.Common.{AfterNewPayoff, personal_node, player_number, BeforePlayers, zero}
-use Rattle.gf_tree.proofs.Common.{NewSetOpening, OutcomeNumber, past_outcome, new_set_ends, Closing}
-use Rattle.gf_tree.proofs.Common.{AfterPlayers, PersonalName, TerminalName, PlayerNumber, pointwise}
-use Rattle.gf_tree.proofs.Common.{KnownSetName, outcome_ends, NumberFault, node_letter, KnownAction}
-use Rattle.gf_tree.proofs.Common.{KnownPayoff, same_number, after_nodes, after_node, set_number, []}
-use Rattle.gf_tree.proofs.Common.{ChanceName, NewSetName, Remaining, with_node, InPlayers, count_of}
-use Rattle.gf_tree.proofs.Common.{SetNumber, NewAction, NewPayoff, new_label, Expected, Position}
-use Rattle.gf_tree.proofs.Common.{set_ends, then_run, Outcome, Content, Version, NodeDue, length}
-use Rattle.gf_tree.proofs.Common.{Option, Result, nat_eq, Lexeme, Action, SetKey, Listed, shared}
-use Rattle.gf_tree.proofs.Common.{Format, Letter, placed, arith, codes, Ratio, Token, Comma, Share}
-use Rattle.gf_tree.proofs.Common.{Begun, State, Title, heard, Bool, cond, List, refl, Text, Bare}
-use Rattle.gf_tree.proofs.Common.{Node, paid, step, ◌≡◌, suc, ◌∷◌, Err, Why, run, Ok, at}
+use Rattle.gf_tree.proofs.Common
+use Common.{KnownOutcomeOpening, NewOutcomeOpening, KnownProbability, KnownOutcomeName, NumberFault}
+use Common.{AfterKnownPayoff, KnownSetOpening, InformationSet, outcome_number, NewProbability, zero}
+use Common.{NewOutcomeName, AfterNewPayoff, personal_node, player_number, BeforePlayers, after_node}
+use Common.{NewSetOpening, OutcomeNumber, append_assoc, past_outcome, new_set_ends, AfterPlayers, ℕ}
+use Common.{PersonalName, TerminalName, PlayerNumber, KnownSetName, outcome_ends, node_letter, Bool}
+use Common.{KnownAction, KnownPayoff, same_number, after_nodes, set_number, ChanceName, NewSetName}
+use Common.{pointwise, Remaining, with_node, InPlayers, SetNumber, NewAction, NewPayoff, new_label}
+use Common.{count_of, Expected, Position, set_ends, then_run, Opening, Closing, Outcome, Content}
+use Common.{Version, NodeDue, length, Option, Result, nat_eq, Lexeme, Action, SetKey, Listed, arith}
+use Common.{shared, Format, Letter, placed, codes, Ratio, Token, Comma, Share, Begun, State, Title}
+use Common.{heard, cond, List, refl, Text, Bare, Node, paid, step, ◌≡◌, suc, ◌∷◌, Err, Why, run, []}
+use Common.{Ok, at}
 use Rattle.gf_fraction.specs.Computed.{number_of}
 use Rattle.gf_token.specs.Indices.{index_of}
 use Rattle.gf_tree.specs.inner.ReaderState.{with_front, with_nodes}

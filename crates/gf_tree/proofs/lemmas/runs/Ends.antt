@@ -1,19 +1,16 @@
 -- Each state that the machine of the reader comes to can be completed.
-use Rattle.gf_tree.proofs.Common.{KnownOutcomeOpening, NewOutcomeOpening, KnownProbability, Opening}
-use Rattle.gf_tree.proofs.Common.{KnownOutcomeName, AfterKnownPayoff, KnownSetOpening, new_set_ends}
-use Rattle.gf_tree.proofs.Common.{written_is_read, InformationSet, description_at, outcome_number}
-use Rattle.gf_tree.proofs.Common.{NewProbability, NewOutcomeName, AfterNewPayoff, length-append, []}
-use Rattle.gf_tree.proofs.Common.{player_number, BeforePlayers, NewSetOpening, OutcomeNumber, arith}
-use Rattle.gf_tree.proofs.Common.{AfterPlayers, PersonalName, TerminalName, PlayerNumber, with_node}
-use Rattle.gf_tree.proofs.Common.{KnownSetName, MatchOption, with_action, KnownAction, KnownPayoff}
-use Rattle.gf_tree.proofs.Common.{number_text, IsFraction, past_label, set_number, ChanceName, zero}
-use Rattle.gf_tree.proofs.Common.{NewSetName, InPlayers, SetNumber, NewAction, NewPayoff, set_known}
-use Rattle.gf_tree.proofs.Common.{count_of, same_set, then_run, Position, past_set, set_ends, codes}
-use Rattle.gf_tree.proofs.Common.{Closing, Outcome, Content, Version, NodeDue, length, Option, true}
-use Rattle.gf_tree.proofs.Common.{Action, SetKey, set_of, shared, Format, Letter, nat_le, le-leb, ℕ}
-use Rattle.gf_tree.proofs.Common.{Ratio, whole, Token, Begun, State, begun, Title, List, Some, None}
-use Rattle.gf_tree.proofs.Common.{refl, ints, Text, Bare, paid, step, ◌≡◌, suc, ◌<◌, ◌∷◌, ◌∙◌, pos}
-use Rattle.gf_tree.proofs.Common.{Ok, ap, at}
+use Rattle.gf_tree.proofs.Common
+use Common.{KnownOutcomeOpening, NewOutcomeOpening, KnownProbability, KnownOutcomeName, MatchOption}
+use Common.{AfterKnownPayoff, KnownSetOpening, written_is_read, InformationSet, description_at, ◌≡◌}
+use Common.{outcome_number, NewProbability, NewOutcomeName, AfterNewPayoff, length-append, count_of}
+use Common.{player_number, BeforePlayers, NewSetOpening, OutcomeNumber, new_set_ends, AfterPlayers}
+use Common.{PersonalName, TerminalName, PlayerNumber, KnownSetName, with_action, KnownAction, arith}
+use Common.{KnownPayoff, number_text, IsFraction, past_label, set_number, ChanceName, NewSetName, ℕ}
+use Common.{with_node, InPlayers, SetNumber, NewAction, NewPayoff, set_known, same_set, then_run}
+use Common.{Position, past_set, set_ends, Opening, Closing, Outcome, Content, Version, NodeDue, suc}
+use Common.{length, Option, Action, SetKey, set_of, shared, Format, Letter, nat_le, le-leb, codes}
+use Common.{Ratio, whole, Token, Begun, State, begun, Title, zero, true, List, Some, None, refl, []}
+use Common.{ints, Text, Bare, paid, step, ◌<◌, ◌∷◌, ◌∙◌, pos, Ok, ap, at}
 use Rattle.gf_fraction.specs.Computed.{number_of, lowest_of, gcd_within}
 use Rattle.gf_token.specs.Indices.{index_of}
 use Rattle.gf_tree.proofs.lemmas.runs.Tokens.{Reads, run_on, text_again}

@@ -1,12 +1,11 @@
 -- Runs over all nodes of a file, in prefix order.
-use Rattle.gf_tree.proofs.Common.{AllByRecursion, InformationSet, description_at, length-append, []}
-use Rattle.gf_tree.proofs.Common.{append_assoc, outcome_uses, cons_option, HasChildren, node_or_end}
-use Rattle.gf_tree.proofs.Common.{option_map, append-nil, keys_alone, after_node, run_tokens, false}
-use Rattle.gf_tree.proofs.Common.{Described, same_set, FileNode, set_uses, then_run, Outcome, subst}
-use Rattle.gf_tree.proofs.Common.{Content, NodeDue, game_in, length, Option, nat_eq, Listed, Learns}
-use Rattle.gf_tree.proofs.Common.{IsNode, SetKey, arith, Token, Fills, zero, Bool, true, cond, List}
-use Rattle.gf_tree.proofs.Common.{◌++◌, Some, None, refl, Bare, Each, Game, Node, ◌==◌, ◌≡◌, suc, ℕ}
-use Rattle.gf_tree.proofs.Common.{◌+◌, ◌-◌, ◌<◌, ◌∷◌, map, Err, sym, ◌∙◌, Use, Ok}
+use Rattle.gf_tree.proofs.Common
+use Common.{AllByRecursion, InformationSet, description_at, length-append, append_assoc, option_map}
+use Common.{outcome_uses, cons_option, HasChildren, node_or_end, append-nil, keys_alone, after_node}
+use Common.{run_tokens, Described, same_set, FileNode, set_uses, then_run, Outcome, Content, length}
+use Common.{NodeDue, game_in, Option, nat_eq, Listed, Learns, IsNode, SetKey, false, subst, arith}
+use Common.{Token, Fills, zero, Bool, true, cond, List, ◌++◌, Some, None, refl, Bare, Each, Game, ℕ}
+use Common.{Node, ◌==◌, ◌≡◌, suc, ◌+◌, ◌-◌, ◌<◌, ◌∷◌, map, Err, sym, ◌∙◌, Use, [], Ok}
 use Rattle.gf_tree.proofs.lemmas.games.Consistent.{map_entry}
 use Rattle.gf_tree.proofs.lemmas.games.TreesOnce.{same_set_equality}
 use Rattle.gf_tree.proofs.lemmas.runs.Tokens.{Reads, run_on, ok_read, ok_is}

@@ -1,21 +1,18 @@
 -- What holds wherever the machine goes on: numbers that it knows are fractions, a sum of
 -- probabilities is at most one, and if a player moves, there is such a player.
-use Rattle.gf_tree.proofs.Common.{KnownOutcomeOpening, NewOutcomeOpening, KnownProbability, Opening}
-use Rattle.gf_tree.proofs.Common.{KnownOutcomeName, AfterKnownPayoff, KnownSetOpening, past_outcome}
-use Rattle.gf_tree.proofs.Common.{AllByRecursion, InformationSet, description_at, outcome_number, ℕ}
-use Rattle.gf_tree.proofs.Common.{NewProbability, NewOutcomeName, AfterNewPayoff, player_number, []}
-use Rattle.gf_tree.proofs.Common.{BeforePlayers, NewSetOpening, OutcomeNumber, new_set_ends, length}
-use Rattle.gf_tree.proofs.Common.{AfterPlayers, PersonalName, TerminalName, PlayerNumber, pointwise}
-use Rattle.gf_tree.proofs.Common.{KnownSetName, MatchOption, Decides-eqb, NumberFault, node_letter}
-use Rattle.gf_tree.proofs.Common.{KnownAction, KnownPayoff, IsFraction, after_node, set_number, ◌≡◌}
-use Rattle.gf_tree.proofs.Common.{ChanceName, NewSetName, number_is, Described, InPlayers, count_of}
-use Rattle.gf_tree.proofs.Common.{SetNumber, NewAction, NewPayoff, new_label, same_set, share_of}
-use Rattle.gf_tree.proofs.Common.{Position, past_set, set_ends, Closing, Outcome, Content, Version}
-use Rattle.gf_tree.proofs.Common.{NodeDue, Option, Result, nat_eq, Action, SetKey, set_of, shared}
-use Rattle.gf_tree.proofs.Common.{Format, Letter, false, arith, codes, Ratio, Token, Comma, Share}
-use Rattle.gf_tree.proofs.Common.{Begun, State, begun, Title, zero, Bool, true, cond, List, ◌++◌}
-use Rattle.gf_tree.proofs.Common.{Some, None, refl, Text, Bare, paid, step, suc, ◌<◌, ◌∷◌, Err, Why}
-use Rattle.gf_tree.proofs.Common.{Ok, at}
+use Rattle.gf_tree.proofs.Common
+use Common.{KnownOutcomeOpening, NewOutcomeOpening, KnownProbability, KnownOutcomeName, MatchOption}
+use Common.{AfterKnownPayoff, KnownSetOpening, AllByRecursion, InformationSet, description_at, zero}
+use Common.{outcome_number, NewProbability, NewOutcomeName, AfterNewPayoff, player_number, count_of}
+use Common.{BeforePlayers, NewSetOpening, OutcomeNumber, past_outcome, new_set_ends, AfterPlayers}
+use Common.{PersonalName, TerminalName, PlayerNumber, KnownSetName, Decides-eqb, NumberFault, false}
+use Common.{node_letter, KnownAction, KnownPayoff, IsFraction, after_node, set_number, ChanceName}
+use Common.{NewSetName, pointwise, number_is, Described, InPlayers, SetNumber, NewAction, NewPayoff}
+use Common.{new_label, same_set, share_of, Position, past_set, set_ends, Opening, Closing, Outcome}
+use Common.{Content, Version, NodeDue, length, Option, Result, nat_eq, Action, SetKey, set_of, Bool}
+use Common.{shared, Format, Letter, arith, codes, Ratio, Token, Comma, Share, Begun, State, begun}
+use Common.{Title, true, cond, List, ◌++◌, Some, None, refl, Text, Bare, paid, step, ◌≡◌, suc, ◌<◌}
+use Common.{◌∷◌, Err, Why, [], Ok, at, ℕ}
 use Rattle.gf_fraction.specs.Computed.{number_of}
 use Rattle.gf_token.specs.Indices.{index_of}
 use Rattle.gf_tree.specs.inner.Probability.{is_one}

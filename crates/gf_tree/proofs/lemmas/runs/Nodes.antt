@@ -1,14 +1,13 @@
 -- Runs over one node: its letter, its name, its set and its outcome.
-use Rattle.gf_tree.proofs.Common.{InformationSet, description_at, UnknownPlayer, personal_node, ◌≡◌}
-use Rattle.gf_tree.proofs.Common.{player_number, OutcomeNumber, append_assoc, PersonalName, IsIndex}
-use Rattle.gf_tree.proofs.Common.{TerminalName, MatchOption, count_again, SpellsMover, node_letter}
-use Rattle.gf_tree.proofs.Common.{option_map, keys_alone, after_node, ChanceName, run_tokens, false}
-use Rattle.gf_tree.proofs.Common.{pointwise, Described, SetNumber, count_of, Expected, same_set, []}
-use Rattle.gf_tree.proofs.Common.{FileNode, IsResult, then_run, count_is, Outcome, Content, NodeDue}
-use Rattle.gf_tree.proofs.Common.{length, Option, nat_eq, SetKey, set_of, Learns, IsStep, IsNode, ℕ}
-use Rattle.gf_tree.proofs.Common.{nat_le, le-leb, subst, arith, codes, Token, IsSet, begun, zero}
-use Rattle.gf_tree.proofs.Common.{Bool, true, cond, List, ◌++◌, Some, None, refl, Text, Bare, suc}
-use Rattle.gf_tree.proofs.Common.{◌+◌, ◌-◌, ◌<◌, ◌≤◌, ◌∷◌, Err, sym, ◌∙◌, Use, Ok, ap, at}
+use Rattle.gf_tree.proofs.Common
+use Common.{InformationSet, description_at, UnknownPlayer, personal_node, player_number, option_map}
+use Common.{OutcomeNumber, append_assoc, PersonalName, TerminalName, MatchOption, count_again, zero}
+use Common.{SpellsMover, node_letter, keys_alone, after_node, ChanceName, run_tokens, pointwise, []}
+use Common.{Described, SetNumber, count_of, Expected, same_set, FileNode, IsResult, then_run, false}
+use Common.{count_is, IsIndex, Outcome, Content, NodeDue, length, Option, nat_eq, SetKey, set_of, ℕ}
+use Common.{Learns, IsStep, IsNode, nat_le, le-leb, subst, arith, codes, Token, IsSet, begun, Bool}
+use Common.{true, cond, List, ◌++◌, Some, None, refl, Text, Bare, ◌≡◌, suc, ◌+◌, ◌-◌, ◌<◌, ◌≤◌, ◌∷◌}
+use Common.{Err, sym, ◌∙◌, Use, Ok, ap, at}
 use Rattle.gf_tree.proofs.lemmas.fronts.Groups.{NoText}
 use Rattle.gf_tree.proofs.lemmas.games.TreesOnce.{same_set_equality}
 use Rattle.gf_tree.proofs.lemmas.runs.Tokens.{Reads, run_on, same_bytes}

@@ -1,13 +1,12 @@
 -- Runs over the outcome of a node: its number, and its description.
-use Rattle.gf_tree.proofs.Common.{IsOutcomeDescription, KnownOutcomeOpening, NewOutcomeOpening, ◌≡◌}
-use Rattle.gf_tree.proofs.Common.{KnownOutcomeName, AllByRecursion, description_at, outcome_number}
-use Rattle.gf_tree.proofs.Common.{NewOutcomeName, IsDescription, OutcomeNumber, append_assoc, false}
-use Rattle.gf_tree.proofs.Common.{past_outcome, Decides-eqb, index_again, KnownPayoff, option_map}
-use Rattle.gf_tree.proofs.Common.{run_tokens, IsOutcome, Described, with_node, NewPayoff, IsResult}
-use Rattle.gf_tree.proofs.Common.{then_run, index_is, IsIndex, Opening, Closing, Outcome, Content}
-use Rattle.gf_tree.proofs.Common.{NodeDue, length, Option, nat_eq, braced, Learns, arith, Token, []}
-use Rattle.gf_tree.proofs.Common.{Ratio, Begun, zero, List, ◌++◌, Some, None, refl, Text, Bare, suc}
-use Rattle.gf_tree.proofs.Common.{◌<◌, ◌∷◌, inl, inr, ◌⊎◌, Use, Ok, ap, at, ℕ}
+use Rattle.gf_tree.proofs.Common
+use Common.{IsOutcomeDescription, KnownOutcomeOpening, NewOutcomeOpening, KnownOutcomeName, IsIndex}
+use Common.{AllByRecursion, description_at, outcome_number, NewOutcomeName, IsDescription, IsResult}
+use Common.{OutcomeNumber, append_assoc, past_outcome, Decides-eqb, index_again, KnownPayoff, false}
+use Common.{option_map, run_tokens, IsOutcome, Described, with_node, NewPayoff, then_run, index_is}
+use Common.{Opening, Closing, Outcome, Content, NodeDue, length, Option, nat_eq, braced, Learns, []}
+use Common.{arith, Token, Ratio, Begun, zero, List, ◌++◌, Some, None, refl, Text, Bare, ◌≡◌, suc, ℕ}
+use Common.{◌<◌, ◌∷◌, inl, inr, ◌⊎◌, Use, Ok, ap, at}
 use Rattle.gf_token.specs.Indices.{index_of}
 use Rattle.gf_tree.proofs.lemmas.fronts.Groups.{NoText}
 use Rattle.gf_tree.proofs.lemmas.games.Members.{all_more}

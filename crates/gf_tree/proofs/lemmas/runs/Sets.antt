@@ -1,13 +1,12 @@
 -- Runs over the information set of a node: its number, and its description.
-use Rattle.gf_tree.proofs.Common.{IsInformationSet, KnownSetOpening, AllByRecursion, whole_fraction}
-use Rattle.gf_tree.proofs.Common.{InformationSet, description_at, OutcomeNumber, NewSetOpening, ◌≡◌}
-use Rattle.gf_tree.proofs.Common.{IsDescription, append_assoc, KnownSetName, count_again, Described}
-use Rattle.gf_tree.proofs.Common.{KnownAction, IsFraction, NewSetName, IsPositive, set_number, List}
-use Rattle.gf_tree.proofs.Common.{run_tokens, SetNumber, NewAction, count_of, same_set, past_set, ℕ}
-use Rattle.gf_tree.proofs.Common.{then_run, count_is, Opening, Closing, Content, length, Option, []}
-use Rattle.gf_tree.proofs.Common.{braced, Action, SetKey, set_of, Learns, subst, arith, Token, ◌++◌}
-use Rattle.gf_tree.proofs.Common.{whole, IsSet, begun, Some, None, refl, Text, Bare, ◌<◌, ◌≤◌, ◌∷◌}
-use Rattle.gf_tree.proofs.Common.{sym, ◌∙◌, inl, inr, ◌⊎◌, pos, Use, Ok, ap, at}
+use Rattle.gf_tree.proofs.Common
+use Common.{IsInformationSet, KnownSetOpening, AllByRecursion, whole_fraction, InformationSet, List}
+use Common.{description_at, OutcomeNumber, NewSetOpening, IsDescription, append_assoc, KnownSetName}
+use Common.{count_again, KnownAction, IsFraction, NewSetName, IsPositive, set_number, run_tokens, ℕ}
+use Common.{Described, SetNumber, NewAction, count_of, same_set, past_set, then_run, count_is, ◌++◌}
+use Common.{Opening, Closing, Content, length, Option, braced, Action, SetKey, set_of, Learns, Some}
+use Common.{subst, arith, Token, whole, IsSet, begun, None, refl, Text, Bare, ◌≡◌, ◌<◌, ◌≤◌, ◌∷◌}
+use Common.{sym, ◌∙◌, inl, inr, ◌⊎◌, pos, Use, [], Ok, ap, at}
 use Rattle.gf_tree.proofs.lemmas.games.TreesOnce.{same_set_equality}
 use Rattle.gf_tree.proofs.lemmas.games.Members.{all_more}
 use Rattle.gf_tree.proofs.lemmas.runs.Tokens.{Reads, run_on, text_found, text_again}

@@ -1,13 +1,12 @@
 -- The nodes of a game as they are kept are those of its tree.
-use Rattle.gf_tree.proofs.Common.{◌≡◌, ℕ, zero, suc, ◌+◌, ◌<◌, List, [], ◌∷◌, ◌++◌, length, map}
-use Rattle.gf_tree.proofs.Common.{drop, get_or, slice_get, refl, sym, ap, subst, ◌∙◌, arith}
-use Rattle.gf_tree.proofs.Common.{length-map, drop-map, map-append, Tree, Trees, count, branch}
-use Rattle.gf_tree.proofs.Common.{none, more, Listed, Fills, flatten, flatten_all, grow, Described}
-use Rattle.gf_tree.proofs.Common.{Node, subtree_sizes, Begin, skipped, Stored, SetKey}
-use Rattle.gf_tree.proofs.Common.{InformationSet, Outcome, Parts, Kept, IsAmong, AreAmong}
-use Rattle.gf_tree.proofs.Common.{entries_with, kept_of, tree_with, get_or-map, root, subtrees}
-use Rattle.gf_tree.proofs.Common.{subtrees_all, child_trees, list_of, root_node, subtree_at}
-use Rattle.gf_tree.proofs.Common.{AreNodes, IsHeld, IsListed, child_count, child_counts, sizes_of}
+use Rattle.gf_tree.proofs.Common
+use Common.{InformationSet, subtree_sizes, entries_with, subtrees_all, child_counts, flatten_all, ℕ}
+use Common.{child_trees, child_count, length-map, map-append, get_or-map, subtree_at, slice_get, []}
+use Common.{Described, tree_with, root_node, drop-map, AreAmong, subtrees, AreNodes, IsListed, zero}
+use Common.{sizes_of, flatten, skipped, Outcome, IsAmong, kept_of, list_of, length, get_or, branch}
+use Common.{Listed, Stored, SetKey, IsHeld, subst, arith, Trees, count, Fills, Begin, Parts, List}
+use Common.{◌++◌, drop, refl, Tree, none, more, grow, Node, Kept, root, ◌≡◌, suc, ◌+◌, ◌<◌, ◌∷◌, ap}
+use Common.{map, sym, ◌∙◌}
 use Rattle.std.proofs.Math.Seq.{drop-cons}
 use Rattle.gf_tree.specs.GrowsAgain.{root_grows_again}
 use Rattle.gf_tree.specs.KeptNodes.{node_with}

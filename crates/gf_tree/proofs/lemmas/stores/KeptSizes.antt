@@ -1,10 +1,9 @@
 -- The sizes of subtrees beside the nodes that are kept.
-use Rattle.gf_tree.proofs.Common.{◌≡◌, ℕ, zero, suc, ◌+◌, ◌-◌, ◌<◌, ◌≤◌, List, [], ◌∷◌, ◌++◌}
-use Rattle.gf_tree.proofs.Common.{length, map, drop, get_or, refl, sym, ap, subst, ◌∙◌, arith}
-use Rattle.gf_tree.proofs.Common.{length-map, drop-map, Tree, count, Described, subtree_sizes}
-use Rattle.gf_tree.proofs.Common.{Listed, flatten, flatten_all, SetKey, InformationSet, Begin}
-use Rattle.gf_tree.proofs.Common.{skipped, AreAmong, kept_of, Stored, get_or-map, sizes_grown}
-use Rattle.gf_tree.proofs.Common.{child_count, child_counts, sizes_of}
+use Rattle.gf_tree.proofs.Common
+use Common.{InformationSet, subtree_sizes, child_counts, flatten_all, sizes_grown, child_count, ◌≡◌}
+use Common.{length-map, get_or-map, Described, drop-map, AreAmong, sizes_of, flatten, skipped, zero}
+use Common.{kept_of, length, get_or, Listed, SetKey, Stored, subst, arith, count, Begin, List, ◌++◌}
+use Common.{drop, refl, Tree, suc, ◌+◌, ◌-◌, ◌<◌, ◌≤◌, ◌∷◌, map, sym, ◌∙◌, [], ap, ℕ}
 use Rattle.std.proofs.lemmas.List.{map-set, drop-set}
 use Rattle.std.proofs.Math.ListN.{set}
 use Rattle.gf_tree.proofs.lemmas.stores.SubtreeSizes.{begin_children, counts_of, sizes_are}

@@ -1,15 +1,13 @@
 -- The parts of a node as it is kept: who moves there, its actions, and the place after its subtree.
-use Rattle.gf_tree.proofs.Common.{get_or_from_slice_get, false_from_ne_true, position_from-zero, []}
-use Rattle.gf_tree.proofs.Common.{slice_get_within, outcome_numbers, InformationSet, position_from}
-use Rattle.gf_tree.proofs.Common.{slice_get-map, subtree_sizes, used_outcomes, number_among, length}
-use Rattle.gf_tree.proofs.Common.{subtrees_all, MatchOption, Decides-eqb, at_position, child_trees}
-use Rattle.gf_tree.proofs.Common.{option_map, subtree_at, slice_get, same_Some, Described, position}
-use Rattle.gf_tree.proofs.Common.{game_with, tree_with, root_node, eqb-true, drop-map, known_of, ap}
-use Rattle.gf_tree.proofs.Common.{AreNodes, subtrees, flatten, Outcome, IsAmong, kept_of, skipped}
-use Rattle.gf_tree.proofs.Common.{get_or, branch, Stored, Action, SetKey, set_of, IsGame, set_at, ℕ}
-use Rattle.gf_tree.proofs.Common.{nat_eq, subst, arith, false, Parts, Begin, zero, List, ◌++◌, drop}
-use Rattle.gf_tree.proofs.Common.{take, Some, None, refl, Tree, more, Game, Node, ◌≡◌, suc, ◌+◌}
-use Rattle.gf_tree.proofs.Common.{◌-◌, ◌<◌, ◌≤◌, ◌∷◌, map, sym, ◌∙◌}
+use Rattle.gf_tree.proofs.Common
+use Common.{get_or_from_slice_get, false_from_ne_true, position_from-zero, slice_get_within, length}
+use Common.{outcome_numbers, InformationSet, position_from, slice_get-map, subtree_sizes, slice_get}
+use Common.{used_outcomes, number_among, subtrees_all, MatchOption, Decides-eqb, at_position, subst}
+use Common.{child_trees, option_map, subtree_at, same_Some, Described, game_with, tree_with, get_or}
+use Common.{root_node, position, eqb-true, drop-map, known_of, AreNodes, subtrees, flatten, Outcome}
+use Common.{IsAmong, kept_of, skipped, branch, Stored, Action, SetKey, set_of, IsGame, set_at, zero}
+use Common.{nat_eq, arith, false, Parts, Begin, List, ◌++◌, drop, take, Some, None, refl, Tree, ◌≡◌}
+use Common.{more, Game, Node, suc, ◌+◌, ◌-◌, ◌<◌, ◌≤◌, ◌∷◌, map, sym, ◌∙◌, [], ap, ℕ}
 use Rattle.std.proofs.lemmas.List.{append-nil, drop-drop}
 use Rattle.gf_tree.specs.inner.GameParts.{IsKeptAt}
 use Rattle.gf_tree.specs.Movers.{IsMover}

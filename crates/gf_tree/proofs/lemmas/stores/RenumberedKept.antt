@@ -1,11 +1,10 @@
 -- The nodes that are kept, by new numbers of their sets and outcomes.
-use Rattle.gf_tree.proofs.Common.{◌≡◌, ℕ, zero, suc, ◌+◌, List, [], ◌∷◌, map, Option, option_map}
-use Rattle.gf_tree.proofs.Common.{refl, ap, ◌∙◌, arith, slice_get-map, at_position, Tree, Trees}
-use Rattle.gf_tree.proofs.Common.{map_tree, map_trees, none, more, Listed, Fills, flatten, grow}
-use Rattle.gf_tree.proofs.Common.{Described, Node, subtree_sizes, game_with, SetKey, InformationSet}
-use Rattle.gf_tree.proofs.Common.{Parts, Outcome, Kept, entries_with, tree_with, Renumbering}
-use Rattle.gf_tree.proofs.Common.{renumbered, renumbered_node, renumbered_set, first, others, root}
-use Rattle.gf_tree.proofs.Common.{no_node, actions_counted}
+use Rattle.gf_tree.proofs.Common
+use Common.{renumbered_node, actions_counted, InformationSet, renumbered_set, slice_get-map, Option}
+use Common.{subtree_sizes, entries_with, at_position, Renumbering, option_map, renumbered, map_tree}
+use Common.{map_trees, Described, game_with, tree_with, flatten, Outcome, no_node, Listed, SetKey}
+use Common.{others, arith, Trees, Fills, Parts, first, zero, List, refl, Tree, none, more, grow, []}
+use Common.{Node, Kept, root, ◌≡◌, suc, ◌+◌, ◌∷◌, map, ◌∙◌, ap, ℕ}
 use Rattle.gf_tree.proofs.lemmas.games.Consistent.{map_entry, flatten_map}
 use Rattle.gf_tree.proofs.lemmas.stores.SubtreeSizes.{counts_of, sizes_are}
 

@@ -1,14 +1,13 @@
 -- Sets and outcomes that are known, renumbered one after another.
-use Rattle.gf_tree.proofs.Common.{get_or_from_slice_get, position_from-zero, false_from_ne_true, []}
-use Rattle.gf_tree.proofs.Common.{slice_get_within, outcome_numbers, AllByRecursion, InformationSet}
-use Rattle.gf_tree.proofs.Common.{listed_numbers, slice_get-map, position_from, used_outcomes, zero}
-use Rattle.gf_tree.proofs.Common.{number_listed, number_among, MatchOption, Decides-eqb, option_map}
-use Rattle.gf_tree.proofs.Common.{player_keys, Renumbering, renumbered, get_or-map, slice_get, Bool}
-use Rattle.gf_tree.proofs.Common.{same_Some, Described, used_sets, AreListed, position, same_set, ℕ}
-use Rattle.gf_tree.proofs.Common.{known_of, take-map, Outcome, sets_of, length, get_or, SetKey, ◌≡◌}
-use Rattle.gf_tree.proofs.Common.{set_of, IsGame, Global, nat_eq, false, subst, arith, true, List}
-use Rattle.gf_tree.proofs.Common.{◌++◌, take, Some, None, refl, ◌==◌, Game, suc, ◌+◌, ◌-◌, ◌<◌, ◌≤◌}
-use Rattle.gf_tree.proofs.Common.{◌^◌, ◌∷◌, map, inl, inr, sym, ◌∙◌, Vec, ap}
+use Rattle.gf_tree.proofs.Common
+use Common.{get_or_from_slice_get, position_from-zero, false_from_ne_true, slice_get_within, length}
+use Common.{outcome_numbers, AllByRecursion, InformationSet, listed_numbers, slice_get-map, Outcome}
+use Common.{position_from, used_outcomes, number_listed, number_among, MatchOption, Decides-eqb, []}
+use Common.{player_keys, Renumbering, option_map, renumbered, get_or-map, slice_get, same_Some, ◌≡◌}
+use Common.{Described, used_sets, AreListed, position, same_set, known_of, take-map, sets_of, false}
+use Common.{get_or, SetKey, set_of, IsGame, Global, nat_eq, subst, arith, zero, Bool, true, List, ℕ}
+use Common.{◌++◌, take, Some, None, refl, ◌==◌, Game, suc, ◌+◌, ◌-◌, ◌<◌, ◌≤◌, ◌^◌, ◌∷◌, map, inl}
+use Common.{inr, sym, ◌∙◌, Vec, ap}
 use Rattle.std.specs.Prelude.{⊤}
 use Rattle.gf_tree.proofs.lemmas.games.Carried.{entry_used}
 use Rattle.gf_tree.proofs.lemmas.games.ListedNumbers.{some_player, as_long, listed_is_renumbering}

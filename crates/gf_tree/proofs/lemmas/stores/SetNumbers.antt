@@ -1,10 +1,9 @@
 -- The number of each set among the sets of its player.
-use Rattle.gf_tree.proofs.Common.{◌≡◌, ℕ, ◌+◌, ◌<◌, ◌≤◌, Bool, true, false, List, [], ◌∷◌, ◌++◌}
-use Rattle.gf_tree.proofs.Common.{length, map, take, Some, refl, sym, ap, subst, ◌∙◌, arith, ◌==◌}
-use Rattle.gf_tree.proofs.Common.{filter, eq-eqb, length-map, slice_get-map, slice_get_within}
-use Rattle.gf_tree.proofs.Common.{KnownSets, known_of, described, stored_sets, get_or, slice_get}
-use Rattle.gf_tree.proofs.Common.{option_map, take-append-le, take_all, take-map, filter-append}
-use Rattle.gf_tree.proofs.Common.{slice_get-get_or, number_among}
+use Rattle.gf_tree.proofs.Common
+use Common.{slice_get_within, slice_get-get_or, take-append-le, slice_get-map, filter-append, false}
+use Common.{number_among, stored_sets, length-map, option_map, KnownSets, described, slice_get, ◌≡◌}
+use Common.{known_of, take_all, take-map, length, filter, eq-eqb, get_or, subst, arith, Bool, true}
+use Common.{List, ◌++◌, take, Some, refl, ◌==◌, ◌+◌, ◌<◌, ◌≤◌, ◌∷◌, map, sym, ◌∙◌, [], ap, ℕ}
 use Rattle.std.proofs.Common.{nat_lt, length-append}
 use Rattle.std.proofs.Math.Seq.{get_or-append_seam}
 use Rattle.std.proofs.lemmas.Bool.{ltb-true, ltb-false}

@@ -1,14 +1,12 @@
 -- A file for each game that a file can hold.
-use Rattle.gf_tree.proofs.Common.{IsSpellableOutcome, IsSpellableAction, AllByRecursion, option_map}
-use Rattle.gf_tree.proofs.Common.{InformationSet, description_at, IsSpellableSet, option_to_list, ℕ}
-use Rattle.gf_tree.proofs.Common.{used_outcomes, MatchOption, Decides-eqb, IsSpellable, number_text}
-use Rattle.gf_tree.proofs.Common.{filter_map, IsFraction, first_uses, SpellsGame, outcome_at, subst}
-use Rattle.gf_tree.proofs.Common.{Described, used_sets, same_set, FileNode, FileTree, Sentence, ◌≡◌}
-use Rattle.gf_tree.proofs.Common.{flat_map, Closing, flatten, Outcome, decimal, IsLabel, length, []}
-use Rattle.gf_tree.proofs.Common.{Option, braced, Listed, Action, SetKey, IsGame, set_at, nat_eq}
-use Rattle.gf_tree.proofs.Common.{arith, codes, Ratio, Token, IsSet, Bool, zero, List, ◌++◌, Some}
-use Rattle.gf_tree.proofs.Common.{None, refl, Text, Bare, Game, ◌↔◌, suc, ◌^◌, ◌<◌, ◌∷◌, map, sym}
-use Rattle.gf_tree.proofs.Common.{◌∙◌, inl, inr, Use, ap}
+use Rattle.gf_tree.proofs.Common
+use Common.{IsSpellableOutcome, IsSpellableAction, AllByRecursion, InformationSet, description_at}
+use Common.{IsSpellableSet, option_to_list, used_outcomes, MatchOption, Decides-eqb, IsSpellable, ℕ}
+use Common.{number_text, option_map, filter_map, IsFraction, first_uses, SpellsGame, outcome_at, []}
+use Common.{Described, used_sets, same_set, FileNode, FileTree, Sentence, flat_map, Closing, length}
+use Common.{flatten, Outcome, decimal, IsLabel, Option, braced, Listed, Action, SetKey, IsGame, ◌≡◌}
+use Common.{set_at, nat_eq, subst, arith, codes, Ratio, Token, IsSet, Bool, zero, List, ◌++◌, Some}
+use Common.{None, refl, Text, Bare, Game, ◌↔◌, suc, ◌^◌, ◌<◌, ◌∷◌, map, sym, ◌∙◌, inl, inr, Use, ap}
 use Rattle.gf_fraction.proofs.AllElements.{all_weaker, all_both, all_images}
 use Rattle.gf_token.proofs.SpelledNumbers.{number_spelled, index_spelled}
 use Rattle.gf_tree.proofs.lemmas.games.Uses.{Has, IsEquality, each, all_of_each, has_first}

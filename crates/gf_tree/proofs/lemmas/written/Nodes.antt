@@ -1,12 +1,11 @@
 -- The tokens of a node in the spelling of canonical text, and that they say this node.
-use Rattle.gf_tree.proofs.Common.{IsOutcomeDescription, IsSpellableOutcome, IsSpellableAction, zero}
-use Rattle.gf_tree.proofs.Common.{IsPayoffInBraces, IsInformationSet, written_is_read, MatchOption}
-use Rattle.gf_tree.proofs.Common.{AllByRecursion, InformationSet, IsSpellableSet, option_to_list, ℕ}
-use Rattle.gf_tree.proofs.Common.{IsDescription, SpellsMover, number_text, IsFraction, AreActions}
-use Rattle.gf_tree.proofs.Common.{FileNode, IsAction, IsResult, flat_map, Outcome, decimal, length}
-use Rattle.gf_tree.proofs.Common.{Option, braced, Action, SetKey, IsStep, IsNode, arith, codes, ◌≡◌}
-use Rattle.gf_tree.proofs.Common.{Ratio, Token, IsSet, List, ◌++◌, Some, None, refl, Text, Bare, []}
-use Rattle.gf_tree.proofs.Common.{Each, suc, ◌^◌, ◌<◌, ◌∷◌, map, inl, Use}
+use Rattle.gf_tree.proofs.Common
+use Common.{IsOutcomeDescription, IsSpellableOutcome, IsSpellableAction, IsPayoffInBraces, FileNode}
+use Common.{IsInformationSet, written_is_read, AllByRecursion, InformationSet, IsSpellableSet, zero}
+use Common.{option_to_list, IsDescription, MatchOption, SpellsMover, number_text, IsFraction, arith}
+use Common.{AreActions, IsAction, IsResult, flat_map, Outcome, decimal, length, Option, braced, ◌≡◌}
+use Common.{Action, SetKey, IsStep, IsNode, codes, Ratio, Token, IsSet, List, ◌++◌, Some, None, suc}
+use Common.{refl, Text, Bare, Each, ◌^◌, ◌<◌, ◌∷◌, map, inl, Use, [], ℕ}
 use Rattle.std.proofs.lemmas.List.{append-nil}
 use Rattle.gf_token.proofs.Grammar.{each_group}
 use Rattle.gf_token.proofs.SpelledNumbers.{decimal_is_index}

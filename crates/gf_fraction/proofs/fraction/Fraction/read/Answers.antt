@@ -9,7 +9,7 @@ use Rattle.gf_fraction.proofs.fraction.Fraction.read.Goals as goal
 -- what is found after the sign
 found : (text rest : List ℕ) (negative : Bool) (s : Spelling) → negative ≡ is_minus text
     → rest ≡ after_sign text → scan rest ≡ Some s → FoundNumber text negative s
-found text rest negative s sign behind scanned = grind (arith, found_number)
+found text rest negative s sign after scanned = grind (arith, found_number)
 
 pub returns-in-Some-scan : goal.returns-in-Some-scan
 returns-in-Some-scan c =
