@@ -32,11 +32,10 @@ pub use Rattle.gf_form.specs.declared.rows.terms.Terms.{Terms}
 pub use Rattle.gf_form.specs.declared.rows.written.Asked.{Asked}
 pub use Rattle.gf_form.specs.declared.rows.written.Run.{Run}
 pub use Rattle.gf_form.specs.declared.strategies.counts.Counts.{Counts}
-pub use Rattle.gf_form.specs.inner.reduced.Comes.{tree_comes, trees_come}
 pub use Rattle.gf_form.specs.inner.reduced.Firsts.{AreFirstsOf, IsPaidAt}
 pub use Rattle.gf_form.specs.inner.reduced.Levels.{ArePositive, IsLevel, is_left, left_of}
 pub use Rattle.gf_form.specs.inner.reduced.Levels.{can_be_met, IsChosen, IsChosenAt}
-pub use Rattle.gf_form.specs.inner.reduced.OwnDigits.{digits_from, own_steps}
+pub use Rattle.gf_form.specs.inner.reduced.OwnDigits.{digits_from, digits_with, own_steps}
 pub use Rattle.gf_form.specs.inner.reduced.Relevance.{FindRelevance}
 pub use Rattle.gf_form.specs.inner.reduced.Search.{is_relevant_at, AreFirstBelow, AreLabelledTo}
 pub use Rattle.gf_form.specs.inner.reduced.Search.{HaveChoices, IsNextBelow, AreFoundTo, IsSearched}
@@ -44,8 +43,8 @@ pub use Rattle.gf_form.specs.inner.reduced.Search.{actions_of, is_settled, choic
 pub use Rattle.gf_form.specs.inner.reduced.Search.{steps_to, IsToldBy, digit_at, numbered, IsFirst}
 pub use Rattle.gf_form.specs.inner.reduced.Search.{IsShown, IsFine, AreOwn}
 pub use Rattle.gf_form.specs.inner.reduced.Shown.{relevant_sets, shown}
-pub use Rattle.gf_form.specs.inner.reduced.Survey.{own_visit, visit_at, visit_handing, visits_by}
-pub use Rattle.gf_form.specs.inner.reduced.Survey.{visits_of}
+pub use Rattle.gf_form.specs.inner.reduced.Survey.{own_visit, place_among, visit_at, visit_handing}
+pub use Rattle.gf_form.specs.inner.reduced.Survey.{visits_by, visits_of}
 pub use Rattle.gf_form.specs.inner.reduced.Visits.{is_met, is_met_on, AreActions}
 pub use Rattle.gf_form.specs.inner.rows.Demands.{meets, spans, steps_of}
 pub use Rattle.gf_form.specs.inner.rows.DigitSteps.{steps_after, picked, width, in_order}
@@ -64,11 +63,11 @@ pub use Rattle.gf_form.specs.inner.rows.Descents.{own_step, stops_left, stop_at,
 pub use Rattle.gf_form.specs.inner.rows.Descents.{Entering, Handing, descent, descent_all, kept}
 pub use Rattle.gf_form.specs.inner.rows.Descents.{choosing, demanding, comes_by}
 pub use Rattle.gf_form.specs.inner.rows.ReachedNodes.{by_chance, is_sum_at, reached, followed}
+pub use Rattle.gf_form.specs.inner.rows.ReachedNodes.{path_to}
 pub use Rattle.gf_form.specs.inner.rows.ReachedNodes.{root_path, path_handing, is_personal, node_at}
-pub use Rattle.gf_form.specs.inner.rows.ReachedNodes.{nodes_left}
 pub use Rattle.gf_form.specs.inner.rows.SettledRows.{Settles, SettlesAt, SettleRows, AreWritten}
 pub use Rattle.gf_form.specs.inner.rows.SettledRows.{asked_profiles}
-pub use Rattle.gf_form.specs.inner.rows.Shares.{IsDigitOf, AreDigits, FitsAt, AreExactShares}
+pub use Rattle.gf_form.specs.inner.rows.Shares.{ArePlaced, AreDigits, FitsAt, AreExactShares}
 pub use Rattle.gf_form.specs.inner.rows.Shares.{met_bounds, node_term, node_terms, pay_at, term_of}
 pub use Rattle.gf_form.specs.inner.rows.Shares.{sum_of_shares}
 pub use Rattle.gf_form.specs.inner.strategies.Counted.{AreCounts}
@@ -129,7 +128,6 @@ pub use Rattle.gf_tree.specs.Branches.{game_of, tree_of}
 pub use Rattle.gf_tree.specs.BranchesLeft.{branches_given, branches_left, game_of_branches}
 pub use Rattle.gf_tree.specs.Description.{SetKey, InformationSet, IsSet, same_set, set_of, Action}
 pub use Rattle.gf_tree.specs.Description.{Outcome}
-pub use Rattle.gf_form.proofs.lemmas.values.Lotteries.{AddToOne, listed}
 pub use Rattle.gf_tree.specs.FiniteMap.{Described, first_uses, description_at}
 pub use Rattle.gf_tree.specs.KeysInOrder.{player_sets, player_keys, outcome_numbers}
 pub use Rattle.gf_tree.specs.Game.{Game, Node, used_sets, set_at, outcome_at}
@@ -169,7 +167,7 @@ pub use Rattle.std.proofs.lemmas.List.{get_or-set_other, length-set, take_more, 
 pub use Rattle.std.proofs.lemmas.List.{length-append, get_or-take, get_or_append_left}
 pub use Rattle.std.proofs.lemmas.List.{length-take-le, get_or_past, drop-drop, take-append-drop}
 pub use Rattle.std.proofs.lemmas.List.{take_more_set, length-drop, length-take}
-pub use Rattle.std.proofs.lemmas.List.Elements.{filter-append, All-from_recursion}
+pub use Rattle.std.proofs.lemmas.List.Elements.{filter-append, All-from_recursion, Contains-get_or}
 pub use Rattle.std.proofs.lemmas.List.Elements.{recursion_from_All, All-get_or, All-from_get_or}
 pub use Rattle.std.proofs.lemmas.List.Folds.{list_any-append}
 pub use Rattle.std.proofs.lemmas.List.Sorted.{IsNonDecreasingBy-push, list_any-IsPermutation}

@@ -1,4 +1,3 @@
-pub mod ActionCounts
 pub mod Choices
 pub mod Chosen
 pub mod CountedActions

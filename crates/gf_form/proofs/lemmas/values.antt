@@ -2,9 +2,7 @@ pub mod Alike
 pub mod BottomUp
 pub mod Denominators
 pub mod Following
-pub mod Lotteries
 pub mod PaidRows
-pub mod PayoffsGiven
 pub mod RowSums
 pub mod ValuesComputed
 pub mod Walks

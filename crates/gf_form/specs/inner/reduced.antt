@@ -1,4 +1,3 @@
-pub mod Comes
 pub mod Firsts
 pub mod Levels
 pub mod OwnDigits

@@ -10,7 +10,7 @@ ghost use Rattle.gf_form.specs.inner.reduced.Firsts.{AreFirsts, AreFirstsOf};
 ghost use Rattle.gf_form.specs.inner.reduced.OwnDigits.{digits_from};
 ghost use Rattle.gf_form.specs.inner.reduced.Relevance.{FindRelevance};
 ghost use Rattle.gf_form.specs.inner.reduced.Search.{AreFirstBelow, AreFoundTo, AreOwn};
-ghost use Rattle.gf_form.specs.inner.reduced.Search.{HaveChoices, IsSearched};
+ghost use Rattle.gf_form.specs.inner.reduced.Search.{IsSearched};
 ghost use Rattle.gf_form.specs.Reduced.{reduced_labels};
 ghost use Rattle.gf_form.specs.Strategies.{action_counts, players_of, strategies};
 
@@ -190,12 +190,13 @@ fn first_numbers(
     requires is_game { IsGame player.now.game.now }
     requires digits { player.now.digits.items
         ≡ digits_from 0 (action_counts player.now.game.now player.now.number) }
-    requires choices { HaveChoices player.now.game.now player.now.number player.now.digits.items 0
-        player.now.whole }
+    requires whole { player.now.whole
+        ≡ product (action_counts player.now.game.now player.now.number) }
     requires visits { FindRelevance player.now.game.now player.now.number visits.now }
     ensures { IfOk result (λ numbers. AreFoundTo player.now.game.now player.now.number
         numbers.items player.now.whole) }
 {
+    let whole = player.whole;
     let own = own_visits(alloc, visits, &player.digits)?;
     let level = Level::of_visits(alloc, &own, player.digits.len())?;
     let mut search = Search {
@@ -204,7 +205,7 @@ fn first_numbers(
         numbers: Vec::new(alloc),
         spare: Vec::new(alloc),
     };
-    search.push_below(player, &player.digits, &level, 0, 0, player.whole)?;
+    search.push_below(player, &player.digits, &level, 0, 0, whole)?;
     Ok(search.numbers)
 }
 

@@ -9,7 +9,7 @@ ghost use Rattle.gf_form.specs.Strategies.{action_counts};
 ghost use Rattle.gf_form.specs.inner.reduced.OwnDigits.{digits_from};
 ghost use Rattle.gf_form.specs.inner.reduced.Relevance.{FindRelevance};
 ghost use Rattle.gf_form.specs.inner.reduced.Search.{AreFoundTo, AreInTurn, AreLabelledTo};
-ghost use Rattle.gf_form.specs.inner.reduced.Search.{HaveChoices, IsNextBelow, IsShown};
+ghost use Rattle.gf_form.specs.inner.reduced.Search.{IsNextBelow, IsShown};
 
 use crate::reduced::digits::OwnDigit;
 use crate::reduced::first::Player;
@@ -63,6 +63,7 @@ impl Labelling {
 
     /// Appends the label of the strategy with this number, which meets the sets that the level
     /// tells.
+    #[tactic(auto, using(crate::proofs::lemmas::reduced::Searches::shown_steps))]
     fn push_label(
         &mut self,
         player: &Player<'_, '_>,
@@ -150,8 +151,6 @@ pub(crate) fn labels_of(
     requires whole { player.now.whole ≡ product player.now.counts.now }
     requires digits { player.now.digits.items
         ≡ digits_from 0 (action_counts player.now.game.now player.now.number) }
-    requires choices { HaveChoices player.now.game.now player.now.number player.now.digits.items 0
-        player.now.whole }
     requires visits { FindRelevance player.now.game.now player.now.number visits.now }
     requires found { AreFoundTo player.now.game.now player.now.number numbers.now
         player.now.whole }

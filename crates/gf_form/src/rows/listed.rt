@@ -44,7 +44,7 @@ fn denominator(path: Path, row: &[Fraction]) -> Option<u128> {
 fn common_denominator(nodes: &[Reached], payoffs: &Payoffs<'_>, start: u128) -> Option<u128> {
     let mut common = start;
     for node in nodes {
-        let own = denominator(node.path, payoffs.at(node.outcome))?;
+        let own = denominator(node.path(), payoffs.at(node.outcome))?;
         common = multiple(common, own)?;
     }
     Some(common)
@@ -66,7 +66,7 @@ fn shares_of(nodes: &[Reached], payoffs: &Payoffs<'_>, place: usize, den: u128) 
     };
     for node in nodes {
         let payoff = payoff_at(payoffs, node.outcome, place);
-        let share = share_of(node.path, payoff, den)?;
+        let share = share_of(node.path(), payoff, den)?;
         let amount = combined(sum.amount, 1, share.amount, 1)?;
         let bound = sum.bound.checked_add(share.bound)?;
         sum = Share { amount, bound };
@@ -133,11 +133,11 @@ fn alike_end(nodes: &[Reached], start: usize) -> usize
     ensures onward { start < result }
     ensures within { result ≤ length nodes.now }
     ensures alike { (d : Reached) (k : ℕ) → start ≤ k → k < result
-        → (get_or nodes.now k d).path.demands ≡ (get_or nodes.now start d).path.demands }
+        → (get_or nodes.now k d).demands ≡ (get_or nodes.now start d).demands }
 {
-    let demands = nodes[start].path.demands;
+    let demands = nodes[start].demands;
     let mut end = start + 1;
-    while end < nodes.len() && nodes[end].path.demands == demands {
+    while end < nodes.len() && nodes[end].demands == demands {
         end += 1;
     }
     end
@@ -174,7 +174,7 @@ fn listed_over(
     players: usize,
     common: u128,
 ) -> Result<Terms, AllocError>
-    requires { IsNonDecreasingBy (λ (r : Reached). r.path.demands) nodes.now }
+    requires { IsNonDecreasingBy (λ (r : Reached). r.demands) nodes.now }
     ensures terms { IfOk result (λ terms. (g : Game) → ArePaid g (rows_of payoffs.now)
         → AreTermsOf g players nodes.now (all_terms terms)) }
     ensures ordered { IfOk result (λ terms. AreOrdered terms) }
@@ -185,7 +185,7 @@ fn listed_over(
     let mut start = 0;
     while start < nodes.len() {
         let end = alike_end(nodes, start);
-        let demands = nodes[start].path.demands;
+        let demands = nodes[start].demands;
         push_nodes(&mut terms, demands, &nodes[start..end], payoffs, common)?;
         start = end;
     }
@@ -200,7 +200,7 @@ fn listed(
     payoffs: &Payoffs<'_>,
     players: usize,
 ) -> Result<Terms, AllocError>
-    requires { IsNonDecreasingBy (λ (r : Reached). r.path.demands) nodes.now }
+    requires { IsNonDecreasingBy (λ (r : Reached). r.demands) nodes.now }
     ensures terms { IfOk result (λ terms. (g : Game) → ArePaid g (rows_of payoffs.now)
         → AreTermsOf g players nodes.now (all_terms terms)) }
     ensures ordered { IfOk result (λ terms. AreOrdered terms) }

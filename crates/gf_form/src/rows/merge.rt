@@ -2,7 +2,7 @@
 //! and those that demand the action, merged in order of demands.
 
 ghost use Rattle.std.specs.Prelude.{◌≡◌, ◌+◌, ◌*◌, ◌<◌, ◌≤◌, ◌^◌, ℕ, OnOk};
-ghost use Rattle.gf_form.specs.inner.rows.TermLists.{AreChosen, AreMerged, AreOrdered, IsShaped};
+ghost use Rattle.gf_form.specs.inner.rows.TermLists.{AreChosen, AreInOrder, AreMerged};
 ghost use Rattle.gf_form.specs.inner.rows.TermLists.{all_terms};
 
 use crate::rows::chosen::Chosen;
@@ -21,15 +21,13 @@ impl Terms {
         action: u64,
     ) -> Result<(), AllocError>
         requires players { self.old.players ≡ from.now.players }
-        requires shaped { IsShaped from.now }
-        requires ordered { AreOrdered from.now }
+        requires order { AreInOrder from.now }
         requires some { 1 ≤ action }
         requires within { action * step + step < 2 ^ 64 }
         requires chosen { AreChosen from.now.demands.items step action chosen }
         ensures merged { OnOk result
             (AreMerged step action (all_terms from.now) (all_terms self.new)) }
-        ensures ordered { OnOk result (AreOrdered self.new) }
-        ensures shaped { OnOk result (IsShaped self.new) }
+        ensures order { OnOk result (AreInOrder self.new) }
         ensures players { self.new.players ≡ self.old.players }
         ensures den { self.new.den ≡ from.now.den }
     {
@@ -52,14 +50,9 @@ impl Terms {
                 own += 1;
             }
         }
-        while free < chosen.free {
-            self.push(from, free, 0)?;
-            free += 1;
+        if own < chosen.end {
+            return self.push_part(from, own, chosen.end, lowest);
         }
-        while own < chosen.end {
-            self.push(from, own, lowest)?;
-            own += 1;
-        }
-        Ok(())
+        self.push_part(from, free, chosen.free, 0)
     }
 }

@@ -7,7 +7,7 @@ ghost use Rattle.gf_form.specs.inner.rows.TermLists.{AreWithin, IsShaped, all_te
 ghost use Rattle.gf_form.specs.inner.rows.Pairs.{HasPairRow, IsOnly, IsPair};
 
 use crate::rows::chosen::Chosen;
-use crate::rows::sums::{Scale, combined, number_at, scale_of};
+use crate::rows::sums::{Scale, scale_of, sum_at};
 use crate::rows::terms::{Head, Terms};
 use gf_fraction::{Fraction, SharedDenominator};
 use std::alloc::AllocError;
@@ -64,9 +64,7 @@ impl<'t> Pair<'t> {
         put(kept, self.scale.den);
         let before = rows.len();
         for place in 0..players {
-            let first = number_at(self.first, place);
-            let second = number_at(self.second, place);
-            let Some(number) = combined(first, self.scale.first, second, self.scale.second) else {
+            let Some(number) = sum_at(self.first, self.second, place, self.scale) else {
                 rows.truncate(before);
                 return Ok(false);
             };

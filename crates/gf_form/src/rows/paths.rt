@@ -1,22 +1,19 @@
-//! The nodes that choices can reach, one after another, each with what the path to it demands.
+//! Paths to the nodes that choices can reach, and what they demand.
 //!
 //! Below a child of probability 0, nothing counts but whether its value is defined. That of a leaf
 //! always is, and that of a player's node without an outcome is the value of a child. So a path is
 //! idle there: it starts anew at the next node whose value is a sum, if there is one.
 
-ghost use Rattle.std.specs.Prelude.{◌≡◌, [], ◌∷◌, IfOk, MatchOption, map};
+ghost use Rattle.std.specs.Prelude.{◌≡◌};
 ghost use Rattle.gf_tree.specs.Branches.{game_of, tree_of};
 ghost use Rattle.gf_tree.specs.Subtrees.{root_node};
-ghost use Rattle.gf_form.specs.inner.rows.ReachedNodes.{by_chance, is_sum, met_node, nodes_left};
-ghost use Rattle.gf_form.specs.inner.rows.ReachedNodes.{reached, root_path};
-ghost use Rattle.gf_form.specs.Strategies.{choices_by};
+ghost use Rattle.gf_form.specs.inner.rows.ReachedNodes.{by_chance, is_sum, met_node, path_to};
+ghost use Rattle.gf_form.specs.inner.rows.ReachedNodes.{root_path};
 
-use crate::rows::descent::{Descent, Handed, Steps};
-use crate::rows::digits::Digits;
+use crate::rows::descent::Handed;
 use crate::values::walk::chance_of;
 use gf_fraction::Fraction;
-use gf_tree::{Branch, Game};
-use std::alloc::{AllocError, Global};
+use gf_tree::Branch;
 
 /// What a path from the root demands.
 #[derive(Clone, Copy)]
@@ -32,17 +29,20 @@ pub(crate) struct Path {
     pub demands: u64,
 }
 
-/// A node that choices can reach.
+/// A node that choices can reach. The parts of its path stand one by one, which takes fewer bytes.
 #[derive(Clone, Copy)]
 pub(crate) struct Reached {
-    pub path: Path,
+    pub weight: u128,
+    pub bound: u128,
+    pub den: u128,
+    pub demands: u64,
     /// The position of its outcome among those of the game, from 1; 0 is none.
     pub outcome: u32,
 }
 
 impl Path {
     /// The path to the root.
-    fn root() -> Path
+    pub(crate) fn root() -> Path
         ensures { result ≡ root_path }
     {
         Path {
@@ -79,21 +79,15 @@ impl Path {
 
     /// The node at the end of this path, which is the root of this branch. The path starts anew
     /// there if it was idle and the node's value is a sum.
-    fn met_node(self, branch: &Branch<'_, '_>) -> Reached
+    pub(crate) fn met_node(self, branch: &Branch<'_, '_>) -> Reached
         ensures { result ≡ met_node (game_of branch.now) self (root_node (tree_of branch.now)) }
     {
         let outcome = branch.outcome_position();
         if self.bound > 0 {
-            return Reached {
-                path: self,
-                outcome,
-            };
+            return self.to(outcome);
         }
         if !is_sum(branch) {
-            return Reached {
-                path: self,
-                outcome: 0,
-            };
+            return self.to(0);
         }
         let path = Path {
             weight: self.weight,
@@ -101,7 +95,42 @@ impl Path {
             den: 1,
             demands: self.demands,
         };
-        Reached { path, outcome }
+        path.to(outcome)
+    }
+
+    /// The node at the end of this path, with this outcome.
+    #[inline(always)]
+    pub(crate) fn to(self, outcome: u32) -> Reached
+        ensures { result ≡ record {
+          weight = self.weight;
+          bound = self.bound;
+          den = self.den;
+          demands = self.demands;
+          outcome = outcome;
+        } }
+    {
+        Reached {
+            weight: self.weight,
+            bound: self.bound,
+            den: self.den,
+            demands: self.demands,
+            outcome,
+        }
+    }
+}
+
+impl Reached {
+    /// The path to this node.
+    #[inline(always)]
+    pub(crate) fn path(self) -> Path
+        ensures { result ≡ path_to self }
+    {
+        Path {
+            weight: self.weight,
+            bound: self.bound,
+            den: self.den,
+            demands: self.demands,
+        }
     }
 }
 
@@ -125,7 +154,7 @@ impl Handed for Path {
     }
 
     fn below(&self, node: &Branch<'_, '_>, position: usize, demands: u64) -> Path {
-        let onward = self.met_node(node).path;
+        let onward = self.met_node(node).path();
         let path = Path {
             weight: onward.weight,
             bound: onward.bound,
@@ -135,36 +164,6 @@ impl Handed for Path {
         match node.mover() {
             Some((0, _)) => path.by_chance(chance_of(node, position)),
             _ => path,
-        }
-    }
-}
-
-/// A walk through a tree that gives the nodes which choices can reach, in prefix order.
-#[derive(Drop)]
-pub(crate) struct Paths<'d, 'g, 'a> {
-    walk: Descent<'d, 'g, 'a, Path>,
-}
-
-impl<'d, 'g, 'a> Paths<'d, 'g, 'a> {
-    /// A walk through the whole tree of a game.
-    pub(crate) fn new(alloc: Global, game: &'g Game<'a>, digits: &'d Digits) -> Paths<'d, 'g, 'a>
-        ensures { nodes_left result ≡ reached game.entry.now
-            (choices_by game.entry.now (map (λ own. own.items) digits.entry.now.steps.items))
-            root_path game.entry.now.tree }
-    {
-        Paths {
-            walk: Descent::new(alloc, game, Steps::All(&digits.steps), Path::root()),
-        }
-    }
-
-    /// The next node, or `None` after the last one.
-    pub(crate) fn next(&mut self) -> Result<Option<Reached>, AllocError>
-        ensures { IfOk result (λ node. MatchOption node (nodes_left self.old ≡ [])
-            (λ node. nodes_left self.old ≡ node ∷ nodes_left self.new)) }
-    {
-        match self.walk.next()? {
-            Some((branch, path)) => Ok(Some(path.met_node(&branch))),
-            None => Ok(None),
         }
     }
 }

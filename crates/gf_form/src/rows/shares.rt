@@ -8,8 +8,9 @@ ghost use Rattle.gf_form.specs.inner.values.PaidRows.{rows_of};
 ghost use Rattle.gf_form.specs.Strategies.{choices_by};
 ghost use Rattle.gf_form.specs.declared.rows.paths.Reached.{Reached};
 
+use crate::rows::descent::{Descent, Steps};
 use crate::rows::digits::Digits;
-use crate::rows::paths::{Path, Paths, Reached};
+use crate::rows::paths::{Path, Reached};
 use crate::rows::sums::scale_of;
 use crate::rows::terms::Head;
 use crate::values::payoffs::Payoffs;
@@ -64,9 +65,9 @@ impl Reached {
     /// A number that orders nodes by demands, those with the same demands by outcome, and those
     /// with the same outcome by denominator, as far as its last digits go.
     fn order(self) -> u128 {
-        let demands = self.path.demands as u128;
+        let demands = self.demands as u128;
         let outcome = self.outcome as u128;
-        (demands * RADIX + outcome) * RADIX + self.path.den % RADIX
+        (demands * RADIX + outcome) * RADIX + self.den % RADIX
     }
 
     /// Adds another node to this one, if it has the same demands and outcome. If the sum does not
@@ -76,19 +77,20 @@ impl Reached {
         ensures sum { result ≡ true → IsNodeSum self.old other self.new }
         ensures same { result ≡ false → self.new ≡ self.old }
     {
-        let path = self.path;
-        if path.demands != other.path.demands || self.outcome != other.outcome {
+        if self.demands != other.demands || self.outcome != other.outcome {
             return false;
         }
-        self.path = match sum_of(path, other.path) {
-            Some(sum) => sum,
-            None => Path {
+        let Some(sum) = sum_of(self.path(), other.path()) else {
+            let unknown = Path {
                 weight: 0,
                 bound: 1,
                 den: 0,
-                demands: path.demands,
-            },
+                demands: self.demands,
+            };
+            *self = unknown.to(self.outcome);
+            return true;
         };
+        *self = sum.to(self.outcome);
         true
     }
 }
@@ -104,8 +106,9 @@ fn paid_nodes(
         (choices_by game.now (map (λ own. own.items) digits.now.steps.items))) }
 {
     let mut nodes = Vec::new(alloc);
-    let mut paths = Paths::new(alloc, game, digits);
-    while let Some(node) = paths.next()? {
+    let mut walk = Descent::new(alloc, game, Steps::All(&digits.steps), Path::root());
+    while let Some((branch, path)) = walk.next()? {
+        let node = path.met_node(&branch);
         if !payoffs.at(node.outcome).is_empty() {
             nodes.push(node)?;
         }
@@ -118,7 +121,7 @@ fn add_up(nodes: &mut Vec<Reached>)
     ensures { HaveSharesOf nodes.old.items nodes.new.items }
 {
     // First those over the same denominator, which takes no division.
-    nodes.dedup_by(|node, last| node.path.den == last.path.den && last.absorbs(*node));
+    nodes.dedup_by(|node, last| node.den == last.den && last.absorbs(*node));
     nodes.dedup_by(|node, last| last.absorbs(*node));
 }
 
@@ -132,13 +135,13 @@ pub(crate) fn paid_sums(
     ensures shares { IfOk result (λ nodes. HaveSharesOf (paid_reached (rows_of payoffs.now) game.now
         (choices_by game.now (map (λ own. own.items) digits.now.steps.items))) nodes.items) }
     ensures ordered { IfOk result
-        (λ nodes. IsNonDecreasingBy (λ (r : Reached). r.path.demands) nodes.items) }
+        (λ nodes. IsNonDecreasingBy (λ (r : Reached). r.demands) nodes.items) }
 {
     let mut nodes = paid_nodes(alloc, game, digits, payoffs)?;
     nodes.sort_unstable_by_key(|node| node.order());
     add_up(&mut nodes);
 
     // They are still in order, so this takes one pass.
-    nodes.sort_unstable_by_key(|node| node.path.demands);
+    nodes.sort_unstable_by_key(|node| node.demands);
     Ok(nodes)
 }

@@ -1,14 +1,13 @@
 //! Terms that demand nothing at the slowest digit, added up for each choice at the faster ones: if
 //! they are many, they are not to be merged anew for each action.
 
-ghost use Rattle.std.specs.Prelude.{◌≡◌, ◌+◌, ◌*◌, ◌<◌, ◌≤◌, ◌^◌, ◌++◌, ◌∷◌, IfOk, OnOk};
-ghost use Rattle.std.specs.Prelude.{get_or, length, map};
+ghost use Rattle.std.specs.Prelude.{◌≡◌, ◌<◌, ◌^◌, ◌++◌, ◌∷◌, IfOk, OnOk, map};
 ghost use Rattle.gf_nfg.specs.Profiles.{product};
-ghost use Rattle.gf_form.specs.inner.rows.ChoiceSums.{AddUpTo, HasSums};
+ghost use Rattle.gf_form.specs.inner.rows.ChoiceSums.{AddUpTo, AreAddedUp, MayAddUp};
 ghost use Rattle.gf_form.specs.inner.rows.Demands.{spans};
 ghost use Rattle.gf_form.specs.inner.rows.GameDigits.{HaveSteps, actions_at};
-ghost use Rattle.gf_form.specs.inner.rows.TermLists.{AreAlike, AreOrdered, EndsBelow, IsShaped};
-ghost use Rattle.gf_form.specs.inner.rows.TermLists.{all_terms, with_demands, part};
+ghost use Rattle.gf_form.specs.inner.rows.TermLists.{AreAlike, AreInOrder, EndsBelow, IsShaped};
+ghost use Rattle.gf_form.specs.inner.rows.TermLists.{all_terms, with_demands};
 
 use crate::rows::chosen::{Chosen, count_near};
 use crate::rows::digits::Digit;
@@ -40,38 +39,16 @@ impl Terms {
         }
     }
 
-    /// Appends the terms of an alike list from one place up to another.
-    fn push_part(&mut self, from: &Terms, start: usize, end: usize) -> Result<(), AllocError>
-        requires alike { AreAlike self.old from.now }
-        requires shaped { IsShaped self.old × IsShaped from.now }
-        requires ordered { AreOrdered self.old × AreOrdered from.now }
-        requires places { start ≤ end }
-        requires within { end ≤ length from.now.demands.items }
-        requires ends { start < end
-            → EndsBelow self.old.demands.items (get_or from.now.demands.items start 0) }
-        ensures pushed { OnOk result (all_terms self.new
-            ≡ all_terms self.old ++ part start end (all_terms from.now)) }
-        ensures alike { AreAlike self.new self.old }
-        ensures shaped { OnOk result (IsShaped self.new) }
-        ensures ordered { OnOk result (AreOrdered self.new) }
-    {
-        for place in start..end {
-            self.push(from, place, 0)?;
-        }
-        Ok(())
-    }
-
     /// Appends all terms of an alike list, with these demands.
     fn push_all(&mut self, from: &Terms, demands: u64) -> Result<(), AllocError>
         requires alike { AreAlike self.old from.now }
-        requires shaped { IsShaped self.old × IsShaped from.now }
-        requires ordered { AreOrdered self.old }
+        requires order { AreInOrder self.old }
+        requires shaped { IsShaped from.now }
         requires ends { EndsBelow self.old.demands.items demands }
         ensures pushed { OnOk result (all_terms self.new
             ≡ all_terms self.old ++ map (with_demands demands) (all_terms from.now)) }
         ensures alike { AreAlike self.new self.old }
-        ensures shaped { OnOk result (IsShaped self.new) }
-        ensures ordered { OnOk result (AreOrdered self.new) }
+        ensures order { OnOk result (AreInOrder self.new) }
         ensures ends { OnOk result (EndsBelow self.new.demands.items demands) }
     {
         for place in 0..from.demands.len() {
@@ -90,26 +67,23 @@ impl Terms {
         choices: u32,
         spare: &mut SpareTerms,
     ) -> Result<Terms, AllocError>
-        requires shaped { IsShaped self.now }
-        requires ordered { AreOrdered self.now }
-        requires steps { HaveSteps faster.now }
-        requires step { slowest.step ≡ product (spans (actions_at faster.now)) }
-        requires spans { (slowest.actions + 1) * slowest.step < 2 ^ 64 }
+        requires order { AreInOrder self.now }
+        requires steps { HaveSteps (slowest ∷ faster.now) }
+        requires within { product (spans (actions_at (slowest ∷ faster.now))) < 2 ^ 64 }
         ensures sums { IfOk result (λ list. AddUpTo (slowest.actions ∷ actions_at faster.now)
             (all_terms self.now) (all_terms list)) }
         ensures alike { IfOk result (λ list. AreAlike list self.now) }
-        ensures shaped { IfOk result IsShaped }
-        ensures ordered { IfOk result AreOrdered }
+        ensures order { IfOk result AreInOrder }
     {
         let free = count_near(&self.demands, slowest.step, 0);
         let mut first = spare.list(self.players);
         first.clear(self.den);
-        first.push_part(self, 0, free)?;
+        first.push_part(self, 0, free, 0)?;
         let mut list = spare.list(self.players);
         list.clear(self.den);
         list.push_sums(&first, faster, choices / slowest.actions.max(1), 0, spare)?;
         spare.give_back(first)?;
-        list.push_part(self, free, self.demands.len())?;
+        list.push_part(self, free, self.demands.len(), 0)?;
         Ok(list)
     }
 
@@ -124,19 +98,9 @@ impl Terms {
         least: u64,
         spare: &mut SpareTerms,
     ) -> Result<(), AllocError>
-        requires alike { AreAlike self.old from.now }
-        requires shaped { IsShaped self.old × IsShaped from.now }
-        requires ordered { AreOrdered self.old × AreOrdered from.now }
-        requires ends { EndsBelow self.old.demands.items least }
-        requires steps { HaveSteps digits.now }
-        requires within { least + product (spans (actions_at digits.now)) < 2 ^ 64 }
-        ensures sums { OnOk result (HasSums (actions_at digits.now) least (all_terms from.now)
-            (all_terms self.old) (all_terms self.new)) }
+        requires may { MayAddUp digits.now least from.now self.old }
+        ensures added { OnOk result (AreAddedUp digits.now least from.now self.old self.new) }
         ensures alike { AreAlike self.new self.old }
-        ensures shaped { OnOk result (IsShaped self.new) }
-        ensures ordered { OnOk result (AreOrdered self.new) }
-        ensures ends { OnOk result (EndsBelow self.new.demands.items
-            (least + product (spans (actions_at digits.now)))) }
     {
         let Some((slowest, faster)) = digits.split_first() else {
             return self.push_all(from, least);
@@ -162,20 +126,10 @@ impl Terms {
         least: u64,
         spare: &mut SpareTerms,
     ) -> Result<(), AllocError>
-        requires alike { AreAlike self.old from.now }
-        requires shaped { IsShaped self.old × IsShaped from.now }
-        requires ordered { AreOrdered self.old × AreOrdered from.now }
-        requires ends { EndsBelow self.old.demands.items least }
-        requires steps { HaveSteps faster.now }
-        requires step { slowest.step ≡ product (spans (actions_at faster.now)) }
-        requires within { least + (slowest.actions + 1) * slowest.step < 2 ^ 64 }
-        ensures sums { OnOk result (HasSums (slowest.actions ∷ actions_at faster.now) least
-            (all_terms from.now) (all_terms self.old) (all_terms self.new)) }
+        requires may { MayAddUp (slowest ∷ faster.now) least from.now self.old }
+        ensures added { OnOk result
+            (AreAddedUp (slowest ∷ faster.now) least from.now self.old self.new) }
         ensures alike { AreAlike self.new self.old }
-        ensures shaped { OnOk result (IsShaped self.new) }
-        ensures ordered { OnOk result (AreOrdered self.new) }
-        ensures ends { OnOk result (EndsBelow self.new.demands.items
-            (least + (slowest.actions + 1) * slowest.step)) }
     {
         let mut level = spare.list(from.players);
         let mut chosen = Chosen::none();

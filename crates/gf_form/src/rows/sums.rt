@@ -86,7 +86,7 @@ pub(crate) fn scale_of(a: Head, b: Head) -> Option<Scale>
 
 /// The number at a place, from 0; zero if there is none.
 #[inline(always)]
-pub(crate) fn number_at(numbers: &[i128], place: usize) -> i128
+fn number_at(numbers: &[i128], place: usize) -> i128
     ensures { result ≡ get_or numbers.now place (pos 0) }
 {
     match numbers.get(place) {
@@ -139,4 +139,16 @@ pub(crate) fn combined(a: i128, by_a: u128, b: i128, by_b: u128) -> Option<i128>
         return None;
     }
     Some(sum)
+}
+
+/// The sum of two numbers at a place, from 0, each times its factor; `None` if it is out of bounds.
+#[inline(always)]
+pub(crate) fn sum_at(first: &[i128], second: &[i128], place: usize, scale: Scale) -> Option<i128>
+    ensures sum { IfSome result (λ sum. sum ≡ get_or first.now place (pos 0) *ℤ pos scale.first
+        +ℤ get_or second.now place (pos 0) *ℤ pos scale.second) }
+    ensures within { IfSome result (λ sum. IsWithin sum) }
+{
+    let one = number_at(first, place);
+    let other = number_at(second, place);
+    combined(one, scale.first, other, scale.second)
 }

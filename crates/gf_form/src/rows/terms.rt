@@ -2,13 +2,13 @@
 //! demands of the choices.
 
 ghost use Rattle.std.specs.Prelude.{◌≡◌, ◌+◌, ◌<◌, ◌≤◌, ◌++◌, [], ◌∷◌, IfOk, IsTrue, OnOk, get_or};
-ghost use Rattle.std.specs.Prelude.{length};
+ghost use Rattle.std.specs.Prelude.{length, map};
 ghost use Rattle.gf_form.specs.inner.rows.TermLists.{AreAlike, HasSum, IsScale, IsShaped, IsSumAt};
 ghost use Rattle.gf_form.specs.inner.rows.TermLists.{IsNoted, all_terms, with_demands, lowered};
-ghost use Rattle.gf_form.specs.inner.rows.TermLists.{scaled_at, term_at};
+ghost use Rattle.gf_form.specs.inner.rows.TermLists.{AreInOrder, MayCome, part, scaled_at, term_at};
 ghost use Rattle.gf_form.specs.inner.rows.ItemRows.{HasRow};
 
-use crate::rows::sums::{Scale, combined, number_at, scale_of};
+use crate::rows::sums::{Scale, scale_of, sum_at};
 use std::alloc::{AllocError, Global};
 
 /// What a term demands, and what its numbers are over.
@@ -51,33 +51,32 @@ const UNKNOWN: Scale = Scale {
     second: 1,
 };
 
-/// Appends numbers that are sums of these, each times its factor; or says that one of them does not
-/// fit.
+/// Appends numbers that are sums of these, each times its factor. Returns their denominator, or 0
+/// if one of them does not fit.
 #[inline(always)]
 fn push_numbers(
     numbers: &mut Vec<i128>,
     first: &[i128],
     second: &[i128],
-    by_first: u128,
-    by_second: u128,
-) -> Result<bool, AllocError>
-    ensures { IfOk result (λ fits. HasRow (IsSumAt first.now second.now by_first by_second fits)
+    scale: Scale,
+) -> Result<u128, AllocError>
+    ensures row { IfOk result (λ den. HasRow (IsSumAt first.now second.now scale den)
         (length first.now) numbers.old.items numbers.new.items) }
+    ensures den { IfOk result (λ den. 0 < den → den ≡ scale.den) }
 {
     numbers.reserve(first.len())?;
-    let mut fits = true;
+    let mut den = scale.den;
     for place in 0..first.len() {
-        let one = number_at(first, place);
-        let other = number_at(second, place);
-        match combined(one, by_first, other, by_second) {
-            Some(number) => numbers.push_reserved(number),
+        let number = match sum_at(first, second, place, scale) {
+            Some(number) => number,
             None => {
-                fits = false;
-                numbers.push_reserved(0);
+                den = 0;
+                0
             }
-        }
+        };
+        numbers.push_reserved(number);
     }
-    Ok(fits)
+    Ok(den)
 }
 
 /// Appends these, quickly if they are few.
@@ -276,6 +275,30 @@ impl Terms {
         self.push_as(from, place, from.demands[place] - less)
     }
 
+    /// Appends the terms of an alike list from one place up to another, with their demands lowered
+    /// by this.
+    #[inline(always)]
+    pub(crate) fn push_part(
+        &mut self,
+        from: &Terms,
+        start: usize,
+        end: usize,
+        less: u64,
+    ) -> Result<(), AllocError>
+        requires alike { AreAlike self.old from.now }
+        requires order { AreInOrder self.old × AreInOrder from.now }
+        requires may { MayCome from.now self.old less start end }
+        ensures pushed { OnOk result (all_terms self.new
+            ≡ all_terms self.old ++ map (lowered less) (part start end (all_terms from.now))) }
+        ensures alike { AreAlike self.new self.old }
+        ensures order { OnOk result (AreInOrder self.new) }
+    {
+        for place in start..end {
+            self.push(from, place, less)?;
+        }
+        Ok(())
+    }
+
     /// How the terms at these places, from 0, are brought over one denominator.
     fn scale_between(&self, first: usize, second: usize) -> Scale
         requires first { first < length self.now.demands.items }
@@ -312,8 +335,7 @@ impl Terms {
     {
         let one = from.row(first);
         let other = from.row(second);
-        let fits = push_numbers(&mut self.numbers, one, other, scale.first, scale.second)?;
-        let den = if fits { scale.den } else { 0 };
+        let den = push_numbers(&mut self.numbers, one, other, scale)?;
         self.push_head(Head {
             demands: from.demands[first],
             den,

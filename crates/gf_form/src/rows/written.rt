@@ -1,20 +1,18 @@
 //! The payoffs at the profiles of a table, from the terms of which they are sums.
 
-ghost use Rattle.std.specs.Prelude.{◌≡◌, ◌+◌, ◌*◌, ◌/◌, ◌<◌, ◌≤◌, ◌^◌, [], ◌∷◌, ℕ, List, IfOk};
+ghost use Rattle.std.specs.Prelude.{◌≡◌, ◌+◌, ◌/◌, ◌<◌, ◌≤◌, [], ◌∷◌, ℕ, List, IfOk};
 ghost use Rattle.std.specs.Prelude.{IfSome, IsErrOf, OnOk};
 ghost use Rattle.std.specs.Prelude.{get_or, length, map, true};
-ghost use Rattle.gf_nfg.specs.Profiles.{product};
-ghost use Rattle.gf_form.specs.inner.rows.Demands.{spans};
-ghost use Rattle.gf_form.specs.inner.rows.TermLists.{AreOrdered, AreWithin, IsShaped};
+ghost use Rattle.gf_form.specs.inner.rows.TermLists.{AreWithin};
 ghost use Rattle.gf_form.specs.inner.values.PaidRows.{rows_of};
 ghost use Rattle.gf_form.specs.Refusal.{HasValues};
 ghost use Rattle.gf_form.specs.inner.values.Rows.{ArePaid};
 ghost use Rattle.gf_form.specs.inner.rows.Pairs.{IsPaidPair};
 ghost use Rattle.gf_form.specs.inner.rows.SettledRows.{AreDue, AreTermsFor, AreWritten};
-ghost use Rattle.gf_form.specs.inner.rows.SettledRows.{IsAsked, IsRightlyRefused, SettleRows};
+ghost use Rattle.gf_form.specs.inner.rows.SettledRows.{IsAsked, IsRightlyRefused, SettleBy};
+ghost use Rattle.gf_form.specs.inner.rows.SettledRows.{SettleRows};
 ghost use Rattle.gf_form.specs.StrategicForm.{ArePayoffsAt};
 ghost use Rattle.gf_form.specs.Strategies.{full_profiles, strategies_at};
-ghost use Rattle.gf_form.specs.inner.rows.GameDigits.{HaveSteps, actions_at};
 
 use crate::fault::{EvalFault, FormFault};
 use crate::rows::chosen::Chosen;
@@ -275,11 +273,7 @@ impl Written {
         run: Run,
     ) -> Result<(), FormFault>
         requires due { AreDue asked.now run self.old }
-        requires terms { AreTermsFor asked.now terms.now }
-        requires steps { HaveSteps digits.now }
-        requires spans { product (spans (actions_at digits.now)) < 2 ^ 64 }
-        requires count { run.count ≡ product (actions_at digits.now) }
-        requires settles { SettleRows asked.now (actions_at digits.now) terms.now run }
+        requires settled { SettleBy asked.now terms.now digits.now run }
         ensures written { OnOk result (AreWritten asked.now run.to self.new) }
         ensures refused { IsRightlyRefused asked.now result }
     {
@@ -313,13 +307,7 @@ impl Written {
         run: Run,
     ) -> Result<(), FormFault>
         requires due { AreDue asked.now run self.old }
-        requires terms { AreTermsFor asked.now terms.now }
-        requires steps { HaveSteps faster.now }
-        requires step { slowest.step ≡ product (spans (actions_at faster.now)) }
-        requires spans { (slowest.actions + 1) * slowest.step < 2 ^ 64 }
-        requires count { run.count ≡ slowest.actions * product (actions_at faster.now) }
-        requires settles { SettleRows asked.now (slowest.actions ∷ actions_at faster.now) terms.now
-            run }
+        requires settled { SettleBy asked.now terms.now (slowest ∷ faster.now) run }
         ensures written { OnOk result (AreWritten asked.now run.to self.new) }
         ensures refused { IsRightlyRefused asked.now result }
     {
@@ -339,13 +327,7 @@ impl Written {
         run: Run,
     ) -> Result<(), FormFault>
         requires due { AreDue asked.now run self.old }
-        requires terms { AreTermsFor asked.now terms.now }
-        requires steps { HaveSteps faster.now }
-        requires step { slowest.step ≡ product (spans (actions_at faster.now)) }
-        requires spans { (slowest.actions + 1) * slowest.step < 2 ^ 64 }
-        requires count { run.count ≡ slowest.actions * product (actions_at faster.now) }
-        requires settles { SettleRows asked.now (slowest.actions ∷ actions_at faster.now) terms.now
-            run }
+        requires settled { SettleBy asked.now terms.now (slowest ∷ faster.now) run }
         ensures written { OnOk result (AreWritten asked.now run.to self.new) }
         ensures refused { IsRightlyRefused asked.now result }
     {
@@ -381,23 +363,14 @@ impl Terms {
         requires some { run.from < run.to }
         requires near { AreWithin terms.now.demands.items near }
         requires within { run.to ≤ length asked.now.numbers.now }
-        requires shaped { IsShaped terms.now }
-        requires ordered { AreOrdered terms.now }
         requires players { self.old.players ≡ terms.now.players }
-        requires step { slowest.step ≡ product (spans (actions_at faster.now)) }
-        requires spans { (slowest.actions + 1) * slowest.step < 2 ^ 64 }
-        requires count { run.count ≡ slowest.actions * product (actions_at faster.now) }
-        requires settles { SettleRows asked.now (slowest.actions ∷ actions_at faster.now) terms.now
-            run }
-        ensures shaped { OnOk result (IsShaped self.new) }
-        ensures ordered { OnOk result (AreOrdered self.new) }
+        requires settled { SettleBy asked.now terms.now (slowest ∷ faster.now) run }
         ensures players { self.new.players ≡ self.old.players }
         ensures from { IfOk result (λ next. next.0.from ≡ run.from) }
         ensures onward { IfOk result (λ next. run.from < next.0.to) }
         ensures to { IfOk result (λ next. next.0.to ≤ run.to) }
-        ensures count { IfOk result (λ next. next.0.count ≡ product (actions_at faster.now)) }
-        ensures settles { IfOk result
-            (λ next. SettleRows asked.now (actions_at faster.now) self.new next.0) }
+        ensures settled { IfOk result
+            (λ next. SettleBy asked.now self.new faster.now next.0) }
         ensures near { IfOk result (λ next. AreWithin terms.now.demands.items next.1) }
     {
         let count = divided(run.count, slowest.actions);

@@ -16,7 +16,7 @@ use std::alloc::{AllocError, Global};
 
 /// How many actions there are at a player's set, by its position from 1 among his; 0 if he has no
 /// such set.
-#[tactic(auto, using(crate::proofs::lemmas::strategies::ActionCounts::count_steps))]
+#[tactic(auto, using(crate::proofs::lemmas::strategies::CountedActions::action_steps))]
 pub(crate) fn action_count(game: &Game<'_>, player: u32, position: usize) -> usize
     requires is_game { IsGame game.now }
     ensures { result ≡ unwrap_or (at_position (action_counts game.now player) position) 0 }
@@ -73,11 +73,12 @@ impl Counts {
     /// he has.
     #[tactic(auto, using(crate::proofs::lemmas::strategies::CountedActions::given_steps))]
     pub(crate) fn of_player(&self, place: usize) -> (&[u32], u32)
-        requires { (g : Game) × AreCounts g self.now × (place < length self.now.actions.items) }
+        requires counted { (g : Game) × AreCounts g self.now }
+        requires within { place < length self.now.actions.items }
         ensures some { 0 < result.1 }
+        ensures whole { result.1 ≡ product result.0.now }
         ensures counts { (g : Game) → AreCounts g self.now
-            → (result.0.now ≡ action_counts g (place + 1))
-            × (result.1 ≡ product (action_counts g (place + 1))) }
+            → result.0.now ≡ action_counts g (place + 1) }
     {
         (&self.actions[place], self.strategies[place])
     }

@@ -19,7 +19,7 @@ use std::alloc::Global;
 
 /// What `expected` returns, given the payoffs of the outcomes. The row uses the room of one of
 /// these values.
-#[tactic(auto, using(crate::proofs::lemmas::values::PayoffsGiven::payoff_steps))]
+#[tactic(auto, using(crate::proofs::lemmas::values::BottomUp::payoff_steps))]
 pub(crate) fn expected_with(
     alloc: Global,
     game: &Game<'_>,

@@ -3,7 +3,4 @@ use Rattle.gf_form.proofs.lemmas.reduced.ReducedForms.{reduced_is_table}
 use Rattle.gf_form.proofs.laws.form_is_table.Goals as goal
 
 pub returns : goal.returns
-returns c = record {
-  strategic = λ g t game form. form_is_table g game t form;
-  reduced = λ g t game form. reduced_is_table g game t form;
-}
+returns c = record { strategic = form_is_table; reduced = reduced_is_table }

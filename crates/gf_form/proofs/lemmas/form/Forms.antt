@@ -1,17 +1,20 @@
 -- Forms of a game: there is at most one, one exists if there are payoffs at each profile, and each
 -- is a table.
-use Rattle.gf_form.proofs.Common.{◌≡◌, ℕ, List, [], ◌∷◌, length, map, arith, refl, sym, ap, subst}
-use Rattle.gf_form.proofs.Common.{inl, inr, ◌↔◌, AllByRecursion, AllZip, length-map, Ratio}
-use Rattle.gf_form.proofs.Common.{IsFraction, IsEqual, one_fraction, profiles, Table, SetKey, Game}
-use Rattle.gf_form.proofs.Common.{map_twice, Has, contains, has, each, mapped_from, payoff}
-use Rattle.gf_form.proofs.Common.{ArePayoffsAt, IsFormWith, IsStrategicForm, PaysFractions}
-use Rattle.gf_form.proofs.Common.{strategy_labels, choices_by, full_profiles, players_of}
-use Rattle.gf_form.proofs.Common.{strategies_at, ◌<◌, ◌∙◌, IfOk-weaker, all_images, IsTable}
-use Rattle.gf_form.proofs.Common.{length-numbers_from, IsGame, all_of_each, AllZip-long, drop}
+use Rattle.gf_form.proofs.Common
+use Common.{length-numbers_from, IsStrategicForm, strategy_labels, AllByRecursion, PaysFractions, ℕ}
+use Common.{full_profiles, strategies_at, one_fraction, ArePayoffsAt, mapped_from, IfOk-weaker, ◌≡◌}
+use Common.{all_of_each, AllZip-long, length-map, IsFraction, IsFormWith, choices_by, players_of}
+use Common.{all_images, map_twice, profiles, contains, Contains, IsEqual, IsTable, has_map, length}
+use Common.{AllZip, SetKey, payoff, IsGame, arith, Ratio, Table, List, refl, Game, each, drop, ◌∷◌}
+use Common.{map, sym, inl, inr, ◌↔◌, Has, has, ◌<◌, ◌∙◌, [], ap}
 use Rattle.gf_nfg.specs.Table.{Entry}
 use Rattle.gf_form.specs.StrategicForm.{PaysFraction}
 use Rattle.gf_form.proofs.lemmas.strategies.CountedActions.{some_strategy}
 use Rattle.gf_form.proofs.lemmas.strategies.Lookups.{all_mapped}
+
+pub as_many : {A B : Type 0} (R : A → B → Type 0) (xs : List A) (ys : List B) → AllZip R xs ys
+    → length xs ≡ length ys
+as_many R xs ys h = sym (AllZip-long R xs ys h)
 
 -- ---- forms by any labels
 
@@ -26,20 +29,10 @@ same_entries : (R : List ℕ → List Ratio → Type 0) (es fs : List Entry)
     → AllByRecursion (λ e. R e.profile e.payoffs) es
     → AllByRecursion (λ e. R e.profile e.payoffs) fs → es ≡ fs
 same_entries R (e ∷ es) (f ∷ fs) q one h k =
-    let profile : e.profile ≡ f.profile = cc in
-    let others = same_entries R es fs (ap (drop 1) q) (λ p i. one p (inr i)) h.1 k.1 in
-    let right = rw (← profile) at k.0 in
-    let payoffs = one e.profile (inl refl) e.payoffs f.payoffs h.0 right in
-    λ i. record { profile = profile i; payoffs = payoffs i } ∷ others i
+    let first = one e.profile (inl refl) e.payoffs f.payoffs h.0 in
+    grind (arith, first, same_entries R es fs (ap (drop 1) q) (λ p i. one p (inr i)) h.1 k.1)
 same_entries R [] [] q one h k = refl
 same_entries R es fs q one h k = absurd (grind arith)
-
--- if at most one row of payoffs is right at each profile, there is at most one form
-pub one_form_by : (labels : ℕ → List (List ℕ)) (R : List ℕ → List Ratio → Type 0) (g : Game)
-    → ((profile : List ℕ)
-    → Has (form_profiles labels g) profile → (a b : List Ratio) → R profile a → R profile b → a ≡ b)
-    → (t u : Table) → IsFormWith labels R g t → IsFormWith labels R g u → t ≡ u
-one_form_by labels R g one t u h k = grind (arith, same_entries)
 
 some_entries : (R : List ℕ → List Ratio → Type 0) (ps : List (List ℕ))
     → ((p : List ℕ) → Has ps p → (row : List Ratio) × R p row) → (es : List Entry)
@@ -53,26 +46,46 @@ some_entries R (p ∷ ps) rows =
       (row.1, others.2),
     )
 
--- a form exists exactly when there are right payoffs at each profile
-pub some_form_by : (labels : ℕ → List (List ℕ)) (R : List ℕ → List Ratio → Type 0) (g : Game)
-    → ((p : List ℕ) → Has (form_profiles labels g) p → (row : List Ratio) × R p row)
-    → (t : Table) × IsFormWith labels R g t
-some_form_by labels R g rows =
-    let es = some_entries R (form_profiles labels g) rows in (
-      record {
-        title = g.title;
-        comment = g.comment;
-        players = g.players;
-        strategies = map labels (players_of g);
-        entries = es.0;
-      },
-      grind arith,
-    )
+module _ (labels : ℕ → List (List ℕ)) (R : List ℕ → List Ratio → Type 0) (g : Game)
+    (ps : List (List ℕ)) (are : form_profiles labels g ≡ ps) where
+  -- if at most one row of payoffs is right at each profile, there is at most one form
+  pub one_form_by : ((p : List ℕ) → Contains ps p → (a b : List Ratio) → R p a → R p b → a ≡ b)
+      → (t u : Table) → IsFormWith labels R g t → IsFormWith labels R g u → t ≡ u
+  one_form_by one t u h k = grind (arith, same_entries, contains)
 
-pub rows_of_form : (labels : ℕ → List (List ℕ))
-    (R : List ℕ → List Ratio → Type 0) (g : Game) (t : Table) → IsFormWith labels R g t
-    → (p : List ℕ) → Has (form_profiles labels g) p → (row : List Ratio) × R p row
-rows_of_form labels R g t form p i = grind (arith, mapped_from, each, length-map, map_twice)
+  -- a form exists exactly when there are right payoffs at each profile
+  pub some_form_by : ((p : List ℕ) → Contains ps p → (row : List Ratio) × R p row)
+      → (t : Table) × IsFormWith labels R g t
+  some_form_by rows =
+      let es = some_entries R ps (λ p i. rows p (contains ps p i)) in (
+        record {
+          title = g.title;
+          comment = g.comment;
+          players = g.players;
+          strategies = map labels (players_of g);
+          entries = es.0;
+        },
+        grind arith,
+      )
+
+  pub rows_of_form : (t : Table) → IsFormWith labels R g t → (p : List ℕ) → Contains ps p
+      → (row : List Ratio) × R p row
+  rows_of_form t form p i =
+      let there = has ps p i in grind (arith, there, mapped_from, each, length-map, map_twice)
+
+  -- a form is a table if each player has a strategy, and rows that are right a payoff for each
+  pub table_by : ((player : ℕ) → 0 < length (labels player))
+      → ((p : List ℕ) (row : List Ratio) → Contains ps p → R p row
+      → length row ≡ length (players_of g))
+      → (t : Table) → IsFormWith labels R g t → IsTable t
+  table_by some each_row t form =
+      let lists = all_mapped (λ own. 0 < length own) labels (players_of g) some in
+      let right = λ (e : Entry) (i : Has t.entries e). each_row e.profile e.payoffs
+      (grind (arith, contains, has_map (λ (d : Entry). d.profile) t.entries e i))
+      (each (λ (d : Entry). R d.profile d.payoffs) t.entries e form.payoffs i) in
+      let all : length (players_of g) ≡ length t.players =
+      length-numbers_from 1 (length g.players) ∙ sym (ap length form.players) in
+      grind (arith, length-map, lists, all_images, all_of_each, right, all)
 
 -- ---- rows of payoffs
 
@@ -99,60 +112,33 @@ pub of_row : (g : Game) (choices : SetKey → ℕ) (row : List Ratio) (players :
 of_row g choices (paid ∷ row) (player ∷ players) h = grind (arith, of_row g choices row players h.1)
 of_row g choices row players h = grind arith
 
--- a row is right by other choices, in another game, with the same payoffs
-pub same_row : (g h : Game) (c d : SetKey → ℕ) (row : List Ratio) (players : List ℕ)
-    → ((player : ℕ) → payoff g c player ≡ payoff h d player)
-    → AllZip (λ paid player. IsFraction paid × IsEqual paid (payoff g c player)) row players
-    → AllZip (λ paid player. IsFraction paid × IsEqual paid (payoff h d player)) row players
-same_row g h c d row players same right =
-    subst (λ (pays : ℕ → Ratio).
-    AllZip (λ paid player. IsFraction paid × IsEqual paid (pays player)) row players)
-    (λ i player. same player i) right
-
 -- ---- the strategic form
-
-pub one_strategic_form : (g : Game) (t u : Table) → IsStrategicForm g t → IsStrategicForm g u
-    → t ≡ u
-one_strategic_form g =
-    one_form_by (strategy_labels g) (ArePayoffsAt g) g
-    (λ profile i a b. one_row g (choices_by g (strategies_at g profile)) a b (players_of g))
 
 pub all_profiles : (g : Game) → form_profiles (strategy_labels g) g ≡ full_profiles g
 all_profiles g = grind (arith, length-map, map_twice)
 
+pub one_strategic_form : (g : Game) (t u : Table) → IsStrategicForm g t → IsStrategicForm g u
+    → t ≡ u
+one_strategic_form g =
+    one_form_by (strategy_labels g) (ArePayoffsAt g) g (full_profiles g) (all_profiles g)
+    (λ profile i a b. one_row g (choices_by g (strategies_at g profile)) a b (players_of g))
+
 pub strategic_form_exists : (g : Game) → ((t : Table) × IsStrategicForm g t) ↔ PaysFractions g
 strategic_form_exists g = (
   λ form profile i.
-      let row = rows_of_form (strategy_labels g) (ArePayoffsAt g) g form.0 form.1 profile
-      (rw (all_profiles g) (has (full_profiles g) profile i)) in
+      let row = rows_of_form (strategy_labels g) (ArePayoffsAt g) g (full_profiles g)
+      (all_profiles g) form.0 form.1 profile i in
       of_row g (choices_by g (strategies_at g profile)) row.0 (players_of g) row.1,
-  λ pays. some_form_by (strategy_labels g) (ArePayoffsAt g) g (λ profile i.
-      row_of g (choices_by g (strategies_at g profile)) (players_of g)
-      (pays profile (contains (full_profiles g) profile (rw (all_profiles g) at i)))),
+  λ pays. some_form_by (strategy_labels g) (ArePayoffsAt g) g (full_profiles g) (all_profiles g)
+      (λ profile i. row_of g (choices_by g (strategies_at g profile)) (players_of g)
+      (pays profile i)),
 )
 
-pub as_many : {A B : Type 0} (R : A → B → Type 0) (xs : List A) (ys : List B) → AllZip R xs ys
-    → length xs ≡ length ys
-as_many R xs ys h = sym (AllZip-long R xs ys h)
-
-module _ (labels : ℕ → List (List ℕ)) (R : List ℕ → List Ratio → Type 0) (g : Game) (t : Table)
-    (form : IsFormWith labels R g t) where
-  as_players : length (players_of g) ≡ length t.players
-  as_players = length-numbers_from 1 (length g.players) ∙ sym (ap length form.players)
-
-  -- a form is a table if each player has a strategy, and each entry a payoff for each player
-  pub table_by : ((player : ℕ) → 0 < length (labels player))
-      → ((e : Entry) → Has t.entries e → length e.payoffs ≡ length (players_of g)) → IsTable t
-  table_by some each_row =
-      let lists = all_mapped (λ own. 0 < length own) labels (players_of g) some in
-      grind (arith, length-map, as_players, lists, all_images, all_of_each)
-
-pub form_is_table : (g : Game) → IsGame g → (t : Table) → IsStrategicForm g t → IsTable t
-form_is_table g game t form =
-    table_by (strategy_labels g) (ArePayoffsAt g) g t form
+pub form_is_table : (g : Game) (t : Table) → IsGame g → IsStrategicForm g t → IsTable t
+form_is_table g t game =
+    table_by (strategy_labels g) (ArePayoffsAt g) g (full_profiles g) (all_profiles g)
     (λ player. grind (arith, length-map, some_strategy))
-    (λ e i. as_many _ e.payoffs (players_of g)
-    (each (λ (d : Entry). ArePayoffsAt g d.profile d.payoffs) t.entries e form.payoffs i))
+    (λ p row i h. as_many _ row (players_of g) h) t
 
 -- what is passed on to the table
 pub ruleset table_steps = (length-map, IfOk-weaker)

@@ -1,21 +1,18 @@
 -- Games that are the same have the same payoffs, bottom-up values and forms, by pure and by reduced
 -- strategies, and none for the same reason.
-use Rattle.gf_form.proofs.Common.{carried_is_renumbered, AreReducedPayoffsAt, reduced_strategies, ℕ}
-use Rattle.gf_form.proofs.Common.{ReducedOverflowsAt, same_set_equality, HasReducedValues, same_set}
-use Rattle.gf_form.proofs.Common.{IsStrategicForm, strategy_labels, renumbered_node, InformationSet}
-use Rattle.gf_form.proofs.Common.{renumbered_set, strategy_label, IsFirstWithout, AllByRecursion}
-use Rattle.gf_form.proofs.Common.{reduced_labels, if◌then◌else◌, IsRenumbering, filter_of_map, List}
-use Rattle.gf_form.proofs.Common.{strategies_at, full_profiles, option_map_or, IsReducedForm, false}
-use Rattle.gf_form.proofs.Common.{reduced_label, ArePayoffsAt, is_relevant, same_choice, IsFraction}
-use Rattle.gf_form.proofs.Common.{Renumbering, player_sets, player_keys, all_of_each, renumbered}
-use Rattle.gf_form.proofs.Common.{same_tests, sets_apart, strategies, players_of, choices_by, plays}
-use Rattle.gf_form.proofs.Common.{IsFormWith, option_map, first_uses, reduced_at, reduced_by, arith}
-use Rattle.gf_form.proofs.Common.{HasValues, pointwise, Described, used_sets, map_twice, choice_at}
-use Rattle.gf_form.proofs.Common.{positions, SameGame, map_same, profiles, Contains, list_any, Some}
-use Rattle.gf_form.proofs.Common.{comes_to, IsEqual, flatten, IsValue, reduced, SetKey, IsGame, ◌≡◌}
-use Rattle.gf_form.proofs.Common.{payoff, length, AllZip, Ratio, subst, Table, refl, Node, Game, []}
-use Rattle.gf_form.proofs.Common.{held, Bool, true, None, ◌==◌, ◌&&◌, ◌||◌, Step, ◌∷◌, map, inl, ap}
-use Rattle.gf_form.proofs.Common.{inr, ◌↔◌, Has, ◌∙◌, zip, not}
+use Rattle.gf_form.proofs.Common
+use Common.{carried_is_renumbered, AreReducedPayoffsAt, reduced_strategies, ReducedOverflowsAt, ◌≡◌}
+use Common.{same_set_equality, HasReducedValues, IsStrategicForm, strategy_labels, renumbered_node}
+use Common.{InformationSet, renumbered_set, strategy_label, IsFirstWithout, AllByRecursion, IsEqual}
+use Common.{reduced_labels, if◌then◌else◌, IsRenumbering, filter_of_map, strategies_at, is_relevant}
+use Common.{full_profiles, IsReducedForm, reduced_label, ArePayoffsAt, same_choice, Renumbering, []}
+use Common.{player_sets, player_keys, all_of_each, IsFraction, renumbered, same_tests, sets_apart}
+use Common.{strategies, players_of, choices_by, IsFormWith, first_uses, reduced_at, reduced_by, ◌∷◌}
+use Common.{HasValues, pointwise, Described, used_sets, map_twice, choice_at, positions, same_set}
+use Common.{SameGame, map_same, profiles, Contains, list_any, comes_to, flatten, IsValue, reduced}
+use Common.{SetKey, IsGame, payoff, length, AllZip, plays, arith, Ratio, subst, Table, List, Some}
+use Common.{refl, Node, Game, held, Bool, None, ◌||◌, Step, map, inl, inr, ◌↔◌, Has, ◌∙◌, zip, ap}
+use Common.{ℕ}
 use Rattle.std.proofs.Math.Path.{subst₂, transport, transport⁻¹}
 use Rattle.gf_tree.specs.PrefixOrder.{Listed}
 use Rattle.gf_tree.proofs.lemmas.games.Carried.{entry_used}
@@ -173,26 +170,13 @@ module _ (g : Game) (r : Renumbering) (game : IsGame g) (is : IsRenumbering g r)
     abbrev d : SetKey → ℕ
     d key = choice_at (player_keys h player) strategy key
 
-    meets_carried : (key : SetKey) (n : Node) → Has (used_sets g.tree) key → HasUsed n
-        → option_map_or (same_set (renumbered_set r key)) (option_map (renumbered_set r) n.set)
-        false ≡ option_map_or (same_set key) n.set false
-    meets_carried key n used all = grind (arith, tests_carried)
-
-    own_carried : (owner taken : ℕ) (n : Node) → HasUsed n
-        → option_map_or (λ k. not (k.player == owner) || d k == taken)
-        (option_map (renumbered_set r) n.set) true
-        ≡ option_map_or (λ k. not (k.player == owner) || c k == taken) n.set true
-    own_carried owner taken n all = grind (arith, strategy_carried)
-
     comes_carried : (key : SetKey) → Has (used_sets g.tree) key → (steps : List Step)
         → OnSteps HasUsed steps
         → comes_to d (renumbered_set r key) (map (carried_step (renumbered_node r)) steps)
         ≡ comes_to c key steps
     comes_carried key used [] all = refl
     comes_carried key used (s ∷ steps) all =
-        λ i. meets_carried key s.node used all.0 i
-        || (own_carried key.player s.taken s.node all.0 i
-        && comes_carried key used steps all.1 i)
+        grind (arith, tests_carried, strategy_carried, comes_carried key used steps all.1)
 
     relevant_carried : (key : SetKey) → Has (used_sets g.tree) key
         → is_relevant h d (renumbered_set r key) ≡ is_relevant g c key

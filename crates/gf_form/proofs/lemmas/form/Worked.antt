@@ -5,7 +5,7 @@ use Rattle.gf_form.proofs.Common.{whole_fraction, strategies_at, full_profiles, 
 use Rattle.gf_form.proofs.Common.{overflowing, IsSpellable, IsFraction, choices_by, reduced_at, ◌≡◌}
 use Rattle.gf_form.proofs.Common.{reduced_by, balancing, unlikely, IsPaidAt, IsEqual, IsValue, true}
 use Rattle.gf_form.proofs.Common.{length, IsGame, ending, get_or, nat_lt, payoff, codes, arith, ◌∷◌}
-use Rattle.gf_form.proofs.Common.{Ratio, whole, value, ◌*ℤ◌, ◌++◌, refl, Game, pos, ◌+◌, ◌<◌, [], ℕ}
+use Rattle.gf_form.proofs.Common.{Ratio, whole, ◌*ℤ◌, ◌++◌, refl, Game, pos, ◌+◌, ◌<◌, [], ℕ}
 use Rattle.std.specs.Fmt.{digits}
 use Rattle.gf_fraction.specs.Computed.{gcd_within, lowest_of, number_of, sum_of, product_of}
 use Rattle.gf_token.specs.Indices.{index_of}

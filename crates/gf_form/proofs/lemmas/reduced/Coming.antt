@@ -1,36 +1,47 @@
 -- A set is relevant exactly when the choices come to it in the tree. So all sets are relevant of a
 -- player with one strategy, who has one action at each. And strategies that agree with the same
 -- plays reduce to the same one.
-use Rattle.gf_form.proofs.Common.{same_set_equality, sets_by_first_use, list_any-append, trees_come}
-use Rattle.gf_form.proofs.Common.{reduced_labels, strategy_label, AllByRecursion, InformationSet, ℕ}
-use Rattle.gf_form.proofs.Common.{get_or_default, option_map_or, is_own_choice, reduced_label, Game}
-use Rattle.gf_form.proofs.Common.{relevant_sets, action_counts, dvd-mul_right, if◌then◌else◌, arith}
-use Rattle.gf_form.proofs.Common.{AreFirstsOf, all_choices, MatchOption, HasChildren, flatten_all}
-use Rattle.gf_form.proofs.Common.{is_relevant, player_keys, player_sets, IsSpellable, plays_from}
-use Rattle.gf_form.proofs.Common.{length-map, strategies, option_map, tree_comes, get_or-map, subst}
-use Rattle.gf_form.proofs.Common.{false≢true, HasActions, cases_Bool, from_node, choice_at, has_map}
-use Rattle.gf_form.proofs.Common.{all_parts, of_filter, used_sets, and_parts, is_chosen, same_set}
-use Rattle.gf_form.proofs.Common.{comes_to, Contains, was_used, list_any, list_all, and_from, Trees}
-use Rattle.gf_form.proofs.Common.{eqb-true, contains, map_same, in_right, flatten, product, reduced}
-use Rattle.gf_form.proofs.Common.{in_left, get_or, Option, length, branch, SetKey, IsGame, set_at}
-use Rattle.gf_form.proofs.Common.{agrees, count, plays, false, Play, zero, Bool, true, List, Some}
-use Rattle.gf_form.proofs.Common.{None, refl, ◌||◌, ◌&&◌, Tree, none, more, Node, ◌==◌, Step, ◌≡◌}
-use Rattle.gf_form.proofs.Common.{◌+◌, ◌<◌, ◌∷◌, map, suc, ◌≤◌, sym, ◌∙◌, Has, ◌∣◌, inl, inr, ap}
-use Rattle.gf_form.proofs.Common.{[]}
+use Rattle.gf_form.proofs.Common
+use Common.{same_set_equality, sets_by_first_use, list_any-append, reduced_labels, strategy_label}
+use Common.{AllByRecursion, InformationSet, option_map_or, is_own_choice, reduced_label, plays_from}
+use Common.{relevant_sets, action_counts, dvd-mul_right, if◌then◌else◌, visit_handing, AreFirstsOf}
+use Common.{all_choices, MatchOption, HasChildren, flatten_all, is_relevant, player_keys, choice_at}
+use Common.{IsSpellable, descent_all, mapped_from, length-map, strategies, option_map, get_or-map}
+use Common.{false≢true, HasActions, cases_Bool, all_parts, of_filter, used_sets, and_parts, has_map}
+use Common.{is_chosen, from_node, same_set, comes_to, Contains, was_used, list_any, list_all, arith}
+use Common.{and_from, eqb-true, contains, map_same, in_right, choosing, flatten, product, reduced}
+use Common.{in_left, stop_at, descent, get_or, Option, length, branch, SetKey, IsGame, set_at, Game}
+use Common.{agrees, subst, Trees, count, plays, false, Play, Bool, true, List, Some, None, refl, ap}
+use Common.{◌&&◌, Tree, none, more, Node, ◌==◌, Step, Stop, ◌≡◌, ◌+◌, ◌<◌, ◌∷◌, map, suc, ◌≤◌, sym}
+use Common.{◌∙◌, Has, ◌∣◌, inl, inr, has, ◌*◌, [], ℕ}
 use Rattle.std.proofs.Math.Bool.{and-or_distrib_left}
-use Rattle.gf_form.proofs.lemmas.rows.GameDigits.{among}
-use Rattle.gf_form.proofs.lemmas.strategies.Lookups.{own_set, set_is, there}
+use Rattle.gf_form.proofs.lemmas.rows.MetNodes.{set_there}
+use Rattle.gf_form.proofs.lemmas.rows.GameDigits.{among_own, said_there}
+use Rattle.gf_form.proofs.lemmas.strategies.Lookups.{own_set, set_is, there, keys_distinct}
 use Rattle.gf_form.proofs.lemmas.reduced.Reducing.{first_play, is_chance, own_right, any_has}
 use Rattle.std.specs.List.{filter_map}
-use Rattle.gf_form.proofs.lemmas.strategies.Choices.{length-all_choices}
-use Rattle.gf_form.proofs.lemmas.strategies.Chosen.{his_actions, among_his}
+use Rattle.gf_form.proofs.lemmas.strategies.CountedActions.{sets_counted}
+use Rattle.gf_form.proofs.lemmas.strategies.Chosen.{his_actions}
 use Rattle.gf_form.proofs.lemmas.reduced.FirstStrategies.{reduced_shown_at, flags_fit}
-use Rattle.gf_tree.specs.PrefixOrder.{Listed}
-use Rattle.std.proofs.Math.Nat.{dvd-mul_left_of_dvd, eq-one_of_dvd-one}
+use Rattle.std.proofs.lemmas.List.Elements.{filter_map-append}
+use Rattle.std.proofs.lemmas.List.Folds.{Any-from_list_any}
+use Rattle.std.proofs.Math.Nat.{dvd-mul_left, eq-one_of_dvd-one}
 use Rattle.gf_form.proofs.lemmas.strategies.StrategiesByNumber.{whole_label}
-use Rattle.gf_form.proofs.lemmas.values.Following.{some_play_in, taken_child, play_of}
+use Rattle.gf_form.proofs.lemmas.values.Following.{some_play_in, taken_child, in_either}
 
-module _ (g : Game) (game : IsGame g) (choices : SetKey → ℕ) (key : SetKey) where
+-- the nodes of a tree that a walk meets by these choices of a player
+abbrev pub met_nodes : Game → (SetKey → ℕ) → ℕ → Tree Node → List (Stop ℕ)
+met_nodes g choices player t =
+    descent g (choosing visit_handing g (λ own. own.player == player) choices) 0 t
+
+some_child : (g : Game) → IsGame g → (own : SetKey) (m : ℕ) → option_map (λ set. length set.actions)
+    (set_at g own) ≡ Some m → 0 < m
+some_child g game own m c =
+    let set = set_there g own m c in
+    omega (arith, set.2, (set_is g game own set.0 set.1).some_action)
+
+module _ (g : Game) (game : IsGame g) (choices : SetKey → ℕ) (player : ℕ) (key : SetKey)
+    (his : key.player ≡ player) where
   -- some of these plays comes to the set so
   abbrev come : List Play → Bool
   come ps = list_any (λ p. comes_to choices key p.steps) ps
@@ -38,12 +49,8 @@ module _ (g : Game) (game : IsGame g) (choices : SetKey → ℕ) (key : SetKey) 
   abbrev is_here : Node → Bool
   is_here n = option_map_or (same_set key) n.set false
 
-  some_child : (own : SetKey) (ts : Trees Node) (o : Option InformationSet) → set_at g own ≡ o
-      → option_map (λ set. length set.actions) o ≡ Some (count ts) → 0 < count ts
-  some_child own ts None e c = absurd cc
-  some_child own ts (Some set) e c =
-      let same : length set.actions ≡ count ts = cc in
-      subst (λ n. 0 < n) same (set_is g game own set e).some_action
+  abbrev enters : Node → SetKey → ℕ → ℕ → ℕ → Option ℕ
+  enters = choosing visit_handing g (λ own. own.player == player) choices
 
   -- if the node belongs to the set, each play through it comes there
   any_here : (n : Node) (k : ℕ) (t : Tree Node) → is_here n ≡ true
@@ -62,130 +69,118 @@ module _ (g : Game) (game : IsGame g) (choices : SetKey → ℕ) (key : SetKey) 
   any_below n k (p ∷ ps) other =
       grind (arith, and-or_distrib_left, any_below n k ps other)
 
-  pub leaf_comes : (o : Option SetKey) → MatchOption o (count {N = Node} none ≡ 0)
-      (λ key. option_map (λ set. length set.actions) (set_at g key) ≡ Some (count {N = Node} none))
-      → false ≡ option_map_or (λ own. same_set key own || false) o false
-  leaf_comes None c = refl
-  leaf_comes (Some own) c =
-      absurd (omega (arith, some_child own none (set_at g own) refl c))
+  module _ (test : Stop ℕ → Bool) (tells : (n : Node) → test (stop_at g n 0) ≡ is_here n) where
+    node_comes_by : (n : Node) (ts : Trees Node) (o : Option SetKey)
+        (beneath : SetKey → List (Stop ℕ)) → n.set ≡ o → MatchOption o (count ts ≡ 0)
+        (λ own. option_map (λ set. length set.actions) (set_at g own) ≡ Some (count ts))
+        → ((own : SetKey) → n.set ≡ Some own → is_here n ≡ false
+        → come (plays_from n 1 ts) ≡ list_any test (beneath own))
+        → come (plays (branch n ts))
+        ≡ list_any test (stop_at g n 0 ∷ option_map_or beneath o [])
+    node_comes_by n none None beneath at c below = grind (arith, tells n)
+    node_comes_by n none (Some own) beneath at c below =
+        absurd (omega (arith, some_child g game own 0 c))
+    node_comes_by n (more t ts) None beneath at c below = absurd (omega (arith, c))
+    node_comes_by n (more t ts) (Some own) beneath at c below =
+        grind (arith, list_any-append, any_here n 1 t, tells n, below own at)
 
-  node_comes_by : (n : Node) (t : Tree Node) (ts : Trees Node) (o : Option SetKey) → n.set ≡ o
-      → MatchOption o (count (more t ts) ≡ 0)
-      (λ key. option_map (λ set. length set.actions) (set_at g key) ≡ Some (count (more t ts)))
-      → (is_here n ≡ false
-      → come (plays_from n 1 (more t ts)) ≡ trees_come choices key n 1 (more t ts))
-      → come (plays_from n 1 (more t ts))
-      ≡ option_map_or (λ own. same_set key own || trees_come choices key n 1 (more t ts)) o false
-  node_comes_by n t ts None at c below = absurd (omega (arith, c))
-  node_comes_by n t ts (Some own) at c below =
-      grind (arith, list_any-append, any_here)
+    mutual
+      comes_in : (t : Tree Node) → AllByRecursion (HasChildren g) (flatten t)
+          → come (plays t) ≡ list_any test (descent g enters 0 t)
+      comes_in (branch n ts) children = node_comes_by n ts n.set _ refl children.0
+          (λ own at other. come_in ts n own (count ts) 1 children.1 at other)
 
-  mutual
-    comes_in : (t : Tree Node) → AllByRecursion (HasChildren g) (flatten t)
-        → come (plays t) ≡ tree_comes choices key t
-    comes_in (branch n none) children = leaf_comes n.set children.0
-    comes_in (branch n (more t ts)) children =
-        node_comes_by n t ts n.set refl children.0 (come_in (more t ts) n 1 children.1)
+      come_in : (ts : Trees Node) (n : Node) (own : SetKey) (m k : ℕ)
+          → AllByRecursion (HasChildren g) (flatten_all ts) → n.set ≡ Some own
+          → is_here n ≡ false → come (plays_from n k ts)
+          ≡ list_any test (descent_all g enters (enters n own m 0) k ts)
+      come_in none n own m k children at other = refl
+      come_in (more t ts) n own m k children at other =
+          let both = all_parts (HasChildren g) (flatten t) (flatten_all ts) children in
+          let first = comes_in t both.0 in
+          let later = come_in ts n own m (k + 1) both.1 at other in
+          grind (arith, list_any-append, any_below n k (plays t) other, his)
 
-    come_in : (ts : Trees Node) (n : Node) (k : ℕ) → AllByRecursion (HasChildren g) (flatten_all ts)
-        → is_here n ≡ false
-        → come (plays_from n k ts)
-        ≡ trees_come choices key n k ts
-    come_in none n k children other = refl
-    come_in (more t ts) n k children other =
-        let both = all_parts (HasChildren g) (flatten t) (flatten_all ts) children in
-        let first = comes_in t both.0 in
-        let later = come_in ts n (k + 1) both.1 other in
-        grind (arith, list_any-append, any_below)
-
-  pub relevant_is : is_relevant g choices key ≡ tree_comes choices key g.tree
-  relevant_is = comes_in g.tree game.children
-
--- ---- one action at each set
-
-factor : (counts : List ℕ) (i : ℕ) → i < length counts → get_or counts i 0 ∣ product counts
-factor (n ∷ counts) zero less = dvd-mul_right n (product counts)
-factor (n ∷ counts) (suc i) less =
-    dvd-mul_left_of_dvd (get_or counts i 0) (factor counts i (omega (arith, less))) n
-factor [] i less = absurd (omega (arith, less))
+    pub relevant_is : is_relevant g choices key ≡ list_any test (met_nodes g choices player g.tree)
+    relevant_is = comes_in g.tree game.children
 
 -- ---- choices come to each set whose owner has one action at each of his
 
-abbrev is_there : SetKey → Listed Node → Bool
-is_there key e = option_map_or (same_set key) e.node.set false
-
-used_there : (key : SetKey) (es : List (Listed Node))
-    → list_any (is_there key) es ≡ list_any (same_set key) (filter_map (λ e. e.node.set) es)
-used_there key [] = refl
-used_there key (e ∷ es) = grind (arith, used_there key es)
-
-no_child : (key : SetKey) (ts : Trees Node) → count ts ≡ 0
-    → list_any (is_there key) (flatten_all ts) ≡ false
-no_child key none c = refl
-no_child key (more t ts) c = absurd (omega (arith, c))
-
-module _ (g : Game) (choices : SetKey → ℕ) (key : SetKey)
-    (one : (own : SetKey) (set : InformationSet) → own.player ≡ key.player → set_at g own ≡ Some set
+module _ (g : Game) (choices : SetKey → ℕ) (player : ℕ) (key : SetKey)
+    (one : (own : SetKey) (set : InformationSet) → own.player ≡ player → set_at g own ≡ Some set
     → (length set.actions ≡ 1) × (choices own ≡ 1)) where
-  abbrev IsChosen : Node → ℕ → Type 0
-  IsChosen n k = is_own_choice choices key.player (record { node = n; taken = k }) ≡ true
+  abbrev is_there : Stop ℕ → Bool
+  is_there v = option_map_or (same_set key) v.node.set false
 
-  chosen_child : (n : Node) (own : SetKey) (m : ℕ) → n.set ≡ Some own
+  abbrev entered : Node → SetKey → ℕ → ℕ → ℕ → Option ℕ
+  entered = choosing visit_handing g (λ own. own.player == player) choices
+
+  chosen_child : (n : Node) (own : SetKey) (m k : ℕ)
       → option_map (λ set. length set.actions) (set_at g own) ≡ Some m
-      → (k : ℕ) → 1 ≤ k → k ≤ m → IsChosen n k
-  chosen_child n own m at known k above within = grind arith
+      → 1 ≤ k → k ≤ m → entered n own m 0 k ≡ Some 0
+  chosen_child n own m k known above within = grind arith
 
-  node_comes : (n : Node) (ts : Trees Node) (o : Option SetKey) → n.set ≡ o
-      → MatchOption o (count ts ≡ 0)
+  node_comes : (n : Node) (ts : Trees Node) (o : Option SetKey)
+      (beneath : SetKey → List (Stop ℕ)) → n.set ≡ o → MatchOption o (count ts ≡ 0)
       (λ own. option_map (λ set. length set.actions) (set_at g own) ≡ Some (count ts))
-      → (((k : ℕ) → 1 ≤ k → k < 1 + count ts → IsChosen n k)
-      → trees_come choices key n 1 ts ≡ list_any (is_there key) (flatten_all ts))
-      → option_map_or (λ own. same_set key own || trees_come choices key n 1 ts) o false
-      ≡ (option_map_or (same_set key) o false || list_any (is_there key) (flatten_all ts))
-  node_comes n ts None at c below = sym (no_child key ts c)
-  node_comes n ts (Some own) at c below =
-      grind (arith, chosen_child)
+      → ((own : SetKey)
+      → option_map (λ set. length set.actions) (set_at g own) ≡ Some (count ts)
+      → list_any is_there (beneath own)
+      ≡ list_any (same_set key) (filter_map (λ e. e.node.set) (flatten_all ts)))
+      → list_any is_there (stop_at g n 0 ∷ option_map_or beneath o [])
+      ≡ list_any (same_set key) (used_sets (branch n ts))
+  node_comes n none None beneath at c below = grind arith
+  node_comes n (more t ts) None beneath at c below = absurd (omega (arith, c))
+  node_comes n ts (Some own) beneath at c below = grind (arith, below own c)
 
   mutual
     comes_where : (t : Tree Node) → AllByRecursion (HasChildren g) (flatten t)
-        → tree_comes choices key t ≡ list_any (is_there key) (flatten t)
-    comes_where (branch n ts) children =
-        node_comes n ts n.set refl children.0 (λ chosen. come_where ts n 1 chosen children.1)
+        → list_any is_there (met_nodes g choices player t) ≡ list_any (same_set key) (used_sets t)
+    comes_where (branch n ts) children = node_comes n ts n.set _ refl children.0 (λ own c.
+        come_where ts n own (count ts) 1 children.1 c (omega arith) (omega arith))
 
-    come_where : (ts : Trees Node) (n : Node) (k : ℕ)
-        → ((j : ℕ) → k ≤ j → j < k + count ts → IsChosen n j)
+    come_where : (ts : Trees Node) (n : Node) (own : SetKey) (m k : ℕ)
         → AllByRecursion (HasChildren g) (flatten_all ts)
-        → trees_come choices key n k ts ≡ list_any (is_there key) (flatten_all ts)
-    come_where none n k chosen children = refl
-    come_where (more t ts) n k chosen children =
+        → option_map (λ set. length set.actions) (set_at g own) ≡ Some m
+        → 1 ≤ k → k + count ts ≤ 1 + m
+        → list_any is_there (descent_all g entered (entered n own m 0) k ts)
+        ≡ list_any (same_set key) (filter_map (λ e. e.node.set) (flatten_all ts))
+    come_where none n own m k children known above within = refl
+    come_where (more t ts) n own m k children known above within =
         let both = all_parts (HasChildren g) (flatten t) (flatten_all ts) children in
-        let here = chosen k (omega arith) (omega arith) in
+        let here = chosen_child n own m k known above (omega (arith, within)) in
         let first = comes_where t both.0 in
-        let later = come_where ts n (k + 1)
-        (λ m above less. chosen m (omega (arith, above)) (omega (arith, less))) both.1 in
-        grind (arith, list_any-append)
+        let later =
+        come_where ts n own m (k + 1) both.1 known (omega arith) (omega (arith, within)) in
+        grind (arith, list_any-append, filter_map-append)
 
--- ---- the strategy
+-- ---- the only strategy
 
-one_alone : {A : Type 0} (xs : List A) (d : A) → length xs ≡ 1 → xs ≡ get_or xs 0 d ∷ []
-one_alone (x ∷ []) d e = refl
-one_alone xs d e = absurd (omega (arith, e))
+one_factor : (a b : ℕ) → a * b ≡ 1 → (a ≡ 1) × (b ≡ 1)
+one_factor a b e = (
+  eq-one_of_dvd-one (subst (λ n. a ∣ n) e (dvd-mul_right a b)),
+  eq-one_of_dvd-one (subst (λ n. b ∣ n) e (dvd-mul_left b a)),
+)
 
 all_one : (counts : List ℕ) (i : ℕ) → product counts ≡ 1 → i < length counts
     → get_or counts i 0 ≡ 1
-all_one counts i e less =
-    eq-one_of_dvd-one (subst (λ n. get_or counts i 0 ∣ n) e (factor counts i less))
+all_one (n ∷ counts) (suc i) e less =
+    all_one counts i (one_factor n (product counts) e).1 (omega (arith, less))
+all_one counts i e less = grind (arith, one_factor)
+
+-- it has the number of actions at each set
+only_choice : (counts : List ℕ) → product counts ≡ 1 → all_choices counts ≡ counts ∷ []
+only_choice [] e = refl
+only_choice (n ∷ counts) e =
+    let one = one_factor n (product counts) e in rw (one.0, only_choice counts one.1)
 
 module _ (g : Game) (game : IsGame g) (player : ℕ)
     (one : product (action_counts g player) ≡ 1) where
   abbrev only : List ℕ
-  only = get_or (all_choices (action_counts g player)) 0 []
+  only = action_counts g player
 
-  counted : length (strategies g player) ≡ 1
-  counted = length-all_choices (action_counts g player) ∙ one
-
-  only_there : Contains (strategies g player) only
-  only_there = grind (arith, counted, get_or_default)
+  alone : strategies g player ≡ only ∷ []
+  alone = only_choice only one
 
   used : (key : SetKey) → Has (player_keys g player) key → Has (used_sets g.tree) key
   used key i =
@@ -195,47 +190,41 @@ module _ (g : Game) (game : IsGame g) (player : ℕ)
       → set_at g own ≡ Some set
       → (length set.actions ≡ 1) × (choice_at (player_keys g player) only own ≡ 1)
   his_one own set same known =
-      let place = among (player_sets g own.player) own set (among_his g own ∙ known) in
-      let actions = all_one (action_counts g own.player) place.place in
-      let choice = his_actions g game only own set in
-      grind (arith, actions, choice, place.count, place.within, one, only_there, length-map)
+      let place = among_own g player own set same known in
+      let actions = all_one (action_counts g player) place.place one in
+      let choice = said_there (player_keys g player) only place.place own
+      (keys_distinct g game player) place.there in
+      grind (arith, actions, place.count, place.within, choice, length-map)
 
   all_relevant : (key : SetKey) → Has (player_keys g player) key
       → is_relevant g (choice_at (player_keys g player) only) key ≡ true
   all_relevant key i =
-      let his = (own_set g player key i).3 in
-      let choices = choice_at (player_keys g player) only in
-      relevant_is g game choices key
-      ∙ comes_where g choices key (λ own set same known. his_one own set (same ∙ his) known)
-      g.tree game.children
-      ∙ used_there key (flatten g.tree)
+      relevant_is g game (choice_at (player_keys g player) only) player key
+      (own_set g player key i).3 (is_there g (choice_at (player_keys g player) only) player key
+      his_one) (λ n. refl)
+      ∙ comes_where g (choice_at (player_keys g player) only) player key his_one g.tree
+      game.children
       ∙ any_has (same_set key) (used_sets g.tree) key (used key i)
       ((same_set_equality key key).1 refl)
 
   only_shown : reduced_label (reduced g player only) ≡ strategy_label only
   only_shown =
-      let some : 0 < length (strategies g player) = omega (arith, counted) in
+      let some : 0 < length (strategies g player) = omega (arith, ap length alone) in
       let keys = player_keys g player in
-      let fit = flags_fit g game player 0 some in
-      ap reduced_label (reduced_shown_at g game player 0 some)
+      let fit = rw alone at (flags_fit g game player 0 some) in
+      ap reduced_label (rw alone at (reduced_shown_at g game player 0 some))
       ∙ whole_label (relevant_sets g player only) only fit (λ k less.
-      let flags = length-map keys (is_relevant g (choice_at keys only)) in
-      let within : k < length keys = omega (arith, less, fit, flags) in
+      let within : k < length keys = omega (arith, less, sets_counted g player) in
       let none : SetKey = record { player = 0; number = 0 } in
       get_or-map (is_relevant g (choice_at keys only)) keys k none false within
       ∙ all_relevant (get_or keys k none) (there keys k none within))
 
-  alone : strategies g player ≡ only ∷ []
-  alone = one_alone (strategies g player) [] counted
-
   pub only_first : AreFirstsOf g (0 ∷ []) player
-  only_first =
-      grind (arith, alone, counted)
+  only_first = rw alone (refl, (omega arith, tt))
 
   pub only_label : map strategy_label (all_choices (action_counts g player)) ≡ reduced_labels g
       player
-  only_label =
-      grind (arith, alone, only_shown, only_first)
+  only_label = rw alone (λ i. sym only_shown i ∷ [])
 
 -- ---- a choice for everybody
 
@@ -249,18 +238,15 @@ module _ (g : Game) (game : IsGame g) (spellable : IsSpellable g) (player : ℕ)
   everybody key = if key.player == player then c key else 1
 
   everybody_acts : HasActions g everybody
-  everybody_acts key set is some = by_owner (key.player == player) refl
-    where
-      by_owner : (b : Bool) → (key.player == player) ≡ b
-          → (1 ≤ (if b then c key else 1)) × ((if b then c key else 1) ≤ length set.actions)
-      by_owner true e =
-          let own : key.player ≡ player = eqb-true key.player player e in
-          subst (λ p. (1 ≤ choice_at (player_keys g p) strategy key)
-          × (choice_at (player_keys g p) strategy key ≤ length set.actions))
-          own
-          (his_actions g game strategy key set
-          (subst (λ p. Contains (strategies g p) strategy) (sym own) his) is)
-      by_owner false e = let a = (set_is g game key set is).some_action in (omega arith, a)
+  everybody_acts key set is some = elim (cases_Bool (key.player == player)) [
+    | inl his_key ↦
+        let own : key.player ≡ player = eqb-true key.player player his_key in
+        let acts = his_actions g game strategy key set
+        (subst (λ (p : ℕ). Contains (strategies g p) strategy) (sym own) his) is in
+        rw his_key (subst (λ (p : ℕ). (1 ≤ choice_at (player_keys g p) strategy key)
+        × (choice_at (player_keys g p) strategy key ≤ length set.actions)) own acts)
+    | inr other ↦ rw other (omega arith, (set_is g game key set is).some_action)
+  ]
 
   steps_own : (steps : List Step) → list_all (is_chosen everybody) steps ≡ true
       → list_all (is_own_choice c player) steps ≡ true
@@ -291,62 +277,55 @@ module _ (g : Game) (game : IsGame g) (spellable : IsSpellable g) (player : ℕ)
     abbrev Goes : List Play → Type 0
     Goes ps = (p : Play) × Has ps p × Agrees p × Comes p
 
-    starts_here : (n : Node) (t : Tree Node) (ts : Trees Node)
-        → AllByRecursion (HasChildren g) (flatten (branch n (more t ts)))
-        → option_map_or (same_set key) n.set false ≡ true → Goes (plays (branch n (more t ts)))
-    starts_here n t ts children here =
-        let one = some_agrees (branch n (more t ts)) children in
-        let child = taken_child (more t ts) n 1 one.0 (play_of (more t ts) n 1 one.0 one.1) in
-        (one.0, one.1, one.2, subst Comes child.3 (grind arith))
-
-    behind : (n : Node) (k : ℕ) (ps : List Play)
-        → is_own_choice c player (record { node = n; taken = k }) ≡ true → Goes ps
-        → Goes (map (from_node n k) ps)
-    behind n k ps move one = (
-      from_node n k one.0,
-      has_map (from_node n k) ps one.0 one.1,
-      and_from _ _ move one.2,
-      grind arith,
-    )
-
-    wider : (ps all : List Play) → ((p : Play) → Has ps p → Has all p) → Goes ps → Goes all
-    wider ps all into one = (one.0, into one.0 one.1, one.2, one.3)
-
     mutual
-      goes_on : (t : Tree Node) → AllByRecursion (HasChildren g) (flatten t)
-          → tree_comes c key t ≡ true → Goes (plays t)
-      goes_on (branch n none) children h =
-          absurd (false≢true (leaf_comes g game c key n.set children.0 ∙ h))
-      goes_on (branch n (more t ts)) children h =
+      goes_on : (t : Tree Node) → AllByRecursion (HasChildren g) (flatten t) → (p : Play)
+          → Has (plays t) p → Comes p → Goes (plays t)
+      goes_on (branch n none) children p (inl e) comes =
+          absurd (false≢true (subst Comes (sym e) comes))
+      goes_on (branch n none) children p (inr i) comes = absurd i
+      goes_on (branch n (more t ts)) children p i comes =
           elim (cases_Bool (option_map_or (same_set key) n.set false)) [
-            | inl here ↦ starts_here n t ts children here
-            | inr later ↦ goes_on_in (more t ts) n 1 children.1 (grind arith)
+            | inl here ↦
+                let one = some_agrees (branch n (more t ts)) children in
+                let child = taken_child (more t ts) n 1 one.0 one.1 in
+                (one.0, one.1, one.2, subst Comes child.3 (grind arith))
+            | inr other ↦
+                goes_on_in (more t ts) n 1 children.1 other p i comes
           ]
 
       goes_on_in : (ts : Trees Node) (n : Node) (k : ℕ)
-          → AllByRecursion (HasChildren g) (flatten_all ts) → trees_come c key n k ts ≡ true
-          → Goes (plays_from n k ts)
-      goes_on_in none n k children h = absurd (false≢true h)
-      goes_on_in (more t ts) n k children h =
+          → AllByRecursion (HasChildren g) (flatten_all ts)
+          → option_map_or (same_set key) n.set false ≡ false → (p : Play)
+          → Has (plays_from n k ts) p → Comes p → Goes (plays_from n k ts)
+      goes_on_in none n k children other p i comes = absurd i
+      goes_on_in (more t ts) n k children other p i comes =
           let both = all_parts (HasChildren g) (flatten t) (flatten_all ts) children in
-          let step : Step = record { node = n; taken = k } in
-          elim (cases_Bool (is_own_choice c key.player step && tree_comes c key t)) [
+          elim (in_either (map (from_node n k) (plays t)) (plays_from n (k + 1) ts) p i) [
             | inl here ↦
-                let move = and_parts (is_own_choice c key.player step) (tree_comes c key t) here in
-                wider (map (from_node n k) (plays t)) (plays_from n k (more t ts))
-                (λ q j. in_left (map (from_node n k) (plays t)) (plays_from n (k + 1) ts) q j)
-                (behind n k (plays t)
-                (subst (λ (p : ℕ). is_own_choice c p step ≡ true) own move.0)
-                (goes_on t both.0 move.1))
+                let below = mapped_from (from_node n k) (plays t) p here in
+                let step : Step = record { node = n; taken = k } in
+                let move = and_parts (is_own_choice c key.player step)
+                (comes_to c key below.0.steps) (rw other at (subst Comes (sym below.2) comes)) in
+                let one = goes_on t both.0 below.0 below.1 move.1 in (
+                  from_node n k one.0,
+                  in_left (map (from_node n k) (plays t)) (plays_from n (k + 1) ts)
+                      (from_node n k one.0) (has_map (from_node n k) (plays t) one.0 one.1),
+                  and_from _ _ (subst (λ (q : ℕ). is_own_choice c q step ≡ true) own move.0) one.2,
+                  rw other (and_from _ _ move.0 one.3),
+                )
             | inr later ↦
-                wider (plays_from n (k + 1) ts) (plays_from n k (more t ts))
-                (λ q j. in_right (map (from_node n k) (plays t)) (plays_from n (k + 1) ts) q j)
-                (goes_on_in ts n (k + 1) both.1 (grind arith))
+                let one = goes_on_in ts n (k + 1) both.1 other p later comes in (
+                  one.0,
+                  in_right (map (from_node n k) (plays t)) (plays_from n (k + 1) ts) one.0 one.1,
+                  one.2,
+                  one.3,
+                )
           ]
 
     pub passing_play : is_relevant g c key ≡ true → Goes (plays g.tree)
     passing_play relevant =
-        goes_on g.tree game.children (sym (relevant_is g game c key) ∙ relevant)
+        let one = Any-from_list_any (λ p. comes_to c key p.steps) (plays g.tree) relevant in
+        goes_on g.tree game.children one.1 (has (plays g.tree) one.1 (one.0, one.2, one.3)) one.4
 
 -- ---- strategies that agree with the same plays
 

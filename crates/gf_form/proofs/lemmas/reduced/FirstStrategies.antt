@@ -1,43 +1,39 @@
 -- The first of the strategies that reduce to the same one: it has the first action wherever no
 -- choice matters. And the profiles of first strategies are those of the reduced form, in its order.
 use Rattle.std.proofs.lemmas.List.Sums.{count_by-le-length, length-filter}
-use Rattle.gf_form.proofs.Common.{AreReducedPayoffsAt, unwrap_or-slice_get, false_from_ne_true, Vec}
-use Rattle.gf_form.proofs.Common.{reduced_strategies, ReducedOverflowsAt, same_set_equality, Global}
-use Rattle.gf_form.proofs.Common.{AreProfileNumbers, numbered_profiles, mul-le-mul_right, AreInTurn}
-use Rattle.gf_form.proofs.Common.{reduced_profiles, HasReducedValues, length-profiles, numbers_from}
-use Rattle.gf_form.proofs.Common.{numbers_joined, AllByRecursion, is_relevant_at, get_or_default, ℕ}
-use Rattle.gf_form.proofs.Common.{length-take-le, reduced_labels, IsFirstWithout, if◌then◌else◌, []}
-use Rattle.gf_form.proofs.Common.{relevant_sets, action_counts, profile_limit, IsReducedForm, false}
-use Rattle.gf_form.proofs.Common.{full_profiles, strategies_at, ArePayoffsAt, on_ok_weaker, product}
-use Rattle.gf_form.proofs.Common.{player_keys, AreDistinct, mapped_from, is_relevant, same_choice}
-use Rattle.gf_form.proofs.Common.{get_or-take, AllZip-long, AreFirstsOf, strategy_at, IfOk-weaker}
-use Rattle.gf_form.proofs.Common.{length-map, map-append, first_uses, strategies, AreFoundTo, subst}
-use Rattle.gf_form.proofs.Common.{mul-le-mul, get_or-map, IsFraction, all_weaker, reduced_at, arith}
-use Rattle.gf_form.proofs.Common.{reduced_by, IsFormWith, players_of, choices_by, pointwise, Option}
-use Rattle.gf_form.proofs.Common.{choice_at, ArePicked, IsProfile, AreRowsAt, HasValues, list_any}
-use Rattle.gf_form.proofs.Common.{map_same, contains, take-suc, all_both, numbered, AreBelow, shown}
-use Rattle.gf_form.proofs.Common.{IsPicked, Contains, profiles, IsPaidAt, has_map, reduced, add-one}
-use Rattle.gf_form.proofs.Common.{IsFirst, full_at, IsValue, length, get_or, SetKey, IsGame, AllZip}
-use Rattle.gf_form.proofs.Common.{Ratio, Table, zero, Bool, true, List, ◌++◌, Some, None, take, ◌≡◌}
-use Rattle.gf_form.proofs.Common.{refl, Game, suc, ◌+◌, ◌-◌, ◌*◌, ◌<◌, ◌≤◌, ◌∷◌, map, set, sym, ◌∙◌}
-use Rattle.gf_form.proofs.Common.{has, not, ◌↔◌, zip, ap}
-use Rattle.gf_tree.proofs.lemmas.stores.KnownKeys.{used_before, known_more, more_known}
+use Rattle.gf_form.proofs.Common
+use Common.{AreReducedPayoffsAt, unwrap_or-slice_get, false_from_ne_true, reduced_strategies, false}
+use Common.{ReducedOverflowsAt, same_set_equality, AreProfileNumbers, numbered_profiles, length-map}
+use Common.{mul-le-mul_right, reduced_profiles, HasReducedValues, length-profiles, numbers_joined}
+use Common.{AllByRecursion, is_relevant_at, get_or_default, length-take-le, reduced_labels, product}
+use Common.{IsFirstWithout, if◌then◌else◌, relevant_sets, action_counts, profile_limit, player_keys}
+use Common.{IsReducedForm, full_profiles, numbers_from, ArePayoffsAt, on_ok_weaker, AreDistinct, []}
+use Common.{is_relevant, same_choice, get_or-take, AllZip-long, AreFirstsOf, strategy_at, AreInTurn}
+use Common.{IfOk-weaker, length-take, map-append, first_uses, strategies, AreFoundTo, mul-le-mul, ℕ}
+use Common.{get_or-map, all_weaker, reduced_at, reduced_by, IsFormWith, players_of, pointwise, zero}
+use Common.{choice_at, ArePicked, IsProfile, AreRowsAt, HasValues, list_any, map_same, all_both, ap}
+use Common.{numbered, AreBelow, IsPicked, Contains, profiles, IsPaidAt, reduced, add-one, IsFirst}
+use Common.{full_at, Global, Option, length, get_or, SetKey, IsGame, AllZip, subst, arith, shown}
+use Common.{Ratio, Table, Bool, true, List, ◌++◌, Some, None, take, refl, Game, Vec, ◌≡◌, suc, ◌+◌}
+use Common.{◌-◌, ◌*◌, ◌<◌, ◌≤◌, ◌∷◌, map, set, sym, ◌∙◌, ◌↔◌, zip}
+use Rattle.gf_tree.proofs.lemmas.stores.KnownKeys.{known_more, more_known}
 use Rattle.gf_form.proofs.lemmas.strategies.Choices.{choice_length, at_its_place, are_choices}
 use Rattle.gf_form.proofs.lemmas.strategies.Choices.{IsChoice, place_at, place}
-use Rattle.gf_form.proofs.lemmas.strategies.Lookups.{keys_distinct, own_set, strategy_before}
-use Rattle.gf_form.proofs.lemmas.strategies.Lookups.{first_alike, zip_weaker, all_alike, all_right}
-use Rattle.gf_form.proofs.lemmas.reduced.ReducedForms.{some_reduced_strategy, choices_equality}
-use Rattle.gf_form.proofs.lemmas.reduced.ReducedForms.{same_row}
-use Rattle.gf_form.proofs.lemmas.reduced.Reducing.{relevance_same, reduced_value, any_has}
+use Rattle.gf_form.proofs.lemmas.strategies.Lookups.{keys_distinct, strategy_before}
+use Rattle.gf_form.proofs.lemmas.strategies.Lookups.{first_alike, all_alike, all_right}
+use Rattle.gf_form.proofs.lemmas.reduced.ReducedForms.{choices_equality}
+use Rattle.gf_form.proofs.lemmas.reduced.Reducing.{reduced_same, same_values, same_row}
+use Rattle.std.proofs.lemmas.List.{take-map, take_more}
+use Rattle.std.proofs.lemmas.List.Folds.{Any-from_list_any, list_any_at}
+use Rattle.gf_tree.proofs.lemmas.games.Uses.{IsEquality}
 use Rattle.gf_form.proofs.lemmas.strategies.StrategiesByNumber.{all_at}
 use Rattle.gf_nfg.specs.Table.{Entry}
 use Rattle.gf_form.specs.inner.reduced.Firsts.{AreFirsts}
 use Rattle.gf_form.proofs.lemmas.strategies.CountedActions.{strategies_positive, product_positive}
 use Rattle.gf_form.proofs.lemmas.strategies.CountedActions.{strategy_counts, as_many_players}
-use Rattle.gf_form.proofs.lemmas.strategies.CountedActions.{all_counted}
-use Rattle.gf_form.proofs.lemmas.form.FormMade.{row_fractions, full_row}
+use Rattle.gf_form.proofs.lemmas.strategies.CountedActions.{all_counted, sets_counted}
 use Rattle.gf_nfg.proofs.lemmas.tables.Profiles.{are_profiles}
-use Rattle.gf_form.proofs.lemmas.rows.RowsMade.{zip_more}
+use Rattle.std.proofs.lemmas.Slice.Zip.{all_zipped_more}
 
 -- ---- first uses
 
@@ -46,6 +42,40 @@ fewer_uses : {K : Type 0} (same : K → K → Bool) (ks : List K)
 fewer_uses same [] = omega arith
 fewer_uses same (k ∷ ks) =
     grind (arith, length-filter, count_by-le-length, fewer_uses same ks)
+
+-- one key more
+module _ {K : Type 0} (same : K → K → Bool) (tells : IsEquality same) (ks : List K) (i : ℕ) (d : K)
+    (less : i < length ks) where
+  one_more : (b : Bool) → list_any (same (get_or ks i d)) (take i ks) ≡ b
+      → first_uses same (take (i + 1) ks)
+      ≡ more_known same tells b (first_uses same (take i ks)) (get_or ks i d)
+  one_more b used =
+      ap (first_uses same) (take_more ks i d less)
+      ∙ known_more same tells (take i ks) (get_or ks i d)
+      ∙ ap (λ b. more_known same tells b (first_uses same (take i ks)) (get_or ks i d)) used
+
+  -- that was used before
+  used_again : (m : ℕ) → m < i → get_or ks m d ≡ get_or ks i d
+      → first_uses same (take (i + 1) ks) ≡ first_uses same (take i ks)
+  used_again m early is =
+      one_more true (list_any_at (same (get_or ks i d)) (take i ks) m d
+      (omega (arith, early, less, length-take-le i ks (omega (arith, less))))
+      ((tells _ (get_or (take i ks) m d)).1 (sym is ∙ sym (get_or-take i ks m d early))))
+
+  -- that was not
+  used_first : ((m : ℕ) → m < i → ¬ (get_or ks m d ≡ get_or ks i d))
+      → first_uses same (take (i + 1) ks) ≡ first_uses same (take i ks) ++ get_or ks i d ∷ []
+  used_first new =
+      one_more false
+      (grind (
+        arith,
+        false_from_ne_true,
+        Any-from_list_any,
+        get_or-take,
+        get_or_default,
+        length-take,
+        tells,
+      ))
 
 -- ---- strategies by flags
 
@@ -88,7 +118,6 @@ place_upto (n ∷ counts) (f ∷ fs) (g ∷ gs) (a ∷ s) (b ∷ t) ef eg hs ht 
     let later = place_upto counts fs gs s t (omega (arith, ef)) (omega (arith, eg)) hs.1 ht.1
     (λ k less. first (suc k) (omega (arith, less))) (grind arith) in
     omega (arith, up, later)
-place_upto [] fs gs [] [] ef eg hs ht first e = omega arith
 place_upto counts fs gs s t ef eg hs ht first e = grind arith
 
 -- what is shown, by keys
@@ -96,11 +125,10 @@ shown_by : (relevant : SetKey → Bool) (keys : List SetKey) (s : List ℕ) → 
     → length keys ≡ length s
     → map (λ key. if relevant key then Some (choice_at keys s key) else None) keys
     ≡ shown (map relevant keys) s
-shown_by relevant [] s d e = refl
-shown_by relevant (k ∷ keys) [] d e = absurd (omega (arith, e))
 shown_by relevant (k ∷ keys) (a ∷ s) d e =
     let others = shown_by relevant keys s d.1 (omega (arith, e)) in
     grind (arith, others, same_set_equality, false_from_ne_true, map_same)
+shown_by relevant keys s d e = grind arith
 
 -- ---- the strategies of a player
 
@@ -114,15 +142,9 @@ module _ (g : Game) (game : IsGame g) (player : ℕ) where
   abbrev all : List (List ℕ)
   all = strategies g player
 
-  keys_counted : length keys ≡ length counts
-  keys_counted = grind (arith, length-map)
-
   flags_counted : (s : List ℕ) → length (relevant_sets g player s) ≡ length counts
-  flags_counted s = length-map keys (is_relevant g (choice_at keys s)) ∙ keys_counted
-
-  -- no more than all strategies
-  pub fewer_reduced : length (reduced_strategies g player) ≤ length all
-  fewer_reduced = grind (arith, fewer_uses, length-map)
+  flags_counted s =
+      length-map keys (is_relevant g (choice_at keys s)) ∙ sym (sets_counted g player)
 
   module _ (n : ℕ) (less : n < length all) where
     abbrev s : List ℕ
@@ -139,7 +161,7 @@ module _ (g : Game) (game : IsGame g) (player : ℕ) where
     pub reduced_shown_at : reduced g player s ≡ shown (relevant_sets g player s) s
     reduced_shown_at =
         shown_by (is_relevant g (choice_at keys s)) keys s (keys_distinct g game player)
-        (keys_counted ∙ sym (choice_length counts s is_choice))
+        (sym (sets_counted g player) ∙ sym (choice_length counts s is_choice))
 
   -- an earlier strategy reduces alike
   abbrev pub IsRepeated : ℕ → Type 0
@@ -156,20 +178,11 @@ module _ (g : Game) (game : IsGame g) (player : ℕ) where
       let first = first_there counts own q choice
       (omega (arith, among, choice_length counts own choice)) other in
       let at = at_its_place counts (set own q 1) first.0 in
-      let same = choice_kept (is_relevant g (choice_at keys own)) keys own q in
-      let relevant = relevance_same g player (choice_at keys own) (choice_at keys (set own q 1))
-      (λ key r. same key (omega (arith, among, keys_counted)) flag r) in (
+      let same = choice_kept (is_relevant g (choice_at keys own)) keys own q in (
         place counts (set own q 1),
         omega (arith, first.1, place_at counts n less),
-        ap (reduced g player) at.1
-            ∙ sym (map_same
-            (λ key. if is_relevant g (choice_at keys own) key then Some (choice_at keys own key)
-            else None)
-            (λ key. if is_relevant g (choice_at keys (set own q 1)) key
-            then Some (choice_at keys (set own q 1) key) else None)
-            keys
-            (λ key i. let r = relevant key (own_set g player key i).3 in
-            let e = same key (omega (arith, among, keys_counted)) flag in grind arith)),
+        ap (reduced g player) at.1 ∙ sym (reduced_same g player own (set own q 1)
+            (λ key his r. same key (omega (arith, among, sets_counted g player)) flag r)),
       )
 
   -- none does if it is a first one
@@ -180,12 +193,7 @@ module _ (g : Game) (game : IsGame g) (player : ℕ) where
       (relevant_sets g player (numbered g player m)) (numbered g player n) (numbered g player m)
       (flags_counted (numbered g player n)) (flags_counted (numbered g player m))
       (is_choice n within) (is_choice m less)
-      (λ k inside. first k (omega (
-        arith,
-        inside,
-        flags_counted (numbered g player n),
-        keys_counted,
-      )))
+      (λ k inside. first k (omega (arith, inside, flags_counted (numbered g player n))))
       (sym (reduced_shown_at n within) ∙ sym e ∙ reduced_shown_at m less) in
       omega (arith, before, place_at counts n within, place_at counts m less)
 
@@ -197,75 +205,44 @@ module _ (g : Game) (game : IsGame g) (player : ℕ) where
   in_turn_more (n ∷ numbers) i within h =
       grind (arith, all_both, in_turn_more numbers i within.1 h.1)
 
-  wider : (i : ℕ) (numbers : List ℕ) → AllByRecursion (λ number. number < i) numbers
-      → AllByRecursion (λ number. number < i + 1) numbers
-  wider i [] h = tt
-  wider i (n ∷ numbers) h = (omega (arith, h.0), wider i numbers h.1)
+  wider : (numbers : List ℕ) (i : ℕ) → AllByRecursion (λ n. n < i) numbers
+      → AllByRecursion (λ n. n < i + 1) numbers
+  wider numbers i =
+      all_weaker (λ n. n < i) (λ n. n < i + 1) (λ n before. omega (arith, before)) numbers
 
-  abbrev images : ℕ → List (List (Option ℕ))
-  images i = map (reduced g player) (take i all)
+  abbrev images : List (List (Option ℕ))
+  images = map (reduced g player) all
 
-  one_more : (i : ℕ) → i < length all → (b : Bool)
-      → list_any (pointwise same_choice (reduced g player (numbered g player i))) (images i) ≡ b
-      → first_uses (pointwise same_choice) (images (i + 1))
-      ≡ more_known (pointwise same_choice) choices_equality b
-      (first_uses (pointwise same_choice) (images i)) (reduced g player (numbered g player i))
-  one_more i less b used =
-      ap (λ (n : ℕ). first_uses (pointwise same_choice) (images n)) (add-one i)
-      ∙ ap (λ (xs : List (List ℕ)). first_uses (pointwise same_choice) (map (reduced g player) xs))
-      (take-suc all i [] less)
-      ∙ ap (first_uses (pointwise same_choice))
-      (map-append (reduced g player) (take i all) (numbered g player i ∷ []))
-      ∙ known_more (pointwise same_choice) choices_equality (images i)
-      (reduced g player (numbered g player i))
-      ∙ ap (λ b. more_known (pointwise same_choice) choices_equality b
-      (first_uses (pointwise same_choice) (images i)) (reduced g player (numbered g player i))) used
+  image_at : (n : ℕ) → n < length all
+      → get_or images n [] ≡ reduced g player (numbered g player n)
+  image_at n less = get_or-map (reduced g player) all n [] [] less
 
   pub first_left : (numbers : List ℕ) (i : ℕ) → i < length all → AreFoundTo g player numbers i
       → IsRepeated i → AreFoundTo g player numbers (i + 1)
-  first_left numbers i less h again = record {
-    are = h.are ∙ sym (one_more i less true
-        (any_has (pointwise same_choice (reduced g player (numbered g player i))) (images i)
-        (reduced g player (numbered g player again.0))
-        (has_map (reduced g player) (take i all) (numbered g player again.0)
-        (has (take i all) (numbered g player again.0) (
-          again.0,
-          omega (arith, again.1, less, length-take-le i all (omega (arith, less))),
-          grind (arith, get_or-take, get_or_default, again.1),
-        )))
-        ((choices_equality _ _).1 (sym again.2))));
-    within = wider i numbers h.within;
-    ordered = h.ordered;
-  }
+  first_left numbers i less h again =
+      let early : again.0 < length all = omega (arith, again.1, less) in
+      let left = used_again (pointwise same_choice) choices_equality images i []
+      (omega (arith, less, length-map all (reduced g player))) again.0 again.1
+      (image_at again.0 early ∙ again.2 ∙ sym (image_at i less)) in record {
+        are = h.are ∙ sym (simp take-map at left);
+        within = wider numbers i h.within;
+        ordered = h.ordered;
+      }
 
   pub first_kept : (numbers next : List ℕ) (i : ℕ) → i < length all
       → AreFoundTo g player numbers i → IsFirst g player i → next ≡ numbers ++ i ∷ []
       → AreFoundTo g player next (i + 1)
-  first_kept numbers next i less h first is = record {
-    are = ap (map (λ n. reduced g player (numbered g player n))) is
-        ∙ map-append (λ n. reduced g player (numbered g player n)) numbers (i ∷ [])
-        ∙ ap (λ (rs : List (List (Option ℕ))). rs ++ reduced g player (numbered g player i) ∷ [])
-        h.are
-        ∙ sym (one_more i less false (false_from_ne_true _ unused));
-    within = grind (arith, all_both, wider, h.within);
-    ordered = rw is (in_turn_more numbers i h.within h.ordered);
-  }
-    where
-      unused : ¬ (list_any (pointwise same_choice (reduced g player (numbered g player i)))
-          (images i) ≡ true)
-      unused used =
-          let m = mapped_from (reduced g player) (take i all)
-          (reduced g player (numbered g player i))
-          (used_before (pointwise same_choice) choices_equality (images i)
-          (reduced g player (numbered g player i)) used) in
-          let at = contains (take i all) m.0 m.1 in
-          let early : at.0 < i =
-          omega (arith, at.1, length-take-le i all (omega (arith, less))) in
-          let is_there : numbered g player at.0 ≡ m.0 =
-          grind (arith, get_or-take, get_or_default, at.2) in
-          let upto = not_repeated i at.0 less (omega (arith, early, less)) first
-          (ap (reduced g player) is_there ∙ m.2) in
-          omega (arith, upto, early)
+  first_kept numbers next i less h first is =
+      let new = used_first (pointwise same_choice) choices_equality images i []
+      (omega (arith, less, length-map all (reduced g player))) (λ m early same.
+      let before : m < length all = omega (arith, early, less) in
+      let upto = not_repeated i m less before first
+      (sym (image_at m before) ∙ same ∙ image_at i less) in omega (arith, upto, early)) in
+      let kept = simp take-map at new in record {
+        are = grind (arith, kept, map-append, image_at i less, h.are);
+        within = grind (arith, all_both, wider, h.within);
+        ordered = rw is (in_turn_more numbers i h.within h.ordered);
+      }
 
   -- strategies that reduce like earlier ones are left out
   pub passed_by : (numbers : List ℕ) (i m : ℕ) → AreFoundTo g player numbers i
@@ -274,8 +251,7 @@ module _ (g : Game) (game : IsGame g) (player : ℕ) where
   passed_by numbers i zero h within again = grind arith
   passed_by numbers i (suc m) h within again =
       let next : i + m + 1 ≡ i + suc m = omega arith in
-      subst (AreFoundTo g player numbers) next
-      (first_left numbers (i + m) (omega (arith, within))
+      rw next at (first_left numbers (i + m) (omega (arith, within))
       (passed_by numbers i m h (omega (arith, within))
       (λ n from to. again n from (omega (arith, to))))
       (again (i + m) (omega arith) (omega arith)))
@@ -298,16 +274,16 @@ counted_of g (player ∷ players) (own ∷ firsts) h =
 counted_of g [] [] h = refl
 counted_of g players firsts h = grind arith
 
-fewer_of : (g : Game) → IsGame g → (players : List ℕ)
+fewer_of : (g : Game) (players : List ℕ)
     → product (map (λ player. length (reduced_strategies g player)) players)
     ≤ product (map (λ player. length (strategies g player)) players)
-fewer_of g game [] = omega arith
-fewer_of g game (player ∷ players) =
-    mul-le-mul (fewer_reduced g game player) (fewer_of g game players)
+fewer_of g [] = omega arith
+fewer_of g (player ∷ players) =
+    mul-le-mul (grind (arith, fewer_uses, length-map)) (fewer_of g players)
 
 -- no more profiles than those of all strategies
-pub fewer_profiles : (g : Game) → IsGame g → length (reduced_profiles g) ≤ length (full_profiles g)
-fewer_profiles g game = grind (arith, fewer_of, length-profiles, strategy_counts)
+pub fewer_profiles : (g : Game) → length (reduced_profiles g) ≤ length (full_profiles g)
+fewer_profiles g = grind (arith, fewer_of, length-profiles, strategy_counts)
 
 -- what the first players have
 abbrev pub HavePlayers : Game → ℕ → List (Vec ℕ Global) → List (List (List ℕ)) → Type 0
@@ -321,10 +297,7 @@ pub one_player_more : (g : Game) (place : ℕ) (firsts next : List (Vec ℕ Glob
     → names ≡ reduced_labels g (place + 1) → next ≡ firsts ++ own ∷ []
     → more ≡ labels ++ names ∷ [] → HavePlayers g (place + 1) next more
 one_player_more g place firsts next own labels more names h own_are names_are next_is more_is =
-    let numbers = numbers_joined 1 place 1 in (
-      grind (arith, numbers, zip_more, map-append),
-      grind (arith, numbers, map-append),
-    )
+    let numbers = numbers_joined 1 place 1 in grind (arith, numbers, all_zipped_more, map-append)
 
 -- ---- what profiles reduce to
 
@@ -338,54 +311,45 @@ reduces g (player ∷ players) (own ∷ firsts) (s ∷ profile) h k =
     let all = strategies g player in
     let number = get_or own (s - 1) 0 in
     let within : s - 1 < length own = omega (arith, k.0.0, k.0.1) in
-    let strategy : strategy_at all (number + 1) ≡ get_or all number [] =
-    ap (strategy_at all) (add-one number) ∙ unwrap_or-slice_get all number [] in
-    let first : reduced g player (strategy_at all (number + 1))
-    ≡ strategy_at (reduced_strategies g player) s =
-    ap (reduced g player) strategy
+    let first =
+    ap (reduced g player)
+    (ap (strategy_at all) (add-one number) ∙ unwrap_or-slice_get all number [])
     ∙ sym (get_or-map (λ number. reduced g player (get_or all number [])) own (s - 1) 0 [] within)
     ∙ ap (λ (rs : List (List (Option ℕ))). get_or rs (s - 1) []) h.0.0
     ∙ sym (strategy_before (reduced_strategies g player) s k.0.0) in
     λ i. first i ∷ reduces g players firsts profile h.1 k.1 i
 reduces g players firsts profile h k = grind arith
 
--- ---- their numbers among all profiles
+-- ---- the profiles of first strategies
 
--- the profile with the number reduces to this one
-record Reduces (g : Game) (profile : List ℕ) (number : ℕ) : Type 0 where
-  there : Contains (full_profiles g) (get_or (full_profiles g) number [])
-  is : reduced_by g (get_or (full_profiles g) number []) ≡ reduced_at g profile
+-- the full profile reduces to this one
+record Reduces (g : Game) (full profile : List ℕ) : Type 0 where
+  there : Contains (full_profiles g) full
+  is : reduced_by g full ≡ reduced_at g profile
 
--- the player has a bottom-up value at the profile
-abbrev HasValueAt : Game → List ℕ → ℕ → Type 0
-HasValueAt g profile player =
-    (value : Ratio) × IsValue g (choices_by g (strategies_at g profile)) player g.tree value
+-- these full profiles, in place of those that they reduce to
+paid_over : (g : Game) (fulls ps : List (List ℕ)) (rows : List (List Ratio))
+    → AllZip (Reduces g) fulls ps
+    → AllZip (ArePayoffsAt g) fulls rows → AllZip (IsPaidAt g) ps rows
+paid_over g (full ∷ fulls) (profile ∷ ps) (row ∷ rows) h k = (
+  record { full = full; there = h.0.there; reduces = h.0.is; paid = k.0 },
+  paid_over g fulls ps rows h.1 k.1,
+)
+paid_over g fulls ps rows h k = grind arith
 
-values_too : (g : Game) (p q : List ℕ) → Contains (full_profiles g) p
-    → Contains (full_profiles g) q → reduced_by g p ≡ reduced_by g q → HasValues g p → HasValues g q
-values_too g p q hp hq e values = all_weaker (HasValueAt g p) (HasValueAt g q)
-    (λ player h. (h.0, (reduced_value g player p q h.0 hp hq e).0 h.1)) (players_of g) values
+values_at : (g : Game) (full profile : List ℕ) → Reduces g full profile
+    → HasValues g full ↔ HasReducedValues g profile
+values_at g full profile h = (
+  λ values other there is. same_values g full other (h.is ∙ sym is) values,
+  λ values. values full h.there h.is,
+)
 
--- the profiles with these numbers, in place of those that they reduce to
-paid_over : (g : Game) (ps : List (List ℕ)) (numbers : List ℕ) (rows : List (List Ratio))
-    → AllZip (Reduces g) ps numbers → AllZip (ArePayoffsAt g) (numbered_profiles g numbers) rows
-    → AllZip (IsPaidAt g) ps rows
-paid_over g (profile ∷ ps) (number ∷ numbers) (row ∷ rows) h k =
-    grind (arith, reduces, paid_over g ps numbers rows h.1 k.1)
-paid_over g ps numbers rows h k = grind arith
-
-values_at : (g : Game) (profile : List ℕ) (number : ℕ) → Reduces g profile number
-    → HasValues g (get_or (full_profiles g) number []) ↔ HasReducedValues g profile
-values_at g profile number h =
-    grind (arith, values_too)
-
-values_over : (g : Game) (ps : List (List ℕ)) (numbers : List ℕ) → AllZip (Reduces g) ps numbers
-    → AllZip (λ full profile. HasValues g full ↔ HasReducedValues g profile)
-    (numbered_profiles g numbers) ps
-values_over g (profile ∷ ps) (number ∷ numbers) h =
-    (values_at g profile number h.0, values_over g ps numbers h.1)
-values_over g [] [] h = tt
-values_over g ps numbers h = grind arith
+zip_turned : {A B C : Type 0} (P : A → Type 0) (R : A → B → Type 0) (S : C → A → Type 0)
+    (f : B → C) → ((x : A) (y : B) → P x → R x y → S (f y) x) → (xs : List A) (ys : List B)
+    → AllByRecursion P xs → AllZip R xs ys → AllZip S (map f ys) xs
+zip_turned P R S f turned (x ∷ xs) (y ∷ ys) p h =
+    (turned x y p.0 h.0, zip_turned P R S f turned xs ys p.1 h.1)
+zip_turned P R S f turned xs ys p h = grind arith
 
 -- the numbers are those of the profiles of first strategies
 pub record AreTheirs (g : Game) (firsts : List (List ℕ)) (numbers : List ℕ) : Type 0 where
@@ -396,29 +360,43 @@ pub record AreTheirs (g : Game) (firsts : List (List ℕ)) (numbers : List ℕ) 
 
 module _ (g : Game) (firsts : List (List ℕ)) (numbers : List ℕ)
     (theirs : AreTheirs g firsts numbers) where
-  all_reduce : AllZip (Reduces g) (reduced_profiles g) numbers
-  all_reduce =
-      subst (λ (ps : List (List ℕ)). AllZip (Reduces g) ps numbers)
-      (ap profiles (counted_of g (players_of g) firsts theirs.are))
-      (zip_weaker (IsProfile (map length firsts)) (IsPicked (strategy_counts g) firsts) (Reduces g)
-      (λ profile number valid one.
+  each_reduces : (profile : List ℕ) (number : ℕ) → IsProfile (map length firsts) profile
+      → IsPicked (strategy_counts g) firsts profile number
+      → Reduces g (get_or (full_profiles g) number []) profile
+  each_reduces profile number valid one =
+      let full = get_or (full_profiles g) number [] in
       let within : number < length (full_profiles g) =
-      omega (arith, one.within, length-profiles (strategy_counts g)) in
-      let p = get_or (full_profiles g) number [] in
-      record {
-        there = (number, within, get_or_default (full_profiles g) number p [] within);
+      omega (arith, one.within, length-profiles (strategy_counts g)) in record {
+        there = (number, within, get_or_default (full_profiles g) number full [] within);
         is = ap (λ (full : List ℕ). reduced_by g full) one.is
             ∙ reduces g (players_of g) firsts profile theirs.are valid;
-      })
+      }
+
+  -- what is so of each full profile and what it reduces to
+  all_so : (S : List ℕ → List ℕ → Type 0)
+      → ((full profile : List ℕ) → Reduces g full profile → S full profile)
+      → AllZip S (numbered_profiles g numbers) (reduced_profiles g)
+  all_so S so =
+      subst (λ (ps : List (List ℕ)). AllZip S (numbered_profiles g numbers) ps)
+      (ap profiles (counted_of g (players_of g) firsts theirs.are))
+      (zip_turned (IsProfile (map length firsts)) (IsPicked (strategy_counts g) firsts) S
+      (λ number. get_or (full_profiles g) number [])
+      (λ profile number valid one. so (get_or (full_profiles g) number []) profile
+      (each_reduces profile number valid one))
       (profiles (map length firsts)) numbers (are_profiles (map length firsts)) theirs.picked)
 
+  all_reduce : AllZip (Reduces g) (numbered_profiles g numbers) (reduced_profiles g)
+  all_reduce = all_so (Reduces g) (λ full profile h. h)
+
   pub their_numbers : AreProfileNumbers g numbers
-  their_numbers =
-      grind (arith, all_right, strategy_counts, length-profiles)
+  their_numbers = grind (arith, all_right, strategy_counts, length-profiles)
 
   pub few_numbers : length numbers ≤ profile_limit
   few_numbers =
-      grind (arith, AllZip-long, all_reduce, fewer_profiles)
+      let long =
+      AllZip-long (Reduces g) (numbered_profiles g numbers) (reduced_profiles g) all_reduce in
+      let counted = length-map numbers (λ number. get_or (full_profiles g) number []) in
+      omega (arith, long, counted, fewer_profiles g, theirs.few)
 
   pub reduced_rows : (payoffs : List Ratio)
       → AreRowsAt (ArePayoffsAt g) (numbered_profiles g numbers) payoffs
@@ -427,7 +405,7 @@ module _ (g : Game) (firsts : List (List ℕ)) (numbers : List ℕ)
 
   their_values : AllZip (λ full profile. HasValues g full ↔ HasReducedValues g profile)
       (numbered_profiles g numbers) (reduced_profiles g)
-  their_values = values_over g (reduced_profiles g) numbers all_reduce
+  their_values = all_so _ (values_at g)
 
   pub reduced_values : AllByRecursion (HasValues g) (numbered_profiles g numbers)
       → AllByRecursion (HasReducedValues g) (reduced_profiles g)
@@ -442,32 +420,14 @@ module _ (g : Game) (firsts : List (List ℕ)) (numbers : List ℕ)
 
 -- ---- the form
 
-pub some_reduced_label : (g : Game) → IsGame g → (player : ℕ)
-    → 0 < length (reduced_labels g player)
-some_reduced_label g game player = grind (arith, length-map, some_reduced_strategy)
-
-pub paid_full : (g : Game) (profile : List ℕ) (row : List Ratio) → IsPaidAt g profile row
-    → length row ≡ length g.players
-paid_full g profile row h = full_row g h.full row h.paid
-
-pub paid_fractions : (g : Game) (profile : List ℕ) (row : List Ratio) → IsPaidAt g profile row
-    → AllByRecursion IsFraction row
-paid_fractions g profile row h = row_fractions g h.full row h.paid
-
 pub reduced_made : (g : Game) (t : Table) → IsFormWith (reduced_labels g) (IsPaidAt g) g t
     → IsReducedForm g t
-reduced_made g t form = record {
-  title = form.title;
-  comment = form.comment;
-  players = form.players;
-  strategies = form.strategies;
-  profiles = form.profiles;
-  payoffs = all_weaker (λ (e : Entry). IsPaidAt g e.profile e.payoffs)
-      (λ (e : Entry). AreReducedPayoffsAt g e.profile e.payoffs)
-      (λ e paid full there e_is. same_row g paid.full full paid.there there
-      (paid.reduces ∙ sym e_is) e.payoffs paid.paid)
-      t.entries form.payoffs;
-}
+reduced_made g t form =
+    let payoffs = all_weaker (λ (e : Entry). IsPaidAt g e.profile e.payoffs)
+    (λ (e : Entry). AreReducedPayoffsAt g e.profile e.payoffs)
+    (λ e paid full there is. same_row g paid.full full (paid.reduces ∙ sym is) e.payoffs paid.paid)
+    t.entries form.payoffs in
+    grind (arith, payoffs)
 
 pub ruleset number_steps = (
   are_below,

@@ -1,13 +1,12 @@
 -- What is left of a player's visits after a choice, visit by visit, and which sets can be met.
-use Rattle.gf_form.specs.inner.reduced.Levels.{HaveBelow, AddsLeft, AreTaken, AreParts, Marks}
+use Rattle.gf_form.specs.inner.reduced.Levels.{HaveBelow, AddsLeft, AreTaken, AreParts}
 use Rattle.gf_form.specs.inner.reduced.Levels.{Takes, is_in}
-use Rattle.gf_form.proofs.Common.{false_from_ne_true, get_or-set_other, take-append-drop, is_met_on}
-use Rattle.gf_form.proofs.Common.{list_any-append, get_or_default, option_map_or, get_or-set_at, []}
-use Rattle.gf_form.proofs.Common.{take-length, get_or-take, length-drop, length-take, ArePositive}
-use Rattle.gf_form.proofs.Common.{length-set, list_any, or-false, IsChosen, is_left, left_of, false}
-use Rattle.gf_form.proofs.Common.{length, get_or, ne_eqb, arith, meets, Level, Visit, Bool, true, ℕ}
-use Rattle.gf_form.proofs.Common.{List, ◌++◌, Some, None, take, drop, ◌||◌, ◌==◌, refl, ◌≡◌, ◌+◌}
-use Rattle.gf_form.proofs.Common.{◌*◌, ◌<◌, ◌≤◌, ◌∷◌, set, sym, ◌∙◌, ap}
+use Rattle.gf_form.proofs.Common
+use Common.{false_from_ne_true, get_or-set_other, take-append-drop, list_any-append, get_or_default}
+use Common.{option_map_or, get_or-set_at, take-length, get_or-take, length-drop, length-take, false}
+use Common.{ArePositive, length-set, is_met_on, list_any, or-false, IsChosen, is_left, left_of, ◌≡◌}
+use Common.{length, get_or, ne_eqb, arith, meets, Level, Visit, Bool, true, List, take, drop, ◌||◌}
+use Common.{◌==◌, ◌+◌, ◌*◌, ◌<◌, ◌≤◌, ◌∷◌, set, sym, ◌∙◌, ap, ℕ}
 use Rattle.std.proofs.lemmas.List.{get_or-drop, set_past}
 use Rattle.std.proofs.lemmas.List.Folds.{Any-from_list_any, list_any_more, list_any_at}
 use Rattle.gf_form.specs.declared.reduced.level.Parts.{Parts}
@@ -20,76 +19,29 @@ meets_none (step ∷ steps) (action ∷ choices) h = grind (arith, meets_none st
 meets_none steps choices h = grind arith
 
 -- what is left of demands is met as they are
-meets_left : (step action demands : ℕ) (steps choices : List ℕ)
+pub meets_left : (step action demands : ℕ) (steps choices : List ℕ)
     → meets (step ∷ steps) (action ∷ choices) demands
     ≡ option_map_or (meets steps choices) (left_of step action demands) false
 meets_left step action demands steps choices = grind arith
 
-flag_on : (flags : List Bool) (at place : ℕ) → place < length flags
+pub flag_on : (flags : List Bool) (at place : ℕ) → place < length flags
     → get_or (set flags at true) place false ≡ (get_or flags place false || at == place)
 flag_on flags at place inside = grind (arith, get_or-set_at, get_or-set_other, or-true, or-false)
 
 abbrev pub no_visit : Visit
 no_visit = record { demands = 0; set = 0 }
 
--- ---- one visit
-
-module _ (step action : ℕ) (v : Visit) (before : Level) where
-  -- it is to no set of the level
-  pub other_passed : length before.known.items ≤ v.set
-      → AddsLeft step action v before before
-  other_passed past = record {
-    counted = refl;
-    adds = λ place steps choices inside positive. grind (arith, ne_eqb, or-false);
-  }
-
-  -- it is to a set that is known to be met
-  pub known_passed : (flag : Bool) → v.set < length before.known.items
-      → flag ≡ get_or before.known.items v.set flag → flag ≡ true
-      → AddsLeft step action v before before
-  known_passed flag within is known = record {
-    counted = refl;
-    adds = λ place steps choices inside positive. grind (arith, get_or_default);
-  }
-
-  -- it demands another action
-  pub none_left : left_of step action v.demands ≡ None
-      → AddsLeft step action v before before
-  none_left none = record {
-    counted = refl;
-    adds = λ place steps choices inside positive.
-        grind (arith, meets_left step action v.demands steps choices, or-false);
-  }
-
-  -- nothing more is demanded
-  pub made_known : (next : Level) → v.set < length before.known.items
-      → left_of step action v.demands ≡ Some 0
-      → next.known.items ≡ set before.known.items v.set true
-      → next.visits.items ≡ before.visits.items → AddsLeft step action v before next
-  made_known next within left_is known_is visits_are = record {
-    counted = grind (arith, length-set);
-    adds = λ place steps choices inside positive.
-        grind (
-          arith,
-          flag_on before.known.items v.set place inside,
-          meets_left step action v.demands steps choices,
-          meets_none steps choices positive,
-        );
-  }
-
-  -- something more is demanded
-  pub one_left : (next : Level) (demands : ℕ) → left_of step action v.demands ≡ Some demands
-      → next.known.items ≡ before.known.items
-      → next.visits.items ≡ before.visits.items ++ record { demands = demands; set = v.set } ∷ []
-      → AddsLeft step action v before next
-  one_left next demands left_is known visits_are = record {
-    counted = ap length known;
-    adds = λ place steps choices inside positive.
-        grind (arith, list_any-append, meets_left step action v.demands steps choices);
-  }
-
--- what the steps of the code need
-pub ruleset left_steps = (other_passed, known_passed, none_left, one_left)
+-- what the steps of the code need for one visit
+pub ruleset left_steps = (
+  flag_on,
+  meets_left,
+  meets_none,
+  or-false,
+  ne_eqb,
+  get_or_default,
+  length-set,
+  list_any-append,
+)
 
 -- ---- the visits that count at an action
 
@@ -117,22 +69,18 @@ module _ (step action : ℕ) (visits rest : List Visit) (free start count : ℕ)
     none_after =
         grind (arith, false_from_ne_true, Any-from_list_any, length-drop, get_or-drop)
 
-    met_in_parts : list_any counts visits
-        ≡ (list_any counts (take free visits) || list_any counts (take count rest))
-    met_in_parts =
-        grind (
-          arith,
-          any_in_two counts visits free,
-          any_in_two counts visits start,
-          any_in_two counts rest count,
-          none_after,
-          free_before,
-        )
-
   pub parts_are : (parts : Parts) → parts.free.now ≡ take free visits
       → parts.own.now ≡ take count rest → AreParts step action visits parts
   parts_are parts free_now own_now place steps choices =
-      grind (arith, met_in_parts place steps choices)
+      let test = counts place steps choices in
+      grind (
+        arith,
+        any_in_two test visits free,
+        any_in_two test visits start,
+        any_in_two test rest count,
+        none_after place steps choices,
+        free_before place steps choices,
+      )
 
 -- ---- a level while visits are taken
 
@@ -144,39 +92,31 @@ pub record IsPartly (step action : ℕ) (from : Level) (parts : Parts) (left : L
       || is_in (is_met_on place (step ∷ steps) (action ∷ choices)) parts)
       ≡ is_left place (step ∷ steps) (action ∷ choices) from
 
-module _ (step action : ℕ) (from : Level) (parts : Parts) (left : Level) where
-  pub none_taken : AreParts step action from.visits.items parts
-      → left.known.items ≡ from.known.items → left.visits.items ≡ []
-      → IsPartly step action from parts left
-  none_taken are known none = record {
-    counted = ap length known;
-    adds = λ place steps choices inside positive. grind (arith, are place steps choices);
-  }
-
-  module _ (h : IsPartly step action from parts left) where
-    pub one_taken : (v : Visit) (rest : Parts) (next : Level) → Takes v parts rest
-        → AddsLeft step action v left next → IsPartly step action from rest next
-    one_taken v rest next takes added = record {
-      counted = added.counted ∙ h.counted;
-      adds = λ place steps choices inside positive.
-          grind (
-            arith,
-            h.adds place steps choices inside positive,
-            added.adds place steps choices (omega (arith, inside, h.counted)) positive,
-            takes.taken (is_met_on place (step ∷ steps) (action ∷ choices)),
-          );
-    }
-
-    pub all_taken : AreTaken parts → (next : Level) → next.known.items ≡ left.known.items
-        → HoldTheSame left.visits.items next.visits.items → IsChosen step action from next
-    all_taken none next known same place steps choices inside positive =
+module _ (step action : ℕ) (from : Level) (parts : Parts) (left : Level)
+    (h : IsPartly step action from parts left) where
+  pub one_taken : (v : Visit) (rest : Parts) (next : Level) → Takes v parts rest
+      → AddsLeft step action v left next → IsPartly step action from rest next
+  one_taken v rest next takes added = record {
+    counted = added.counted ∙ h.counted;
+    adds = λ place steps choices inside positive.
         grind (
           arith,
-          or-false,
           h.adds place steps choices inside positive,
-          none (is_met_on place (step ∷ steps) (action ∷ choices)),
-          same (is_met_on place steps choices),
-        )
+          added.adds place steps choices (omega (arith, inside, h.counted)) positive,
+          takes.taken (is_met_on place (step ∷ steps) (action ∷ choices)),
+        );
+  }
+
+  pub all_taken : AreTaken parts → (next : Level) → next.known.items ≡ left.known.items
+      → HoldTheSame left.visits.items next.visits.items → IsChosen step action from next
+  all_taken none next known same place steps choices inside positive =
+      grind (
+        arith,
+        or-false,
+        h.adds place steps choices inside positive,
+        none (is_met_on place (step ∷ steps) (action ∷ choices)),
+        same (is_met_on place steps choices),
+      )
 
 -- ---- marks
 
@@ -194,27 +134,13 @@ module _ (level : Level) (i : ℕ) (met : List Bool) (before : MarkedTo level i 
   pub marked_more : (next : List Bool) → i < length level.visits.items
       → next ≡ set met (get_or level.visits.items i no_visit).set true
       → MarkedTo level (i + 1) next
-  marked_more next less is = record {
-    counted = grind (arith, length-set, before.counted);
-    marked = λ place inside.
-        grind (
-          arith,
-          flag_on met (get_or level.visits.items i no_visit).set place
-              (omega (arith, inside, before.counted)),
-          before.marked place inside,
-          list_any_more (is_to place) level.visits.items i no_visit less,
-        );
-  }
+  marked_more next less is =
+      let more = λ (place : ℕ). list_any_more (is_to place) level.visits.items i no_visit less in
+      grind (arith, length-set, flag_on, before.counted, before.marked, more)
 
   -- a visit to no set of the level
   pub marked_past : i < length level.visits.items
       → length met ≤ (get_or level.visits.items i no_visit).set → MarkedTo level (i + 1) met
   marked_past less past = marked_more met less (sym (set_past met _ true past))
 
-  pub all_marked : i ≡ length level.visits.items → Marks level met
-  all_marked end = record {
-    counted = before.counted;
-    marked = λ place inside. grind (arith, before.marked place inside, take-length);
-  }
-
-pub ruleset mark_steps = (marked_more, marked_past, all_marked)
+pub ruleset mark_steps = (marked_more, marked_past, take-length)

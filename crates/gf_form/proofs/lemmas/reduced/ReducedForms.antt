@@ -1,27 +1,23 @@
 -- The reduced form of a game: some full profile reduces to each of its profiles, and each full
 -- profile reduces to one; it is a table. Each reduced strategy is there once, with a label of its
 -- own, and so is each profile.
-use Rattle.gf_form.proofs.Common.{AreReducedPayoffsAt, first_uses_distinct, reduced_strategies, ◌≡◌}
-use Rattle.gf_form.proofs.Common.{decimal_injective, reduced_profiles, get_or_default, ArePayoffsAt}
-use Rattle.gf_form.proofs.Common.{reduced_labels, AllByRecursion, every_profile, IsReducedForm, ◌≤◌}
-use Rattle.gf_form.proofs.Common.{PaysFractions, full_profiles, strategies_at, reduced_label, subst}
-use Rattle.gf_form.proofs.Common.{if◌then◌else◌, action_counts, mapped_from, same_choice, pointwise}
-use Rattle.gf_form.proofs.Common.{strategy_at, MatchOption, player_keys, AreDistinct, choice_text}
-use Rattle.gf_form.proofs.Common.{is_relevant, length-map, reduced_at, reduced_by, choices_by, List}
-use Rattle.gf_form.proofs.Common.{players_of, strategies, first_uses, IsProfile, map_twice, Decides}
-use Rattle.gf_form.proofs.Common.{choice_at, AreDigits, Contains, profiles, was_used, map_same, ◌∷◌}
-use Rattle.gf_form.proofs.Common.{contains, is_used, has_map, reduced, IsTable, decimal, Option, []}
-use Rattle.gf_form.proofs.Common.{length, get_or, IsGame, SetKey, arith, Ratio, Table, codes, None}
-use Rattle.gf_form.proofs.Common.{refl, Game, Bool, each, zero, Some, drop, map, sym, ◌+◌, ◌∙◌, ◌↔◌}
-use Rattle.gf_form.proofs.Common.{zip, Has, has, ◌<◌, ◌-◌, suc, ◌^◌, ap, ℕ, ⊤}
+use Rattle.gf_form.proofs.Common
+use Common.{AreReducedPayoffsAt, first_uses_distinct, reduced_strategies, decimal_injective, Option}
+use Common.{reduced_profiles, get_or_default, reduced_labels, AllByRecursion, every_profile, length}
+use Common.{IsReducedForm, PaysFractions, full_profiles, strategies_at, reduced_label, mapped_from}
+use Common.{if◌then◌else◌, action_counts, same_choice, strategy_at, player_keys, AreDistinct, subst}
+use Common.{choice_text, is_relevant, length-map, reduced_at, reduced_by, choices_by, players_of, ℕ}
+use Common.{strategies, pointwise, IsProfile, map_twice, choice_at, AreDigits, Contains, was_used}
+use Common.{map_same, contains, Decides, is_used, has_map, reduced, IsTable, decimal, get_or, arith}
+use Common.{IsGame, SetKey, IfSome, Table, codes, List, None, refl, Game, Some, drop, ◌≡◌, ◌≤◌, ◌∷◌}
+use Common.{map, sym, ◌+◌, ◌∙◌, ◌↔◌, zip, Has, has, ◌<◌, ◌-◌, suc, ◌^◌, [], ap}
 use Rattle.std.proofs.lemmas.Slice.Eq.{slice_eq-Decides}
 use Rattle.gf_form.proofs.lemmas.strategies.Chosen.{strategy_there}
-use Rattle.gf_form.proofs.lemmas.strategies.Lookups.{strategy_before, there}
-use Rattle.gf_form.proofs.lemmas.form.Forms.{same_row as same_pays, one_strategic_form, one_form_by}
+use Rattle.gf_form.proofs.lemmas.strategies.Lookups.{strategy_before, there, all_mapped}
+use Rattle.gf_form.proofs.lemmas.form.Forms.{one_strategic_form, one_form_by}
 use Rattle.gf_form.proofs.lemmas.form.Forms.{form_profiles, rows_of_form, some_form_by, table_by}
 use Rattle.gf_form.proofs.lemmas.form.Forms.{one_row, as_many, of_row, row_of}
-use Rattle.gf_form.proofs.lemmas.reduced.Reducing.{reduced_pay}
-use Rattle.gf_nfg.specs.Table.{Entry}
+use Rattle.gf_form.proofs.lemmas.reduced.Reducing.{same_row}
 use Rattle.gf_form.proofs.lemmas.strategies.CountedActions.{some_strategy}
 use Rattle.gf_form.proofs.lemmas.strategies.Choices.{every_choice}
 use Rattle.gf_form.proofs.lemmas.strategies.StrategiesByNumber.{undashed_number, small_choice}
@@ -34,18 +30,11 @@ use Rattle.gf_form.proofs.lemmas.strategies.StrategiesByNumber.{digits_of}
 position_in : {A : Type 0} (xs : List (List A)) (x : List A) → Contains xs x
     → (s : ℕ) × (1 ≤ s) × (s ≤ length xs) × (strategy_at xs s ≡ x)
 position_in xs x at =
-    let back : at.0 + 1 - 1 ≡ at.0 = omega arith in (
-      at.0 + 1,
-      omega arith,
-      omega (arith, at.1),
-      strategy_before xs (at.0 + 1) (omega arith) ∙ ap (λ (i : ℕ). get_or xs i []) back
-          ∙ get_or_default xs at.0 [] x at.1 ∙ at.2,
-    )
+    (at.0 + 1, omega arith, omega (arith, at.1), grind (arith, strategy_before, get_or_default))
 
 -- ---- a strategy reduces to one, and each is reduced to
 
 choice_equality : (a b : Option ℕ) → Decides (same_choice a b) (a ≡ b)
-choice_equality None None = (λ h. refl, λ e. refl)
 choice_equality a b = grind arith
 
 pub choices_equality : (a b : List (Option ℕ)) → Decides (pointwise same_choice a b) (a ≡ b)
@@ -68,8 +57,7 @@ module _ (g : Game) where
         grind (arith, contains, mapped_from, was_used),
     λ from. contains (reduced_strategies g player) strategy (is_used (pointwise same_choice)
         choices_equality (map (reduced g player) (strategies g player)) strategy
-        (subst (Has (map (reduced g player) (strategies g player))) from.2
-        (has_map (reduced g player) (strategies g player) from.0
+        (rw from.2 at (has_map (reduced g player) (strategies g player) from.0
         (has (strategies g player) from.0 from.1)))),
   )
 
@@ -126,10 +114,6 @@ module _ (g : Game) where
   pub reduced_form_profiles : form_profiles (reduced_labels g) g ≡ reduced_profiles g
   reduced_form_profiles = grind (arith, length-map, map_same, map_twice)
 
-  listed : (profile : List ℕ) → Has (form_profiles (reduced_labels g) g) profile
-      → Contains (reduced_profiles g) profile
-  listed profile i = grind (arith, contains, reduced_form_profiles)
-
   -- a full profile that reduces to a profile of the reduced form
   pub some_full : (profile : List ℕ) → Contains (reduced_profiles g) profile
       → (full : List ℕ) × Contains (full_profiles g) full
@@ -152,62 +136,39 @@ module _ (g : Game) where
 
   pub one_reduced_form : (t u : Table) → IsReducedForm g t → IsReducedForm g u → t ≡ u
   one_reduced_form =
-      one_form_by (reduced_labels g) (AreReducedPayoffsAt g) g (λ profile i a b h k.
-      let one = some_full profile (listed profile i) in
+      one_form_by (reduced_labels g) (AreReducedPayoffsAt g) g (reduced_profiles g)
+      reduced_form_profiles (λ profile i a b h k.
+      let one = some_full profile i in
       one_row g (choices_by g (strategies_at g one.0)) a b (players_of g) (h one.0 one.1 one.2)
       (k one.0 one.1 one.2))
-
-  -- payoffs at one full profile are those at another that reduces alike
-  pub same_row : (p q : List ℕ) → Contains (full_profiles g) p → Contains (full_profiles g) q
-      → reduced_by g p ≡ reduced_by g q → (row : List Ratio) → ArePayoffsAt g p row
-      → ArePayoffsAt g q row
-  same_row p q hp hq e row =
-      same_pays g g (choices_by g (strategies_at g p)) (choices_by g (strategies_at g q)) row
-      (players_of g) (λ player. reduced_pay g player p q hp hq e)
 
   pub reduced_form_exists : ((t : Table) × IsReducedForm g t) ↔ PaysFractions g
   reduced_form_exists = (
     λ form full i.
         let one = some_reduced full i in
         let row =
-        rows_of_form (reduced_labels g) (AreReducedPayoffsAt g) g form.0 form.1 one.0
-        (subst (λ (ps : List (List ℕ)). Has ps one.0) (sym reduced_form_profiles)
-        (has (reduced_profiles g) one.0 one.1)) in
+        rows_of_form (reduced_labels g) (AreReducedPayoffsAt g) g (reduced_profiles g)
+        reduced_form_profiles form.0 form.1 one.0 one.1 in
         of_row g (choices_by g (strategies_at g full)) row.0 (players_of g) (row.1 full i one.2),
-    λ pays. some_form_by (reduced_labels g) (AreReducedPayoffsAt g) g (λ profile i.
-        let one = some_full profile (listed profile i) in
+    λ pays. some_form_by (reduced_labels g) (AreReducedPayoffsAt g) g (reduced_profiles g)
+        reduced_form_profiles (λ profile i.
+        let one = some_full profile i in
         let row =
         row_of g (choices_by g (strategies_at g one.0)) (players_of g) (pays one.0 one.1) in
-        (row.0, λ full j e. same_row one.0 full one.1 j (one.2 ∙ sym e) row.0 row.1)),
+        (row.0, λ full j e. same_row g one.0 full (one.2 ∙ sym e) row.0 row.1)),
   )
 
-some_first : {K : Type 0} (same : K → K → Bool) (ks : List K) → 0 < length ks
-    → 0 < length (first_uses same ks)
-some_first same [] h = absurd (omega arith)
-some_first same (k ∷ ks) h = omega arith
+pub some_reduced_label : (g : Game) → IsGame g → (player : ℕ)
+    → 0 < length (reduced_labels g player)
+some_reduced_label g game player =
+    let s = reduced_of g player 1 (omega arith) (some_strategy g game player) in
+    omega (arith, s.1, s.2, length-map (reduced_strategies g player) reduced_label)
 
-pub some_reduced_strategy : (g : Game) → IsGame g → (player : ℕ)
-    → 0 < length (reduced_strategies g player)
-some_reduced_strategy g game player = grind (arith, length-map, some_first, some_strategy)
-
-module _ (g : Game) (game : IsGame g) (t : Table) (form : IsReducedForm g t) where
-  profiles_are : map (λ e. e.profile) t.entries ≡ form_profiles (reduced_labels g) g
-  profiles_are = form.profiles ∙ ap (λ s. profiles (map length s)) form.strategies
-
-  one_each : (e : Entry) → Has t.entries e → length e.payoffs ≡ length (players_of g)
-  one_each e i =
-      let full = some_full g e.profile (listed g e.profile (subst (λ ps. Has ps e.profile)
-      profiles_are (has_map (λ (d : Entry). d.profile) t.entries e i))) in
-      let right =
-      each (λ (d : Entry). AreReducedPayoffsAt g d.profile d.payoffs) t.entries e form.payoffs i in
-      as_many _ e.payoffs (players_of g) (right full.0 full.1 full.2)
-
-  pub reduced_is_table : IsTable t
-  reduced_is_table =
-      table_by (reduced_labels g) (AreReducedPayoffsAt g) g t form
-      (λ player. subst (λ n. 0 < n) (sym (length-map (reduced_strategies g player) reduced_label))
-      (some_reduced_strategy g game player))
-      one_each
+pub reduced_is_table : (g : Game) (t : Table) → IsGame g → IsReducedForm g t → IsTable t
+reduced_is_table g t game =
+    table_by (reduced_labels g) (AreReducedPayoffsAt g) g (reduced_profiles g)
+    (reduced_form_profiles g) (some_reduced_label g game) (λ p row i h.
+    let one = some_full g p i in as_many _ row (players_of g) (h one.0 one.1 one.2)) t
 
 pub ruleset at_most_one_form = (one_strategic_form, one_reduced_form)
 
@@ -218,39 +179,27 @@ one_place : {A : Type 0} (xs : List A) (i j : ℕ) (d : A) → AreDistinct xs �
     → j < length xs → get_or xs i d ≡ get_or xs j d → i ≡ j
 one_place (x ∷ xs) (suc i) (suc j) d h hi hj e =
     ap suc (one_place xs i j d h.1 (omega (arith, hi)) (omega (arith, hj)) e)
-one_place (x ∷ xs) zero zero d h hi hj e = refl
 one_place xs i j d h hi hj e = grind (arith, Has, there)
 
 -- ---- choices
 
 abbrev IsSmallChoice : Option ℕ → Type 0
-IsSmallChoice choice = MatchOption choice ⊤ (λ n. n < 2 ^ 64)
+IsSmallChoice choice = IfSome choice (λ n. n < 2 ^ 64)
 
 undashed_choice : (choice : Option ℕ) → IsSmallChoice choice → AreUndashed (choice_text choice)
-undashed_choice None small = (λ e. omega (arith, e), tt)
-undashed_choice (Some n) small = undashed_number n small
+undashed_choice choice small = grind (arith, undashed_number)
 
 no_star : (n : ℕ) → n < 2 ^ 64 → codes "*" ≡ decimal n → ⊥
 no_star n small e = grind (arith, AreDigits, digits_of)
 
 one_choice : (a b : Option ℕ) → IsSmallChoice a → IsSmallChoice b → choice_text a ≡ choice_text b
     → a ≡ b
-one_choice (Some a) (Some b) ha hb e = ap Some (decimal_injective a b ha hb e)
-one_choice None None ha hb e = refl
-one_choice a b ha hb e = grind (arith, no_star)
+one_choice a b ha hb e = grind (arith, decimal_injective, no_star)
 
 small_at : (keys : List SetKey) (s : List ℕ) → AreSmall s → (key : SetKey)
     → choice_at keys s key < 2 ^ 64
 small_at (k ∷ keys) (a ∷ s) small key = grind (arith, small_at keys s small.1 key)
 small_at keys s small key = omega arith
-
-small_choices : (relevant : SetKey → Bool) (choice : SetKey → ℕ)
-    → ((key : SetKey) → choice key < 2 ^ 64) → (keys : List SetKey)
-    → AllByRecursion IsSmallChoice
-    (map (λ key. if relevant key then Some (choice key) else None) keys)
-small_choices relevant choice small [] = tt
-small_choices relevant choice small (k ∷ keys) =
-    grind (arith, small_choices relevant choice small keys)
 
 -- ---- reduced strategies
 
@@ -279,7 +228,7 @@ module _ (g : Game) (player : ℕ) where
       ((every_choice (action_counts g player) from.0).0 from.1) in
       subst (λ (s : List (Option ℕ)). AllByRecursion IsSmallChoice s × (length s ≡ length keys))
       from.2 (
-        small_choices (is_relevant g choice) choice (small_at keys from.0 few.0) keys,
+        all_mapped IsSmallChoice _ keys (λ key. grind (arith, small_at keys from.0 few.0)),
         length-map keys (λ key. if is_relevant g choice key then Some (choice key) else None),
       )
 
@@ -296,32 +245,21 @@ module _ (g : Game) (player : ℕ) where
 -- ---- profiles
 
 module _ (g : Game) where
-  abbrev counts : List ℕ → List ℕ
-  counts players = map (λ player. length (reduced_strategies g player)) players
-
-  one_profile_of : (players p q : List ℕ) → IsProfile (counts players) p
-      → IsProfile (counts players) q
+  one_profile_of : (players p q : List ℕ) → IsProfile (reduced_counts g players) p
+      → IsProfile (reduced_counts g players) q
       → map (λ r. strategy_at (reduced_strategies g r.0) r.1) (zip players p)
       ≡ map (λ r. strategy_at (reduced_strategies g r.0) r.1) (zip players q)
       → p ≡ q
   one_profile_of (player ∷ players) (s ∷ p) (t ∷ q) hp hq e =
-      let all = reduced_strategies g player in
-      let same : get_or all (s - 1) [] ≡ get_or all (t - 1) [] =
-      sym (strategy_before all s hp.0.0)
-      ∙ ap (λ (ss : List (List (Option ℕ))). get_or ss 0 []) e
-      ∙ strategy_before all t hq.0.0 in
-      let places = each_once g player (s - 1) (t - 1) (omega (arith, hp.0)) (omega (arith, hq.0))
-      same in
-      let first : s ≡ t = omega (arith, places, hp.0.0, hq.0.0) in
-      let others = one_profile_of players p q hp.1 hq.1 (ap (drop 1) e) in
-      λ i. first i ∷ others i
+      let once = each_once g player (s - 1) (t - 1) in
+      grind (arith, once, strategy_before, one_profile_of players p q hp.1 hq.1 (ap (drop 1) e))
   one_profile_of [] [] [] hp hq e = refl
   one_profile_of players p q hp hq e = grind arith
 
   pub one_profile : (p q : List ℕ) → Contains (reduced_profiles g) p
       → Contains (reduced_profiles g) q → reduced_at g p ≡ reduced_at g q → p ≡ q
   one_profile p q hp hq e = one_profile_of (players_of g) p q
-      ((every_profile (counts (players_of g)) p).0 hp)
-      ((every_profile (counts (players_of g)) q).0 hq) e
+      ((every_profile (reduced_counts g (players_of g)) p).0 hp)
+      ((every_profile (reduced_counts g (players_of g)) q).0 hq) e
 
 pub ruleset each_profile = (some_full, some_reduced, one_profile)

@@ -1,23 +1,20 @@
 -- Strategies that reduce to the same one agree with the same plays, and full profiles that do have
 -- the same payoffs and bottom-up values.
-use Rattle.gf_form.proofs.Common.{length-numbers_from, same_set_equality, play_probability, reduced}
-use Rattle.gf_form.proofs.Common.{IsTerminalValue, if◌then◌else◌, option_map_or, is_own_choice, ◌≡◌}
-use Rattle.gf_form.proofs.Common.{strategies_at, full_profiles, IsChanceValue, numbers_from, SetKey}
-use Rattle.gf_form.proofs.Common.{IsChildValue, MultipliesTo, MatchOption, IsMoveValue, player_keys}
-use Rattle.gf_form.proofs.Common.{is_relevant, strategy_at, play_payoff, probability, choices_by, ℕ}
-use Rattle.gf_form.proofs.Common.{players_of, strategies, reduced_by, zero_ratio, plays_from, arith}
-use Rattle.gf_form.proofs.Common.{cases_Bool, choice_at, eqb-false, is_chosen, MatchBool, from_node}
-use Rattle.gf_form.proofs.Common.{payoff_at, list_all, list_any, or_right, same_set, comes_to, Bool}
-use Rattle.gf_form.proofs.Common.{in_right, Contains, eqb-true, follows, in_left, has_map, IsValue}
-use Rattle.gf_form.proofs.Common.{or_left, agrees, length, filter, payoff, branch, Option, get_or}
-use Rattle.gf_form.proofs.Common.{AddsTo, Ratio, Trees, false, subst, plays, times, total, true, ap}
-use Rattle.gf_form.proofs.Common.{List, Some, None, drop, refl, ◌||◌, Game, Step, Play, zero, ◌==◌}
-use Rattle.gf_form.proofs.Common.{Tree, none, more, Node, inr, Has, has, suc, ◌+◌, ◌-◌, ◌<◌, not}
-use Rattle.gf_form.proofs.Common.{zip, ◌↔◌, map, sym, ◌∙◌, inl, ◌∷◌, []}
+use Rattle.gf_form.proofs.Common
+use Common.{same_set_equality, IsTerminalValue, AllByRecursion, if◌then◌else◌, option_map_or, arith}
+use Common.{is_own_choice, strategies_at, IsChanceValue, numbers_from, IsChildValue, MultipliesTo}
+use Common.{ArePayoffsAt, MatchOption, IsMoveValue, player_keys, is_relevant, strategy_at, list_all}
+use Common.{probability, choices_by, players_of, strategies, reduced_by, zero_ratio, plays_from, ap}
+use Common.{IsFraction, choice_at, eqb-false, is_chosen, MatchBool, from_node, payoff_at, one_ratio}
+use Common.{HasValues, list_any, or_right, same_set, comes_to, in_right, Contains, eqb-true, SetKey}
+use Common.{map_same, reduced, follows, in_left, has_map, IsValue, or_left, IsEqual, agrees, length}
+use Common.{payoff, branch, Option, get_or, AddsTo, AllZip, Ratio, Trees, false, subst, plays, Bool}
+use Common.{total, true, List, Some, None, drop, refl, ◌||◌, Game, Step, Play, zero, ◌==◌, Tree, []}
+use Common.{none, more, Node, ◌≡◌, inr, Has, has, suc, ◌+◌, ◌-◌, ◌<◌, not, zip, ◌↔◌, map, sym, ◌∙◌}
+use Common.{inl, ◌∷◌, ℕ}
 use Rattle.gf_tree.proofs.lemmas.stores.KnownKeys.{used_before}
-use Rattle.gf_form.proofs.lemmas.form.Forms.{as_many}
-use Rattle.gf_form.proofs.lemmas.strategies.Lookups.{strategy_before}
-use Rattle.gf_form.proofs.lemmas.strategies.Chosen.{profile_strategies}
+use Rattle.gf_form.proofs.lemmas.strategies.Lookups.{strategy_before, own_set}
+use Rattle.gf_form.proofs.lemmas.values.BottomUp.{payoff_is, share}
 use Rattle.std.proofs.Math.Path.{transport⁻¹, transport}
 
 -- ---- tests
@@ -64,28 +61,21 @@ module _ (free : ℕ → Bool) (c d : SetKey → ℕ) where
   pub own_right : (p : ℕ) (o : Option SetKey) (k : ℕ) → free p ≡ false
       → option_map_or (λ key. free key.player || c key == k) o true ≡ true
       → option_map_or (λ key. not (key.player == p) || c key == k) o true ≡ true
-  own_right p None k bound h = refl
-  own_right p (Some key) k bound h = grind (arith, eqb-true)
+  own_right p o k bound h = grind (arith, eqb-true)
 
   pub equal_later : (s : Step) (rest : List Step) → AreEqualOn (s ∷ rest) → is_right c s ≡ true
       → AreEqualOn rest
   equal_later s rest equal h key bound come = grind (arith, own_right)
 
-  step_same : (s : Step) (rest : List Step) → AreEqualOn (s ∷ rest) → (o : Option SetKey)
-      → s.node.set ≡ o → option_map_or (λ key. free key.player || c key == s.taken) o true
-      ≡ option_map_or (λ key. free key.player || d key == s.taken) o true
-  step_same s rest equal None at = refl
-  step_same s rest equal (Some key) at = grind (arith, equal key, same_set_equality)
+  step_same : (s : Step) (rest : List Step) → AreEqualOn (s ∷ rest) → is_right c s ≡ is_right d s
+  step_same s rest equal = grind (arith, equal, same_set_equality)
 
   pub all_same : (steps : List Step) → AreEqualOn steps
       → list_all (is_right c) steps ≡ list_all (is_right d) steps
   all_same [] equal = refl
   all_same (s ∷ rest) equal =
-      let same = step_same s rest equal s.node.set refl in
-      elim (cases_Bool (is_right c s)) [
-        | inl his ↦ grind (arith, all_same rest (equal_later s rest equal his))
-        | inr other ↦ grind arith
-      ]
+      let later = λ (his : is_right c s ≡ true). all_same rest (equal_later s rest equal his) in
+      grind (arith, step_same s rest equal, later)
 
 -- all players but one
 abbrev is_other : ℕ → ℕ → Bool
@@ -101,28 +91,18 @@ module _ (g : Game) (player : ℕ) where
   pub same_where_relevant : (s t : List ℕ) → reduced g player s ≡ reduced g player t
       → (key : SetKey) → is_relevant g (chosen s) key ≡ true → chosen s key ≡ chosen t key
   same_where_relevant s t e key relevant =
-      elim (cases_Bool (list_any (same_set key) (player_keys g player))) [
-        | inl i ↦
-            let there = used_before same_set same_set_equality (player_keys g player) key i in
-            grind (arith, mapped_alike, shown_alike)
-        | inr other ↦
-            none_chosen (player_keys g player) s key other
-            ∙ sym (none_chosen (player_keys g player) t key other)
-      ]
+      let there = used_before same_set same_set_equality (player_keys g player) key in
+      grind (arith, there, mapped_alike, shown_alike, none_chosen)
 
   module _ (c d : SetKey → ℕ) where
     comes_same : (key : SetKey) → key.player ≡ player → (rest : List Step)
         → AreEqualOn (is_other player) c d rest → comes_to c key rest ≡ comes_to d key rest
     comes_same key own [] equal = refl
     comes_same key own (s ∷ rest) equal =
-        let same = step_same (is_other player) c d s rest equal s.node.set refl in
-        elim (cases_Bool (is_own_choice c player s)) [
-          | inl his ↦
-              let later =
-              comes_same key own rest (equal_later (is_other player) c d s rest equal his) in
-              grind arith
-          | inr other ↦ grind arith
-        ]
+        let same = step_same (is_other player) c d s rest equal in
+        let later = λ (his : is_own_choice c player s ≡ true).
+        comes_same key own rest (equal_later (is_other player) c d s rest equal his) in
+        grind (arith, same, later)
 
     any_same : (p q : Play → Bool) (ps : List Play) → ((x : Play) → Has ps x → p x ≡ q x)
         → list_any p ps ≡ list_any q ps
@@ -130,14 +110,26 @@ module _ (g : Game) (player : ℕ) where
     any_same p q (x ∷ ps) h = λ i. h x (inl refl) i || any_same p q ps (λ y j. h y (inr j)) i
 
     -- choices that are equal at the sets that are relevant under some have the same relevant sets
-    pub relevance_same : ((key : SetKey) → is_relevant g c key ≡ true → c key ≡ d key)
+    relevance_same : ((key : SetKey) → key.player ≡ player → is_relevant g c key ≡ true
+        → c key ≡ d key)
         → (key : SetKey) → key.player ≡ player → is_relevant g c key ≡ is_relevant g d key
-    relevance_same same key own = grind (arith, any_same, comes_same, any_has)
+    relevance_same same key own = grind (arith, any_same, comes_same, any_has, eqb-true)
 
-  pub reduced_agree : (s t : List ℕ) (play : Play) → reduced g player s ≡ reduced g player t
+  -- strategies that are equal at the sets that are relevant under one reduce to the same
+  pub reduced_same : (s t : List ℕ) → ((key : SetKey) → key.player ≡ player
+      → is_relevant g (chosen s) key ≡ true → chosen s key ≡ chosen t key)
+      → reduced g player s ≡ reduced g player t
+  reduced_same s t same =
+      map_same _ _ (player_keys g player) (λ key i.
+      let own = (own_set g player key i).3 in
+      let relevant = relevance_same (chosen s) (chosen t) same key own in
+      let equal = same key own in
+      grind arith)
+
+  pub reduced_agree : (s t : List ℕ) → reduced g player s ≡ reduced g player t → (play : Play)
       → Contains (plays g.tree) play → agrees (choice_at (player_keys g player) s) player play
       ≡ agrees (choice_at (player_keys g player) t) player play
-  reduced_agree s t play e i =
+  reduced_agree s t e play i =
       all_same (is_other player) (chosen s) (chosen t) play.steps (λ key bound come.
       same_where_relevant s t e key (any_has (λ (p : Play). comes_to (chosen s) key p.steps)
       (plays g.tree) play (has (plays g.tree) play i) come))
@@ -150,20 +142,13 @@ module _ (g : Game) where
       (p : ℕ) → 0 < p → reduced g p (strategy_at all p) ≡ reduced g p (strategy_at others p)
 
   -- what a player chooses is by his own strategy
-  his_step : (all : List (List ℕ)) (p : ℕ) (o : Option SetKey) (k : ℕ)
-      → option_map_or (λ key. not (key.player == p) || choices_by g all key == k) o true
-      ≡ option_map_or (λ key. not (key.player == p) || chosen g p (strategy_at all p) key == k) o
-      true
-  his_step all p None k = refl
-  his_step all p (Some key) k = grind arith
-
   his_comes : (all : List (List ℕ)) (key : SetKey) (steps : List Step)
       → comes_to (choices_by g all) key steps
       ≡ comes_to (chosen g key.player (strategy_at all key.player)) key steps
-  his_comes all key [] = refl
-  his_comes all key (s ∷ steps) =
-      let own = his_step all key.player s.node.set s.taken in
-      grind (arith, his_comes all key steps)
+  his_comes all key steps =
+      comes_same g key.player (choices_by g all)
+      (chosen g key.player (strategy_at all key.player)) key refl steps
+      (λ own his come. grind (arith, eqb-true))
 
   equal_for : (all others : List (List ℕ)) → AreReducedAlike all others → (play : Play)
       → Has (plays g.tree) play
@@ -172,59 +157,49 @@ module _ (g : Game) where
       let above : 0 < key.player = grind (arith, eqb-false) in
       grind (arith, same_where_relevant, any_has, his_comes)
 
-  filter_same : (p q : Play → Bool) (ps : List Play) → ((x : Play) → Has ps x → p x ≡ q x)
-      → filter p ps ≡ filter q ps
-  filter_same p q [] h = refl
-  filter_same p q (x ∷ ps) h =
-      grind (arith, h x (inl refl), filter_same p q ps (λ y j. h y (inr j)))
+  -- the strategies of these players, and what they reduce to
+  abbrev strategies_of : List ℕ → List ℕ → List (List ℕ)
+  strategies_of players profile =
+      map (λ p. strategy_at (strategies g p.0) p.1) (zip players profile)
 
-  same_plays : (all others : List (List ℕ)) → AreReducedAlike all others
-      → filter (follows (choices_by g all)) (plays g.tree)
-      ≡ filter (follows (choices_by g others)) (plays g.tree)
-  same_plays all others alike =
-      filter_same (follows (choices_by g all)) (follows (choices_by g others)) (plays g.tree)
-      (λ play i. all_same is_chance (choices_by g all) (choices_by g others) play.steps
-      (equal_for all others alike play i))
+  abbrev reduce_all : List ℕ → List ℕ → List (List (Option ℕ))
+  reduce_all players profile =
+      map (λ p. reduced g p.0 p.1) (zip players (strategies_of players profile))
 
-  -- what the players' strategies reduce to
-  abbrev reduce_all : List ℕ → List (List ℕ) → List (List (Option ℕ))
-  reduce_all players all = map (λ p. reduced g p.0 p.1) (zip players all)
+  reduced_there : (k n : ℕ) (p : List ℕ) (i : ℕ)
+      → reduced g (k + i) (get_or (strategies_of (numbers_from k n) p) i [])
+      ≡ get_or (reduce_all (numbers_from k n) p) i (reduced g (k + i) [])
+  reduced_there k (suc n) (s ∷ p) (suc i) = grind (arith, reduced_there (k + 1) n p i)
+  reduced_there k (suc n) (s ∷ p) zero = grind arith
+  reduced_there k (suc n) [] i = refl
+  reduced_there k zero p i = refl
 
-  each_alike : (k n : ℕ) (all others : List (List ℕ)) → length all ≡ n → length others ≡ n
-      → reduce_all (numbers_from k n) all ≡ reduce_all (numbers_from k n) others → (i : ℕ)
-      → reduced g (k + i) (get_or all i []) ≡ reduced g (k + i) (get_or others i [])
-  each_alike k (suc c) (s ∷ all) (t ∷ others) m n e (suc i) =
-      grind (arith, each_alike (k + 1) c all others (omega arith) (omega arith) (ap (drop 1) e) i)
-  each_alike k (suc c) (s ∷ all) (t ∷ others) m n e zero = grind arith
-  each_alike k zero [] [] m n e i = refl
-  each_alike k c all others m n e i = absurd (omega arith)
-
-  one_each : (profile : List ℕ) → Contains (full_profiles g) profile
-      → length (strategies_at g profile) ≡ length g.players
-  one_each profile h = as_many (λ strategy player. Contains (strategies g player) strategy)
-      (strategies_at g profile) (players_of g) (profile_strategies g profile h)
-      ∙ length-numbers_from 1 (length g.players)
-
-  pub reduced_alike : (p q : List ℕ) → Contains (full_profiles g) p → Contains (full_profiles g) q
-      → reduced_by g p ≡ reduced_by g q → AreReducedAlike (strategies_at g p) (strategies_at g q)
-  reduced_alike p q hp hq e k above =
+  pub reduced_alike : (p q : List ℕ) → reduced_by g p ≡ reduced_by g q
+      → AreReducedAlike (strategies_at g p) (strategies_at g q)
+  reduced_alike p q e k above =
       let place : 1 + (k - 1) ≡ k = omega arith in
-      let same = each_alike 1 (length g.players) (strategies_at g p) (strategies_at g q)
-      (one_each p hp) (one_each q hq) e (k - 1) in
       grind (
         arith,
+        reduced_there 1 (length g.players) p (k - 1),
+        reduced_there 1 (length g.players) q (k - 1),
         strategy_before (strategies_at g p) k above,
         strategy_before (strategies_at g q) k above,
       )
 
-  pub reduced_pay : (player : ℕ) (p q : List ℕ) → Contains (full_profiles g) p
-      → Contains (full_profiles g) q → reduced_by g p ≡ reduced_by g q
+  pub reduced_pay : (player : ℕ) (p q : List ℕ) → reduced_by g p ≡ reduced_by g q
       → payoff g (choices_by g (strategies_at g p)) player
       ≡ payoff g (choices_by g (strategies_at g q)) player
-  reduced_pay player p q hp hq e =
-      ap
-      (λ ps. total (map (λ play. times (play_probability g play) (play_payoff g player play)) ps))
-      (same_plays (strategies_at g p) (strategies_at g q) (reduced_alike p q hp hq e))
+  reduced_pay player p q e =
+      let c = choices_by g (strategies_at g p) in
+      let d = choices_by g (strategies_at g q) in
+      let equal = equal_for (strategies_at g p) (strategies_at g q) (reduced_alike p q e) in
+      let paid = λ (by : SetKey → ℕ) (play : Play).
+      if follows by play then share g c player one_ratio zero_ratio play else zero_ratio in
+      sym (payoff_is g c player)
+      ∙ ap total (map_same (paid c) (paid d) (plays g.tree) (λ play i.
+      ap (λ (b : Bool). if b then share g c player one_ratio zero_ratio play else zero_ratio)
+      (all_same is_chance c d play.steps (equal play i))))
+      ∙ payoff_is g d player
 
 -- ---- bottom-up values
 
@@ -329,12 +304,27 @@ module _ (g : Game) (c d : SetKey → ℕ) (player : ℕ) where
         (omega (arith, e)) there
     child_same ts n k taken position equal e there = refl
 
+-- ---- rows and values at profiles that reduce to the same one
+
+module _ (g : Game) (p q : List ℕ) (e : reduced_by g p ≡ reduced_by g q) where
+  same_value : (player : ℕ) → IsValue g (choices_by g (strategies_at g p)) player g.tree
+      ≡ IsValue g (choices_by g (strategies_at g q)) player g.tree
+  same_value player =
+      value_same g (choices_by g (strategies_at g p)) (choices_by g (strategies_at g q)) player
+      g.tree (equal_for g (strategies_at g p) (strategies_at g q) (reduced_alike g p q e))
+
+  pub same_values : HasValues g p → HasValues g q
+  same_values = transport (λ i.
+      AllByRecursion (λ player. (value : Ratio) × same_value player i value) (players_of g))
+
+  pub same_row : (row : List Ratio) → ArePayoffsAt g p row → ArePayoffsAt g q row
+  same_row row = transport (λ i. AllZip (λ paid player. IsFraction paid
+      × IsEqual paid (reduced_pay g player p q e i)) row (players_of g))
+
 pub reduced_value : (g : Game) (player : ℕ) (p q : List ℕ) (value : Ratio)
-    → Contains (full_profiles g) p → Contains (full_profiles g) q → reduced_by g p ≡ reduced_by g q
+    → reduced_by g p ≡ reduced_by g q
     → IsValue g (choices_by g (strategies_at g p)) player g.tree value
     ↔ IsValue g (choices_by g (strategies_at g q)) player g.tree value
-reduced_value g player p q value hp hq e =
-    let same = value_same g (choices_by g (strategies_at g p)) (choices_by g (strategies_at g q))
-    player g.tree (equal_for g (strategies_at g p) (strategies_at g q)
-    (reduced_alike g p q hp hq e)) in
+reduced_value g player p q value e =
+    let same = same_value g p q e player in
     (transport (λ i. same i value), transport⁻¹ (λ i. same i value))

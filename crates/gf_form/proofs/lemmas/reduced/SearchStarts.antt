@@ -1,17 +1,15 @@
 -- The digits of one player's sets, and his visits to these; a search for first strategies, and that
 -- for their labels, before the first choice; and what the player has at the end.
-use Rattle.gf_form.proofs.Common.{slice_get-get_or, mul-le-mul_right, list_any-append, append_assoc}
-use Rattle.gf_form.proofs.Common.{AllByRecursion, reduced_labels, is_relevant_at, action_counts, []}
-use Rattle.gf_form.proofs.Common.{FindRelevance, AreLabelledTo, steps_after, ArePositive, numbered}
-use Rattle.gf_form.proofs.Common.{digits_from, player_keys, is_relevant, AreFirstsOf, HaveChoices}
-use Rattle.gf_form.proofs.Common.{same_choice, mul-le-mul, get_or-map, choices_at, strategies, ◌&&◌}
-use Rattle.gf_form.proofs.Common.{AreFoundTo, IsSearched, actions_of, first_uses, is_met_on, nat_lt}
-use Rattle.gf_form.proofs.Common.{drop-drop, choice_at, pointwise, map_twice, OwnDigit, or-false, ℕ}
-use Rattle.gf_form.proofs.Common.{digit_at, cases_lt, steps_to, steps_of, reduced, IsLevel, is_left}
-use Rattle.gf_form.proofs.Common.{product, IsShown, AreOwn, picked, SetKey, IsGame, IsFine, is_met}
-use Rattle.gf_form.proofs.Common.{length, get_or, subst, Level, arith, false, width, Visit, zero}
-use Rattle.gf_form.proofs.Common.{List, ◌++◌, drop, refl, take, ◌||◌, Game, ◌≡◌, ◌+◌, ◌*◌, ◌^◌, ◌<◌}
-use Rattle.gf_form.proofs.Common.{◌≤◌, ◌∷◌, sym, ◌∙◌, map, suc, ap}
+use Rattle.gf_form.proofs.Common
+use Common.{slice_get-get_or, mul-le-mul_right, list_any-append, AllByRecursion, reduced_labels, []}
+use Common.{is_relevant_at, action_counts, FindRelevance, AreLabelledTo, append_assoc, steps_after}
+use Common.{ArePositive, digits_from, player_keys, is_relevant, AreFirstsOf, HaveChoices, is_met_on}
+use Common.{same_choice, digits_with, mul-le-mul, get_or-map, choices_at, strategies, AreFoundTo, ℕ}
+use Common.{IsSearched, actions_of, first_uses, drop-drop, choice_at, pointwise, map_twice, reduced}
+use Common.{numbered, OwnDigit, or-false, digit_at, cases_lt, steps_to, steps_of, IsLevel, is_left}
+use Common.{product, IsShown, nat_lt, AreOwn, picked, SetKey, IsGame, IsFine, is_met, length, subst}
+use Common.{get_or, Level, arith, false, width, Visit, ◌&&◌, List, ◌++◌, drop, refl, take, ◌||◌, ap}
+use Common.{Game, ◌≡◌, ◌+◌, ◌*◌, ◌^◌, ◌<◌, ◌≤◌, ◌∷◌, sym, ◌∙◌, map, suc}
 use Rattle.gf_form.proofs.lemmas.rows.DigitPlaces.{width_positive, steps_long}
 use Rattle.gf_form.proofs.lemmas.rows.DigitsMade.{next_is}
 use Rattle.std.proofs.lemmas.List.Folds.{list_any_more}
@@ -30,63 +28,46 @@ use Rattle.gf_form.proofs.lemmas.strategies.StrategiesByNumber.{all_at}
 width_square : (counts : List ℕ) → ArePositive counts
     → width counts ≤ product counts * product counts
 width_square [] h = omega arith
-width_square (zero ∷ counts) h = grind arith
-width_square (suc zero ∷ counts) h = grind (arith, width_square counts)
 width_square (suc (suc n) ∷ counts) h =
-    let first : suc (suc n) + 1 ≤ suc (suc n) * suc (suc n) = square n in
+    let more : suc (suc n) + 1 ≤ suc (suc n) * suc (suc n) = grind arith in
     omega (
       arith,
-      mul-le-mul first (width_square counts h.1),
+      mul-le-mul more (width_square counts h.1),
       turned (suc (suc n)) (product counts),
     )
   where
-    square : (n : ℕ) → suc (suc n) + 1 ≤ suc (suc n) * suc (suc n)
-    square n = grind arith
-
     turned : (a p : ℕ) → a * a * (p * p) ≡ a * p * (a * p)
     turned a p = grind arith
+width_square (n ∷ counts) h = grind (arith, width_square counts)
 
 pub width_fits : (counts : List ℕ) → ArePositive counts → product counts < 2 ^ 32
     → width counts < 2 ^ 64
 width_fits counts h few = grind (arith, width_square, mul-le-mul)
 
--- the step of the first set
-step_first : (n : ℕ) (later : List ℕ) → 1 < n
-    → get_or (steps_after 1 (n ∷ later)) 0 0 ≡ width later
-step_first n later several = grind arith
-
-steps_later : (n : ℕ) (later : List ℕ) (i : ℕ)
-    → get_or (steps_after 1 (n ∷ later)) (suc i) 0 ≡ get_or (steps_after 1 later) i 0
-steps_later n later i = grind arith
-
-step_there : (counts : List ℕ) (i : ℕ) → i < length counts → 1 < get_or counts i 0
-    → get_or (steps_after 1 counts) i 0 ≡ width (drop (suc i) counts)
-step_there (n ∷ counts) (suc i) less several = grind (arith, steps_later, step_there counts i)
-step_there counts i less several = grind (arith, step_first)
-
-pub from_several : (p n : ℕ) (later : List ℕ) → 1 < n → digits_from p (n ∷ later)
-    ≡ record { place = p; step = width later; actions = n } ∷ digits_from (p + 1) later
-from_several p n later several = grind arith
-
-from_one : (p n : ℕ) (later : List ℕ) → n ≤ 1
-    → digits_from p (n ∷ later) ≡ digits_from (p + 1) later
-from_one p n later one = grind arith
-
 -- the digits so far and those to come
-pub digit_more : (counts : List ℕ) (i step : ℕ) (made next : List OwnDigit) → i < length counts
-    → 1 < get_or counts i 0 → step ≡ get_or (steps_after 1 counts) i 0
+pub digit_more : (counts steps : List ℕ) (i step : ℕ) (made next : List OwnDigit)
+    → steps ≡ steps_after 1 counts → i < length counts → 1 < get_or counts i 0
+    → step ≡ get_or steps i 0
     → next ≡ made ++ record { place = i; step = step; actions = get_or counts i 0 } ∷ []
-    → made ++ digits_from i (drop i counts) ≡ digits_from 0 counts
-    → next ++ digits_from (i + 1) (drop (i + 1) counts) ≡ digits_from 0 counts
-digit_more counts i step made next less several step_is is before =
-    grind (arith, step_there, append_assoc, next_is, from_several)
+    → made ++ digits_with i (drop i counts) (drop i steps) ≡ digits_with 0 counts steps
+    → next ++ digits_with (i + 1) (drop (i + 1) counts) (drop (i + 1) steps)
+    ≡ digits_with 0 counts steps
+digit_more counts steps i step made next are less several step_is is before =
+    let long : i < length steps = omega (arith, ap length are, steps_long 1 counts) in
+    let count = next_is counts i (get_or counts i 0) 0 less refl in
+    let there = next_is steps i step 0 long step_is in
+    grind (arith, append_assoc, count, there)
 
-pub digit_past : (counts : List ℕ) (i : ℕ) (made next : List OwnDigit) → i < length counts
-    → get_or counts i 0 ≤ 1 → next ≡ made
-    → made ++ digits_from i (drop i counts) ≡ digits_from 0 counts
-    → next ++ digits_from (i + 1) (drop (i + 1) counts) ≡ digits_from 0 counts
-digit_past counts i made next less one is before =
-    grind (arith, next_is, from_one)
+pub digit_past : (counts steps : List ℕ) (i : ℕ) (made next : List OwnDigit)
+    → steps ≡ steps_after 1 counts → i < length counts → get_or counts i 0 ≤ 1 → next ≡ made
+    → made ++ digits_with i (drop i counts) (drop i steps) ≡ digits_with 0 counts steps
+    → next ++ digits_with (i + 1) (drop (i + 1) counts) (drop (i + 1) steps)
+    ≡ digits_with 0 counts steps
+digit_past counts steps i made next are less one is before =
+    let long : i < length steps = omega (arith, ap length are, steps_long 1 counts) in
+    let count = next_is counts i (get_or counts i 0) 0 less refl in
+    let there = next_is steps i (get_or steps i 0) 0 long refl in
+    grind (arith, count, there)
 
 pub ruleset own_digit_steps = (width_fits, steps_long, digit_more, digit_past)
 
@@ -154,26 +135,27 @@ places_from all (x ∷ rest) p (n ∷ counts) is long =
 digits_fine : (p : ℕ) (counts : List ℕ) → ArePositive counts → width counts < 2 ^ 64
     → AllByRecursion IsFine (digits_from p counts)
 digits_fine p [] h fits = tt
-digits_fine p (zero ∷ counts) h fits = absurd (omega (arith, h.0))
-digits_fine p (suc zero ∷ counts) h fits = digits_fine (p + 1) counts h.1 fits
 digits_fine p (suc (suc n) ∷ counts) h fits =
     let whole : (suc (suc n) + 1) * width counts ≡ suc (suc n) * width counts + width counts =
     omega arith in
     grind (arith, width_positive, digits_fine (p + 1) counts h.1 (omega (arith, fits, whole)))
+digits_fine p (n ∷ counts) h fits = digits_fine (p + 1) counts h.1 fits
 
 -- there are fewer than strategies
-pub few_digits : (p : ℕ) (counts : List ℕ)
-    → length (digits_from p counts) < product (actions_of (digits_from p counts))
-few_digits p [] = omega arith
-few_digits p (zero ∷ counts) = few_digits (p + 1) counts
-few_digits p (suc zero ∷ counts) = few_digits (p + 1) counts
-few_digits p (suc (suc n) ∷ counts) =
-    grind (arith, mul-le-mul_right, few_digits (p + 1) counts)
+pub few_digits : (p : ℕ) (counts : List ℕ) → ArePositive counts
+    → length (digits_from p counts) < product counts
+few_digits p [] h = omega arith
+few_digits p (suc (suc n) ∷ counts) h =
+    grind (arith, mul-le-mul_right, few_digits (p + 1) counts h.1)
+few_digits p (n ∷ counts) h = grind (arith, few_digits (p + 1) counts h.1)
 
 -- ---- before the first choice
 
 module _ (g : Game) (game : IsGame g) (player : ℕ) (digits : List OwnDigit)
-    (are : digits ≡ digits_from 0 (action_counts g player)) (whole : ℕ) where
+    (are : digits ≡ digits_from 0 (action_counts g player)) (whole : ℕ)
+    (whole_is : whole ≡ product (action_counts g player)) (few : whole < 2 ^ 32)
+    (visits : List Visit) (find : FindRelevance g player visits) (level : Level)
+    (unknown : (place : ℕ) → get_or level.known.items place false ≡ false) where
   abbrev counts : List ℕ
   counts = action_counts g player
 
@@ -193,9 +175,8 @@ module _ (g : Game) (game : IsGame g) (player : ℕ) (digits : List OwnDigit)
       ∙ places_from (numbered g player n) (numbered g player n) 0 counts refl
       (choice_length counts (numbered g player n) (choice_at_number counts n less))
 
-  pub all_choices_had : whole ≡ product counts → whole < 2 ^ 32
-      → HaveChoices g player digits 0 whole
-  all_choices_had whole_is few =
+  all_choices_had : HaveChoices g player digits 0 whole
+  all_choices_had =
       grind (
         arith,
         actions_positive,
@@ -208,61 +189,52 @@ module _ (g : Game) (game : IsGame g) (player : ℕ) (digits : List OwnDigit)
         picked_at,
       )
 
-  module _ (choices : HaveChoices g player digits 0 whole) where
-    pub whole_counted : whole ≡ product counts
-    whole_counted = grind (arith, actions_are, product_picked, actions_positive)
+  -- A set is relevant if some visit to it comes about. The level has these visits, to other places.
+  told_by : (own : List Visit) → HoldTheSame own level.visits.items → (n place q : ℕ)
+      → n < 0 + whole → place < length keys
+      → is_met q (steps_to digits) (choices_at g player digits n) own
+      ≡ is_met place (steps_to digits) (choices_at g player digits n) visits
+      → is_relevant_at g player n place
+      ≡ is_left q (steps_to digits) (choices_at g player digits n) level
+  told_by own held n place q to among same =
+      let within : n < product counts = omega (arith, to, whole_is) in
+      let steps_are : steps_to digits ≡ steps_of (picked counts counts) =
+      rw are (steps_from 0 counts) in
+      get_or-map (is_relevant g (choice_at keys (numbered g player n))) keys place no_key false
+      among
+      ∙ find.relevant (numbered g player n) place (get_or keys place no_key)
+      (choice_at_number counts n within) (slice_get-get_or keys place no_key among)
+      ∙ (λ i. is_met place (sym steps_are i) (sym (choices_are n within) i) visits)
+      ∙ sym same
+      ∙ (λ i. sym (unknown q) i
+      || sym (held (is_met_on q (steps_to digits) (choices_at g player digits n))) i)
 
-    module _ (visits : List Visit) (find : FindRelevance g player visits) (level : Level)
-        (unknown : (place : ℕ) → get_or level.known.items place false ≡ false) where
-      -- A set is relevant if some visit to it comes about. The level has these visits, to other
-      -- places.
-      told_by : (own : List Visit) → HoldTheSame own level.visits.items → (n place q : ℕ)
-          → n < 0 + whole → place < length keys
-          → is_met q (steps_to digits) (choices_at g player digits n) own
-          ≡ is_met place (steps_to digits) (choices_at g player digits n) visits
-          → is_relevant_at g player n place
-          ≡ is_left q (steps_to digits) (choices_at g player digits n) level
-      told_by own held n place q to among same =
-          let within : n < product counts = omega (arith, to, whole_counted) in
-          let steps_are : steps_to digits ≡ steps_of (picked counts counts) =
-          rw are (steps_from 0 counts) in
-          get_or-map (is_relevant g (choice_at keys (numbered g player n))) keys place no_key false
-          among
-          ∙ find.relevant (numbered g player n) place (get_or keys place no_key)
-          (choice_at_number counts n within) (slice_get-get_or keys place no_key among)
-          ∙ (λ i. is_met place (sym steps_are i) (sym (choices_are n within) i) visits)
-          ∙ sym same
-          ∙ (λ i. sym (unknown q) i
-          || sym (held (is_met_on q (steps_to digits) (choices_at g player digits n))) i)
+  pub searched_all : (own : List Visit) → AreOwn digits visits own
+      → HoldTheSame own level.visits.items → IsLevel (length digits) level
+      → IsSearched g player digits digits level 0 0 whole
+  searched_all own own_are held levelled = record {
+    all_are = are;
+    rest = refl;
+    deep = omega arith;
+    told = record {
+      choices = all_choices_had;
+      levelled = levelled;
+      tells = λ n j from to among.
+          let inside = place_inside g game player digits are j among in
+          let relevant = told_by own held n (digit_at digits j).place j to
+          (omega (arith, inside, sets_counted g player))
+          (own_are j (steps_to digits) (choices_at g player digits n) among) in
+          grind (arith, nat_tests, relevant);
+    };
+  }
 
-      pub searched_all : (own : List Visit) → AreOwn digits visits own
-          → HoldTheSame own level.visits.items → IsLevel (length digits) level
-          → IsSearched g player digits digits level 0 0 whole
-      searched_all own own_are held levelled = record {
-        all_are = are;
-        rest = refl;
-        deep = omega arith;
-        choices = choices;
-        told = record {
-          levelled = levelled;
-          tells = λ n j from to among.
-              let inside = place_inside g game player digits are j among in
-              let relevant = told_by own held n (digit_at digits j).place j to
-              (omega (arith, inside, sets_counted g player))
-              (own_are j (steps_to digits) (choices_at g player digits n) among) in
-              grind (arith, nat_tests, relevant);
-        };
-      }
-
-      pub shown_all : HoldTheSame visits level.visits.items → IsLevel (length counts) level
-          → IsShown g player digits level 0 whole
-      shown_all held levelled = record {
-        choices = choices;
-        told = record {
-          levelled = rw (sym (sets_counted g player)) levelled;
-          tells = λ n place from to among. told_by visits held n place place to among refl;
-        };
-      }
+  pub shown_all : HoldTheSame visits level.visits.items → IsLevel (length counts) level
+      → IsShown g player digits level 0 whole
+  shown_all held levelled = record {
+    choices = all_choices_had;
+    levelled = rw (sym (sets_counted g player)) levelled;
+    tells = λ n place from to among. told_by visits held n place place to among refl;
+  }
 
 -- ---- nothing is found yet
 
@@ -303,4 +275,4 @@ module _ (g : Game) (game : IsGame g) (player : ℕ) (numbers : List ℕ) (whole
 
 pub ruleset start_steps = (actions_positive, width_fits, few_digits, none_found_yet)
 
-pub ruleset label_steps = (none_labelled_yet, labels_are, whole_counted)
+pub ruleset label_steps = (none_labelled_yet, labels_are)

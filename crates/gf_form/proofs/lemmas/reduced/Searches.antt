@@ -1,28 +1,28 @@
 -- A search for first strategies, choice by choice: what is below the choices so far, and what it
 -- finds where it goes no further. And the labels of those that were found, come to in the same way.
-use Rattle.gf_form.proofs.Common.{mul-div_cancel_left, div-lt_iff_lt-mul, mul-le-mul_right, IsLevel}
-use Rattle.gf_form.proofs.Common.{length-take-le, AllByRecursion, is_relevant_at, if◌then◌else◌, ap}
-use Rattle.gf_form.proofs.Common.{action_counts, AreFirstBelow, length-append, reduced_label, arith}
-use Rattle.gf_form.proofs.Common.{relevant_sets, AreLabelledTo, get_or-take, digits_from, take_more}
-use Rattle.gf_form.proofs.Common.{length-drop, all_choices, ArePositive, HaveChoices, IsNextBelow}
-use Rattle.gf_form.proofs.Common.{player_keys, IsSearched, actions_of, is_settled, strategies, take}
-use Rattle.gf_form.proofs.Common.{choices_at, IsChosenAt, can_be_met, AreFoundTo, map-append, Level}
-use Rattle.gf_form.proofs.Common.{length-map, AreInTurn, IsChosen, OwnDigit, IsToldBy, digit_at, []}
-use Rattle.gf_form.proofs.Common.{numbered, list_any, cases_lt, steps_to, is_left, IsFirst, product}
-use Rattle.gf_form.proofs.Common.{add-one, IsShown, reduced, length, get_or, IsFine, IsGame, is_met}
-use Rattle.gf_form.proofs.Common.{nat_lt, Visit, false, subst, shown, drop, ◌&&◌, Game, zero, Bool}
-use Rattle.gf_form.proofs.Common.{true, List, refl, ◌==◌, ◌||◌, ◌++◌, ◌≡◌, suc, ◌+◌, ◌<◌, ◌≤◌, ◌∷◌}
-use Rattle.gf_form.proofs.Common.{◌⊎◌, inl, inr, sym, ◌∙◌, ◌-◌, ◌*◌, ◌/◌, ◌^◌, set, ℕ}
+use Rattle.gf_form.proofs.Common
+use Common.{mul-div_cancel_left, div-lt_iff_lt-mul, mul-le-mul_right, length-take-le, if◌then◌else◌}
+use Common.{AllByRecursion, is_relevant_at, action_counts, AreFirstBelow, length-append, IsSearched}
+use Common.{reduced_label, relevant_sets, AreLabelledTo, get_or-take, digits_from, length-drop, ◌≡◌}
+use Common.{all_choices, ArePositive, HaveChoices, IsNextBelow, actions_of, is_settled, strategies}
+use Common.{choices_at, IsChosenAt, can_be_met, AreFoundTo, map-append, length-map, cases_Bool, suc}
+use Common.{take_more, AreInTurn, IsChosen, OwnDigit, IsToldBy, digit_at, numbered, list_any, arith}
+use Common.{cases_lt, steps_to, IsLevel, is_left, IsFirst, product, IsShown, reduced, length, Level}
+use Common.{get_or, IsFine, IsGame, is_met, nat_lt, Visit, false, subst, shown, take, drop, ◌&&◌, ℕ}
+use Common.{Game, zero, Bool, true, List, refl, ◌==◌, ◌||◌, ◌++◌, ◌+◌, ◌<◌, ◌≤◌, ◌∷◌, inl, inr, sym}
+use Common.{◌∙◌, ◌-◌, ◌*◌, ◌/◌, ◌^◌, ap, []}
 use Rattle.gf_form.specs.inner.reduced.Levels.{Marks}
 use Rattle.gf_form.proofs.lemmas.strategies.StrategiesByNumber.{positive_parts, choices_next}
 use Rattle.gf_form.proofs.lemmas.strategies.StrategiesByNumber.{choices_row, all_at}
 use Rattle.std.proofs.lemmas.Bool.Decides.{nat_tests}
 use Rattle.gf_form.proofs.lemmas.rows.DigitChoices.{choice_at_number}
-use Rattle.gf_form.proofs.lemmas.strategies.ActionCounts.{choice_at as action_within}
+use Rattle.gf_form.proofs.lemmas.strategies.CountedActions.{action_within}
 use Rattle.gf_form.proofs.lemmas.strategies.Choices.{length-all_choices, long}
 use Rattle.gf_form.proofs.lemmas.reduced.FirstStrategies.{reduced_shown_at, IsRepeated, passed_by}
 use Rattle.gf_form.proofs.lemmas.reduced.FirstStrategies.{flags_fit, repeated}
-use Rattle.std.proofs.lemmas.List.{ext_get_or}
+use Rattle.std.proofs.lemmas.List.{ext_get_or, nil_from_length}
+use Rattle.std.proofs.Math.Bool.{and-true}
+use Rattle.gf_form.proofs.lemmas.rows.DigitsMade.{next_is}
 
 steps_positive : (digits : List OwnDigit) → AllByRecursion IsFine digits
     → ArePositive (steps_to digits)
@@ -98,40 +98,59 @@ module _ {g : Game} {player number count : ℕ} {d : OwnDigit} {faster : List Ow
         ap (λ (l : List ℕ). get_or l 0 0) (chosen (n - (number + before * each)) n
         (omega (arith, from)) (omega (arith, from, to)))
 
-    module _ {flag : ℕ → ℕ → Bool} {places : ℕ} {level left : Level}
-        (told : IsToldBy g player (d ∷ faster) flag places level number count)
-        (levelled : IsLevel places left) where
-      told_there : (n place : ℕ) → number + before * each ≤ n → n < number + before * each + each
-          → place < places → flag n place ≡ is_left place (d.step ∷ steps_to faster)
-          ((before + 1) ∷ choices_at g player faster n) level
-      told_there n place from to among = grind (arith, next_end, chosen_there)
+-- what the next level tells
+module _ {g : Game} {player number count : ℕ} {d : OwnDigit} {faster : List OwnDigit}
+    {flag : ℕ → ℕ → Bool} {places : ℕ} {level : Level}
+    (told : IsToldBy g player (d ∷ faster) flag places level number count) (before : ℕ)
+    (less : before < d.actions) {left : Level} (levelled : IsLevel (length level.known.items) left)
+    {action : ℕ} (is : action ≡ before + 1) where
+  told_there : (n place : ℕ) → number + before * (count / d.actions) ≤ n
+      → n < number + before * (count / d.actions) + count / d.actions → place < places
+      → flag n place ≡ is_left place (d.step ∷ steps_to faster)
+      (action ∷ choices_at g player faster n) level
+  told_there n place from to among =
+      let end = next_end told.choices before less in
+      let here = chosen_there told.choices before less n from to in
+      grind (arith, told.tells n place)
 
-      pub next_told : IsChosen d.step (before + 1) level left
-          → IsToldBy g player faster flag places left (number + before * each) each
-      next_told is_chosen = grind (arith, told_there, steps_positive)
+  pub next_told : IsChosen d.step action level left → IsToldBy g player faster flag places left
+      (number + before * (count / d.actions)) (count / d.actions)
+  next_told chosen = record {
+    choices = next_choices told.choices before less;
+    levelled = rw told.levelled.counted at levelled;
+    tells = λ n place from to among.
+        told_there n place from to among
+        ∙ sym (chosen place (steps_to faster) (choices_at g player faster n)
+        (omega (arith, among, told.levelled.counted))
+        (steps_positive faster told.choices.fine.1));
+  }
 
-      -- with other flags, which are set at one more place, if the first action is chosen
-      pub next_told_at : (other : ℕ) (next : ℕ → ℕ → Bool)
-          → IsChosenAt other d.step (before + 1) level left
-          → ((n place : ℕ) → number + before * each ≤ n → n < number + before * each + each
-          → next n place ≡ (flag n place || (before + 1 == 1 && place == other)))
-          → IsToldBy g player faster next places left (number + before * each) each
-      next_told_at other next is_chosen more = grind (arith, told_there, steps_positive)
+  -- with other flags, which are set at one more place, if the first action is chosen
+  pub next_told_at : (other : ℕ) (next : ℕ → ℕ → Bool) → IsChosenAt other d.step action level left
+      → ((n place : ℕ) → number + before * (count / d.actions) ≤ n
+      → n < number + before * (count / d.actions) + count / d.actions
+      → next n place ≡ (flag n place || (before + 1 == 1 && place == other)))
+      → IsToldBy g player faster next places left (number + before * (count / d.actions))
+      (count / d.actions)
+  next_told_at other next chosen more = record {
+    choices = next_choices told.choices before less;
+    levelled = rw told.levelled.counted at levelled;
+    tells = λ n place from to among.
+        let left_is = chosen place (steps_to faster) (choices_at g player faster n)
+        (omega (arith, among, told.levelled.counted))
+        (steps_positive faster told.choices.fine.1) in
+        grind (arith, left_is, told_there n place from to among, more n place from to);
+  }
 
 -- ---- the digit at a depth
 
 digit_here : (all : List OwnDigit) (depth : ℕ) (d : OwnDigit) (faster : List OwnDigit)
     → drop depth all ≡ d ∷ faster
     → (depth < length all) × (drop (depth + 1) all ≡ faster) × (digit_at all depth ≡ d)
-digit_here (x ∷ all) (suc depth) d faster left =
-    grind (arith, add-one, digit_here all depth d faster left)
-digit_here (x ∷ all) zero d faster left = grind arith
-digit_here [] depth d faster left =
-    absurd (omega (arith, ap length left, length-drop {A = OwnDigit} depth []))
-
-pub no_digits : (digits : List OwnDigit) → length digits ≡ 0 → digits ≡ []
-no_digits [] e = refl
-no_digits (d ∷ digits) e = absurd (omega (arith, e))
+digit_here all depth d faster left =
+    let within : depth < length all = omega (arith, ap length left, length-drop depth all) in
+    let none : OwnDigit = record { place = 0; step = 0; actions = 0 } in
+    let there = next_is all depth (digit_at all depth) none within refl in (within, (cc), (cc))
 
 settled_more : (r : Bool) (a j depth before : ℕ) → (j ≡ depth → a ≡ before + 1)
     → (r || (nat_lt j (depth + 1) && a == 1))
@@ -140,25 +159,25 @@ settled_more r a j depth before same = grind (arith, nat_tests)
 
 pub next_searched : {g : Game} {player number count depth : ℕ} {all faster : List OwnDigit}
     {level : Level} {d : OwnDigit} (below : IsSearched g player all (d ∷ faster) level depth number
-    count) (before : ℕ) → before < d.actions → (left : Level) → IsLevel (length all) left
-    → IsChosenAt depth d.step (before + 1) level left
+    count) (before : ℕ) → before < d.actions → {left : Level}
+    → IsLevel (length level.known.items) left → {action : ℕ} → action ≡ before + 1
+    → IsChosenAt depth d.step action level left
     → IsSearched g player all faster left (depth + 1) (number + before * (count / d.actions))
     (count / d.actions)
 next_searched {g} {player} {number} {count} {depth} {all} {faster} {level} {d} below before less
-    left levelled chosen =
+    levelled is chosen =
     let here = digit_here all depth d faster below.rest in
     record {
       all_are = below.all_are;
       rest = here.1;
       deep = omega (arith, here.0);
-      choices = next_choices below.choices before less;
-      told = next_told_at below.choices before less below.told levelled depth
+      told = next_told_at below.told before less levelled is depth
           (is_settled g player all (depth + 1)) chosen (λ n j from to.
           settled_more (is_relevant_at g player n (digit_at all j).place)
           (get_or (numbered g player n) (digit_at all j).place 0) j depth before
           (λ e. ap (λ (i : ℕ). get_or (numbered g player n) (digit_at all i).place 0) e
           ∙ ap (λ (d : OwnDigit). get_or (numbered g player n) d.place 0) here.2
-          ∙ chosen_there below.choices before less n from to));
+          ∙ chosen_there below.told.choices before less n from to));
     }
 
 -- ---- sets that can be met
@@ -177,8 +196,7 @@ unmet_left place steps choices level e = grind (arith, unmet_by)
 -- with no digit left, each visit comes about
 met_all : (place : ℕ) (visits : List Visit) → is_met place [] [] visits
     ≡ list_any (λ (v : Visit). v.set == place) visits
-met_all place [] = refl
-met_all place (v ∷ visits) = grind (arith, met_all place visits)
+met_all place visits = λ i. list_any (λ (v : Visit). and-true (v.set == place) i) visits
 
 pub left_all : (place : ℕ) (level : Level) → is_left place [] [] level ≡ can_be_met place level
 left_all place level =
@@ -190,17 +208,12 @@ left_all place level =
 digit_there : (p : ℕ) (counts : List ℕ) (k : ℕ) → k < length counts → 1 < get_or counts k 0
     → (j : ℕ) × (j < length (digits_from p counts))
     × ((digit_at (digits_from p counts) j).place ≡ p + k)
+digit_there p (suc (suc n) ∷ counts) (suc k) less several =
+    let later = digit_there (p + 1) counts k (omega (arith, less)) several in
+    (suc later.0, omega (arith, later.1), omega (arith, later.2))
 digit_there p (n ∷ counts) (suc k) less several =
-    let d = digit_there (p + 1) counts k (omega (arith, less)) several in
-    by n d.0 d.1 (omega (arith, d.2))
-  where
-    by : (n j : ℕ) → j < length (digits_from (p + 1) counts)
-        → (digit_at (digits_from (p + 1) counts) j).place ≡ p + suc k
-        → (j : ℕ) × (j < length (digits_from p (n ∷ counts)))
-        × ((digit_at (digits_from p (n ∷ counts)) j).place ≡ p + suc k)
-    by zero j inside is = (j, inside, is)
-    by (suc zero) j inside is = (j, inside, is)
-    by (suc (suc n)) j inside is = (suc j, omega (arith, inside), omega (arith, is))
+    let later = digit_there (p + 1) counts k (omega (arith, less)) several in
+    (later.0, later.1, omega (arith, later.2))
 digit_there p (suc (suc n) ∷ counts) zero less several = (0, omega arith, omega arith)
 digit_there p counts zero less several = absurd (grind arith)
 digit_there p [] (suc k) less several = absurd (omega (arith, less))
@@ -236,14 +249,13 @@ module _ (g : Game) (game : IsGame g) (player : ℕ) where
     settled_first : (depth n : ℕ) → n < length all
         → ((j : ℕ) → j < length digits → is_settled g player digits depth n j ≡ true)
         → IsFirst g player n
-    settled_first depth n within settled q less unset = by (cases_lt 1 (get_or counts q 0))
-      where
-        by : (1 < get_or counts q 0) ⊎ (get_or counts q 0 ≤ 1)
-            → get_or (numbered g player n) q 0 ≡ 1
-        by (inr one) = alone n q within less one
-        by (inl several) =
-            let d = rw (sym are) at (digit_there 0 counts q less several) in
-            grind (arith, settled d.0 d.1, d.2, unset)
+    settled_first depth n within settled q less unset =
+        elim (cases_lt 1 (get_or counts q 0)) [
+          | inl several ↦
+              let d = rw (sym are) at (digit_there 0 counts q less several) in
+              grind (arith, settled d.0 d.1, d.2, unset)
+          | inr one ↦ alone n q within less one
+        ]
 
     unsettled : (depth n j : ℕ) → n < length all → j < length digits
         → is_settled g player digits depth n j ≡ false → j < depth → IsRepeated g game player n
@@ -254,7 +266,7 @@ module _ (g : Game) (game : IsGame g) (player : ℕ) where
     module _ {left : List OwnDigit} {level : Level} {depth number count : ℕ}
         (below : IsSearched g player digits left level depth number count) where
       within_all : (n : ℕ) → n < number + count → n < length all
-      within_all n to = omega (arith, to, below.choices.end)
+      within_all n to = omega (arith, to, below.told.choices.end)
 
       -- all sets of digits are known to be met
       pub known_firsts : ((k : ℕ) → k < length level.known.items
@@ -272,27 +284,22 @@ module _ (g : Game) (game : IsGame g) (player : ℕ) where
             ∙ unmet_left j _ _ level
             (sym (marks.marked j (omega (arith, among, below.told.levelled.counted))) ∙ unmet)
 
-        early_within : (j : ℕ) → j < length (take depth met) → (j < depth) × (j < length digits)
-        early_within j inside =
-            let wide = marks.counted ∙ below.told.levelled.counted in
-            let early : j < depth =
-            omega (
-              arith,
-              inside,
-              length-take-le depth met (omega (arith, wide, below.deep)),
-            ) in
-            (early, omega (arith, early, below.deep))
+        taken : length (take depth met) ≡ depth
+        taken =
+            length-take-le depth met
+            (omega (arith, marks.counted, below.told.levelled.counted, below.deep))
 
         -- none is found if a set cannot be met at which a digit is chosen
         pub none_found : (j : ℕ) × (j < length (take depth met))
             × (get_or (take depth met) j false ≡ false) → (numbers : List ℕ)
             → AreFoundTo g player numbers number → AreFoundTo g player numbers (number + count)
         none_found (j, inside, shut) numbers found =
-            let among = early_within j inside in
-            passed_by g game player numbers number count found below.choices.end
-            (λ n from to. unsettled depth n j (within_all n to) among.1
-            (unmet_flag n j from to among.1
-            (sym (get_or-take depth met j false among.0) ∙ shut)) among.0)
+            let early : j < depth = omega (arith, inside, taken) in
+            let among : j < length digits = omega (arith, early, below.deep) in
+            passed_by g game player numbers number count found below.told.choices.end
+            (λ n from to. unsettled depth n j (within_all n to) among
+            (unmet_flag n j from to among (sym (get_or-take depth met j false early) ∙ shut))
+            early)
 
         -- if no digit is left, and all sets are met, the only one is found
         pub last_firsts : left ≡ []
@@ -301,20 +308,15 @@ module _ (g : Game) (game : IsGame g) (player : ℕ) where
         last_firsts none all_met n from to =
             let end : length digits ≤ depth =
             omega (arith, ap length (below.rest ∙ none), length-drop depth digits) in
-            let wide = marks.counted ∙ below.told.levelled.counted in
-            settled_first depth n (within_all n to)
-            (λ j early. below.told.tells n j from to early
+            settled_first depth n (within_all n to) (λ j early.
+            let inside : j < depth = omega (arith, early, end) in
+            below.told.tells n j from to early
             ∙ ap (λ (ds : List OwnDigit).
             is_left j (steps_to ds) (choices_at g player ds n) level) none
             ∙ left_all j level
             ∙ sym (marks.marked j (omega (arith, early, below.told.levelled.counted)))
-            ∙ sym (get_or-take depth met j false (omega (arith, early, end)))
-            ∙ all_met j (omega (
-              arith,
-              early,
-              end,
-              length-take-le depth met (omega (arith, wide, below.deep)),
-            )))
+            ∙ sym (get_or-take depth met j false inside)
+            ∙ all_met j (omega (arith, inside, taken)))
 
     -- all are found if only the first action was tried at a digit whose set cannot be met
     pub all_found : {d : OwnDigit} {faster : List OwnDigit} {level : Level}
@@ -325,47 +327,29 @@ module _ (g : Game) (game : IsGame g) (player : ℕ) where
         → AreFoundTo g player numbers (number + tried * (count / d.actions))
         → AreFoundTo g player numbers (number + count)
     all_found {d} {faster} {level} {depth} {number} {count} below {met} marks tried tried_is numbers
-        found = by (get_or met depth false) refl
-      where
-        row : ℕ
-        row = count / d.actions
-
-        here : (depth < length digits) × (drop (depth + 1) digits ≡ faster)
-            × (digit_at digits depth ≡ d)
-        here = digit_here digits depth d faster below.rest
-
-        by : (b : Bool) → get_or met depth false ≡ b
-            → AreFoundTo g player numbers (number + count)
-        by true e = rw (all_rows below.choices) at (rw (tried_is, e) at found)
-        by false e =
-            let one : number + 1 * row ≡ number + row = omega arith in
-            let some = some_actions below.choices in
-            let end : number + row + (count - row) ≡ number + count =
-            omega (arith, all_rows below.choices, some, mul-le-mul_right row some) in
-            rw end at (passed_by g game player numbers (number + row) (count - row)
-            (rw one at (rw (tried_is, e) at found)) (omega (arith, end, below.choices.end))
-            (λ n from to.
-            let before_end : n < number + count = omega (arith, to, end) in
-            let within : n < length all = omega (arith, before_end, below.choices.end) in
-            let flag = unmet_flag below marks n depth (omega (arith, from)) before_end here.0 e in
-            let at : (digit_at digits depth).place ≡ d.place =
-            ap (λ (d : OwnDigit). d.place) here.2 in
-            repeated g game player n d.place within
-            (subst (λ (q : ℕ). q < length counts) at (place_inside depth here.0))
-            (grind (arith, flag, at))
-            (moved below.choices n from before_end)))
-
--- ---- at a digit
-
-pub next_shown : {g : Game} {player number count : ℕ} {d : OwnDigit} {faster : List OwnDigit}
-    {level : Level} (below : IsShown g player (d ∷ faster) level number count) (before : ℕ)
-    → before < d.actions → (left : Level) → IsLevel (length (player_keys g player)) left
-    → IsChosen d.step (before + 1) level left
-    → IsShown g player faster left (number + before * (count / d.actions)) (count / d.actions)
-next_shown below before less left levelled chosen = record {
-  choices = next_choices below.choices before less;
-  told = next_told below.choices before less below.told levelled chosen;
-}
+        found =
+        let row = count / d.actions in
+        let here = digit_here digits depth d faster below.rest in
+        elim (cases_Bool (get_or met depth false)) [
+          | inl e ↦ rw (all_rows below.told.choices) at (rw (tried_is, e) at found)
+          | inr e ↦
+              let one : number + 1 * row ≡ number + row = omega arith in
+              let some = some_actions below.told.choices in
+              let end : number + row + (count - row) ≡ number + count =
+              omega (arith, all_rows below.told.choices, some, mul-le-mul_right row some) in
+              rw end at (passed_by g game player numbers (number + row) (count - row)
+              (rw one at (rw (tried_is, e) at found)) (omega (arith, end, below.told.choices.end))
+              (λ n from to.
+              let before_end : n < number + count = omega (arith, to, end) in
+              let within : n < length all = omega (arith, before_end, below.told.choices.end) in
+              let flag = unmet_flag below marks n depth (omega (arith, from)) before_end here.0 e in
+              let at : (digit_at digits depth).place ≡ d.place =
+              ap (λ (d : OwnDigit). d.place) here.2 in
+              repeated g game player n d.place within
+              (subst (λ (q : ℕ). q < length counts) at (place_inside depth here.0))
+              (grind (arith, flag, at))
+              (moved below.told.choices n from before_end)))
+        ]
 
 -- ---- one label more
 
@@ -396,8 +380,8 @@ module _ (g : Game) (game : IsGame g) (player : ℕ) (level : Level) (number : �
           (marks.counted ∙ known_fit ∙ sym (flags_fit g game player number within))
           (λ place among. marks.marked place (omega (arith, among, marks.counted))
           ∙ sym (left_all place level)
-          ∙ sym (last.told.tells number place (omega arith) (omega arith)
-          (omega (arith, among, marks.counted, last.told.levelled.counted))))
+          ∙ sym (last.tells number place (omega arith) (omega arith)
+          (omega (arith, among, marks.counted, last.levelled.counted))))
 
 pub one_label_more : (g : Game) (player : ℕ) (numbers : List ℕ) (labels next : List (List ℕ))
     (label : List ℕ) (number : ℕ) → AreInTurn numbers → IsNextBelow numbers labels (number + 1)
@@ -424,4 +408,6 @@ one_label_more g player numbers labels next label number in_turn due labelled la
     is : get_or numbers (length labels) 0 ≡ number
     is = omega (arith, due.0, due.1, labelled.next due.0)
 
-pub ruleset search_steps = (some_actions, step_fits, no_digits)
+pub ruleset search_steps = (some_actions, step_fits, nil_from_length)
+
+pub ruleset shown_steps = (within, known_fit, length-all_choices)

@@ -1,19 +1,23 @@
 -- Terms that are added up for each choice of an action at each digit.
-use Rattle.gf_form.proofs.Common.{mul-le-mul_right, AllByRecursion, with_demands, all_choices, Game}
-use Rattle.gf_form.proofs.Common.{first_terms, AreExactAt, all_images, all_weaker, append-nil, Term}
-use Rattle.gf_form.proofs.Common.{map-append, AreMerged, IsExactAt, SettlesAt, all_parts, all_terms}
-use Rattle.gf_form.proofs.Common.{all_both, cases_lt, steps_of, lowered, product, ComeTo, get_or, ℕ}
-use Rattle.gf_form.proofs.Common.{length, Terms, arith, meets, spans, subst, part, refl, List, ◌++◌}
-use Rattle.gf_form.proofs.Common.{zero, true, map, sym, ◌∷◌, suc, ◌≡◌, ◌∙◌, inl, inr, ◌+◌, ◌-◌, ◌*◌}
-use Rattle.gf_form.proofs.Common.{◌<◌, ◌≤◌, ◌⊎◌, [], ap}
+use Rattle.gf_form.proofs.Common
+use Common.{mul-le-mul_right, AllByRecursion, with_demands, all_choices, first_terms, AreExactAt, ℕ}
+use Common.{all_images, all_weaker, append-nil, map-append, AreMerged, IsExactAt, all_parts, ComeTo}
+use Common.{all_terms, EndsBelow, map_twice, all_both, cases_lt, steps_of, AreAlike, lowered, Terms}
+use Common.{product, get_or, length, arith, spans, subst, Asked, meets, Term, part, refl, List, map}
+use Common.{◌++◌, ints, OnOk, true, zero, sym, ◌∷◌, ◌≡◌, ◌∙◌, inl, inr, ◌+◌, ◌-◌, ◌*◌, ◌<◌, ◌≤◌, []}
+use Common.{◌⊎◌, Err, Run, suc}
+use Rattle.std.specs.Prelude.{Ok, Result}
 use Rattle.std.proofs.lemmas.List.{append_assoc, take_rest}
 use Rattle.gf_form.specs.declared.rows.digits.Digit.{Digit}
 use Rattle.gf_form.specs.inner.rows.GameDigits.{actions_at}
-use Rattle.gf_form.specs.inner.rows.TermLists.{CountsBelow}
-use Rattle.gf_form.specs.inner.rows.ChoiceSums.{AddUpTo, AreActions, HasSums, IsBetween}
+use Rattle.gf_form.specs.inner.rows.TermLists.{AreInOrder, CountsBelow}
+use Rattle.gf_form.specs.inner.rows.ChoiceSums.{AddUpTo, AreActions, AreAddedUp, HasSums}
+use Rattle.gf_form.specs.inner.rows.ChoiceSums.{raised}
+use Rattle.gf_form.specs.inner.rows.SettledRows.{SettleBy}
 use Rattle.gf_form.proofs.lemmas.rows.DigitChoices.{choice_at_number}
-use Rattle.gf_form.proofs.lemmas.rows.MergedTerms.{exact_lowered, come_lowered, first_parts, IsFree}
-use Rattle.gf_form.proofs.lemmas.rows.MergedTerms.{sum_append, free_met, IsOther, own_met, IsOwn}
+use Rattle.gf_form.proofs.lemmas.rows.MergedTerms.{come_moved, come_none, come_to_both}
+use Rattle.gf_form.proofs.lemmas.rows.MergedTerms.{free_met, other_unmet, raised_met, sum_append}
+use Rattle.gf_form.proofs.lemmas.rows.MergedTerms.{IsFree, IsOther, IsOwn}
 use Rattle.gf_form.proofs.lemmas.rows.DemandDigits.{spans_above}
 use Rattle.gf_form.proofs.lemmas.rows.FlatRows.{terms_count}
 use Rattle.gf_form.proofs.lemmas.rows.Merges.{cut, lowered_none, range}
@@ -21,202 +25,150 @@ use Rattle.gf_form.proofs.lemmas.rows.PairRows.{free_met as zero_met}
 
 -- ---- by way of others
 
-pub add_up_through : (actions : List ℕ) (es mid sums : List Term) → AddUpTo actions es mid
-    → AddUpTo actions mid sums → AddUpTo actions es sums
-add_up_through actions es mid sums first second den choices valid exact =
-    let one = second den choices valid exact in
-    let other = first den choices valid one.exact in
-    record { exact = other.exact; sums = λ k. other.sums k ∙ one.sums k }
-
-pub sums_through : (actions : List ℕ) (least : ℕ) (es mid old new : List Term)
-    → AddUpTo actions es mid → HasSums actions least mid old new → HasSums actions least es old new
-sums_through actions least es mid old new first h = record {
-  sums = h.sums;
-  is = h.is;
-  within = h.within;
-  add_up = add_up_through actions es mid (map (lowered least) h.sums) first h.add_up;
+pub added_through : (digits : List Digit) (least : ℕ) (from list old new : Terms)
+    → AddUpTo (actions_at digits) (all_terms from) (all_terms list)
+    → AreAddedUp digits least list old new → AreAddedUp digits least from old new
+added_through digits least from list old new first h = record {
+  sums = record {
+    sums = h.sums.sums;
+    is = h.sums.is;
+    within = h.sums.within;
+    add_up = λ den choices valid exact.
+        let one = h.sums.add_up den choices valid exact in
+        let other = first den choices valid one.exact in
+        record { exact = other.exact; sums = λ k. other.sums k ∙ one.sums k };
+  };
+  order = h.order;
+  ends = h.ends;
 }
 
 -- ---- at each action
 
--- the sums that demand an action
-pub record HasBlock (step : ℕ) (faster : List ℕ) (es sums : List Term) (action : ℕ) : Type 0 where
-  pub left : List Term
-  pub between : List Term
-  pub own : List Term
-  pub rest : List Term
-  pub merged : AreMerged step action es left
-  pub joined : sums ≡ between ++ (own ++ rest)
-  pub are_between : AllByRecursion (IsOther step action) between
-  pub are_own : AllByRecursion (IsOwn step action) own
-  pub are_rest : AllByRecursion (IsOther step action) rest
-  pub add_up : AddUpTo faster left (map (lowered (action * step)) own)
-
-block_adds_up : (faster : List ℕ) (es sums : List Term) (action : ℕ) → 1 ≤ action
-    → HasBlock (product (spans faster)) faster es sums action → (den : ℕ) (choices : List ℕ)
-    → AreActions faster choices
-    → AreExactAt den (product (spans faster) ∷ steps_of faster) (action ∷ choices) sums
-    → ComeTo den (product (spans faster) ∷ steps_of faster) (action ∷ choices) es
-    (product (spans faster) ∷ steps_of faster) (action ∷ choices) sums
-block_adds_up faster es sums action some b den choices valid exact =
-    let step = product (spans faster) in
-    let steps = steps_of faster in
-    let P = IsExactAt den (step ∷ steps) (action ∷ choices) in
-    let behind = (all_parts P b.between (b.own ++ b.rest) (rw b.joined at exact)).1 in
-    let own = exact_lowered step action steps choices den (IsOwn step action) (action * step)
-    (λ e. own_met step action steps choices e some) b.own b.are_own
-    (all_parts P b.own b.rest behind).0 in
-    let one = b.add_up den choices valid own in
-    let other = b.merged den steps choices one.exact in
-    let whole = first_parts step action sums [] b.between b.own b.rest some (record {
-      joined = b.joined;
-      are_free = tt;
-      are_between = b.are_between;
-      are_own = b.are_own;
-      are_rest = b.are_rest;
-    }) den steps choices own in
-    record {
-      exact = other.exact;
-      sums = λ k. other.sums k ∙ one.sums k ∙ sym (whole.sums k);
-    }
+abbrev pub IsBetween : ℕ → ℕ → Term → Type 0
+IsBetween low high e = (low ≤ e.head.demands) × (e.head.demands < high)
 
 -- while the actions are gone through
-pub record Summing (step : ℕ) (faster : List ℕ) (es : List Term) (least done : ℕ)
-    (old new : List Term) : Type 0 where
+pub record Summing (faster : List ℕ) (es : List Term) (least done : ℕ) (old new : List Term)
+    : Type 0 where
   pub sums : List Term
-  pub is : new ≡ old ++ sums
-  pub within : AllByRecursion (IsBetween (least + step) (least + (done + 1) * step)) sums
-  pub blocks : (action : ℕ) → 1 ≤ action → action ≤ done
-      → HasBlock step faster es (map (lowered least) sums) action
+  pub is : new ≡ old ++ map (raised least) sums
+  pub within : AllByRecursion
+      (IsBetween (product (spans faster)) ((done + 1) * product (spans faster))) sums
+  pub add_up : AddUpTo (done ∷ faster) es sums
 
-pub first_summing : (step : ℕ) (faster : List ℕ) (es : List Term) (least : ℕ) (old : List Term)
-    → Summing step faster es least 0 old old
-first_summing step faster es least old = record {
-  sums = [];
-  is = sym (append-nil old);
-  within = tt;
-  blocks = λ action some none. absurd (omega (arith, some, none));
-}
+pub first_summing : (faster : List ℕ) (es : List Term) (least : ℕ) (old : List Term)
+    → Summing faster es least 0 old old
+first_summing faster es least old =
+    record { sums = []; is = sym (append-nil old); within = tt; add_up = none }
+  where
+    none : AddUpTo (0 ∷ faster) es []
+    none den [] valid exact = absurd valid
+    none den (c ∷ choices) valid exact = absurd (omega (arith, valid.0.0, valid.0.1))
 
-lowered_twice : (a b : ℕ) (es : List Term)
-    → map (lowered b) (map (lowered a) es) ≡ map (lowered (a + b)) es
-lowered_twice a b [] = refl
-lowered_twice a b (e ∷ es) = grind (arith, lowered_twice a b es)
+raised_twice : (a b : ℕ) (es : List Term)
+    → map (raised a) (map (raised b) es) ≡ map (raised (a + b)) es
+raised_twice a b [] = refl
+raised_twice a b (e ∷ es) = grind (arith, raised_twice a b es)
 
-module _ (step : ℕ) (faster : List ℕ) (es : List Term) (least done : ℕ) (old now new : List Term)
-    (step_is : step ≡ product (spans faster))
-    (before : Summing step faster es least done old now) (left : List Term)
-    (merged : AreMerged step (done + 1) es left)
-    (more : HasSums faster (least + (done + 1) * step) left now new) where
+module _ (faster : List ℕ) (es : List Term) (least done : ℕ) (old now new : List Term)
+    (before : Summing faster es least done old now) (left : List Term)
+    (merged : AreMerged (product (spans faster)) (done + 1) es left)
+    (more : HasSums faster (least + (done + 1) * product (spans faster)) left now new) where
+  abbrev step : ℕ
+  step = product (spans faster)
+
   abbrev own : List Term
-  own = map (lowered least) more.sums
+  own = map (raised ((done + 1) * step)) more.sums
 
-  more_within : AllByRecursion
-      (IsBetween (least + (done + 1) * step) (least + (done + 1 + 1) * step)) more.sums
-  more_within = all_weaker (IsBetween (least + (done + 1) * step)
-      (least + (done + 1) * step + product (spans faster)))
-      (IsBetween (least + (done + 1) * step) (least + (done + 1 + 1) * step))
-      (λ e h. (h.0, omega (arith, h.1, step_is))) more.sums more.within
+  are_own : AllByRecursion (IsOwn step (done + 1)) own
+  are_own = all_images (IsOwn step (done + 1)) (raised ((done + 1) * step)) more.sums
+      (all_weaker (IsFree step) (λ e. IsOwn step (done + 1) (raised ((done + 1) * step) e))
+      (λ e h. (omega arith, omega (arith, h))) more.sums more.within)
 
-  joined : map (lowered least) (before.sums ++ more.sums)
-      ≡ map (lowered least) before.sums ++ own
-  joined = map-append (lowered least) before.sums more.sums
+  first_le : 1 * step ≤ (done + 1) * step
+  first_le = mul-le-mul_right step (omega arith)
 
-  earlier : (action : ℕ) → 1 ≤ action → action ≤ done
-      → HasBlock step faster es (map (lowered least) (before.sums ++ more.sums)) action
-  earlier action some le =
-      let b = before.blocks action some le in
-      let below : (action + 1) * step ≤ (done + 1) * step =
-      mul-le-mul_right step (omega (arith, le)) in
-      let first : 1 * step ≤ (done + 1) * step = mul-le-mul_right step (omega arith) in
-      record {
-        left = b.left;
-        between = b.between;
-        own = b.own;
-        rest = b.rest ++ own;
-        merged = b.merged;
-        joined = joined ∙ cc (
-          b.joined,
-          append_assoc b.between (b.own ++ b.rest) own,
-          append_assoc b.own b.rest own,
-        );
-        are_between = b.are_between;
-        are_own = b.are_own;
-        are_rest = all_both (IsOther step action) b.rest own b.are_rest
-            (all_images (IsOther step action) (lowered least) more.sums (all_weaker
-            (IsBetween (least + (done + 1) * step) (least + (done + 1 + 1) * step))
-            (λ e. IsOther step action (lowered least e))
-            (λ e h. (omega (arith, h.0, first), inr (omega (arith, h.0, below))))
-            more.sums more_within));
-        add_up = b.add_up;
-      }
+  module _ (den : ℕ) (choices : List ℕ) (valid : AreActions faster choices) where
+    abbrev AddsUpAt : ℕ → Type 0
+    AddsUpAt c = AreExactAt den (step ∷ steps_of faster) (c ∷ choices) (before.sums ++ own)
+        → ComeTo den (step ∷ steps_of faster) (c ∷ choices) es (step ∷ steps_of faster)
+        (c ∷ choices) (before.sums ++ own)
 
-  latest : HasBlock step faster es (map (lowered least) (before.sums ++ more.sums)) (done + 1)
-  latest =
-      let action = done + 1 in record {
-        left = left;
-        between = map (lowered least) before.sums;
-        own = own;
-        rest = [];
-        merged = merged;
-        joined = joined ∙ ap (λ (es : List Term). map (lowered least) before.sums ++ es)
-            (sym (append-nil own));
-        are_between = all_images (IsOther step action) (lowered least) before.sums (all_weaker
-            (IsBetween (least + step) (least + (done + 1) * step))
-            (λ e. IsOther step action (lowered least e))
-            (λ e h. (omega (arith, h.0), inl (omega (arith, h.0, h.1))))
-            before.sums before.within);
-        are_own = all_images (IsOwn step action) (lowered least) more.sums (all_weaker
-            (IsBetween (least + (done + 1) * step) (least + (done + 1 + 1) * step))
-            (λ e. IsOwn step action (lowered least e))
-            (λ e h. (omega (arith, h.0), omega (arith, h.0, h.1))) more.sums more_within);
-        are_rest = tt;
-        add_up = rw (lowered_twice least (action * step) more.sums) more.add_up;
-      }
+    -- at an action that was gone through, the new ones count for nothing
+    at_earlier : (c : ℕ) → 1 ≤ c → c ≤ done → AddsUpAt c
+    at_earlier c some le exact =
+        let steps = steps_of faster in
+        let below : (c + 1) * step ≤ (done + 1) * step =
+        mul-le-mul_right step (omega (arith, le)) in
+        let one = before.add_up den (c ∷ choices) ((some, le), valid)
+        (all_parts (IsExactAt den (step ∷ steps) (c ∷ choices)) before.sums own exact).0 in
+        let none = come_none den (step ∷ steps) (c ∷ choices) [] [] (IsOther step c)
+        (other_unmet step c steps choices) own (all_weaker (IsOwn step (done + 1)) (IsOther step c)
+        (λ e h. (omega (arith, h.0, first_le), inr (omega (arith, h.0, below)))) own are_own) in
+        record {
+          exact = one.exact;
+          sums = λ k. simp sum_append (omega (arith, ints, one.sums k, none.sums k));
+        }
 
-  pub more_summing : Summing step faster es least (done + 1) old new
-  more_summing =
-      let first : 1 * step ≤ (done + 1) * step = mul-le-mul_right step (omega arith) in record {
-        sums = before.sums ++ more.sums;
-        is = cc (more.is, before.is, append_assoc old before.sums more.sums);
-        within = all_both (IsBetween (least + step) (least + (done + 1 + 1) * step)) before.sums
-            more.sums
-            (all_weaker (IsBetween (least + step) (least + (done + 1) * step))
-            (IsBetween (least + step) (least + (done + 1 + 1) * step))
-            (λ e h. (h.0, omega (arith, h.1))) before.sums before.within)
-            (all_weaker
-            (IsBetween (least + (done + 1) * step) (least + (done + 1 + 1) * step))
-            (IsBetween (least + step) (least + (done + 1 + 1) * step))
-            (λ e h. (omega (arith, h.0, first), h.1)) more.sums more_within);
-        blocks = λ action some le. at action some le (cases_lt done action);
-      }
+    -- at the new one, those before it do
+    at_latest : AddsUpAt (done + 1)
+    at_latest exact =
+        let c = done + 1 in
+        let steps = steps_of faster in
+        let parts = all_parts (IsExactAt den (step ∷ steps) (c ∷ choices)) before.sums own exact in
+        let none = come_none den (step ∷ steps) (c ∷ choices) [] [] (IsOther step c)
+        (other_unmet step c steps choices) before.sums (all_weaker
+        (IsBetween step ((done + 1) * step)) (IsOther step c) (λ e h. (h.0, inl h.1)) before.sums
+        before.within) in
+        let low : ComeTo den steps choices more.sums (step ∷ steps) (c ∷ choices) own =
+        come_moved den steps choices (step ∷ steps) (c ∷ choices) (IsFree step)
+        (λ e. e.head.demands + c * step) (raised_met step c steps choices (omega arith)) more.sums
+        more.within parts.1 in
+        let one = more.add_up den choices valid low.exact in
+        let other = merged den steps choices one.exact in
+        record {
+          exact = other.exact;
+          sums = λ k. simp sum_append
+              (omega (arith, ints, other.sums k, one.sums k, low.sums k, none.sums k));
+        }
+
+  adds_up : AddUpTo ((done + 1) ∷ faster) es (before.sums ++ own)
+  adds_up den [] valid = absurd valid
+  adds_up den (c ∷ choices) valid = at (cases_lt done c)
     where
-      at : (action : ℕ) → 1 ≤ action → action ≤ done + 1 → (done < action) ⊎ (action ≤ done)
-          → HasBlock step faster es (map (lowered least) (before.sums ++ more.sums)) action
-      at action some le (inr old) = earlier action some old
-      at action some le (inl new) =
-          let same : done + 1 ≡ action = omega (arith, new, le) in
-          subst (HasBlock step faster es (map (lowered least) (before.sums ++ more.sums))) same
-          latest
+      at : (done < c) ⊎ (c ≤ done) → AddsUpAt den choices valid.1 c
+      at (inr le) = at_earlier den choices valid.1 c valid.0.0 le
+      at (inl new) =
+          let same : done + 1 ≡ c = omega (arith, new, valid.0.1) in
+          subst (AddsUpAt den choices valid.1) same (at_latest den choices valid.1)
 
-pub last_summing : (step n : ℕ) (faster : List ℕ) (es : List Term) (least : ℕ)
-    (old new : List Term) → step ≡ product (spans faster)
-    → Summing step faster es least n old new → HasSums (n ∷ faster) least es old new
-last_summing step n faster es least old new step_is done = record {
+  pub more_summing : Summing faster es least (done + 1) old new
+  more_summing = record {
+    sums = before.sums ++ own;
+    is = cc (
+      more.is,
+      before.is,
+      raised_twice least ((done + 1) * step) more.sums,
+      map-append (raised least) before.sums own,
+      append_assoc old (map (raised least) before.sums) (map (raised least) own),
+    );
+    within = all_both (IsBetween step ((done + 1 + 1) * step)) before.sums own
+        (all_weaker (IsBetween step ((done + 1) * step)) (IsBetween step ((done + 1 + 1) * step))
+        (λ e h. (h.0, omega (arith, h.1))) before.sums before.within)
+        (all_weaker (IsOwn step (done + 1)) (IsBetween step ((done + 1 + 1) * step))
+        (λ e h. (omega (arith, h.0, first_le), omega (arith, h.1))) own are_own);
+    add_up = adds_up;
+  }
+
+pub last_summing : (n : ℕ) (faster : List ℕ) (es : List Term) (least : ℕ) (old new : List Term)
+    → Summing faster es least n old new → HasSums (n ∷ faster) least es old new
+last_summing n faster es least old new done = record {
   sums = done.sums;
   is = done.is;
-  within = all_weaker (IsBetween (least + step) (least + (n + 1) * step))
-      (IsBetween least (least + (n + 1) * product (spans faster)))
-      (λ e h. (omega (arith, h.0), rw (sym step_is) h.1)) done.sums done.within;
-  add_up = adds_up;
+  within = all_weaker (IsBetween (product (spans faster)) ((n + 1) * product (spans faster)))
+      (IsFree ((n + 1) * product (spans faster))) (λ e h. h.1) done.sums done.within;
+  add_up = done.add_up;
 }
-  where
-    adds_up : AddUpTo (n ∷ faster) es (map (lowered least) done.sums)
-    adds_up den [] valid exact = absurd valid
-    adds_up den (c ∷ choices) valid exact =
-        block_adds_up faster es (map (lowered least) done.sums) c valid.0.0
-        (subst (λ (s : ℕ). HasBlock s faster es (map (lowered least) done.sums) c) step_is
-        (done.blocks c valid.0.0 valid.0.1)) den choices valid.1 exact
 
 -- ---- if nothing more is demanded
 
@@ -230,31 +182,31 @@ last_met [] [] none = tt
 last_met [] (e ∷ es) none = ((λ choices. refl), last_met [] es none)
 last_met (d ∷ digits) es none = absurd (omega (arith, none))
 
-module _ (actions : List ℕ) (least den : ℕ) (choices : List ℕ) where
-  all_come : (es : List Term) → AllByRecursion (IsMet actions) es
-      → AreExactAt den (steps_of actions) choices
-      (map (lowered least) (map (with_demands least) es))
-      → ComeTo den (steps_of actions) choices es (steps_of actions) choices
-      (map (lowered least) (map (with_demands least) es))
-  all_come [] all exact = record { exact = tt; sums = λ k. refl }
-  all_come (e ∷ es) all exact =
-      let met = all.0 choices in
-      let free = zero_met actions choices in
-      let none : least - least ≡ 0 = omega arith in
-      grind (arith, all_come es all.1 exact.1)
-
-pub none_demanded : (actions : List ℕ) (least : ℕ) (es old new : List Term)
-    → AllByRecursion (IsMet actions) es → new ≡ old ++ map (with_demands least) es
-    → HasSums actions least es old new
-none_demanded actions least es old new met is = record {
-  sums = map (with_demands least) es;
-  is = is;
-  within = all_images (IsBetween least (least + product (spans actions))) (with_demands least) es
-      (all_weaker (IsMet actions)
-      (λ e. IsBetween least (least + product (spans actions)) (with_demands least e))
-      (λ e h. (omega arith, omega (arith, spans_above actions))) es met);
-  add_up = λ den choices valid exact. all_come actions least den choices es met exact;
-}
+pub none_demanded : {T E : Type 0} (result : Result T E) (digits : List Digit) (least : ℕ)
+    (from old new : Terms) → AllByRecursion (IsMet (actions_at digits)) (all_terms from)
+    → OnOk result (all_terms new ≡ all_terms old ++ map (with_demands least) (all_terms from))
+    → OnOk result (AreInOrder new) → OnOk result (EndsBelow new.demands.items least)
+    → OnOk result (AreAddedUp digits least from old new)
+none_demanded (Err e) digits least from old new met is order ends = tt
+none_demanded (Ok done) digits least from old new met is order ends =
+    let actions = actions_at digits in
+    let es = all_terms from in
+    let low = with_demands 0 in
+    let none : least ≡ 0 + least = omega arith in record {
+      sums = record {
+        sums = map low es;
+        is = is ∙ (λ i. all_terms old ++ map (with_demands (none i)) es)
+            ∙ (λ i. all_terms old ++ sym (map_twice (raised least) low es) i);
+        within = all_images (IsFree (product (spans actions))) low es
+            (all_weaker (IsMet actions) (λ e. IsFree (product (spans actions)) (low e))
+            (λ e h. spans_above actions) es met);
+        add_up = λ den choices valid exact.
+            come_moved den (steps_of actions) choices (steps_of actions) choices (IsMet actions)
+            (λ e. 0) (λ e h. h choices ∙ sym (zero_met actions choices)) es met exact;
+      };
+      order = order;
+      ends = λ d some. omega (arith, ends d some);
+    }
 
 pub alone_met : (actions : List ℕ) (t : Terms) → length t.demands.items ≤ 1
     → get_or t.demands.items 0 0 ≡ 0 → AllByRecursion (IsMet actions) (all_terms t)
@@ -278,60 +230,61 @@ front_adds_up n faster es front rest sums parts_are are_free h den [] valid exac
 front_adds_up n faster es front rest sums parts_are are_free h den (c ∷ choices) valid exact =
     let step = product (spans faster) in
     let steps = steps_of faster in
-    let P = IsExactAt den (step ∷ steps) (c ∷ choices) in
-    let parts = all_parts P sums rest exact in
+    let parts = all_parts (IsExactAt den (step ∷ steps) (c ∷ choices)) sums rest exact in
     let met = free_met step c steps choices in
-    let within : AllByRecursion (IsFree step) sums =
-    rw h.is (all_weaker (IsBetween 0 (0 + step)) (IsFree step) (λ e b. omega (arith, b.1)) h.sums
-    h.within) in
-    let low = exact_lowered step c steps choices den (IsFree step) 0 met sums within parts.0 in
-    let summed = come_lowered step c steps choices den (IsFree step) 0 met sums within low in
-    let one = h.add_up den choices valid.1 (rw h.is at low) in
-    let first = come_lowered step c steps choices den (IsFree step) 0 met front are_free
-    (rw (none_lowered front) one.exact) in
-    record {
-      exact = rw parts_are (all_both P front rest first.exact parts.1);
-      sums = λ k.
-          let add = sum_append den (step ∷ steps) (c ∷ choices) k in
-          cc (
-            parts_are,
-            add front rest,
-            add sums rest,
-            first.sums k,
-            one.sums k,
-            summed.sums k,
-            none_lowered front,
-            h.is,
-          );
-    }
+    let low : ComeTo den steps choices h.sums (step ∷ steps) (c ∷ choices) (map (raised 0) h.sums) =
+    come_moved den steps choices (step ∷ steps) (c ∷ choices) (IsFree step)
+    (λ e. e.head.demands + 0) (λ e free. grind arith) h.sums h.within (rw h.is at parts.0) in
+    let one = h.add_up den choices valid.1 low.exact in
+    let first : ComeTo den (step ∷ steps) (c ∷ choices) front steps choices
+    (map (lowered 0) front) =
+    come_moved den (step ∷ steps) (c ∷ choices) steps choices (IsFree step)
+    (λ e. e.head.demands - 0) met front are_free (rw (none_lowered front) one.exact) in
+    rw parts_are (come_to_both den (step ∷ steps) (c ∷ choices) (step ∷ steps) (c ∷ choices) front
+    sums rest rest (record {
+      exact = first.exact;
+      sums = λ k. cc (first.sums k, one.sums k, low.sums k, none_lowered front, h.is);
+    }) (record { exact = parts.1; sums = λ k. refl }))
 
 pub summed_sums : (t : Terms) (n step : ℕ) (faster : List ℕ) (free all : ℕ)
     (none first old sums new : List Term) → step ≡ product (spans faster)
     → CountsBelow t.demands.items step free → all ≡ length t.demands.items → none ≡ []
-    → first ≡ none ++ part 0 free (all_terms t) → old ≡ [] → HasSums faster 0 first old sums
-    → new ≡ sums ++ part free all (all_terms t) → AddUpTo (n ∷ faster) (all_terms t) new
+    → first ≡ none ++ map (lowered 0) (part 0 free (all_terms t)) → old ≡ []
+    → HasSums faster 0 first old sums
+    → new ≡ sums ++ map (lowered 0) (part free all (all_terms t))
+    → AddUpTo (n ∷ faster) (all_terms t) new
 summed_sums t n step faster free all none first old sums new step_is counts all_is none_is first_is
     old_is h new_is =
     let es = all_terms t in
-    let first_part : first ≡ part 0 free es = rw none_is at first_is in
+    let first_part : first ≡ part 0 free es = rw (none_is, none_lowered) at first_is in
     let whole : es ≡ part 0 free es ++ part free all es =
     cc (cut es 0 free (omega arith), take_rest es free, terms_count t, all_is) in
     let are_free = range (IsFree step) t 0 free (omega arith) counts.bound
     (λ k at. counts.below k) in
-    rw new_is (front_adds_up n faster es (part 0 free es) (part free all es) sums whole
-    (subst (λ (s : ℕ). AllByRecursion (IsFree s) (part 0 free es)) step_is are_free)
+    let new_part : new ≡ sums ++ part free all es = rw none_lowered at new_is in
+    rw new_part (front_adds_up n faster es (part 0 free es) (part free all es) sums
+    whole (subst (λ (s : ℕ). AllByRecursion (IsFree s) (part 0 free es)) step_is are_free)
     (rw (first_part, old_is) at h))
 
 -- ---- profiles
 
-pub settled_summed : (g : Game) (actions : List ℕ) (from list : Terms) (least number : ℕ)
-    → AddUpTo actions (all_terms from) (all_terms list) → SettlesAt g actions from least number
-    → SettlesAt g actions list least number
-settled_summed g actions from list least number add_up before = record {
-  from = before.from;
-  to = before.to;
-  settles = λ k less den above within exact small.
-      let come = add_up den (get_or (all_choices actions) (number - least) [])
-      (choice_at_number actions (number - least) before.to) exact in
-      grind arith;
+pub settled_summed : (asked : Asked) (terms list : Terms) (digits : List Digit) (run : Run)
+    → SettleBy asked terms digits run
+    → AddUpTo (actions_at digits) (all_terms terms) (all_terms list)
+    → AreAlike list terms → AreInOrder list → SettleBy asked list digits run
+settled_summed asked terms list digits run by add_up alike order = record {
+  are_terms = (order, alike.0 ∙ by.are_terms.1);
+  steps = by.steps;
+  within = by.within;
+  count = by.count;
+  settles = λ i from to.
+      let before = by.settles i from to in record {
+        from = before.from;
+        to = before.to;
+        settles = λ k less den above within exact small.
+            let number = get_or asked.numbers.now i 0 - run.first in
+            let come = add_up den (get_or (all_choices (actions_at digits)) number [])
+            (choice_at_number (actions_at digits) number before.to) exact in
+            grind arith;
+      };
 }

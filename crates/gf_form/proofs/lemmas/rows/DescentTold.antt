@@ -1,12 +1,10 @@
 -- What a walk meets, given by a walk through branches.
-use Rattle.gf_form.proofs.Common.{append_assoc, at_position, child_trees, player_keys, choice_at, ℕ}
-use Rattle.gf_form.proofs.Common.{Entering, Handing, descent, descent_all, demanding, Option}
-use Rattle.gf_form.proofs.Common.{length, root_node, list_of, arith, eq-eqb, branch, SetKey, Trees}
-use Rattle.gf_form.proofs.Common.{count, [], none, more, Game, Node, List, ◌++◌, Some, None, refl}
-use Rattle.gf_form.proofs.Common.{stop_at, Stop, Tree, IsGame, ◌≡◌, ◌+◌, ◌∷◌, sym, suc, ap, map}
-use Rattle.gf_form.proofs.Common.{map-append, ◌∙◌, option_map, demanded, game_of, tree_of}
-use Rattle.gf_form.proofs.Common.{game_of_branches, stops_left, branches_left, branches_given, Path}
-use Rattle.gf_form.proofs.Common.{path_handing, reached, root_path}
+use Rattle.gf_form.proofs.Common.{game_of_branches, branches_given, branches_left, append_assoc, []}
+use Rattle.gf_form.proofs.Common.{at_position, child_trees, player_keys, descent_all, option_map, ℕ}
+use Rattle.gf_form.proofs.Common.{demanding, root_node, Entering, demanded, Handing, descent, arith}
+use Rattle.gf_form.proofs.Common.{list_of, stop_at, game_of, tree_of, length, eq-eqb, branch, Trees}
+use Rattle.gf_form.proofs.Common.{SetKey, IsGame, count, none, more, Game, Node, List, ◌++◌, Some}
+use Rattle.gf_form.proofs.Common.{None, refl, Stop, Tree, ◌≡◌, ◌+◌, ◌∷◌, sym, suc, map, ◌∙◌, ap}
 use Rattle.gf_form.specs.inner.rows.Descents.{demands_below, below, open_stops, open_turns, step_at}
 use Rattle.gf_form.specs.inner.rows.Descents.{steps_by, stops, turns}
 use Rattle.gf_form.proofs.lemmas.values.Walks.{trees_of_list, choice_is, choice_there}

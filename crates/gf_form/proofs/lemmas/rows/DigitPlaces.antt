@@ -1,12 +1,11 @@
 -- The places of sets and of their digits.
-use Rattle.gf_form.proofs.Common.{◌≡◌, length, get_or, arith, product, spans, picked, width, ℕ}
-use Rattle.gf_form.proofs.Common.{mul_assoc, map-append, steps_after, zero, suc, ◌+◌, ◌*◌, ◌<◌}
-use Rattle.gf_form.proofs.Common.{◌≤◌, List, [], ◌∷◌, ◌++◌, map, refl, mul_above, in_order}
-use Rattle.gf_form.proofs.Common.{IsDigitOf, length-append, get_or_append_left}
+use Rattle.gf_form.proofs.Common.{get_or_append_left, InformationSet, length-append, steps_after, ℕ}
+use Rattle.gf_form.proofs.Common.{mul_assoc, ArePlaced, AreDigits, steps_of, in_order, product, ◌≡◌}
+use Rattle.gf_form.proofs.Common.{length, get_or, picked, SetKey, set_at, arith, width, false, zero}
+use Rattle.gf_form.proofs.Common.{Some, List, ◌++◌, refl, Bool, true, Game, suc, ◌+◌, ◌*◌, ◌<◌, ◌≤◌}
+use Rattle.gf_form.proofs.Common.{◌∷◌, map, ◌^◌, ◌∙◌, []}
 use Rattle.gf_form.proofs.lemmas.rows.DemandDigits.{spans_above}
 use Rattle.std.proofs.lemmas.List.{get_or-append-add}
-use Rattle.std.specs.List.{sum}
-use Rattle.std.proofs.lemmas.List.Sums.{sum_by-cons}
 
 -- ---- products
 
@@ -14,16 +13,12 @@ pub product_joined : (xs ys : List ℕ) → product (xs ++ ys) ≡ product xs * 
 product_joined [] ys = omega arith
 product_joined (x ∷ xs) ys = cc (product_joined xs ys, mul_assoc x (product xs) (product ys))
 
-pub spans_joined : (xs ys : List ℕ)
-    → product (spans (xs ++ ys)) ≡ product (spans xs) * product (spans ys)
-spans_joined xs ys = cc (map-append (λ n. n + 1) xs ys, product_joined (spans xs) (spans ys))
-
 pub width_positive : (counts : List ℕ) → 0 < width counts
 width_positive counts = spans_above (picked counts counts)
 
 -- ---- a number for each set
 
-pub as_many_picked : (counts xs : List ℕ) → length xs ≡ length counts
+as_many_picked : (counts xs : List ℕ) → length xs ≡ length counts
     → length (picked counts xs) ≡ length (picked counts counts)
 as_many_picked (n ∷ counts) (x ∷ xs) e = grind (arith, as_many_picked counts xs (omega (arith, e)))
 as_many_picked counts xs e = grind arith
@@ -33,66 +28,91 @@ pub steps_long : (faster : ℕ) (counts : List ℕ)
 steps_long faster [] = refl
 steps_long faster (n ∷ counts) = grind (arith, steps_long faster counts)
 
--- ---- slower digits change nothing
+-- ---- the digits of sets
 
-slower_digit : (actions choices : List ℕ) (step count choice n a : ℕ)
-    → IsDigitOf actions choices step count choice
-    → IsDigitOf (n ∷ actions) (a ∷ choices) step count choice
-slower_digit actions choices step count choice n a d = record {
-  place = suc d.place;
-  within = omega (arith, d.within);
-  step_is = d.step_is;
-  actions_are = d.actions_are;
-  choice_is = d.choice_is;
+-- these stand behind others too
+behind : (steps counts choices : List ℕ) (s n c step count choice : ℕ)
+    → ArePlaced steps counts choices step count choice
+    → ArePlaced (s ∷ steps) (n ∷ counts) (c ∷ choices) step count choice
+behind steps counts choices s n c step count choice h = record {
+  place = suc h.place;
+  within = omega (arith, h.within);
+  step_is = h.step_is;
+  count_is = h.count_is;
+  choice_is = h.choice_is;
 }
 
--- the digits of these sets and faster ones
-next_faster : (own faster : List ℕ) (f : ℕ) → f ≡ product (spans faster)
-    → width own * f ≡ product (spans (picked own own ++ faster))
-next_faster own faster f e = cc (spans_joined (picked own own) faster)
+own_digit : (counts xs : List ℕ) (j : ℕ) → length xs ≡ length counts → j < length counts
+    → ¬ (get_or (steps_after 1 counts) j 0 ≡ 0)
+    → ArePlaced (steps_of (picked counts counts)) (picked counts counts) (picked counts xs)
+    (get_or (steps_after 1 counts) j 0) (get_or counts j 0) (get_or xs j 0)
+own_digit (n ∷ counts) (x ∷ xs) (suc j) same less some =
+    let later = own_digit counts xs j (omega (arith, same)) (omega (arith, less)) in
+    grind (arith, behind, later)
+own_digit counts xs j same less some = grind arith
 
--- ---- the digit of a set
-
-pub own_digit : (counts xs faster fast : List ℕ) (f j : ℕ) → f ≡ product (spans faster)
-    → length xs ≡ length counts → j < length counts → ¬ (get_or (steps_after f counts) j 0 ≡ 0)
-    → IsDigitOf (picked counts counts ++ faster) (picked counts xs ++ fast)
-    (get_or (steps_after f counts) j 0) (get_or counts j 0) (get_or xs j 0)
-own_digit (n ∷ counts) (x ∷ xs) faster fast f (suc j) e same less some =
-    let later = own_digit counts xs faster fast f j e (omega (arith, same)) (omega (arith, less)) in
-    grind (arith, slower_digit, later)
-own_digit (n ∷ counts) (x ∷ xs) faster fast f zero e same less some = grind (arith, next_faster)
-own_digit counts xs faster fast f j e same less some = grind arith
-
--- ---- sets without a digit
-
-pub own_alone : (counts : List ℕ) (f j : ℕ) → 0 < f → get_or (steps_after f counts) j 0 ≡ 0
+own_alone : (counts : List ℕ) (j : ℕ) → get_or (steps_after 1 counts) j 0 ≡ 0
     → get_or counts j 0 ≤ 1
-own_alone (n ∷ counts) f (suc j) some e = grind (arith, own_alone counts f j some)
-own_alone (n ∷ counts) f zero some e = grind (arith, mul_above, width_positive)
-own_alone [] f j some e = omega arith
+own_alone (n ∷ counts) (suc j) e = grind (arith, own_alone counts j)
+own_alone counts j e = grind (arith, width_positive)
+
+-- where the sets with these steps and choices have such digits
+pub are_digits : (g : Game) (owns : SetKey → Bool) (steps choose : SetKey → ℕ) (counts xs : List ℕ)
+    → width counts < 2 ^ 64 → length xs ≡ length counts
+    → ((key : SetKey) → owns key ≡ false → steps key ≡ 0)
+    → ((key : SetKey) (set : InformationSet) → set_at g key ≡ Some set → owns key ≡ true
+    → (1 ≤ choose key) × (choose key ≤ length set.actions))
+    → ((key : SetKey) (set : InformationSet) → set_at g key ≡ Some set → owns key ≡ true
+    → ArePlaced (steps_after 1 counts) counts xs (steps key) (length set.actions) (choose key))
+    → AreDigits g owns steps choose (picked counts counts) (picked counts xs)
+are_digits g owns steps choose counts xs within same other chosen placed = record {
+  within = within;
+  one_each = as_many_picked counts xs same;
+  other = other;
+  chosen = chosen;
+  alone = λ key set is his none.
+      let at = placed key set is his in
+      let few = own_alone counts at.place (at.step_is ∙ none) in
+      omega (arith, few, at.count_is, chosen key set is his);
+  several = λ key set is his some.
+      let at = placed key set is his in
+      grind (arith, own_digit counts xs at.place same at.within);
+}
 
 -- ---- the sets of all players
 
-pub length-in_order : (xs : List (List ℕ)) → length (in_order xs) ≡ sum (map length xs)
-length-in_order [] = refl
-length-in_order (x ∷ xs) = omega (
-  arith,
-  length-append (in_order xs) x,
-  length-in_order xs,
-  sum_by-cons (λ n. n) (length x) (map length xs),
-)
+pub as_long : (xs ys : List (List ℕ)) → map length xs ≡ map length ys
+    → length (in_order xs) ≡ length (in_order ys)
+as_long (x ∷ xs) (y ∷ ys) same =
+    let own : length x ≡ length y = cc in
+    let others = as_long xs ys (cc) in
+    omega (arith, length-append (in_order xs) x, length-append (in_order ys) y)
+as_long [] [] same = refl
+as_long xs ys same = grind arith
 
--- the place of a player's set among those of all, if they have so many
-abbrev pub spot : List ℕ → ℕ → ℕ → ℕ
-spot (n ∷ others) zero j = sum others + j
-spot (n ∷ others) (suc i) j = spot others i j
-spot [] i j = j
-
-pub at_spot : (xs : List (List ℕ)) (i j : ℕ) → j < get_or (map length xs) i 0
-    → (spot (map length xs) i j < length (in_order xs))
-    × (get_or (in_order xs) (spot (map length xs) i j) 0 ≡ get_or (get_or xs i []) j 0)
-at_spot [] i j less = absurd (omega arith)
-at_spot (x ∷ xs) zero j less =
-    grind (arith, length-append, length-in_order, get_or-append-add)
-at_spot (x ∷ xs) (suc i) j less =
-    grind (arith, length-append, get_or_append_left, at_spot xs i j less)
+-- what stands at a place of a player's stands among all players'
+pub among_all : (all counts xs : List (List ℕ)) (i step count choice : ℕ)
+    → map length all ≡ map length counts → map length xs ≡ map length counts
+    → ArePlaced (get_or all i []) (get_or counts i []) (get_or xs i []) step count choice
+    → ArePlaced (in_order all) (in_order counts) (in_order xs) step count choice
+among_all (s ∷ all) (n ∷ counts) (x ∷ xs) zero step count choice one other h =
+    let before = as_long all counts (cc) in
+    let chosen = as_long xs counts (cc) in record {
+      place = length (in_order counts) + h.place;
+      within = omega (arith, length-append (in_order counts) n, h.within);
+      step_is = grind (arith, before, get_or-append-add, h.step_is);
+      count_is = grind (arith, get_or-append-add, h.count_is);
+      choice_is = grind (arith, chosen, get_or-append-add, h.choice_is);
+    }
+among_all (s ∷ all) (n ∷ counts) (x ∷ xs) (suc i) step count choice one other h =
+    let before = as_long all counts (cc) in
+    let chosen = as_long xs counts (cc) in
+    let later = among_all all counts xs i step count choice (cc) (cc) h in record {
+      place = later.place;
+      within = omega (arith, length-append (in_order counts) n, later.within);
+      step_is = grind (arith, before, get_or_append_left, later.step_is, later.within);
+      count_is = grind (arith, get_or_append_left, later.count_is, later.within);
+      choice_is = grind (arith, chosen, get_or_append_left, later.choice_is, later.within);
+    }
+among_all [] [] xs i step count choice one other h = absurd (omega (arith, h.within))
+among_all all counts xs i step count choice one other h = absurd cc

@@ -1,12 +1,10 @@
 -- Terms whose numbers stand one row after another.
-use Rattle.gf_form.proofs.Common.{get_or_append_left, get_or-append_seam, take-append-drop, zero-*ℤ}
-use Rattle.gf_form.proofs.Common.{length-take-le, AllByRecursion, length-append, first_terms, ◌≡◌}
-use Rattle.gf_form.proofs.Common.{take-length, get_or_past, length-drop, map-append, all_parts, suc}
-use Rattle.gf_form.proofs.Common.{number_at, dvd_refl, IsWithin, all_both, IsShaped, zero, term_at}
-use Rattle.gf_form.proofs.Common.{no_term, take-suc, IsScale, IsSumOf, all_terms, length, get_or}
-use Rattle.gf_form.proofs.Common.{Scaled, subst, arith, Term, Scale, Terms, ◌+ℤ◌, ◌*ℤ◌, [], List}
-use Rattle.gf_form.proofs.Common.{◌++◌, Bool, true, take, drop, refl, Head, ◌+◌, ◌*◌, ◌<◌, ap, ◌≤◌}
-use Rattle.gf_form.proofs.Common.{◌/◌, ◌∷◌, pos, sym, ◌∙◌, map, ℕ, ℤ}
+use Rattle.gf_form.proofs.Common
+use Common.{get_or_append_left, get_or-append_seam, length-take-le, length-append, first_terms, ◌≡◌}
+use Common.{take-length, get_or_past, length-drop, map-append, number_at, all_terms, dvd_refl, zero}
+use Common.{IsShaped, take-suc, zero-*ℤ, term_at, no_term, IsScale, IsSumOf, length, get_or, Scaled}
+use Common.{subst, arith, Scale, Terms, Term, ◌+ℤ◌, ◌*ℤ◌, List, ◌++◌, take, refl, Head, suc, ◌+◌, ℕ}
+use Common.{◌*◌, ◌<◌, ◌≤◌, ◌/◌, ◌∷◌, pos, sym, ◌∙◌, map, [], ap, ℤ}
 use Rattle.std.proofs.Math.Seq.{drop-append_seam}
 use Rattle.std.proofs.lemmas.List.{drop-append-le, take-append-le, get_or_push}
 use Rattle.gf_form.specs.inner.rows.TermLists.{IsFactor, IsNoted, IsSumAt}
@@ -57,17 +55,6 @@ pub row_length : (t : Terms) (place : ℕ) → IsShaped t → place < length t.d
     → length (term_at t place).row ≡ t.players
 row_length t place shaped within = grind (arith, row_within, length-drop, length-take-le)
 
-taken_within : (i : ℕ) (ns : List ℤ) → AllByRecursion IsWithin ns
-    → AllByRecursion IsWithin (take i ns) × AllByRecursion IsWithin (drop i ns)
-taken_within i ns h = all_parts IsWithin (take i ns) (drop i ns) (rw (take-append-drop i ns) h)
-
-pub row_in_bound : (t : Terms) (place : ℕ) → IsShaped t → place < length t.demands.items
-    → AllByRecursion IsWithin (term_at t place).row
-row_in_bound t place shaped within =
-    let ns = t.numbers.items in
-    (taken_within t.players (drop (place * t.players) ns)
-    (taken_within (place * t.players) ns shaped.within).1).0
-
 -- the term that was pushed
 pub record Pushed (to after : Terms) (e : Term) : Type 0 where
   pub pushed : all_terms after ≡ all_terms to ++ e ∷ []
@@ -80,8 +67,7 @@ same_first to after (suc n) each =
     rw (each n (omega arith), same_first to after n (λ k less. each k (omega arith))) refl
 
 module _ (to after : Terms) (e : Term) (shaped : IsShaped to)
-    (within : AllByRecursion IsWithin e.row) (one_each : length e.row ≡ to.players)
-    (players : after.players ≡ to.players)
+    (one_each : length e.row ≡ to.players) (players : after.players ≡ to.players)
     (noted : IsNoted to after e.head.den e.head.size)
     (demands : after.demands.items ≡ to.demands.items ++ e.head.demands ∷ [])
     (scaled : length after.scaled.items ≤ length after.demands.items)
@@ -102,10 +88,10 @@ module _ (to after : Terms) (e : Term) (shaped : IsShaped to)
 
   same_term : (k : ℕ) → k < n → term_at after k ≡ term_at to k
   same_term k less =
-      grind (arith, same_row, noted.kept k less, get_or_append_left)
+      grind (arith, same_row, noted.0 k less, get_or_append_left)
 
   new_term : term_at after n ≡ e
-  new_term = grind (arith, new_row, noted.next, get_or-append_seam)
+  new_term = grind (arith, new_row, noted.1, get_or-append_seam)
 
   pub is_pushed : Pushed to after e
   is_pushed = record {
@@ -115,7 +101,6 @@ module _ (to after : Terms) (e : Term) (shaped : IsShaped to)
       count = ap length is ∙ length-append to.numbers.items e.row
           ∙ (λ i. shaped.count i + one_each i) ∙ omega arith
           ∙ (λ i. sym grown i * sym players i);
-      within = grind (arith, all_both);
       scaled = scaled;
     };
   }
@@ -156,34 +141,26 @@ plain_scale t first second one other none above =
 no_sum : (x y : ℤ) → pos 0 *ℤ x +ℤ pos 0 *ℤ y ≡ pos 0
 no_sum x y = λ i. zero-*ℤ x i +ℤ zero-*ℤ y i
 
--- the sums in the whole row, and past its end
-pub all_sums : (first second : List ℤ) (by_first by_second : ℕ) (fits : Bool) (old new : List ℤ)
-    → length first ≡ length second
-    → (h : HasRow (IsSumAt first second by_first by_second fits) (length first) old new)
-    → fits ≡ true → (k : ℕ) → get_or h.row k (pos 0)
-    ≡ get_or first k (pos 0) *ℤ pos by_first +ℤ get_or second k (pos 0) *ℤ pos by_second
-all_sums first second by_first by_second fits old new same h known k =
-    let out = h.one_each in grind (arith, get_or_past, no_sum, h.each k (pos 0))
-
 -- the sum of two terms
-pub sum_made : (a b : Term) (s : Scale) (fits : Bool) (demands : ℕ) (row : List ℤ)
-    → IsScale a.head b.head s
-    → (fits ≡ true → (k : ℕ) → get_or row k (pos 0)
-    ≡ number_at (suc k) a *ℤ pos s.first +ℤ number_at (suc k) b *ℤ pos s.second)
-    → (den : ℕ) → (0 < den → (fits ≡ true) × (den ≡ s.den)) → 0 < den
-    → IsSumOf a b
-    (record { head = record { demands = demands; den = den; size = s.size }; row = row })
-sum_made a b s fits demands row is sums den known above =
-    let k = known above in
-    subst (λ (n : ℕ). IsSumOf a b
-    (record { head = record { demands = demands; den = n; size = s.size }; row = row }))
-    (sym k.1)
-    (let told = numbers k.0 in grind arith)
+pub sum_made : (a b : Term) (s : Scale) (demands den : ℕ) (old new : List ℤ)
+    → length a.row ≡ length b.row
+    → (more : HasRow (IsSumAt a.row b.row s den) (length a.row) old new)
+    → (0 < s.den → IsScale a.head b.head s) → (0 < den → den ≡ s.den) → 0 < den → IsSumOf a b
+    (record { head = record { demands = demands; den = den; size = s.size }; row = more.row })
+sum_made a b s demands den old new same more is known above =
+    let scale = is (omega (arith, known above, above)) in
+    let told = numbers scale in
+    subst (λ (n : ℕ). IsSumOf a b (record {
+      head = record { demands = demands; den = n; size = s.size };
+      row = more.row;
+    }))
+    (sym (known above)) (grind arith)
   where
-    numbers : fits ≡ true → (i : ℕ) → get_or (pos s.size ∷ row) i (pos 0)
-        ≡ number_at i a *ℤ pos s.first +ℤ number_at i b *ℤ pos s.second
-    numbers known zero = ap pos is.size
-    numbers known (suc i) = sums known i
+    numbers : IsScale a.head b.head s → (k : ℕ) → get_or (pos s.size ∷ more.row) k (pos 0)
+        ≡ number_at k a *ℤ pos s.first +ℤ number_at k b *ℤ pos s.second
+    numbers scale zero = ap pos scale.size
+    numbers scale (suc k) =
+        let out = more.one_each in grind (arith, get_or_past, no_sum, more.each k (pos 0))
 
 -- ---- what notes write out
 

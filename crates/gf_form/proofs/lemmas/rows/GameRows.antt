@@ -1,33 +1,26 @@
 -- The rows of a game's profiles, by its terms.
-use Rattle.gf_form.proofs.Common.{AreProfileNumbers, digit_actions, full_profiles, strategies_at, ℕ}
-use Rattle.gf_form.proofs.Common.{if◌then◌else◌, paid_reached, IsSpellable, all_choices, AreTermsOf}
-use Rattle.gf_form.proofs.Common.{choices_by, zero_ratio, ComeAsWell, node_terms, HasDigits, get_or}
-use Rattle.gf_form.proofs.Common.{SettlesAt, root_path, number_at, all_terms, steps_of, at_place}
-use Rattle.gf_form.proofs.Common.{ArePaid, Settles, is_paid, reached, Reached, *ℤ-zero, one-dvd, []}
-use Rattle.gf_form.proofs.Common.{term_of, length, IsGame, Digits, nat_lt, row_at, pay_at, arith}
-use Rattle.gf_form.proofs.Common.{Ratio, Terms, false, Term, List, Game, refl, zero, Bool, true, ap}
-use Rattle.gf_form.proofs.Common.{Path, ◌≡◌, ◌-◌, ◌<◌, map, suc, ◌∷◌, sym, pos, ◌∙◌}
+use Rattle.gf_form.proofs.Common
+use Common.{AreProfileNumbers, digit_actions, full_profiles, strategies_at, if◌then◌else◌, steps_of}
+use Common.{paid_reached, IsSpellable, all_choices, AreTermsOf, choices_by, zero_ratio, ComeAsWell}
+use Common.{node_terms, HasDigits, SettlesAt, root_path, all_terms, path_to, ArePaid, Settles, Term}
+use Common.{is_paid, reached, Reached, one-dvd, term_of, get_or, length, IsGame, Digits, row_at, []}
+use Common.{pay_at, arith, Ratio, Terms, false, List, Game, refl, Bool, true, Path, ◌≡◌, ◌-◌, ◌<◌}
+use Common.{map, suc, ◌∷◌, sym, ◌∙◌, ℕ}
 use Rattle.gf_form.proofs.lemmas.strategies.StrategiesByNumber.{all_at}
 use Rattle.gf_form.proofs.lemmas.rows.MergedTerms.{come_both, none_first, same_come}
-use Rattle.gf_form.proofs.lemmas.rows.SummedNodes.{terms_of_sums}
+use Rattle.gf_form.proofs.lemmas.values.RowSums.{empty_row}
+use Rattle.gf_form.proofs.lemmas.rows.SummedNodes.{no_number, terms_of_sums}
 use Rattle.std.specs.List.{filter}
 use Rattle.gf_form.proofs.lemmas.rows.ReachedValues.{reached_value}
 
 -- ---- the nodes that pay somebody something have all shares
 
-empty_row : (row : List Ratio) (k : ℕ) → nat_lt 0 (length row) ≡ false → at_place row k ≡ zero_ratio
-empty_row [] k h = refl
-empty_row (x ∷ row) k h = grind arith
-
-no_number : (path : Path) (n : ℕ) → number_at n (term_of path zero_ratio) ≡ pos 0
-no_number path zero = ap pos (omega arith)
-no_number path (suc n) = grind (arith, *ℤ-zero)
-
 nothing_comes : (path : Path) (pay : Ratio) → pay ≡ zero_ratio
     → ComeAsWell (term_of path pay ∷ []) []
 nothing_comes path pay nothing = rw nothing (λ den steps choices _. record {
   exact = ((λ _. (omega arith, one-dvd den)), tt);
-  sums = λ n. none_first n den steps choices (term_of path zero_ratio) [] (no_number path n);
+  sums = λ n. none_first n den steps choices (term_of path zero_ratio) []
+      (no_number path zero_ratio n refl);
 })
 
 module _ (g : Game) (rows : List (List Ratio)) (are : ArePaid g rows) (k : ℕ) where
@@ -38,18 +31,15 @@ module _ (g : Game) (rows : List (List Ratio)) (are : ArePaid g rows) (k : ℕ) 
   kept_come [] = same_come []
   kept_come (r ∷ rs) = by (is_paid rows r) refl (kept_come rs)
     where
-      t : List Term
-      t = terms (r ∷ [])
-
       fs : List Reached
       fs = filter (is_paid rows) rs
 
       by : (b : Bool) → is_paid rows r ≡ b → ComeAsWell (terms rs) (terms fs)
           → ComeAsWell (terms (r ∷ rs)) (terms (if b then r ∷ fs else fs))
-      by true is = come_both t t (terms rs) (terms fs) (same_come t)
-      by false is = come_both t [] (terms rs) (terms fs)
-          (nothing_comes r.path (pay_at g (suc k) r)
-          (sym (are.paid_is r.outcome k) ∙ empty_row (row_at rows r.outcome) k is))
+      by true is = come_both (terms (r ∷ [])) _ (terms rs) (terms fs) (same_come (terms (r ∷ [])))
+      by false is = come_both (terms (r ∷ [])) [] (terms rs) (terms fs)
+          (nothing_comes (path_to r) (pay_at g (suc k) r)
+          (sym (are.paid_is r.outcome k) ∙ empty_row (row_at rows r.outcome) (grind arith) k))
 
 -- ---- what the terms settle
 

@@ -1,17 +1,16 @@
 -- What nodes add, part by part, and that their terms say it.
-use Rattle.gf_form.proofs.Common.{IsNonDecreasingBy, mul-le-mul_right, unsigned_abs-mul, AreExactAt}
-use Rattle.gf_form.proofs.Common.{AllByRecursion, get_or_default, sum_of_shares, sum_of_terms, Term}
-use Rattle.gf_form.proofs.Common.{node_terms, map-append, all_images, AreOrdered, AreTermsOf, arith}
-use Rattle.gf_form.proofs.Common.{met_bounds, node_term, number_at, EndsBelow, dvd_trans, all_parts}
-use Rattle.gf_form.proofs.Common.{IsExactAt, all_terms, IsShaped, all_both, Reached, ArePaid, Ratio}
-use Rattle.gf_form.proofs.Common.{zero-*ℤ, get_or, length, add-*ℤ, meets, Terms, false, subst, take}
-use Rattle.gf_form.proofs.Common.{Game, refl, drop, ◌*ℤ◌, Bool, true, List, ◌++◌, ◌+ℤ◌, ◌≡◌, pos, ℕ}
-use Rattle.gf_form.proofs.Common.{suc, ◌+◌, ◌/◌, ◌<◌, ◌≤◌, ◌∷◌, sym, ◌∙◌, ◌∣◌, ◌-◌, [], ap}
-use Rattle.std.proofs.Math.Seq.{take-nil}
+use Rattle.gf_form.proofs.Common
+use Common.{IsNonDecreasingBy, mul-le-mul_right, unsigned_abs-mul, AllByRecursion, get_or_default}
+use Common.{sum_of_shares, sum_of_terms, AreExactAt, node_terms, map-append, all_images, AreOrdered}
+use Common.{AreTermsOf, met_bounds, node_term, number_at, EndsBelow, dvd_trans, all_parts, IsShaped}
+use Common.{IsExactAt, all_terms, all_both, Reached, ArePaid, zero-*ℤ, get_or, length, add-*ℤ, Term}
+use Common.{arith, Ratio, meets, Terms, false, subst, take, Game, refl, drop, ◌*ℤ◌, Bool, true, ◌≡◌}
+use Common.{List, ◌++◌, ◌+ℤ◌, pos, suc, ◌+◌, ◌/◌, ◌<◌, ◌≤◌, ◌∷◌, sym, ◌∙◌, ◌∣◌, ◌-◌, [], ap, ℕ}
+use Rattle.std.proofs.Math.Seq.{take-add}
 use Rattle.gf_form.specs.inner.rows.ListedNodes.{IsTermMore, HasShares, Tells}
 use Rattle.gf_form.proofs.lemmas.rows.Merges.{ordered_more, below_more, all_in}
-use Rattle.gf_form.proofs.lemmas.rows.MergedTerms.{size_append, sum_append, scaled}
-use Rattle.gf_form.proofs.lemmas.rows.FlatRows.{demands_more}
+use Rattle.gf_form.proofs.lemmas.rows.MergedTerms.{come_none, size_append, sum_append}
+use Rattle.gf_form.proofs.lemmas.rows.OverOneDenominator.{scaled}
 
 -- ---- the shares of nodes
 
@@ -44,16 +43,10 @@ module _ (den : ℕ) (steps choices : List ℕ) (demands : ℕ) where
       let own = exact.0 refl in
       grind (arith, scaled, add-*ℤ, dvd_trans)
 
-  all_unmet : meets steps choices demands ≡ false → (es : List Term) → AreAlike es
-      → AreExactAt den steps choices es
-      × ((k : ℕ) → sum_of_terms k den steps choices es ≡ pos 0)
-  all_unmet unmet [] alike = (tt, λ k. refl)
-  all_unmet unmet (e ∷ es) alike = grind (arith, all_unmet unmet es alike.1)
-
 -- ---- nodes with the same demands, and their term
 
 nodes_told : (g : Game) (k den : ℕ) (steps choices : List ℕ) (rs : List Reached) (e : Term)
-    → AllByRecursion (λ (r : Reached). r.path.demands ≡ e.head.demands) rs
+    → AllByRecursion (λ (r : Reached). r.demands ≡ e.head.demands) rs
     → (0 < e.head.den → HasShares g rs k e.head.den e.head.size (number_at (suc k) e))
     → IsExactAt den steps choices e → Tells g k den steps choices rs (e ∷ [])
 nodes_told g k den steps choices rs e alike says exact =
@@ -75,13 +68,14 @@ nodes_told g k den steps choices rs e alike says exact =
         let most = mul-le-mul_right (den / e.head.den) h.bound in
         grind (arith, h.number_is, n.1, unsigned_abs-mul)
     by false unmet =
-        let n = all_unmet den steps choices e.head.demands unmet es same in
-        grind (arith, n.1)
+        let n = come_none den steps choices [] [] (λ (f : Term). f.head.demands ≡ e.head.demands)
+        (λ f alike. ap (meets steps choices) alike ∙ unmet) es same in
+        grind (arith, n.sums)
 
 -- ---- lists of them
 
 nodes_more : (g : Game) (players : ℕ) (rs group : List Reached) (es : List Term) (e : Term)
-    → AllByRecursion (λ (r : Reached). r.path.demands ≡ e.head.demands) group
+    → AllByRecursion (λ (r : Reached). r.demands ≡ e.head.demands) group
     → (0 < e.head.den → (k : ℕ) → k < players
     → HasShares g group k e.head.den e.head.size (number_at (suc k) e))
     → AreTermsOf g players rs es → AreTermsOf g players (rs ++ group) (es ++ e ∷ [])
@@ -96,7 +90,7 @@ nodes_more g players rs group es e alike says before k less den steps choices ex
 
 -- what the code reads at a place
 abbrev pub no_node : Reached
-no_node = record { path = record { weight = 0; bound = 0; den = 0; demands = 0 }; outcome = 0 }
+no_node = record { weight = 0; bound = 0; den = 0; demands = 0; outcome = 0 }
 
 abbrev pub node_at : List Reached → ℕ → Reached
 node_at nodes place = get_or nodes place no_node
@@ -107,22 +101,16 @@ pub record Listing (rows : List (List Ratio)) (players : ℕ) (rs : List Reached
   pub told : (g : Game) → ArePaid g rows → AreTermsOf g players (take at rs) (all_terms terms)
   pub ordered : AreOrdered terms
   pub next : (d : Reached) → at < length rs
-      → EndsBelow terms.demands.items (get_or rs at d).path.demands
+      → EndsBelow terms.demands.items (get_or rs at d).demands
   pub shaped : IsShaped terms
   pub players_are : terms.players ≡ players
 
-taken_on : {A : Type 0} (m n : ℕ) (xs : List A) → take (m + n) xs ≡ take m xs ++ take n (drop m xs)
-taken_on (suc m) n (x ∷ xs) =
-    let e : suc m + n ≡ suc (m + n) = omega arith in
-    ap (λ (k : ℕ). take k (x ∷ xs)) e ∙ ap (λ (ys : List _). x ∷ ys) (taken_on m n xs)
-taken_on m n xs = grind (arith, take-nil)
-
 module _ (rows : List (List Ratio)) (players : ℕ) (rs : List Reached)
-    (sorted : IsNonDecreasingBy (λ (r : Reached). r.path.demands) rs) (at end : ℕ)
+    (sorted : IsNonDecreasingBy (λ (r : Reached). r.demands) rs) (at end : ℕ)
     (less : at < length rs) (onward : at < end) (within : end ≤ length rs)
     (alike : (d : Reached) (k : ℕ) → at ≤ k → k < end
-    → (get_or rs k d).path.demands ≡ (get_or rs at d).path.demands) (demands : ℕ)
-    (is : demands ≡ (node_at rs at).path.demands) (old new : Terms)
+    → (get_or rs k d).demands ≡ (get_or rs at d).demands) (demands : ℕ)
+    (is : demands ≡ (node_at rs at).demands) (old new : Terms)
     (before : Listing rows players rs at old)
     (more : IsTermMore rows demands (take (end - at) (drop at rs)) old new) where
   abbrev group : List Reached
@@ -131,23 +119,20 @@ module _ (rows : List (List Ratio)) (players : ℕ) (rs : List Reached)
   joined : take end rs ≡ take at rs ++ group
   joined =
       let whole : end ≡ at + (end - at) = omega (arith, onward) in
-      ap (λ (n : ℕ). take n rs) whole ∙ taken_on at (end - at) rs
+      ap (λ (n : ℕ). take n rs) whole ∙ take-add at (end - at) rs
 
-  all_alike : AllByRecursion (λ (r : Reached). r.path.demands ≡ more.term.head.demands) group
+  all_alike : AllByRecursion (λ (r : Reached). r.demands ≡ more.term.head.demands) group
   all_alike =
-      all_in (λ (r : Reached). r.path.demands ≡ more.term.head.demands) no_node rs (end - at) at
+      all_in (λ (r : Reached). r.demands ≡ more.term.head.demands) no_node rs (end - at) at
       (omega (arith, onward, within))
       (λ k from to. alike no_node k from (omega (arith, to, onward)) ∙ sym is
       ∙ sym more.demands_are)
 
   up : (d : Reached) → end < length rs
-      → more.term.head.demands ≤ (get_or rs end d).path.demands
+      → more.term.head.demands ≤ (get_or rs end d).demands
   up d there =
       let le = sorted at end d (omega (arith, onward)) there in
       grind (arith, get_or_default)
-
-  grown : new.demands.items ≡ old.demands.items ++ more.term.head.demands ∷ []
-  grown = demands_more old new more.term more.is
 
   pub nodes_listed : IsShaped new → new.players ≡ old.players
       → Listing rows players rs end new
@@ -158,12 +143,11 @@ module _ (rows : List (List Ratio)) (players : ℕ) (rs : List Reached)
         (nodes_more g players (take at rs) group (all_terms old) more.term all_alike
         (λ above k there. more.says k (omega (arith, there, before.players_are)) above g are)
         (before.told g are)));
-    ordered = ordered_more old.demands.items new.demands.items more.term.head.demands grown
-        before.ordered
+    ordered = ordered_more old new more.term more.is before.ordered
         (λ d some. let le = before.next no_node less d some in
         omega (arith, le, is, more.demands_are));
-    next = λ d there. below_more old.demands.items new.demands.items more.term.head.demands
-        (get_or rs end d).path.demands grown (up d there);
+    next = λ d there.
+        below_more old new more.term more.is (get_or rs end d).demands (up d there);
     shaped = shaped;
     players_are = same ∙ before.players_are;
   }

@@ -1,14 +1,11 @@
 -- What terms come to, part by part, and while they are merged.
-use Rattle.gf_form.proofs.Common.{AllByRecursion, sum_of_terms, if◌then◌else◌, unsigned_abs, ◌+ℤ◌}
-use Rattle.gf_form.proofs.Common.{AreExactAt, ComeAsWell, dvd_trans, all_parts, AreMerged, +ℤ_assoc}
-use Rattle.gf_form.proofs.Common.{IsExactAt, number_at, all_both, *ℤ_assoc, zero-*ℤ, IsSumOf, false}
-use Rattle.gf_form.proofs.Common.{lowered, +ℤ_idl, add-*ℤ, ComeTo, arith, meets, ◌≡◌, Term, ◌*ℤ◌}
-use Rattle.gf_form.proofs.Common.{Bool, true, List, ◌++◌, refl, ints, pos, ◌+◌, ◌-◌, ℕ, ◌*◌, ◌/◌}
-use Rattle.gf_form.proofs.Common.{◌<◌, ◌≤◌, ◌∷◌, sym, map, ◌⊎◌, ◌∣◌, [], ap, ℤ}
-use Rattle.gf_form.proofs.lemmas.rows.OverOneDenominator.{quotient_through}
-
-false_true : ¬ (false ≡ true)
-false_true e = absurd cc
+use Rattle.gf_form.proofs.Common
+use Common.{AllByRecursion, if◌then◌else◌, sum_of_terms, unsigned_abs, with_demands, AreExactAt, []}
+use Common.{ComeAsWell, append-nil, false≢true, dvd_trans, all_parts, AreMerged, IsExactAt, zero-*ℤ}
+use Common.{number_at, +ℤ_assoc, all_both, IsSumOf, lowered, +ℤ_idl, add-*ℤ, ComeTo, false, arith}
+use Common.{meets, ◌+ℤ◌, Term, ◌*ℤ◌, Bool, true, List, ◌++◌, refl, ints, ◌≡◌, pos, ◌+◌, ◌-◌, ◌*◌, ℕ}
+use Common.{◌/◌, ◌<◌, ◌≤◌, ◌∷◌, sym, map, ◌⊎◌, ◌∣◌, ◌∙◌, ap, ℤ}
+use Rattle.gf_form.proofs.lemmas.rows.OverOneDenominator.{scaled}
 
 pub same_come : (es : List Term) → ComeAsWell es es
 same_come es den steps choices exact = record { exact = exact; sums = λ k. refl }
@@ -16,20 +13,11 @@ same_come es den steps choices exact = record { exact = exact; sums = λ k. refl
 -- ---- the first term
 
 module _ (k den : ℕ) (steps choices : List ℕ) (e : Term) (es : List Term) where
-  pub first_met : meets steps choices e.head.demands ≡ true
-      → sum_of_terms k den steps choices (e ∷ es)
-      ≡ number_at k e *ℤ pos (den / e.head.den) +ℤ sum_of_terms k den steps choices es
-  first_met met = rw met refl
-
   pub none_first : number_at k e ≡ pos 0
       → sum_of_terms k den steps choices (e ∷ es) ≡ sum_of_terms k den steps choices es
   none_first none = grind (arith, zero-*ℤ, +ℤ_idl)
 
 -- ---- the sum of two terms
-
-pub scaled : (z : ℤ) (d m den : ℕ) → 0 < d → d ∣ m → m ∣ den
-    → (z *ℤ pos (m / d)) *ℤ pos (den / m) ≡ z *ℤ pos (den / d)
-scaled z d m den above dm mden = grind (arith, *ℤ_assoc, quotient_through, dvd_trans)
 
 module _ (den : ℕ) (a b sum : Term) (adds : IsSumOf a b sum) (divides : sum.head.den ∣ den) where
   pub numbers_added : (k : ℕ) → number_at k sum *ℤ pos (den / sum.head.den)
@@ -62,17 +50,48 @@ module _ (den : ℕ) (steps choices : List ℕ) where
       + unsigned_abs (sum_of_terms 0 den steps choices ys)
   size_append xs ys = rw (sum_append 0 xs ys, sizes_above xs, sizes_above ys) refl
 
+pub come_to_both : (den : ℕ) (steps choices others_steps others_choices : List ℕ)
+    (es xs fs ys : List Term) → ComeTo den steps choices es others_steps others_choices xs
+    → ComeTo den steps choices fs others_steps others_choices ys
+    → ComeTo den steps choices (es ++ fs) others_steps others_choices (xs ++ ys)
+come_to_both den steps choices others_steps others_choices es xs fs ys one other = record {
+  exact = all_both (IsExactAt den steps choices) es fs one.exact other.exact;
+  sums = λ k. cc (
+    sum_append den steps choices k es fs,
+    sum_append den others_steps others_choices k xs ys,
+    one.sums k,
+    other.sums k,
+  );
+}
+
 pub come_both : (es xs fs ys : List Term) → ComeAsWell es xs → ComeAsWell fs ys
     → ComeAsWell (es ++ fs) (xs ++ ys)
 come_both es xs fs ys first second den steps choices exact =
-    let P = IsExactAt den steps choices in
-    let add = sum_append den steps choices in
-    let parts = all_parts P xs ys exact in
-    let one = first den steps choices parts.0 in
-    let other = second den steps choices parts.1 in record {
-      exact = all_both P es fs one.exact other.exact;
-      sums = λ k. cc (add k es fs, add k xs ys, one.sums k, other.sums k);
-    }
+    let parts = all_parts (IsExactAt den steps choices) xs ys exact in
+    come_to_both den steps choices steps choices es xs fs ys (first den steps choices parts.0)
+    (second den steps choices parts.1)
+
+-- ---- with other demands
+
+module _ (den : ℕ) (steps choices others_steps others_choices : List ℕ) (P : Term → Type 0) where
+  -- terms come to the same with demands that are met as theirs are
+  pub come_moved : (demands : Term → ℕ) → ((e : Term) → P e
+      → meets steps choices e.head.demands ≡ meets others_steps others_choices (demands e))
+      → (es : List Term) → AllByRecursion P es
+      → AreExactAt den others_steps others_choices (map (λ e. with_demands (demands e) e) es)
+      → ComeTo den steps choices es others_steps others_choices
+      (map (λ e. with_demands (demands e) e) es)
+  come_moved demands met [] all h = record { exact = tt; sums = λ k. refl }
+  come_moved demands met (e ∷ es) all h =
+      grind (arith, met e all.0, come_moved demands met es all.1 h.1)
+
+  -- and to nothing if none is met
+  pub come_none : ((e : Term) → P e → meets steps choices e.head.demands ≡ false)
+      → (es : List Term) → AllByRecursion P es
+      → ComeTo den steps choices es others_steps others_choices []
+  come_none unmet [] all = record { exact = tt; sums = λ k. refl }
+  come_none unmet (e ∷ es) all =
+      grind (arith, false≢true, unmet e all.0, come_none unmet es all.1)
 
 -- ---- a term in place of two
 
@@ -119,7 +138,6 @@ pub take_next : (step action : ℕ) (terms left more others xs ys : List Term) (
     → Merging step action terms (left ++ t ∷ []) more others
 take_next step action terms left more others xs ys t come before den steps choices exact =
     let P = IsExactAt den steps choices in
-    let add = sum_append den steps choices in
     let done = all_parts P (left ++ t ∷ []) (more ++ others) exact in
     let made = all_parts P left (t ∷ []) done.0 in
     let rest = all_parts P more others done.1 in
@@ -129,20 +147,10 @@ take_next step action terms left more others xs ys t come before den steps choic
     (all_both P (xs ++ more) (ys ++ others) (all_both P xs more each.0 rest.0)
     (all_both P ys others each.1 rest.1))) in record {
       exact = parts.exact;
-      sums = λ k. omega (
-        arith,
-        ints,
-        parts.sums k,
-        own.sums k,
-        add k left ((xs ++ more) ++ (ys ++ others)),
-        add k (xs ++ more) (ys ++ others),
-        add k xs more,
-        add k ys others,
-        add k xs ys,
-        add k (left ++ t ∷ []) (more ++ others),
-        add k left (t ∷ []),
-        add k more others,
-      );
+      sums = λ k.
+          let whole = simp sum_append at (parts.sums k) in
+          let one = simp sum_append at (own.sums k) in
+          simp sum_append (omega (arith, ints, whole, one));
     }
 
 -- ---- before anything is merged
@@ -169,59 +177,33 @@ module _ (step action : ℕ) (steps choices : List ℕ) where
       ≡ meets steps choices (e.head.demands - action * step)
   own_met e some own = grind arith
 
-  other_unmet : (e : Term) → IsOther step action e
+  pub raised_met : 1 ≤ action → (e : Term) → IsFree step e → meets steps choices e.head.demands
+      ≡ meets (step ∷ steps) (action ∷ choices) (e.head.demands + action * step)
+  raised_met some e free =
+      let back : e.head.demands + action * step - action * step ≡ e.head.demands = omega arith in
+      sym (own_met (with_demands (e.head.demands + action * step) e) some
+      (omega arith, omega (arith, free)) ∙ ap (meets steps choices) back)
+
+  pub other_unmet : (e : Term) → IsOther step action e
       → meets (step ∷ steps) (action ∷ choices) e.head.demands ≡ false
   other_unmet e h = grind arith
 
-  module _ (den : ℕ) (P : Term → Type 0) where
-    abbrev Come : List Term → List Term → Type 0
-    Come es others = ComeTo den (step ∷ steps) (action ∷ choices) es steps choices others
-
-    -- the same terms with lower demands that are met as theirs are
-    pub come_lowered : (less : ℕ)
-        → ((e : Term) → P e → meets (step ∷ steps) (action ∷ choices) e.head.demands
-        ≡ meets steps choices (e.head.demands - less)) → (es : List Term) → AllByRecursion P es
-        → AreExactAt den steps choices (map (lowered less) es) → Come es (map (lowered less) es)
-    come_lowered less met [] all h = record { exact = tt; sums = λ k. refl }
-    come_lowered less met (e ∷ es) all h = grind (arith, come_lowered less met es all.1 h.1)
-
-    -- what is known of the terms is known of them with lower demands
-    pub exact_lowered : (less : ℕ)
-        → ((e : Term) → P e → meets (step ∷ steps) (action ∷ choices) e.head.demands
-        ≡ meets steps choices (e.head.demands - less)) → (es : List Term) → AllByRecursion P es
-        → AreExactAt den (step ∷ steps) (action ∷ choices) es
-        → AreExactAt den steps choices (map (lowered less) es)
-    exact_lowered less met [] all h = tt
-    exact_lowered less met (e ∷ es) all h = grind (arith, exact_lowered less met es all.1 h.1)
-
-    come_none : ((e : Term) → P e
-        → meets (step ∷ steps) (action ∷ choices) e.head.demands ≡ false) → (es : List Term)
-        → AllByRecursion P es → Come es []
-    come_none unmet [] all = record { exact = tt; sums = λ k. refl }
-    come_none unmet (e ∷ es) all = grind (arith, false_true, come_none unmet es all.1)
-
--- the four ranges of the terms
-pub record Ranges (step action : ℕ) (terms free between own rest : List Term) : Type 0 where
-  pub joined : terms ≡ free ++ (between ++ (own ++ rest))
-  pub are_free : AllByRecursion (IsFree step) free
-  pub are_between : AllByRecursion (IsOther step action) between
-  pub are_own : AllByRecursion (IsOwn step action) own
-  pub are_rest : AllByRecursion (IsOther step action) rest
-
+-- what is left of four ranges of terms
 pub first_parts : (step action : ℕ) (terms free between own rest : List Term) → 1 ≤ action
-    → Ranges step action terms free between own rest
+    → terms ≡ free ++ (between ++ (own ++ rest)) → AllByRecursion (IsFree step) free
+    → AllByRecursion (IsOther step action) between → AllByRecursion (IsOwn step action) own
+    → AllByRecursion (IsOther step action) rest
     → AreMerged step action terms (map (lowered 0) free ++ map (lowered (action * step)) own)
-first_parts step action terms free between own rest some ranges den steps choices exact =
-    let both = all_both (IsExactAt den (step ∷ steps) (action ∷ choices)) in
-    let sum = λ (k : ℕ). sum_append den (step ∷ steps) (action ∷ choices) k in
-    let add = λ (k : ℕ). sum_append den steps choices k (map (lowered 0) free) in
-    let come = come_lowered step action steps choices den in
-    let other = come_none step action steps choices den (IsOther step action)
-    (other_unmet step action steps choices) in
+first_parts step action terms free between own rest some joined are_free are_between are_own
+    are_rest den steps choices exact =
+    let both = come_to_both den (step ∷ steps) (action ∷ choices) steps choices in
+    let lower = come_moved den (step ∷ steps) (action ∷ choices) steps choices in
+    let none = come_none den (step ∷ steps) (action ∷ choices) steps choices
+    (IsOther step action) (other_unmet step action steps choices) in
     let parts = all_parts (IsExactAt den steps choices) (map (lowered 0) free)
     (map (lowered (action * step)) own) exact in
-    let frees = come (IsFree step) 0 (free_met step action steps choices) free ranges.are_free
-    parts.0 in
-    let owns = come (IsOwn step action) (action * step)
-    (λ e. own_met step action steps choices e some) own ranges.are_own parts.1 in
-    grind arith
+    let owns = both own _ rest [] (lower (IsOwn step action) (λ e. e.head.demands - action * step)
+    (λ e. own_met step action steps choices e some) own are_own parts.1) (none rest are_rest) in
+    rw joined (both free _ (between ++ (own ++ rest)) _ (lower (IsFree step)
+    (λ e. e.head.demands - 0) (free_met step action steps choices) free are_free parts.0)
+    (both between [] (own ++ rest) _ (none between are_between) (rw append-nil at owns)))

@@ -1,17 +1,16 @@
 -- Two ranges of terms while they are merged by the code.
-use Rattle.gf_form.proofs.Common.{IsNonDecreasingBy-push, get_or-append_seam, mul-le-mul_right, ◌≡◌}
-use Rattle.gf_form.proofs.Common.{take-append-drop, IsNonDecreasing, AllByRecursion, get_or_default}
-use Rattle.gf_form.proofs.Common.{length-append, ComeAsWell, AreOrdered, AreMerged, EndsBelow, refl}
-use Rattle.gf_form.proofs.Common.{drop-cons, drop-drop, AreChosen, AreAlike, IsShaped, term_at, []}
-use Rattle.gf_form.proofs.Common.{no_term, add-one, all_terms, lowered, length, get_or, HasSum}
-use Rattle.gf_form.proofs.Common.{Chosen, Term, Terms, arith, subst, List, ◌++◌, take, drop, part}
-use Rattle.gf_form.proofs.Common.{◌<◌, ◌≤◌, ◌∷◌, map, sym, ◌∙◌, ◌+◌, ◌-◌, ◌*◌, ap, ℕ, append-nil}
-use Rattle.gf_form.proofs.Common.{get_or-take, length-take-le, length-drop, length-take}
+use Rattle.gf_form.proofs.Common
+use Common.{IsNonDecreasingBy-push, get_or-append_seam, mul-le-mul_right, take-append-drop, term_at}
+use Common.{AllByRecursion, get_or_default, length-take-le, length-append, get_or-take, length-drop}
+use Common.{length-take, ComeAsWell, AreOrdered, append-nil, AreMerged, EndsBelow, drop-cons, Terms}
+use Common.{drop-drop, AreChosen, all_terms, AreAlike, IsShaped, no_term, add-one, lowered, length}
+use Common.{get_or, HasSum, Chosen, arith, subst, refl, Term, List, ◌++◌, take, drop, part, ◌≡◌, []}
+use Common.{◌<◌, ◌≤◌, ◌∷◌, map, sym, ◌∙◌, ◌+◌, ◌-◌, ◌*◌, ap, ℕ}
 use Rattle.std.proofs.lemmas.List.{take_rest, get_or-drop}
 use Rattle.std.proofs.lemmas.List.Sorted.{IsNonDecreasingBy-short}
-use Rattle.gf_form.specs.inner.rows.TermLists.{CountsBelow}
+use Rattle.gf_form.specs.inner.rows.TermLists.{AreInOrder, CountsBelow, MayCome}
 use Rattle.gf_form.proofs.lemmas.rows.FlatRows.{demands_more, terms_count, there}
-use Rattle.gf_form.proofs.lemmas.rows.MergedTerms.{IsFree, IsOther, IsOwn, Merging, Ranges}
+use Rattle.gf_form.proofs.lemmas.rows.MergedTerms.{IsFree, IsOther, IsOwn, Merging}
 use Rattle.gf_form.proofs.lemmas.rows.MergedTerms.{both_come, first_parts, same_come, take_next}
 use Rattle.gf_form.proofs.lemmas.rows.ItemRows.{all_by_place}
 
@@ -42,12 +41,8 @@ before_it : (demands : List ℕ) (low high m n : ℕ) → low ≤ high → Count
     → CountsBelow demands high n → ¬ (n < m)
 before_it demands low high m n le first second less = grind arith
 
--- what the code reads at a place
-abbrev pub demands_at : Terms → ℕ → ℕ
-demands_at t place = get_or t.demands.items place 0
-
 pub demands_read : (t : Terms) (place d : ℕ) → place < length t.demands.items
-    → d ≡ get_or t.demands.items place d → d ≡ demands_at t place
+    → d ≡ get_or t.demands.items place d → d ≡ (term_at t place).head.demands
 demands_read t place d within is = grind (arith, get_or_default)
 
 -- all of the terms from one place up to another, by their places
@@ -72,96 +67,61 @@ module _ (from : Terms) (step action : ℕ) (some : 1 ≤ action) (chosen : Chos
   start_le : chosen.start ≤ chosen.end
   start_le = grind arith
 
-  pub ranges : Ranges step action es (part 0 chosen.free es) (part chosen.free chosen.start es)
-      (part chosen.start chosen.end es) (drop chosen.end es)
-  ranges = record {
-    joined = cc (
-      cut es 0 chosen.free (omega arith),
-      cut es chosen.free chosen.start free_le,
-      cut es chosen.start chosen.end start_le,
-    );
-    are_free = range (IsFree step) from 0 chosen.free (omega arith) are.free.bound
-        (λ k at. are.free.below k);
-    are_between = range (IsOther step action) from chosen.free chosen.start free_le are.start.bound
-        (λ k at less. grind (arith, free_le));
-    are_own = range (IsOwn step action) from chosen.start chosen.end start_le are.end.bound
-        (λ k at less. grind (arith, start_le));
-    are_rest = subst (AllByRecursion (IsOther step action)) (take_rest es chosen.end)
-        (range (IsOther step action) from chosen.end (length es)
-        (omega (arith, terms_count from, are.end.bound)) (omega (arith, terms_count from))
-        (λ k at less. grind (arith, free_le, start_le, terms_count)));
+  -- what is left of them
+  pub chosen_parts : AreMerged step action es (map (lowered 0) (part 0 chosen.free es)
+      ++ map (lowered (action * step)) (part chosen.start chosen.end es))
+  chosen_parts =
+      first_parts step action es (part 0 chosen.free es) (part chosen.free chosen.start es)
+      (part chosen.start chosen.end es) (drop chosen.end es) some (cc (
+        cut es 0 chosen.free (omega arith),
+        cut es chosen.free chosen.start free_le,
+        cut es chosen.start chosen.end start_le,
+      ))
+      (range (IsFree step) from 0 chosen.free (omega arith) are.free.bound
+      (λ k at. are.free.below k))
+      (range (IsOther step action) from chosen.free chosen.start free_le are.start.bound
+      (λ k at less. grind (arith, free_le)))
+      (range (IsOwn step action) from chosen.start chosen.end start_le are.end.bound
+      (λ k at less. grind (arith, start_le)))
+      (subst (AllByRecursion (IsOther step action)) (take_rest es chosen.end)
+      (range (IsOther step action) from chosen.end (length es)
+      (omega (arith, terms_count from, are.end.bound)) (omega (arith, terms_count from))
+      (λ k at less. grind (arith, free_le, start_le, terms_count))))
+
+-- ---- a list that grows
+
+pub none_ordered : (t : Terms) → all_terms t ≡ [] → AreOrdered t
+    × ((n : ℕ) → EndsBelow t.demands.items n)
+none_ordered t none =
+    let length_is : length t.demands.items ≡ 0 = sym (terms_count t) ∙ ap length none in (
+      IsNonDecreasingBy-short (λ (d : ℕ). d) t.demands.items (omega (arith, length_is)),
+      λ n d some. absurd (omega (arith, length_is, some)),
+    )
+
+module _ (to after : Terms) (e : Term) (is : all_terms after ≡ all_terms to ++ e ∷ []) where
+  pub below_more : (n : ℕ) → e.head.demands ≤ n → EndsBelow after.demands.items n
+  below_more n le d some =
+      let grown = demands_more to after e is in
+      let size = ap length grown ∙ length-append to.demands.items (e.head.demands ∷ []) in
+      let last : length after.demands.items - 1 ≡ length to.demands.items = omega (arith, size) in
+      grind (arith, get_or-append_seam)
+
+  pub ordered_more : AreOrdered to → EndsBelow to.demands.items e.head.demands → AreOrdered after
+  ordered_more ordered below =
+      rw (demands_more to after e is)
+      (IsNonDecreasingBy-push (λ (d : ℕ). d) to.demands.items e.head.demands ordered below)
+
+  pub waits : {from : Terms} {less next end : ℕ} → MayCome from to less next end
+      → (next < end → e.head.demands ≤ (term_at from next).head.demands - less)
+      → MayCome from after less next end
+  waits {from} {less} {next} may le = record {
+    rises = λ more. below_more ((term_at from next).head.demands - less) (le more);
+    least = may.least;
+    within = may.within;
   }
-
--- ---- while they are merged
-
--- the terms from one place up to another, with lowered demands, may come next
-pub record MayCome (from to : Terms) (less next end : ℕ) : Type 0 where
-  pub rises : next < end → EndsBelow to.demands.items (demands_at from next - less)
-  pub least : (k : ℕ) → next ≤ k → k < end → less ≤ demands_at from k
-  pub within : end ≤ length from.demands.items
-
-pub record Merges (from : Terms) (step action lowest free_end own_end : ℕ) (free own : ℕ)
-    (to : Terms) : Type 0 where
-  pub merging : Merging step action (all_terms from) (all_terms to)
-      (map (lowered 0) (part free free_end (all_terms from)))
-      (map (lowered lowest) (part own own_end (all_terms from)))
-  pub shaped : IsShaped to
-  pub alike : AreAlike to from
-  pub ordered : AreOrdered to
-  pub frees : MayCome from to 0 free free_end
-  pub owns : MayCome from to lowest own own_end
-
-pub first_merge : (from : Terms) (step action : ℕ) (chosen : Chosen) → 1 ≤ action
-    → AreChosen from.demands.items step action chosen → (to : Terms) → all_terms to ≡ []
-    → IsShaped to → AreAlike to from
-    → Merges from step action (action * step) chosen.free chosen.end 0 chosen.start to
-first_merge from step action chosen some are to none shaped alike =
-    let es = all_terms from in
-    let length_is : length to.demands.items ≡ 0 = sym (terms_count to) ∙ ap length none in
-    record {
-      merging = rw none (first_parts step action es (part 0 chosen.free es)
-          (part chosen.free chosen.start es) (part chosen.start chosen.end es)
-          (drop chosen.end es) some (ranges from step action some chosen are));
-      shaped = shaped;
-      alike = alike;
-      ordered = IsNonDecreasingBy-short (λ (d : ℕ). d) to.demands.items
-          (omega (arith, length_is));
-      frees = record {
-        rises = λ less d some. absurd (omega (arith, length_is, some));
-        least = λ k at less. omega arith;
-        within = are.free.bound;
-      };
-      owns = record {
-        rises = λ less d some. absurd (omega (arith, length_is, some));
-        least = λ k at less. are.start.above k at (omega (arith, less, are.end.bound));
-        within = are.end.bound;
-      };
-    }
-
-pub below_more : (ds new : List ℕ) (d n : ℕ) → new ≡ ds ++ d ∷ [] → d ≤ n → EndsBelow new n
-below_more ds new d n is le e some =
-    let size : length new ≡ length ds + 1 = ap length is ∙ length-append ds (d ∷ []) in
-    let last : length new - 1 ≡ length ds = omega (arith, size) in
-    grind (arith, get_or-append_seam)
-
-pub ordered_more : (ds new : List ℕ) (d : ℕ) → new ≡ ds ++ d ∷ [] → IsNonDecreasing ds
-    → EndsBelow ds d → IsNonDecreasing new
-ordered_more ds new d is ordered below =
-    rw is (IsNonDecreasingBy-push (λ (e : ℕ). e) ds d ordered below)
 
 pub lowered_none : (e : Term) → lowered 0 e ≡ e
 lowered_none e = grind arith
-
--- another term came
-pub waits : {from to after : Terms} {less next end d : ℕ}
-    → after.demands.items ≡ to.demands.items ++ d ∷ [] → MayCome from to less next end
-    → (next < end → d ≤ demands_at from next - less) → MayCome from after less next end
-waits {from} {to} {after} {less} {next} {end} {d} grown may le = record {
-  rises = λ more. below_more to.demands.items after.demands.items d (demands_at from next - less)
-      grown (le more);
-  least = may.least;
-  within = may.within;
-}
 
 -- the first of these came, or is left out
 pub skips : {from to : Terms} {less next end : ℕ} → AreOrdered from → MayCome from to less next end
@@ -173,6 +133,39 @@ skips {from} {to} {less} {next} sorted may here = record {
   least = λ k at. may.least k (omega (arith, at));
   within = may.within;
 }
+
+-- ---- while they are merged
+
+pub record Merges (from : Terms) (step action lowest free_end own_end : ℕ) (free own : ℕ)
+    (to : Terms) : Type 0 where
+  pub merging : Merging step action (all_terms from) (all_terms to)
+      (map (lowered 0) (part free free_end (all_terms from)))
+      (map (lowered lowest) (part own own_end (all_terms from)))
+  pub alike : AreAlike to from
+  pub order : AreInOrder to
+  pub frees : MayCome from to 0 free free_end
+  pub owns : MayCome from to lowest own own_end
+
+pub first_merge : (from : Terms) (step action : ℕ) (chosen : Chosen) → 1 ≤ action
+    → AreChosen from.demands.items step action chosen → (to : Terms) → all_terms to ≡ []
+    → IsShaped to → AreAlike to from
+    → Merges from step action (action * step) chosen.free chosen.end 0 chosen.start to
+first_merge from step action chosen some are to none shaped alike =
+    let empty = none_ordered to none in record {
+      merging = rw none (chosen_parts from step action some chosen are);
+      alike = alike;
+      order = (shaped, empty.0);
+      frees = record {
+        rises = λ less. empty.1 _;
+        least = λ k at less. omega arith;
+        within = are.free.bound;
+      };
+      owns = record {
+        rises = λ less. empty.1 _;
+        least = λ k at less. are.start.above k at (omega (arith, less, are.end.bound));
+        within = are.end.bound;
+      };
+    }
 
 module _ {from : Terms} {step action lowest free_end own_end free own : ℕ} {to after : Terms}
     (sorted : AreOrdered from)
@@ -196,62 +189,62 @@ module _ {from : Terms} {step action lowest free_end own_end free own : ℕ} {to
   one_more e xs ys is first second come ends frees owns = record {
     merging = rw is (take_next step action (all_terms from) (all_terms to) _ _ xs ys e come
         (rw (first, second) at before.merging));
-    shaped = shaped;
     alike = (alike.0 ∙ before.alike.0, alike.1 ∙ before.alike.1);
-    ordered = ordered_more to.demands.items after.demands.items e.head.demands
-        (demands_more to after e is) before.ordered ends;
+    order = (shaped, ordered_more to after e is before.order.1 ends);
     frees = frees;
     owns = owns;
   }
 
-  pub free_goes : free < free_end
-      → (own < own_end → demands_at from free ≤ demands_at from own - lowest)
+  pub free_goes : free < free_end → (own < own_end
+      → (term_at from free).head.demands ≤ (term_at from own).head.demands - lowest)
       → all_terms after ≡ all_terms to ++ lowered 0 (term_at from free) ∷ []
       → Merges from step action lowest free_end own_end (free + 1) own after
   free_goes less first is =
       let t = lowered 0 (term_at from free) in
-      let grown = demands_more to after t is in
       one_more t (t ∷ []) [] is (first_left before.frees less) refl (same_come (t ∷ []))
       (before.frees.rises less)
-      (skips sorted (waits grown before.frees (λ _. omega arith)) less)
-      (waits grown before.owns (λ more. omega (arith, first more)))
+      (skips sorted (waits to after t is before.frees (λ _. omega arith)) less)
+      (waits to after t is before.owns (λ more. omega (arith, first more)))
 
-  pub own_goes : own < own_end
-      → (free < free_end → demands_at from own - lowest ≤ demands_at from free)
+  pub own_goes : own < own_end → (free < free_end
+      → (term_at from own).head.demands - lowest ≤ (term_at from free).head.demands)
       → all_terms after ≡ all_terms to ++ lowered lowest (term_at from own) ∷ []
       → Merges from step action lowest free_end own_end free (own + 1) after
   own_goes less first is =
       let t = lowered lowest (term_at from own) in
-      let grown = demands_more to after t is in
       one_more t [] (t ∷ []) is refl (first_left before.owns less) (same_come (t ∷ []))
-      (before.owns.rises less) (waits grown before.frees (λ more. omega (arith, first more)))
-      (skips sorted (waits grown before.owns (λ _. omega arith)) less)
+      (before.owns.rises less)
+      (waits to after t is before.frees (λ more. omega (arith, first more)))
+      (skips sorted (waits to after t is before.owns (λ _. omega arith)) less)
 
   pub both_go : free < free_end → own < own_end
-      → demands_at from free ≡ demands_at from own - lowest
+      → (term_at from free).head.demands ≡ (term_at from own).head.demands - lowest
       → HasSum (term_at from free) (term_at from own) (all_terms to) (all_terms after)
       → Merges from step action lowest free_end own_end (free + 1) (own + 1) after
   both_go free_less own_less same has =
       let t = lowered 0 (term_at from free) in
       let u = lowered lowest (term_at from own) in
-      let grown = demands_more to after has.sum has.is in
-      let first : has.sum.head.demands ≡ demands_at from free - 0 = omega (arith, has.demands) in
-      let second : has.sum.head.demands ≡ demands_at from own - lowest =
-      omega (arith, has.demands, same) in
-      one_more has.sum (t ∷ []) (u ∷ []) has.is (first_left before.frees free_less)
+      let sum = has.sum in
+      let first : sum.head.demands ≡ t.head.demands = omega (arith, has.demands) in
+      let second : sum.head.demands ≡ u.head.demands = omega (arith, has.demands, same) in
+      one_more sum (t ∷ []) (u ∷ []) has.is (first_left before.frees free_less)
       (first_left before.owns own_less)
-      (λ den steps choices exact. both_come den steps choices t u has.sum first second
+      (λ den steps choices exact. both_come den steps choices t u sum first second
       (λ above. let s = has.adds above in grind arith) exact.0)
       (rw first (before.frees.rises free_less))
-      (skips sorted (waits grown before.frees (λ _. omega (arith, first))) free_less)
-      (skips sorted (waits grown before.owns (λ _. omega (arith, second))) own_less)
+      (skips sorted (waits to after sum has.is before.frees (λ _. omega (arith, first))) free_less)
+      (skips sorted (waits to after sum has.is before.owns (λ _. omega (arith, second))) own_less)
 
-pub last_merge : (from : Terms) (step action lowest free_end own_end free own : ℕ) (to : Terms)
-    → Merges from step action lowest free_end own_end free own to → free_end ≤ free
-    → own_end ≤ own → AreMerged step action (all_terms from) (all_terms to)
-last_merge from step action lowest free_end own_end free own to done free_past own_past =
-    rw (
-      part_past (all_terms from) free free_end free_past,
-      part_past (all_terms from) own own_end own_past,
-      append-nil (all_terms to),
-    ) at done.merging
+-- when one of the two ranges is left
+module _ {from : Terms} {step action lowest free_end own_end free own : ℕ} {to : Terms}
+    (after : Terms) (done : Merges from step action lowest free_end own_end free own to) where
+  pub frees_left : own_end ≤ own → all_terms after
+      ≡ all_terms to ++ map (lowered 0) (part free free_end (all_terms from))
+      → AreMerged step action (all_terms from) (all_terms after)
+  frees_left past is =
+      rw (part_past (all_terms from) own own_end past, append-nil, sym is) at done.merging
+
+  pub owns_left : free_end ≤ free → all_terms after
+      ≡ all_terms to ++ map (lowered lowest) (part own own_end (all_terms from))
+      → AreMerged step action (all_terms from) (all_terms after)
+  owns_left past is = rw (part_past (all_terms from) free free_end past, sym is) at done.merging

@@ -1,13 +1,12 @@
 -- Of the nodes that a walk by demands meets, choices meet the demands of those that a walk by the
 -- choices meets.
-use Rattle.gf_form.proofs.Common.{AllByRecursion, InformationSet, if◌then◌else◌, mod-eq_of_lt, Bool}
-use Rattle.gf_form.proofs.Common.{MatchOption, flatten_all, HasChildren, descent_all, option_map, ℕ}
-use Rattle.gf_form.proofs.Common.{eqb-false, AreDigits, all_parts, IsDigitOf, demanding, eqb-true}
-use Rattle.gf_form.proofs.Common.{steps_of, demanded, choosing, comes_by, flatten, Handing, descent}
-use Rattle.gf_form.proofs.Common.{stop_at, eq-eqb, Option, length, get_or, branch, SetKey, set_at}
-use Rattle.gf_form.proofs.Common.{false, arith, Trees, count, meets, true, List, ◌++◌, ◌||◌, Some}
-use Rattle.gf_form.proofs.Common.{None, refl, ◌==◌, ◌&&◌, Tree, none, more, Game, Node, kept, Stop}
-use Rattle.gf_form.proofs.Common.{◌∷◌, ◌*◌, ◌+◌, ◌^◌, ◌≤◌, set, ◌%◌, ◌≡◌, not, sym, ◌∙◌, [], ap}
+use Rattle.gf_form.proofs.Common
+use Common.{AllByRecursion, InformationSet, if◌then◌else◌, mod-eq_of_lt, MatchOption, flatten_all}
+use Common.{HasChildren, descent_all, option_map, eqb-false, AreDigits, all_parts, ArePlaced, false}
+use Common.{demanding, eqb-true, steps_of, demanded, choosing, comes_by, flatten, Handing, descent}
+use Common.{stop_at, eq-eqb, Option, length, get_or, branch, SetKey, set_at, arith, Trees, count, ℕ}
+use Common.{meets, Bool, true, List, ◌++◌, ◌||◌, Some, None, refl, ◌==◌, ◌&&◌, Tree, none, more, []}
+use Common.{Game, Node, kept, Stop, ◌∷◌, ◌*◌, ◌+◌, ◌^◌, ◌≤◌, set, ◌%◌, ◌≡◌, not, sym, ◌∙◌, ap}
 use Rattle.std.specs.Option.{option_map_or}
 use Rattle.std.proofs.Math.Nat.{div-zero}
 use Rattle.gf_form.proofs.lemmas.rows.DemandDigits.{within_length, pack_below, set_within, digit_is}
@@ -56,10 +55,11 @@ module _ {g : Game} {owns : SetKey → Bool} {steps choose : SetKey → ℕ} {ac
       }
 
   at_digit : (ds : List ℕ) (step m k choice : ℕ) → AreWithin actions ds → 1 ≤ k → k ≤ m
-      → IsDigitOf actions choices step m choice → LeadsAt ds step m k (choice == k)
+      → ArePlaced (steps_of actions) actions choices step m choice
+      → LeadsAt ds step m k (choice == k)
   at_digit ds step m k choice within from upto d =
       let own : demanded (pack actions ds) step m ≡ get_or ds d.place 0 =
-      cc (d.step_is, d.actions_are, digit_is actions ds d.place within d.within) in record {
+      cc (d.step_is, d.count_is, digit_is actions ds d.place within d.within) in record {
         next = set ds d.place k;
         within = grind (arith, set_within);
         are = λ free. grind (arith, set_pack);

@@ -1,13 +1,12 @@
 -- Fractions with their numerators over one denominator for all: sums and products of them fit if
 -- the numerators are within bounds.
-use Rattle.gf_form.proofs.Common.{lowest_of-fraction, pos_of_dvd_of_pos, unsigned_abs-mul, HasValue}
-use Rattle.gf_form.proofs.Common.{product_of-some, *ℤ-cancel_right, div-mul_cancel, IsLcm-from_gcd}
-use Rattle.gf_form.proofs.Common.{dvd-mul_right, mul_pos_right, unsigned_abs, dvd-mul_left, IsEqual}
-use Rattle.gf_form.proofs.Common.{sum_of-some, IsFraction, scaled_num, product_of, equal_refl, zero}
-use Rattle.gf_form.proofs.Common.{dvd_trans, IsProduct, mul_above, plus_both, IsWithin, *ℤ_assoc, ℕ}
-use Rattle.gf_form.proofs.Common.{SumFits, mod-lt, ◌then◌, add-*ℤ, sum_of, arith, subst, Ratio, ◌≡◌}
-use Rattle.gf_form.proofs.Common.{times, IsLcm, IsSum, refl, Some, ◌*ℤ◌, ◌+ℤ◌, ints, plus, back, ap}
-use Rattle.gf_form.proofs.Common.{suc, pos, ◌+◌, ◌*◌, ◌/◌, ◌%◌, ◌^◌, ◌<◌, ◌≤◌, sym, ◌∙◌, ◌∣◌, ℤ}
+use Rattle.gf_form.proofs.Common
+use Common.{lowest_of-fraction, pos_of_dvd_of_pos, unsigned_abs-mul, product_of-some, dvd-mul_right}
+use Common.{*ℤ-cancel_right, div-mul_cancel, IsLcm-from_gcd, mul_pos_right, unsigned_abs, dvd_trans}
+use Common.{dvd-mul_left, sum_of-some, IsFraction, scaled_num, product_of, equal_refl, IsProduct, ℕ}
+use Common.{mul_above, plus_both, HasValue, IsWithin, *ℤ_assoc, IsEqual, SumFits, mod-lt, ◌then◌, ℤ}
+use Common.{add-*ℤ, sum_of, arith, subst, Ratio, times, IsLcm, IsSum, zero, refl, Some, ◌*ℤ◌, ◌+ℤ◌}
+use Common.{ints, plus, back, ◌≡◌, suc, pos, ◌+◌, ◌*◌, ◌/◌, ◌%◌, ◌^◌, ◌<◌, ◌≤◌, sym, ◌∙◌, ◌∣◌, ap}
 use Rattle.std.specs.Int.{IsGcd}
 use Rattle.std.proofs.lemmas.Nat.Gcd.{IsGcd-from_zero, IsGcd-from_mod, IsGcd-swap, le_of_dvd}
 use Rattle.gf_fraction.specs.Computed.{lowest_of}
@@ -34,12 +33,17 @@ quotient_of_product d b s above h =
     (omega (arith, div-mul_cancel (d * b) h, div-mul_cancel d part))
 
 -- by way of a multiple
-pub quotient_through : (d m s : ℕ) → 0 < d → d ∣ m → m ∣ s → d ∣ s → s / d ≡ m / d * (s / m)
+quotient_through : (d m s : ℕ) → 0 < d → d ∣ m → m ∣ s → d ∣ s → s / d ≡ m / d * (s / m)
 quotient_through d m s above dm ms ds =
     let inner : m / d * d ≡ m = div-mul_cancel d dm in
     let outer : s / m * m ≡ s = div-mul_cancel m ms in
     *-cancel_right (s / d) (m / d * (s / m)) d above
     (omega (arith, ap (λ k. k * (s / m)) inner, outer, div-mul_cancel d ds))
+
+-- a number that is brought over one denominator and then over another
+pub scaled : (z : ℤ) (d m den : ℕ) → 0 < d → d ∣ m → m ∣ den
+    → (z *ℤ pos (m / d)) *ℤ pos (den / m) ≡ z *ℤ pos (den / d)
+scaled z d m den above dm mden = grind (arith, *ℤ_assoc, quotient_through, dvd_trans)
 
 gcd_there : (n a b : ℕ) → b < n → (g : ℕ) × IsGcd a b g
 gcd_there zero a b h = absurd (omega arith)
@@ -72,17 +76,10 @@ over_is x n s above v h =
     *ℤ-cancel_right (x.num *ℤ pos (s / x.den)) n x.den above
     (cc (*ℤ_assoc x.num (pos (s / x.den)) (pos x.den), div-mul_cancel x.den h))
 
-scaled_part : (x : Ratio) (m : ℤ) (d s : ℕ) → 0 < x.den → HasValue x m s → x.den ∣ d → d ∣ s
-    → x.den ∣ s → scaled_num x d *ℤ pos (s / d) ≡ m
-scaled_part x m d s above v xd ds xs = grind (arith, *ℤ_assoc, quotient_through, over_is)
-
 -- over what is left of a denominator after a part of it
 pub own_value : (x : Ratio) (by s : ℕ) → 0 < s → by * x.den ∣ s
     → HasValue x (x.num *ℤ pos (s / (by * x.den))) (s / by)
-own_value x by s above h =
-    let whole = quotient_of_product by x.den s above h in
-    let turned : x.den * (s / (by * x.den)) ≡ s / (by * x.den) * x.den = omega arith in
-    cc (*ℤ_assoc x.num (pos (s / (by * x.den))) (pos x.den))
+own_value x by s above h = grind (arith, *ℤ_assoc, quotient_of_product)
 
 -- ---- sums
 
@@ -106,8 +103,10 @@ module _ (x y : Ratio) (m n : ℤ) (s : ℕ) (hx : IsFraction x) (hy : IsFractio
       let ds : d ∣ s = lcm.least s xs ys in
       let q = s / d in
       let q_above : 0 < q = quotient_above d s above ds in
-      let left = scaled_part x m d s hx.den_above_zero vx lcm.left ds xs in
-      let right = scaled_part y n d s hy.den_above_zero vy lcm.right ds ys in
+      let left = scaled x.num x.den d s hx.den_above_zero lcm.left ds
+      ∙ over_is x m s hx.den_above_zero vx xs in
+      let right = scaled y.num y.den d s hy.den_above_zero lcm.right ds
+      ∙ over_is y n s hy.den_above_zero vy ys in
       let both = add-*ℤ (scaled_num x d) (scaled_num y d) (pos q) ∙ (λ i. left i +ℤ right i) in
       record {
         den = d;
@@ -125,11 +124,7 @@ module _ (x y : Ratio) (m n : ℤ) (s : ℕ) (hx : IsFraction x) (hy : IsFractio
   whole_fraction = lowest_of-fraction (m +ℤ n) s above within hs
 
   same_den : IsEqual (plus (over_den m s) (over_den n s)) (over_den (m +ℤ n) s)
-  same_den = record {
-    left = mul_above s s above above;
-    right = above;
-    crosswise = cc (add-*ℤ m n (pos s), *ℤ_assoc (m +ℤ n) (pos s) (pos s));
-  }
+  same_den = grind (arith, mul_above, add-*ℤ, *ℤ_assoc)
 
   is_sum : IsSum whole x y
   is_sum =

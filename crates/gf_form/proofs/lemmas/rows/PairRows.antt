@@ -1,13 +1,11 @@
 -- Rows at the fastest digit, as what at most two terms come to.
-use Rattle.gf_form.proofs.Common.{asked_profiles, ℕ, full_profiles, strategies_at, first_terms}
-use Rattle.gf_form.proofs.Common.{one_fraction, get_or, ArePayoffsAt, IsSpellable, all_choices}
-use Rattle.gf_form.proofs.Common.{IsFraction, choices_by, HasPairRow, IsPaidPair, AreWritten}
-use Rattle.gf_form.proofs.Common.{zero_ratio, HasValues, AreChosen, IsScale, SettlesAt, steps_of}
-use Rattle.gf_form.proofs.Common.{term_at, at_place, ◌≡◌, all_terms, lowered, Settles, length}
-use Rattle.gf_form.proofs.Common.{Option, IfSome, IsGame, Chosen, arith, Ratio, meets, Term, value}
-use Rattle.gf_form.proofs.Common.{Scale, Terms, ℤ, Asked, List, ◌++◌, Some, drop, lit<, true, Game}
-use Rattle.gf_form.proofs.Common.{part, ints, ◌+ℤ◌, ◌*ℤ◌, zero, suc, ◌+◌, ◌-◌, ◌*◌, ◌<◌, ◌≤◌, ◌^◌}
-use Rattle.gf_form.proofs.Common.{◌∷◌, map, ◌∙◌, pos, [], ap, all_both}
+use Rattle.gf_form.proofs.Common
+use Common.{asked_profiles, full_profiles, strategies_at, one_fraction, ArePayoffsAt, first_terms}
+use Common.{IsSpellable, all_choices, IsFraction, choices_by, HasPairRow, IsPaidPair, AreWritten, ℕ}
+use Common.{zero_ratio, HasValues, AreChosen, SettlesAt, all_terms, steps_of, at_place, all_both, ℤ}
+use Common.{IsScale, term_at, lowered, Settles, get_or, length, IsGame, Chosen, arith, Ratio, meets}
+use Common.{value, Scale, Terms, Asked, Term, List, ◌++◌, Some, lit<, true, Game, part, ints, ◌+ℤ◌}
+use Common.{◌*ℤ◌, zero, ◌≡◌, suc, ◌+◌, ◌-◌, ◌*◌, ◌<◌, ◌≤◌, ◌^◌, ◌∷◌, map, ◌∙◌, pos, [], ap}
 use Rattle.gf_form.specs.declared.rows.written.Written.{Written}
 use Rattle.gf_form.specs.inner.rows.Pairs.{ComeToPair, IsOnly, IsPair, only_term}
 use Rattle.gf_form.proofs.lemmas.rows.SettledRows.{settled_left}
@@ -15,12 +13,12 @@ use Rattle.gf_form.specs.declared.rows.pairs.Only.{Only}
 use Rattle.gf_form.specs.declared.rows.pairs.Pair.{Pair}
 use Rattle.gf_form.proofs.lemmas.rows.DemandDigits.{spans_above}
 use Rattle.gf_form.proofs.lemmas.rows.FlatRows.{terms_count, there}
-use Rattle.gf_form.proofs.lemmas.rows.MergedTerms.{first_parts, sum_append}
-use Rattle.gf_form.proofs.lemmas.rows.Merges.{part_next, part_past, ranges}
+use Rattle.gf_form.proofs.lemmas.rows.MergedTerms.{sum_append}
+use Rattle.gf_form.proofs.lemmas.rows.Merges.{chosen_parts, part_next, part_past}
 use Rattle.gf_form.proofs.lemmas.rows.RowsMade.{all_more, one_row_more}
 use Rattle.gf_form.proofs.lemmas.strategies.PickedProfiles.{numbered_at}
 use Rattle.gf_form.proofs.lemmas.strategies.StrategiesByNumber.{choices_row}
-use Rattle.gf_form.proofs.lemmas.values.PayoffsGiven.{are_payoffs, have_values}
+use Rattle.gf_form.proofs.lemmas.values.BottomUp.{are_payoffs, have_values}
 use Rattle.gf_form.proofs.lemmas.rows.ItemRows.{all_by_place}
 
 -- ---- one term, or none
@@ -68,12 +66,9 @@ paid_pair g (n ∷ []) from least number action chosen pair one before is are co
     let whole : r ≡ r * 1 + 0 = omega arith in
     let choices : get_or (all_choices (n ∷ [])) r [] ≡ action ∷ [] =
     cc (choices_row n [] r 0 there (lit< tt)) in
-    let es = all_terms from in
-    let merged = first_parts 1 action es (part 0 chosen.free es) (part chosen.free chosen.start es)
-    (part chosen.start chosen.end es) (drop chosen.end es) (omega (arith, is))
-    (ranges from 1 action (omega (arith, is)) chosen are) in
-    paid g number [] [] _ pair (settled_left g number 1 action [] [] es _ merged
-    (rw choices at before.settles)) (come (action * 1))
+    paid g number [] [] _ pair (settled_left g number 1 action [] [] (all_terms from) _
+    (chosen_parts from 1 action (omega (arith, is)) chosen are) (rw choices at before.settles))
+    (come (action * 1))
 paid_pair g ns from least number action chosen pair one before is are come =
     absurd (omega (arith, one))
 
@@ -152,9 +147,3 @@ next_row asked game spellable before players pair written after old new within a
     values k less =
         let here = more.each k zero_ratio (omega (arith, less, all)) in
         grind (arith, one_fraction)
-
--- ---- the fastest digit
-
-pub some_weaker : {A : Type 0} (o : Option A) (P Q : A → Type 0) → ((x : A) → P x → Q x)
-    → IfSome o P → IfSome o Q
-some_weaker o P Q each h = grind arith

@@ -1,17 +1,17 @@
 -- Terms that fit together over one denominator, and those of them that add something.
-use Rattle.gf_form.proofs.Common.{*ℤ-cancel_right, sum_of_terms, AllByRecursion, div-mul_cancel}
-use Rattle.gf_form.proofs.Common.{if◌then◌else◌, first_terms, unsigned_abs, AreExactAt, all_parts}
-use Rattle.gf_form.proofs.Common.{AreOrdered, number_at, SettlesAt, dvd_refl, all_both, *ℤ_assoc}
-use Rattle.gf_form.proofs.Common.{AreAlike, IsShaped, term_at, zero-*ℤ, all_terms, lowered, add-one}
-use Rattle.gf_form.proofs.Common.{length, add-*ℤ, Global, arith, meets, Term, Terms, refl, subst}
-use Rattle.gf_form.proofs.Common.{Game, ints, ◌+ℤ◌, ◌*ℤ◌, Bool, true, List, ◌++◌, zero, ◌≡◌, pos}
-use Rattle.gf_form.proofs.Common.{◌+◌, ◌*◌, ◌/◌, ◌<◌, ◌≤◌, ◌^◌, ◌∷◌, sym, ◌∙◌, ◌∣◌, suc, Vec, []}
-use Rattle.gf_form.proofs.Common.{ap, ℕ, ℤ}
+use Rattle.gf_form.proofs.Common
+use Common.{*ℤ-cancel_right, AllByRecursion, div-mul_cancel, if◌then◌else◌, sum_of_terms, all_parts}
+use Common.{unsigned_abs, first_terms, AreExactAt, AreOrdered, number_at, SettlesAt, all_terms, ◌≡◌}
+use Common.{dvd_refl, all_both, *ℤ_assoc, AreAlike, IsShaped, term_at, zero-*ℤ, lowered, add-one, ℕ}
+use Common.{length, add-*ℤ, Global, arith, meets, Terms, subst, Term, refl, Game, ints, ◌+ℤ◌, ◌*ℤ◌}
+use Common.{Bool, true, List, ◌++◌, zero, pos, ◌+◌, ◌*◌, ◌/◌, ◌<◌, ◌≤◌, ◌^◌, ◌∷◌, sym, ◌∙◌, ◌∣◌, []}
+use Common.{suc, Vec, ap, ℤ}
 use Rattle.gf_fraction.proofs.Integers.{*ℤ_right_comm}
 use Rattle.gf_form.specs.inner.rows.Paying.{FitOver, IsOver, Kept, SettleAsWell, sizes_of}
-use Rattle.gf_form.proofs.lemmas.rows.FlatRows.{demands_more, itself, terms_count}
+use Rattle.gf_form.specs.inner.rows.TermLists.{AreInOrder, MayCome}
+use Rattle.gf_form.proofs.lemmas.rows.FlatRows.{itself, terms_count}
 use Rattle.gf_form.proofs.lemmas.rows.MergedTerms.{none_first, sum_append}
-use Rattle.gf_form.proofs.lemmas.rows.Merges.{MayCome, lowered_none, ordered_more, skips, waits}
+use Rattle.gf_form.proofs.lemmas.rows.Merges.{lowered_none, ordered_more, skips, waits}
 
 -- ---- all over one denominator
 
@@ -112,9 +112,8 @@ settled_as_well from left den fit kept g number steps choices settles k less mos
 
 pub record Paying (from : Terms) (i : ℕ) (left : Terms) : Type 0 where
   pub kept : Kept (first_terms from i) (all_terms left)
-  pub shaped : IsShaped left
   pub alike : AreAlike left from
-  pub ordered : AreOrdered left
+  pub order : AreInOrder left
   pub may : MayCome from left 0 i (length from.demands.items)
 
 pub first_paying : (from left : Terms) → all_terms left ≡ [] → IsShaped left
@@ -130,15 +129,12 @@ module _ (from : Terms) (i : ℕ) (left : Terms) (sorted : AreOrdered from)
       ++ lowered 0 (term_at from i) ∷ []
       → AreAlike after left → IsShaped after → Paying from (i + 1) after
   more_paying after is alike shaped =
-      let grown = demands_more left after (lowered 0 (term_at from i)) is in
-      record {
+      let t = lowered 0 (term_at from i) in record {
         kept = rw (one_more, is, lowered_none (term_at from i))
             (kept_more (first_terms from i) (all_terms left) (term_at from i) before.kept);
-        shaped = shaped;
         alike = (alike.0 ∙ before.alike.0, alike.1 ∙ before.alike.1);
-        ordered = ordered_more left.demands.items after.demands.items _ grown before.ordered
-            (before.may.rises less);
-        may = skips sorted (waits grown before.may (λ _. omega arith)) less;
+        order = (shaped, ordered_more left after t is before.order.1 (before.may.rises less));
+        may = skips sorted (waits left after t is before.may (λ _. omega arith)) less;
       }
 
   pub same_paying : ((k : ℕ) → number_at (suc k) (term_at from i) ≡ pos 0)

@@ -1,17 +1,15 @@
 -- The value of a tree is the sum of the shares of the nodes that choices reach.
-use Rattle.gf_form.proofs.Common.{AllByRecursion, InformationSet, if◌then◌else◌, sum_of_shares, ◌≡◌}
-use Rattle.gf_form.proofs.Common.{paid_at_node, chance_value, append_assoc, flatten_all, IsFraction}
-use Rattle.gf_form.proofs.Common.{HasChildren, IsSpellable, child_value, MatchOption, zero_ratio, ℕ}
-use Rattle.gf_form.proofs.Common.{chances_at, value_over, option_map, append-nil, is_sum_at, Option}
-use Rattle.gf_form.proofs.Common.{root_path, AreDigits, eqb-false, by_chance, all_parts, payoff_at}
-use Rattle.gf_form.proofs.Common.{eqb-true, HasValue, steps_of, Reached, flatten, reached, followed}
-use Rattle.gf_form.proofs.Common.{length, branch, SetKey, IsGame, set_at, FitsAt, value, suc, ◌==◌}
-use Rattle.gf_form.proofs.Common.{false, subst, arith, Ratio, Trees, count, zero, Bool, true, List}
-use Rattle.gf_form.proofs.Common.{◌++◌, Some, None, refl, Tree, none, more, Game, Node, Path, meets}
-use Rattle.gf_form.proofs.Common.{◌+◌, ◌/◌, ◌≤◌, ◌∷◌, sym, [], is_personal, path_handing, comes_by}
-use Rattle.gf_form.proofs.Common.{choosing, descent_all, kept, eq-eqb, ne_eqb, false_from_ne_true}
-use Rattle.gf_form.proofs.Common.{sum_of_terms, node_terms, Term, AreExactAt, +ℤ_idl, Stop, node_at}
-use Rattle.gf_form.proofs.Common.{map, map-append, descent, demanding}
+use Rattle.gf_form.proofs.Common
+use Common.{false_from_ne_true, AllByRecursion, InformationSet, if◌then◌else◌, sum_of_shares, value}
+use Common.{paid_at_node, chance_value, append_assoc, path_handing, sum_of_terms, flatten_all, ◌==◌}
+use Common.{HasChildren, IsSpellable, child_value, is_personal, descent_all, IsFraction, zero_ratio}
+use Common.{chances_at, value_over, append-nil, node_terms, AreExactAt, map-append, is_sum_at, zero}
+use Common.{root_path, AreDigits, eqb-false, by_chance, all_parts, payoff_at, demanding, eqb-true}
+use Common.{HasValue, steps_of, followed, comes_by, choosing, Reached, flatten, reached, node_at, ℕ}
+use Common.{descent, path_to, Option, length, branch, SetKey, IsGame, set_at, FitsAt, eq-eqb, false}
+use Common.{ne_eqb, +ℤ_idl, subst, arith, Ratio, Trees, count, meets, Bool, true, List, ◌++◌, Some}
+use Common.{None, refl, Tree, none, more, Game, Node, Path, kept, Term, Stop, ◌≡◌, suc, ◌+◌, ◌/◌}
+use Common.{◌≤◌, ◌∷◌, sym, map, []}
 use Rattle.std.specs.Option.{option_map_or}
 use Rattle.gf_form.specs.inner.rows.ReachedNodes.{demanding_path, drawn, met_if, is_sum}
 use Rattle.gf_form.proofs.lemmas.values.Denominators.{probability_fraction, payoff_fraction}
@@ -22,11 +20,6 @@ use Rattle.gf_form.proofs.lemmas.rows.MetNodes.{AreFreed, set_there, tree_kept}
 use Rattle.gf_form.proofs.lemmas.values.ValuesComputed.{zero_fraction}
 use Rattle.gf_form.proofs.lemmas.rows.ValuedNodes.{times_valued, zero_valued, none_shared, IsValued}
 use Rattle.gf_form.proofs.lemmas.rows.ValuedNodes.{leaf_valued, fits_parts, sum_valued, idle_move}
-
--- if nothing is added there, a player moves, and there is no outcome
-unpaid_move : (key : SetKey) (own : ℕ) → is_sum_at own (Some key) ≡ false
-    → ¬ (key.player ≡ 0) × (own ≡ 0)
-unpaid_move key own adds = grind arith
 
 module _ (g : Game) (game : IsGame g) (spellable : IsSpellable g) (choose : SetKey → ℕ)
     (valid : (key : SetKey) (set : InformationSet) → set_at g key ≡ Some set
@@ -58,12 +51,12 @@ module _ (g : Game) (game : IsGame g) (spellable : IsSpellable g) (choose : SetK
   awake_valued : (n : Node) (ts : Trees Node) (path : Path) → 1 ≤ path.bound → Below n ts
       → (o : Option SetKey) → n.set ≡ o
       → IfFits (value_over (payoff_at g player n) o (value_below n ts)) path
-      (record { path = path; outcome = paid_at_node g n }
+      (met_if false false path (paid_at_node g n)
       ∷ map node_at (option_map_or (below_followed n ts path) o []))
   awake_valued n ts path some below None at fits =
       leaf_valued _ _ _ _ (paid_is g player n) (payoff_fraction g spellable player n) fits
   awake_valued n ts path some below (Some key) at fits =
-      let own : Reached = record { path = path; outcome = paid_at_node g n } in
+      let own : Reached = met_if false false path (paid_at_node g n) in
       let rs = map node_at (below_followed n ts path key) in
       let both = fits_parts _ _ _ (own ∷ []) rs fits in
       sum_valued _ _ _ (own ∷ []) rs some fits
@@ -75,7 +68,7 @@ module _ (g : Game) (game : IsGame g) (spellable : IsSpellable g) (choose : SetK
       → (adds : Bool) → is_sum_at (paid_at_node g n) o ≡ adds
       → IfFits (value_over (payoff_at g player n) o (value_below n ts)) path
       (met_if idle adds path (paid_at_node g n) ∷ map node_at (option_map_or
-      (below_followed n ts (met_if idle adds path (paid_at_node g n)).path) o []))
+      (below_followed n ts (path_to (met_if idle adds path (paid_at_node g n)))) o []))
   node_valued n ts path below o at false idle adds is =
       let above = eqb-false path.bound 0 idle in
       awake_valued n ts path (omega (arith, above)) below o at
@@ -83,28 +76,22 @@ module _ (g : Game) (game : IsGame g) (spellable : IsSpellable g) (choose : SetK
   node_valued n ts path below None at true idle false is = λ fits.
       let unbound = eqb-true path.bound 0 idle in
       let own = met_if true false path (paid_at_node g n) in
-      zero_valued _ _ _ own.path (own ∷ []) (payoff_fraction g spellable player n)
+      zero_valued _ _ _ (path_to own) (own ∷ []) (payoff_fraction g spellable player n)
       (λ some. absurd (omega (arith, some, unbound))) (none_shared g player den own refl [])
   node_valued n ts path below (Some key) at true idle true is = λ fits.
       let unbound = eqb-true path.bound 0 idle in
-      let anew = (met_if true true path 0).path in
+      let anew = path_to (met_if true true path 0) in
       let on = awake_valued n ts anew (omega arith) below (Some key) at fits in
       grind arith
   node_valued n ts path below (Some key) at true idle false is = λ fits.
       let unbound = eqb-true path.bound 0 idle in
-      let move = unpaid_move key (paid_at_node g n) is in
+      let move : ¬ (key.player ≡ 0) × (paid_at_node g n ≡ 0) = grind arith in
       let pay : payoff_at g player n ≡ zero_ratio = cc (paid_is g player n) in
       let own = met_if true false path (paid_at_node g n) in
       rw pay (idle_move _ _ _ own refl unbound (below path key at (λ chance. absurd (move.0 chance))
       (fits_parts _ _ _ (own ∷ []) _ fits).1))
 
   -- ---- the tree
-
-  chosen : (n : Node) (ts : Trees Node) (key : SetKey) → n.set ≡ Some key → ¬ (key.player ≡ 0)
-      → MatchOption n.set (count ts ≡ 0)
-      (λ key. option_map (λ set. length set.actions) (set_at g key) ≡ Some (count ts))
-      → (1 ≤ choose key) × (choose key ≤ count ts)
-  chosen n ts key at personal h = grind (arith, set_there, false_from_ne_true)
 
   -- none of these children is entered
   none_entered : (states : ℕ → Option Path) (k : ℕ) (ts : Trees Node)
@@ -129,7 +116,8 @@ module _ (g : Game) (game : IsGame g) (spellable : IsSpellable g) (choose : SetK
         (λ p key at some. either p (key.player == 0) key.player refl
         (λ chance. lot_valued ts n key 1 p _ [] (λ k. grind (arith, at, chance)) at chance
         children.1 (some chance) (zero_valued _ _ _ p [] zero_fraction (λ _. refl) refl))
-        (λ personal. let there = chosen n ts key at personal children.0 in
+        (λ personal. let there : (1 ≤ choose key) × (choose key ≤ count ts) =
+        grind (arith, set_there, false_from_ne_true) in
         action_valued ts (choose key) (choose key) 1 p _
         (λ k. grind (arith, at, false_from_ne_true)) refl there.0 there.1 children.1))
         n.set refl (path.bound == 0) refl (is_sum g n) refl

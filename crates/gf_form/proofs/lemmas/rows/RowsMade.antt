@@ -7,14 +7,10 @@ use Rattle.gf_form.proofs.Common.{get_or, slice_get, length-map, IsFraction, IsF
 use Rattle.gf_form.proofs.Common.{slice_get-get_or, take-append_seam, flat_map-append, at_position}
 use Rattle.std.proofs.Math.Nat.{suc-mul}
 use Rattle.std.proofs.lemmas.List.{append_cancel_left, take_more}
+use Rattle.std.proofs.lemmas.Slice.Zip.{all_zipped_more}
 use Rattle.gf_fraction.proofs.AllElements.{all_joined}
 use Rattle.gf_nfg.specs.Table.{rows}
 use Rattle.gf_form.proofs.lemmas.form.Forms.{as_many, form_profiles}
-
-pub zip_more : {A B : Type 0} (R : A → B → Type 0) (xs : List A) (ys : List B) (x : A) (y : B)
-    → AllZip R xs ys → R x y → AllZip R (xs ++ x ∷ []) (ys ++ y ∷ [])
-zip_more R (a ∷ xs) (b ∷ ys) x y h k = (h.0, zip_more R xs ys x y h.1 k)
-zip_more R xs ys x y h k = grind arith
 
 all_second : {A B : Type 0} (R : A → B → Type 0) (P : B → Type 0) (xs : List A) (ys : List B)
     → ((x : A) (y : B) → R x y → P y) → AllZip R xs ys → AllByRecursion P ys
@@ -74,7 +70,7 @@ module _ (R : List ℕ → List Ratio → Type 0) where
       let all = λ (rows : List (List Ratio)). flat_map (λ row. row) rows in record {
         rows = h.rows ++ row ∷ [];
         joined = grind (arith, append-nil, flat_map-append);
-        right = grind (arith, take-suc, add-one, zip_more);
+        right = grind (arith, take-suc, add-one, all_zipped_more);
       }
 
   counted : (n : ℕ) (rows : List (List Ratio)) → AllByRecursion (λ row. length row ≡ n) rows

@@ -1,9 +1,11 @@
 -- What is left of terms once an action is chosen, and the profiles that it settles.
-use Rattle.gf_form.proofs.Common.{mul-le-mul_right, mul-div_cancel, all_choices, SettleRows, get_or}
-use Rattle.gf_form.proofs.Common.{AreMerged, SettlesAt, all_terms, steps_of, cases_lt, product, ◌≡◌}
-use Rattle.gf_form.proofs.Common.{Settles, arith, spans, Asked, Terms, subst, Term, List, Game, ◌+◌}
-use Rattle.gf_form.proofs.Common.{◌-◌, ◌*◌, ◌/◌, ◌<◌, ◌≤◌, ◌^◌, ◌⊎◌, inl, inr, ◌∷◌, ◌∙◌, Run, [], ℕ}
-use Rattle.gf_form.proofs.Common.{ap}
+use Rattle.gf_form.proofs.Common.{mul-le-mul_right, mul-div_cancel, all_choices, get_or, AreMerged}
+use Rattle.gf_form.proofs.Common.{SettlesAt, all_terms, steps_of, cases_lt, product, ◌≡◌, Settles}
+use Rattle.gf_form.proofs.Common.{arith, spans, Asked, Terms, Term, List, Game, ◌+◌, ◌-◌, ◌*◌, ◌/◌}
+use Rattle.gf_form.proofs.Common.{◌<◌, ◌≤◌, ◌^◌, ◌⊎◌, inl, inr, ◌∷◌, ◌∙◌, Run, [], ℕ, ap, Digit}
+use Rattle.gf_form.proofs.Common.{actions_at, map}
+use Rattle.gf_form.specs.inner.rows.GameDigits.{HaveSteps}
+use Rattle.gf_form.specs.inner.rows.SettledRows.{AreTermsFor, SettleBy}
 use Rattle.gf_form.proofs.lemmas.strategies.StrategiesByNumber.{choices_row, positive_parts}
 
 -- ---- profiles at which the choice at the slowest digit is the same
@@ -44,23 +46,54 @@ settled_after g n ns terms left least number b first before less is from to merg
       (rw choices at before.settles);
 }
 
+-- a digit, and the faster ones
+pub first_step : (slowest : Digit) (faster : List Digit) → HaveSteps (slowest ∷ faster)
+    → (slowest.step ≡ product (spans (actions_at faster))) × HaveSteps faster
+first_step slowest faster have =
+    let is : slowest.step ∷ map (λ (d : Digit). d.step) faster
+    ≡ product (spans (actions_at faster)) ∷ steps_of (actions_at faster) = have in (cc, cc)
+
+pub faster_within : (slowest : Digit) (faster : List Digit)
+    → product (spans (actions_at (slowest ∷ faster))) < 2 ^ 64
+    → product (spans (actions_at faster)) < 2 ^ 64
+faster_within slowest faster within =
+    let p = product (spans (actions_at faster)) in
+    let one : 1 * p ≤ (slowest.actions + 1) * p = mul-le-mul_right p (omega arith) in
+    omega (arith, one, within)
+
+-- the same from a later profile on
+pub settled_from : (asked : Asked) (terms : Terms) (digits : List Digit) (run rest : Run)
+    → rest.first ≡ run.first → rest.count ≡ run.count → run.from ≤ rest.from → rest.to ≡ run.to
+    → SettleBy asked terms digits run → SettleBy asked terms digits rest
+settled_from asked terms digits run rest first count from to by = record {
+  are_terms = by.are_terms;
+  steps = by.steps;
+  within = by.within;
+  count = count ∙ by.count;
+  settles = λ i more less.
+      rw first (by.settles i (omega (arith, from, more)) (omega (arith, to, less)));
+}
+
 -- the first of these profiles, and those with the same choice at the slowest digit
-module _ (asked : Asked) {n : ℕ} {ns : List ℕ} {terms : Terms} (run : Run)
-    (some : run.from < run.to) (count : run.count ≡ n * product ns)
-    (settles : SettleRows asked (n ∷ ns) terms run) {stride : ℕ}
-    (stride_is : stride ≡ run.count / n)
+module _ (asked : Asked) {slowest : Digit} {faster : List Digit} {terms : Terms} (run : Run)
+    (some : run.from < run.to) (by : SettleBy asked terms (slowest ∷ faster) run) {stride : ℕ}
+    (stride_is : stride ≡ run.count / slowest.actions)
   where
     abbrev number : ℕ → ℕ
     number i = get_or asked.numbers.now i 0
 
-    here : SettlesAt asked.game.now (n ∷ ns) terms run.first (number run.from)
-    here = settles run.from (omega arith) some
+    abbrev ns : List ℕ
+    ns = actions_at faster
 
-    pub stride_product : stride ≡ product ns
+    here : SettlesAt asked.game.now (slowest.actions ∷ ns) terms run.first (number run.from)
+    here = by.settles run.from (omega arith) some
+
+    stride_product : stride ≡ product ns
     stride_product =
-        let parts = positive_parts n (product ns) (number run.from - run.first) here.to in
-        let turned : run.count ≡ product ns * n = omega (arith, count) in
-        stride_is ∙ ap (λ (c : ℕ). c / n) turned ∙ mul-div_cancel (product ns) parts.0
+        let parts = positive_parts slowest.actions (product ns) (number run.from - run.first)
+        here.to in
+        let turned : run.count ≡ product ns * slowest.actions = omega (arith, by.count) in
+        stride_is ∙ ap (λ (c : ℕ). c / slowest.actions) turned ∙ mul-div_cancel (product ns) parts.0
 
     pub some_stride : 0 < stride
     some_stride = grind (arith, positive_parts, stride_product)
@@ -69,31 +102,40 @@ module _ (asked : Asked) {n : ℕ} {ns : List ℕ} {terms : Terms} (run : Run)
       abbrev first : ℕ
       first = run.first + before * stride
 
-      choice : IsChoiceOf n stride (number run.from) before first
+      choice : IsChoiceOf slowest.actions stride (number run.from) before first
       choice = grind (arith, stride_product, choice_of)
 
-      pub step_within : (step : ℕ) → (n + 1) * step < 2 ^ 64
-          → (before + 1) * step + step < 2 ^ 64
-      step_within step bound =
+      pub step_within : (before + 1) * slowest.step + slowest.step < 2 ^ 64
+      step_within =
           let less = choice.less in
-          let most : (before + 2) * step ≤ (n + 1) * step =
-          mul-le-mul_right step (omega (arith, less)) in
-          omega (arith, most, bound)
+          let p = product (spans ns) in
+          let most : (before + 2) * p ≤ (slowest.actions + 1) * p =
+          mul-le-mul_right p (omega (arith, less)) in
+          rw (first_step slowest faster by.steps).0 (omega (arith, most, by.within))
 
-      pub settled_next : (step to : ℕ) (left : Terms) → step ≡ product (spans ns)
-          → AreMerged step (before + 1) (all_terms terms) (all_terms left) → to ≤ run.to
+      pub settled_next : (to : ℕ) (left : Terms)
+          → AreMerged slowest.step (before + 1) (all_terms terms) (all_terms left)
+          → AreTermsFor asked left → to ≤ run.to
           → ((i : ℕ) → run.from + 1 ≤ i → i < to
           → (first ≤ number i) × (number i < first + stride))
-          → (i : ℕ) → run.from ≤ i → i < to → SettlesAt asked.game.now ns left first (number i)
-      settled_next step to left is merged most alike i more less =
-          let range = at (cases_lt run.from i) in
-          settled_after asked.game.now n ns terms left run.first (number i) before first
-          (settles i more (omega (arith, less, most))) choice.less
-          (ap (λ (s : ℕ). run.first + before * s) stride_product) range.0
-          (omega (arith, range.0, range.1, stride_product))
-          (subst (λ (s : ℕ). AreMerged s (before + 1) (all_terms terms) (all_terms left)) is merged)
+          → SettleBy asked left faster
+          (record { first = first; count = stride; from = run.from; to = to })
+      settled_next to left merged terms_are most alike =
+          let step = first_step slowest faster by.steps in record {
+            are_terms = terms_are;
+            steps = step.1;
+            within = faster_within slowest faster by.within;
+            count = stride_product;
+            settles = λ i more less.
+                let range = at i more less (cases_lt run.from i) in
+                settled_after asked.game.now slowest.actions ns terms left run.first (number i)
+                before first (by.settles i more (omega (arith, less, most))) choice.less
+                (ap (λ (s : ℕ). run.first + before * s) stride_product) range.0
+                (omega (arith, range.0, range.1, stride_product))
+                (rw step.0 at merged);
+          }
         where
-          at : (run.from < i) ⊎ (i ≤ run.from)
+          at : (i : ℕ) → run.from ≤ i → i < to → (run.from < i) ⊎ (i ≤ run.from)
               → (first ≤ number i) × (number i < first + stride)
-          at (inl h) = alike i (omega (arith, h)) less
-          at (inr h) = grind (arith, choice)
+          at i more less (inl h) = alike i (omega (arith, h)) less
+          at i more less (inr h) = grind (arith, choice)

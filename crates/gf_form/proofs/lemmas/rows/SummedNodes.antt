@@ -1,12 +1,11 @@
 -- Nodes with the same demands and outcome have the shares of their sum.
-use Rattle.gf_form.proofs.Common.{All-from_recursion, recursion_from_All, All-permutation}
-use Rattle.gf_form.proofs.Common.{if◌then◌else◌, IsPermutation, mul_pos_right, sum_of_terms}
-use Rattle.gf_form.proofs.Common.{unsigned_abs, map-append, node_terms, AreTermsOf, ComeAsWell}
-use Rattle.gf_form.proofs.Common.{IsExactAt, node_term, number_at, MatchBool, mul_above, Reached}
-use Rattle.gf_form.proofs.Common.{term_of, IsSumOf, IsScale, *ℤ-zero, zero-*ℤ, one-dvd, add-*ℤ}
-use Rattle.gf_form.proofs.Common.{pay_at, false, arith, subst, meets, Ratio, Scale, Term, zero}
-use Rattle.gf_form.proofs.Common.{◌*ℤ◌, Bool, true, List, ◌++◌, refl, ◌+ℤ◌, ints, Game, Path, ◌==◌}
-use Rattle.gf_form.proofs.Common.{◌≡◌, suc, pos, ◌+◌, ◌∷◌, sym, ◌∙◌, ◌/◌, ◌<◌, ◌*◌, [], ap, ℕ, ℤ}
+use Rattle.gf_form.proofs.Common
+use Common.{All-from_recursion, recursion_from_All, All-permutation, if◌then◌else◌, IsPermutation}
+use Common.{mul_pos_right, sum_of_terms, unsigned_abs, map-append, node_terms, AreTermsOf, path_to}
+use Common.{ComeAsWell, IsExactAt, node_term, number_at, mul_above, Reached, term_of, IsSumOf, Term}
+use Common.{*ℤ-zero, zero-*ℤ, one-dvd, add-*ℤ, pay_at, false, arith, subst, meets, Ratio, zero, ◌≡◌}
+use Common.{◌*ℤ◌, Bool, true, List, ◌++◌, refl, ◌+ℤ◌, ints, Game, Path, ◌==◌, suc, pos, ◌+◌, ◌∷◌, ℕ}
+use Common.{sym, ◌∙◌, ◌/◌, ◌<◌, ◌*◌, [], ap, ℤ}
 use Rattle.std.specs.List.Retain.{DedupsFrom, IsDeduped}
 use Rattle.std.proofs.lemmas.List.Sorted.{sum_by-IsPermutation, IsPermutation-map}
 use Rattle.std.proofs.lemmas.List.Sorted.{IsPermutation-sym}
@@ -82,6 +81,12 @@ have_permuted rs ss order g player =
 
 -- ---- two nodes and their sum
 
+-- where nothing is paid, each number is zero
+pub no_number : (path : Path) (pay : Ratio) (k : ℕ) → pay.num ≡ pos 0
+    → number_at k (term_of path pay) ≡ pos 0
+no_number path pay zero nothing = rw nothing (ap pos (omega arith))
+no_number path pay (suc k) nothing = grind (arith, *ℤ-zero)
+
 module _ (pay : Ratio) (a b sum : Path) where
   number_added : (q r k : ℕ) → sum.weight ≡ a.weight * q + b.weight * r
       → sum.bound ≡ a.bound * q + b.bound * r
@@ -94,12 +99,6 @@ module _ (pay : Ratio) (a b sum : Path) where
       +ℤ *ℤ_right_comm (pos b.weight) (pos r) pay.num i))
   number_added q r (suc (suc k)) weight bound = grind (arith, zero-*ℤ)
 
-  none_added : (q r k : ℕ) → pay.num ≡ pos 0 → number_at k (term_of sum pay)
-      ≡ number_at k (term_of a pay) *ℤ pos q +ℤ number_at k (term_of b pay) *ℤ pos r
-  none_added q r zero nothing = rw nothing (ap pos (omega arith))
-  none_added q r (suc zero) nothing = rw nothing (grind (arith, zero-*ℤ, *ℤ-zero))
-  none_added q r (suc (suc k)) nothing = grind (arith, zero-*ℤ)
-
   terms_added : (0 < sum.den → IsPathSum a b sum) → 0 < (term_of sum pay).head.den
       → IsSumOf (term_of a pay) (term_of b pay) (term_of sum pay)
   terms_added adds known = by (unsigned_abs pay.num == 0) refl
@@ -108,43 +107,26 @@ module _ (pay : Ratio) (a b sum : Path) where
           → IsSumOf (term_of a pay) (term_of b pay) (term_of sum pay)
       by true is =
           let nothing : pay.num ≡ pos 0 = grind (arith, ints) in
-          rw is (record {
-            first = omega arith;
-            first_divides = one-dvd 1;
-            second = omega arith;
-            second_divides = one-dvd 1;
-            numbers = λ k. none_added 1 1 k nothing;
-          })
+          rw is (grind (arith, one-dvd, no_number, zero-*ℤ))
       by false is =
           let above = rw is at known in
           let pays : 0 < pay.den = mul_pos_right sum.den pay.den _ refl above in
           let told = adds (mul_pos_left sum.den pay.den _ refl above) in
-          rw is (record {
-            first = mul_above a.den pay.den told.first pays;
-            first_divides = mul-dvd-mul_right a.den told.first_divides pay.den;
-            second = mul_above b.den pay.den told.second pays;
-            second_divides = mul-dvd-mul_right b.den told.second_divides pay.den;
-            numbers = rw (
-              mul-div-mul_right sum.den a.den pays,
-              mul-div-mul_right sum.den b.den pays,
-            )
-                (λ k. number_added (sum.den / a.den) (sum.den / b.den) k told.weight told.bound);
-          })
-
--- over a common denominator
-pub path_sum : (a b : Path) (s : Scale) (weight demands : ℕ) → IsScale
-    (record { demands = a.demands; den = a.den; size = a.bound })
-    (record { demands = b.demands; den = b.den; size = b.bound }) s
-    → weight ≡ a.weight * s.first + b.weight * s.second → IsPathSum a b
-    (record { weight = weight; bound = s.size; den = s.den; demands = demands })
-path_sum a b s weight demands is adds = grind arith
+          rw is (grind (
+            arith,
+            mul_above,
+            mul-dvd-mul_right,
+            mul-div-mul_right,
+            number_added (sum.den / a.den) (sum.den / b.den),
+            told,
+          ))
 
 sum_shares : (r s sum : Reached) → IsNodeSum r s sum → HaveSharesOf (r ∷ s ∷ []) (sum ∷ [])
 sum_shares r s sum h g player den steps choices exact =
     both_come den steps choices (node_term g player r) (node_term g player s)
     (node_term g player sum) h.first_demands h.second_demands
     (rw (h.first_outcome, h.second_outcome)
-    (terms_added (pay_at g player sum) r.path s.path sum.path h.adds)) exact.0
+    (terms_added (pay_at g player sum) (path_to r) (path_to s) (path_to sum) h.adds)) exact.0
 
 -- ---- node by node
 
@@ -155,24 +137,15 @@ module _ {F : Type 0} (R : F → Reached → Reached → Bool → F → Reached 
   adds_up : (xs : List Reached) (s : F) (k : Reached) (ys : List Reached)
       → DedupsFrom R s k xs ys → HaveSharesOf (k ∷ xs) ys
   adds_up [] s k ys h = subst (HaveSharesOf (k ∷ [])) (sym h) (have_same (k ∷ []))
-  adds_up (x ∷ xs) s k ys h =
-      by h.0 h.1 h.2 h.3 (told s x k h.0 h.1 h.2 h.3 h.4) h.5 (adds_up xs)
-    where
-      by : (b : Bool) (t : F) (y l : Reached)
-          → (b ≡ true → IsNodeSum k x l) × (b ≡ false → l ≡ k) × (y ≡ x)
-          → MatchBool b (DedupsFrom R t l xs ys)
-          ((zs : List Reached) × DedupsFrom R t y xs zs × (ys ≡ l ∷ zs))
-          → ((t : F) (k : Reached) (ys : List Reached) → DedupsFrom R t k xs ys
-          → HaveSharesOf (k ∷ xs) ys) → HaveSharesOf (k ∷ x ∷ xs) ys
-      by true t y l is h rest =
-          have_then (k ∷ x ∷ xs) (l ∷ xs) ys
-          (have_both (k ∷ x ∷ []) (l ∷ []) xs xs (sum_shares k x l (is.0 refl)) (have_same xs))
-          (rest t l ys h)
-      by false t y l is h rest =
-          let later = rest t x h.0
-          (subst (λ (z : Reached). DedupsFrom R t z xs h.0) is.2 h.1) in
-          subst (HaveSharesOf (k ∷ x ∷ xs)) (sym (h.2 ∙ ap (λ (z : Reached). z ∷ h.0) (is.1 refl)))
-          (have_both (k ∷ []) (k ∷ []) (x ∷ xs) h.0 (have_same (k ∷ [])) later)
+  adds_up (x ∷ xs) s k ys (true, t, y, l, r, h) =
+      have_then (k ∷ x ∷ xs) (l ∷ xs) ys
+      (have_both (k ∷ x ∷ []) (l ∷ []) xs xs (sum_shares k x l ((told s x k true t y l r).0 refl))
+      (have_same xs))
+      (adds_up xs t l ys h)
+  adds_up (x ∷ xs) s k ys (false, t, y, l, r, h) =
+      let same = told s x k false t y l r in
+      rw (h.2, same.1 refl) (have_both (k ∷ []) (k ∷ []) (x ∷ xs) h.0 (have_same (k ∷ []))
+      (adds_up xs t x h.0 (subst (λ (z : Reached). DedupsFrom R t z xs h.0) same.2 h.1)))
 
   pub added_up : (s : F) (rs ys : List Reached) → IsDeduped R s rs ys → HaveSharesOf rs ys
   added_up s [] ys h = subst (HaveSharesOf []) (sym h.told) (have_same [])

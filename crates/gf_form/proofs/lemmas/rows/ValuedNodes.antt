@@ -1,16 +1,14 @@
 -- A value over the common denominator, with the shares that it is the sum of: of a payoff, of a sum
 -- and of a multiple.
-use Rattle.gf_form.proofs.Common.{unsigned_abs-mul, mul-le-mul_right, sum_of_shares, if◌then◌else◌}
-use Rattle.gf_form.proofs.Common.{dvd-mul_right, unsigned_abs, IsFraction, zero_ratio, product_of}
-use Rattle.gf_form.proofs.Common.{met_bounds, node_terms, map-append, IsExactAt, dvd_trans, zero-*ℤ}
-use Rattle.gf_form.proofs.Common.{node_term, all_parts, by_chance, eqb-false, mul_above, HasValue}
-use Rattle.gf_form.proofs.Common.{IsWithin, *ℤ_assoc, times_of, dvd_refl, eqb-true, plus_of, pay_at}
-use Rattle.gf_form.proofs.Common.{Reached, *ℤ_comm, *ℤ-zero, +ℤ_idl, add-*ℤ, Option, FitsAt, sum_of}
-use Rattle.gf_form.proofs.Common.{subst, arith, Ratio, false, Some, refl, ◌+ℤ◌, Path, ◌*ℤ◌, ◌==◌, ℕ}
-use Rattle.gf_form.proofs.Common.{Game, ints, Bool, true, List, ◌++◌, ◌≡◌, ◌⊎◌, inl, inr, pos, ◌+◌}
-use Rattle.gf_form.proofs.Common.{◌*◌, ◌/◌, ◌^◌, ◌<◌, ◌≤◌, ◌∷◌, sym, ◌∙◌, ◌∣◌, [], ap, ℤ}
-use Rattle.std.proofs.lemmas.Nat.Gcd.{le_of_dvd, dvd-zero}
-use Rattle.std.proofs.Math.IntN.{+ℤ_comm}
+use Rattle.gf_form.proofs.Common
+use Common.{unsigned_abs-mul, mul-le-mul_right, sum_of_shares, if◌then◌else◌, dvd-mul_right, pay_at}
+use Common.{unsigned_abs, IsFraction, zero_ratio, product_of, met_bounds, node_terms, map-append, ℕ}
+use Common.{IsExactAt, dvd_trans, node_term, all_parts, by_chance, eqb-false, mul_above, HasValue}
+use Common.{IsWithin, *ℤ_assoc, times_of, eqb-true, zero-*ℤ, plus_of, path_to, Reached, *ℤ_comm, []}
+use Common.{*ℤ-zero, add-*ℤ, Option, FitsAt, sum_of, arith, Ratio, false, Some, refl, ◌+ℤ◌, Path, ℤ}
+use Common.{◌*ℤ◌, ◌==◌, Game, ints, Bool, true, List, ◌++◌, ◌≡◌, ◌⊎◌, inl, inr, pos, ◌+◌, ◌*◌, ◌/◌}
+use Common.{◌^◌, ◌<◌, ◌≤◌, ◌∷◌, sym, ◌∙◌, ◌∣◌, ap}
+use Rattle.std.proofs.Math.IntN.{+ℤ_idr}
 use Rattle.std.proofs.Math.Nat.{eq-zero_of_zero-dvd, le-mul_of_pos_right}
 use Rattle.gf_form.specs.inner.rows.ReachedNodes.{has_room}
 use Rattle.gf_form.proofs.lemmas.rows.OverOneDenominator.{quotient_of_product, quotient_above}
@@ -19,15 +17,12 @@ use Rattle.gf_form.proofs.lemmas.rows.OverOneDenominator.{sum_over, sum_size}
 use Rattle.gf_form.proofs.lemmas.rows.MergedTerms.{none_first}
 use Rattle.gf_form.proofs.lemmas.rows.ListedTerms.{bounds_append, shares_append}
 use Rattle.gf_form.proofs.lemmas.values.ValuesComputed.{zero_fraction, none_times, times_zero}
-use Rattle.gf_form.proofs.lemmas.values.ValuesComputed.{plus_zero, zero_plus}
+use Rattle.gf_form.proofs.lemmas.values.ValuesComputed.{plus_zero, zero_is, zero_plus}
 
 -- ---- integers
 
 mul-plus : (a b c : ℤ) → a *ℤ (b +ℤ c) ≡ a *ℤ b +ℤ a *ℤ c
 mul-plus a b c = *ℤ_comm a (b +ℤ c) ∙ add-*ℤ b c a ∙ (λ i. *ℤ_comm b a i +ℤ *ℤ_comm c a i)
-
-right_zero : (z : ℤ) → z +ℤ pos 0 ≡ z
-right_zero z = +ℤ_comm z (pos 0) ∙ +ℤ_idl z
 
 -- a number whose size times another one is within bounds
 within_part : (z : ℤ) (b limit : ℕ) → 1 ≤ b → unsigned_abs z * b ≤ limit → limit < 2 ^ 127
@@ -37,20 +32,6 @@ within_part z b limit some le h =
 
 sum_below : (x y : ℤ) (b : ℕ) → unsigned_abs (x +ℤ y) * b ≤ unsigned_abs x * b + unsigned_abs y * b
 sum_below x y b = omega (arith, mul-le-mul_right b (sum_size x y))
-
--- a payoff with a bound, in size
-own_below : (n : ℤ) (b q : ℕ)
-    → unsigned_abs (n *ℤ pos q) * b ≤ unsigned_abs (pos (b * unsigned_abs n) *ℤ pos q +ℤ pos 0)
-own_below n b q =
-    let times = ap (λ k. k * b) (unsigned_abs-mul n (pos q)) in
-    omega (arith, times)
-
--- a fraction that is nothing
-no_ratio : (r : Ratio) → IsFraction r → unsigned_abs r.num ≡ 0 → r ≡ zero_ratio
-no_ratio r f none =
-    let least = le_of_dvd (omega arith)
-    (f.lowest.2 r.den (rw none (dvd-zero r.den)) (dvd_refl r.den)) in
-    grind (arith, ints)
 
 -- ---- parts of the common denominator
 
@@ -71,7 +52,7 @@ module _ (den : ℕ) (den_above : 0 < den) (den_within : den < 2 ^ 127) (by : �
       (left_within px.0) px.1 py.1 hm hn hs in
       (sum.0, sum.1, sum.2, inl (px.0, sum.3))
   sum_part x y m n fx fy (inr px) py hm hn hs = grind (arith, zero_plus)
-  sum_part x y m n fx fy (inl px) (inr py) hm hn hs = grind (arith, plus_zero, right_zero)
+  sum_part x y m n fx fy (inl px) (inr py) hm hn hs = grind (arith, plus_zero, +ℤ_idr)
 
   product_part : (p y : Ratio) (n : ℤ) → IsFraction p → IsFraction y
       → IsPart den (by * p.den) y n → IsWithin (p.num *ℤ n)
@@ -157,24 +138,24 @@ module _ (g : Game) (player den : ℕ) where
     abbrev pay : Ratio
     pay = pay_at g player own
 
-    own_part : IsPart den own.path.den pay
+    own_part : IsPart den own.den pay
         (pay.num *ℤ pos (den / (node_term g player own).head.den))
     own_part = by (unsigned_abs pay.num == 0) refl (fits.exact.0 refl)
       where
         by : (b : Bool) → (unsigned_abs pay.num == 0) ≡ b
-            → (0 < (if b then 1 else own.path.den * pay.den))
-            × ((if b then 1 else own.path.den * pay.den) ∣ den)
-            → IsPart den own.path.den pay
-            (pay.num *ℤ pos (den / (if b then 1 else own.path.den * pay.den)))
+            → (0 < (if b then 1 else own.den * pay.den))
+            × ((if b then 1 else own.den * pay.den) ∣ den)
+            → IsPart den own.den pay
+            (pay.num *ℤ pos (den / (if b then 1 else own.den * pay.den)))
         by true is h =
-            let none = no_ratio pay f (eqb-true (unsigned_abs pay.num) 0 is) in
+            let none = zero_is pay f (omega (arith, ints, eqb-true (unsigned_abs pay.num) 0 is)) in
             grind (arith, zero-*ℤ)
         by false is h = inl (
-          dvd_trans own.path.den (dvd-mul_right own.path.den pay.den) h.1,
-          own_value pay own.path.den den fits.den_above_zero h.1,
+          dvd_trans own.den (dvd-mul_right own.den pay.den) h.1,
+          own_value pay own.den den fits.den_above_zero h.1,
         )
 
-    own_valued : IsValued (Some pay) own.path (own ∷ [])
+    own_valued : IsValued (Some pay) (path_to own) (own ∷ [])
     own_valued =
         let q = den / (node_term g player own).head.den in
         record {
@@ -183,16 +164,16 @@ module _ (g : Game) (player den : ℕ) where
           fraction = f;
           amount = pay.num *ℤ pos q;
           amount_is = λ some. own_part;
-          shares_are = right_zero ((pos own.path.weight *ℤ pay.num) *ℤ pos q)
-              ∙ *ℤ_assoc (pos own.path.weight) pay.num (pos q);
-          size = own_below pay.num own.path.bound q;
+          shares_are = +ℤ_idr ((pos own.weight *ℤ pay.num) *ℤ pos q)
+              ∙ *ℤ_assoc (pos own.weight) pay.num (pos q);
+          size =
+              let times = ap (λ k. k * own.bound) (unsigned_abs-mul pay.num (pos q)) in
+              omega (arith, times);
         }
 
   pub leaf_valued : {pay : Ratio} (own : Reached) → pay_at g player own ≡ pay → IsFraction pay
-      → Fits (own ∷ []) → IsValued (Some pay) own.path (own ∷ [])
-  leaf_valued own pays f fits =
-      subst (λ (p : Ratio). IsValued (Some p) own.path (own ∷ [])) pays
-      (own_valued own (subst IsFraction (sym pays) f) fits)
+      → Fits (own ∷ []) → IsValued (Some pay) (path_to own) (own ∷ [])
+  leaf_valued own pays f fits = rw (sym pays) (own_valued own (rw pays f) fits)
 
   -- ---- a node on an idle path, which pays nothing
 
@@ -201,9 +182,9 @@ module _ (g : Game) (player den : ℕ) where
     none_shared rs = grind (arith, none_first, *ℤ-zero)
 
     -- it adds nothing to the value of a child
-    pub idle_move : {below : Option Ratio} {rs : List Reached} → own.path.bound ≡ 0
-        → IsValued below own.path rs
-        → IsValued (plus_of (Some zero_ratio) below) own.path (own ∷ rs)
+    pub idle_move : {below : Option Ratio} {rs : List Reached} → own.bound ≡ 0
+        → IsValued below (path_to own) rs
+        → IsValued (plus_of (Some zero_ratio) below) (path_to own) (own ∷ rs)
     idle_move idle h = grind (arith, zero_plus, none_shared)
 
   -- ---- a child of a chance move
@@ -255,7 +236,7 @@ module _ (g : Game) (player den : ℕ) where
               zero_ratio,
               none_times c fc none h.ratio h.fraction,
               zero_fraction,
-              inr (refl, ap (λ z. z *ℤ h.amount) none ∙ zero-*ℤ h.amount),
+              grind (arith, zero-*ℤ),
             )
         by false is =
             let likely = eqb-false a 0 is in

@@ -1,5 +1,5 @@
 -- The strategies of a profile choose an action at each set, and chance has none.
-use Rattle.gf_form.proofs.Common.{length-numbers_from, get_or_default, InformationSet, player_keys}
+use Rattle.gf_form.proofs.Common.{length-numbers_from, Contains-get_or, InformationSet, player_keys}
 use Rattle.gf_form.proofs.Common.{description_at, every_profile, action_counts, strategies_at, Bool}
 use Rattle.gf_form.proofs.Common.{full_profiles, player_sets, strategy_at, AllZip-long, strategies}
 use Rattle.gf_form.proofs.Common.{players_of, choices_by, HasActions, zero_ratio, IsProfile, length}
@@ -65,8 +65,7 @@ module _ (g : Game) (game : IsGame g) where
 pub strategy_there : {A : Type 0} (xs : List (List A)) (s : ℕ) → 1 ≤ s → s ≤ length xs
     → Contains xs (strategy_at xs s)
 strategy_there xs s above within =
-    let less : s - 1 < length xs = omega arith in
-    rw (strategy_before xs s above) (s - 1, less, get_or_default xs (s - 1) _ [] less)
+    rw (strategy_before xs s above) (Contains-get_or xs (s - 1) [] (omega arith))
 
 are_strategies : (g : Game) (players profile : List ℕ)
     → IsProfile (map (λ player. length (strategies g player)) players) profile
@@ -76,8 +75,7 @@ are_strategies g (player ∷ players) (s ∷ profile) h =
 are_strategies g players profile h = grind arith
 
 pub profile_strategies : (g : Game) (profile : List ℕ) → Contains (full_profiles g) profile
-    → AllZip (λ strategy player. Contains (strategies g player) strategy) (strategies_at g profile)
-    (players_of g)
+    → AreStrategies g (strategies_at g profile) (players_of g)
 profile_strategies g profile h = grind (arith, are_strategies, every_profile)
 
 pub nothing_chosen : (keys : List SetKey) (key : SetKey) → choice_at keys [] key ≡ 0

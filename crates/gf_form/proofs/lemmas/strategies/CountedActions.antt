@@ -1,24 +1,28 @@
 -- Numbers of actions, multiplied one after another, and what is counted for each player.
-use Rattle.gf_form.proofs.Common.{unwrap_or-slice_get, get_or-numbers_from, length-numbers_from, []}
-use Rattle.gf_form.proofs.Common.{All-from_recursion, AllByRecursion, InformationSet, action_counts}
-use Rattle.gf_form.proofs.Common.{at_position, player_keys, ArePositive, get_or-map, length-map, ap}
-use Rattle.gf_form.proofs.Common.{players_of, strategies, All-get_or, unwrap_or, mul_assoc, add-one}
-use Rattle.gf_form.proofs.Common.{mul_above, Described, take-suc, product, length, get_or, filter}
-use Rattle.gf_form.proofs.Common.{SetKey, IsGame, arith, IsSet, zero, List, ◌++◌, take, ◌==◌, Game}
-use Rattle.gf_form.proofs.Common.{◌≡◌, suc, ◌+◌, ◌*◌, ◌<◌, ◌≤◌, ◌∷◌, map, ◌∙◌, ℕ, Vec, Global}
-use Rattle.gf_form.proofs.Common.{AreCounts, Counts, sym}
+use Rattle.gf_form.proofs.Common
+use Common.{first_uses_distinct, unwrap_or-slice_get, get_or-numbers_from, length-numbers_from, ◌≡◌}
+use Common.{All-from_recursion, same_set_equality, option_and_then, AllByRecursion, InformationSet}
+use Common.{AreStrategies, slice_get-map, action_counts, AllZip-long, AreDistinct, player_sets, suc}
+use Common.{at_position, player_keys, ArePositive, option_map, get_or-map, length-map, players_of}
+use Common.{strategies, All-get_or, mul_assoc, of_filter, slice_get, used_sets, unwrap_or, same_set}
+use Common.{mul_above, Described, AreCounts, take-suc, add-one, product, Option, has_at, set_at, []}
+use Common.{set_of, length, get_or, filter, SetKey, IsGame, Global, Counts, subst, arith, IsSet, ap}
+use Common.{None, Some, refl, zero, List, ◌++◌, take, ◌==◌, Game, ◌+◌, ◌*◌, ◌<◌, ◌≤◌, ◌∷◌, map, ◌∙◌}
+use Common.{Vec, sym, ℕ}
+use Rattle.gf_form.proofs.lemmas.rows.DigitPlaces.{product_joined}
 use Rattle.std.proofs.Math.Nat.{mul-le-mul_left}
 pub use Rattle.std.proofs.lemmas.List.{take_all as take_past}
-use Rattle.gf_form.proofs.lemmas.strategies.Choices.{length-all_choices}
-use Rattle.gf_form.proofs.lemmas.strategies.Lookups.{all_mapped}
+use Rattle.gf_form.proofs.lemmas.strategies.Choices.{IsChoice, length-all_choices}
+use Rattle.gf_tree.proofs.lemmas.games.Lookups.{entry_at}
+use Rattle.gf_form.proofs.lemmas.strategies.Lookups.{all_mapped, zip_at, zip_by_places, zip_in_turn}
 
 -- ---- products
 
 pub product_more : (counts : List ℕ) (i : ℕ) → i < length counts
     → product (take (suc i) counts) ≡ product (take i counts) * get_or counts i 0
-product_more (c ∷ counts) (suc i) h =
-    grind (arith, mul_assoc, product_more counts i (omega (arith, h)))
-product_more counts i h = grind arith
+product_more counts i less =
+    let taken = take-suc counts i 0 less in
+    let whole = product_joined (take i counts) (get_or counts i 0 ∷ []) in grind arith
 
 pub product_positive : (counts : List ℕ) → ArePositive counts → 0 < product counts
 product_positive [] h = omega arith
@@ -34,7 +38,10 @@ product_within [] i h less = absurd (omega arith)
 
 -- ---- the sets of a player
 
-positive_of : (players player : ℕ) (ss : List (Described SetKey InformationSet))
+abbrev Known : Type 0
+Known = Described SetKey InformationSet
+
+positive_of : (players player : ℕ) (ss : List Known)
     → AllByRecursion (λ s. IsSet players s.key s.description) ss
     → ArePositive (map (λ s. length s.description.actions)
     (filter (λ s. s.key.player == player) ss))
@@ -53,6 +60,44 @@ pub positive_at : (counts : List ℕ) (i : ℕ) → ArePositive counts → i < l
     → 0 < get_or counts i 0
 positive_at counts i h less =
     grind (arith, All-get_or, All-from_recursion)
+
+-- a player's set, by its number
+his_set : (g : Game) → IsGame g → (player : ℕ) (s : Known) (k : ℕ)
+    → slice_get (player_sets g player) k ≡ Some s
+    → set_at g (set_of player s.key.number) ≡ Some s.description
+his_set g game player s k is =
+    let his = λ (s : Known). s.key.player == player in
+    let there = of_filter his g.sets s (has_at (player_sets g player) k s is) in
+    let distinct = subst AreDistinct (sym game.one_entry_each_set) (first_uses_distinct same_set
+    same_set_equality (used_sets g.tree)) in
+    grind (arith, entry_at same_set same_set_equality g.sets s distinct there.0)
+
+-- how many actions there are at the set at a position, by its number
+pub count_there : (g : Game) → IsGame g → (player position : ℕ)
+    → at_position (action_counts g player) position
+    ≡ option_and_then (λ number. option_map (λ set. length set.actions)
+    (set_at g (set_of player number)))
+    (at_position (map (λ key. key.number) (player_keys g player)) position)
+count_there g game player zero = refl
+count_there g game player (suc k) =
+    grind (arith, slice_get-map, by (slice_get (player_sets g player) k) refl)
+  where
+    by : (o : Option Known) → slice_get (player_sets g player) k ≡ o
+        → option_map (λ (s : Known). length s.description.actions) o
+        ≡ option_and_then (λ (s : Known). option_map (λ (set : InformationSet). length set.actions)
+        (set_at g (set_of player s.key.number))) o
+    by None is = refl
+    by (Some s) is = grind (arith, his_set g game player s k is)
+
+pub choice_by_places : (choice counts : List ℕ) → length choice ≡ length counts
+    → ((k : ℕ) → k < length choice
+    → (1 ≤ get_or choice k 0) × (get_or choice k 0 ≤ get_or counts k 0))
+    → IsChoice counts choice
+choice_by_places choice counts e h = zip_by_places _ 0 0 choice counts e h
+
+pub action_within : (choice counts : List ℕ) (k : ℕ) → IsChoice counts choice → k < length choice
+    → (1 ≤ get_or choice k 0) × (get_or choice k 0 ≤ get_or counts k 0)
+action_within choice counts k h less = zip_at _ 0 0 choice counts h k less
 
 -- ---- the players
 
@@ -81,11 +126,6 @@ of_player g f before d less =
 pub as_many_players : {A : Type 0} (g : Game) (f : ℕ → A)
     → length (map f (players_of g)) ≡ length g.players
 as_many_players g f = cc (length-map (players_of g) f, length-numbers_from 1 (length g.players))
-
--- a list is kept item by item
-pub one_item_more : {A : Type 0} (all kept next : List A) (i : ℕ) (item d : A) → i < length all
-    → item ≡ get_or all i d → kept ≡ take i all → next ≡ kept ++ item ∷ [] → next ≡ take (i + 1) all
-one_item_more all kept next i item d h is kept_is next_is = cc (take-suc all i d h, add-one i)
 
 -- what is so of the players up to the next one
 pub next_player : {A : Type 0} (g : Game) (f : ℕ → A) (before : ℕ) → before < length g.players
@@ -145,5 +185,22 @@ module _ (g : Game) (c : Counts) (counts : AreCounts g c) where
       → get_or (actions_in c) i [] ≡ action_counts g (i + 1)
   actions_of i less = cc (of_player g (action_counts g) i [] (omega (arith, less, all_counted)))
 
+pub ruleset action_steps = (count_there, length-map)
+
 pub ruleset given_steps =
     (own_at, of_player, as_many_players, length-map, length-all_choices, some_strategy)
+
+-- ---- strategies of all players
+
+pub are_all : (g : Game) (all : List (List ℕ)) → length all ≡ length g.players
+    → ((k : ℕ) → k < length all → IsChoice (action_counts g (suc k)) (get_or all k []))
+    → AreStrategies g all
+are_all g all count h =
+    zip_in_turn _ [] all (length g.players) count (λ k less. h k (omega (arith, less, count)))
+
+pub as_many_strategies : (g : Game) (all : List (List ℕ)) → AreStrategies g all
+    → length all ≡ length g.players
+as_many_strategies g all h =
+    sym (AllZip-long _ all (players_of g) h) ∙ length-numbers_from 1 (length g.players)
+
+pub ruleset strategy_steps = (are_all, as_many_strategies, length-map)

@@ -1,59 +1,36 @@
 -- What is found in a list whose elements all have a property, and the information sets of a game
 -- by their keys.
-use Rattle.gf_form.proofs.Common.{refl, ◌<◌, length, map, numbers_from, ◌≡◌, ℕ, suc, Bool, true, []}
-use Rattle.gf_form.proofs.Common.{List, ◌∷◌, Option, MatchOption, ap, ◌∙◌, ◌≤◌, ◌-◌, ◌+◌, get_or, ⊤}
-use Rattle.gf_form.proofs.Common.{arith, option_map, unwrap_or, option_and_then, slice_get, subst}
-use Rattle.gf_form.proofs.Common.{AllByRecursion, unwrap_or-slice_get, at_position, strategy_at}
-use Rattle.gf_form.proofs.Common.{all_images, all_of_each, AllZip, AllZip-long, positions, flat_map}
-use Rattle.gf_form.proofs.Common.{get_or-numbers_from, length-numbers_from, ◌++◌, ◌↔◌, Some, zero}
-use Rattle.gf_form.proofs.Common.{IsFirstWithout, find, has, Has, get_or_default, length-append}
-use Rattle.gf_form.proofs.Common.{get_or_append_left, ◌*◌, eqb-true, SetKey, same_set}
-use Rattle.gf_form.proofs.Common.{InformationSet, IsSet, Described, Game, IsGame, set_at, sym}
-use Rattle.gf_form.proofs.Common.{player_keys, same_set_equality, mapped_from, of_filter, used_sets}
-use Rattle.gf_form.proofs.Common.{AreDistinct, first_uses_distinct, sets_by_first_use}
+use Rattle.gf_form.proofs.Common
+use Common.{unwrap_or-slice_get, get_or-numbers_from, length-numbers_from, first_uses_distinct, ◌<◌}
+use Common.{recursion_from_All, get_or_append_left, same_set_equality, sets_by_first_use, slice_get}
+use Common.{Contains-get_or, AllByRecursion, IsFirstWithout, InformationSet, length-append, IfSome}
+use Common.{numbers_from, at_position, strategy_at, all_of_each, AllZip-long, player_keys, flat_map}
+use Common.{mapped_from, AreDistinct, option_map, all_images, positions, Described, of_filter, refl}
+use Common.{used_sets, eqb-true, same_set, length, get_or, AllZip, SetKey, IsGame, set_at, arith, ℕ}
+use Common.{subst, IsSet, Bool, true, List, ◌++◌, Some, zero, find, Game, map, ◌≡◌, suc, ◌∷◌, ◌∙◌}
+use Common.{◌≤◌, ◌-◌, ◌+◌, ◌↔◌, has, Has, ◌*◌, sym, [], ap}
 use Rattle.std.proofs.lemmas.List.{get_or-append-add}
 use Rattle.gf_tree.specs.FirstUse.{sets_of}
-
--- a property of what there is, if there is something
-abbrev pub Each : {A : Type 0} → (A → Type 0) → Option A → Type 0
-Each P o = MatchOption o ⊤ P
 
 pub all_mapped : {A B : Type 0} (P : B → Type 0) (f : A → B) (xs : List A) → ((x : A) → P (f x))
     → AllByRecursion P (map f xs)
 all_mapped P f xs h = all_images P f xs (all_of_each (λ x. P (f x)) xs (λ x _. h x))
 
-pub each_got : {A : Type 0} (P : A → Type 0) (xs : List A) (i : ℕ) → AllByRecursion P xs
-    → Each P (slice_get xs i)
-each_got P (x ∷ xs) (suc i) h = each_got P xs i h.1
-each_got P xs i h = grind arith
-
 pub each_at : {A : Type 0} (P : A → Type 0) (xs : List A) (position : ℕ) → AllByRecursion P xs
-    → Each P (at_position xs position)
-each_at P xs position h = grind (arith, each_got)
+    → IfSome (at_position xs position) P
+each_at P (x ∷ xs) (suc (suc k)) h = each_at P xs (suc k) h.1
+each_at P xs position h = grind arith
 
 -- what is said of the elements is said of what a test finds, by what it is described as
 pub each_described : {A B : Type 0} (P : A → Type 0) (Q : B → Type 0) (f : A → B) (test : A → Bool)
     (xs : List A) → ((x : A) → P x → test x ≡ true → Q (f x)) → AllByRecursion P xs
-    → Each Q (option_map f (find test xs))
+    → IfSome (option_map f (find test xs)) Q
 each_described P Q f test [] said h = tt
 each_described {A} P Q f test (x ∷ xs) said h =
     grind (arith, each_described P Q f test xs said h.1)
 
-pub each_then : {A B : Type 0} (P : A → Type 0) (Q : B → Type 0) (f : A → Option B) (o : Option A)
-    → ((x : A) → P x → Each Q (f x)) → Each P o → Each Q (option_and_then f o)
-each_then P Q f o each h = grind arith
-
-pub each_weaker : {A : Type 0} (P Q : A → Type 0) (o : Option A) → ((x : A) → P x → Q x) → Each P o
-    → Each Q o
-each_weaker P Q o weaker h = grind arith
-
-pub each_or : {A : Type 0} (P : A → Type 0) (o : Option A) (default : A) → P default → Each P o
-    → P (unwrap_or o default)
-each_or P o default d h = grind arith
-
 pub there : {A : Type 0} (xs : List A) (i : ℕ) (d : A) → i < length xs → Has xs (get_or xs i d)
-there xs i d less =
-    has xs (get_or xs i d) (i, less, get_or_default xs i (get_or xs i d) d less)
+there xs i d less = has xs (get_or xs i d) (Contains-get_or xs i d less)
 
 -- ---- positions
 
@@ -111,6 +88,20 @@ zip_at R d e (x ∷ xs) (y ∷ ys) h (suc k) less = zip_at R d e xs ys h.1 k (om
 zip_at R d e xs ys h k less = grind arith
 
 -- numbered in turn from 1
+pub zip_in_turn : {A : Type 0} (R : A → ℕ → Type 0) (d : A) (xs : List A) (n : ℕ) → length xs ≡ n
+    → ((k : ℕ) → k < n → R (get_or xs k d) (suc k)) → AllZip R xs (positions n)
+zip_in_turn R d xs n long h =
+    zip_by_places R d 0 xs (positions n) (long ∙ sym (length-numbers_from 1 n)) (λ k less.
+    let within : k < n = omega (arith, less, long) in
+    let number : get_or (positions n) k 0 ≡ suc k =
+    omega (arith, get_or-numbers_from 1 n k 0 within) in
+    rw number (h k within))
+
+pub all_in_turn : (P : ℕ → Type 0) (first n : ℕ) → ((k : ℕ) → k < n → P (first + k))
+    → AllByRecursion P (numbers_from first n)
+all_in_turn P first n h =
+    grind (arith, get_or-numbers_from, length-numbers_from, numbers_from, recursion_from_All)
+
 pub zip_counted : {A : Type 0} (R : A → ℕ → Type 0) (d : A) (xs : List A) (n : ℕ)
     → AllZip R xs (positions n) → (k : ℕ) → k < length xs → R (get_or xs k d) (k + 1)
 zip_counted R d xs n h k less =
@@ -178,12 +169,12 @@ first_alike P Q ps qs position h o = grind (arith, alike_at, alike_back)
 -- ---- the sets of a game: what holds for each, and whose they are
 
 pub each_set : (g : Game) → IsGame g → (key : SetKey)
-    → Each (IsSet (length g.players) key) (set_at g key)
+    → IfSome (set_at g key) (IsSet (length g.players) key)
 each_set g game key = grind (arith, each_described, same_set, same_set_equality)
 
 pub set_is : (g : Game) → IsGame g → (key : SetKey) (set : InformationSet) → set_at g key ≡ Some set
     → IsSet (length g.players) key set
-set_is g game key set e = subst (Each (IsSet (length g.players) key)) e (each_set g game key)
+set_is g game key set e = rw e at (each_set g game key)
 
 -- a player's key is that of one of the game's sets, which is his
 pub own_set : (g : Game) (player : ℕ) (key : SetKey) → Has (player_keys g player) key

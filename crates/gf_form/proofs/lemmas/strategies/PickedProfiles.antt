@@ -1,18 +1,17 @@
 -- The profile with a number, and the profiles of some strategies of each player with their numbers
 -- among all profiles.
-use Rattle.gf_form.proofs.Common.{length-numbers_from, get_or-numbers_from, unwrap_or-slice_get, ap}
-use Rattle.gf_form.proofs.Common.{AreProfileNumbers, numbered_profiles, div-lt_iff_lt-mul, IsPicked}
-use Rattle.gf_form.proofs.Common.{drop_of_length-le, length-profiles, AllByRecursion, AreStrategies}
-use Rattle.gf_form.proofs.Common.{get_or_default, action_counts, full_profiles, strategies_at, List}
-use Rattle.gf_form.proofs.Common.{take_more_set, numbers_from, append_assoc, mod-add-div, AreCounts}
-use Rattle.gf_form.proofs.Common.{all_of_each, all_choices, strategy_at, all_weaker, players_of, []}
-use Rattle.gf_form.proofs.Common.{get_or-map, length-map, strategies, append-nil, length-set, arith}
-use Rattle.gf_form.proofs.Common.{ArePicked, positions, drop-cons, flat_map, mul_comm, profiles, ℕ}
-use Rattle.gf_form.proofs.Common.{AreBelow, product, add-one, get_or, AllZip, Counts, length, subst}
-use Rattle.gf_form.proofs.Common.{mod-lt, zero, drop, Game, refl, ◌++◌, take, ◌≡◌, suc, ◌+◌, ◌*◌, ⊤}
-use Rattle.gf_form.proofs.Common.{◌/◌, ◌%◌, ◌<◌, ◌≤◌, ◌∷◌, map, ◌∙◌, sym, zip, set}
+use Rattle.gf_form.proofs.Common
+use Common.{length-numbers_from, get_or-numbers_from, unwrap_or-slice_get, AreProfileNumbers, arith}
+use Common.{numbered_profiles, div-lt_iff_lt-mul, drop_of_length-le, Contains-get_or, AreStrategies}
+use Common.{length-profiles, AllByRecursion, action_counts, full_profiles, strategies_at, AreCounts}
+use Common.{take_more_set, numbers_from, append_assoc, mod-add-div, all_of_each, all_choices, List}
+use Common.{strategy_at, all_weaker, players_of, get_or-map, length-map, strategies, append-nil, ap}
+use Common.{length-set, ArePicked, positions, drop-cons, IsPicked, flat_map, mul_comm, profiles, []}
+use Common.{AreBelow, product, add-one, get_or, AllZip, Counts, length, mod-lt, zero, drop, Game, ℕ}
+use Common.{refl, ◌++◌, take, ◌≡◌, suc, ◌+◌, ◌*◌, ◌/◌, ◌%◌, ◌<◌, ◌≤◌, ◌∷◌, map, ◌∙◌, sym, zip, set}
+use Common.{⊤}
 use Rattle.gf_form.proofs.lemmas.strategies.Lookups.{in_turn, row_at, zip_by_places, zip_flat}
-use Rattle.gf_form.proofs.lemmas.strategies.Lookups.{zip_weaker}
+use Rattle.gf_form.proofs.lemmas.strategies.Lookups.{zip_weaker, all_in_turn}
 use Rattle.gf_form.proofs.lemmas.strategies.Choices.{every_choice, length-all_choices}
 use Rattle.gf_form.proofs.lemmas.strategies.Chosen.{profile_strategies}
 use Rattle.gf_form.proofs.lemmas.strategies.StrategiesByNumber.{all_at, positive_parts}
@@ -50,7 +49,7 @@ are_strategies g number within =
     zip_weaker (λ _. ⊤) _ _ (λ strategy player _ there. (every_choice (action_counts g player)
     strategy).0 there) (strategies_at g profile) (players_of g)
     (all_of_each (λ _. ⊤) (strategies_at g profile) (λ _ _. tt)) (profile_strategies g profile
-    (number, within, get_or_default (full_profiles g) number profile [] within))
+    (Contains-get_or (full_profiles g) number [] within))
 
 -- ---- their numbers
 
@@ -109,22 +108,6 @@ sums_fit count rest size most own less fits h =
     all_weaker (λ number. number < count) (λ number. number + count * rest < most)
     (λ number below. omega (arith, sum_below count rest size number less below, fits)) own h
 
--- ---- all
-
-pub all_numbered : (g : Game) → numbered_profiles g (numbers_from 0 (length (full_profiles g)))
-    ≡ full_profiles g
-all_numbered g =
-    in_turn (λ number. get_or (full_profiles g) number []) 0 (full_profiles g) []
-    (λ i _. grind arith)
-
-all_below : (first n last : ℕ) → first + n ≤ last
-    → AllByRecursion (λ number. number < last) (numbers_from first n)
-all_below first zero last h = tt
-all_below first (suc n) last h = grind (arith, all_below (first + 1) n last (omega (arith, h)))
-
-pub all_are_numbers : (g : Game) → AreProfileNumbers g (numbers_from 0 (length (full_profiles g)))
-all_are_numbers g = grind (arith, all_below)
-
 -- the profile at a place
 pub numbered_at : (g : Game) (numbers : List ℕ) (i : ℕ)
     → i < length numbers → (i < length (numbered_profiles g numbers))
@@ -137,10 +120,14 @@ pub ruleset sum_steps = (sums_fit, all_at)
 module _ (g : Game) (counts : Counts) (numbers given : List ℕ) (are : AreCounts g counts)
     (same : given ≡ numbers) (is : numbers ≡ numbers_from 0 counts.profiles.count) where
   pub counted_numbers : AreProfileNumbers g given
-  counted_numbers = grind (arith, are.profiles, all_are_numbers)
+  counted_numbers =
+      rw (same, is, are.profiles)
+      (all_in_turn _ 0 (length (full_profiles g)) (λ k less. omega (arith, less)))
 
   pub all_counted : numbered_profiles g given ≡ full_profiles g
-  all_counted = grind (arith, are.profiles, all_numbered)
+  all_counted =
+      rw (same, is, are.profiles) (in_turn (λ number. get_or (full_profiles g) number []) 0
+      (full_profiles g) [] (λ i _. grind arith))
 
 pub ruleset full_steps = (counted_numbers, all_counted, length-numbers_from)
 
@@ -164,8 +151,7 @@ numbered_strategies g (player ∷ players) number less =
     let counts = map (λ player. length (strategies g player)) players in
     let is : product own ≡ length all = sym (length-all_choices own) in
     let parts = positive_parts (length all) (product counts) number less in
-    let swapped = subst (λ (n : ℕ). number < n) (mul_comm (length all) (product counts)) less in
-    let later = (div-lt_iff_lt-mul parts.0).1 swapped in
+    let later = (div-lt_iff_lt-mul parts.0).1 (rw mul_comm at less) in
     let others = numbered_strategies g players (number / length all) later in
     let next = profiles_next (length all) counts number parts.0 less in
     grind (arith, is, next, others, add-one, unwrap_or-slice_get)

@@ -1,14 +1,14 @@
 -- The strategy with a number: one action after another, each by what is left of the number. The
 -- labels of strategies differ, and those of all sets are joined from those of some and of the
 -- others.
-use Rattle.gf_form.proofs.Common.{mul-div_cancel_left, All-from_recursion, decimal_injective, subst}
-use Rattle.gf_form.proofs.Common.{AllByRecursion, strategy_label, join_with_byte, reduced_label, ap}
-use Rattle.gf_form.proofs.Common.{if◌then◌else◌, append_assoc, all_choices, choice_text, map-append}
-use Rattle.gf_form.proofs.Common.{All-get_or, all_weaker, length-map, drop-cons, mul_assoc, add-one}
-use Rattle.gf_form.proofs.Common.{map_twice, slice_get, take-suc, all_both, decimal, product, arith}
-use Rattle.gf_form.proofs.Common.{IsPlain, length, get_or, mod-lt, Option, false, shown, ◌++◌, take}
-use Rattle.gf_form.proofs.Common.{drop, refl, true, ◌==◌, List, Bool, Some, None, zero, ◌≡◌, suc, ℕ}
-use Rattle.gf_form.proofs.Common.{◌+◌, ◌*◌, ◌/◌, ◌%◌, ◌<◌, ◌≤◌, ◌∷◌, map, sym, ◌∙◌, ◌^◌, []}
+use Rattle.gf_form.proofs.Common
+use Common.{mul-div_cancel_left, All-from_recursion, decimal_injective, slice_get-get_or, drop-cons}
+use Common.{AllByRecursion, strategy_label, join_with_byte, slice_get-map, reduced_label, mul_assoc}
+use Common.{if◌then◌else◌, append_assoc, all_choices, choice_text, map-append, All-get_or, take-suc}
+use Common.{all_weaker, length-map, map_twice, slice_get, all_both, add-one, decimal, product, ◌++◌}
+use Common.{IsPlain, length, get_or, mod-lt, Option, subst, arith, false, shown, take, drop, refl}
+use Common.{true, ◌==◌, List, Bool, Some, None, zero, ◌≡◌, suc, ◌+◌, ◌*◌, ◌/◌, ◌%◌, ◌<◌, ◌≤◌, ◌∷◌}
+use Common.{map, sym, ◌∙◌, ◌^◌, ap, [], ℕ}
 use Rattle.std.proofs.lemmas.Bool.Decides.{nat_tests}
 use Rattle.std.proofs.lemmas.Fmt.{decimal_by_steps}
 use Rattle.gf_token.specs.LabelSpelling.{is_spelling_after, IsLabel}
@@ -219,8 +219,7 @@ label_of_both f b hf hb = absurd (grind arith)
 
 got : (xs : List (List ℕ)) (i : ℕ) (v : List ℕ) → slice_get (map strategy_label xs) i ≡ Some v
     → i < length xs → v ≡ strategy_label (get_or xs i [])
-got (x ∷ xs) (suc i) v e less = got xs i v e (omega (arith, less))
-got xs i v e less = grind arith
+got xs i v e less = grind (arith, slice_get-map, slice_get-get_or)
 
 -- labels of strategies, made from this many first ones with all others, and from one more with this
 -- many

@@ -1,14 +1,13 @@
 -- Trees whose nodes are alike, each to its image, in what is chosen, how probable it is and what it
 -- pays: they have the same payoff, and the same bottom-up value.
-use Rattle.gf_form.proofs.Common.{AllByRecursion, if◌then◌else◌, IsChanceValue, IsChildValue, arith}
-use Rattle.gf_form.proofs.Common.{MultipliesTo, MatchOption, flatten_all, probability, plays_from}
-use Rattle.gf_form.proofs.Common.{zero_ratio, chances_at, all_images, all_weaker, map-append, Ratio}
-use Rattle.gf_form.proofs.Common.{one_ratio, MatchBool, from_node, map_trees, all_parts, is_chosen}
-use Rattle.gf_form.proofs.Common.{payoff_at, map_twice, all_both, map_tree, flatten, IsValue, times}
-use Rattle.gf_form.proofs.Common.{SetKey, payoff, branch, Option, AddsTo, plays, Trees, ◌==◌, plus}
-use Rattle.gf_form.proofs.Common.{Step, Node, none, zero, Some, more, refl, Play, Tree, List, Game}
-use Rattle.gf_form.proofs.Common.{None, ◌≡◌, sym, suc, ◌+◌, ◌∙◌, map, ap, ℕ}
-use Rattle.gf_form.proofs.lemmas.values.BottomUp.{payoff_is, shares, first}
+use Rattle.gf_form.proofs.Common
+use Common.{play_probability, AllByRecursion, IsChanceValue, IsChildValue, MultipliesTo, plays_from}
+use Common.{play_payoff, MatchOption, flatten_all, probability, zero_ratio, all_images, all_weaker}
+use Common.{map-append, MatchBool, from_node, map_trees, all_parts, is_chosen, payoff_at, map_twice}
+use Common.{all_both, map_tree, follows, flatten, IsValue, filter, SetKey, payoff, branch, Option}
+use Common.{AddsTo, total, arith, Ratio, times, plays, Trees, ◌&&◌, ◌==◌, plus, Step, Node, none, ℕ}
+use Common.{zero, Some, more, refl, Play, Tree, List, Game, None, ◌∷◌, ◌≡◌, suc, ◌+◌, ◌∙◌, map, []}
+use Common.{ap}
 use Rattle.gf_tree.specs.PrefixOrder.{Listed}
 
 -- ---- plays by other nodes
@@ -64,7 +63,11 @@ module _ (P : Node → Type 0) where
         (on_plays t both.0)))
         (on_children ts n (k + 1) here both.1)
 
--- ---- payoffs
+-- the value at a node of this set, or without one
+abbrev ValueAt : Option SetKey → (SetKey → ℕ) → Ratio → (Ratio → Type 0) → (ℕ → Ratio → Type 0)
+    → Ratio → Type 0
+ValueAt o c own ByChance ByChild value = MatchOption o (value ≡ own) (λ key. (below : Ratio)
+    × MatchBool (key.player == 0) (ByChance below) (ByChild (c key) below) × AddsTo own below value)
 
 module _ (g h : Game) (c d : SetKey → ℕ) (player : ℕ) (f : Node → Node) where
   pub record IsAlike (n : Node) : Type 0 where
@@ -79,53 +82,41 @@ module _ (g h : Game) (c d : SetKey → ℕ) (player : ℕ) (f : Node → Node) 
   abbrev pub AreAlike : List (Listed Node) → Type 0
   AreAlike es = AllByRecursion (λ e. IsAlike e.node) es
 
-  mutual
-    shares_alike : (t : Tree Node) (chance paid : Ratio) → AreAlike (flatten t)
-        → shares h d player chance paid (plays (map_tree f t))
-        ≡ shares g c player chance paid (plays t)
-    shares_alike (branch n none) chance paid a = λ i.
-        plus (times (times chance one_ratio) (plus paid (plus (a.0.pays i) zero_ratio))) zero_ratio
-    shares_alike (branch n (more t ts)) chance paid a =
-        children_alike (more t ts) n 1 chance paid a.0 a.1
+  -- ---- payoffs
 
-    children_alike : (ts : Trees Node) (n : Node) (k : ℕ) (chance paid : Ratio) → IsAlike n
-        → AreAlike (flatten_all ts)
-        → shares h d player chance paid (plays_from (f n) k (map_trees f ts))
-        ≡ shares g c player chance paid (plays_from n k ts)
-    children_alike none n k chance paid a all = refl
-    children_alike (more t ts) n k chance paid a all =
-        let both = all_parts (λ (e : Listed Node). IsAlike e.node) (flatten t) (flatten_all ts)
-        all in
-        let drawn = times chance (chances_at g n k) in
-        let after = plus paid (payoff_at g player n) in
-        let on : shares h d player (times chance (chances_at h (f n) k))
-        (plus paid (payoff_at h player (f n))) (plays (map_tree f t))
-        ≡ shares g c player drawn after (plays t) =
-        (λ i. shares h d player (times chance (a.chance k i)) (plus paid (a.pays i))
-        (plays (map_tree f t))) ∙ shares_alike t drawn after both.0 in
-        first h d player chance paid (f n) k (is_chosen d (record { node = f n; taken = k })) refl
-        (map_tree f t) (map_trees f ts)
-        ∙ (λ i. plus (if a.chosen k i then on i else zero_ratio)
-        (children_alike ts n (k + 1) chance paid a both.1 i))
-        ∙ sym (first g c player chance paid n k (is_chosen c (record { node = n; taken = k })) refl
-        t ts)
+  -- a play and its image
+  abbrev IsSamePlay : Play → Type 0
+  IsSamePlay p = (follows d (carried_play f p) ≡ follows c p)
+      × (play_probability h (carried_play f p) ≡ play_probability g p)
+      × (play_payoff h player (carried_play f p) ≡ play_payoff g player p)
+
+  same_play : (steps : List Step) (leaf : Node)
+      → OnPlay IsAlike (record { steps = steps; leaf = leaf })
+      → IsSamePlay (record { steps = steps; leaf = leaf })
+  same_play [] leaf on = (refl, refl, ap (λ r. plus r zero_ratio) on.1.pays)
+  same_play (s ∷ steps) leaf on =
+      let here = on.0.0 in
+      let later = same_play steps leaf (on.0.1, on.1) in (
+        λ i. here.chosen s.taken i && later.0 i,
+        λ i. times (here.chance s.taken i) (later.1 i),
+        λ i. plus (here.pays i) (later.2 i),
+      )
+
+  same_total : (ps : List Play) → AllByRecursion (OnPlay IsAlike) ps
+      → total (map (λ p. times (play_probability h p) (play_payoff h player p))
+      (filter (follows d) (map (carried_play f) ps)))
+      ≡ total (map (λ p. times (play_probability g p) (play_payoff g player p))
+      (filter (follows c) ps))
+  same_total [] on = refl
+  same_total (p ∷ ps) on = grind (arith, same_play p.steps p.leaf on.0, same_total ps on.1)
 
   pub same_payoff : h.tree ≡ map_tree f g.tree → AreAlike (flatten g.tree)
       → payoff h d player ≡ payoff g c player
   same_payoff tree a =
-      sym (payoff_is h d player)
-      ∙ ap (λ t. shares h d player one_ratio zero_ratio (plays t)) tree
-      ∙ shares_alike g.tree one_ratio zero_ratio a ∙ payoff_is g c player
+      rw (tree, plays_carried) (same_total (plays g.tree) (on_plays IsAlike g.tree a))
 
--- ---- bottom-up values
+  -- ---- bottom-up values
 
--- the value at a node of this set, or without one
-abbrev ValueAt : Option SetKey → (SetKey → ℕ) → Ratio → (Ratio → Type 0) → (ℕ → Ratio → Type 0)
-    → Ratio → Type 0
-ValueAt o c own ByChance ByChild value = MatchOption o (value ≡ own) (λ key. (below : Ratio)
-    × MatchBool (key.player == 0) (ByChance below) (ByChild (c key) below) × AddsTo own below value)
-
-module _ (g h : Game) (c d : SetKey → ℕ) (player : ℕ) (f : Node → Node) where
   moved : (o p : Option SetKey) → MatchOption o (p ≡ None) (λ key. (other : SetKey)
       × (p ≡ Some other) × ((other.player == 0) ≡ (key.player == 0)) × (d other ≡ c key))
       → (own : Ratio) (ByChance : Ratio → Type 0) (ByChild : ℕ → Ratio → Type 0) (value : Ratio)
@@ -136,14 +127,12 @@ module _ (g h : Game) (c d : SetKey → ℕ) (player : ℕ) (f : Node → Node) 
       ∙ (λ i. (below : Ratio) × MatchBool (m.2 i) (ByChance below) (ByChild (m.3 i) below)
       × AddsTo own below value)
 
-  both_alike : (t : Tree Node) (ts : Trees Node)
-      → AreAlike g h c d player f (flatten_all (more t ts))
-      → AreAlike g h c d player f (flatten t) × AreAlike g h c d player f (flatten_all ts)
-  both_alike t ts all =
-      all_parts (λ e. IsAlike g h c d player f e.node) (flatten t) (flatten_all ts) all
+  both_alike : (t : Tree Node) (ts : Trees Node) → AreAlike (flatten_all (more t ts))
+      → AreAlike (flatten t) × AreAlike (flatten_all ts)
+  both_alike t ts = all_parts (λ e. IsAlike e.node) (flatten t) (flatten_all ts)
 
   mutual
-    pub value_alike : (t : Tree Node) (value : Ratio) → AreAlike g h c d player f (flatten t)
+    pub value_alike : (t : Tree Node) (value : Ratio) → AreAlike (flatten t)
         → IsValue h d player (map_tree f t) value ≡ IsValue g c player t value
     value_alike (branch n ts) value a =
         (λ i. ValueAt (f n).set d (a.0.pays i)
@@ -154,7 +143,7 @@ module _ (g h : Game) (c d : SetKey → ℕ) (player : ℕ) (f : Node → Node) 
         (λ position. IsChildValue g c player position ts) value
 
     chances_alike : (ts : Trees Node) (n : Node) (k : ℕ) (sum value : Ratio)
-        → IsAlike g h c d player f n → AreAlike g h c d player f (flatten_all ts)
+        → IsAlike n → AreAlike (flatten_all ts)
         → IsChanceValue h d player (f n) k sum (map_trees f ts) value
         ≡ IsChanceValue g c player n k sum ts value
     chances_alike none n k sum value a all = refl
@@ -165,7 +154,7 @@ module _ (g h : Game) (c d : SetKey → ℕ) (player : ℕ) (f : Node → Node) 
         × chances_alike ts n (k + 1) next value a both.1 i
 
     child_alike : (ts : Trees Node) (position : ℕ) (value : Ratio)
-        → AreAlike g h c d player f (flatten_all ts)
+        → AreAlike (flatten_all ts)
         → IsChildValue h d player position (map_trees f ts) value
         ≡ IsChildValue g c player position ts value
     child_alike (more t ts) (suc zero) value all = value_alike t value (both_alike t ts all).0

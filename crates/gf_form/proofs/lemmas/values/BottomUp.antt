@@ -1,28 +1,28 @@
 -- If the bottom-up value is defined, it is the payoff by plays. Some probability and some payoff
 -- come before a tree, and count in each of its plays: so a node's own payoff is paid before its
 -- children.
-use Rattle.gf_form.proofs.Common.{unwrap_or-slice_get, play_probability, IsTerminalValue, one_ratio}
-use Rattle.gf_form.proofs.Common.{option_and_then, InformationSet, AllByRecursion, slice_get-map, ℕ}
-use Rattle.gf_form.proofs.Common.{mul_pos_right, if◌then◌else◌, IsChanceValue, IsChildValue, ◌then◌}
-use Rattle.gf_form.proofs.Common.{MultipliesTo, numbers_from, play_payoff, MatchOption, flatten_all}
-use Rattle.gf_form.proofs.Common.{IsSpellable, probability, IsMoveValue, plus_across, HasChildren}
-use Rattle.gf_form.proofs.Common.{times_above, times_right, length-map, plays_from, plus_above, ◌∙◌}
-use Rattle.gf_form.proofs.Common.{chances_at, equal_refl, times_zero, option_map, times_plus, Ratio}
-use Rattle.gf_form.proofs.Common.{zero_ratio, plus_right, all_parts, plus_left, unwrap_or, *ℤ_assoc}
-use Rattle.gf_form.proofs.Common.{plus_both, is_chosen, payoff_at, from_node, slice_get, MatchBool}
-use Rattle.gf_form.proofs.Common.{AddToOne, eqb-true, +ℤ_assoc, IsAbove, IsValue, *ℤ_comm, flatten}
-use Rattle.gf_form.proofs.Common.{follows, IsEqual, add-*ℤ, IsGame, filter, Option, *ℤ-one, set_at}
-use Rattle.gf_form.proofs.Common.{length, payoff, branch, AddsTo, SetKey, Action, get_or, count, ap}
-use Rattle.gf_form.proofs.Common.{plays, total, false, subst, arith, times, Trees, ◌==◌, zero, more}
-use Rattle.gf_form.proofs.Common.{Tree, Game, true, Node, none, ◌&&◌, None, Some, back, Play, List}
-use Rattle.gf_form.proofs.Common.{listed}
-use Rattle.gf_form.proofs.Common.{Bool, plus, ◌++◌, refl, ◌≡◌, map, ◌<◌, sym, suc, ◌∷◌, ◌+◌, []}
+use Rattle.gf_form.proofs.Common
+use Common.{get_or-numbers_from, length-numbers_from, All-from_recursion, value as value_of, get_or}
+use Common.{play_probability, IsTerminalValue, option_and_then, InformationSet, AllByRecursion, inl}
+use Common.{HasValuesWith, mul_pos_right, if◌then◌else◌, IsChanceValue, IsChildValue, MultipliesTo}
+use Common.{play_payoff, MatchOption, flatten_all, IsSpellable, probability, IsMoveValue, one_ratio}
+use Common.{plus_across, HasChildren, times_above, times_right, cases_Bool, players_of, All-get_or}
+use Common.{ArePayoffs, IsFraction, length-map, plays_from, plus_above, chances_at, equal_refl, inr}
+use Common.{times_zero, option_map, times_plus, zero_ratio, plus_right, all_parts, plus_left, Ratio}
+use Common.{unwrap_or, plus_both, is_chosen, payoff_at, from_node, slice_get, at_place, *ℤ_assoc, ℕ}
+use Common.{eqb-true, +ℤ_assoc, IsAbove, IsValue, *ℤ_comm, flatten, follows, IsEqual, IfSome, count}
+use Common.{◌then◌, add-*ℤ, IsGame, filter, Option, *ℤ-one, set_at, length, payoff, branch, AddsTo}
+use Common.{SetKey, Action, plays, total, false, subst, arith, times, Trees, ◌==◌, zero, more, Tree}
+use Common.{Game, true, Node, none, None, Some, back, Play, List, Bool, plus, ◌++◌, refl, ◌∙◌, ◌≡◌}
+use Common.{map, ◌<◌, sym, suc, ◌∷◌, ◌+◌, ap, []}
 use Rattle.gf_fraction.proofs.Products.{mul_above}
 use Rattle.std.proofs.Math.IntN.{+ℤ_idr}
-use Rattle.gf_tree.specs.Description.{AreActions}
-use Rattle.gf_form.proofs.lemmas.strategies.Lookups.{each_set, set_is, next_position, in_turn, Each}
+use Rattle.gf_tree.specs.Description.{AddUpTo, AreActions}
+use Rattle.gf_form.proofs.lemmas.strategies.Lookups.{each_set, set_is, next_position}
+use Rattle.gf_form.proofs.lemmas.strategies.Lookups.{zip_in_turn, all_in_turn}
 use Rattle.gf_form.proofs.lemmas.values.Denominators.{probability_above, payoff_above, each_action}
-use Rattle.gf_form.proofs.lemmas.values.ValuesComputed.{value_is}
+use Rattle.gf_form.proofs.lemmas.values.RowSums.{fraction_at}
+use Rattle.gf_form.proofs.lemmas.values.ValuesComputed.{value_is, none_computed}
 
 -- ---- sums and products whose parts are the same
 
@@ -85,13 +85,10 @@ one_more c q a x s sum y next t hc hq ha hx hs hsum adds product sums =
 
 -- ---- the probabilities at a node
 
-each_probability : (actions : List Action) (ps : List Ratio) (i : ℕ)
-    → map (λ a. a.probability) actions ≡ map Some ps
-    → unwrap_or (option_and_then (λ a. a.probability) (slice_get actions i)) one_ratio
-    ≡ get_or ps i one_ratio
-each_probability actions ps i e =
-    let there = ap (λ (os : List (Option Ratio)). slice_get os i) e in
-    grind (arith, slice_get-map, unwrap_or-slice_get)
+-- the probabilities of these actions are those of a node's children from this position on
+abbrev AreDrawn : Game → Node → ℕ → List Action → Type 0
+AreDrawn g n k actions = (i : ℕ) → chances_at g n (k + i)
+    ≡ unwrap_or (option_and_then (λ a. a.probability) (slice_get actions i)) one_ratio
 
 -- a node that has children has a set
 pub has_set : (g : Game) (o : Option SetKey) (n : ℕ) → 0 < n → MatchOption o (n ≡ 0)
@@ -105,29 +102,18 @@ known : (o : Option InformationSet) (m : ℕ) → option_map (λ set. length set
 known o m h = grind arith
 
 module _ (g : Game) (game : IsGame g) where
-  lottery : (n : Node) (key : SetKey) (m : ℕ) → n.set ≡ Some key → (key.player == 0) ≡ true
-      → option_map (λ set. length set.actions) (set_at g key) ≡ Some m
-      → AddToOne zero_ratio (map (chances_at g n) (numbers_from 1 m))
-  lottery n key m at chance size =
-      let set = known (set_at g key) m size in
-      let drawn = listed set.0.actions zero_ratio (subst (λ p. AreActions p set.0.actions)
-      (eqb-true key.player 0 chance) (set_is g game key set.0 set.1).actions) in
-      let ps = drawn.0 in
-      let as_many : length ps ≡ m = cc (
-        length-map ps Some,
-        drawn.1,
-        length-map set.0.actions (λ a. a.probability),
+  -- one action at a set of chance for each child, with its probability
+  drawn : (n : Node) (key : SetKey) (m : ℕ) → n.set ≡ Some key → (key.player == 0) ≡ true
+      → option_map (λ set. length set.actions) (set_at g key) ≡ Some m → (actions : List Action)
+      × (length actions ≡ m) × AddUpTo zero_ratio actions one_ratio × AreDrawn g n 1 actions
+  drawn n key m at chance size =
+      let set = known (set_at g key) m size in (
+        set.0.actions,
         set.2,
-      ) in
-      let list : map (chances_at g n) (numbers_from 1 (length ps)) ≡ ps =
-      in_turn (chances_at g n) 1 ps one_ratio (λ i _. cc (
-        at,
-        set.1,
-        next_position set.0.actions i,
-        each_probability set.0.actions ps i drawn.1,
-      )) in
-      let all : ps ≡ map (chances_at g n) (numbers_from 1 m) = cc (list, as_many) in
-      subst (AddToOne zero_ratio) all drawn.2
+        subst (λ p. AreActions p set.0.actions) (eqb-true key.player 0 chance)
+            (set_is g game key set.0 set.1).actions,
+        λ i. cc (at, set.1, next_position set.0.actions i),
+      )
 
   -- a node without children has none
   no_set : (o : Option SetKey) (m : ℕ) → m ≡ 0 → MatchOption o (m ≡ 0)
@@ -146,7 +132,7 @@ module _ (g : Game) (game : IsGame g) where
       grind (arith, has)
     where
       personal_set : (key : SetKey) → (key.player == 0) ≡ false
-          → Each (λ set. AllByRecursion (λ a. a.probability ≡ None) set.actions) (set_at g key)
+          → IfSome (set_at g key) (λ set. AllByRecursion (λ a. a.probability ≡ None) set.actions)
       personal_set key personal = grind (arith, each_set g game key)
 
 -- what is not chosen at a player's node
@@ -194,14 +180,9 @@ module _ (g : Game) (choices : SetKey → ℕ) (player : ℕ) where
         ≡ (if b then shares (times chance (q n k)) (plus paid (own n)) ps else zero_ratio)
     after n k true e [] = refl
     after n k false e [] = refl
-    after n k true e (p ∷ ps) = λ i.
-        plus (if e i && follows choices p
-        then times (sym (times_grouped chance (q n k) (play_probability g p)) i)
-        (sym (plus_grouped paid (own n) (play_payoff g player p)) i) else zero_ratio)
-        (after n k true e ps i)
-    after n k false e (p ∷ ps) = λ i.
-        plus (if e i && follows choices p then share chance paid (from_node n k p) else zero_ratio)
-        (after n k false e ps i)
+    after n k true e (p ∷ ps) =
+        grind (arith, e, times_grouped, plus_grouped, after n k true e ps)
+    after n k false e (p ∷ ps) = grind (arith, e, after n k false e ps, none_plus)
 
     joined : (xs ys : List Play)
         → shares chance paid (xs ++ ys) ≡ plus (shares chance paid xs) (shares chance paid ys)
@@ -258,26 +239,17 @@ module _ (g : Game) (choices : SetKey → ℕ) (player : ℕ) where
     before_above : (paid : Ratio) → IsAbove paid → (n : Node) → IsAbove (plus paid (own n))
     before_above paid h n = plus_above paid (own n) h (payoff_above g spellable player n)
 
-    move_pays : (n : Node) (ts : Trees Node) (key : SetKey) (b : Bool) (below : Ratio)
-        → (key.player == 0) ≡ b
-        → ((key.player == 0) ≡ true → IsChanceValue g choices player n 1 zero_ratio ts below
-        → Adds n 1 zero_ratio zero_ratio ts below)
-        → ((key.player == 0) ≡ false → IsChildValue g choices player (choices key) ts below
-        → Pays (plus (own n) below) (plays_from n 1 ts))
-        → MatchBool b (IsChanceValue g choices player n 1 zero_ratio ts below)
-        (IsChildValue g choices player (choices key) ts below)
-        → Pays (plus (own n) below) (plays_from n 1 ts)
-    move_pays n ts key true below chance lot choice h c paid hc hp =
+    chance_pays : (n : Node) (ts : Trees Node) (below : Ratio)
+        → Adds n 1 zero_ratio zero_ratio ts below → Pays (plus (own n) below) (plays_from n 1 ts)
+    chance_pays n ts below adds c paid hc hp =
         let a = plus paid (own n) in
         let all = shares c paid (plays_from n 1 ts) in
-        let adds = lot chance h c paid hc hp in
         over (sym (none_plus all))
-        (plus_left all (second_above (times c (plus (times a zero_ratio) zero_ratio)) all _ adds)
+        (plus_left all (second_above (times c (plus (times a zero_ratio) zero_ratio)) all _
+        (adds c paid hc hp))
         (back (over (ap (times c) (plus_none (times a zero_ratio)))
         (times_right c hc (times_zero a (before_above paid hp n)) then times_zero c hc) refl))
-        then adds) refl
-    move_pays n ts key false below personal lot choice h c paid hc hp =
-        choice personal h c paid hc hp
+        then adds c paid hc hp) refl
 
     mutual
       pub tree_pays : (t : Tree Node) (value : Ratio) → AllByRecursion (HasChildren g) (flatten t)
@@ -292,12 +264,18 @@ module _ (g : Game) (choices : SetKey → ℕ) (player : ℕ) where
       tree_pays (branch n (more t ts)) value children h chance paid hc hp =
           let set = has_set g n.set (suc (count ts)) (omega arith) children.0 in
           let is = subst (ValueAt n (more t ts) value) set.1 h in
-          let pays = move_pays n (more t ts) set.0 (set.0.player == 0) is.0 refl
-          (λ chance lot. chance_adds (more t ts) n 1 zero_ratio zero_ratio is.0
-          (λ k. grind (arith, set.1, chance)) (omega arith) (omega arith) children.1
-          (lottery g game n set.0 (suc (count ts)) set.1 chance (rw set.1 at children.0)) lot)
-          (λ personal choice. child_pays (more t ts) n set.0 1 (choices set.0) is.0 set.1 personal
-          (omega arith) children.1 choice) is.1 in
+          let pays : Pays (plus (own n) is.0) (plays_from n 1 (more t ts)) =
+          elim (cases_Bool (set.0.player == 0)) [
+            | inl chance ↦
+                let d = drawn g game n set.0 (suc (count ts)) set.1 chance
+                (rw set.1 at children.0) in
+                chance_pays n (more t ts) is.0 (chance_adds (more t ts) n 1 d.0 zero_ratio
+                zero_ratio is.0 (λ k. grind (arith, set.1, chance)) (omega arith) (omega arith)
+                children.1 d.1 d.2 d.3 (rw chance at is.1))
+            | inr personal ↦
+                child_pays (more t ts) n set.0 1 (choices set.0) is.0 set.1 personal (omega arith)
+                children.1 (rw personal at is.1)
+          ] in
           let below = mul_pos_right (own n).den is.0.den _ refl (value_above (plus (own n) is.0)
           (plays_from n 1 (more t ts)) pays)
           in
@@ -305,12 +283,14 @@ module _ (g : Game) (choices : SetKey → ℕ) (player : ℕ) where
           then times_right chance hc (plus_right paid hp
           (back (sum_equal (own n) is.0 value (payoff_above g spellable player n) below is.2)))
 
-      chance_adds : (ts : Trees Node) (n : Node) (k : ℕ) (s sum value : Ratio)
+      chance_adds : (ts : Trees Node) (n : Node) (k : ℕ) (actions : List Action)
+          (s sum value : Ratio)
           → ((k : ℕ) → is_chosen choices (record { node = n; taken = k }) ≡ true) → IsAbove s
           → IsAbove sum → AllByRecursion (HasChildren g) (flatten_all ts)
-          → AddToOne s (map (q n) (numbers_from k (count ts)))
+          → length actions ≡ count ts → AddUpTo s actions one_ratio → AreDrawn g n k actions
           → IsChanceValue g choices player n k sum ts value → Adds n k s sum ts value
-      chance_adds none n k s sum value chosen hs hsum children all h chance paid hc hp =
+      chance_adds none n k [] s sum value chosen hs hsum children size all each h chance paid hc
+          hp =
           let a = plus paid (own n) in
           over (plus_none (times chance (plus (times a s) sum))
           ∙ (λ i. times chance (plus ((ap (times a) all ∙ times_once a) i) sum)))
@@ -318,25 +298,33 @@ module _ (g : Game) (choices : SetKey → ℕ) (player : ℕ) where
           (plus_above a sum (before_above paid hp n) hsum)))
           (ap (times chance) (plus_grouped paid (own n) sum
           ∙ ap (λ r. plus paid (plus (own n) r)) (sym h)))
-      chance_adds (more t ts) n k s sum value chosen hs hsum children all h chance paid hc hp =
+      chance_adds (more t ts) n k (_ ∷ actions) s sum value chosen hs hsum children size all each h
+          chance paid hc hp =
           let c = all_parts (HasChildren g) (flatten t) (flatten_all ts) children in
           let a = plus paid (own n) in
           let ha = before_above paid hp n in
           let before = times chance (plus (times a s) sum) in
           let pays = tree_pays t h.0 c.0 h.3 in
-          let others = chance_adds ts n (k + 1) all.1.0 h.2 value chosen all.1.1.1.den_above_zero
-          h.5.1.den_above_zero c.1 all.1.2 h.6 chance paid hc hp in
+          let here : k + 0 ≡ k = omega arith in
+          let adds : AddsTo s (q n k) all.1 =
+          subst (λ r. AddsTo s r all.1) (cc (here, each 0, all.2)) all.4 in
+          let others = chance_adds ts n (k + 1) actions all.1 h.2 value chosen
+          adds.1.den_above_zero h.5.1.den_above_zero c.1 (omega (arith, size)) all.5
+          (λ i. let next : k + 1 + i ≡ k + suc i = omega arith in ap (q n) next ∙ each (suc i)) h.6
+          chance paid hc hp in
           let first_shares = shares (times chance (q n k)) a (plays t) in
           let later = shares chance paid (plays_from n (k + 1) ts) in
           over (ap (plus before) (first chance paid n k true (chosen k) t ts)
           ∙ sym (plus_grouped before first_shares later))
-          (plus_left later (second_above (times chance (plus (times a all.1.0) h.2)) later _ others)
+          (plus_left later (second_above (times chance (plus (times a all.1) h.2)) later _ others)
           (plus_right before (times_above chance (plus (times a s) sum) hc
           (plus_above (times a s) sum (times_above a s ha hs) hsum))
           (pays (times chance (q n k)) a (times_above chance (q n k) hc (q_above n k)) ha)
-          then one_more chance (q n k) a h.0 s sum h.1 h.2 all.1.0 hc (q_above n k) ha
-          (value_above h.0 (plays t) pays) hs hsum all.1.1 h.4 h.5)
+          then one_more chance (q n k) a h.0 s sum h.1 h.2 all.1 hc (q_above n k) ha
+          (value_above h.0 (plays t) pays) hs hsum adds h.4 h.5)
           then others) refl
+      chance_adds ts n k actions s sum value chosen hs hsum children size all each h chance paid hc
+          hp = absurd (omega (arith, size))
 
       child_pays : (ts : Trees Node) (n : Node) (key : SetKey) (k a : ℕ) (below : Ratio)
           → n.set ≡ Some key → (key.player == 0) ≡ false → choices key + 1 ≡ k + a
@@ -376,4 +364,43 @@ module _ (g : Game) (choices : SetKey → ℕ) (player : ℕ) where
         → IsValue g choices player g.tree x → IsValue g choices player g.tree y → x ≡ y
     one_value x y hx hy = grind (arith, value_is)
 
+-- ---- all players
+
+module _ (g : Game) (game : IsGame g) (spellable : IsSpellable g) (choices : SetKey → ℕ) where
+  abbrev HasValue : ℕ → Type 0
+  HasValue player = (value : Ratio) × IsValue g choices player g.tree value
+
+  abbrev AreValues : List Ratio → Type 0
+  AreValues row = (k : ℕ) → k < length g.players
+      → value_of g choices (suc k) g.tree ≡ Some (at_place row k)
+
+  has_value : (row : List Ratio) → AreValues row → (k : ℕ) → k < length g.players
+      → IsValue g choices (suc k) g.tree (at_place row k)
+  has_value row h k less = grind (arith, value_is)
+
+  pub are_payoffs : (row : List Ratio) → length row ≡ length g.players
+      → AllByRecursion IsFraction row → AreValues row → ArePayoffs g choices row
+  are_payoffs row count fractions h =
+      zip_in_turn _ zero_ratio row (length g.players) count (λ k less. (
+        fraction_at row k fractions,
+        value_is_payoff g choices (suc k) game spellable (at_place row k) (has_value row h k less),
+      ))
+
+  pub have_values : (row : List Ratio) → AreValues row → HasValuesWith g choices
+  have_values row h =
+      all_in_turn HasValue 1 (length g.players) (λ k less.
+      let next : 1 + k ≡ suc k = omega arith in rw next (at_place row k, has_value row h k less))
+
+  pub lacks_value : (k : ℕ) → k < length g.players → value_of g choices (suc k) g.tree ≡ None
+      → HasValuesWith g choices → ⊥
+  lacks_value k less nothing h =
+      let n = length g.players in
+      let number : get_or (players_of g) k 0 ≡ suc k =
+      omega (arith, get_or-numbers_from 1 n k 0 less) in
+      none_computed g spellable choices (suc k) g.tree nothing (subst HasValue number
+      (All-get_or HasValue (players_of g) k 0 (omega (arith, less, length-numbers_from 1 n))
+      (All-from_recursion HasValue (players_of g) h)))
+
 pub ruleset payoffs_by_plays = (one_value, value_is_payoff)
+
+pub ruleset payoff_steps = (are_payoffs, lacks_value, length-map)

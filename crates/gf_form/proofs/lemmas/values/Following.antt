@@ -1,21 +1,20 @@
 -- Which plays follow the same choices. If these are actions, some play does, and the probabilities
 -- of those that do come to one: this is what they pay in all if one is paid before each, and
 -- nothing in the tree.
-use Rattle.gf_form.proofs.Common.{play_probability, AllByRecursion, PartAtChance, chance_value, inr}
-use Rattle.gf_form.proofs.Common.{child_value, mapped_from, flatten_all, IsSpellable, HasChildren}
-use Rattle.gf_form.proofs.Common.{plays_from, zero_ratio, chances_at, HasActions, one_ratio, IsGame}
-use Rattle.gf_form.proofs.Common.{from_node, all_parts, is_chosen, payoff_at, of_filter, list_all}
-use Rattle.gf_form.proofs.Common.{contains, eqb-true, Contains, nodes_of, flatten, follows, IsEqual}
-use Rattle.gf_form.proofs.Common.{SetKey, filter, branch, Option, arith, Ratio, value, times, plays}
-use Rattle.gf_form.proofs.Common.{total, Trees, count, false, subst, ◌==◌, plus, Step, true, Node}
-use Rattle.gf_form.proofs.Common.{none, ◌++◌, zero, Some, more, refl, Play, Game, List, Tree, Bool}
-use Rattle.gf_form.proofs.Common.{◌<◌, ◌≡◌, inl, ◌≤◌, ◌⊎◌, sym, ◌∷◌, Has, has, suc, ◌+◌, ◌∙◌, map}
-use Rattle.gf_form.proofs.Common.{◌↔◌, [], ap, ℕ}
+use Rattle.gf_form.proofs.Common
+use Common.{play_probability, AllByRecursion, PartAtChance, chance_value, child_value, mapped_from}
+use Common.{flatten_all, IsSpellable, HasChildren, plays_from, zero_ratio, chances_at, HasActions}
+use Common.{one_ratio, from_node, all_parts, is_chosen, payoff_at, of_filter, list_all, contains, ℕ}
+use Common.{Contains, nodes_of, flatten, follows, IsEqual, IsGame, SetKey, filter, branch, Option}
+use Common.{arith, Ratio, value, times, plays, total, Trees, count, plus, Step, true, Node, none}
+use Common.{◌++◌, zero, Some, more, refl, Play, Game, List, Tree, inr, ◌<◌, ◌≡◌, inl, ◌≤◌, ◌⊎◌, sym}
+use Common.{◌∷◌, Has, has, suc, ◌+◌, ◌∙◌, map, ◌↔◌, [], ap}
 use Rattle.gf_form.proofs.lemmas.strategies.Chosen.{chance_is_paid_nothing}
 use Rattle.gf_form.proofs.lemmas.values.BottomUp.{times_once, shares_are, once_times, tree_pays}
 use Rattle.gf_form.proofs.lemmas.values.BottomUp.{has_set, over}
 use Rattle.gf_form.proofs.lemmas.values.Denominators.{probability_fraction}
-use Rattle.gf_form.proofs.lemmas.values.ValuesComputed.{zero_fraction, times_zero, plus_zero}
+use Rattle.gf_form.proofs.lemmas.values.RowSums.{zeros_weighed}
+use Rattle.gf_form.proofs.lemmas.values.ValuesComputed.{zero_fraction, plus_zero}
 use Rattle.gf_form.proofs.lemmas.values.ValuesComputed.{value_is}
 
 -- ---- a play's moves are the choices
@@ -24,14 +23,10 @@ abbrev pub ChoosesMoves : (SetKey → ℕ) → List Step → Type 0
 ChoosesMoves choices steps = AllByRecursion
     (λ s. (key : SetKey) → s.node.set ≡ Some key → 0 < key.player → choices key ≡ s.taken) steps
 
-chosen_moves : (choices : SetKey → ℕ) (steps : List Step)
+pub chosen_moves : (choices : SetKey → ℕ) (steps : List Step)
     → (list_all (is_chosen choices) steps ≡ true) ↔ ChoosesMoves choices steps
 chosen_moves choices [] = (λ h. tt, λ h. refl)
 chosen_moves choices (s ∷ steps) = grind (arith, chosen_moves choices steps)
-
-pub follows_moves : (choices : SetKey → ℕ) (play : Play)
-    → (follows choices play ≡ true) ↔ ChoosesMoves choices play.steps
-follows_moves choices play = chosen_moves choices play.steps
 
 -- ---- plays of the children of a node
 
@@ -40,27 +35,15 @@ in_either [] ys x h = inr h
 in_either (z ∷ xs) ys x (inl e) = inl (inl e)
 in_either (z ∷ xs) ys x (inr h) = elim (in_either xs ys x h) [ inl i ↦ inl (inr i) | inr i ↦ inr i ]
 
--- a play from the node on, of one of these children, the first of which has position k
-abbrev pub IsPlayOf : Node → ℕ → Trees Node → Play → Type 0
-IsPlayOf n k none p = ⊥
-IsPlayOf n k (more t ts) p =
-    ((below : Play) × Has (plays t) below × (from_node n k below ≡ p)) ⊎ IsPlayOf n (k + 1) ts p
-
-pub play_of : (ts : Trees Node) (n : Node) (k : ℕ) (p : Play) → Has (plays_from n k ts) p
-    → IsPlayOf n k ts p
-play_of none n k p h = absurd h
-play_of (more t ts) n k p h =
-    elim (in_either (map (from_node n k) (plays t)) (plays_from n (k + 1) ts) p h) [
-      | inl i ↦ inl (mapped_from (from_node n k) (plays t) p i)
-      | inr i ↦ inr (play_of ts n (k + 1) p i)
-    ]
-
 -- the child that it takes has this position or a later one
-pub taken_child : (ts : Trees Node) (n : Node) (k : ℕ) (p : Play) → IsPlayOf n k ts p
+pub taken_child : (ts : Trees Node) (n : Node) (k : ℕ) (p : Play) → Has (plays_from n k ts) p
     → (j : ℕ) × (below : Play) × (k ≤ j) × (from_node n j below ≡ p)
 taken_child none n k p h = absurd h
-taken_child (more t ts) n k p (inl i) = (k, i.0, omega arith, i.2)
-taken_child (more t ts) n k p (inr i) = grind (arith, taken_child ts n (k + 1) p i)
+taken_child (more t ts) n k p h =
+    elim (in_either (map (from_node n k) (plays t)) (plays_from n (k + 1) ts) p h) [
+      | inl i ↦ let m = mapped_from (from_node n k) (plays t) p i in (k, m.0, omega arith, m.2)
+      | inr i ↦ grind (arith, taken_child ts n (k + 1) p i)
+    ]
 
 module _ (choices : SetKey → ℕ) where
   abbrev Follows : Play → Type 0
@@ -73,25 +56,19 @@ module _ (choices : SetKey → ℕ) where
   part_here : (n : Node) (key : SetKey) (j k : ℕ) (p q : Play)
       → n.set ≡ Some key → ¬ (j ≡ k) → Follows (from_node n j p) → Follows (from_node n k q)
       → PartAtChance (from_node n j p) (from_node n k q)
-  part_here n key j k p q at differ hp hq = by_kind (key.player == 0) refl
-    where
-      by_kind : (b : Bool) → (key.player == 0) ≡ b
-          → PartAtChance (from_node n j p) (from_node n k q)
-      by_kind true e = record {
-        common = [];
-        node = n;
-        number = key.number;
-        chance =
-            at ∙ (λ i. Some (record { player = eqb-true key.player 0 e i; number = key.number }));
-        first = j;
-        second = k;
-        differ = differ;
-        first_rest = p.steps;
-        second_rest = q.steps;
-        first_steps = refl;
-        second_steps = refl;
-      }
-      by_kind false e = grind arith
+  part_here n key j k p q at differ hp hq = record {
+    common = [];
+    node = n;
+    number = key.number;
+    chance = grind arith;
+    first = j;
+    second = k;
+    differ = differ;
+    first_rest = p.steps;
+    second_rest = q.steps;
+    first_steps = refl;
+    second_steps = refl;
+  }
 
   part_after : (n : Node) (k : ℕ) (p q : Play) → PartAtChance p q
       → PartAtChance (from_node n k p) (from_node n k q)
@@ -109,18 +86,19 @@ module _ (choices : SetKey → ℕ) where
     second_steps = ap (λ steps. record { node = n; taken = k } ∷ steps) h.second_steps;
   }
 
-  follows_below : (n : Node) (k : ℕ) (p : Play) → Follows (from_node n k p) → Follows p
-  follows_below n k p h = grind arith
-
   different : (n : Node) (key : SetKey) (j k : ℕ) (below above p q : Play) → n.set ≡ Some key
       → ¬ (j ≡ k) → from_node n j below ≡ p → from_node n k above ≡ q → Follows p → Follows q
       → SameOrPart p q
   different n key j k below above p q at differ ep eq hp hq = grind (arith, part_here)
 
-  alike_child : (n : Node) (k : ℕ) (below above p q : Play)
-      → from_node n k below ≡ p → from_node n k above ≡ q → SameOrPart below above → SameOrPart p q
-  alike_child n k below above p q ep eq (inl e) = inl (sym ep ∙ ap (from_node n k) e ∙ eq)
-  alike_child n k below above p q ep eq (inr part) = inr (grind (arith, ep, eq, part_after))
+  alike_child : (n : Node) (k : ℕ) (below above p q : Play) → from_node n k below ≡ p
+      → from_node n k above ≡ q → (Follows below → Follows above → SameOrPart below above)
+      → Follows p → Follows q → SameOrPart p q
+  alike_child n k below above p q ep eq alike hp hq =
+      elim (alike (grind arith) (grind arith)) [
+        | inl e ↦ inl (sym ep ∙ ap (from_node n k) e ∙ eq)
+        | inr part ↦ inr (grind (arith, ep, eq, part_after))
+      ]
 
   module _ (g : Game) where
     mutual
@@ -129,27 +107,38 @@ module _ (choices : SetKey → ℕ) where
       same_or_part (branch n none) _ p q i j _ _ = grind arith
       same_or_part (branch n (more t ts)) children p q i j hp hq =
           let set = has_set g n.set (suc (count ts)) (omega arith) children.0 in
-          same_or_part_of (more t ts) n 1 set.0 set.1 children.1 p q (play_of (more t ts) n 1 p i)
-          (play_of (more t ts) n 1 q j) hp hq
+          same_or_part_of (more t ts) n 1 set.0 set.1 children.1 p q i j hp hq
 
-      same_or_part_of : (ts : Trees Node) (n : Node) (k : ℕ) (key : SetKey)
-          → n.set ≡ Some key → AllByRecursion (HasChildren g) (flatten_all ts) → (p q : Play)
-          → IsPlayOf n k ts p → IsPlayOf n k ts q → Follows p → Follows q → SameOrPart p q
+      same_or_part_of : (ts : Trees Node) (n : Node) (k : ℕ) (key : SetKey) → n.set ≡ Some key
+          → AllByRecursion (HasChildren g) (flatten_all ts) → (p q : Play)
+          → Has (plays_from n k ts) p → Has (plays_from n k ts) q → Follows p → Follows q
+          → SameOrPart p q
       same_or_part_of none n k key at children p q i j hp hq = absurd i
-      same_or_part_of (more t ts) n k key at children p q (inl i) (inl j) hp hq =
+      same_or_part_of (more t ts) n k key at children p q i j hp hq =
           let both = all_parts (HasChildren g) (flatten t) (flatten_all ts) children in
-          alike_child n k i.0 j.0 p q i.2 j.2 (same_or_part t both.0 i.0
-          j.0 i.1 j.1 (follows_below n k i.0 (subst Follows (sym i.2) hp))
-          (follows_below n k j.0 (subst Follows (sym j.2) hq)))
-      same_or_part_of (more t ts) n k key at children p q (inl i) (inr j) hp hq =
-          let c = taken_child ts n (k + 1) q j in
-          different n key k c.0 i.0 c.1 p q at (λ e. omega (arith, c.2)) i.2 c.3 hp hq
-      same_or_part_of (more t ts) n k key at children p q (inr i) (inl j) hp hq =
-          let c = taken_child ts n (k + 1) p i in
-          different n key c.0 k c.1 j.0 p q at (λ e. omega (arith, c.2)) c.3 j.2 hp hq
-      same_or_part_of (more t ts) n k key at children p q (inr i) (inr j) hp hq =
-          let both = all_parts (HasChildren g) (flatten t) (flatten_all ts) children in
-          same_or_part_of ts n (k + 1) key at both.1 p q i j hp hq
+          let first = map (from_node n k) (plays t) in
+          let later = plays_from n (k + 1) ts in
+          elim (in_either first later p i) [
+            | inl i ↦
+                let a = mapped_from (from_node n k) (plays t) p i in
+                elim (in_either first later q j) [
+                  | inl j ↦
+                      let b = mapped_from (from_node n k) (plays t) q j in
+                      alike_child n k a.0 b.0 p q a.2 b.2 (same_or_part t both.0 a.0 b.0 a.1 b.1)
+                      hp hq
+                  | inr j ↦
+                      let c = taken_child ts n (k + 1) q j in
+                      different n key k c.0 a.0 c.1 p q at (λ e. omega (arith, c.2)) a.2 c.3 hp hq
+                ]
+            | inr i ↦
+                elim (in_either first later q j) [
+                  | inl j ↦
+                      let b = mapped_from (from_node n k) (plays t) q j in
+                      let c = taken_child ts n (k + 1) p i in
+                      different n key c.0 k c.1 b.0 p q at (λ e. omega (arith, c.2)) c.3 b.2 hp hq
+                  | inr j ↦ same_or_part_of ts n (k + 1) key at both.1 p q i j hp hq
+                ]
+          ]
 
 pub same_or_part_play : (choices : SetKey → ℕ) (g : Game) → IsGame g → (p q : Play)
     → Contains (plays g.tree) p → Contains (plays g.tree) q
@@ -189,13 +178,9 @@ module _ (g : Game) (game : IsGame g) (spellable : IsSpellable g) (choices : Set
     chance_nothing none n k children = refl
     chance_nothing (more t ts) n k children =
         let both = all_parts (HasChildren g) (flatten t) (flatten_all ts) children in
-        cc (
-          nothing t both.0,
-          times_zero (chances_at g n k)
-              (probability_fraction g spellable (record { node = n; taken = k })),
-          plus_zero zero_ratio zero_fraction,
-          chance_nothing ts n (k + 1) both.1,
-        )
+        let zeros = zeros_weighed (chances_at g n k)
+        (probability_fraction g spellable (record { node = n; taken = k })) in
+        cc (nothing t both.0, zeros, chance_nothing ts n (k + 1) both.1)
 
     child_nothing : (ts : Trees Node) (position : ℕ) → 1 ≤ position → position ≤ count ts
         → AllByRecursion (HasChildren g) (flatten_all ts)
@@ -235,4 +220,4 @@ module _ (g : Game) (game : IsGame g) (spellable : IsSpellable g) (choices : Set
   pub some_play : (play : Play) × Contains (plays g.tree) play × (follows choices play ≡ true)
   some_play = grind (arith, some_play_in, contains)
 
-pub ruleset followed_plays = (follows_moves, some_play, whole, same_or_part_play)
+pub ruleset followed_plays = (chosen_moves, some_play, whole, same_or_part_play)

@@ -1,12 +1,11 @@
 -- The payoffs of outcomes, by their positions, and the rows that are kept of them.
-use Rattle.gf_form.proofs.Common.{slice_get-get_or, unwrap_or-slice_get, get_or_append_left, nat_eq}
-use Rattle.gf_form.proofs.Common.{length-append, slice_get_past, outcome_numbers, slice_get-map, []}
-use Rattle.gf_form.proofs.Common.{ℕ, paid_at_node, at_position, IsSpellable, outcome_at, zero_ratio}
-use Rattle.gf_form.proofs.Common.{slice_get, payoff_at, at_index, at_place, eqb-true, Described, ap}
-use Rattle.gf_form.proofs.Common.{Outcome, Ratio, ArePaid, cases_lt, get_or, length, IsGame, row_at}
-use Rattle.gf_form.proofs.Common.{◌==◌, zero, IsRow, arith, ◌≡◌, List, ◌++◌, Some, Game, Node, paid}
-use Rattle.gf_form.proofs.Common.{suc, ◌+◌, ◌∷◌, ◌∙◌, sym, ◌-◌, ◌<◌, ◌≤◌, map, inl, inr, refl}
-use Rattle.gf_form.proofs.Common.{option_map}
+use Rattle.gf_form.proofs.Common
+use Common.{unwrap_or-slice_get, get_or_append_left, slice_get-get_or, outcome_numbers, at_position}
+use Common.{slice_get_past, length-append, slice_get-map, paid_at_node, IsSpellable, outcome_at, []}
+use Common.{zero_ratio, option_map, slice_get, payoff_at, Described, at_index, at_place, eqb-true}
+use Common.{cases_lt, Outcome, ArePaid, nat_eq, get_or, length, IsGame, row_at, Ratio, IsRow, arith}
+use Common.{◌==◌, zero, List, ◌++◌, Some, Game, Node, paid, refl, ◌≡◌, suc, ◌+◌, ◌∷◌, ◌∙◌, sym, ◌-◌}
+use Common.{◌<◌, ◌≤◌, map, inl, inr, ap, ℕ}
 use Rattle.std.specs.Prelude.{position}
 use Rattle.std.proofs.lemmas.List.Quantifiers.{position-Some}
 use Rattle.gf_tree.proofs.lemmas.stores.FoundKeys.{not_described}

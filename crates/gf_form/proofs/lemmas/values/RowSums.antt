@@ -1,10 +1,9 @@
 -- Rows that are added up, number by number.
-use Rattle.gf_form.proofs.Common.{fits_signed_from_abs, get_or-set_other, product_of-some, times_of}
-use Rattle.gf_form.proofs.Common.{AllByRecursion, get_or_default, get_or_past, sum_of-some, plus_of}
-use Rattle.gf_form.proofs.Common.{zero_ratio, IsFraction, to_z-of_z, at_place, eqb-true, cases_lt}
-use Rattle.gf_form.proofs.Common.{sum_of, length, get_or, Option, arith, Ratio, subst, ◌==◌, true}
-use Rattle.gf_form.proofs.Common.{zero, Some, List, ◌<◌, ◌≡◌, ◌≤◌, set, ◌⊎◌, sym, ◌∷◌, ◌+◌, ◌∙◌, []}
-use Rattle.gf_form.proofs.Common.{suc, pos, ℕ}
+use Rattle.gf_form.proofs.Common
+use Common.{fits_signed_from_abs, get_or-set_other, product_of-some, AllByRecursion, get_or_default}
+use Common.{get_or_past, sum_of-some, zero_ratio, IsFraction, to_z-of_z, times_of, at_place, sum_of}
+use Common.{eqb-true, cases_lt, plus_of, length, get_or, Option, arith, Ratio, subst, ◌==◌, true, ℕ}
+use Common.{zero, Some, List, ◌<◌, ◌≡◌, ◌≤◌, set, ◌⊎◌, sym, ◌∷◌, ◌+◌, ◌∙◌, suc, pos, []}
 use Rattle.std.proofs.Math.ListN.{length-set}
 use Rattle.std.proofs.lemmas.List.{get_or-set_same}
 use Rattle.gf_fraction.proofs.ComputedArithmetic.{product_of-none, sum_of-none}

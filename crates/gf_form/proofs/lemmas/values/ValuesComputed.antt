@@ -1,14 +1,13 @@
 -- The computed bottom-up value is the one of the relation. Zero added to a fraction, and its
 -- multiples.
-use Rattle.gf_form.proofs.Common.{sum_is_computed, product_of-some, whole_fraction, IsChanceValue}
-use Rattle.gf_form.proofs.Common.{if◌then◌else◌, IsChildValue, chance_value, one_fraction, dvd_refl}
-use Rattle.gf_form.proofs.Common.{MultipliesTo, MatchOption, IsSpellable, child_value, sum_of-some}
-use Rattle.gf_form.proofs.Common.{product_of, chances_at, IsFraction, value_over, zero_ratio, false}
-use Rattle.gf_form.proofs.Common.{scaled_num, MatchBool, payoff_at, times_of, IsValue, *ℤ-zero, ◌≡◌}
-use Rattle.gf_form.proofs.Common.{one-dvd, *ℤ_comm, plus_of, Option, AddsTo, branch, SetKey, *ℤ-one}
-use Rattle.gf_form.proofs.Common.{arith, Ratio, value, Trees, IsLcm, subst, none, Some, zero, Node}
-use Rattle.gf_form.proofs.Common.{None, ◌*ℤ◌, Tree, refl, more, ◌==◌, Game, true, Bool, ◌/◌, sym, ℕ}
-use Rattle.gf_form.proofs.Common.{◌+◌, ◌∙◌, pos, suc, ◌*◌, ◌↔◌, ap, ℤ}
+use Rattle.gf_form.proofs.Common
+use Common.{sum_is_computed, product_of-some, whole_fraction, IsChanceValue, if◌then◌else◌, IsValue}
+use Common.{IsChildValue, chance_value, one_fraction, MultipliesTo, MatchOption, IsSpellable, false}
+use Common.{child_value, sum_of-some, product_of, chances_at, IsFraction, value_over, zero_ratio, ℕ}
+use Common.{scaled_num, MatchBool, payoff_at, dvd_refl, times_of, *ℤ-zero, one-dvd, *ℤ_comm, Option}
+use Common.{plus_of, AddsTo, branch, SetKey, *ℤ-one, arith, Ratio, value, Trees, IsLcm, subst, none}
+use Common.{Some, zero, Node, None, ◌*ℤ◌, Tree, refl, more, ◌==◌, Game, true, Bool, ◌≡◌, ◌/◌, sym}
+use Common.{◌+◌, ◌∙◌, pos, suc, ◌*◌, ◌↔◌, ap, ℤ}
 use Rattle.gf_fraction.specs.Computed.{sum_of}
 use Rattle.gf_fraction.proofs.ComputedArithmetic.{product_is_computed}
 use Rattle.gf_form.proofs.lemmas.values.Denominators.{probability_fraction, payoff_fraction}
@@ -116,11 +115,7 @@ module _ (g : Game) (spellable : IsSpellable g) (choices : SetKey → ℕ) (play
     pub value_agrees : (t : Tree Node) (v : Ratio)
         → Agree (IsValue g choices player t) (value g choices player t) v
     value_agrees (branch n ts) v =
-        node_agrees (payoff_at g player n) (payoff_fraction g spellable player n) n.set
-        (λ x. IsChanceValue g choices player n 1 zero_ratio ts x)
-        (λ key x. IsChildValue g choices player (choices key) ts x)
-        (chance_value g choices player (chances_at g n) 1 (Some zero_ratio) ts)
-        (λ key. child_value g choices player (choices key) ts)
+        node_agrees (payoff_at g player n) (payoff_fraction g spellable player n) n.set _ _ _ _
         (λ x. chance_agrees ts n 1 zero_ratio x zero_fraction)
         (λ key x. child_agrees ts (choices key) x) v
 

@@ -1,14 +1,13 @@
 -- The value of a tree by its branches, and what is left of it while a walk goes through them.
-use Rattle.gf_form.proofs.Common.{Trees, same_set_equality, false_from_ne_true, first_uses_distinct}
-use Rattle.gf_form.proofs.Common.{option_and_then, sets_by_first_use, length-append, branches_given}
-use Rattle.gf_form.proofs.Common.{slice_get-map, chance_value, branches_left, AreDistinct, list_of}
-use Rattle.gf_form.proofs.Common.{strategy_at, MatchOption, at_position, player_keys, flatten_all}
-use Rattle.gf_form.proofs.Common.{option_map, choices_by, child_trees, child_value, chances_at, ◌≡◌}
-use Rattle.gf_form.proofs.Common.{one_ratio, root_node, choice_at, zero_ratio, slice_get, unwrap_or}
-use Rattle.gf_form.proofs.Common.{[], flatten, payoff_at, IsGame, set_at, plus_of, game_of, tree_of}
-use Rattle.gf_form.proofs.Common.{has_at, length, Option, Global, eq-eqb, branch, Action, SetKey, ℕ}
-use Rattle.gf_form.proofs.Common.{Ratio, arith, List, ◌++◌, value, Some, None, zero, refl, Tree, ap}
-use Rattle.gf_form.proofs.Common.{suc, none, more, Game, ◌+◌, Node, ◌<◌, ◌∷◌, map, Vec, ◌∙◌, sym}
+use Rattle.gf_form.proofs.Common
+use Common.{first_uses_distinct, false_from_ne_true, same_set_equality, sets_by_first_use, list_of}
+use Common.{option_and_then, branches_given, length-append, branches_left, chance_value, option_map}
+use Common.{AreDistinct, strategy_at, MatchOption, at_position, player_keys, flatten_all, one_ratio}
+use Common.{child_trees, child_value, choices_by, chances_at, zero_ratio, root_node, choice_at, ◌≡◌}
+use Common.{slice_get, unwrap_or, payoff_at, flatten, plus_of, game_of, tree_of, IsGame, set_at, []}
+use Common.{has_at, length, Option, Global, eq-eqb, branch, Action, SetKey, Trees, Ratio, arith, ap}
+use Common.{value, List, ◌++◌, Some, None, refl, Tree, none, more, Game, Node, suc, ◌+◌, ◌<◌, ◌∷◌}
+use Common.{map, Vec, ◌∙◌, sym, ℕ}
 use Rattle.std.proofs.Common.{reverse}
 use Rattle.std.proofs.lemmas.List.Sums.{sum_by_push}
 use Rattle.std.proofs.lemmas.List.{reverse-append}
@@ -119,9 +118,7 @@ chance_is g n actions k h = grind arith
 pub set_there : {A : Type 0} (all : List (Vec A Global)) (player position : ℕ)
     → at_position (strategy_at (map (λ own. own.items) all) player) position
     ≡ option_and_then (λ own. at_position own.items position) (at_position all player)
-set_there all zero zero = refl
-set_there all zero (suc k) = refl
-set_there all (suc player) position = grind (arith, slice_get-map)
+set_there all player position = grind (arith, at_mapped)
 
 -- ---- sizes
 

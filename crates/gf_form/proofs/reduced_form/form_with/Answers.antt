@@ -1,7 +1,6 @@
 use Rattle.gf_form.proofs.Common.{arith, IfOk-weaker, IsPaidAt, reduced_labels}
-use Rattle.gf_form.proofs.lemmas.reduced.FirstStrategies.{fewer_profiles, paid_fractions, paid_full}
-use Rattle.gf_form.proofs.lemmas.reduced.FirstStrategies.{reduced_made, some_reduced_label}
-use Rattle.gf_form.proofs.lemmas.reduced.ReducedForms.{reduced_form_profiles}
+use Rattle.gf_form.proofs.lemmas.reduced.FirstStrategies.{fewer_profiles, reduced_made}
+use Rattle.gf_form.proofs.lemmas.reduced.ReducedForms.{reduced_form_profiles, some_reduced_label}
 use Rattle.gf_form.proofs.lemmas.form.FormMade.{fits_table, form_made}
 use Rattle.gf_form.proofs.reduced_form.form_with.Goals as goal
 
@@ -10,13 +9,13 @@ table_with-requires-clause-fits c =
     let g = c.args.game.now in
     let game = c.requires.is_game in
     fits_table (reduced_labels g) (IsPaidAt g) g _ _ _ (reduced_form_profiles g) c.requires.labels
-    (paid_full g) c.requires.rows (some_reduced_label g game)
-    (omega (arith, fewer_profiles g game, c.requires.few)) (paid_fractions g)
+    (λ p row h. (_, h.paid)) c.requires.rows (some_reduced_label g game)
+    (omega (arith, fewer_profiles g, c.requires.few))
 
 pub returns : goal.returns
 returns c =
     let g = c.args.game.now in
     IfOk-weaker c.table_with.result _ _
     (λ t made. reduced_made g t (form_made (reduced_labels g) (IsPaidAt g) g _ _ _
-    (reduced_form_profiles g) c.requires.labels (paid_full g) c.requires.rows t made))
+    (reduced_form_profiles g) c.requires.labels (λ p row h. (_, h.paid)) c.requires.rows t made))
     c.table_with.ensures

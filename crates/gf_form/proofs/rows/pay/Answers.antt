@@ -1,10 +1,7 @@
 use Rattle.gf_form.proofs.Common.{◌≡◌, Some, arith, length, zero_ratio, plus_of}
-use Rattle.gf_form.proofs.lemmas.values.RowSums.{all_added, one_added, place_is, nothing_paid}
+use Rattle.gf_form.proofs.lemmas.values.RowSums.{all_added, one_added, place_is}
 use Rattle.gf_form.proofs.lemmas.values.ValuesComputed.{zero_fraction, plus_zero}
 use Rattle.gf_form.proofs.rows.pay.Goals as goal
-
-pub returns-then-is_empty-clause-added : goal.returns-then-is_empty-clause-added
-returns-then-is_empty-clause-added c = grind (arith, nothing_paid)
 
 pub loop-i-preserved : goal.loop-i-preserved
 loop-i-preserved c =
@@ -14,6 +11,5 @@ loop-i-preserved c =
 pub returns-clause-added : goal.returns-clause-added
 returns-clause-added c =
     let end : c.loop-i.i ≡ length c.args.payoffs.now = omega (arith, c.loop-i-test.false) in
-    let done = c.loop-i.invariant in
-    all_added (λ s x. plus_of (Some x) (Some s)) _ _ _ (rw end at done)
+    all_added (λ s x. plus_of (Some x) (Some s)) _ _ _ (rw end at c.loop-i.invariant)
     (plus_zero zero_ratio zero_fraction)

@@ -10,6 +10,6 @@ loop-i-preserved c =
 pub returns-clause-added : goal.returns-clause-added
 returns-clause-added c =
     let end : c.loop-i.i ≡ length c.args.row.now = omega (arith, c.loop-i-test.false) in
-    let done = c.loop-i.invariant in
-    all_added (λ s x. plus_of (Some s) (times_of c.args.chance (Some x))) _ _ _ (rw end at done)
+    all_added (λ s x. plus_of (Some s) (times_of c.args.chance (Some x))) _ _ _
+    (rw end at c.loop-i.invariant)
     (zeros_weighed c.args.chance c.num.ensures.fraction)

@@ -1,5 +1,5 @@
 use Rattle.gf_form.proofs.Common.{arith, length-map, IfOk-weaker, ArePayoffsAt, strategy_labels}
-use Rattle.gf_form.proofs.lemmas.form.FormMade.{fits_table, form_made, full_row, row_fractions}
+use Rattle.gf_form.proofs.lemmas.form.FormMade.{fits_table, form_made}
 use Rattle.gf_form.proofs.lemmas.strategies.CountedActions.{some_strategy}
 use Rattle.gf_form.proofs.lemmas.form.Forms.{all_profiles}
 use Rattle.gf_form.proofs.strategic_form.form_with.Goals as goal
@@ -8,13 +8,14 @@ pub table_with-requires-clause-fits : goal.table_with-requires-clause-fits
 table_with-requires-clause-fits c =
     let g = c.args.game.now in
     fits_table (strategy_labels g) (ArePayoffsAt g) g _ _ _ (all_profiles g)
-    (c.in_ok-labels.ensures g c.requires.counts) (full_row g) c.requires.rows
+    (c.in_ok-labels.ensures g c.requires.counts) (λ p row h. (_, h)) c.requires.rows
     (λ player. grind (arith, length-map, some_strategy, c.requires.counts.is_game))
-    c.requires.counts.within (row_fractions g)
+    c.requires.counts.within
 
 pub returns : goal.returns
 returns c =
     let g = c.args.game.now in
     IfOk-weaker c.table_with.result _ _
     (form_made (strategy_labels g) (ArePayoffsAt g) g _ _ _ (all_profiles g)
-    (c.in_ok-labels.ensures g c.requires.counts) (full_row g) c.requires.rows) c.table_with.ensures
+    (c.in_ok-labels.ensures g c.requires.counts) (λ p row h. (_, h)) c.requires.rows)
+    c.table_with.ensures

@@ -1,16 +1,21 @@
 -- The digits of one player's demands: one for each of his sets at which he has several actions.
 use Rattle.std.specs.Prelude.{ℕ, suc, ◌+◌, List, [], ◌∷◌}
 use Rattle.gf_form.specs.inner.rows.Demands.{steps_of}
-use Rattle.gf_form.specs.inner.rows.DigitSteps.{picked, width}
+use Rattle.gf_form.specs.inner.rows.DigitSteps.{picked, steps_after}
 use Rattle.gf_form.specs.declared.reduced.digits.OwnDigit.{OwnDigit}
 
--- the digits of sets with this many actions each; the first set is at this place, from 0
+-- the digits of sets with this many actions each and these steps; the first set is at this place,
+-- from 0
+abbrev pub digits_with : ℕ → List ℕ → List ℕ → List OwnDigit
+digits_with place (suc (suc n) ∷ counts) (step ∷ steps) =
+    record { place = place; step = step; actions = suc (suc n) }
+    ∷ digits_with (place + 1) counts steps
+digits_with place (n ∷ counts) (step ∷ steps) = digits_with (place + 1) counts steps
+digits_with place _ _ = []
+
+-- with the steps that they have if no digit is faster
 abbrev pub digits_from : ℕ → List ℕ → List OwnDigit
-digits_from place [] = []
-digits_from place (suc (suc n) ∷ later) =
-    record { place = place; step = width later; actions = suc (suc n) }
-    ∷ digits_from (place + 1) later
-digits_from place (n ∷ later) = digits_from (place + 1) later
+digits_from place counts = digits_with place counts (steps_after 1 counts)
 
 -- what one more at each digit adds to demands
 abbrev pub own_steps : List ℕ → List ℕ

@@ -68,10 +68,11 @@ pub record HaveChoices (g : Game) (player : ℕ) (digits : List OwnDigit) (numbe
         → choices_at g player digits n ≡ get_or (all_choices (actions_of digits)) k []
 
 -- The level tells the flags at so many places under each of these strategies, by what it chooses
--- at the digits that are left.
+-- at the digits, all of which are left.
 pub record IsToldBy (g : Game) (player : ℕ) (digits : List OwnDigit) (flag : ℕ → ℕ → Bool)
     (places : ℕ) (level : Level) (number count : ℕ) : Type 0
   where
+    pub choices : HaveChoices g player digits number count
     pub levelled : IsLevel places level
     pub tells : (n place : ℕ) → number ≤ n → n < number + count → place < places
         → flag n place ≡ is_left place (steps_to digits) (choices_at g player digits n) level
@@ -98,7 +99,6 @@ pub record IsSearched (g : Game) (player : ℕ) (all digits : List OwnDigit) (le
     pub all_are : all ≡ digits_from 0 (action_counts g player)
     pub rest : drop depth all ≡ digits
     pub deep : depth ≤ length all
-    pub choices : HaveChoices g player digits number count
     pub told : IsToldBy g player digits (is_settled g player all depth) (length all) level number
         count
 
@@ -124,12 +124,10 @@ pub record AreFoundTo (g : Game) (player : ℕ) (numbers : List ℕ) (number : �
 -- ---- labels
 
 -- The digits but these are chosen, and the level tells which sets are relevant.
-pub record IsShown (g : Game) (player : ℕ) (digits : List OwnDigit) (level : Level)
-    (number count : ℕ) : Type 0
-  where
-    pub choices : HaveChoices g player digits number count
-    pub told : IsToldBy g player digits (is_relevant_at g player) (length (player_keys g player))
-        level number count
+abbrev pub IsShown : Game → ℕ → List OwnDigit → Level → ℕ → ℕ → Type 0
+IsShown g player digits level number count =
+    IsToldBy g player digits (is_relevant_at g player) (length (player_keys g player)) level number
+    count
 
 -- the labels of the first of the strategies with these numbers, all of which are before a number
 pub record AreLabelledTo (g : Game) (player : ℕ) (numbers : List ℕ) (labels : List (List ℕ))

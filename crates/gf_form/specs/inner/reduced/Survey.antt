@@ -1,12 +1,10 @@
 -- The visits of a player in a tree.
 use Rattle.std.specs.Prelude.{ℕ, ◌==◌, ◌++◌, List, [], ◌∷◌, Option, Some, None, if◌then◌else◌}
-use Rattle.std.specs.Prelude.{length, option_and_then}
+use Rattle.std.specs.Prelude.{◌+◌, option_and_then, option_map}
 use Rattle.std.specs.Option.{option_map_or}
-use Rattle.gf_nfg.specs.Profiles.{numbers_from}
-use Rattle.gf_tree.specs.Description.{SetKey}
+use Rattle.gf_tree.specs.Description.{SetKey, same_set}
 use Rattle.gf_tree.specs.Game.{Game}
 use Rattle.gf_tree.specs.KeysInOrder.{player_keys}
-use Rattle.gf_form.specs.Strategies.{choice_at}
 use Rattle.gf_form.specs.inner.rows.Descents.{own_step, Handing, Stop, demanding, descent}
 use Rattle.gf_form.specs.declared.reduced.visits.Visit.{Visit}
 
@@ -14,15 +12,18 @@ use Rattle.gf_form.specs.declared.reduced.visits.Visit.{Visit}
 abbrev pub visit_handing : Handing ℕ
 visit_handing = record { demands = λ d. d; below = λ g n s k demands. demands }
 
+-- the place of a set among those with these keys, from 0
+abbrev pub place_among : List SetKey → SetKey → Option ℕ
+place_among [] key = None
+place_among (k ∷ keys) key =
+    if same_set k key then Some 0 else option_map (λ place. place + 1) (place_among keys key)
+
 -- the visit to a set, if it is the player's
 abbrev pub own_visit : Game → ℕ → ℕ → SetKey → Option Visit
 own_visit g player demands key =
-    let keys = player_keys g player in
     if key.player == player
-    then Some (record {
-      demands = demands;
-      set = choice_at keys (numbers_from 0 (length keys)) key;
-    })
+    then option_map (λ place. record { demands = demands; set = place })
+    (place_among (player_keys g player) key)
     else None
 
 abbrev pub visit_at : ℕ → Stop ℕ → Option Visit

@@ -9,12 +9,10 @@ use Rattle.gf_fraction.specs.Ratio.{Ratio}
 use Rattle.gf_tree.specs.Tree.{Tree}
 use Rattle.gf_tree.specs.Description.{SetKey}
 use Rattle.gf_tree.specs.Game.{Game, Node}
-use Rattle.gf_form.specs.inner.rows.Descents.{Handing, Stop, stops_left, choosing, demanding}
-use Rattle.gf_form.specs.inner.rows.Descents.{descent}
+use Rattle.gf_form.specs.inner.rows.Descents.{Handing, Stop, choosing, demanding, descent}
 use Rattle.gf_form.specs.inner.values.Rows.{paid_at_node}
 use Rattle.gf_form.specs.inner.values.Values.{chances_at}
 use Rattle.gf_form.specs.declared.rows.paths.Path.{Path}
-use Rattle.gf_form.specs.declared.rows.paths.Paths.{Paths}
 use Rattle.gf_form.specs.declared.rows.paths.Reached.{Reached}
 
 -- whether the numbers of a path still fit after an action of this probability
@@ -46,6 +44,10 @@ is_sum_at own (Some key) = key.player == 0 || nat_lt 0 own
 abbrev pub is_sum : Game → Node → Bool
 is_sum g n = is_sum_at (paid_at_node g n) n.set
 
+-- the path to a node
+abbrev pub path_to : Reached → Path
+path_to r = record { weight = r.weight; bound = r.bound; den = r.den; demands = r.demands }
+
 -- whether a path is below a child of probability 0, with no sum since
 abbrev pub is_idle : Path → Bool
 is_idle path = path.bound == 0
@@ -53,12 +55,10 @@ is_idle path = path.bound == 0
 -- the node at the end of a path that is idle or is not, and at which something is added or is not
 abbrev pub met_if : Bool → Bool → Path → ℕ → Reached
 met_if idle adds path own = record {
-  path = record {
-    weight = path.weight;
-    bound = if idle && adds then 1 else path.bound;
-    den = if idle && adds then 1 else path.den;
-    demands = path.demands;
-  };
+  weight = path.weight;
+  bound = if idle && adds then 1 else path.bound;
+  den = if idle && adds then 1 else path.den;
+  demands = path.demands;
   outcome = if idle then (if adds then own else 0) else own;
 }
 
@@ -68,7 +68,7 @@ met_node g path n = met_if (is_idle path) (is_sum g n) path (paid_at_node g n)
 
 -- a path from its last node on
 abbrev pub onward : Game → Path → Node → Path
-onward g path n = (met_node g path n).path
+onward g path n = path_to (met_node g path n)
 
 -- whether chance moves at a node
 abbrev pub is_drawn : Node → Bool
@@ -105,7 +105,3 @@ is_personal key = not (key.player == 0)
 abbrev pub followed : Game → (SetKey → ℕ) → Path → Tree Node → List Reached
 followed g choose path t =
     map node_at (descent g (choosing path_handing g is_personal choose) path t)
-
--- what is left of them while a walk gives them
-abbrev pub nodes_left : Paths → List Reached
-nodes_left p = map node_at (stops_left path_handing p.walk)

@@ -8,8 +8,9 @@ use Rattle.gf_nfg.specs.Profiles.{product}
 use Rattle.gf_tree.specs.Game.{Game}
 use Rattle.gf_tree.specs.Spellable.{IsSpellable}
 use Rattle.gf_form.specs.inner.strategies.Counted.{AreCounts}
-use Rattle.gf_form.specs.inner.rows.Demands.{steps_of}
-use Rattle.gf_form.specs.inner.rows.TermLists.{AreExactAt, AreOrdered, Term, IsShaped, all_terms}
+use Rattle.gf_form.specs.inner.rows.Demands.{spans, steps_of}
+use Rattle.gf_form.specs.inner.rows.GameDigits.{HaveSteps, actions_at}
+use Rattle.gf_form.specs.inner.rows.TermLists.{AreExactAt, AreInOrder, Term, all_terms}
 use Rattle.gf_form.specs.inner.rows.TermLists.{sum_of_terms}
 use Rattle.gf_form.specs.inner.values.PaidRows.{rows_of}
 use Rattle.gf_form.specs.inner.strategies.ProfileNumbers.{AreProfileNumbers, numbered_profiles}
@@ -21,6 +22,7 @@ use Rattle.gf_form.specs.Strategies.{all_choices, choices_by, full_profiles, str
 use Rattle.gf_form.specs.inner.values.Values.{value}
 use Rattle.gf_form.specs.declared.fault.FormFault.{FormFault}
 use Rattle.gf_form.specs.declared.fault.FormFault.TheVariants.{Overflow, TooManyProfiles}
+use Rattle.gf_form.specs.declared.rows.digits.Digit.{Digit}
 use Rattle.gf_form.specs.declared.rows.terms.Terms.{Terms}
 use Rattle.gf_form.specs.declared.rows.written.Asked.{Asked}
 use Rattle.gf_form.specs.declared.rows.written.Run.{Run}
@@ -84,8 +86,17 @@ AreDue asked run written = IsAsked asked × (run.from ≤ run.to)
 
 -- terms in order, with a number for each player
 abbrev pub AreTermsFor : Asked → Terms → Type 0
-AreTermsFor asked terms = IsShaped terms × AreOrdered terms
+AreTermsFor asked terms = AreInOrder terms
     × (terms.players ≡ length asked.game.now.players)
+
+-- the terms settle the rows of these profiles, by choices of an action at each of these digits
+pub record SettleBy (asked : Asked) (terms : Terms) (digits : List Digit) (run : Run)
+    : Type 0 where
+  pub are_terms : AreTermsFor asked terms
+  pub steps : HaveSteps digits
+  pub within : product (spans (actions_at digits)) < 2 ^ 64
+  pub count : run.count ≡ product (actions_at digits)
+  pub settles : SettleRows asked (actions_at digits) terms run
 
 -- if it is refused, then at the first profile without values, or because memory is refused
 abbrev pub IsRightlyRefused : {A : Type 0} → Asked → Result A FormFault → Type 0

@@ -7,6 +7,7 @@ use Rattle.gf_nfg.specs.Profiles.{product}
 use Rattle.gf_tree.specs.Description.{SetKey, InformationSet}
 use Rattle.gf_tree.specs.Game.{Game, set_at}
 use Rattle.gf_form.specs.inner.rows.Demands.{spans, steps_of}
+use Rattle.gf_form.specs.inner.rows.ReachedNodes.{path_to}
 use Rattle.gf_form.specs.inner.rows.TermLists.{AreExactAt, Term, IsExactAt, number_at, sum_of_terms}
 use Rattle.gf_form.specs.inner.values.Rows.{paid}
 use Rattle.gf_form.specs.declared.rows.paths.Path.{Path}
@@ -37,7 +38,7 @@ pay_at g player r = paid g player r.outcome
 
 -- what the node adds for the player
 abbrev pub node_term : Game → ℕ → Reached → Term
-node_term g player r = term_of r.path (pay_at g player r)
+node_term g player r = term_of (path_to r) (pay_at g player r)
 
 abbrev pub node_terms : Game → ℕ → List Reached → List Term
 node_terms g player rs = map (node_term g player) rs
@@ -66,18 +67,19 @@ pub record FitsAt (g : Game) (player den : ℕ) (steps choices : List ℕ) (rs :
     pub exact : AreExactShares g player den steps choices rs
     pub within : met_bounds g player den steps choices rs < 2 ^ 127
 
--- a set with only one action has no digit, and its action is chosen; any other set has one, with a
--- value for each action, at which the choice is the same
-pub record IsDigitOf (actions choices : List ℕ) (step count choice : ℕ) : Type 0 where
+-- at one place of these lists stand a step, a number of actions and a choice
+pub record ArePlaced (steps counts choices : List ℕ) (step count choice : ℕ) : Type 0 where
   pub place : ℕ
-  pub within : place < length actions
-  pub step_is : get_or (steps_of actions) place 0 ≡ step
-  pub actions_are : get_or actions place 0 ≡ count
+  pub within : place < length counts
+  pub step_is : get_or steps place 0 ≡ step
+  pub count_is : get_or counts place 0 ≡ count
   pub choice_is : get_or choices place 0 ≡ choice
 
 -- These are the numbers of actions at the digits, from the slowest on, and the choices at them, if
 -- each of these sets has the step of its digit, or 0 if it has only one action, and all others have
--- none. All values of all digits are within 64 bits.
+-- none. A set with only one action has no digit, and its action is chosen; any other set has one,
+-- with a value for each action, at which the choice is the same. All values of all digits are
+-- within 64 bits.
 pub record AreDigits (g : Game) (owns : SetKey → Bool) (steps choose : SetKey → ℕ)
     (actions choices : List ℕ) : Type 0 where
   pub within : product (spans actions) < 2 ^ 64
@@ -89,4 +91,4 @@ pub record AreDigits (g : Game) (owns : SetKey → Bool) (steps choose : SetKey 
       → owns key ≡ true → steps key ≡ 0 → length set.actions ≡ 1
   pub several : (key : SetKey) (set : InformationSet) → set_at g key ≡ Some set
       → owns key ≡ true → ¬ (steps key ≡ 0)
-      → IsDigitOf actions choices (steps key) (length set.actions) (choose key)
+      → ArePlaced (steps_of actions) actions choices (steps key) (length set.actions) (choose key)

@@ -3,6 +3,7 @@ use Rattle.std.specs.Prelude.{◌≡◌, ℕ, ◌+◌, ◌*◌, ◌/◌, ◌<◌
 use Rattle.std.specs.Int.{◌∣◌}
 use Rattle.gf_tree.specs.Game.{Game}
 use Rattle.gf_form.specs.inner.rows.TermLists.{ComeAsWell}
+use Rattle.gf_form.specs.inner.rows.ReachedNodes.{path_to}
 use Rattle.gf_form.specs.inner.rows.Shares.{node_terms}
 use Rattle.gf_form.specs.declared.rows.paths.Path.{Path}
 use Rattle.gf_form.specs.declared.rows.paths.Reached.{Reached}
@@ -18,11 +19,11 @@ pub record IsPathSum (a b sum : Path) : Type 0 where
 
 -- all have the same demands and outcome, and the last is the sum of the others, if it is known
 pub record IsNodeSum (r s sum : Reached) : Type 0 where
-  pub first_demands : sum.path.demands ≡ r.path.demands
-  pub second_demands : sum.path.demands ≡ s.path.demands
+  pub first_demands : sum.demands ≡ r.demands
+  pub second_demands : sum.demands ≡ s.demands
   pub first_outcome : r.outcome ≡ sum.outcome
   pub second_outcome : s.outcome ≡ sum.outcome
-  pub adds : 0 < sum.path.den → IsPathSum r.path s.path sum.path
+  pub adds : 0 < sum.den → IsPathSum (path_to r) (path_to s) (path_to sum)
 
 -- the shares of the first are those of the second, over any denominator and at any choices
 abbrev pub HaveSharesOf : List Reached → List Reached → Type 0

@@ -1,11 +1,10 @@
 -- Terms of the sums that the players are paid, each with a number for each player.
-use Rattle.std.specs.Prelude.{◌≡◌, ℕ, ℤ, pos, ◌+◌, ◌-◌, ◌*◌, ◌/◌, ◌<◌, ◌≤◌, ◌+ℤ◌, ◌*ℤ◌, Bool, true}
+use Rattle.std.specs.Prelude.{◌≡◌, ℕ, ℤ, pos, ◌+◌, ◌-◌, ◌*◌, ◌/◌, ◌<◌, ◌≤◌, ◌+ℤ◌, ◌*ℤ◌, true}
 use Rattle.std.specs.Prelude.{List, [], ◌∷◌, ◌++◌, drop, get_or, length, take, if◌then◌else◌}
 use Rattle.std.specs.Prelude.{suc, zero}
 use Rattle.std.specs.Int.{◌∣◌}
 use Rattle.std.specs.List.{AllByRecursion}
 use Rattle.std.specs.List.Sorted.{IsNonDecreasing}
-use Rattle.gf_fraction.specs.Ratio.{IsWithin}
 use Rattle.gf_form.specs.inner.rows.Demands.{meets}
 use Rattle.gf_form.specs.declared.rows.chosen.Chosen.{Chosen}
 use Rattle.gf_form.specs.declared.rows.terms.Head.{Head}
@@ -46,14 +45,14 @@ abbrev pub all_terms : Terms → List Term
 all_terms t = first_terms t (length t.demands.items)
 
 -- what the terms are over is as it was, and that of the next one is known
-pub record IsNoted (old new : Terms) (den size : ℕ) : Type 0 where
-  pub kept : (k : ℕ) → k < length old.demands.items → scaled_at new k ≡ scaled_at old k
-  pub next : scaled_at new (length old.demands.items) ≡ record { den = den; size = size }
+abbrev pub IsNoted : Terms → Terms → ℕ → ℕ → Type 0
+IsNoted old new den size =
+    ((k : ℕ) → k < length old.demands.items → scaled_at new k ≡ scaled_at old k)
+    × (scaled_at new (length old.demands.items) ≡ record { den = den; size = size })
 
--- each term has a number within bounds for each player
+-- each term has a number for each player
 pub record IsShaped (t : Terms) : Type 0 where
   pub count : length t.numbers.items ≡ length t.demands.items * t.players
-  pub within : AllByRecursion IsWithin t.numbers.items
   pub scaled : length t.scaled.items ≤ length t.demands.items
 
 -- for as many players, and over the same denominator unless they are over others
@@ -63,6 +62,10 @@ AreAlike a b = (a.players ≡ b.players) × (a.den ≡ b.den)
 -- no term demands less than the one before it
 abbrev pub AreOrdered : Terms → Type 0
 AreOrdered t = IsNonDecreasing t.demands.items
+
+-- as many numbers as there have to be, and terms in order of demands
+abbrev pub AreInOrder : Terms → Type 0
+AreInOrder t = IsShaped t × AreOrdered t
 
 -- among demands in order, this many are below a number
 pub record CountsBelow (demands : List ℕ) (number count : ℕ) : Type 0 where
@@ -83,6 +86,12 @@ AreWithin demands chosen = (chosen.free ≤ length demands) × (chosen.end ≤ l
 abbrev pub EndsBelow : List ℕ → ℕ → Type 0
 EndsBelow demands n =
     (d : ℕ) → 0 < length demands → get_or demands (length demands - 1) d ≤ n
+
+-- the terms from one place up to another, with demands lowered by this, may come next
+pub record MayCome (from to : Terms) (less next end : ℕ) : Type 0 where
+  pub rises : next < end → EndsBelow to.demands.items ((term_at from next).head.demands - less)
+  pub least : (k : ℕ) → next ≤ k → k < end → less ≤ (term_at from k).head.demands
+  pub within : end ≤ length from.demands.items
 
 abbrev pub no_term : Term
 no_term = record { head = record { demands = 0; den = 0; size = 0 }; row = [] }
@@ -115,10 +124,10 @@ pub record IsScale (a b : Head) (s : Scale) : Type 0 where
   pub second : IsFactor b.den s.den s.second
   pub size : s.size ≡ a.size * s.first + b.size * s.second
 
--- the sum of the numbers at this place, each times its factor, if it is known to fit
-abbrev pub IsSumAt : List ℤ → List ℤ → ℕ → ℕ → Bool → ℕ → ℤ → Type 0
-IsSumAt first second by_first by_second fits k number = IsWithin number × (fits ≡ true → number
-    ≡ get_or first k (pos 0) *ℤ pos by_first +ℤ get_or second k (pos 0) *ℤ pos by_second)
+-- the sum of the numbers at this place, each times its factor, if the denominator is known
+abbrev pub IsSumAt : List ℤ → List ℤ → Scale → ℕ → ℕ → ℤ → Type 0
+IsSumAt first second s den k number = 0 < den → number
+    ≡ get_or first k (pos 0) *ℤ pos s.first +ℤ get_or second k (pos 0) *ℤ pos s.second
 
 -- the term is the sum of two others
 pub record IsSumOf (a b sum : Term) : Type 0 where

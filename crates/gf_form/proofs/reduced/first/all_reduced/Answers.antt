@@ -1,20 +1,7 @@
-use Rattle.gf_form.proofs.Common.{product, length, arith, ◌≡◌, ◌∙◌, sym, ap}
+use Rattle.gf_form.proofs.Common.{length, arith, ◌≡◌}
 use Rattle.gf_form.proofs.lemmas.strategies.CountedActions.{all_counted}
 use Rattle.gf_form.proofs.lemmas.reduced.FirstStrategies.{one_player_more}
 use Rattle.gf_form.proofs.reduced.first.all_reduced.Goals as goal
-
-pub of_player-whole-requires : goal.of_player-whole-requires
-of_player-whole-requires c =
-    (c.args.game.now, c.requires.counts, omega (arith, c.loop-place-test.true))
-
-pub own_strategies-requires-clause-counts : goal.own_strategies-requires-clause-counts
-own_strategies-requires-clause-counts c =
-    (c.of_player-whole.ensures.counts c.args.game.now c.requires.counts).0
-
-pub own_strategies-requires-clause-whole : goal.own_strategies-requires-clause-whole
-own_strategies-requires-clause-whole c =
-    let own = c.of_player-whole.ensures.counts c.args.game.now c.requires.counts in
-    own.1 ∙ ap product (sym own.0)
 
 pub loop-place-preserved : goal.loop-place-preserved
 loop-place-preserved c =

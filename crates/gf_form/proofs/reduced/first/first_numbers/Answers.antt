@@ -1,4 +1,4 @@
-use Rattle.gf_form.proofs.Common.{IsLevel, subst, ◌∙◌, ℕ}
+use Rattle.gf_form.proofs.Common.{IsLevel, arith, subst, ◌∙◌, ℕ}
 use Rattle.gf_form.proofs.lemmas.reduced.SearchStarts.{searched_all}
 use Rattle.gf_form.proofs.reduced.first.first_numbers.Goals as goal
 
@@ -6,8 +6,9 @@ pub push_below-requires-clause-below : goal.push_below-requires-clause-below
 push_below-requires-clause-below c =
     let player = c.args.player.now in
     rw c.deref-3.ensures.value (searched_all player.game.now c.requires.is_game player.number
-    player.digits.items c.requires.digits player.whole c.requires.choices c.args.visits.now
-    c.requires.visits c.in_ok-level.level c.in_ok-level.ensures.unknown c.in_ok-own.own.items
+    player.digits.items c.requires.digits player.whole c.requires.whole (omega arith)
+    c.args.visits.now c.requires.visits c.in_ok-level.level c.in_ok-level.ensures.unknown
+    c.in_ok-own.own.items
     (rw c.deref.ensures.value at c.in_ok-own.ensures)
     (rw c.deref-2.ensures.value at c.in_ok-level.ensures.visits)
     (subst (λ (positions : ℕ). IsLevel positions c.in_ok-level.level)

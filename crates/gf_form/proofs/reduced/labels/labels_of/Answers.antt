@@ -1,4 +1,4 @@
-use Rattle.gf_form.proofs.Common.{product, IsLevel, length, subst, ◌∙◌, ap, ℕ}
+use Rattle.gf_form.proofs.Common.{arith, product, IsLevel, length, subst, ◌∙◌, ap, ℕ}
 use Rattle.gf_form.proofs.lemmas.reduced.SearchStarts.{none_labelled_yet, labels_are, shown_all}
 use Rattle.gf_form.proofs.reduced.labels.labels_of.Goals as goal
 
@@ -6,8 +6,9 @@ pub push_below-requires-clause-below : goal.push_below-requires-clause-below
 push_below-requires-clause-below c =
     rw c.deref.ensures.value (shown_all c.args.player.now.game.now c.requires.is_game
     c.args.player.now.number c.args.player.now.digits.items c.requires.digits
-    c.args.player.now.whole c.requires.choices c.args.visits.now c.requires.visits
-    c.in_ok-level.level c.in_ok-level.ensures.unknown c.in_ok-level.ensures.visits
+    c.args.player.now.whole (c.requires.whole ∙ ap product c.requires.counts) (omega arith)
+    c.args.visits.now c.requires.visits c.in_ok-level.level c.in_ok-level.ensures.unknown
+    c.in_ok-level.ensures.visits
     (subst (λ (sets : ℕ). IsLevel sets c.in_ok-level.level)
     (ap length c.requires.counts) c.in_ok-level.ensures.level))
 

@@ -1,7 +1,7 @@
-use Rattle.gf_form.proofs.Common.{◌≡◌, ◌+◌, ◌-◌, ◌<◌, ◌≤◌, ◌++◌, ◌∷◌, ℕ, List, arith, drop, get_or}
-use Rattle.gf_form.proofs.Common.{length, refl}
+use Rattle.gf_form.proofs.Common.{◌≡◌, ◌-◌, ◌<◌, ◌≤◌, ◌++◌, ◌∷◌, ℕ, List, arith, drop, get_or}
+use Rattle.gf_form.proofs.Common.{length, drop-cons, suc}
 use Rattle.std.proofs.lemmas.List.{reverse-append}
-use Rattle.gf_form.proofs.lemmas.rows.DigitsMade.{next_is, width_left}
+use Rattle.gf_form.proofs.lemmas.rows.DigitsMade.{width_left}
 use Rattle.gf_form.proofs.rows.digits.put_digits.Goals as goal
 
 -- the set at a place goes before those that come later
@@ -9,9 +9,8 @@ cut : (actions later : List ℕ) (place : ℕ) → 0 < place → place ≤ lengt
     → drop (place - 1) actions ++ later
     ≡ get_or actions (place - 1) 0 ∷ (drop place actions ++ later)
 cut actions later place some within =
-    let at : place - 1 + 1 ≡ place = omega arith in
-    let next = next_is actions (place - 1) (get_or actions (place - 1) 0) 0 (omega arith) refl in
-    cc (next, at)
+    let at : suc (place - 1) ≡ place = omega arith in
+    cc (drop-cons actions (place - 1) 0 (omega arith), at)
 
 pub loop-place-preserved : goal.loop-place-preserved
 loop-place-preserved c later are =

@@ -10,7 +10,7 @@ loop-start-preserved c =
     let more = c.in_ok-push_nodes.ensures in (
       nodes_listed _ _ c.args.nodes.now c.requires start c.alike_end-end.result
           c.loop-start-test.true end.onward end.within end.alike _
-          (ap (λ (r : Reached). r.path.demands)
+          (ap (λ (r : Reached). r.demands)
           (get_or_default c.args.nodes.now start _ no_node c.loop-start-test.true)) _ _ inv.0
           more.term more.shaped more.players,
       end.within,
@@ -21,5 +21,4 @@ returns-clause-terms c g are =
     let inv = c.loop-start.invariant in
     let all : c.loop-start.start ≡ length c.args.nodes.now =
     omega (arith, c.loop-start-test.false, inv.1) in
-    let told = inv.0.told g are in
-    rw take-length at (rw all at told)
+    rw (all, take-length) at (inv.0.told g are)

@@ -1,7 +1,7 @@
 use Rattle.gf_form.proofs.Common.{take-length, node_terms, map-append, take_more, IsExactAt, length}
 use Rattle.gf_form.proofs.Common.{node_term, at_place, all_both, Reached, rows_of, term_of, ArePaid}
-use Rattle.gf_form.proofs.Common.{row_at, arith, subst, Ratio, ints, ◌+ℤ◌, List, take, Game, ◌++◌}
-use Rattle.gf_form.proofs.Common.{◌≡◌, sym, ◌∷◌, suc, ◌+◌, [], ℕ, ℤ}
+use Rattle.gf_form.proofs.Common.{row_at, arith, Ratio, ints, ◌+ℤ◌, List, take, Game, ◌++◌}
+use Rattle.gf_form.proofs.Common.{path_to, ◌≡◌, ◌∷◌, suc, ◌+◌, [], ℕ, ℤ}
 use Rattle.gf_form.specs.inner.rows.ListedNodes.{HasShares}
 use Rattle.gf_form.specs.inner.rows.Shares.{IsShare}
 use Rattle.gf_form.proofs.lemmas.rows.ItemRows.{in_bits}
@@ -11,7 +11,7 @@ use Rattle.gf_form.proofs.rows.listed.shares_of.Goals as goal
 
 one_share_more : (g : Game) (rows : List (List Ratio)) (k den : ℕ) (rs : List Reached)
     (r : Reached) (bound next : ℕ) (amount total : ℤ) (s : Share) → ArePaid g rows
-    → IsShare (term_of r.path (at_place (row_at rows r.outcome) k)) den s
+    → IsShare (term_of (path_to r) (at_place (row_at rows r.outcome) k)) den s
     → total ≡ amount +ℤ s.amount → next ≡ bound + s.bound
     → HasShares g rs k den bound amount → HasShares g (rs ++ r ∷ []) k den next total
 one_share_more g rows k den rs r bound next amount total s are is total_is next_is before =
@@ -36,19 +36,15 @@ loop-node-preserved c =
     omega (arith, ints, c.in_ok-amount.ensures.sum, first, second) in
     rw (in_bits amount small) (
       small,
-      λ g are. subst (λ (rs : List Reached). HasShares g rs c.args.place c.args.den
-          c.in_ok-bound.bound amount)
-          (sym (take_more nodes at no_node c.loop-node-test.true))
+      λ g are. rw (take_more nodes at no_node c.loop-node-test.true)
           (one_share_more g (rows_of c.args.payoffs.now) c.args.place c.args.den
           (take at nodes) r sum.bound c.in_ok-bound.bound sum.amount amount share are
-          (subst (λ (pay : Ratio). IsShare (term_of r.path pay) c.args.den share)
-          c.payoff_at-payoff.ensures c.in_ok-share.ensures.share)
-          total c.in_ok-bound.ensures.1 (inv.1 g are)),
+          (rw (c.payoff_at-payoff.ensures, c.path.ensures) at c.in_ok-share.ensures.share) total
+          c.in_ok-bound.ensures.1 (inv.1 g are)),
     )
 
 pub returns-clause-shares : goal.returns-clause-shares
 returns-clause-shares c g are =
     let all : c.loop-node.node-index ≡ length c.args.nodes.now =
     omega (arith, c.loop-node-test.false, c.loop-node.auto.node-index-end) in
-    let told = c.loop-node.invariant.1 g are in
-    rw take-length at (rw all at told)
+    rw (all, take-length) at (c.loop-node.invariant.1 g are)

@@ -1,18 +1,25 @@
-use Rattle.gf_form.proofs.Common.{arith, get_or, digit_actions, rows_of}
+use Rattle.gf_form.proofs.Common.{◌∙◌, arith, get_or, digit_actions, rows_of, sym}
 use Rattle.gf_form.proofs.lemmas.rows.GameRows.{settle_all}
 use Rattle.gf_form.proofs.lemmas.rows.PayingTerms.{settled_at}
 use Rattle.gf_form.proofs.rows.profile.profile_rows.Goals as goal
 
-pub push_rows-requires-clause-settles : goal.push_rows-requires-clause-settles
-push_rows-requires-clause-settles c =
+pub push_rows-requires-clause-settled : goal.push_rows-requires-clause-settled
+push_rows-requires-clause-settled c =
     let d = c.in-Some.digits in
     let is_game = c.players-players.ensures.is_game in
     let digits = (rw c.in-Some.is at c.in_ok-digits.ensures) c.args.game.now is_game
     c.requires.counts in
-    λ i from less.
-    rw c.deref.ensures.value (settled_at c.args.game.now (digit_actions d) c.in_ok-listed.listed
-    c.in_ok-terms.terms 0 (get_or c.args.numbers.now i 0) c.in_ok-terms.ensures.settle
-    (settle_all c.args.game.now is_game c.players-players.ensures.spellable
-    (rows_of c.in_ok-payoffs.payoffs) c.in_ok-payoffs.ensures c.args.numbers.now
-    c.requires.numbers d digits c.in_ok-listed.listed c.in_ok-listed.ensures.terms i
-    (omega (arith, less))))
+    let terms = c.in_ok-terms.ensures in
+    rw c.deref.ensures.value (record {
+      are_terms = ((terms.shaped, terms.ordered), terms.players ∙ c.in_ok-listed.ensures.players);
+      steps = digits.steps;
+      within = digits.within;
+      count = c.requires.counts.profiles ∙ sym digits.as_many;
+      settles = λ i from less.
+          settled_at c.args.game.now (digit_actions d) c.in_ok-listed.listed c.in_ok-terms.terms 0
+          (get_or c.args.numbers.now i 0) terms.settle
+          (settle_all c.args.game.now is_game c.players-players.ensures.spellable
+          (rows_of c.in_ok-payoffs.payoffs) c.in_ok-payoffs.ensures c.args.numbers.now
+          c.requires.numbers d digits c.in_ok-listed.listed c.in_ok-listed.ensures.terms i
+          (omega (arith, less)));
+    })

@@ -1,8 +1,7 @@
 use Rattle.gf_form.proofs.Common.{fits_signed_from_abs, unsigned_abs-mul, unsigned_abs, to_z-of_z}
 use Rattle.gf_form.proofs.Common.{mul_assoc, *ℤ_assoc, term_of, *ℤ-zero, one-dvd, zero-*ℤ, ne_eqb}
-use Rattle.gf_form.proofs.Common.{arith, subst, Ratio, ◌*ℤ◌, ints, of_z, refl, to_z, w128, Path, ap}
-use Rattle.gf_form.proofs.Common.{◌≡◌, ◌∙◌, ◌*◌, pos, sym, ◌/◌, ℕ, ℤ}
-use Rattle.std.proofs.Common.{FitsSigned}
+use Rattle.gf_form.proofs.Common.{arith, subst, Ratio, ◌*ℤ◌, ints, refl, Path, ap}
+use Rattle.gf_form.proofs.Common.{◌≡◌, ◌∙◌, ◌*◌, pos, ℕ}
 use Rattle.gf_form.specs.inner.rows.TermLists.{IsFactor}
 use Rattle.gf_form.specs.inner.rows.Shares.{IsShare}
 use Rattle.gf_form.specs.declared.rows.share.Share.{Share}
@@ -12,11 +11,7 @@ use Rattle.gf_form.proofs.rows.share.share_of.Goals as goal
 zero_share : (path : Path) (pay : Ratio) (den : ℕ) (s : Share) → pay.num ≡ pos 0
     → s.amount ≡ pos 0 → s.bound ≡ 0 → IsShare (term_of path pay) den s
 zero_share path pay den s nothing amount_is bound_is =
-    rw nothing (record {
-      exact = λ _. (omega arith, one-dvd den);
-      amount_is = amount_is ∙ sym (cc (*ℤ-zero (pos path.weight), zero-*ℤ (pos (den / 1))));
-      bound_is = bound_is ∙ omega arith;
-    })
+    rw nothing (grind (arith, one-dvd, *ℤ-zero, zero-*ℤ))
 
 own_share : (path : Path) (pay : Ratio) (den factor : ℕ) (s : Share)
     → ¬ (unsigned_abs pay.num ≡ 0) → IsFactor (path.den * pay.den) den factor
@@ -34,40 +29,38 @@ own_share path pay den factor s some is amount_is bound_is =
       );
     })
 
--- what fits 128 bits is kept
-
-in_bits : (z y : ℤ) → z ≡ y → FitsSigned w128 y → to_z w128 (of_z w128 z) ≡ y
-in_bits z y is fits = ap (λ (x : ℤ). to_z w128 (of_z w128 x)) is ∙ to_z-of_z w128 y fits
-
-no_size : (z : ℤ) → unsigned_abs z ≡ 0 → z ≡ pos 0
-no_size z none = omega (arith, ints)
-
 pub returns-then-num-eq0-clause-share : goal.returns-then-num-eq0-clause-share
 returns-then-num-eq0-clause-share c =
-    let pay = c.args.payoff in
-    let num_is = in_bits c.num.result pay.num c.num.ensures.value
-    (fits_signed_from_abs w128 pay.num c.num.ensures.fraction.num_within) in
-    zero_share _ _ _ _ (sym num_is ∙ ap (to_z w128) c.if-num-eq0.true) refl refl
+    let nothing : c.args.payoff.num ≡ pos 0 =
+    grind (arith, to_z-of_z, fits_signed_from_abs, c.num.ensures) in
+    zero_share _ _ _ _ nothing refl refl
 
 pub returns-clause-share : goal.returns-clause-share
 returns-clause-share c =
-    let pay = c.args.payoff in
-    let path = c.args.path in
-    let factor = c.in_ok-factor.field-0 in
-    let product = c.in_ok-over.ensures in
-    let amount = c.in_ok-checked_mul.ensures in
-    let num_is = in_bits c.num-2.result pay.num c.num-2.ensures.value
-    (fits_signed_from_abs w128 pay.num c.num.ensures.fraction.num_within) in
-    let scale_is = in_bits c.in-Ok.scale (pos factor) c.in-Ok.ensures.1 c.in-Ok.ensures.0 in
-    let weight_is = in_bits c.in-Ok-try_from.weight (pos path.weight)
-    c.in-Ok-try_from.ensures.1 c.in-Ok-try_from.ensures.0 in
-    let over_is : to_z w128 (of_z w128 c.in_ok-over.over) ≡ pay.num *ℤ pos factor =
-    in_bits c.in_ok-over.over _ product.1 product.0 ∙ (λ i. num_is i *ℤ scale_is i) in
-    own_share path pay c.args.den factor _
-    (λ none. c.if-num-eq0.false (ap (of_z w128) (c.num.ensures.value ∙ no_size pay.num none)))
-    (subst (λ (n : ℕ). IsFactor n c.args.den factor)
-    (c.in_ok-own.ensures.1 ∙ ap (λ (n : ℕ). path.den * n) c.den.ensures.value)
+    own_share c.args.path c.args.payoff c.args.den c.in_ok-factor.field-0 _
+    (λ none. c.if-num-eq0.false (grind (arith, ints, c.num.ensures)))
+    (subst (λ (n : ℕ). IsFactor n c.args.den c.in_ok-factor.field-0)
+    (c.in_ok-own.ensures.1 ∙ ap (λ (n : ℕ). c.args.path.den * n) c.den.ensures.value)
     c.in_ok-factor.ensures)
-    (in_bits c.in_ok-checked_mul.field-0 _ amount.1 amount.0 ∙ (λ i. weight_is i *ℤ over_is i))
-    (c.in_ok-checked_mul-2.ensures.1
-    ∙ ap (λ (n : ℕ). path.bound * n) (c.unsigned_abs.ensures.value ∙ ap unsigned_abs over_is))
+    (grind (
+      arith,
+      to_z-of_z,
+      fits_signed_from_abs,
+      c.in_ok-checked_mul.ensures,
+      c.in_ok-over.ensures,
+      c.in-Ok.ensures,
+      c.in-Ok-try_from.ensures,
+      c.num.ensures,
+      c.num-2.ensures,
+    ))
+    (grind (
+      arith,
+      to_z-of_z,
+      fits_signed_from_abs,
+      c.in_ok-checked_mul-2.ensures,
+      c.unsigned_abs.ensures,
+      c.in_ok-over.ensures,
+      c.in-Ok.ensures,
+      c.num.ensures,
+      c.num-2.ensures,
+    ))

@@ -11,5 +11,5 @@ returns-clause-shares c =
 
 pub returns-clause-ordered : goal.returns-clause-ordered
 returns-clause-ordered c =
-    IsNonDecreasingBy-from_sort_by_key (λ (r : Reached). r.path.demands) _
+    IsNonDecreasingBy-from_sort_by_key (λ (r : Reached). r.demands) _
     c.sort_unstable_by_key-2.ensures.sorted (λ a r f k. search rules)

@@ -4,15 +4,11 @@ use Rattle.gf_form.proofs.lemmas.strategies.CountedActions.{actions_in, actions_
 use Rattle.gf_form.proofs.lemmas.strategies.PickedProfiles.{one_written}
 use Rattle.gf_form.proofs.strategies.profile.write_strategies.Goals as goal
 
-pub of_player-whole-requires : goal.of_player-whole-requires
-of_player-whole-requires c =
-    (c.requires.within.0, c.requires.within.1, omega (arith, c.loop-place-test.true))
-
 pub loop-place-preserved : goal.loop-place-preserved
 loop-place-preserved c =
     let counts = c.requires.within.1 in
     let given = c.of_player-whole.ensures.counts c.requires.within.0 counts in
     let own = actions_of _ _ counts c.loop-place.place (omega (arith, c.loop-place-test.true)) in
     rw map-set (one_written (actions_in c.args.counts.now) _ _ c.loop-place.rest _ _ _
-    (grind (arith, length-map)) (cc (given.0, given.1, own))
-    (cc (given.0, own, c.in_ok-write_strategy.ensures)) c.loop-place.invariant)
+    (grind (arith, length-map)) (cc (given, own))
+    (cc (given, own, c.in_ok-write_strategy.ensures)) c.loop-place.invariant)

@@ -1,5 +1,5 @@
 use Rattle.gf_form.proofs.Common.{arith, cases_lt, length-map}
-use Rattle.gf_form.proofs.lemmas.strategies.ActionCounts.{choice_at, choice_by_places}
+use Rattle.gf_form.proofs.lemmas.strategies.CountedActions.{action_within, choice_by_places}
 use Rattle.gf_form.proofs.lemmas.strategies.CountedActions.{count_at}
 use Rattle.gf_form.proofs.strategies.valid.is_strategy.Goals as goal
 
@@ -10,7 +10,8 @@ pub returns-then-action-eq0 : goal.returns-then-action-eq0
 returns-then-action-eq0 c = (
   λ f. absurd cc,
   λ all.
-      let here = choice_at c.args.strategy.now _ c.loop-before.before all c.loop-before-test.true in
+      let here = action_within c.args.strategy.now _ c.loop-before.before all
+      c.loop-before-test.true in
       absurd (grind (arith, count_at)),
 )
 

@@ -1,4 +1,4 @@
-use Rattle.gf_form.proofs.lemmas.values.PayoffsGiven.{have_values}
+use Rattle.gf_form.proofs.lemmas.values.BottomUp.{have_values}
 use Rattle.gf_form.proofs.values.expectation.expected_with.Goals as goal
 
 pub returns-clause-values : goal.returns-clause-values

@@ -1,7 +1,8 @@
-use Rattle.gf_form.proofs.Common.{IsChosenAt, AreFoundTo, IsLevel, length, arith, false, subst, ◌≡◌}
-use Rattle.gf_form.proofs.Common.{◌+◌, ◌*◌, ◌/◌, ◌∙◌, ap, ℕ}
+use Rattle.gf_form.proofs.Common.{AreFoundTo, length, arith, subst, ◌≡◌}
+use Rattle.gf_form.proofs.Common.{◌+◌, ◌*◌, ◌/◌, ◌∙◌, ap}
 use Rattle.gf_form.proofs.lemmas.reduced.Searches.{next_searched, known_firsts, last_firsts}
-use Rattle.gf_form.proofs.lemmas.reduced.Searches.{none_found, all_found, no_digits}
+use Rattle.gf_form.proofs.lemmas.reduced.Searches.{none_found, all_found}
+use Rattle.std.proofs.lemmas.List.{nil_from_length}
 use Rattle.gf_form.proofs.reduced.first.Search.+push_below.Goals as goal
 
 pub push_all-requires-clause-firsts : goal.push_all-requires-clause-firsts
@@ -13,7 +14,7 @@ pub push_all-requires-in_default-clause-firsts
     : goal.push_all-requires-in_default-clause-firsts
 push_all-requires-in_default-clause-firsts t c =
     last_firsts _ c.requires.is_game _ _ c.requires.below.all_are c.requires.below
-    c.in_ok-mark.ensures (no_digits _ c.in_default.ensures.cases)
+    c.in_ok-mark.ensures (nil_from_length _ c.in_default.ensures.cases)
     ((rw c.deref-2.ensures.value at c.are_set-2.ensures.set) c.if-not-are_set.false)
 
 pub returns-then-not-are_set : goal.returns-then-not-are_set
@@ -27,13 +28,9 @@ returns-then-not-are_set t c = record {
 pub push_below-requires : goal.push_below-requires
 push_below-requires t c =
     let r = c.requires in
-    let left = c.choose_at.new.self in
     let next = next_searched (rw c.in-Some.ensures.cases.0 at r.below) c.loop-before.before
-    (omega (arith, c.loop-before-test.true, c.actions_tried-tried.ensures.upto)) left
-    (subst (λ (sets : ℕ). IsLevel sets left) r.below.told.levelled.counted
-    c.in_ok-choose_at.ensures.level)
-    (subst (λ (a : ℕ). IsChosenAt c.args.depth c.in-Some.digit.now.step a c.args.level.now left)
-    c.from.ensures c.in_ok-choose_at.ensures.chosen) in (
+    (omega (arith, c.loop-before-test.true, c.actions_tried-tried.ensures.upto))
+    c.in_ok-choose_at.ensures.level c.from.ensures c.in_ok-choose_at.ensures.chosen in (
       omega (arith, c.decreases, ap length c.in-Some.ensures.cases.0),
       (r.is_game, (next, c.loop-before.invariant)),
     )

@@ -1,23 +1,20 @@
-use Rattle.gf_form.proofs.Common.{AreLabelledTo, IsChosen, IsLevel, length, arith, subst, ◌≡◌, ◌+◌}
+use Rattle.gf_form.proofs.Common.{AreLabelledTo, length, arith, subst, ◌≡◌, ◌+◌}
 use Rattle.gf_form.proofs.Common.{◌*◌, ◌/◌, ◌∙◌, ap, ℕ}
-use Rattle.gf_form.proofs.lemmas.reduced.Searches.{next_shown, no_digits, all_rows}
+use Rattle.gf_form.proofs.lemmas.reduced.Searches.{next_told, all_rows}
+use Rattle.std.proofs.lemmas.List.{nil_from_length}
 use Rattle.gf_form.proofs.reduced.labels.Labelling.+push_below.Goals as goal
 
 pub push_label-requires-clause-last : goal.push_label-requires-clause-last
 push_label-requires-clause-last t c =
-    let below = rw (no_digits _ c.in_default.ensures.cases) at c.requires.below in
+    let below = rw (nil_from_length _ c.in_default.ensures.cases) at c.requires.below in
     rw below.choices.counted at below
 
 pub push_below-requires : goal.push_below-requires
 push_below-requires t c =
     let r = c.requires in
-    let left = c.choose.new.self in
-    let next = next_shown (rw c.in-Some.ensures.cases.0 at r.below) c.loop-before.before
-    c.loop-before-test.true left
-    (subst (λ (sets : ℕ). IsLevel sets left) r.below.told.levelled.counted
-    c.in_ok-choose.ensures.level)
-    (subst (λ (a : ℕ). IsChosen c.in-Some.digit.now.step a c.args.level.now left) c.from.ensures
-    c.in_ok-choose.ensures.chosen) in
+    let next = next_told (rw c.in-Some.ensures.cases.0 at r.below) c.loop-before.before
+    c.loop-before-test.true c.in_ok-choose.ensures.level c.from.ensures
+    c.in_ok-choose.ensures.chosen in
     let due = c.is_next_below.ensures.below c.if-not-is_next_below.false in (
       omega (arith, c.decreases, ap length c.in-Some.ensures.cases.0),
       (r.is_game, (r.counts, (r.whole, (next, (r.ordered, (due, c.loop-before.invariant)))))),

@@ -1,20 +1,8 @@
-use Rattle.gf_form.proofs.Common.{action_counts, reduced_label, all_choices, label_of, numbered, []}
-use Rattle.gf_form.proofs.Common.{product, get_or, length, arith, shown, List, ◌≡◌, ◌∙◌, sym, ap, ℕ}
-use Rattle.gf_form.proofs.lemmas.reduced.Searches.{one_label_more, known_fit, label_is}
-use Rattle.gf_form.proofs.lemmas.strategies.Choices.{length-all_choices}
+use Rattle.gf_form.proofs.Common.{reduced_label, all_choices, label_of, numbered, []}
+use Rattle.gf_form.proofs.Common.{get_or, shown, List, ◌≡◌, ◌∙◌, ap, ℕ}
+use Rattle.gf_form.proofs.lemmas.reduced.Searches.{one_label_more, label_is}
 use Rattle.gf_form.proofs.reduced.labels.Labelling.push_label.Goals.{After-deref-2}
 use Rattle.gf_form.proofs.reduced.labels.Labelling.push_label.Goals as goal
-
-pub write_strategy-requires-clause-within : goal.write_strategy-requires-clause-within
-write_strategy-requires-clause-within c =
-    let counts = action_counts c.args.player.now.game.now c.args.player.now.number in
-    omega (
-      arith,
-      c.requires.whole,
-      ap product c.requires.counts,
-      c.requires.last.choices.end,
-      length-all_choices counts,
-    )
 
 strategy_is : (c : goal.After-deref-2) → c.deref-2.result.now
     ≡ numbered c.args.player.now.game.now c.args.player.now.number c.args.number
@@ -36,10 +24,3 @@ returns c =
           c.mark.new.met.items c.in_ok-mark.ensures)
           c.in_ok-push.ensures.ok;
     }
-
-pub write_label-requires : goal.write_label-requires
-write_label-requires c =
-    ap length c.deref.ensures.value
-    ∙ c.in_ok-mark.ensures.counted
-    ∙ known_fit _ c.requires.is_game _ _ _ c.requires.last
-    ∙ sym (ap length (strategy_is (goal.at.write_label-requires c).After-deref-2))

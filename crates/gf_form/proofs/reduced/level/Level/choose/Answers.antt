@@ -1,11 +1,11 @@
 use Rattle.gf_form.proofs.Common.{arith, refl, ◌∙◌}
-use Rattle.gf_form.proofs.lemmas.reduced.LevelsChosen.{none_taken, all_taken, one_taken}
+use Rattle.gf_form.proofs.lemmas.reduced.LevelsChosen.{all_taken, one_taken}
 use Rattle.gf_form.proofs.reduced.level.Level.choose.Goals as goal
 
 pub loop-visit-init : goal.loop-visit-init
 loop-visit-init c =
-    none_taken c.args.step c.args.action c.args.from.now c.parts_of-parts.result _
-    (rw c.deref-2.ensures.value at c.parts_of-parts.ensures) (grind arith) c.clear.ensures.items
+    let are = rw c.deref-2.ensures.value at c.parts_of-parts.ensures in
+    grind (arith, are, c.clear.ensures.items)
 
 pub loop-visit-preserved : goal.loop-visit-preserved
 loop-visit-preserved c =

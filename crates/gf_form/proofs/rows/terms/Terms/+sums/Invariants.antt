@@ -1,6 +1,5 @@
-use Rattle.gf_form.proofs.Common.{◌+◌, ◌*◌, ◌≡◌, length, actions_at, AreAlike, AreOrdered}
-use Rattle.gf_form.proofs.Common.{EndsBelow, IsShaped, all_terms}
-use Rattle.gf_form.specs.inner.rows.TermLists.{AreWithin}
+use Rattle.gf_form.proofs.Common.{◌+◌, ◌*◌, ◌≡◌, length, actions_at, AreAlike, EndsBelow, all_terms}
+use Rattle.gf_form.specs.inner.rows.TermLists.{AreInOrder, AreWithin}
 use Rattle.gf_form.proofs.lemmas.rows.ChoiceSums.{Summing}
 use Rattle.gf_form.proofs.rows.terms.Terms.+sums.Given as goal
 
@@ -15,11 +14,10 @@ decreases-push_each l = 3 * length l.faster.now + 1
 
 abbrev pub invariant-push_each-loop-before : goal.invariant-push_each-loop-before
 invariant-push_each-loop-before l = record {
-  summing : Summing l.slowest.step (actions_at l.faster) (all_terms l.from) l.least l.before
+  summing : Summing (actions_at l.faster) (all_terms l.from) l.least l.before
       (all_terms l.fn.self) (all_terms l.self);
-  shaped : IsShaped l.self;
   alike : AreAlike l.self l.fn.self;
-  ordered : AreOrdered l.self;
+  order : AreInOrder l.self;
   ends : EndsBelow l.self.demands.items (l.least + (l.before + 1) * l.slowest.step);
   level : l.level.players ≡ l.from.players;
   within : AreWithin l.from.demands.items l.chosen;

@@ -1,6 +1,8 @@
-use Rattle.gf_form.proofs.Common.{◌∙◌, arith}
-use Rattle.gf_form.proofs.lemmas.rows.Merges.{both_go, first_merge, free_goes, last_merge, own_goes}
-use Rattle.gf_form.proofs.lemmas.rows.Merges.{demands_read}
+use Rattle.gf_form.proofs.Common.{◌∙◌, ◌≤◌, arith, on_ok_weaker}
+use Rattle.gf_form.proofs.lemmas.rows.Merges.{both_go, first_merge, free_goes, own_goes}
+use Rattle.gf_form.proofs.lemmas.rows.Merges.{demands_read, frees_left, owns_left}
+use Rattle.gf_form.proofs.rows.terms.Terms.merge.Goals.{else-loop-free-test}
+use Rattle.gf_form.proofs.rows.terms.Terms.merge.Goals.{then-loop-free-test+else-own-chosen}
 use Rattle.gf_form.proofs.rows.terms.Terms.merge.Goals as goal
 
 pub loop-free-init : goal.loop-free-init
@@ -14,13 +16,13 @@ overflow_sub-goes c = grind (arith, demands_read)
 
 pub loop-free-preserved-then-stays-goes : goal.loop-free-preserved-then-stays-goes
 loop-free-preserved-then-stays-goes c =
-    both_go c.requires.ordered c.loop-free.invariant c.in_ok-push_sum.ensures.alike
+    both_go c.requires.order.1 c.loop-free.invariant c.in_ok-push_sum.ensures.alike
     c.in_ok-push_sum.ensures.shaped c.loop-free-test.true c.if-own-chosen.true
     (grind (arith, demands_read)) c.in_ok-push_sum.ensures.sum
 
 pub loop-free-preserved-then-stays-goes-2 : goal.loop-free-preserved-then-stays-goes-2
 loop-free-preserved-then-stays-goes-2 c =
-    free_goes c.requires.ordered c.loop-free.invariant c.in_ok-push.ensures.alike
+    free_goes c.requires.order.1 c.loop-free.invariant c.in_ok-push.ensures.alike
     c.in_ok-push.ensures.shaped c.loop-free-test.true (λ _. grind (arith, demands_read))
     c.in_ok-push.ensures.pushed
 
@@ -29,30 +31,25 @@ push-requires-else-stays-goes-2-clause-less c = grind arith
 
 pub loop-free-preserved : goal.loop-free-preserved
 loop-free-preserved c =
-    own_goes c.requires.ordered c.loop-free.invariant c.in_ok-push-2.ensures.alike
+    own_goes c.requires.order.1 c.loop-free.invariant c.in_ok-push-2.ensures.alike
     c.in_ok-push-2.ensures.shaped c.if-own-chosen.true (λ _. grind (arith, demands_read))
     c.in_ok-push-2.ensures.pushed
 
-pub loop-free-2-preserved : goal.loop-free-2-preserved
-loop-free-2-preserved c =
-    let past = c.loop-free-2.invariant.1 c.loop-free-2-test.true in (
-      free_goes c.requires.ordered c.loop-free-2.invariant.0 c.in_ok-push-3.ensures.alike
-          c.in_ok-push-3.ensures.shaped c.loop-free-2-test.true
-          (λ less. absurd (omega (arith, less, past))) c.in_ok-push-3.ensures.pushed,
-      λ _. past,
-    )
-
-pub push-requires-in-loop-own-clause-less : goal.push-requires-in-loop-own-clause-less
-push-requires-in-loop-own-clause-less c = grind arith
-
-pub loop-own-preserved : goal.loop-own-preserved
-loop-own-preserved c =
-    own_goes c.requires.ordered c.loop-own.invariant c.in_ok-push-4.ensures.alike
-    c.in_ok-push-4.ensures.shaped c.loop-own-test.true
-    (λ less. absurd (omega (arith, less, c.loop-free-2-test.false)))
-    c.in_ok-push-4.ensures.pushed
+pub returns-then-own-chosen-2-clause-merged : goal.returns-then-own-chosen-2-clause-merged
+returns-then-own-chosen-2-clause-merged c =
+    let past : c.args.chosen.free ≤ c.loop-free.free = elim c.loop-free-test.branch [
+      | then-loop-free-test+else-own-chosen w ↦ omega (
+        arith,
+        w.if-own-chosen.false,
+        c.if-own-chosen-2.true,
+      )
+      | else-loop-free-test w ↦ w.loop-free-test.false
+    ] in
+    on_ok_weaker c.push_part.result
+    (owns_left c.push_part.new.self c.loop-free.invariant past) c.push_part.ensures.pushed
 
 pub returns-clause-merged : goal.returns-clause-merged
 returns-clause-merged c =
-    last_merge _ _ _ _ _ _ _ _ _ c.loop-own.invariant c.loop-free-2-test.false
-    c.loop-own-test.false
+    on_ok_weaker c.push_part-2.result
+    (frees_left c.push_part-2.new.self c.loop-free.invariant c.if-own-chosen-2.false)
+    c.push_part-2.ensures.pushed

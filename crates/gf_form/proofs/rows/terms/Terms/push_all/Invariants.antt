@@ -1,5 +1,9 @@
-use Rattle.gf_form.proofs.lemmas.rows.PushedTerms.{Giving}
+use Rattle.gf_form.proofs.Common.{EndsBelow, first_terms, with_demands}
+use Rattle.gf_form.proofs.lemmas.rows.PushedTerms.{Pushing}
 use Rattle.gf_form.proofs.rows.terms.Terms.push_all.Given as goal
 
 abbrev pub invariant-loop-place : goal.invariant-loop-place
-invariant-loop-place l = Giving l.from l.demands l.place l.fn.self l.self
+invariant-loop-place l = record {
+  pushing : Pushing (with_demands l.demands) (first_terms l.from l.place) l.fn.self l.self;
+  ends : EndsBelow l.self.demands.items l.demands;
+}

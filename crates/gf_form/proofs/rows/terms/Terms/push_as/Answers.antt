@@ -1,5 +1,5 @@
 use Rattle.gf_form.proofs.Common.{term_at, with_demands, Global, ◌∙◌, Vec, sym, ap, ℤ}
-use Rattle.gf_form.proofs.lemmas.rows.FlatRows.{Pushed, is_pushed, row_in_bound, row_length}
+use Rattle.gf_form.proofs.lemmas.rows.FlatRows.{Pushed, is_pushed, row_length}
 use Rattle.gf_form.proofs.rows.terms.Terms.push_as.Goals as goal
 
 made : (c : goal.In_ok-push_like) → Pushed c.args.self.now c.push_like.new.self
@@ -12,9 +12,8 @@ made c =
     let after = c.in_ok-push_like.ensures in
     is_pushed c.args.self.now c.push_like.new.self
     (with_demands c.args.demands (term_at from place)) c.requires.shaped.0
-    (row_in_bound from place shaped within)
     (row_length from place shaped within ∙ sym c.requires.alike.0) after.alike.0
-    (record { kept = after.noted.kept; next = after.noted.next }) after.demands
+    after.noted after.demands
     after.scaled (ap (λ (v : Vec ℤ Global). v.items) after.numbers
     ∙ rw c.row.ensures at c.in_ok-push_few.ensures)
 

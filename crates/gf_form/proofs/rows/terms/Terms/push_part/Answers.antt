@@ -1,16 +1,28 @@
-use Rattle.gf_form.proofs.Common.{arith, ◌≡◌}
-use Rattle.gf_form.proofs.lemmas.rows.PushedTerms.{more_parting}
+use Rattle.gf_form.proofs.Common.{arith, lowered, term_at, ◌-◌, ◌≡◌}
+use Rattle.gf_form.proofs.lemmas.rows.Merges.{skips, waits}
+use Rattle.gf_form.proofs.lemmas.rows.PushedTerms.{more_pushing, part_more}
 use Rattle.gf_form.proofs.rows.terms.Terms.push_part.Goals as goal
 
 pub loop-place-preserved : goal.loop-place-preserved
 loop-place-preserved c =
-    more_parting c.args.from.now c.args.start c.args.end c.loop-place.place c.args.self.now
-    c.loop-place.self c.push.new.self c.requires.ordered.1 (omega (arith, c.loop-place.auto.place))
-    c.loop-place-test.true c.loop-place.invariant c.in_ok-push.ensures.pushed
-    c.in_ok-push.ensures.alike c.in_ok-push.ensures.shaped
+    let from = c.args.from.now in
+    let place = c.loop-place.place in
+    let before = c.loop-place.invariant in
+    let less = c.loop-place-test.true in
+    let more = c.in_ok-push.ensures in
+    record {
+      pushing = more_pushing (lowered c.args.less) _ _ (term_at from place) c.args.self.now
+          c.loop-place.self c.push.new.self (part_more from c.args.start place
+          (omega (arith, c.loop-place.auto.place)) (omega (arith, less, before.may.within)))
+          before.pushing more.pushed more.alike more.shaped (before.may.rises less);
+      near = omega (arith, less, c.loop-place.auto.place);
+      may = skips c.requires.order.1.1 (waits c.loop-place.self c.push.new.self
+          (lowered c.args.less (term_at from place)) more.pushed before.may (λ _. omega arith))
+          less;
+    }
 
 pub returns-clause-pushed : goal.returns-clause-pushed
 returns-clause-pushed c =
-    let past : c.loop-place.place ≡ c.args.end =
-    omega (arith, c.loop-place-test.false, c.loop-place.auto.place, c.requires.places) in
-    cc (c.loop-place.invariant.is)
+    let past : c.loop-place.place - c.args.start ≡ c.args.end - c.args.start =
+    omega (arith, c.loop-place-test.false, c.loop-place.auto.place) in
+    cc (c.loop-place.invariant.pushing.is)

@@ -1,5 +1,11 @@
-use Rattle.gf_form.proofs.lemmas.rows.PushedTerms.{Parting}
+use Rattle.gf_form.proofs.Common.{◌+◌, ◌-◌, ◌≤◌, all_terms, lowered, part}
+use Rattle.gf_form.specs.inner.rows.TermLists.{MayCome}
+use Rattle.gf_form.proofs.lemmas.rows.PushedTerms.{Pushing}
 use Rattle.gf_form.proofs.rows.terms.Terms.push_part.Given as goal
 
 abbrev pub invariant-loop-place : goal.invariant-loop-place
-invariant-loop-place l = Parting l.from l.start l.end l.place l.fn.self l.self
+invariant-loop-place l = record {
+  pushing : Pushing (lowered l.less) (part l.start l.place (all_terms l.from)) l.fn.self l.self;
+  near : l.place ≤ l.start + (l.end - l.start);
+  may : MayCome l.from l.self l.less l.place l.end;
+}

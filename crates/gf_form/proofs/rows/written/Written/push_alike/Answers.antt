@@ -17,7 +17,7 @@ loop-before-preserved c =
     let more = c.in_ok-push_to.ensures.row c.if-branch.true in
     next_row asked c.requires.due.0.counts.is_game c.requires.due.0.spellable before t.players
     c.in-Some.pair c.loop-before.self _ c.in_ok-row.row.items c.push_to.new.rows.items
-    (omega (arith, less, c.requires.due.2)) c.requires.terms.2
+    (omega (arith, less, c.requires.due.2)) c.requires.terms.1
     (paid_alike asked.game.now c.requires.settles.0 t c.args.run.first
     (get_or asked.numbers.now before 0) c.len-all.result c.in-Some.pair c.requires.alike.0
     c.requires.alike.1 (omega (arith, c.len-all.ensures, t.demands.ok.0))
