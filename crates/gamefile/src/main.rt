@@ -6,7 +6,7 @@ use arguments::job_asked;
 use gf_run::{
     Asked, Collection, Counted, Erasing, Shown, answer, perform, perform_explained, run_collection,
 };
-use std::io::{IsTerminal, Stdout};
+use std::io::{IsTerminal, Stderr, Stdout};
 use std::process::ExitCode;
 
 mod arguments;
@@ -35,18 +35,30 @@ fn run_over(rt: &HostRuntime, files: &Collection) -> u8 {
     run_collection(rt, files, &mut progress, &mut output, &mut errors)
 }
 
+/// Does what is asked, and returns the exit status.
+fn run_asked(
+    rt: &HostRuntime,
+    asked: Asked,
+    output: &mut Counted<Stdout>,
+    errors: &mut Counted<Stderr>,
+) -> u8 {
+    match asked {
+        Asked::Job { job, explain } => {
+            if explain {
+                perform_explained(rt.alloc(), rt, &job, output, errors)
+            } else {
+                perform(rt.alloc(), rt, &job, output, errors)
+            }
+        }
+        Asked::Files(files) => run_over(rt, &files),
+    }
+}
+
 fn main(rt: HostRuntime) -> ExitCode {
     let mut output = Counted::new(rt.stdout());
     let mut errors = Counted::new(rt.stderr());
     ExitCode::from(match job_asked(&rt) {
-        Ok(Asked::Job { job, explain }) => {
-            if explain {
-                perform_explained(rt.alloc(), &rt, &job, &mut output, &mut errors)
-            } else {
-                perform(rt.alloc(), &rt, &job, &mut output, &mut errors)
-            }
-        }
-        Ok(Asked::Files(files)) => run_over(&rt, &files),
+        Ok(asked) => run_asked(&rt, asked, &mut output, &mut errors),
         Err(fault) => answer(&fault, &mut output, &mut errors),
     })
 }
