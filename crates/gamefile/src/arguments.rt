@@ -1,7 +1,7 @@
 //! The arguments that the program was started with.
 
-use crate::words::parse_words;
-use gf_run::{Asked, WordsFault};
+use crate::command_line::parse;
+use gf_run::{Asked, ArgumentsFault};
 use std::alloc::Global;
 use std::env;
 use std::env::FillError;
@@ -34,22 +34,22 @@ impl<R: Env> Env for AfterName<'_, R> {
 }
 
 /// Why there are no arguments. Those that are not UTF-8 are wrong usage.
-fn no_words(alloc: Global, kind: ErrorKind) -> WordsFault {
+fn no_arguments(alloc: Global, kind: ErrorKind) -> ArgumentsFault {
     match (kind, String::from_str(alloc, NOT_UTF8)) {
-        (ErrorKind::InvalidData, Ok(text)) => WordsFault::Usage(text),
-        _ => WordsFault::Memory,
+        (ErrorKind::InvalidData, Ok(text)) => ArgumentsFault::Usage(text),
+        _ => ArgumentsFault::Memory,
     }
 }
 
-fn words_given<R: Env>(rt: &R, alloc: Global) -> Result<Vec<String>, WordsFault> {
+fn arguments_given<R: Env>(rt: &R, alloc: Global) -> Result<Vec<String>, ArgumentsFault> {
     match env::args(&(AfterName { rt }, alloc)) {
-        Ok(words) => Ok(words.collect(alloc)?),
-        Err(error) => Err(no_words(alloc, error.kind())),
+        Ok(arguments) => Ok(arguments.collect(alloc)?),
+        Err(error) => Err(no_arguments(alloc, error.kind())),
     }
 }
 
 /// What the program was started for.
-pub fn job_asked<R: Env + AllocGlobal>(rt: &R) -> Result<Asked, WordsFault> {
-    let words = words_given(rt, rt.alloc())?;
-    parse_words(rt.alloc(), words.as_slice())
+pub fn job_asked<R: Env + AllocGlobal>(rt: &R) -> Result<Asked, ArgumentsFault> {
+    let arguments = arguments_given(rt, rt.alloc())?;
+    parse(rt.alloc(), arguments.as_slice())
 }

@@ -10,9 +10,9 @@ use std::io::{IsTerminal, Stderr, Stdout};
 use std::process::ExitCode;
 
 mod arguments;
+mod command_line;
 mod commands;
 mod help;
-mod words;
 
 /// Whether standard error is a terminal on which it is shown how many files are done.
 fn is_told(rt: &HostRuntime, files: &Collection) -> bool {

@@ -7,8 +7,8 @@ use Rattle.gf_run.specs.FaultStatus.{status_of}
 use Rattle.gf_run.specs.Output.{IsWriteFault, IsWritten}
 use Rattle.gf_run.specs.declared.fault.RunFault.{RunFault}
 use Rattle.gf_run.specs.declared.fault.RunFault.TheVariants.{Write, Memory}
-use Rattle.gf_run.specs.declared.asked.WordsFault.{WordsFault}
-use Rattle.gf_run.specs.declared.asked.WordsFault.TheVariants as words
+use Rattle.gf_run.specs.declared.asked.ArgumentsFault.{ArgumentsFault}
+use Rattle.gf_run.specs.declared.asked.ArgumentsFault.TheVariants as arguments
 
 -- for a writer: the bytes that it took, if it reports them, its count of failures, and what a push
 -- gives
@@ -32,12 +32,12 @@ module _ {S T : Type 0} (contents : S → Option (List ℕ)) (count : S → ℕ)
     (count' : T → ℕ) (gives' : T → List ℕ → Result ℕ Error → T → Type 0) where
   -- Arguments that name no job are answered with this status: help is written to standard output;
   -- for wrong usage, and if memory ran out, a text is written to standard error only.
-  abbrev pub IsAnswered : WordsFault → ℕ → S → S → T → T → Type 0
-  IsAnswered (words.Help text) status old new old' new' = EndsBy contents' count' gives'
+  abbrev pub IsAnswered : ArgumentsFault → ℕ → S → S → T → T → Type 0
+  IsAnswered (arguments.Help text) status old new old' new' = EndsBy contents' count' gives'
       (λ done. (done ≡ 0) × IsWritten contents gives old new (string_bytes text))
       (λ fault. (fault ≡ Write) × IsWriteFault contents count gives old new (string_bytes text))
       status old' new'
-  IsAnswered (words.Usage text) status old new old' new' = (status ≡ 3) × (new ≡ old)
+  IsAnswered (arguments.Usage text) status old new old' new' = (status ≡ 3) × (new ≡ old)
       × IsTold contents' count' gives' (string_bytes text) old' new'
-  IsAnswered words.Memory status old new old' new' = (status ≡ 5) × (new ≡ old)
+  IsAnswered arguments.Memory status old new old' new' = (status ≡ 5) × (new ≡ old)
       × IsTold contents' count' gives' (fault_line Memory) old' new'

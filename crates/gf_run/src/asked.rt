@@ -1,7 +1,7 @@
 //! What the arguments ask for, or why they ask for nothing.
 
 ghost use Rattle.std.specs.Prelude.{◌≡◌};
-ghost use Rattle.gf_run.specs.declared.asked.WordsFault.TheVariants.{Memory};
+ghost use Rattle.gf_run.specs.declared.asked.ArgumentsFault.TheVariants.{Memory};
 
 use gf_canon::Names;
 use std::alloc::AllocError;
@@ -48,7 +48,7 @@ pub enum Paths {
     /// Nothing does: it is standard input.
     Standard,
     /// The files and folders of these names.
-    Words(Vec<Vec<u8>>),
+    Named(Vec<Vec<u8>>),
     /// The files and folders in this list, in which each name ends with this byte.
     List { list: Input, end: u8 },
 }
@@ -76,7 +76,7 @@ pub enum Asked {
 
 /// Why the arguments ask for no job.
 #[derive(Drop)]
-pub enum WordsFault {
+pub enum ArgumentsFault {
     /// Help or the version is asked for, and this is its text.
     Help(String),
     /// The arguments are wrong, and this text says how.
@@ -85,10 +85,10 @@ pub enum WordsFault {
     Memory,
 }
 
-impl From<AllocError> for WordsFault {
+impl From<AllocError> for ArgumentsFault {
     ghost from_gives = { λ _ fault. fault ≡ Memory };
 
-    fn from(_: AllocError) -> WordsFault {
-        WordsFault::Memory
+    fn from(_: AllocError) -> ArgumentsFault {
+        ArgumentsFault::Memory
     }
 }

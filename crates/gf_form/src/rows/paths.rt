@@ -84,10 +84,10 @@ impl Path {
     {
         let outcome = branch.outcome_position();
         if self.bound > 0 {
-            return self.to(outcome);
+            return self.last_node(outcome);
         }
         if !is_sum(branch) {
-            return self.to(0);
+            return self.last_node(0);
         }
         let path = Path {
             weight: self.weight,
@@ -95,12 +95,12 @@ impl Path {
             den: 1,
             demands: self.demands,
         };
-        path.to(outcome)
+        path.last_node(outcome)
     }
 
     /// The node at the end of this path, with this outcome.
     #[inline(always)]
-    pub(crate) fn to(self, outcome: u32) -> Reached
+    pub(crate) fn last_node(self, outcome: u32) -> Reached
         ensures { result ≡ record {
           weight = self.weight;
           bound = self.bound;

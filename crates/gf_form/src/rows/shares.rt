@@ -87,10 +87,10 @@ impl Reached {
                 den: 0,
                 demands: self.demands,
             };
-            *self = unknown.to(self.outcome);
+            *self = unknown.last_node(self.outcome);
             return true;
         };
-        *self = sum.to(self.outcome);
+        *self = sum.last_node(self.outcome);
         true
     }
 }

@@ -53,7 +53,7 @@ pub fn files_at<R: Inputs + Files + AllocGlobal>(
             files.push_reserved(Input::Standard);
             Ok(files)
         }
-        Paths::Words(words) => files_below(rt, words.as_slice()),
+        Paths::Named(names) => files_below(rt, names.as_slice()),
         Paths::List { list, end } => {
             let names = names_in(rt, list, *end)?;
             files_below(rt, names.as_slice())

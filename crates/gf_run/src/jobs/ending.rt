@@ -5,7 +5,7 @@ ghost use Rattle.gf_run.specs.Ending.{IsAnswered, IsTold};
 ghost use Rattle.gf_run.specs.FaultLine.{fault_line};
 ghost use Rattle.gf_run.specs.FaultStatus.{status_of};
 
-use crate::asked::WordsFault;
+use crate::asked::ArgumentsFault;
 use crate::fault;
 use crate::fault::RunFault;
 use crate::streams::sink::{Sink, push_all};
@@ -30,19 +30,19 @@ pub fn tell<E: Sink>(fault: &RunFault, errors: &mut E) -> u8
 /// - `Usage`: 3, and the text is written to standard error. The status stays the same if that
 ///   fails.
 /// - `Memory`: 5, and the line of E19.
-pub fn answer<W: Sink, E: Sink>(fault: &WordsFault, output: &mut W, errors: &mut E) -> u8
+pub fn answer<W: Sink, E: Sink>(fault: &ArgumentsFault, output: &mut W, errors: &mut E) -> u8
     ensures { IsAnswered W.contents W.count W.push_gives E.contents E.count E.push_gives
         fault.now result output.old output.new errors.old errors.new }
 {
     match fault {
-        WordsFault::Help(text) => match push_all(output, text.as_bytes()) {
+        ArgumentsFault::Help(text) => match push_all(output, text.as_bytes()) {
             Ok(()) => 0,
             Err(_) => tell(&RunFault::Write, errors),
         },
-        WordsFault::Usage(text) => {
+        ArgumentsFault::Usage(text) => {
             let _ = push_all(errors, text.as_bytes());
             3
         }
-        WordsFault::Memory => tell(&RunFault::Memory, errors),
+        ArgumentsFault::Memory => tell(&RunFault::Memory, errors),
     }
 }

@@ -6,7 +6,7 @@ returns-clause-sum c _ =
     let demands = c.if-self-other.false in
     let outcome = c.if-self-other-2.false in
     let first = c.in-Some.ensures.demands ∙ ap (λ (p : Path). p.demands) c.path.ensures in
-    rw c.to-2.ensures (record {
+    rw c.last_node-2.ensures (record {
       first_demands = first;
       second_demands = omega (arith, demands, first);
       first_outcome = refl;

@@ -5,7 +5,7 @@ use crate::help;
 use clap::error::ErrorKind;
 use clap::{Arg, ArgAction, ArgMatches, Command, Error};
 use gf_canon::Names;
-use gf_run::{Asked, Collection, Input, Job, Paths, WordsFault};
+use gf_run::{Asked, Collection, Input, Job, Paths, ArgumentsFault};
 use std::alloc::{AllocError, Global};
 
 /// An argument that may stand beside any other.
@@ -107,12 +107,12 @@ fn job_of(alloc: Global, name: &str, given: &ArgMatches<'_>) -> Result<Job, Allo
 }
 
 /// The files and folders that arguments name.
-fn words_of(alloc: Global, words: &[&str]) -> Result<Paths, AllocError> {
+fn paths_named(alloc: Global, names: &[&str]) -> Result<Paths, AllocError> {
     let mut paths = Vec::new(alloc);
-    for word in words {
-        paths.push(Vec::from_slice(alloc, word.as_bytes())?)?;
+    for name in names {
+        paths.push(Vec::from_slice(alloc, name.as_bytes())?)?;
     }
-    Ok(Paths::Words(paths))
+    Ok(Paths::Named(paths))
 }
 
 /// The list of names that an argument means; `-` is standard input.
@@ -127,7 +127,7 @@ fn paths_of(alloc: Global, given: &ArgMatches<'_>) -> Result<Paths, AllocError> 
         return list_of(alloc, name, given.get_flag("null"));
     }
     match given.get_strs("FILES") {
-        Some(words) => words_of(alloc, words),
+        Some(names) => paths_named(alloc, names),
         None => Ok(Paths::Standard),
     }
 }
@@ -142,7 +142,7 @@ fn files_of(alloc: Global, name: &str, given: &ArgMatches<'_>) -> Result<Collect
 }
 
 /// What the arguments ask for. With no command it is `canon`, which has no arguments then.
-fn asked_of(alloc: Global, matches: &ArgMatches<'_>) -> Result<Asked, WordsFault> {
+fn asked_of(alloc: Global, matches: &ArgMatches<'_>) -> Result<Asked, ArgumentsFault> {
     let (name, given) = matches.subcommand().unwrap_or(("canon", matches));
     Ok(match name {
         "hash" | "duplicates" => Asked::Files(files_of(alloc, name, given)?),
@@ -155,21 +155,25 @@ fn asked_of(alloc: Global, matches: &ArgMatches<'_>) -> Result<Asked, WordsFault
 
 /// Whether an argument that is not a command looks like the name of a game file. An argument that a
 /// terminal may not show as it is does not.
-fn looks_like_file(word: &str) -> bool {
-    for byte in word.as_bytes() {
+fn looks_like_file(argument: &str) -> bool {
+    for byte in argument.as_bytes() {
         if !byte.is_ascii_graphic() {
             return false;
         }
     }
-    word.ends_with(".efg") || word.ends_with(".nfg")
+    argument.ends_with(".efg") || argument.ends_with(".nfg")
 }
 
 /// Appends the command that was perhaps meant, if the first argument names a file instead.
-fn push_hint(alloc: Global, words: &[String], text: &mut String) -> Result<(), AllocError> {
-    match words.first() {
-        Some(word) if looks_like_file(word.as_str()) => {
+fn push_hint(
+    alloc: Global,
+    arguments: &[String],
+    text: &mut String,
+) -> Result<(), AllocError> {
+    match arguments.first() {
+        Some(first) if looks_like_file(first.as_str()) => {
             text.push_str("\nFor its canonical text: gamefile canon ")?;
-            text.push_str(word.as_str())?;
+            text.push_str(first.as_str())?;
             text.push('\n')
         }
         _ => Ok(()),
@@ -177,19 +181,19 @@ fn push_hint(alloc: Global, words: &[String], text: &mut String) -> Result<(), A
 }
 
 /// What is said about arguments that ask for no job.
-fn text_of(alloc: Global, error: &Error, words: &[String]) -> Result<String, AllocError> {
+fn text_of(alloc: Global, error: &Error, arguments: &[String]) -> Result<String, AllocError> {
     let mut text = error.to_string(alloc)?;
     if error.kind() == ErrorKind::InvalidSubcommand {
-        push_hint(alloc, words, &mut text)?;
+        push_hint(alloc, arguments, &mut text)?;
     }
     Ok(text)
 }
 
-fn fault_of(alloc: Global, error: &Error, words: &[String]) -> WordsFault {
-    match (error.kind(), text_of(alloc, error, words)) {
-        (ErrorKind::OutOfMemory, _) | (_, Err(AllocError)) => WordsFault::Memory,
-        (ErrorKind::DisplayHelp | ErrorKind::DisplayVersion, Ok(text)) => WordsFault::Help(text),
-        (_, Ok(text)) => WordsFault::Usage(text),
+fn fault_of(alloc: Global, error: &Error, arguments: &[String]) -> ArgumentsFault {
+    match (error.kind(), text_of(alloc, error, arguments)) {
+        (ErrorKind::OutOfMemory, _) | (_, Err(AllocError)) => ArgumentsFault::Memory,
+        (ErrorKind::DisplayHelp | ErrorKind::DisplayVersion, Ok(text)) => ArgumentsFault::Help(text),
+        (_, Ok(text)) => ArgumentsFault::Usage(text),
     }
 }
 
@@ -206,9 +210,9 @@ fn fault_of(alloc: Global, error: &Error, words: &[String]) -> WordsFault {
 /// - `Usage`: they ask for nothing of this kind.
 /// - `Memory`: memory ran out. If it ran out while the arguments were judged, `Usage` may come in
 ///   its place.
-pub fn parse_words<'a>(alloc: Global, words: &'a [String]) -> Result<Asked, WordsFault> {
-    match gamefile(alloc)?.try_get_matches_from(words) {
+pub fn parse<'a>(alloc: Global, arguments: &'a [String]) -> Result<Asked, ArgumentsFault> {
+    match gamefile(alloc)?.try_get_matches_from(arguments) {
         Ok(matches) => asked_of(alloc, &matches),
-        Err(error) => Err(fault_of(alloc, &error, words)),
+        Err(error) => Err(fault_of(alloc, &error, arguments)),
     }
 }
