@@ -16,8 +16,7 @@ sources := crates.txt $(shell find crates -name out -prune -o -type f -print)
 all: gamefile
 
 gamefile: $(sources)
-	./prove gf_run
-	cd crates/gamefile && $(RT) run --jobs $$(nproc) -- --version
+	./prove gamefile
 	cp crates/gamefile/out/gamefile .
 
 run: gamefile
@@ -27,8 +26,7 @@ run: gamefile
 library: library/out/libgamefile.so.1
 
 library/out/libgamefile.so.1: $(sources) $(wildcard library/gamefile.*) library/build
-	./prove gf_calls
-	cd crates/gamefile_c && $(RT) lib --jobs $$(nproc)
+	./prove gamefile_c
 	library/build
 
 install: gamefile $(if $(wildcard library/out/libgamefile.so.1),install-library)

@@ -1,7 +1,7 @@
 //! The arguments that the program was started with.
 
 use crate::command_line::parse;
-use gf_run::{Asked, ArgumentsFault};
+use gf_run::{ArgumentsFault, Asked};
 use std::alloc::Global;
 use std::env;
 use std::env::FillError;

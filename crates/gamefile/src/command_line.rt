@@ -5,7 +5,7 @@ use crate::help;
 use clap::error::ErrorKind;
 use clap::{Arg, ArgAction, ArgMatches, Command, Error};
 use gf_canon::Names;
-use gf_run::{Asked, Collection, Input, Job, Paths, ArgumentsFault};
+use gf_run::{ArgumentsFault, Asked, Collection, Input, Job, Paths};
 use std::alloc::{AllocError, Global};
 
 /// An argument that may stand beside any other.
@@ -165,11 +165,7 @@ fn looks_like_file(argument: &str) -> bool {
 }
 
 /// Appends the command that was perhaps meant, if the first argument names a file instead.
-fn push_hint(
-    alloc: Global,
-    arguments: &[String],
-    text: &mut String,
-) -> Result<(), AllocError> {
+fn push_hint(alloc: Global, arguments: &[String], text: &mut String) -> Result<(), AllocError> {
     match arguments.first() {
         Some(first) if looks_like_file(first.as_str()) => {
             text.push_str("\nFor its canonical text: gamefile canon ")?;
@@ -192,7 +188,9 @@ fn text_of(alloc: Global, error: &Error, arguments: &[String]) -> Result<String,
 fn fault_of(alloc: Global, error: &Error, arguments: &[String]) -> ArgumentsFault {
     match (error.kind(), text_of(alloc, error, arguments)) {
         (ErrorKind::OutOfMemory, _) | (_, Err(AllocError)) => ArgumentsFault::Memory,
-        (ErrorKind::DisplayHelp | ErrorKind::DisplayVersion, Ok(text)) => ArgumentsFault::Help(text),
+        (ErrorKind::DisplayHelp | ErrorKind::DisplayVersion, Ok(text)) => ArgumentsFault::Help(
+            text,
+        ),
         (_, Ok(text)) => ArgumentsFault::Usage(text),
     }
 }

@@ -12,7 +12,7 @@ mod opening;
 mod streams;
 mod texts;
 
-pub use asked::{Asked, Collection, Input, Job, Paths, ArgumentsFault};
+pub use asked::{ArgumentsFault, Asked, Collection, Input, Job, Paths};
 pub use collections::collection::run_collection;
 pub use collections::duplicates::run_duplicates;
 pub use collections::hash::run_hash;
