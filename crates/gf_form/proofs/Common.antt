@@ -33,7 +33,7 @@ pub use Rattle.gf_form.specs.declared.rows.written.Asked.{Asked}
 pub use Rattle.gf_form.specs.declared.rows.written.Run.{Run}
 pub use Rattle.gf_form.specs.declared.strategies.counts.Counts.{Counts}
 pub use Rattle.gf_form.specs.inner.reduced.Firsts.{AreFirstsOf, IsPaidAt}
-pub use Rattle.gf_form.specs.inner.reduced.Levels.{ArePositive, IsLevel, is_left, left_of}
+pub use Rattle.gf_form.specs.inner.reduced.Levels.{ArePositive, IsLevel, is_left}
 pub use Rattle.gf_form.specs.inner.reduced.Levels.{can_be_met, IsChosen, IsChosenAt}
 pub use Rattle.gf_form.specs.inner.reduced.OwnDigits.{digits_from, digits_with, own_steps}
 pub use Rattle.gf_form.specs.inner.reduced.Relevance.{FindRelevance}

@@ -3,9 +3,9 @@
 ghost use Rattle.std.specs.Prelude.{◌≡◌, ◌<◌, ◌+◌, ◌*◌, ◌^◌, true, false, [], ℕ, length, get_or};
 ghost use Rattle.std.specs.Prelude.{IfOk, MatchOption, OnOk};
 ghost use Rattle.std.specs.List.Sorted.{IsNonDecreasingBy};
-ghost use Rattle.gf_form.specs.inner.reduced.Levels.{AddsLeft, AreParts, AreTaken, HaveBelow};
-ghost use Rattle.gf_form.specs.inner.reduced.Levels.{IsChosen, IsChosenAt, IsLevel, Marks, Takes};
-ghost use Rattle.gf_form.specs.inner.reduced.Levels.{left_of};
+ghost use Rattle.gf_form.specs.inner.reduced.Levels.{Adds, AreFrom, AreOrdered, AreParts, AreTaken};
+ghost use Rattle.gf_form.specs.inner.reduced.Levels.{HaveBelow, IsChosen, IsChosenAt, IsLevel};
+ghost use Rattle.gf_form.specs.inner.reduced.Levels.{Marks, Takes};
 ghost use Rattle.gf_form.specs.inner.reduced.Visits.{HoldTheSame};
 
 use crate::reduced::visits::{Visit, drop_repeats, put_in_order};
@@ -21,31 +21,15 @@ pub(crate) struct Level {
     pub known: Vec<bool>,
 }
 
-/// The visits that count if an action is chosen at the slowest digit, in order of demands.
+/// What is left of the visits that count if an action is chosen at the slowest digit.
 #[derive(Drop)]
 struct Parts<'v> {
-    /// Those that demand nothing there.
+    /// The visits that demand nothing there, in order of demands.
     free: &'v [Visit],
-    /// Those that demand the action there.
+    /// Those that demand the action there, in order of demands.
     own: &'v [Visit],
-    /// What the action adds to their demands.
+    /// What the action adds to the demands of these.
     lowest: u64,
-}
-
-/// The demands that are left if this action is chosen at the slowest digit, with this step; `None`
-/// if they demand another one there.
-fn left_of(demands: u64, step: u64, action: u64) -> Option<u64>
-    requires { action * step + step < 2 ^ 64 }
-    ensures { result ≡ left_of step action demands }
-{
-    let lowest = action * step;
-    if demands < step {
-        Some(demands)
-    } else if demands >= lowest && demands < lowest + step {
-        Some(demands - lowest)
-    } else {
-        None
-    }
 }
 
 /// How many of these visits, in order of demands, demand less than a number.
@@ -56,55 +40,59 @@ fn count_below(visits: &[Visit], number: u64) -> usize
     visits.partition_point(|visit| visit.demands < number)
 }
 
-/// The visits that count if this action is chosen at the slowest digit, with this step.
+/// What is left of these visits if this action is chosen at the slowest digit, with this step.
 fn parts_of(visits: &[Visit], step: u64, action: u64) -> Parts<'_>
     requires fits { action * step + step < 2 ^ 64 }
     requires ordered { IsNonDecreasingBy (λ (v : Visit). v.demands) visits.now }
-    ensures { AreParts step action visits.now result }
+    ensures parts { AreParts step action visits.now result }
+    ensures ordered { AreFrom 0 result }
 {
     let lowest = action * step;
-    let (free, _) = visits.split_at(count_below(visits, step));
-    let (_, rest) = visits.split_at(count_below(visits, lowest));
+    let (free, others) = visits.split_at(count_below(visits, step));
+    let (_, rest) = others.split_at(count_below(others, lowest));
     let (own, _) = rest.split_at(count_below(rest, lowest + step));
     Parts { free, own, lowest }
 }
 
 impl Parts<'_> {
-    /// Takes the first visit that demands the action.
-    fn next_own(&mut self) -> Option<Visit>
-        ensures { MatchOption result (length self.old.own.now ≡ 0)
-            (λ visit. Takes visit self.old self.new) }
-    {
-        let Some((visit, rest)) = self.own.split_first() else {
-            return None;
-        };
-        self.own = rest;
-        Some(*visit)
-    }
-
-    /// Whether a visit that demands the action comes before this one, which does not.
-    fn has_before(&self, visit: Visit) -> bool
-        ensures { result ≡ true → 0 < length self.now.own.now }
-    {
-        let Some(own) = self.own.first() else {
-            return false;
-        };
-        let demands = own.demands.saturating_sub(self.lowest);
-        demands < visit.demands || demands == visit.demands && own.set < visit.set
-    }
-
-    /// Takes the visit that comes next, by what is left of the demands, and then by set.
-    fn next(&mut self) -> Option<Visit>
+    /// Takes the next visit, if none is left that demands the action.
+    fn next_free(&mut self) -> Option<Visit>
+        requires free { length self.old.own.now ≡ 0 }
         ensures { MatchOption result (AreTaken self.old) (λ visit. Takes visit self.old self.new) }
     {
-        let Some((visit, rest)) = self.free.split_first() else {
-            return self.next_own();
+        let Some((free, rest)) = self.free.split_first() else {
+            return None;
         };
-        if self.has_before(*visit) {
-            return self.next_own();
-        }
         self.free = rest;
-        Some(*visit)
+        Some(*free)
+    }
+
+    /// Takes the next visit, in order of demands, and those with the same demands in order of sets.
+    /// If the same is left of two visits, it takes both at once.
+    fn next(&mut self) -> Option<Visit>
+        requires ordered { AreOrdered self.old }
+        ensures { MatchOption result (AreTaken self.old) (λ visit. Takes visit self.old self.new) }
+    {
+        let Some((own, own_rest)) = self.own.split_first() else {
+            return self.next_free();
+        };
+        let left = Visit {
+            demands: own.demands - self.lowest,
+            set: own.set,
+        };
+        let Some((free, free_rest)) = self.free.split_first() else {
+            self.own = own_rest;
+            return Some(left);
+        };
+        if free.is_before(left) {
+            self.free = free_rest;
+            return Some(*free);
+        }
+        self.own = own_rest;
+        if left == *free {
+            self.free = free_rest;
+        }
+        Some(left)
     }
 }
 
@@ -138,12 +126,10 @@ impl Level {
         Ok(level)
     }
 
-    /// Adds what is left of a visit, if it is to a set of the level, and this action is chosen at
-    /// the slowest digit, with this step.
-    #[tactic(auto, using(crate::proofs::lemmas::reduced::LevelsChosen::left_steps))]
-    fn add_left(&mut self, visit: Visit, step: u64, action: u64) -> Result<(), AllocError>
-        requires fits { action * step + step < 2 ^ 64 }
-        ensures { OnOk result (AddsLeft step action visit self.old self.new) }
+    /// Adds a visit, if it is to a set of the level that is not known to be met.
+    #[tactic(auto, using(crate::proofs::lemmas::reduced::LevelsChosen::add_steps))]
+    fn add(&mut self, visit: Visit) -> Result<(), AllocError>
+        ensures { OnOk result (Adds visit self.old self.new) }
     {
         let place = visit.set as usize;
         if place >= self.known.len() {
@@ -152,17 +138,11 @@ impl Level {
         if self.known[place] {
             return Ok(());
         }
-        let Some(demands) = left_of(visit.demands, step, action) else {
-            return Ok(());
-        };
-        if demands == 0 {
+        if visit.demands == 0 {
             self.known[place] = true;
             return Ok(());
         }
-        self.visits.push(Visit {
-            demands,
-            set: visit.set,
-        })?;
+        self.visits.push(visit)?;
         Ok(())
     }
 
@@ -179,7 +159,7 @@ impl Level {
         self.known.extend_from_slice(&from.known)?;
         let mut parts = parts_of(&from.visits, step, action);
         while let Some(visit) = parts.next() {
-            self.add_left(visit, step, action)?;
+            self.add(visit)?;
         }
         drop_repeats(&mut self.visits);
         put_in_order(&mut self.visits);

@@ -1,7 +1,7 @@
 //! The visits of a player to his sets: the ways to come to them, as far as his own moves
 //! distinguish them.
 
-ghost use Rattle.std.specs.Prelude.{◌≡◌};
+ghost use Rattle.std.specs.Prelude.{◌≡◌, ◌≤◌, false, true};
 ghost use Rattle.std.specs.List.Sorted.{IsNonDecreasingBy};
 ghost use Rattle.gf_form.specs.declared.reduced.visits.Visit.{Visit};
 ghost use Rattle.gf_form.specs.inner.reduced.Visits.{HoldTheSame, order_of};
@@ -21,6 +21,14 @@ impl Visit {
         ensures { result ≡ order_of self }
     {
         u128::from(self.demands) * (1 << 32) + u128::from(self.set)
+    }
+
+    /// Whether this visit comes before another one, by demands, and then by set.
+    pub(crate) fn is_before(self, other: Visit) -> bool
+        ensures before { result ≡ true → self.demands ≤ other.demands }
+        ensures behind { result ≡ false → other.demands ≤ self.demands }
+    {
+        self.demands < other.demands || self.demands == other.demands && self.set < other.set
     }
 }
 

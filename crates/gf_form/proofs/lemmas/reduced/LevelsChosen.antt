@@ -1,12 +1,13 @@
 -- What is left of a player's visits after a choice, visit by visit, and which sets can be met.
-use Rattle.gf_form.specs.inner.reduced.Levels.{HaveBelow, AddsLeft, AreTaken, AreParts}
-use Rattle.gf_form.specs.inner.reduced.Levels.{Takes, is_in}
+use Rattle.gf_form.specs.inner.reduced.Levels.{HaveBelow, Adds, AreTaken, AreParts, AreFrom}
+use Rattle.gf_form.specs.inner.reduced.Levels.{Takes, is_in, left_of, AreOrderedFrom}
 use Rattle.gf_form.proofs.Common
 use Common.{false_from_ne_true, get_or-set_other, take-append-drop, list_any-append, get_or_default}
-use Common.{option_map_or, get_or-set_at, take-length, get_or-take, length-drop, length-take, false}
-use Common.{ArePositive, length-set, is_met_on, list_any, or-false, IsChosen, is_left, left_of, ◌≡◌}
+use Common.{get_or-set_at, take-length, get_or-take, length-drop, length-take, false, refl, suc}
+use Common.{ArePositive, length-set, is_met_on, list_any, or-false, IsChosen, is_left, ◌≡◌, []}
 use Common.{length, get_or, ne_eqb, arith, meets, Level, Visit, Bool, true, List, take, drop, ◌||◌}
-use Common.{◌==◌, ◌+◌, ◌*◌, ◌<◌, ◌≤◌, ◌∷◌, set, sym, ◌∙◌, ap, ℕ}
+use Common.{◌==◌, ◌+◌, ◌*◌, ◌<◌, ◌≤◌, ◌∷◌, set, sym, ◌∙◌, ap, ℕ, IsNonDecreasingBy}
+use Rattle.std.proofs.lemmas.List.Sorted.{IsNonDecreasingBy-take, IsNonDecreasingBy-drop}
 use Rattle.std.proofs.lemmas.List.{get_or-drop, set_past}
 use Rattle.std.proofs.lemmas.List.Folds.{Any-from_list_any, list_any_more, list_any_at}
 use Rattle.gf_form.specs.declared.reduced.level.Parts.{Parts}
@@ -18,12 +19,6 @@ pub meets_none : (steps choices : List ℕ) → ArePositive steps → meets step
 meets_none (step ∷ steps) (action ∷ choices) h = grind (arith, meets_none steps choices)
 meets_none steps choices h = grind arith
 
--- what is left of demands is met as they are
-pub meets_left : (step action demands : ℕ) (steps choices : List ℕ)
-    → meets (step ∷ steps) (action ∷ choices) demands
-    ≡ option_map_or (meets steps choices) (left_of step action demands) false
-meets_left step action demands steps choices = grind arith
-
 pub flag_on : (flags : List Bool) (at place : ℕ) → place < length flags
     → get_or (set flags at true) place false ≡ (get_or flags place false || at == place)
 flag_on flags at place inside = grind (arith, get_or-set_at, get_or-set_other, or-true, or-false)
@@ -31,10 +26,9 @@ flag_on flags at place inside = grind (arith, get_or-set_at, get_or-set_other, o
 abbrev pub no_visit : Visit
 no_visit = record { demands = 0; set = 0 }
 
--- what the steps of the code need for one visit
-pub ruleset left_steps = (
+-- what the code needs to add one visit
+pub ruleset add_steps = (
   flag_on,
-  meets_left,
   meets_none,
   or-false,
   ne_eqb,
@@ -43,59 +37,136 @@ pub ruleset left_steps = (
   list_any-append,
 )
 
--- ---- the visits that count at an action
+-- ---- what is left of visits if an action is chosen
 
 any_in_two : (p : Visit → Bool) (visits : List Visit) (n : ℕ)
     → list_any p visits ≡ (list_any p (take n visits) || list_any p (drop n visits))
 any_in_two p visits n = ap (list_any p) (sym (take-append-drop n visits)) ∙ list_any-append p _ _
 
+any_alike : (p q : Visit → Bool) (visits : List Visit)
+    → ((k : ℕ) (d : Visit) → k < length visits → p (get_or visits k d) ≡ q (get_or visits k d))
+    → list_any p visits ≡ list_any q visits
+any_alike p q [] h = refl
+any_alike p q (v ∷ visits) h = λ i.
+    h 0 v (omega arith) i
+    || any_alike p q visits (λ k d less. h (suc k) d (omega (arith, less))) i
+
+ordered_from : (n : ℕ) (visits : List Visit) → IsNonDecreasingBy (λ v. v.demands) visits
+    → ((d : Visit) → 0 < length visits → n ≤ (get_or visits 0 d).demands) → AreOrderedFrom n visits
+ordered_from n [] up least = tt
+ordered_from n (v ∷ visits) up least = (
+  least v (omega arith),
+  ordered_from v.demands visits (IsNonDecreasingBy-drop (λ (v : Visit). v.demands) 1 (v ∷ visits) up)
+      (λ d some. up 0 1 d (omega arith) (omega (arith, some))),
+)
+
 -- they stand in two parts of visits in order
-module _ (step action : ℕ) (visits rest : List Visit) (free start count : ℕ)
-    (free_is : HaveBelow visits step free) (start_is : HaveBelow visits (action * step) start)
-    (rest_is : rest ≡ drop start visits)
+module _ (step action : ℕ) (visits others rest : List Visit) (free start count : ℕ)
+    (free_is : HaveBelow visits step free) (others_are : others ≡ drop free visits)
+    (start_is : HaveBelow others (action * step) start) (rest_is : rest ≡ drop start others)
     (count_is : HaveBelow rest (action * step + step) count) where
+  others_demand : (k : ℕ) (d : Visit) → k < length others → step ≤ (get_or others k d).demands
+  others_demand k d less = grind (arith, length-drop, get_or-drop, free_is.above (free + k) d)
+
+  rest_demand : (k : ℕ) (d : Visit) → k < length rest → (step ≤ (get_or rest k d).demands)
+      × (action * step ≤ (get_or rest k d).demands)
+  rest_demand k d less =
+      grind (
+        arith,
+        length-drop,
+        get_or-drop,
+        others_demand (start + k) d,
+        start_is.above (start + k) d,
+      )
+
   module _ (place : ℕ) (steps choices : List ℕ) where
     abbrev counts : Visit → Bool
     counts v = is_met_on place (step ∷ steps) (action ∷ choices) v
 
-    -- one that demands less than the action demands nothing there
-    free_before : list_any counts (take start visits) ≡ true
-        → list_any counts (take free visits) ≡ true
-    free_before some =
-        grind (arith, Any-from_list_any, length-take, get_or-take, list_any_at)
+    none_between : list_any counts (take start others) ≡ false
+    none_between =
+        grind (
+          arith,
+          false_from_ne_true,
+          Any-from_list_any,
+          length-take,
+          get_or-take,
+          others_demand,
+        )
 
-    -- and none demands more
     none_after : list_any counts (drop count rest) ≡ false
     none_after =
-        grind (arith, false_from_ne_true, Any-from_list_any, length-drop, get_or-drop)
+        grind (
+          arith,
+          false_from_ne_true,
+          Any-from_list_any,
+          length-drop,
+          get_or-drop,
+          rest_demand,
+        )
+
+    free_left : list_any (is_met_on place steps choices) (take free visits)
+        ≡ list_any counts (take free visits)
+    free_left =
+        any_alike (is_met_on place steps choices) counts (take free visits)
+        (λ k d less. grind (arith, length-take, get_or-take, free_is.below))
+
+    own_left : list_any (λ v. is_met_on place steps choices (left_of (action * step) v))
+        (take count rest)
+        ≡ list_any counts (take count rest)
+    own_left =
+        any_alike (λ v. is_met_on place steps choices (left_of (action * step) v)) counts
+        (take count rest)
+        (λ k d less. grind (arith, length-take, get_or-take, count_is.below k d, rest_demand k d))
 
   pub parts_are : (parts : Parts) → parts.free.now ≡ take free visits
-      → parts.own.now ≡ take count rest → AreParts step action visits parts
-  parts_are parts free_now own_now place steps choices =
+      → parts.own.now ≡ take count rest → parts.lowest ≡ action * step
+      → AreParts step action visits parts
+  parts_are parts free_now own_now lowest_is place steps choices =
       let test = counts place steps choices in
       grind (
         arith,
+        or-false,
         any_in_two test visits free,
-        any_in_two test visits start,
+        any_in_two test others start,
         any_in_two test rest count,
+        none_between place steps choices,
         none_after place steps choices,
-        free_before place steps choices,
+        free_left place steps choices,
+        own_left place steps choices,
       )
+
+  pub parts_ordered : IsNonDecreasingBy (λ v. v.demands) visits → (parts : Parts)
+      → parts.free.now ≡ take free visits → parts.own.now ≡ take count rest
+      → parts.lowest ≡ action * step → AreFrom 0 parts
+  parts_ordered up parts free_now own_now lowest_is = record {
+    free = rw free_now (ordered_from 0 (take free visits)
+        (IsNonDecreasingBy-take (λ (v : Visit). v.demands) free visits up)
+        (λ d some. omega arith));
+    own = rw own_now (ordered_from (parts.lowest + 0) (take count rest)
+        (IsNonDecreasingBy-take (λ (v : Visit). v.demands) count rest
+        (rw (rest_is, others_are)
+        (IsNonDecreasingBy-drop (λ (v : Visit). v.demands) start (drop free visits)
+        (IsNonDecreasingBy-drop (λ (v : Visit). v.demands) free visits up))))
+        (λ d some. grind (arith, length-take, get_or-take, rest_demand 0 d)));
+  }
 
 -- ---- a level while visits are taken
 
--- what is left of a level is in another one, or in the parts
+-- what is left of a level is in another one, or in the parts, which are in order from a number on
 pub record IsPartly (step action : ℕ) (from : Level) (parts : Parts) (left : Level) : Type 0 where
   pub counted : length left.known.items ≡ length from.known.items
   pub adds : (place : ℕ) (steps choices : List ℕ) → place < length from.known.items
       → ArePositive steps → (is_left place steps choices left
-      || is_in (is_met_on place (step ∷ steps) (action ∷ choices)) parts)
+      || is_in (is_met_on place steps choices) parts)
       ≡ is_left place (step ∷ steps) (action ∷ choices) from
+  pub last : ℕ
+  pub ordered : AreFrom last parts
 
 module _ (step action : ℕ) (from : Level) (parts : Parts) (left : Level)
     (h : IsPartly step action from parts left) where
   pub one_taken : (v : Visit) (rest : Parts) (next : Level) → Takes v parts rest
-      → AddsLeft step action v left next → IsPartly step action from rest next
+      → Adds v left next → IsPartly step action from rest next
   one_taken v rest next takes added = record {
     counted = added.counted ∙ h.counted;
     adds = λ place steps choices inside positive.
@@ -103,8 +174,10 @@ module _ (step action : ℕ) (from : Level) (parts : Parts) (left : Level)
           arith,
           h.adds place steps choices inside positive,
           added.adds place steps choices (omega (arith, inside, h.counted)) positive,
-          takes.taken (is_met_on place (step ∷ steps) (action ∷ choices)),
+          takes.taken (is_met_on place steps choices),
         );
+    last = v.demands;
+    ordered = (takes.ordered h.last h.ordered).1;
   }
 
   pub all_taken : AreTaken parts → (next : Level) → next.known.items ≡ left.known.items
@@ -114,7 +187,7 @@ module _ (step action : ℕ) (from : Level) (parts : Parts) (left : Level)
         arith,
         or-false,
         h.adds place steps choices inside positive,
-        none (is_met_on place (step ∷ steps) (action ∷ choices)),
+        none (is_met_on place steps choices),
         same (is_met_on place steps choices),
       )
 

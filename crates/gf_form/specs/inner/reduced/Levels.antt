@@ -1,21 +1,12 @@
 -- What is left of a player's visits after choices at the slower digits.
-use Rattle.std.specs.Prelude.{if◌then◌else◌, Option, get_or, length, nat_le, nat_lt, false, ◌==◌, ℕ}
-use Rattle.std.specs.Prelude.{◌&&◌, ◌||◌, Bool, List, Some, None, ◌≡◌, ◌≤◌, ◌<◌, ◌-◌, ◌*◌, ◌+◌, ◌∷◌}
+use Rattle.std.specs.Prelude.{◌&&◌, ◌||◌, ◌==◌, ◌≡◌, ◌≤◌, ◌<◌, ◌-◌, ◌+◌, ◌∷◌, [], ⊤, ℕ, Bool, List}
+use Rattle.std.specs.Prelude.{false, get_or, length}
 use Rattle.std.specs.List.{AllByRecursion, list_any}
 use Rattle.std.specs.List.Sorted.{IsNonDecreasingBy}
 use Rattle.gf_form.specs.inner.reduced.Visits.{is_met, is_met_on}
 use Rattle.gf_form.specs.declared.reduced.level.Level.{Level}
 use Rattle.gf_form.specs.declared.reduced.level.Parts.{Parts}
 use Rattle.gf_form.specs.declared.reduced.visits.Visit.{Visit}
-
--- the demands that are left if this action is chosen at the slowest digit, with this step; none if
--- they demand another one there
-abbrev pub left_of : ℕ → ℕ → ℕ → Option ℕ
-left_of step action demands =
-    if nat_lt demands step then Some demands
-    else if nat_le (action * step) demands && nat_lt demands (action * step + step)
-    then Some (demands - action * step)
-    else None
 
 -- the set at this place is known to be met, or is by these choices at the digits that are left
 abbrev pub is_left : ℕ → List ℕ → List ℕ → Level → Bool
@@ -37,32 +28,51 @@ pub record HaveBelow (visits : List Visit) (number count : ℕ) : Type 0 where
   pub above : (k : ℕ) (d : Visit) → count ≤ k → k < length visits
       → number ≤ (get_or visits k d).demands
 
--- a visit that passes the test is in one of the parts
+-- what is left of a visit if so much of its demands is met
+abbrev pub left_of : ℕ → Visit → Visit
+left_of lowest v = record { demands = v.demands - lowest; set = v.set }
+
+-- some visit that is left in the parts passes the test
 abbrev pub is_in : (Visit → Bool) → Parts → Bool
-is_in test parts = list_any test parts.free.now || list_any test parts.own.now
+is_in test parts =
+    list_any test parts.free.now || list_any (λ v. test (left_of parts.lowest v)) parts.own.now
 
 abbrev pub AreTaken : Parts → Type 0
 AreTaken parts = (test : Visit → Bool) → is_in test parts ≡ false
 
--- this visit is taken from the parts
+-- these visits are in order of demands, and none of them demands less than a number
+abbrev pub AreOrderedFrom : ℕ → List Visit → Type 0
+AreOrderedFrom n [] = ⊤
+AreOrderedFrom n (v ∷ visits) = (n ≤ v.demands) × AreOrderedFrom v.demands visits
+
+-- both parts are in order of demands, and none of the visits that are left demands less than a
+-- number
+pub record AreFrom (n : ℕ) (parts : Parts) : Type 0 where
+  pub free : AreOrderedFrom n parts.free.now
+  pub own : AreOrderedFrom (parts.lowest + n) parts.own.now
+
+abbrev pub AreOrdered : Parts → Type 0
+AreOrdered parts = (n : ℕ) × AreFrom n parts
+
+-- this visit is taken from the parts, and none that is left demands less
 pub record Takes (v : Visit) (old new : Parts) : Type 0 where
   pub taken : (test : Visit → Bool) → is_in test old ≡ (test v || is_in test new)
+  pub ordered : (n : ℕ) → AreFrom n old → (n ≤ v.demands) × AreFrom v.demands new
   pub fewer : length new.free.now + length new.own.now
       < length old.free.now + length old.own.now
 
--- of these visits, those that are met if this action is chosen are in the parts
+-- the parts are what is left of these visits if this action is chosen
 abbrev pub AreParts : ℕ → ℕ → List Visit → Parts → Type 0
 AreParts step action visits parts = (place : ℕ) (steps choices : List ℕ)
-    → is_in (is_met_on place (step ∷ steps) (action ∷ choices)) parts
+    → is_in (is_met_on place steps choices) parts
     ≡ is_met place (step ∷ steps) (action ∷ choices) visits
 
--- the second level has in addition what is left of this visit if this action is chosen
-pub record AddsLeft (step action : ℕ) (v : Visit) (before after : Level) : Type 0 where
+-- the second level has this visit in addition
+pub record Adds (v : Visit) (before after : Level) : Type 0 where
   pub counted : length after.known.items ≡ length before.known.items
   pub adds : (place : ℕ) (steps choices : List ℕ) → place < length before.known.items
       → ArePositive steps → is_left place steps choices after
-      ≡ (is_left place steps choices before
-      || is_met_on place (step ∷ steps) (action ∷ choices) v)
+      ≡ (is_left place steps choices before || is_met_on place steps choices v)
 
 -- the second level is what is left of the first if this action is chosen
 abbrev pub IsChosen : ℕ → ℕ → Level → Level → Type 0
