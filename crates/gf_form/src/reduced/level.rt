@@ -8,7 +8,7 @@ ghost use Rattle.gf_form.specs.inner.reduced.Levels.{HaveBelow, IsChosen, IsChos
 ghost use Rattle.gf_form.specs.inner.reduced.Levels.{Marks, Takes};
 ghost use Rattle.gf_form.specs.inner.reduced.Visits.{HoldTheSame};
 
-use crate::reduced::visits::{Visit, drop_repeats, put_in_order};
+use crate::reduced::visits::{Visit, put_in_order};
 use std::alloc::{AllocError, Global};
 
 /// The visits that the choices so far allow.
@@ -161,8 +161,6 @@ impl Level {
         while let Some(visit) = parts.next() {
             self.add(visit)?;
         }
-        drop_repeats(&mut self.visits);
-        put_in_order(&mut self.visits);
         Ok(())
     }
 

@@ -1,17 +1,17 @@
 -- What is left of a player's visits after a choice, visit by visit, and which sets can be met.
 use Rattle.gf_form.specs.inner.reduced.Levels.{HaveBelow, Adds, AreTaken, AreParts, AreFrom}
-use Rattle.gf_form.specs.inner.reduced.Levels.{Takes, is_in, left_of, AreOrderedFrom}
+use Rattle.gf_form.specs.inner.reduced.Levels.{Takes, is_in, left_of, AreOrderedFrom, AreUpTo}
 use Rattle.gf_form.proofs.Common
 use Common.{false_from_ne_true, get_or-set_other, take-append-drop, list_any-append, get_or_default}
 use Common.{get_or-set_at, take-length, get_or-take, length-drop, length-take, false, refl, suc}
 use Common.{ArePositive, length-set, is_met_on, list_any, or-false, IsChosen, is_left, ◌≡◌, []}
 use Common.{length, get_or, ne_eqb, arith, meets, Level, Visit, Bool, true, List, take, drop, ◌||◌}
-use Common.{◌==◌, ◌+◌, ◌*◌, ◌<◌, ◌≤◌, ◌∷◌, set, sym, ◌∙◌, ap, ℕ, IsNonDecreasingBy}
+use Common.{◌==◌, ◌+◌, ◌*◌, ◌<◌, ◌≤◌, ◌∷◌, set, sym, ◌∙◌, ap, ℕ, IsNonDecreasingBy, ◌++◌, ◌-◌}
+use Common.{IsNonDecreasingBy-push, length-append, get_or-append_seam, Vec, Global}
 use Rattle.std.proofs.lemmas.List.Sorted.{IsNonDecreasingBy-take, IsNonDecreasingBy-drop}
 use Rattle.std.proofs.lemmas.List.{get_or-drop, set_past}
-use Rattle.std.proofs.lemmas.List.Folds.{Any-from_list_any, list_any_more, list_any_at}
+use Rattle.std.proofs.lemmas.List.Folds.{Any-from_list_any, list_any_more}
 use Rattle.gf_form.specs.declared.reduced.level.Parts.{Parts}
-use Rattle.gf_form.specs.inner.reduced.Visits.{HoldTheSame}
 use Rattle.std.proofs.Math.Bool.{or-true}
 
 -- no demands are met
@@ -26,6 +26,21 @@ flag_on flags at place inside = grind (arith, get_or-set_at, get_or-set_other, o
 abbrev pub no_visit : Visit
 no_visit = record { demands = 0; set = 0 }
 
+pub is_pushed : (v : Visit) (before : Level) (visits : Vec Visit Global)
+    → visits.items ≡ before.visits.items ++ v ∷ []
+    → Adds v before (record { visits = visits; known = before.known })
+is_pushed v before visits are =
+    let last : length visits.items - 1 ≡ length before.visits.items =
+    omega (arith, ap length are, length-append before.visits.items (v ∷ [])) in record {
+      counted = refl;
+      adds = grind (arith, list_any-append, or-false);
+      ordered = λ n le upto. record {
+        ordered = rw are (IsNonDecreasingBy-push (λ (w : Visit). w.demands) before.visits.items v
+            upto.ordered (λ d some. omega (arith, le, upto.within d some)));
+        within = grind (arith, get_or-append_seam);
+      };
+    }
+
 -- what the code needs to add one visit
 pub ruleset add_steps = (
   flag_on,
@@ -34,7 +49,6 @@ pub ruleset add_steps = (
   ne_eqb,
   get_or_default,
   length-set,
-  list_any-append,
 )
 
 -- ---- what is left of visits if an action is chosen
@@ -153,7 +167,8 @@ module _ (step action : ℕ) (visits others rest : List Visit) (free start count
 
 -- ---- a level while visits are taken
 
--- what is left of a level is in another one, or in the parts, which are in order from a number on
+-- what is left of a level is in another one, or in the parts; visits demand no more than a number
+-- there, and no less here
 pub record IsPartly (step action : ℕ) (from : Level) (parts : Parts) (left : Level) : Type 0 where
   pub counted : length left.known.items ≡ length from.known.items
   pub adds : (place : ℕ) (steps choices : List ℕ) → place < length from.known.items
@@ -161,7 +176,8 @@ pub record IsPartly (step action : ℕ) (from : Level) (parts : Parts) (left : L
       || is_in (is_met_on place steps choices) parts)
       ≡ is_left place (step ∷ steps) (action ∷ choices) from
   pub last : ℕ
-  pub ordered : AreFrom last parts
+  pub before : AreUpTo last left.visits.items
+  pub behind : AreFrom last parts
 
 module _ (step action : ℕ) (from : Level) (parts : Parts) (left : Level)
     (h : IsPartly step action from parts left) where
@@ -177,18 +193,17 @@ module _ (step action : ℕ) (from : Level) (parts : Parts) (left : Level)
           takes.taken (is_met_on place steps choices),
         );
     last = v.demands;
-    ordered = (takes.ordered h.last h.ordered).1;
+    before = added.ordered h.last (takes.ordered h.last h.behind).0 h.before;
+    behind = (takes.ordered h.last h.behind).1;
   }
 
-  pub all_taken : AreTaken parts → (next : Level) → next.known.items ≡ left.known.items
-      → HoldTheSame left.visits.items next.visits.items → IsChosen step action from next
-  all_taken none next known same place steps choices inside positive =
+  pub all_taken : AreTaken parts → IsChosen step action from left
+  all_taken none place steps choices inside positive =
       grind (
         arith,
         or-false,
         h.adds place steps choices inside positive,
         none (is_met_on place steps choices),
-        same (is_met_on place steps choices),
       )
 
 -- ---- marks

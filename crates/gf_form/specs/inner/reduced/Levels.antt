@@ -67,12 +67,20 @@ AreParts step action visits parts = (place : ℕ) (steps choices : List ℕ)
     → is_in (is_met_on place steps choices) parts
     ≡ is_met place (step ∷ steps) (action ∷ choices) visits
 
+-- these visits are in order of demands, and none of them demands more than a number
+pub record AreUpTo (n : ℕ) (visits : List Visit) : Type 0 where
+  pub ordered : IsNonDecreasingBy (λ v. v.demands) visits
+  pub within : (d : Visit) → 0 < length visits
+      → (get_or visits (length visits - 1) d).demands ≤ n
+
 -- the second level has this visit in addition
 pub record Adds (v : Visit) (before after : Level) : Type 0 where
   pub counted : length after.known.items ≡ length before.known.items
   pub adds : (place : ℕ) (steps choices : List ℕ) → place < length before.known.items
       → ArePositive steps → is_left place steps choices after
       ≡ (is_left place steps choices before || is_met_on place steps choices v)
+  pub ordered : (n : ℕ) → n ≤ v.demands → AreUpTo n before.visits.items
+      → AreUpTo v.demands after.visits.items
 
 -- the second level is what is left of the first if this action is chosen
 abbrev pub IsChosen : ℕ → ℕ → Level → Level → Type 0

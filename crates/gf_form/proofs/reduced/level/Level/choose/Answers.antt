@@ -1,4 +1,4 @@
-use Rattle.gf_form.proofs.Common.{arith, refl, ◌∙◌}
+use Rattle.gf_form.proofs.Common.{arith}
 use Rattle.gf_form.proofs.lemmas.reduced.LevelsChosen.{all_taken, one_taken}
 use Rattle.gf_form.proofs.reduced.level.Level.choose.Goals as goal
 
@@ -8,7 +8,8 @@ loop-visit-init c =
       counted = grind arith;
       adds = grind (arith, are, c.clear.ensures.items);
       last = 0;
-      ordered = c.parts_of-parts.ensures.ordered;
+      before = grind (arith, c.clear.ensures.items);
+      behind = c.parts_of-parts.ensures.ordered;
     }
 
 pub loop-visit-preserved : goal.loop-visit-preserved
@@ -16,7 +17,4 @@ loop-visit-preserved c =
     one_taken _ _ _ _ _ c.loop-visit.invariant _ _ _ c.in-Some.ensures c.in_ok-add.ensures
 
 pub returns-clause-chosen : goal.returns-clause-chosen
-returns-clause-chosen c =
-    all_taken _ _ _ _ _ c.loop-visit.invariant c.in_default.ensures
-    (record { visits = c.put_in_order.new.visits; known = c.loop-visit.self.known }) refl
-    (λ test. c.put_in_order.ensures.same test ∙ c.drop_repeats.ensures test)
+returns-clause-chosen c = all_taken _ _ _ _ _ c.loop-visit.invariant c.in_default.ensures
