@@ -3,7 +3,7 @@
 ghost use Rattle.std.specs.Prelude.{◌≡◌, ◌<◌, ◌+◌, ◌*◌, ◌^◌, true, false, [], ℕ, length, get_or};
 ghost use Rattle.std.specs.Prelude.{IfOk, MatchOption, OnOk};
 ghost use Rattle.std.specs.List.Sorted.{IsNonDecreasingBy};
-ghost use Rattle.gf_form.specs.inner.reduced.Levels.{Adds, AreFrom, AreOrdered, AreParts, AreTaken};
+ghost use Rattle.gf_form.specs.inner.reduced.Levels.{Adds, AreOrdered, AreParts, AreTaken};
 ghost use Rattle.gf_form.specs.inner.reduced.Levels.{HaveBelow, IsChosen, IsChosenAt, IsLevel};
 ghost use Rattle.gf_form.specs.inner.reduced.Levels.{Marks, Takes};
 ghost use Rattle.gf_form.specs.inner.reduced.Visits.{HoldTheSame};
@@ -44,8 +44,7 @@ fn count_below(visits: &[Visit], number: u64) -> usize
 fn parts_of(visits: &[Visit], step: u64, action: u64) -> Parts<'_>
     requires fits { action * step + step < 2 ^ 64 }
     requires ordered { IsNonDecreasingBy (λ (v : Visit). v.demands) visits.now }
-    ensures parts { AreParts step action visits.now result }
-    ensures ordered { AreFrom 0 result }
+    ensures { AreParts step action visits.now result }
 {
     let lowest = action * step;
     let (free, others) = visits.split_at(count_below(visits, step));

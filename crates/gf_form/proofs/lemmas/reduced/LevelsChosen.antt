@@ -26,6 +26,9 @@ flag_on flags at place inside = grind (arith, get_or-set_at, get_or-set_other, o
 abbrev pub no_visit : Visit
 no_visit = record { demands = 0; set = 0 }
 
+abbrev by_demands : Visit → ℕ
+by_demands v = v.demands
+
 pub is_pushed : (v : Visit) (before : Level) (visits : Vec Visit Global)
     → visits.items ≡ before.visits.items ++ v ∷ []
     → Adds v before (record { visits = visits; known = before.known })
@@ -35,7 +38,7 @@ is_pushed v before visits are =
       counted = refl;
       adds = grind (arith, list_any-append, or-false);
       ordered = λ n le upto. record {
-        ordered = rw are (IsNonDecreasingBy-push (λ (w : Visit). w.demands) before.visits.items v
+        ordered = rw are (IsNonDecreasingBy-push by_demands before.visits.items v
             upto.ordered (λ d some. omega (arith, le, upto.within d some)));
         within = grind (arith, get_or-append_seam);
       };
@@ -70,7 +73,7 @@ ordered_from : (n : ℕ) (visits : List Visit) → IsNonDecreasingBy (λ v. v.de
 ordered_from n [] up least = tt
 ordered_from n (v ∷ visits) up least = (
   least v (omega arith),
-  ordered_from v.demands visits (IsNonDecreasingBy-drop (λ (v : Visit). v.demands) 1 (v ∷ visits) up)
+  ordered_from v.demands visits (IsNonDecreasingBy-drop by_demands 1 (v ∷ visits) up)
       (λ d some. up 0 1 d (omega arith) (omega (arith, some))),
 )
 
@@ -133,36 +136,31 @@ module _ (step action : ℕ) (visits others rest : List Visit) (free start count
         (take count rest)
         (λ k d less. grind (arith, length-take, get_or-take, count_is.below k d, rest_demand k d))
 
-  pub parts_are : (parts : Parts) → parts.free.now ≡ take free visits
-      → parts.own.now ≡ take count rest → parts.lowest ≡ action * step
-      → AreParts step action visits parts
-  parts_are parts free_now own_now lowest_is place steps choices =
-      let test = counts place steps choices in
-      grind (
-        arith,
-        or-false,
-        any_in_two test visits free,
-        any_in_two test others start,
-        any_in_two test rest count,
-        none_between place steps choices,
-        none_after place steps choices,
-        free_left place steps choices,
-        own_left place steps choices,
-      )
-
-  pub parts_ordered : IsNonDecreasingBy (λ v. v.demands) visits → (parts : Parts)
+  pub parts_are : IsNonDecreasingBy (λ v. v.demands) visits → (parts : Parts)
       → parts.free.now ≡ take free visits → parts.own.now ≡ take count rest
-      → parts.lowest ≡ action * step → AreFrom 0 parts
-  parts_ordered up parts free_now own_now lowest_is = record {
-    free = rw free_now (ordered_from 0 (take free visits)
-        (IsNonDecreasingBy-take (λ (v : Visit). v.demands) free visits up)
-        (λ d some. omega arith));
-    own = rw own_now (ordered_from (parts.lowest + 0) (take count rest)
-        (IsNonDecreasingBy-take (λ (v : Visit). v.demands) count rest
-        (rw (rest_is, others_are)
-        (IsNonDecreasingBy-drop (λ (v : Visit). v.demands) start (drop free visits)
-        (IsNonDecreasingBy-drop (λ (v : Visit). v.demands) free visits up))))
-        (λ d some. grind (arith, length-take, get_or-take, rest_demand 0 d)));
+      → parts.lowest ≡ action * step → AreParts step action visits parts
+  parts_are up parts free_now own_now lowest_is = record {
+    left = λ place steps choices.
+        let test = counts place steps choices in
+        grind (
+          arith,
+          or-false,
+          any_in_two test visits free,
+          any_in_two test others start,
+          any_in_two test rest count,
+          none_between place steps choices,
+          none_after place steps choices,
+          free_left place steps choices,
+          own_left place steps choices,
+        );
+    ordered = record {
+      free = rw free_now (ordered_from 0 _ (IsNonDecreasingBy-take by_demands free visits up)
+          (λ d some. omega arith));
+      own = rw own_now (ordered_from _ _ (IsNonDecreasingBy-take by_demands count rest
+          (rw (rest_is, others_are) (IsNonDecreasingBy-drop by_demands start (drop free visits)
+          (IsNonDecreasingBy-drop by_demands free visits up))))
+          (λ d some. grind (arith, length-take, get_or-take, rest_demand 0 d)));
+    };
   }
 
 -- ---- a level while visits are taken

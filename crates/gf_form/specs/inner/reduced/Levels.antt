@@ -45,8 +45,7 @@ abbrev pub AreOrderedFrom : ℕ → List Visit → Type 0
 AreOrderedFrom n [] = ⊤
 AreOrderedFrom n (v ∷ visits) = (n ≤ v.demands) × AreOrderedFrom v.demands visits
 
--- both parts are in order of demands, and none of the visits that are left demands less than a
--- number
+-- both parts are in order of demands, and what is left of their visits demands no less than a number
 pub record AreFrom (n : ℕ) (parts : Parts) : Type 0 where
   pub free : AreOrderedFrom n parts.free.now
   pub own : AreOrderedFrom (parts.lowest + n) parts.own.now
@@ -62,10 +61,10 @@ pub record Takes (v : Visit) (old new : Parts) : Type 0 where
       < length old.free.now + length old.own.now
 
 -- the parts are what is left of these visits if this action is chosen
-abbrev pub AreParts : ℕ → ℕ → List Visit → Parts → Type 0
-AreParts step action visits parts = (place : ℕ) (steps choices : List ℕ)
-    → is_in (is_met_on place steps choices) parts
-    ≡ is_met place (step ∷ steps) (action ∷ choices) visits
+pub record AreParts (step action : ℕ) (visits : List Visit) (parts : Parts) : Type 0 where
+  pub left : (place : ℕ) (steps choices : List ℕ) → is_in (is_met_on place steps choices) parts
+      ≡ is_met place (step ∷ steps) (action ∷ choices) visits
+  pub ordered : AreFrom 0 parts
 
 -- these visits are in order of demands, and none of them demands more than a number
 pub record AreUpTo (n : ℕ) (visits : List Visit) : Type 0 where

@@ -4,7 +4,7 @@ use Rattle.gf_form.proofs.reduced.level.Level.choose.Goals as goal
 
 pub loop-visit-init : goal.loop-visit-init
 loop-visit-init c =
-    let are = rw c.deref-2.ensures.value at c.parts_of-parts.ensures.parts in record {
+    let are = rw c.deref-2.ensures.value at c.parts_of-parts.ensures.left in record {
       counted = grind arith;
       adds = grind (arith, are, c.clear.ensures.items);
       last = 0;
