@@ -26,7 +26,7 @@ impl Visit {
     /// Whether this visit comes before another one, by demands, and then by set.
     pub(crate) fn is_before(self, other: Visit) -> bool
         ensures before { result ≡ true → self.demands ≤ other.demands }
-        ensures behind { result ≡ false → other.demands ≤ self.demands }
+        ensures after { result ≡ false → other.demands ≤ self.demands }
     {
         self.demands < other.demands || self.demands == other.demands && self.set < other.set
     }

@@ -175,7 +175,7 @@ pub record IsPartly (step action : ℕ) (from : Level) (parts : Parts) (left : L
       ≡ is_left place (step ∷ steps) (action ∷ choices) from
   pub last : ℕ
   pub before : AreUpTo last left.visits.items
-  pub behind : AreFrom last parts
+  pub after : AreFrom last parts
 
 module _ (step action : ℕ) (from : Level) (parts : Parts) (left : Level)
     (h : IsPartly step action from parts left) where
@@ -191,8 +191,8 @@ module _ (step action : ℕ) (from : Level) (parts : Parts) (left : Level)
           takes.taken (is_met_on place steps choices),
         );
     last = v.demands;
-    before = added.ordered h.last (takes.ordered h.last h.behind).0 h.before;
-    behind = (takes.ordered h.last h.behind).1;
+    before = added.ordered h.last (takes.ordered h.last h.after).0 h.before;
+    after = (takes.ordered h.last h.after).1;
   }
 
   pub all_taken : AreTaken parts → IsChosen step action from left

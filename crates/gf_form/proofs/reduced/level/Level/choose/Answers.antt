@@ -9,7 +9,7 @@ loop-visit-init c =
       adds = grind (arith, are, c.clear.ensures.items);
       last = 0;
       before = grind (arith, c.clear.ensures.items);
-      behind = c.parts_of-parts.ensures.ordered;
+      after = c.parts_of-parts.ensures.ordered;
     }
 
 pub loop-visit-preserved : goal.loop-visit-preserved
