@@ -165,8 +165,8 @@ module _ (step action : ℕ) (visits others rest : List Visit) (free start count
 
 -- ---- a level while visits are taken
 
--- what is left of a level is in another one, or in the parts; visits demand no more than a number
--- there, and no less here
+-- what is left of a level is in another one, or still in the parts, whose visits demand no less than
+-- those of that one
 pub record IsPartly (step action : ℕ) (from : Level) (parts : Parts) (left : Level) : Type 0 where
   pub counted : length left.known.items ≡ length from.known.items
   pub adds : (place : ℕ) (steps choices : List ℕ) → place < length from.known.items

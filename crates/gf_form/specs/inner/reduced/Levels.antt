@@ -45,7 +45,7 @@ abbrev pub AreOrderedFrom : ℕ → List Visit → Type 0
 AreOrderedFrom n [] = ⊤
 AreOrderedFrom n (v ∷ visits) = (n ≤ v.demands) × AreOrderedFrom v.demands visits
 
--- both parts are in order of demands, and what is left of their visits demands no less than a number
+-- both parts are in order of demands, and what is left of their visits demands this number at least
 pub record AreFrom (n : ℕ) (parts : Parts) : Type 0 where
   pub free : AreOrderedFrom n parts.free.now
   pub own : AreOrderedFrom (parts.lowest + n) parts.own.now
