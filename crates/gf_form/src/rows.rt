@@ -59,7 +59,6 @@ fn sum(x: Fraction, y: Fraction) -> Option<Fraction>
 
 /// A number and another one times a probability, if the product fits, and the sum of both. Most
 /// numbers are zero, and are left out.
-#[tactic(auto, using(crate::proofs::lemmas::values::RowSums::weighed_steps))]
 fn weighed(number: Fraction, chance: Fraction, other: Fraction) -> Option<Fraction>
     requires number { IsFraction number }
     requires chance { IsFraction chance }

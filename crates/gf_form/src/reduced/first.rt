@@ -157,7 +157,6 @@ impl Search {
 }
 
 /// The visits to sets with a digit, each to the place of the digit, from 0.
-#[tactic(auto, using(crate::proofs::lemmas::reduced::SearchStarts::own_visit_steps))]
 fn own_visits(
     alloc: Global,
     visits: &[Visit],
@@ -212,7 +211,6 @@ fn first_numbers(
 /// The numbers of the first strategies that reduce to each reduced strategy of a player, from 0,
 /// and the labels of the reduced ones. Each of his sets has this many actions, and he has `whole`
 /// strategies.
-#[tactic(auto, using(crate::proofs::lemmas::reduced::SearchStarts::start_steps))]
 fn first_strategies(
     alloc: Global,
     game: &Game<'_>,
@@ -283,7 +281,6 @@ fn own_strategies(
 }
 
 /// The numbers of the first strategies of each player, and the labels of his reduced ones.
-#[tactic(auto, using(crate::proofs::lemmas::reduced::FirstStrategies::first_steps))]
 pub(crate) fn all_reduced(
     alloc: Global,
     game: &Game<'_>,

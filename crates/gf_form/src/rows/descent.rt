@@ -113,7 +113,6 @@ impl<'s, 'g, 'a, S: Handed> Descent<'s, 'g, 'a, S> {
     }
 
     /// Opens a node.
-    #[tactic(auto, using(crate::proofs::lemmas::rows::DescentTold::descent_steps))]
     fn enter(&mut self, branch: &Branch<'g, 'a>, state: &S) -> Result<(), AllocError>
         requires { self.old.next ≡ None }
         ensures same { self.new.steps ≡ self.old.steps }

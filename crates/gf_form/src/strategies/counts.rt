@@ -32,7 +32,6 @@ pub(crate) fn action_count(game: &Game<'_>, player: u32, position: usize) -> usi
 
 /// How many actions there are at each of a player's sets, and how many strategies he has; `None` if
 /// there are more of these alone than a table may have profiles.
-#[tactic(auto, using(crate::proofs::lemmas::strategies::CountedActions::count_steps))]
 fn own_counts(
     alloc: Global,
     game: &Game<'_>,

@@ -29,7 +29,6 @@ fn write_choice(is_relevant: bool, action: u32, text: &mut Vec<u8>) -> Result<()
 
 /// Replaces a text by the label of a strategy: the actions at the relevant sets, and `*` at the
 /// others, joined by `-`.
-#[tactic(auto, using(crate::proofs::lemmas::strategies::StrategiesByNumber::text_steps))]
 pub(crate) fn write_label(
     relevant: &[bool],
     strategy: &[u32],

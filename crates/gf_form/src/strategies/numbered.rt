@@ -50,7 +50,6 @@ pub(crate) fn room_for_choices(
 
 /// The labels of all strategies at sets with this many actions each, one by one; there are `whole`
 /// strategies.
-#[tactic(auto, using(crate::proofs::lemmas::strategies::StrategiesByNumber::label_steps))]
 fn labels_in_turn(alloc: Global, counts: &[u32], whole: u32) -> Result<Labels, AllocError>
     requires { whole ≡ product counts.now }
     ensures { IfOk result (λ labels. labels ≡ map strategy_label (all_choices counts.now)) }

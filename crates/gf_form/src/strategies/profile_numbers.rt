@@ -32,7 +32,6 @@ fn push_sums(numbers: &[u32], other: u32, sums: &mut Vec<u32>) -> Result<(), All
 
 /// The numbers of profiles of some players and one more before them, who has this many strategies,
 /// from those of the others and those of his strategies.
-#[tactic(auto, using(crate::proofs::lemmas::strategies::PickedProfiles::sum_steps))]
 fn with_player(
     alloc: Global,
     count: u32,

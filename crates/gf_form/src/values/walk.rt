@@ -122,7 +122,6 @@ impl<'c, 'g, 'a> Walk<'c, 'g, 'a> {
     }
 
     /// Goes into a branch.
-    #[tactic(auto, using(crate::proofs::lemmas::values::Walks::enter_steps))]
     fn enter(
         &self,
         branch: Branch<'g, 'a>,

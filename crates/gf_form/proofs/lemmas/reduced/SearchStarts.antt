@@ -1,18 +1,17 @@
 -- The digits of one player's sets, and his visits to these; a search for first strategies, and that
 -- for their labels, before the first choice; and what the player has at the end.
 use Rattle.gf_form.proofs.Common
-use Common.{slice_get-get_or, mul-le-mul_right, list_any-append, AllByRecursion, reduced_labels, []}
+use Common.{slice_get-get_or, mul-le-mul_right, AllByRecursion, reduced_labels, []}
 use Common.{is_relevant_at, action_counts, FindRelevance, AreLabelledTo, append_assoc, steps_after}
 use Common.{ArePositive, digits_from, player_keys, is_relevant, AreFirstsOf, HaveChoices, is_met_on}
 use Common.{same_choice, digits_with, mul-le-mul, get_or-map, choices_at, strategies, AreFoundTo, ℕ}
 use Common.{IsSearched, actions_of, first_uses, drop-drop, choice_at, pointwise, map_twice, reduced}
-use Common.{numbered, OwnDigit, or-false, digit_at, cases_lt, steps_to, steps_of, IsLevel, is_left}
+use Common.{numbered, OwnDigit, digit_at, cases_lt, steps_to, steps_of, IsLevel, is_left}
 use Common.{product, IsShown, nat_lt, AreOwn, picked, SetKey, IsGame, IsFine, is_met, length, subst}
 use Common.{get_or, Level, arith, false, width, Visit, ◌&&◌, List, ◌++◌, drop, refl, take, ◌||◌, ap}
 use Common.{Game, ◌≡◌, ◌+◌, ◌*◌, ◌^◌, ◌<◌, ◌≤◌, ◌∷◌, sym, ◌∙◌, map, suc}
 use Rattle.gf_form.proofs.lemmas.rows.DigitPlaces.{width_positive, steps_long}
 use Rattle.gf_form.proofs.lemmas.rows.DigitsMade.{next_is}
-use Rattle.std.proofs.lemmas.List.Folds.{list_any_more}
 use Rattle.gf_form.specs.inner.reduced.Visits.{HoldTheSame}
 use Rattle.gf_form.proofs.lemmas.reduced.LevelsChosen.{no_visit}
 use Rattle.gf_form.proofs.lemmas.reduced.Searches.{place_inside}
@@ -79,34 +78,6 @@ AreOwnTo digits visits i k own = (j : ℕ) (steps choices : List ℕ) → j < le
     → is_met j steps choices own
     ≡ (is_met (digit_at digits j).place steps choices (take i visits) || (nat_lt j k
     && is_met_on (digit_at digits j).place steps choices (get_or visits i no_visit)))
-
-module _ (digits : List OwnDigit) (visits own : List Visit) (i : ℕ) (less : i < length visits) where
-  abbrev here : Visit
-  here = get_or visits i no_visit
-
-  pub none_looked_at : AreOwn digits (take i visits) own → AreOwnTo digits visits i 0 own
-  none_looked_at before j steps choices inside = grind (arith, before j steps choices, or-false)
-
-  module _ (k : ℕ) (before : AreOwnTo digits visits i k own) where
-    pub all_looked_at : k ≡ length digits → AreOwn digits (take (i + 1) visits) own
-    all_looked_at all j steps choices inside =
-        grind (
-          arith,
-          nat_tests,
-          before j steps choices inside,
-          list_any_more (is_met_on (digit_at digits j).place steps choices) visits i no_visit less,
-        )
-
-    pub passed : ¬ ((digit_at digits k).place ≡ here.set) → AreOwnTo digits visits i (k + 1) own
-    passed other j steps choices inside = grind (arith, nat_tests, before j steps choices inside)
-
-    pub added : (next : List Visit) → (digit_at digits k).place ≡ here.set
-        → next ≡ own ++ record { demands = here.demands; set = k } ∷ []
-        → AreOwnTo digits visits i (k + 1) next
-    added next place_is next_is j steps choices inside =
-        grind (arith, nat_tests, before j steps choices inside, list_any-append, or-false)
-
-pub ruleset own_visit_steps = (none_looked_at, all_looked_at, passed, added)
 
 -- ---- what the digits are together
 

@@ -1,7 +1,13 @@
 use Rattle.gf_form.proofs.Common.{length, arith, ◌≡◌}
 use Rattle.gf_form.proofs.lemmas.strategies.CountedActions.{all_counted}
-use Rattle.gf_form.proofs.lemmas.reduced.FirstStrategies.{one_player_more}
+use Rattle.gf_form.proofs.lemmas.reduced.FirstStrategies.{first_steps, one_player_more}
 use Rattle.gf_form.proofs.reduced.first.all_reduced.Goals as goal
+
+pub overflow_cast-player : goal.overflow_cast-player
+overflow_cast-player c = grind (arith, first_steps)
+
+pub overflow_add-player : goal.overflow_add-player
+overflow_add-player c = grind (arith, first_steps)
 
 pub loop-place-preserved : goal.loop-place-preserved
 loop-place-preserved c =

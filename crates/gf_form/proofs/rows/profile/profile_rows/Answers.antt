@@ -1,3 +1,4 @@
+use Rattle.std.proofs.lemmas.Grind.{common_steps}
 use Rattle.gf_form.proofs.Common.{◌∙◌, arith, get_or, digit_actions, rows_of, sym}
 use Rattle.gf_form.proofs.lemmas.rows.GameRows.{settle_all}
 use Rattle.gf_form.proofs.lemmas.rows.PayingTerms.{settled_at}
@@ -23,3 +24,18 @@ push_rows-requires-clause-settled c =
           c.requires.numbers d digits c.in_ok-listed.listed c.in_ok-listed.ensures.terms i
           (omega (arith, less)));
     })
+
+pub new-requires-2 : goal.new-requires-2
+new-requires-2 c = grind (arith, common_steps)
+
+pub returns-in_default-clause-rows : goal.returns-in_default-clause-rows
+returns-in_default-clause-rows c = grind (arith, common_steps)
+
+pub returns-in_default-clause-values : goal.returns-in_default-clause-values
+returns-in_default-clause-values c = grind (arith, common_steps)
+
+pub returns-clause-rows : goal.returns-clause-rows
+returns-clause-rows c = grind (arith, common_steps)
+
+pub returns-clause-values : goal.returns-clause-values
+returns-clause-values c = grind (arith, common_steps)

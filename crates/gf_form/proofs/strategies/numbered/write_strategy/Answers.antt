@@ -1,4 +1,5 @@
-use Rattle.gf_form.proofs.Common.{refl}
+use Rattle.std.proofs.lemmas.Grind.{common_steps}
+use Rattle.gf_form.proofs.Common.{arith, refl}
 use Rattle.gf_form.proofs.lemmas.strategies.StrategiesByNumber.{goes_on}
 use Rattle.gf_form.proofs.strategies.numbered.write_strategy.Goals as goal
 
@@ -6,3 +7,15 @@ pub loop-count-preserved : goal.loop-count-preserved
 loop-count-preserved c =
     rw c.in_ok-push.ensures.items
     (goes_on _ _ _ _ _ _ _ c.loop-count.invariant c.loop-count-test.true refl)
+
+pub nonzero_div-stride : goal.nonzero_div-stride
+nonzero_div-stride c = grind (arith, common_steps)
+
+pub nonzero_div-rest : goal.nonzero_div-rest
+nonzero_div-rest c = grind (arith, common_steps)
+
+pub nonzero_rem-rest : goal.nonzero_rem-rest
+nonzero_rem-rest c = grind (arith, common_steps)
+
+pub returns : goal.returns
+returns c = grind (arith, common_steps)

@@ -1,5 +1,5 @@
-use Rattle.gf_form.proofs.Common.{AreFoundTo, length, arith, subst, ◌≡◌}
-use Rattle.gf_form.proofs.Common.{◌+◌, ◌*◌, ◌/◌, ◌∙◌, ap}
+use Rattle.std.proofs.lemmas.Grind.{common_steps}
+use Rattle.gf_form.proofs.Common.{AreFoundTo, length, arith, subst, ◌≡◌, ◌+◌, ◌*◌, ◌/◌, ◌∙◌, ap}
 use Rattle.gf_form.proofs.lemmas.reduced.Searches.{next_searched, known_firsts, last_firsts}
 use Rattle.gf_form.proofs.lemmas.reduced.Searches.{none_found, all_found}
 use Rattle.std.proofs.lemmas.List.{nil_from_length}
@@ -52,3 +52,9 @@ returns t c =
       found = all_found _ c.requires.is_game _ _ below.all_are below c.in_ok-mark.ensures _
           (end ∙ c.actions_tried-tried.ensures.all) _ c.loop-before.invariant;
     }
+
+pub actions_tried-tried-requires-clause-there : goal.actions_tried-tried-requires-clause-there
+actions_tried-tried-requires-clause-there t c = grind (arith, common_steps)
+
+pub choose_at-requires-clause-there : goal.choose_at-requires-clause-there
+choose_at-requires-clause-there t c = grind (arith, common_steps)

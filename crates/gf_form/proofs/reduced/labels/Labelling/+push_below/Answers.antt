@@ -1,3 +1,4 @@
+use Rattle.std.proofs.lemmas.Grind.{common_steps}
 use Rattle.gf_form.proofs.Common.{AreLabelledTo, length, arith, subst, ◌≡◌, ◌+◌}
 use Rattle.gf_form.proofs.Common.{◌*◌, ◌/◌, ◌∙◌, ap, ℕ}
 use Rattle.gf_form.proofs.lemmas.reduced.Searches.{next_told, all_rows}
@@ -40,3 +41,15 @@ returns t c =
           c.args.numbers.now c.loop-before.self.labels)
           (ap (λ (b : ℕ). c.args.number + b * each) end ∙ rows) c.loop-before.invariant;
     }
+
+pub push_label-requires-clause-next : goal.push_label-requires-clause-next
+push_label-requires-clause-next t c = grind (arith, common_steps)
+
+pub returns-in_default : goal.returns-in_default
+returns-in_default t c = grind (arith, common_steps)
+
+pub overflow_mul-first : goal.overflow_mul-first
+overflow_mul-first t c = grind (arith, common_steps)
+
+pub choose-requires-clause-fits : goal.choose-requires-clause-fits
+choose-requires-clause-fits t c = grind (arith, common_steps)

@@ -1,3 +1,4 @@
+use Rattle.std.proofs.lemmas.Grind.{common_steps}
 use Rattle.gf_form.proofs.Common.{actions_at, all_terms, arith, sym, ◌∷◌, ◌≡◌, ◌∙◌}
 use Rattle.std.proofs.lemmas.Result.{on_ok_weaker}
 use Rattle.gf_form.proofs.lemmas.rows.ChoiceSums.{added_through, alone_met, first_summing}
@@ -120,3 +121,15 @@ push_each-returns-clause-added t c =
       order = inv.order;
       ends = rw (done, step) at inv.ends;
     }
+
+pub push_each-next-chosen-requires-clause-fits : goal.push_each-next-chosen-requires-clause-fits
+push_each-next-chosen-requires-clause-fits t c = grind (arith, common_steps)
+
+pub push_each-merge-requires-clause-within : goal.push_each-merge-requires-clause-within
+push_each-merge-requires-clause-within t c = grind (arith, common_steps)
+
+pub push_each-overflow_mul-first : goal.push_each-overflow_mul-first
+push_each-overflow_mul-first t c = grind (arith, common_steps)
+
+pub push_each-push_sums-requires : goal.push_each-push_sums-requires
+push_each-push_sums-requires t c = grind (arith, common_steps)

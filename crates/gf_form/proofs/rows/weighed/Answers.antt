@@ -1,0 +1,18 @@
+use Rattle.gf_form.proofs.Common.{arith}
+use Rattle.gf_form.proofs.lemmas.values.RowSums.{weighed_steps}
+use Rattle.gf_form.proofs.rows.weighed.Goals as goal
+
+pub returns-then-num-eq0-clause-is : goal.returns-then-num-eq0-clause-is
+returns-then-num-eq0-clause-is c = grind (arith, weighed_steps)
+
+pub returns-in_default-clause-is : goal.returns-in_default-clause-is
+returns-in_default-clause-is c = grind (arith, weighed_steps)
+
+pub returns-then-num-eq0-2-clause-is : goal.returns-then-num-eq0-2-clause-is
+returns-then-num-eq0-2-clause-is c = grind (arith, weighed_steps)
+
+pub returns-in-Ok-add-clause-is : goal.returns-in-Ok-add-clause-is
+returns-in-Ok-add-clause-is c = grind (arith, weighed_steps)
+
+pub returns-in-Err-clause-is : goal.returns-in-Err-clause-is
+returns-in-Err-clause-is c = grind (arith, weighed_steps)
