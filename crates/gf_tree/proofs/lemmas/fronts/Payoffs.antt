@@ -9,7 +9,8 @@ use Common.{refl, Each, Text, Bare, suc, ◌+◌, ◌∷◌, sym, ◌∙◌, inl
 use Rattle.gf_tree.proofs.lemmas.fronts.Runs.{GoesOn, goes_before}
 use Rattle.gf_tree.proofs.lemmas.fronts.Groups.{numbers_once, regroup}
 use Rattle.gf_tree.proofs.lemmas.runs.Payoffs.{more_payoffs, number_found, with_payoffs, no_payoffs}
-use Rattle.gf_tree.proofs.lemmas.runs.Payoffs.{known_comma, new_comma, known_at, new_step, new_at}
+use Rattle.gf_tree.proofs.lemmas.runs.Payoffs.{known_comma, known_step, new_comma, known_at, new_step}
+use Rattle.gf_tree.proofs.lemmas.runs.Payoffs.{new_at}
 use Rattle.gf_tree.proofs.lemmas.runs.Tokens.{Reads, run_on, text_again, text_found}
 use Rattle.gf_tree.proofs.lemmas.fronts.Lists.{PastOutcome, past_outcome_number}
 
@@ -61,8 +62,7 @@ new_paid [] may b n outcome left inner more c r each e = record {
 new_paid (p ∷ payoffs) may b n outcome left inner more c r each e =
     let t = each.3.0 in
     let comma = each.3.1 in
-    let first : (us : List Token) → inner ++ us ≡ Bare t ∷ (comma ++ (each.1 ++ us)) =
-    λ us. regroup inner each.0 each.1 us each.2
+    let first = λ (us : List Token). regroup inner each.0 each.1 us each.2
     ∙ ap (λ (ts : List Token). ts ++ (each.1 ++ us)) each.3.2 in
     let reads = subst (λ (ts : List Token). Reads (new_at may b n outcome left) c ts r) (first more)
     e in
@@ -73,12 +73,10 @@ new_paid (p ∷ payoffs) may b n outcome left inner more c r each e =
     let number = number_again t p each.3.3 in
     let one : (us : List Token) → run_tokens (new_at may b n outcome left) c (inner ++ us)
     ≡ run_tokens (new_at k.0 b n paid s.0) c (each.1 ++ us) =
-    λ us. cc (
-      first us,
-      s.1,
-      new_step may t p b n outcome s.0 c (comma ++ (each.1 ++ us)) number,
-      k.1 (each.1 ++ us),
-    ) in
+    λ us. ap (run_tokens (new_at may b n outcome left) c) (first us)
+    ∙ ap (λ l. run_tokens (new_at may b n outcome l) c (Bare t ∷ (comma ++ (each.1 ++ us)))) s.1
+    ∙ new_step may t p b n outcome s.0 c (comma ++ (each.1 ++ us)) number
+    ∙ k.1 (each.1 ++ us) in
     let f = new_paid payoffs k.0 b n paid s.0 each.1 more c r each.4 (sym (one more) ∙ e) in
     let count = f.count in
     let left_is = s.1 in
@@ -88,7 +86,9 @@ new_paid (p ∷ payoffs) may b n outcome left inner more c r each e =
           ∙ ap (ends_number may) (sym (each.2 ∙ ap (λ (ts : List Token). ts ++ each.1) each.3.2));
       rest = f.rest;
       count = omega (arith, count, left_is);
-      answers = λ us. cc (one us, f.answers us, more_payoffs outcome p payoffs);
+      answers = λ us. one us ∙ f.answers us
+          ∙ ap (λ (o : Outcome). run_tokens (new_at f.behind b n o f.rest) c us)
+          (more_payoffs outcome p payoffs);
     }
 
 record KnownPaid (may : Bool) (known payoffs : List Ratio) (inner : List Token)
@@ -120,16 +120,27 @@ known_paid [] known may inner more c r each e = grind arith
 known_paid (p ∷ payoffs) known may inner more c r each e =
     let t = each.3.0 in
     let comma = each.3.1 in
-    let first : (us : List Token) → inner ++ us ≡ Bare t ∷ (comma ++ (each.1 ++ us)) =
-    grind arith in
+    let first = λ (us : List Token). regroup inner each.0 each.1 us each.2
+    ∙ ap (λ (ts : List Token). ts ++ (each.1 ++ us)) each.3.2 in
     let s = known_next may known t p (comma ++ (each.1 ++ more)) c r each.3.3
     (subst (λ (ts : List Token). Reads (known_at may known) c ts r) (first more) e) in
     let k = past_comma (λ (behind : Bool). run_tokens (known_at behind s.0) c) comma
     (known_comma s.0 c) each.3.4 in
     let one : (us : List Token) → run_tokens (known_at may known) c (inner ++ us)
-    ≡ run_tokens (known_at k.0 s.0) c (each.1 ++ us) = grind arith in
+    ≡ run_tokens (known_at k.0 s.0) c (each.1 ++ us) =
+    λ us. ap (run_tokens (known_at may known) c) (first us)
+    ∙ ap (λ ps. run_tokens (known_at may ps) c (Bare t ∷ (comma ++ (each.1 ++ us)))) s.1
+    ∙ known_step may t p s.0 c (comma ++ (each.1 ++ us)) each.3.3
+    ∙ k.1 (each.1 ++ us) in
     let f = known_paid payoffs s.0 k.0 each.1 more c r each.4 (sym (one more) ∙ e) in
-    grind arith
+    record {
+      behind = f.behind;
+      past_is = f.past_is ∙ sym (k.2 each.1)
+          ∙ ap (ends_number may) (sym (each.2 ∙ ap (λ (ts : List Token). ts ++ each.1) each.3.2));
+      others = f.others;
+      parts = s.1 ∙ ap (λ ps. p ∷ ps) f.parts;
+      answers = λ us. one us ∙ f.answers us;
+    }
 
 pub record AtNewPayoff (c : Content) (front inner : List Token) (n : ℕ) (outcome : Outcome)
     : Type 0 where
@@ -197,4 +208,6 @@ paid_by front n outcome c h (Some known) is_known k g =
 pub in_payoffs : (front : List Token) (n : ℕ) (outcome : Outcome) (c : Content)
     → (h : InPayoffs front n outcome) → GoesOn c front
     → AtNewPayoff c front h.1 n outcome ⊎ AtKnownPayoff c front h.1 n outcome
-in_payoffs front n outcome c h g = grind (arith, paid_by, past_outcome_number, goes_before)
+in_payoffs front n outcome c h g =
+    let before = goes_before c front h.0 (Text outcome.name ∷ Opening ∷ h.1) g h.2 in
+    paid_by front n outcome c h _ refl (past_outcome_number h.0 n c h.3 before) g
