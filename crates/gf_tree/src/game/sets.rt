@@ -300,7 +300,6 @@ impl<'a> Sets<'a> {
 
     /// Ends the description: it is that of this set, which was not known. Returns the set's place.
     /// After an `Err` nothing has changed.
-    #[tactic(auto, using(crate::proofs::lemmas::stores::SetsEnded::one_more_set))]
     pub(crate) fn end(
         &mut self,
         indexing: &mut Indexing<'_>,

@@ -9,8 +9,8 @@ use Common.{refl, Each, Text, Bare, suc, ◌+◌, ◌∷◌, sym, ◌∙◌, inl
 use Rattle.gf_tree.proofs.lemmas.fronts.Runs.{GoesOn, goes_before}
 use Rattle.gf_tree.proofs.lemmas.fronts.Groups.{numbers_once, regroup}
 use Rattle.gf_tree.proofs.lemmas.runs.Payoffs.{more_payoffs, number_found, with_payoffs, no_payoffs}
-use Rattle.gf_tree.proofs.lemmas.runs.Payoffs.{known_comma, known_step, new_comma, known_at, new_step}
-use Rattle.gf_tree.proofs.lemmas.runs.Payoffs.{new_at}
+use Rattle.gf_tree.proofs.lemmas.runs.Payoffs.{known_comma, known_step, new_comma, known_at}
+use Rattle.gf_tree.proofs.lemmas.runs.Payoffs.{new_step, new_at}
 use Rattle.gf_tree.proofs.lemmas.runs.Tokens.{Reads, run_on, text_again, text_found}
 use Rattle.gf_tree.proofs.lemmas.fronts.Lists.{PastOutcome, past_outcome_number}
 

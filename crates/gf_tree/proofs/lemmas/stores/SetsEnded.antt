@@ -111,5 +111,3 @@ module _ (players : List (List (ℕ × ℕ))) (entries : List StoredSet) (action
         → new.among ≡ length (get_or players new.player []) + 1 → place + 1 < 2 ^ 32
         → AreSets after stored kept last
     are_stored after stored kept place is cut at others own among room = grind (arith, are_then)
-
-pub ruleset one_more_set = (absent, has_fewer)

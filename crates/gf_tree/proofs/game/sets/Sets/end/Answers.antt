@@ -1,9 +1,21 @@
 use Rattle.gf_tree.proofs.Common.{List, arith, rules, subst, HoldActions, end_of}
 use Rattle.gf_tree.proofs.lemmas.stores.SetCounts.{counts_then}
-use Rattle.gf_tree.proofs.lemmas.stores.SetsEnded.{are_stored, view_then}
+use Rattle.gf_tree.proofs.lemmas.stores.SetsEnded.{absent, are_stored, has_fewer, view_then}
 use Rattle.gf_tree.specs.declared.game.action.Action.{Action as Held}
 use Rattle.gf_tree.specs.declared.game.sets.StoredSet.{StoredSet}
 use Rattle.gf_tree.proofs.game.sets.Sets.end.Goals as goal
+
+pub add_number-requires-clause-absent : goal.add_number-requires-clause-absent
+add_number-requires-clause-absent c =
+    let s = c.self.inside in
+    absent s.players.items s.entries.items s.actions.items s.from c.self.invariant.0
+    c.args.player c.args.number c.args.self.now c.self.view_is c.requires
+
+pub add_number-requires-clause-few : goal.add_number-requires-clause-few
+add_number-requires-clause-few c =
+    let s = c.self.inside in
+    omega (arith, has_fewer s.players.items s.entries.items s.actions.items s.from
+    c.self.invariant.0 c.args.player, c.in_ok-place.ensures.ok)
 
 pub invariant_of-self-2 : goal.invariant_of-self-2
 invariant_of-self-2 c =
