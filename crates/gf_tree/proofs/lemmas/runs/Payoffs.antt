@@ -66,7 +66,7 @@ abbrev pub new_result : Content → Begun → ℕ → Outcome → Content
 new_result c b n outcome = with_node (with_outcome c n outcome) b (Some n)
 
 pub no_payoffs : (outcome : Outcome) → with_payoffs outcome [] ≡ outcome
-no_payoffs outcome = grind (arith, append-nil)
+no_payoffs outcome = ap (λ ps. record outcome { payoffs = ps }) (append-nil outcome.payoffs)
 
 pub more_payoffs : (outcome : Outcome) (p : Ratio) (ps : List Ratio)
     → with_payoffs (with_payoff outcome p) ps ≡ with_payoffs outcome (p ∷ ps)
@@ -146,7 +146,10 @@ pub new_step : (may : Bool) (t : List ℕ) (p : Ratio) (b : Begun) (n : ℕ)
     (outcome : Outcome) (left : ℕ) (c : Content) (ts : List Token) → number_of t ≡ Ok p
     → run_tokens (new_at may b n outcome (suc left)) c (Bare t ∷ ts)
     ≡ run_tokens (AfterNewPayoff b n (with_payoff outcome p) left) c ts
-new_step may t p b n outcome left c ts h = grind arith
+new_step true t p b n outcome left c ts h =
+    ap (λ o. then_run (paid c b n outcome left o) (run_on ts)) h
+new_step false t p b n outcome left c ts h =
+    ap (λ o. then_run (paid c b n outcome left o) (run_on ts)) h
 
 -- a comma may stand before the rest or not
 pub comma_again : (at_comma : Bool → List Token → Result Content Why)
@@ -160,15 +163,16 @@ comma_again at_comma comma ts o passes (inr e) h = rw e (passes ts ∙ h false)
 first_number : (n : Ratio) (numbers : List Ratio) (inner rest : List Token)
     (h : Each IsPayoffInBraces inner (n ∷ numbers))
     → inner ++ Closing ∷ rest ≡ Bare h.3.0 ∷ (h.3.1 ++ (h.1 ++ Closing ∷ rest))
-first_number n numbers inner rest h = grind (arith, append_assoc)
+first_number n numbers inner rest h =
+    cc (h.2, h.3.2, append_assoc (Bare h.3.0 ∷ h.3.1) h.1 (Closing ∷ rest))
 
 pub new_again : (numbers : List Ratio) (inner rest : List Token)
     (b : Begun) (n : ℕ) (outcome : Outcome) (c : Content)
     → Each IsPayoffInBraces inner numbers → (may : Bool)
     → run_tokens (new_at may b n outcome (length numbers)) c (inner ++ Closing ∷ rest)
     ≡ run_tokens NodeDue (new_result c b n (with_payoffs outcome numbers)) rest
-new_again [] inner rest b n outcome c h true = grind (arith, no_payoffs)
-new_again [] inner rest b n outcome c h false = grind (arith, no_payoffs)
+new_again [] inner rest b n outcome c h true = cc (h, no_payoffs outcome)
+new_again [] inner rest b n outcome c h false = cc (h, no_payoffs outcome)
 new_again (p ∷ numbers) inner rest b n outcome c h may =
     let first = first_number p numbers inner rest h in
     let passed = with_payoff outcome p in
@@ -198,7 +202,8 @@ same_found wanted s (Ok found) ts r e = grind arith
 pub number_found : (wanted : Ratio) (s : State) (t : List ℕ) (ts : List Token) (r : Content)
     → then_run (same_number wanted s (number_of t)) (run_on ts) ≡ Ok r
     → IsNumber t wanted × Reads s.position s.content ts r
-number_found wanted s t ts r e = grind (arith, same_found, number_is)
+number_found wanted s t ts r e =
+    let h = same_found wanted s (number_of t) ts r e in (number_is t wanted h.0, h.1)
 
 pub number_same : (p : Ratio) (s : State) (t : List ℕ) → IsNumber t p
     → same_number p s (number_of t) ≡ Ok s
@@ -232,7 +237,10 @@ known_found false _ (p ∷ ps) c r e = absurd cc
 pub known_step : (may : Bool) (t : List ℕ) (p : Ratio) (ps : List Ratio) (c : Content)
     (ts : List Token) → IsNumber t p
     → run_tokens (known_at may (p ∷ ps)) c (Bare t ∷ ts) ≡ run_tokens (AfterKnownPayoff ps) c ts
-known_step may t p ps c ts h = grind (arith, run_on, number_same)
+known_step true t p ps c ts h =
+    ap (λ o. then_run o (run_on ts)) (number_same p (at (AfterKnownPayoff ps) c) t h)
+known_step false t p ps c ts h =
+    ap (λ o. then_run o (run_on ts)) (number_same p (at (AfterKnownPayoff ps) c) t h)
 
 pub known_again : (ps : List Ratio) (inner rest : List Token) (c : Content)
     → Each IsPayoffInBraces inner ps → (may : Bool)
