@@ -78,7 +78,6 @@ pub fn check_nfg(alloc: Global, input: &[u8]) -> Result<(), Fault>
 /// E19 is returned if memory is refused, and only if there is nothing else to refuse: at the token
 /// that needs it, if a strategic file begins with the tokens through that one and none of them
 /// passes the limit; or at the end, if the bytes are a file within the limit.
-#[tactic(auto, using(crate::proofs::lemmas::tables::Told::kept_means))]
 pub fn read_nfg(alloc: Global, input: &[u8]) -> Result<Table, Fault>
     ensures spelled { IfOk result (λ t. SpellsTable input.now t) }
     ensures within { IfOk result (λ t. IsWithinLimit t) }

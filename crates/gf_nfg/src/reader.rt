@@ -38,7 +38,6 @@ pub struct Reader<'a> {
 
 /// Keeps the label of a text.
 #[inline(always)]
-#[tactic(auto, using(std::proofs::lemmas::List::map_push))]
 fn keep<'a>(labels: &mut Vec<Label<'a>>, text: TextToken<'a>) -> Result<(), Fault>
     // Memory is refused only if there was no room.
     ensures { MatchResult result
@@ -129,7 +128,6 @@ impl<'a> Reader<'a> {
     }
 
     /// Reads and tells the payoffs of the players at each profile, to the end.
-    #[tactic(auto, using(crate::proofs::lemmas::runs::ReaderSteps::told_ends))]
     fn tell_payoffs<R: Receive<'a>>(&mut self, to: &mut R) -> Result<(), Fault>
         ensures { (b : Telling R) → StandsAt R.holds b (FlatPayoffs
             (length self.old.heading.players.items * self.old.heading.profiles.count))
@@ -145,7 +143,6 @@ impl<'a> Reader<'a> {
 
     /// Reads and tells the outcomes, after their opening brace, and the number of one at each
     /// profile, to the end.
-    #[tactic(auto, using(crate::proofs::lemmas::runs::ReaderSteps::told_ends))]
     fn tell_outcomes<R: Receive<'a>>(&mut self, to: &mut R) -> Result<(), Fault>
         ensures { (b : Telling R) → b.version ≡ version.Outcomes
             → StandsAt R.holds b (InOutcomes 0) self.old.tokens to.old

@@ -56,7 +56,6 @@ impl Model for Table {
 }
 
 /// How many profiles the players of a table with these payoffs have.
-#[tactic(auto, using(crate::proofs::lemmas::tables::Made::counted_profiles))]
 fn profiles_of(names: &Names, payoffs: &[Fraction]) -> u32
     requires { AreParts names.now payoffs.now }
     ensures { result ≡ product (map length names.now.strategies) }
@@ -219,7 +218,6 @@ impl Table {
     }
 
     /// How many strategies player `i` has, or `None` if there is no such player.
-    #[tactic(auto, using(crate::proofs::lemmas::tables::Strategies::own_there))]
     pub fn strategies(&self, i: u32) -> Option<u32>
         ensures { result ≡ option_map length (at_position self.now.strategies i) }
     {
@@ -231,7 +229,6 @@ impl Table {
     }
 
     /// The label of strategy `s` of player `i`, or `None` if there is no such strategy.
-    #[tactic(auto, using(crate::proofs::lemmas::tables::Strategies::own_there))]
     pub fn strategy(&self, i: u32, s: u32) -> Option<Label<'_>>
         ensures { option_map label_of result
             ≡ option_and_then (λ own. at_position own s) (at_position self.now.strategies i) }
@@ -249,7 +246,6 @@ impl Table {
     /// profile one entry with one payoff for each player (`is_table`); its labels can be spelled,
     /// and its payoffs are fractions (`spellable`); and it is within the limit of profiles
     /// (`within`).
-    #[tactic(auto, using(crate::proofs::lemmas::tables::Rows::as_many_rows))]
     pub fn profiles(&self) -> u32
         ensures number { result ≡ length self.now.entries }
         ensures is_table { IsTable self.now }

@@ -34,7 +34,6 @@ impl Model for Labels {
 }
 
 /// Appends labels, each after a `-`.
-#[tactic(auto, using(crate::proofs::lemmas::tables::LabelsJoined::dashed_more))]
 fn write_dashed(parts: &[Label<'_>], bytes: &mut Vec<u8>) -> Result<(), AllocError>
     ensures text { OnOk result
         (bytes.new.items ≡ bytes.old.items ++ dashed (map label_of parts.now)) }

@@ -41,7 +41,6 @@ impl<'a> Parts<'a> {
     }
 
     /// The table that the parts mean.
-    #[tactic(auto, using(crate::proofs::lemmas::tables::Rows::as_many_rows))]
     pub(crate) fn into_table(self, alloc: Global) -> Result<Table, AllocError>
         requires { (bytes : List ℕ) × MeansTable bytes (content_of self) }
         ensures { IfOk result (λ t. t ≡ table_of (content_of self.entry)) }

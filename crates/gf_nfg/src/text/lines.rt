@@ -17,7 +17,6 @@ use std::alloc::{AllocError, Global};
 use std::marker::Model;
 
 /// Appends payoffs, each after a space.
-#[tactic(auto, using(crate::proofs::lemmas::texts::Pieces::others_more))]
 fn write_others(payoffs: &[Fraction], out: &mut Vec<u8>) -> Result<(), AllocError>
     ensures text { OnOk result
         (out.new.items ≡ out.old.items ++ others_text (map number_text payoffs.now)) }

@@ -74,6 +74,4 @@ all_told holds (Ok x) t same unnumbered holding goes whole = record {
 }
 all_told holds (Err f) t same unnumbered holding goes fails = carried fails goes
 
-pub ruleset told_ends = (carried, ends_back)
-
 pub ruleset first_steps = (first_opens, goes_from, goes_to, counts_end, lists_end)

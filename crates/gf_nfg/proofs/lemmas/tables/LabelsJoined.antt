@@ -1,10 +1,10 @@
 -- Labels that are put together: one after another, or joined to one.
-use Rattle.gf_nfg.proofs.Common.{◌≡◌, ℕ, ◌+◌, ◌<◌, ◌∷◌, map, ◌∙◌, sym, sum, true, get_or, label_of}
+use Rattle.gf_nfg.proofs.Common.{◌≡◌, ℕ, ◌+◌, ◌∷◌, map, ◌∙◌, sym, sum, true, label_of}
 use Rattle.gf_nfg.proofs.Common.{IsLabel, RisesTo, pieces, List, ◌++◌, ap, Some, take, drop, refl}
 use Rattle.gf_nfg.proofs.Common.{arith, Label, [], append_assoc, join_with_byte, slice_get_within}
 use Rattle.gf_nfg.proofs.Common.{length, get_or_from_slice_get, is_spelling_after, slice_get}
 use Rattle.gf_nfg.proofs.Common.{and_from, and_parts, take_more, append-nil, length-drop}
-use Rattle.gf_nfg.proofs.Common.{length-take, AreSpellings, at_drop_more}
+use Rattle.gf_nfg.proofs.Common.{length-take, AreSpellings}
 use Rattle.gf_nfg.specs.TableParts.{dashed}
 use Rattle.gf_nfg.proofs.lemmas.tables.Lists.{sum-cons}
 use Rattle.gf_nfg.proofs.lemmas.tables.Pieces.{rises_within}
@@ -49,10 +49,6 @@ joined_label labels h = grind arith
 
 abbrev pub dashes : List Label → List ℕ
 dashes labels = dashed (map label_of labels)
-
-pub dashed_more : (labels : List Label) (i : ℕ) (d : Label) → i < length labels
-    → dashes (drop i labels) ≡ 45 ∷ (label_of (get_or labels i d) ++ dashes (drop (i + 1) labels))
-dashed_more labels i d h = at_drop_more dashes labels i d h
 
 pub join_dashed : (label : List ℕ) (labels : List (List ℕ))
     → join_with_byte 45 (label ∷ labels) ≡ label ++ dashed labels

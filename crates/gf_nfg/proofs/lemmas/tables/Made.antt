@@ -1,11 +1,11 @@
 -- A table that is made from labels and fractions.
-use Rattle.gf_nfg.proofs.Common.{◌≡◌, ℕ, ◌*◌, ◌/◌, ◌<◌, ◌≤◌, List, [], ◌∷◌, length, map, refl, ap}
-use Rattle.gf_nfg.proofs.Common.{◌∙◌, arith, Vec, mul-div_cancel, rows_of, AllByRecursion, AllZip}
+use Rattle.gf_nfg.proofs.Common.{◌≡◌, ℕ, ◌*◌, ◌<◌, ◌≤◌, List, [], ◌∷◌, length, map, refl, ap}
+use Rattle.gf_nfg.proofs.Common.{◌∙◌, arith, Vec, rows_of, AllByRecursion, AllZip}
 use Rattle.gf_nfg.proofs.Common.{length-map, label_of, Label, Ratio, IsFraction, all_both}
 use Rattle.gf_nfg.proofs.Common.{all_joined, all_lists, profile_limit, product, IsTableOf, AreParts}
 use Rattle.gf_nfg.proofs.Common.{AreSpellings, IsHeld, IsTable, Names, rows, table_with}
 use Rattle.gf_nfg.proofs.lemmas.tables.LabelsJoined.{labels_spelled}
-use Rattle.gf_nfg.proofs.lemmas.tables.Lists.{full_in_turn, joined, length-rows_of, no_counts}
+use Rattle.gf_nfg.proofs.lemmas.tables.Lists.{full_in_turn, joined, length-rows_of}
 use Rattle.gf_nfg.proofs.lemmas.tables.Lists.{rows_in_turn}
 use Rattle.gf_nfg.proofs.lemmas.tables.Rows.{entries_counted, is_table, rows-table_with}
 
@@ -84,18 +84,5 @@ module _ (names : Names) (payoffs : List Ratio) (p : AreParts names payoffs) whe
   }
 
 pub ruleset made_in_turn = (made_held, made_is)
-
--- without players there is one profile
-pub one_profile : (names : Names) (payoffs : List Ratio) → AreParts names payoffs
-    → length names.players ≡ 0 → product (map length names.strategies) ≡ 1
-one_profile names payoffs p none = no_counts (map length names.strategies)
-    (length-map names.strategies length ∙ p.one_list_each ∙ none)
-
-pub profiles_counted : (names : Names) (payoffs : List Ratio) → AreParts names payoffs
-    → 0 < length names.players
-    → length payoffs / length names.players ≡ product (map length names.strategies)
-profiles_counted names payoffs p some = grind (arith, p.one_row_each, mul-div_cancel)
-
-pub ruleset counted_profiles = (one_profile, profiles_counted)
 
 pub ruleset made_of_labels = (names_with, parts_of_labels)

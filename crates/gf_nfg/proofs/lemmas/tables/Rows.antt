@@ -174,5 +174,3 @@ pub some_in_lists : {A B Z : Type 0} (f : A → B) (lists : List (Vec A Z))
     → AllByRecursion (λ own. 0 < length own) (map (λ own. map f own.items) lists)
 some_in_lists f [] h = tt
 some_in_lists f (own ∷ lists) h = grind (arith, length-map, some_in_lists f lists h.1)
-
-pub ruleset as_many_rows = (length-map)

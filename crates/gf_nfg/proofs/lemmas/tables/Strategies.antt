@@ -1,10 +1,10 @@
 -- Lists of labels, which are kept one after another.
 use Rattle.gf_nfg.proofs.Common.{◌≡◌, ℕ, suc, ◌+◌, ◌-◌, ◌<◌, ◌≤◌, List, [], ◌∷◌, ◌++◌, length, map}
-use Rattle.gf_nfg.proofs.Common.{take, drop, get_or, Some, slice_get, min, refl, ap}
+use Rattle.gf_nfg.proofs.Common.{take, drop, get_or, slice_get, min, refl, ap}
 use Rattle.gf_nfg.proofs.Common.{arith, append_assoc, length-take, length-drop, drop_more, drop_min}
 use Rattle.gf_nfg.proofs.Common.{drop-drop, length-map, take-map, take_min, drop-map, get_or-take}
 use Rattle.gf_nfg.proofs.Common.{get_or-drop, get_or_past, get_or_from_slice_get, slice_get-get_or}
-use Rattle.gf_nfg.proofs.Common.{strategies_of, groups, pieces, start_of, RisesTo, Names, own_of}
+use Rattle.gf_nfg.proofs.Common.{strategies_of, groups, pieces, start_of, RisesTo}
 use Rattle.gf_nfg.proofs.lemmas.tables.Pieces.{length-pieces, piece_at, start_before_end}
 use Rattle.gf_nfg.proofs.lemmas.tables.Pieces.{end_within}
 
@@ -71,10 +71,6 @@ own_label {labels} {own} {start} {end} {k} h less =
 pub has_list : (lists : List (List (List ℕ))) (at k : ℕ) → k < length (get_or lists at [])
     → at < length lists
 has_list lists at k h = grind (arith, get_or_past)
-
-pub own_there : (names : Names) (at : ℕ) → at < length names.strategies
-    → slice_get names.strategies at ≡ Some (own_of names at)
-own_there names at h = slice_get-get_or names.strategies at [] h
 
 pub ruleset as_many_lists = (length-strategies_of)
 

@@ -46,11 +46,6 @@ pub ruleset names_closed = (append_assoc, drop_all, get_or_from_slice_get, list_
 abbrev pub payoffs_rest : List Ratio → List ℕ
 payoffs_rest payoffs = others_text (map number_text payoffs)
 
-pub others_more : (payoffs : List Ratio) (i : ℕ) (d : Ratio) → i < length payoffs
-    → payoffs_rest (drop i payoffs)
-    ≡ 32 ∷ (number_text (get_or payoffs i d) ++ payoffs_rest (drop (i + 1) payoffs))
-others_more payoffs i d h = at_drop_more payoffs_rest payoffs i d h
-
 pub ruleset rows_spaced = (append_assoc, spaced_is)
 
 -- the lines of the rows still to come
