@@ -288,7 +288,6 @@ impl<'a> Game<'a> {
     }
 
     /// The actions at the node at this place; none if the game ends there.
-    #[tactic(auto, using(crate::proofs::lemmas::stores::NodeParts::actions_found))]
     pub(crate) fn actions(&self, at: usize) -> &[Action<'a>]
         requires { at < length (subtrees self.now.tree) }
         ensures { MatchOption (root_node (subtree_at self.now.tree at)).set

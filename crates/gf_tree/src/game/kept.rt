@@ -182,7 +182,6 @@ impl<'a> Receive<'a> for NodeList<'a> {
         Ok(())
     }
 
-    #[tactic(auto, using(std::proofs::lemmas::List::map_push))]
     #[inline(always)]
     fn node(&mut self, node: NumberedNode<'_, 'a>) -> Result<(), AllocError> {
         self.nodes.push(Stored {

@@ -139,7 +139,6 @@ fn same_payoff(tokens: &mut Tokens<'_>, payoff: Fraction) -> Result<(), Fault>
 }
 
 /// Reads the payoffs of an outcome that is known, after its name.
-#[tactic(auto, using(crate::proofs::lemmas::reader::Steps::carried))]
 fn same_payoffs(tokens: &mut Tokens<'_>, payoffs: &[Fraction]) -> Result<(), Fault>
     ensures machine { (c : Content)
         → Goes (heard (KnownOutcomeOpening payoffs.now) c tokens.old) result

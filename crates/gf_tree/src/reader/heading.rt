@@ -26,7 +26,6 @@ impl<'a> Reader<'a> {
     }
 
     /// Reads the players. Returns the place of their closing brace.
-    #[tactic(auto, using(std::proofs::lemmas::List::map_push))]
     pub(super) fn players(&mut self) -> Result<Span, Fault>
         ensures machine { Goes (answer BeforePlayers self.old) result
             (answer AfterPlayers self.new) }

@@ -138,7 +138,6 @@ impl<'a> Reader<'a> {
 
     /// Reads the closing brace of the actions of a set that is not known, and returns the set's
     /// place.
-    #[tactic(auto, using(crate::proofs::lemmas::reader::Steps::set_ends_by))]
     fn end_set(
         &mut self,
         player: u32,

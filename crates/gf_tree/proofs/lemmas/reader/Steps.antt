@@ -1,11 +1,11 @@
 -- What the reader keeps still stands for the same when more is known.
 use Rattle.gf_tree.proofs.Common
 use Common.{position_from-zero, slice_get_within, with_pending_set, actions_counted, InformationSet}
-use Common.{description_at, OutcomeNumber, if◌then◌else◌, KnownOutcomes, entries_with, new_set_ends}
+use Common.{description_at, OutcomeNumber, KnownOutcomes, entries_with, new_set_ends}
 use Common.{KnownSetName, outcome_with, StandsBefore, with_outcome, Decides-eqb, at_position, false}
-use Common.{with_action, SumBelowOne, option_map, length-map, actions_of, set_number, begun_with, ℕ}
+use Common.{with_action, option_map, length-map, actions_of, set_number, begun_with, ℕ}
 use Common.{content_of, slice_get, KnownSets, Described, Remaining, NewAction, SetNumber, set_known}
-use Common.{position, set_with, same_set, label_of, count_of, AreAmong, past_set, set_ends, Outcome}
+use Common.{position, set_with, same_set, label_of, count_of, AreAmong, past_set, Outcome}
 use Common.{Position, then_run, with_set, Content, nothing, Closing, length, Option, Action, SetKey}
 use Common.{set_of, Format, Lexeme, nat_eq, Result, Reader, placed, Memory, lexeme, Answer, answer}
 use Common.{arith, subst, Ratio, Fault, Begun, begun, State, heard, Fails, Grows, zero, Bool, true}
@@ -184,13 +184,6 @@ module _ {E : Type 0} (r : Reader) (outcomes : KnownOutcomes) (number : ℕ) (na
 pub if_none : {A : Type 0} {P : Type 0} (o : Option A) → P → IfNone o P
 if_none None p = p
 if_none (Some x) p = tt
-
--- ---- the end of a list of actions
-
-pub set_ends_by : (c : Content) (node : List ℕ) (player n : ℕ) (set : InformationSet) (sum : Ratio)
-    → set_ends c node player n set sum
-    ≡ (if adds_up player sum then Ok (set_known c node (set_of player n) set) else Err SumBelowOne)
-set_ends_by c node player n set sum = grind arith
 
 -- ---- a token is taken
 

@@ -183,10 +183,6 @@ module _ (g : Game) (at : ℕ) (n : Stored) (kept : IsKeptAt g at n) where
     mover_there g.sets (n.set - 1) player number among (set_below some) key his,
   )
 
-  pub no_actions : n.set ≡ 0 → MatchOption node.set (◌≡◌ {A = List Action} [] [])
-      (λ key. option_map (λ set. set.actions) (set_at g key) ≡ Some [])
-  no_actions e = rw (no_set e) refl
-
   pub are_actions : (actions : List Action) → IsGame g → ¬ (n.set ≡ 0)
       → option_map (λ s. s.description.actions) (slice_get g.sets (n.set - 1)) ≡ Some actions
       → MatchOption node.set (actions ≡ [])
@@ -214,5 +210,3 @@ module _ (g : Game) (at : ℕ) (n : Stored) (kept : IsKeptAt g at n) where
           let number : slice_get (outcome_numbers g) k ≡ Some at.0.key =
           slice_get-map (λ (o : Described ℕ Outcome). o.key) g.outcomes k ∙ key in
           cc (outcome_is (suc k) is, position_is (outcome_numbers g) k at.0.key distinct number)
-
-pub ruleset actions_found = (no_actions, set_below)
