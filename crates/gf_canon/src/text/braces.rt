@@ -17,7 +17,6 @@ use gf_tree::{Action, OutcomeDescription, SetDescription};
 use std::alloc::AllocError;
 
 /// Appends labels in braces.
-#[tactic(auto, using(crate::proofs::lemmas::texts::TextPieces::lists_closed))]
 pub(crate) fn write_labels(labels: &[Label<'_>], out: &mut Vec<u8>) -> Result<(), AllocError>
     ensures text { OnOk result
         (out.new.items ≡ out.old.items ++ list_text (map quoted (map label_of labels.now))) }
@@ -48,7 +47,6 @@ fn write_action(action: &Action<'_>, out: &mut Vec<u8>) -> Result<(), AllocError
 }
 
 /// Appends actions in braces.
-#[tactic(auto, using(crate::proofs::lemmas::texts::TextPieces::lists_closed))]
 fn write_actions(actions: &[Action<'_>], out: &mut Vec<u8>) -> Result<(), AllocError>
     ensures text { OnOk result (out.new.items
         ≡ out.old.items ++ list_text (flat_map action_fields (actions_of actions.now))) }
@@ -63,7 +61,6 @@ fn write_actions(actions: &[Action<'_>], out: &mut Vec<u8>) -> Result<(), AllocE
 }
 
 /// Appends payoffs in braces.
-#[tactic(auto, using(crate::proofs::lemmas::texts::TextPieces::lists_closed))]
 fn write_payoffs(payoffs: &[Fraction], out: &mut Vec<u8>) -> Result<(), AllocError>
     ensures text { OnOk result
         (out.new.items ≡ out.old.items ++ list_text (map number_text payoffs.now)) }

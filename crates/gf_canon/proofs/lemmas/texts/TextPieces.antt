@@ -39,12 +39,10 @@ abbrev pub payoffs_left : List Ratio → List ℕ
 payoffs_left payoffs = items_text (map number_text payoffs)
 
 -- the whole list, of which nothing is left
-pub list_closed : (all : List (List ℕ)) (old opened out : List ℕ) → opened ≡ old ++ codes "{ "
-    → out ++ codes "}" ≡ opened ++ items_text all
-    → out ++ codes "}" ≡ old ++ list_text all
-list_closed all old opened out e h = grind (arith, append_assoc, list_text_is)
-
-pub ruleset lists_closed = (list_closed, drop_all)
+pub list_closed : (all : List (List ℕ)) (old opened out new left : List ℕ)
+    → opened ≡ old ++ codes "{ " → new ≡ out ++ codes "}" → left ≡ codes "}"
+    → out ++ left ≡ opened ++ items_text all → new ≡ old ++ list_text all
+list_closed all old opened out new left e f none h = grind (arith, append_assoc, list_text_is)
 
 -- ---- fields one after another
 

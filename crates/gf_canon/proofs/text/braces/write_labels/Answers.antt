@@ -1,0 +1,13 @@
+use Rattle.gf_canon.proofs.Common.{arith, map, quoted, label_of, flat_map, action_fields}
+use Rattle.gf_fraction.specs.NumberText.{number_text}
+use Rattle.gf_tree.specs.Actions.{actions_of}
+use Rattle.std.proofs.lemmas.List.{at_drop_all}
+use Rattle.gf_canon.proofs.lemmas.texts.TextPieces.{labels_left, list_closed}
+use Rattle.gf_canon.proofs.text.braces.write_labels.Goals as goal
+
+pub returns-clause-text : goal.returns-clause-text
+returns-clause-text c =
+    list_closed (map quoted (map label_of c.args.labels.now)) _ _ _ _ _
+    c.in_ok-extend_from_slice.ensures.items c.in_ok-push-2.ensures.items
+    (at_drop_all labels_left c.args.labels.now c.loop-label.label-index (omega arith))
+    c.loop-label.invariant.0
