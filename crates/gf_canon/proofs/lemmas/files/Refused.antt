@@ -40,11 +40,14 @@ refused_at_first bytes fault h = record {
 
 -- in its format
 
-pub refused_game : (bytes : List ℕ) (fault : Fault) (format : Format) → format ≡ Extensive
-    → BeginsWithWord (word_of format) bytes → extensive_file.IsJudged fault.why bytes fault.span
-    → ((g : Game) → SpellsGame bytes g → fault.why ≡ Memory) → IsRefusedWith bytes fault
-refused_game bytes fault Strategic is named judged memory = absurd cc
-refused_game bytes fault Extensive is named judged memory = record {
+pub refused_game : {A : Type 0} (bytes : List ℕ) (r : Result A Fault) (format : Format)
+    → format ≡ Extensive → BeginsWithWord (word_of format) bytes
+    → IfErr r (λ fault. extensive_file.IsJudged fault.why bytes fault.span)
+    → IfErr r (λ fault. (g : Game) → SpellsGame bytes g → fault.why ≡ Memory)
+    → IfErr r (IsRefusedWith bytes)
+refused_game bytes (Ok a) format is named judged memory = tt
+refused_game bytes (Err fault) Strategic is named judged memory = absurd cc
+refused_game bytes (Err fault) Extensive is named judged memory = record {
   judged = of_extensive named judged;
   placed = extensive_placed fault.why bytes fault.span named judged;
   unless_memory = unless;
@@ -72,5 +75,3 @@ refused_table bytes (Err fault) Strategic is named judged memory = record {
     unless (strategic t) h = memory t h.spelled h.within
     unless (extensive g) h =
         absurd (two_words (sym (named_by_word (codes "NFG") bytes (extensive g) named h.spelled)))
-
-pub ruleset refused = (refused_at_first, refused_game, refused_table)
