@@ -1,4 +1,4 @@
-use Rattle.std.proofs.Common.{inr}
+use Rattle.std.proofs.Common.{[], inl, inr, refl}
 use Rattle.std.proofs.lemmas.List.{drop_all}
 use Rattle.gf_run.proofs.Hashed.{left_at}
 use Rattle.gf_run.proofs.collections.duplicates.run_duplicates.Goals as goal
@@ -21,3 +21,17 @@ returns g c =
     (record { output = write.new.output; errors = write.new.errors; status = write.result })
     (rw (drop_all c.loop-file.file-index c.args.files.now c.loop-file-test.false)
     (write.ensures now.0 now.1))
+
+pub loop-file-init : goal.loop-file-init
+loop-file-init g c = ([], c.new-groups.ensures, λ end rest. rest)
+
+pub returns-in-Err : goal.returns-in-Err
+returns-in-Err g c =
+    c.loop-file.invariant.2
+    (record { output = c.args.output.now; errors = c.tell.new.errors; status = c.max.result })
+    (rw (left_at c.args.files.now c.loop-file.file-index c.file-item.result
+    c.loop-file-test.true c.file-item.is) (inl (record {
+      unwritten = refl;
+      told = rw c.in-Err.ensures.untold at c.tell.ensures.told;
+      status = rw c.tell.ensures.status at c.max.ensures;
+    })))

@@ -18,3 +18,7 @@ returns-in_err-push_all-clause-refused g c =
     let hashed = c.in_ok-hash.ensures.hash in
     IfErr-only _ _ _ c.from_residual-in_err-push_all.ensures.1
     (read hashed.0 hashed.2 (hashed.1.is_text.file, hashed.1.is_text.spelled))
+
+pub returns-in_err-hash-clause-refused : goal.returns-in_err-hash-clause-refused
+returns-in_err-hash-clause-refused g c =
+    IfErr-only _ _ _ c.from_residual.ensures.1 c.in_err-hash.ensures.refused
