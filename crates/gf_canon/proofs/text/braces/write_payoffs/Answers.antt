@@ -1,4 +1,4 @@
-use Rattle.gf_canon.proofs.Common.{arith, map, quoted, label_of, flat_map, action_fields}
+use Rattle.gf_canon.proofs.Common.{arith, common_steps, map, quoted, label_of, flat_map, action_fields}
 use Rattle.gf_fraction.specs.NumberText.{number_text}
 use Rattle.gf_tree.specs.Actions.{actions_of}
 use Rattle.std.proofs.lemmas.List.{at_drop_all}
@@ -11,3 +11,12 @@ returns-clause-text c =
     c.in_ok-extend_from_slice.ensures.items c.in_ok-push-2.ensures.items
     (at_drop_all payoffs_left c.args.payoffs.now c.loop-payoff.payoff-index (omega arith))
     c.loop-payoff.invariant.0
+
+pub returns-in_err-extend_from_slice-clause-kept : goal.returns-in_err-extend_from_slice-clause-kept
+returns-in_err-extend_from_slice-clause-kept c = grind (arith, common_steps)
+
+pub returns-in_err-push-clause-kept : goal.returns-in_err-push-clause-kept
+returns-in_err-push-clause-kept c = grind (arith, common_steps)
+
+pub loop-payoff-preserved : goal.loop-payoff-preserved
+loop-payoff-preserved c = grind (arith, common_steps)
