@@ -14,3 +14,6 @@ returns-in-Ok-try_from c =
     c.unsigned_abs-places.result c.args.power c.of_words.result
     (omega (arith, ints)) (omega (arith, ints)) (omega (arith, c.in-Ok-try_from.ensures))
     c.requires.digits_within w.ensures c.of_words.ensures.fraction c.of_words.ensures.value
+
+pub returns-in_default : goal.returns-in_default
+returns-in_default c = grind (arith, ints)

@@ -30,3 +30,6 @@ returns-clause-value c =
     let value =
     signed_value c.args.num _ _ p q c.of_words.result size_is c.lowest-size.ensures is in
     grind arith
+
+pub of_words-requires : goal.of_words-requires
+of_words-requires c = grind arith
