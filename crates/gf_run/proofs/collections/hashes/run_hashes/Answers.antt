@@ -1,4 +1,4 @@
-use Rattle.std.proofs.Common.{inr}
+use Rattle.std.proofs.Common.{arith, inr}
 use Rattle.gf_run.proofs.Hashed.{left_at}
 use Rattle.gf_run.proofs.collections.hashes.run_hashes.Goals as goal
 
@@ -6,3 +6,9 @@ pub loop-file-preserved : goal.loop-file-preserved
 loop-file-preserved g c = λ end rest. c.loop-file.invariant end
     (rw (left_at c.args.files.now c.loop-file.file-index c.file-item.result c.loop-file-test.true
     c.file-item.is) (inr (_, c.in-Ok.ensures.step, rest)))
+
+pub loop-file-init : goal.loop-file-init
+loop-file-init g c = λ end rest. rest
+
+pub returns-in-Err : goal.returns-in-Err
+returns-in-Err g c = grind (arith, left_at)

@@ -1,4 +1,4 @@
-use Rattle.std.proofs.Common.{inr, refl}
+use Rattle.std.proofs.Common.{arith, inr, refl}
 use Rattle.gf_run.proofs.Errors.{IfErr-only}
 use Rattle.gf_run.proofs.jobs.run.run_form.Goals as goal
 
@@ -11,3 +11,6 @@ returns-in_err-push_text-clause-refused g c =
       c.in_ok-bytes.ensures.whole,
       inr (refl, (text.file, rw c.as_slice.ensures.value at text.spelled)),
     ))
+
+pub returns-in_err-answer-clause-refused : goal.returns-in_err-answer-clause-refused
+returns-in_err-answer-clause-refused g c = grind arith
