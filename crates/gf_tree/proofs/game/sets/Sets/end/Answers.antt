@@ -14,8 +14,9 @@ add_number-requires-clause-absent c =
 pub add_number-requires-clause-few : goal.add_number-requires-clause-few
 add_number-requires-clause-few c =
     let s = c.self.inside in
-    omega (arith, has_fewer s.players.items s.entries.items s.actions.items s.from
-    c.self.invariant.0 c.args.player, c.in_ok-place.ensures.ok)
+    let fewer = has_fewer s.players.items s.entries.items s.actions.items s.from
+    c.self.invariant.0 c.args.player in
+    omega (arith, fewer, c.in_ok-place.ensures.ok)
 
 pub invariant_of-self-2 : goal.invariant_of-self-2
 invariant_of-self-2 c =
