@@ -150,7 +150,6 @@ impl Lines {
 
     /// Appends the lines with these numbers, for which there is room, until there are this many
     /// bytes. Returns how many lines these are.
-    #[tactic(auto, using(crate::proofs::lemmas::texts::SharedLines::next_chosen))]
     pub(crate) fn append_until(&self, bytes: usize, numbers: &[u32], out: &mut Vec<u8>) -> usize
         requires below { AllByRecursion (λ number. number < length self.now) numbers.now }
         requires room { vec_len out.old + length (lines_with self.now numbers.now)
