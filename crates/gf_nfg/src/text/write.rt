@@ -18,7 +18,6 @@ use gf_token::{Label, write_label};
 use std::alloc::AllocError;
 
 /// Appends the players' names in braces.
-#[tactic(auto, using(crate::proofs::lemmas::texts::Pieces::names_closed))]
 fn write_players(names: &Names, out: &mut Vec<u8>) -> Result<(), AllocError>
     ensures text { OnOk result
         (out.new.items ≡ out.old.items ++ list_text (map quoted names.now.players)) }
