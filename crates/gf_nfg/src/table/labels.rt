@@ -47,7 +47,6 @@ fn write_dashed(parts: &[Label<'_>], bytes: &mut Vec<u8>) -> Result<(), AllocErr
 }
 
 /// Appends these labels, joined by `-`.
-#[tactic(auto, using(crate::proofs::lemmas::tables::LabelsJoined::joined_labels))]
 fn write_joined(parts: &[Label<'_>], bytes: &mut Vec<u8>) -> Result<(), AllocError>
     ensures text { OnOk result
         (bytes.new.items ≡ bytes.old.items ++ join_with_byte 45 (map label_of parts.now)) }
