@@ -1,4 +1,4 @@
-use Rattle.gf_canon.proofs.Common.{rules}
+use Rattle.gf_canon.proofs.Common.{arith, rules}
 use Rattle.gf_canon.specs.MeaningOf.{file_of_listed}
 use Rattle.gf_canon.proofs.lemmas.texts.Compared.{same_as_first, same_as_itself}
 use Rattle.gf_canon.proofs.sameness.same_by.Goals as goal
@@ -10,3 +10,6 @@ pub returns-clause-same : goal.returns-clause-same
 returns-clause-same c = same_as_first c.args.names c.same_as.result c.args.a.now c.args.b.now
     (file_of_listed c.in-Ok-list_file.first) c.in-Ok-list_file.ensures.spelled
     c.same_as.ensures.same c.same_as.ensures.refused
+
+pub returns-clause-accepted : goal.returns-clause-accepted
+returns-clause-accepted c = grind arith
