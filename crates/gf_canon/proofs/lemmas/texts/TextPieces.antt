@@ -3,7 +3,7 @@ use Rattle.gf_canon.proofs.Common
 use Common.{flat_map-append, InformationSet, length-append, action_fields, if◌then◌else◌, list_text}
 use Common.{append_assoc, mover_fields, heading_text, length-drop, others_text, step_fields, length}
 use Common.{append-nil, lines_text, file_nodes, first_line, game_text, node_text, node_line, Option}
-use Common.{drop-set, drop_all, take_all, flat_map, label_of, FileNode, decimal, Result, quoted, []}
+use Common.{drop-set, take_all, flat_map, label_of, FileNode, decimal, Result, quoted, []}
 use Common.{spaced, SetKey, arith, is_ok, codes, zero, List, ◌++◌, drop, None, Some, refl, OnOk, ap}
 use Common.{take, Game, ◌≡◌, suc, ◌+◌, ◌<◌, ◌∷◌, map, sym, ◌∙◌, ◌-◌, ◌≤◌, Err, set, Use, ◌^◌, Ok, ℕ}
 use Rattle.gf_fraction.specs.NumberText.{number_text}
