@@ -96,7 +96,7 @@ pub use Rattle.std.proofs.lemmas.Bool.{both_ways, cases_Bool, eqb-true, ne_eqb, 
 pub use Rattle.std.proofs.lemmas.Bool.{or_parts}
 pub use Rattle.std.proofs.lemmas.Bool.Decides.{Decides-eqb, nat_tests}
 pub use Rattle.std.proofs.lemmas.Grind.{common_steps, flat_map-append}
-pub use Rattle.std.proofs.lemmas.List.{append-nil, drop-set, drop_all, get_or-map, length-map}
+pub use Rattle.std.proofs.lemmas.List.{append-nil, at_drop_all, drop-set, get_or-map, length-map}
 pub use Rattle.std.proofs.lemmas.List.{map-append, nil_from_length, take_all}
 pub use Rattle.std.proofs.lemmas.Result.{on_ok_weaker}
 pub use Rattle.std.specs.BTreeMap.{BTreeMap, get}

@@ -1,6 +1,5 @@
-use Rattle.gf_canon.proofs.Common.{arith, common_steps, flat_map, action_fields}
+use Rattle.gf_canon.proofs.Common.{arith, at_drop_all, common_steps, flat_map, action_fields}
 use Rattle.gf_tree.specs.Actions.{actions_of}
-use Rattle.std.proofs.lemmas.List.{at_drop_all}
 use Rattle.gf_canon.proofs.lemmas.texts.TextPieces.{actions_left, list_closed}
 use Rattle.gf_canon.proofs.text.braces.write_actions.Goals as goal
 

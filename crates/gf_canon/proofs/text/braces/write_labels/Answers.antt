@@ -1,5 +1,4 @@
-use Rattle.gf_canon.proofs.Common.{arith, common_steps, map, quoted, label_of}
-use Rattle.std.proofs.lemmas.List.{at_drop_all}
+use Rattle.gf_canon.proofs.Common.{arith, at_drop_all, common_steps, map, quoted, label_of}
 use Rattle.gf_canon.proofs.lemmas.texts.TextPieces.{labels_left, list_closed}
 use Rattle.gf_canon.proofs.text.braces.write_labels.Goals as goal
 
