@@ -3,6 +3,7 @@ pub mod Counted
 pub mod Duplicates
 pub mod DuplicatesRun
 pub mod Ending
+pub mod Erasing
 pub mod Explained
 pub mod Failures
 pub mod FaultInput

@@ -1,5 +1,8 @@
 //! How many files are done, shown on a terminal while a long run goes on.
 
+ghost use Rattle.std.specs.Prelude.{◌≡◌, None, if◌then◌else◌};
+ghost use Rattle.gf_run.specs.Erasing.{held_by};
+
 use crate::texts::line::Line;
 use std::io;
 use std::io::Write;
@@ -88,7 +91,9 @@ pub struct Erasing<W> {
 
 impl<W: Write> Erasing<W> {
     /// Erases nothing unless `erases` is true.
-    pub fn new(terminal: W, erases: bool) -> Erasing<W> {
+    pub fn new(terminal: W, erases: bool) -> Erasing<W>
+        ensures { held_by W.contents result ≡ (if erases then None else W.contents terminal) }
+    {
         Erasing {
             terminal,
             erases,
@@ -98,6 +103,8 @@ impl<W: Write> Erasing<W> {
 }
 
 impl<W: Write> Write for Erasing<W> {
+    ghost contents = { held_by W.contents };
+
     fn write(&mut self, buf: &[u8]) -> io::Result<usize> {
         if self.erases && self.begins {
             let _ = self.terminal.write(ERASE);
