@@ -1,8 +1,0 @@
-pub mod Actions
-pub mod Answers
-pub mod BareTokens
-pub mod Heading
-pub mod Nodes
-pub mod Outcomes
-pub mod Payoffs
-pub mod Rows
