@@ -7,7 +7,7 @@ pub use Rattle.gf_canon.specs.GameText.{action_fields, described_fields, game_te
 pub use Rattle.gf_canon.specs.GameText.{node_text, outcome_fields, result_fields, set_fields}
 pub use Rattle.gf_canon.specs.GameText.{step_fields}
 pub use Rattle.gf_canon.specs.IsGameFile.{IsGameFile}
-pub use Rattle.gf_canon.specs.Judgement.{BeginsWithWord, IsFormatReason, IsInEitherFormat, IsJudged}
+pub use Rattle.gf_canon.specs.Judgement.{BeginsWithWord, IsInEitherFormat, IsJudged}
 pub use Rattle.gf_canon.specs.Judgement.{IsPlaced, IsRefused, IsRefusedWith, IsWithoutFormat}
 pub use Rattle.gf_canon.specs.Judgement.{MeansFile}
 pub use Rattle.gf_canon.specs.NamesAside.{IsTextBy, SameAsideNames, file_by, unnamed, unnamed_game}
@@ -39,8 +39,8 @@ pub use Rattle.gf_token.specs.Place.{IsSpanOf, MayFollow, tokens_of}
 pub use Rattle.gf_token.specs.Positions.{at_position}
 pub use Rattle.gf_token.specs.Remaining.{Remaining, refusal}
 pub use Rattle.gf_token.specs.Token.{Lexeme, Token, lexeme}
-pub use Rattle.gf_token.specs.Token.Token.{Bare, Broken, Closing, Comma, Opening, Text}
-pub use Rattle.gf_token.specs.TokenSpelling.{IsSpelled, Spells}
+pub use Rattle.gf_token.specs.Token.Token.{Bare, Text}
+pub use Rattle.gf_token.specs.TokenSpelling.{Spells}
 pub use Rattle.gf_token.specs.declared.fault.Fault.{Fault}
 pub use Rattle.gf_token.specs.declared.fault.Span.{Span}
 pub use Rattle.gf_token.specs.declared.fault.What.TheVariants.{Format}
@@ -54,15 +54,15 @@ pub use Rattle.gf_tree.proofs.lemmas.games.Carried.{entry_used, in_keys}
 pub use Rattle.gf_tree.proofs.lemmas.games.Consistent.{flatten_map, map_entry, outcomes_in_order}
 pub use Rattle.gf_tree.proofs.lemmas.games.Consistent.{sets_in_order}
 pub use Rattle.gf_tree.proofs.lemmas.games.FirstUses.{AreDistinct, first_uses_distinct, found}
-pub use Rattle.gf_tree.proofs.lemmas.games.FirstUses.{is_used, of_filter, was_used}
+pub use Rattle.gf_tree.proofs.lemmas.games.FirstUses.{of_filter, was_used}
 pub use Rattle.gf_tree.proofs.lemmas.games.MappedTrees.{held, map_tree_twice}
 pub use Rattle.gf_tree.proofs.lemmas.games.Members.{map_same, map_twice}
 pub use Rattle.gf_tree.proofs.lemmas.games.Renumberings.{outcome_number_positive, agreed_games}
-pub use Rattle.gf_tree.proofs.lemmas.games.Renumberings.{set_number_positive, agreed_trees, Agree}
+pub use Rattle.gf_tree.proofs.lemmas.games.Renumberings.{set_number_positive, Agree}
 pub use Rattle.gf_tree.proofs.lemmas.games.Same.{carried_outcomes, carried_sets, only_outcomes}
 pub use Rattle.gf_tree.proofs.lemmas.games.Same.{only_sets, same_back, same_itself, same_on}
 pub use Rattle.gf_tree.proofs.lemmas.games.TreesOnce.{same_set_equality, spells_one_game}
-pub use Rattle.gf_tree.proofs.lemmas.games.Uses.{Has, IsEquality, all_of_each, contains, differ}
+pub use Rattle.gf_tree.proofs.lemmas.games.Uses.{Has, IsEquality, all_of_each, contains}
 pub use Rattle.gf_tree.proofs.lemmas.games.Uses.{each, has, has_map, has_place, mapped_from}
 pub use Rattle.gf_tree.specs.CanonicalGame.{canonical_game}
 pub use Rattle.gf_tree.specs.Consistent.{AreConsistent, Describes, IsConsistent, IsDescribed}
@@ -92,8 +92,7 @@ pub use Rattle.std.proofs.Common.{eqb, false, filter, get_or, inl, inr, is_ok, l
 pub use Rattle.std.proofs.Common.{length-append, length-drop, map, refl, replicate, rules, set}
 pub use Rattle.std.proofs.Common.{subst, suc, sym, take, true, zero, ℕ, [], ◌++◌, ◌+◌, ◌-◌, ◌<◌}
 pub use Rattle.std.proofs.Common.{◌^◌, ◌∙◌, ◌∷◌, ◌≡◌, ◌≢◌, ◌≤◌}
-pub use Rattle.std.proofs.lemmas.Bool.{both_ways, cases_Bool, eqb-true, ne_eqb, or_cases, or_from}
-pub use Rattle.std.proofs.lemmas.Bool.{or_parts}
+pub use Rattle.std.proofs.lemmas.Bool.{eqb-true, ne_eqb, or_cases}
 pub use Rattle.std.proofs.lemmas.Bool.Decides.{Decides-eqb, nat_tests}
 pub use Rattle.std.proofs.lemmas.Grind.{common_steps, flat_map-append}
 pub use Rattle.std.proofs.lemmas.List.{append-nil, at_drop_all, drop-set, get_or-map, length-map}
@@ -101,9 +100,8 @@ pub use Rattle.std.proofs.lemmas.List.{map-append, nil_from_length, take_all}
 pub use Rattle.std.proofs.lemmas.Result.{on_ok_weaker}
 pub use Rattle.std.specs.BTreeMap.{BTreeMap, get}
 pub use Rattle.std.specs.Cmp.Lexicographic.{pointwise}
-pub use Rattle.std.specs.List.{AllByRecursion, Contains, cons_option, filter_map, find, flat_map}
-pub use Rattle.std.specs.List.{list_any, slice_get}
-pub use Rattle.std.specs.Option.{option_to_list}
+pub use Rattle.std.specs.List.{AllByRecursion, cons_option, filter_map, flat_map}
+pub use Rattle.std.specs.List.{list_any}
 pub use Rattle.std.specs.Ordering.{is_eq, nat_cmp}
 pub use Rattle.std.specs.Prelude.{IsSome, IsTrue, MatchOption, codes, decimal, if◌then◌else◌}
-pub use Rattle.std.specs.Prelude.{is_some, nat_eq, option_map, unwrap_or, ⊤, ◌==◌, ◌↔◌, ◌⊎◌}
+pub use Rattle.std.specs.Prelude.{is_some, nat_eq, option_map, unwrap_or, ◌==◌, ◌↔◌, ◌⊎◌}

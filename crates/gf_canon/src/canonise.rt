@@ -32,6 +32,7 @@ fn canonical_efg(alloc: Global, input: &[u8], names: Names) -> Result<TextPieces
 }
 
 /// The canonical text of a game file, or why it is refused.
+#[tactic(auto, using(crate::proofs::lemmas::files::Refused::refusals))]
 fn text_of(alloc: Global, input: &[u8], names: Names) -> Result<TextPieces, Fault>
     ensures text { IfOk result (λ text. IsTextBy names input.now text.rest) }
     ensures refused { IfErr result (IsRefusedWith input.now) }

@@ -37,6 +37,7 @@ impl<'a> Receive<'a> for Unkept {
 ///
 /// Refused as by `canonical`; E19 if memory is refused for the descriptions of sets and outcomes,
 /// for the receiver, or for the labels of a table.
+#[tactic(auto, using(crate::proofs::lemmas::files::Refused::refusals))]
 pub(crate) fn tell_file<'a, R: Receive<'a>>(
     alloc: Global,
     input: &'a [u8],

@@ -1,7 +1,6 @@
 //! Laws of the definitions, each as the contract of a function that does nothing.
 
 ghost use Rattle.std.specs.Prelude.{◌≡◌, ◌↔◌, ◌⊎◌, Bool, Decides, List, ℕ, length, map};
-ghost use Rattle.gf_token.specs.Code.{code_of};
 ghost use Rattle.gf_token.specs.declared.fault.Span.{Span};
 ghost use Rattle.gf_token.specs.declared.fault.Why.{Why};
 ghost use Rattle.gf_nfg.specs.Profiles.{positions};
@@ -11,7 +10,8 @@ ghost use Rattle.gf_tree.specs.FileNodes.{file_nodes};
 ghost use Rattle.gf_tree.specs.FiniteMap.{first_uses};
 ghost use Rattle.gf_tree.specs.Game.{Game};
 ghost use Rattle.gf_tree.specs.IsGame.{IsGame};
-ghost use Rattle.gf_tree.specs.GameOf.{SpellsGame};
+ghost use Rattle.gf_tree.specs.GameOf.{IsGameOf, SpellsGame};
+ghost use Rattle.gf_tree.specs.Consistent.{IsConsistent};
 ghost use Rattle.gf_tree.specs.PrefixOrder.{flatten};
 ghost use Rattle.gf_tree.specs.Spellable.{IsSpellable};
 ghost use Rattle.gf_tree.specs.WorkedTrees.{bonus, five};
@@ -40,7 +40,7 @@ ghost use Rattle.gf_canon.specs.WorkedGames.{nobody, nobody_text, numbered_five,
 ghost use Rattle.gf_canon.specs.WorkedGames.{renamed_prize, seen, two_prizes, unseen, zero_outcome};
 
 /// Each list of bytes has a canonical text, or it is refused, but never both. It never has two
-/// texts, and is never refused at two places or with two codes.
+/// texts, and is never refused at two places or for two reasons.
 ///
 /// If two lists of bytes have canonical texts, these are equal exactly when the bytes mean the
 /// same. Two trees do if some renumbering of information sets, player by player, and of outcomes
@@ -58,7 +58,7 @@ pub fn headline()
         → IsCanonicalText bytes other → text ≡ other }
     ensures one_refusal { (bytes : List ℕ) (why other : Why) (span place : Span)
         → IsRefused why bytes span → IsRefused other bytes place
-        → (span ≡ place) × (code_of why ≡ code_of other) }
+        → (span ≡ place) × (why ≡ other) }
     ensures equal_exactly { (a b s t : List ℕ) → IsCanonicalText a s → IsCanonicalText b t
         → (s ≡ t) ↔ MeanSame a b }
     ensures same_exactly { (a b : List ℕ) (x y : GameFile) → SpellsWithin a x → SpellsWithin b y
@@ -151,12 +151,13 @@ pub fn same_by_canonical_game()
 {}
 
 /// Every game has exactly one file tree in which the first uses are described and no others; its
-/// nodes are those of the game's text.
+/// nodes are those of the game's text. So the games are those that some consistent file tree has.
 #[tactic(auto, using(crate::proofs::lemmas::texts::OneFile::files_of_games))]
 pub fn file_of_each_game()
     ensures some { (g : Game) → IsGame g
         → (f : FileTree) × IsFileOf g f × (map (λ e. e.node) (flatten f.tree) ≡ file_nodes g) }
     ensures one { (g : Game) (f h : FileTree) → IsFileOf g f → IsFileOf g h → f ≡ h }
+    ensures are_games { (g : Game) → IsGame g ↔ ((f : FileTree) × IsConsistent f × IsGameOf f g) }
 {}
 
 /// The text of a game is an extensive file that means this game, so different games have different
@@ -167,6 +168,13 @@ pub fn text_reads_back()
     ensures two_texts { (g h : Game) → IsGame g → IsSpellable g → IsGame h → IsSpellable h
         → (game_text g ≡ game_text h) ↔ (g ≡ h) }
     ensures canonical { (g : Game) → IsGame g → IsSpellable g → IsSpellable (canonical_game g) }
+{}
+
+/// Files mean exactly the games whose labels can be spelled, whose probabilities and payoffs are
+/// fractions, and whose numbers are indices.
+#[tactic(auto, using(crate::proofs::lemmas::texts::ReadsBack::games_of_files))]
+pub fn games_of_files()
+    ensures { (g : Game) → ((bytes : List ℕ) × SpellsGame bytes g) ↔ (IsGame g × IsSpellable g) }
 {}
 
 /// Bytes mean at most one game or one table, and never both.

@@ -28,6 +28,7 @@ pub(crate) enum Listed<'a> {
 }
 
 /// Reads a game file as `read_file` does.
+#[tactic(auto, using(crate::proofs::lemmas::files::Refused::refusals))]
 pub(crate) fn list_file<'a>(alloc: Global, input: &'a [u8]) -> Result<Listed<'a>, Fault>
     ensures spelled { IfOk result
         (λ listed. SpellsWithin input.entry.now (file_of_listed listed)) }
@@ -45,6 +46,7 @@ pub(crate) fn list_file<'a>(alloc: Global, input: &'a [u8]) -> Result<Listed<'a>
 /// # Errors
 ///
 /// Those of `canonical`; E19 if memory for the game or the table is refused.
+#[tactic(auto, using(crate::proofs::lemmas::files::Refused::refusals))]
 pub fn read_file<'a>(alloc: Global, input: &'a [u8]) -> Result<Meaning<'a>, Fault>
     ensures spelled { IfOk result (λ meaning. SpellsWithin input.entry.now (file_of meaning)) }
     ensures refused { IfErr result (IsRefusedWith input.entry.now) }

@@ -109,6 +109,7 @@ fn same_as_tree(alloc: Global, g: &ListedGame<'_>, b: &[u8], names: Names) -> Re
 
 /// Whether a file means the same as a table, with which another table is compared while it is read.
 /// `AllocError` if the file is accepted, and memory to compare it is refused.
+#[tactic(auto, using(crate::proofs::lemmas::files::Refused::refusals))]
 fn same_as_table(
     alloc: Global,
     t: &ListedTable,

@@ -7,7 +7,6 @@ pub mod ListsLeft
 pub mod Machine
 pub mod Meaning
 pub mod PayoffLists
-pub mod Position
 pub mod ReaderState
 pub mod TextParts
 pub mod Told

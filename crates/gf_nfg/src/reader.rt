@@ -9,7 +9,7 @@ ghost use Rattle.gf_token.specs.declared.fault.Why.TheVariants.{Memory};
 ghost use Rattle.gf_token.specs.TokenSpelling.{Spells};
 ghost use Rattle.gf_nfg.specs.inner.Heard.{Fails};
 ghost use Rattle.gf_nfg.specs.inner.Machine.{nothing};
-ghost use Rattle.gf_nfg.specs.inner.Position.Position.{FlatPayoffs, Format, InOutcomes};
+ghost use Rattle.gf_nfg.specs.Position.Position.{FlatPayoffs, Format, InOutcomes};
 ghost use Rattle.gf_nfg.specs.inner.ReaderState.{HasCounts, HasToldAll, StandsAt, Telling, answer};
 ghost use Rattle.gf_nfg.specs.inner.ReaderState.{body_answer, content_in, labels_of};
 ghost use Rattle.gf_nfg.specs.inner.Told.{told_heading};

@@ -1,17 +1,16 @@
 -- What the machine answers to the tokens of an input, refusals with their places. Here it also
--- refuses what its steps do not: an unterminated text, and profiles past their limit.
+-- refuses profiles past their limit.
 use Rattle.std.specs.Prelude.{ℕ, Bool, false, nat_lt, List, Result, Ok, Err, if◌then◌else◌}
-use Rattle.gf_token.specs.Next.{is_broken}
 use Rattle.gf_token.specs.Remaining.{Remaining}
 use Rattle.gf_token.specs.Token.{Token, Lexeme}
 use Rattle.gf_token.specs.declared.fault.Fault.{Fault}
 use Rattle.gf_token.specs.declared.fault.Why.{Why}
-use Rattle.gf_token.specs.declared.fault.Why.TheVariants.{TooManyProfiles, Unterminated}
+use Rattle.gf_token.specs.declared.fault.Why.TheVariants.{TooManyProfiles}
 use Rattle.gf_token.specs.inner.Machine as any_format
 pub use Rattle.gf_token.specs.inner.Machine.{Fails, Goes}
 use Rattle.gf_nfg.specs.Limit.{profile_limit}
 use Rattle.gf_nfg.specs.inner.Machine.{Content, State, finish, step}
-use Rattle.gf_nfg.specs.inner.Position.{Position, Position as p}
+use Rattle.gf_nfg.specs.Position.{Position, Position as p}
 
 -- the profiles pass their limit, after the strategies of one more player were read
 abbrev pub is_past : Position → ℕ → Bool
@@ -25,7 +24,7 @@ within (Err why) = Err why
 
 -- the next token
 abbrev pub taken : State → Token → Result State Why
-taken s t = if is_broken t then Err Unterminated else within (step s t)
+taken s t = within (step s t)
 
 -- the answer to the tokens to come, before the end of an input of this many bytes
 abbrev pub read_on : ℕ → State → List Lexeme → Result Content Fault

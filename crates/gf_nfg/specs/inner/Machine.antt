@@ -1,23 +1,24 @@
 -- The reader of strategic files as a machine: one token at a time. Sentence says what it means; no
 -- public contract cites this file.
-use Rattle.std.specs.Prelude.{ℕ, zero, suc, ◌+◌, ◌-◌, ◌*◌, ◌^◌, ◌||◌, min, List, [], ◌∷◌, ◌++◌}
+use Rattle.std.specs.Prelude.{ℕ, zero, suc, ◌+◌, ◌*◌, ◌||◌, true, false, List, [], ◌∷◌, ◌++◌}
 use Rattle.std.specs.Prelude.{length, codes, Option, Some, None, Result, Ok, Err, nat_eq, nat_le}
 use Rattle.std.specs.Prelude.{if◌then◌else◌}
 use Rattle.std.specs.Cmp.Lexicographic.{pointwise}
+use Rattle.gf_token.specs.Next.{is_broken}
 use Rattle.gf_token.specs.Token.{Token}
 use Rattle.gf_token.specs.Token.Token.{Opening, Closing, Comma, Text, Bare}
 use Rattle.gf_token.specs.declared.fault.What.{What}
 use Rattle.gf_token.specs.declared.fault.What.TheVariants as what
 use Rattle.gf_token.specs.declared.fault.Why.{Why}
 use Rattle.gf_token.specs.declared.fault.Why.TheVariants.{Expected, BadIndex, NoEntry}
-use Rattle.gf_token.specs.declared.fault.Why.TheVariants.{UnknownOutcome}
+use Rattle.gf_token.specs.declared.fault.Why.TheVariants.{UnknownOutcome, Unterminated}
 use Rattle.gf_fraction.specs.Ratio.{Ratio}
 use Rattle.gf_fraction.specs.declared.fraction.NumberFault.{NumberFault}
 use Rattle.gf_fraction.specs.Computed.{number_of}
 use Rattle.gf_token.specs.NumberWhy.{why_of}
 use Rattle.gf_token.specs.inner.Machine as any_format
 use Rattle.gf_token.specs.Indices.{count_of, index_of}
-use Rattle.gf_nfg.specs.inner.Position.{Position, Position as p}
+use Rattle.gf_nfg.specs.Position.{Position, Position as p}
 
 -- What was read so far. `counts` says how many strategies each player has, `profiles` is the
 -- product of the counts, and `labels` has the labels, or none if the file gives only counts.
@@ -101,10 +102,8 @@ due_at (p.FlatPayoffs zero) = what.End
 due_at (p.FlatPayoffs (suc left)) = what.Number
 due_at (p.InOutcomes outcomes) = what.Opening
 due_at (p.OutcomeName outcomes) = what.Text
-due_at (p.BracedPayoff outcomes zero) = what.Closing
-due_at (p.BracedPayoff outcomes (suc left)) = what.Number
-due_at (p.AfterBracedPayoff outcomes zero) = what.Closing
-due_at (p.AfterBracedPayoff outcomes (suc left)) = what.Number
+due_at (p.BracedPayoff may outcomes zero) = what.Closing
+due_at (p.BracedPayoff may outcomes (suc left)) = what.Number
 due_at (p.OutcomeNumbers outcomes zero) = what.End
 due_at (p.OutcomeNumbers outcomes (suc left)) = what.Index
 
@@ -129,10 +128,6 @@ abbrev pub paid : Position → Content → Result Ratio NumberFault → Result S
 paid q c (Err fault) = Err (why_of fault)
 paid q c (Ok n) = Ok (at q (with_payoffs c (n ∷ [])))
 
--- no index is greater than 2^32 - 1, so no outcome after that one is ever named
-abbrev pub next_outcome : ℕ → ℕ
-next_outcome n = min (n + 1) (2 ^ 32 - 1)
-
 -- after this many outcomes, the number of one was due, before this many more, and these bytes stood
 -- there
 abbrev pub chosen : ℕ → ℕ → Content → Option ℕ → Result State Why
@@ -141,7 +136,7 @@ chosen outcomes left c (Some k) =
     if nat_le k outcomes then Ok (at (p.OutcomeNumbers outcomes left) (with_choices c (k ∷ [])))
     else Err UnknownOutcome
 
--- the next token, at a position
+-- the next token at a position, if it is not an unterminated text
 abbrev pub step_at : Position → Content → Token → Result State Why
 step_at p.Format c (Bare b) =
     if pointwise nat_eq b (codes "NFG") then Ok (at p.Version c) else Err (Expected what.Format)
@@ -175,22 +170,17 @@ step_at (p.FlatPayoffs (suc left)) c (Bare b) = paid (p.FlatPayoffs left) c (num
 step_at (p.InOutcomes outcomes) c Opening = Ok (at (p.OutcomeName outcomes) c)
 step_at (p.InOutcomes outcomes) c Closing = Ok (at (p.OutcomeNumbers outcomes c.profiles) c)
 step_at (p.OutcomeName outcomes) c (Text label) =
-    Ok (at (p.BracedPayoff outcomes (length c.players)) c)
-step_at (p.BracedPayoff outcomes zero) c Closing =
-    Ok (at (p.InOutcomes (next_outcome outcomes)) c)
-step_at (p.BracedPayoff outcomes (suc left)) c (Bare b) =
-    paid (p.AfterBracedPayoff outcomes left) c (number_of b)
-step_at (p.AfterBracedPayoff outcomes left) c Comma = Ok (at (p.BracedPayoff outcomes left) c)
-step_at (p.AfterBracedPayoff outcomes zero) c Closing =
-    Ok (at (p.InOutcomes (next_outcome outcomes)) c)
-step_at (p.AfterBracedPayoff outcomes (suc left)) c (Bare b) =
-    paid (p.AfterBracedPayoff outcomes left) c (number_of b)
+    Ok (at (p.BracedPayoff false outcomes (length c.players)) c)
+step_at (p.BracedPayoff true outcomes left) c Comma = Ok (at (p.BracedPayoff false outcomes left) c)
+step_at (p.BracedPayoff may outcomes zero) c Closing = Ok (at (p.InOutcomes (outcomes + 1)) c)
+step_at (p.BracedPayoff may outcomes (suc left)) c (Bare b) =
+    paid (p.BracedPayoff true outcomes left) c (number_of b)
 step_at (p.OutcomeNumbers outcomes (suc left)) c (Bare b) = chosen outcomes left c (index_of b)
 step_at q c t = Err (Expected (due_at q))
 
 -- the next token
 abbrev pub step : State → Token → Result State Why
-step s t = step_at s.position s.content t
+step s t = if is_broken t then Err Unterminated else step_at s.position s.content t
 
 -- the answer at the end of the tokens
 abbrev pub ended : Content → What → Result Content Why

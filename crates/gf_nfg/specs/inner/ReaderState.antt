@@ -1,5 +1,6 @@
 -- What a reader and what it has read stand for, regardless of where they are in memory.
-use Rattle.std.specs.Prelude.{◌≡◌, ℕ, ◌+◌, ◌*◌, List, [], length, map, MatchResult, Result, Ok}
+use Rattle.std.specs.Prelude.{◌≡◌, ℕ, ◌+◌, ◌-◌, ◌*◌, ◌^◌, min, List, [], length, map, Result, Ok}
+use Rattle.std.specs.Prelude.{MatchResult}
 use Rattle.gf_fraction.specs.Ratio.{Ratio}
 use Rattle.gf_token.specs.Label.{label_of}
 use Rattle.gf_token.specs.declared.label.Label.{Label}
@@ -9,7 +10,7 @@ use Rattle.gf_token.specs.Remaining.{Remaining}
 use Rattle.gf_token.specs.inner.Machine.{◌>>=◌, Fails, placed}
 use Rattle.gf_nfg.specs.inner.Heard.{Answer, heard, read_on, within}
 use Rattle.gf_nfg.specs.inner.Machine.{Content, at, with_count}
-use Rattle.gf_nfg.specs.inner.Position.{Position, Position as p}
+use Rattle.gf_nfg.specs.Position.{Position, Position as p}
 use Rattle.gf_nfg.specs.inner.Told.{Told}
 use Rattle.gf_nfg.specs.declared.table.heading.Heading.{Heading}
 use Rattle.gf_nfg.specs.declared.table.parts.Parts.{Parts}
@@ -104,6 +105,10 @@ pub record StandsAt {T : Type 0} (holds : T → T → Told → Type 0) (b : Tell
 -- a call leads from one such place to another
 abbrev pub GoesTo : {T X : Type 0} → Telling T → Result X Fault → Type 0 → Type 0 → Type 0
 GoesTo b result before after = before → MatchResult result (λ _. after) (λ f. Fails f b.whole)
+
+-- of this many outcomes so many are counted: no index is greater
+abbrev pub IsCounted : ℕ → ℕ → Type 0
+IsCounted n counted = counted ≡ min n (2 ^ 32 - 1)
 
 -- The receiver was told the whole file, to its end. In payoff version no numbers were told.
 pub record HasToldAll {T : Type 0} (holds : T → Told → Type 0) (before : Answer) (heading : Heading)

@@ -4,15 +4,15 @@
 //! The numbers at the end of a file are most of what it holds, so the functions that read one are
 //! `inline(always)`.
 
-ghost use Rattle.std.specs.Prelude.{◌≡◌, ◌<◌, ◌≤◌, ◌-◌, ℕ, Ok, length};
+ghost use Rattle.std.specs.Prelude.{◌≡◌, ◌<◌, ◌≤◌, ◌+◌, ◌-◌, ℕ, Ok, length, true, false};
 ghost use Rattle.std.specs.Prelude.{IfErr, MatchResult, OnOk};
 ghost use Rattle.gf_token.specs.declared.fault.Why.TheVariants.{Memory};
 ghost use Rattle.gf_nfg.specs.inner.Heard.{Fails, heard};
-ghost use Rattle.gf_nfg.specs.inner.Machine.{Content, at, next_outcome};
-ghost use Rattle.gf_nfg.specs.inner.Position.Position.{AfterBracedPayoff, BracedPayoff};
-ghost use Rattle.gf_nfg.specs.inner.Position.Position.{FlatPayoffs};
-ghost use Rattle.gf_nfg.specs.inner.Position.Position.{InOutcomes, OutcomeName, OutcomeNumbers};
-ghost use Rattle.gf_nfg.specs.inner.ReaderState.{GoesTo, StandsAt, Telling};
+ghost use Rattle.gf_nfg.specs.inner.Machine.{Content, at};
+ghost use Rattle.gf_nfg.specs.Position.Position.{BracedPayoff};
+ghost use Rattle.gf_nfg.specs.Position.Position.{FlatPayoffs};
+ghost use Rattle.gf_nfg.specs.Position.Position.{InOutcomes, OutcomeName, OutcomeNumbers};
+ghost use Rattle.gf_nfg.specs.inner.ReaderState.{GoesTo, IsCounted, StandsAt, Telling};
 ghost use Rattle.gf_nfg.specs.declared.reader.receive.Version.TheVariants as version;
 
 use crate::reader::receive::Receive;
@@ -25,8 +25,8 @@ fn payoff<'a, R: Receive<'a>>(tokens: &mut Tokens<'a>, to: &mut R) -> Result<(),
         (StandsAt R.holds b (FlatPayoffs due) tokens.old to.old)
         (StandsAt R.holds b (FlatPayoffs (due - 1)) tokens.new to.new) }
     ensures braced { (b : Telling R) (outcomes due : ℕ) → 0 < due → GoesTo b result
-        (StandsAt R.holds b (BracedPayoff outcomes due) tokens.old to.old)
-        (StandsAt R.holds b (AfterBracedPayoff outcomes (due - 1)) tokens.new to.new) }
+        (StandsAt R.holds b (BracedPayoff false outcomes due) tokens.old to.old)
+        (StandsAt R.holds b (BracedPayoff true outcomes (due - 1)) tokens.new to.new) }
     ensures shorter { OnOk result (length tokens.new.ahead ≤ length tokens.old.ahead) }
 
     // Memory is refused only if the receiver had no room.
@@ -67,8 +67,8 @@ pub(super) fn payoffs<'a, R: Receive<'a>>(
 #[inline(always)]
 fn comma(tokens: &mut Tokens<'_>)
     ensures machine { (c : Content) (outcomes due : ℕ)
-        → heard (at (AfterBracedPayoff outcomes due) c) tokens.old
-        ≡ heard (at (BracedPayoff outcomes due) c) tokens.new }
+        → heard (at (BracedPayoff true outcomes due) c) tokens.old
+        ≡ heard (at (BracedPayoff false outcomes due) c) tokens.new }
     ensures shorter { length tokens.new.ahead ≤ length tokens.old.ahead }
 {
     tokens.comma();
@@ -81,8 +81,8 @@ fn braced_payoffs<'a, R: Receive<'a>>(
     to: &mut R,
 ) -> Result<(), Fault>
     ensures told { (b : Telling R) (outcomes : ℕ) → GoesTo b result
-        (StandsAt R.holds b (BracedPayoff outcomes due) tokens.old to.old)
-        (StandsAt R.holds b (BracedPayoff outcomes 0) tokens.new to.new) }
+        (StandsAt R.holds b (BracedPayoff false outcomes due) tokens.old to.old)
+        (StandsAt R.holds b (BracedPayoff false outcomes 0) tokens.new to.new) }
     ensures shorter { OnOk result (length tokens.new.ahead ≤ length tokens.old.ahead) }
 {
     while due > 0 {
@@ -102,7 +102,7 @@ fn outcome<'a, R: Receive<'a>>(
     ensures told { (b : Telling R) (outcomes : ℕ) → length b.heading.players.items ≡ players
         → GoesTo b result
         (StandsAt R.holds b (OutcomeName outcomes) tokens.old to.old)
-        (StandsAt R.holds b (InOutcomes (next_outcome outcomes)) tokens.new to.new) }
+        (StandsAt R.holds b (InOutcomes (outcomes + 1)) tokens.new to.new) }
     ensures shorter { OnOk result (length tokens.new.ahead ≤ length tokens.old.ahead) }
 {
     let Some(_) = tokens.text() else {
@@ -122,11 +122,11 @@ pub(super) fn outcomes<'a, R: Receive<'a>>(
     players: usize,
     to: &mut R,
 ) -> Result<u32, Fault>
-    ensures { (b : Telling R) → length b.heading.players.items ≡ players
-        → StandsAt R.holds b (InOutcomes 0) tokens.old to.old
-        → MatchResult result
-        (λ outcomes. StandsAt R.holds b (OutcomeNumbers outcomes b.heading.profiles.count)
-        tokens.new to.new)
+    ensures { (b : Telling R) (profiles : ℕ) → length b.heading.players.items ≡ players
+        → b.heading.profiles.count ≡ profiles
+        → StandsAt R.holds b (InOutcomes 0) tokens.old to.old → MatchResult result
+        (λ outcomes. (n : ℕ) × IsCounted n outcomes
+        × StandsAt R.holds b (OutcomeNumbers n profiles) tokens.new to.new)
         (λ f. Fails f b.whole) }
 {
     let mut outcomes: u32 = 0;
@@ -147,10 +147,10 @@ fn number<'a, R: Receive<'a>>(
     outcomes: u32,
     to: &mut R,
 ) -> Result<(), Fault>
-    ensures told { (b : Telling R) (due : ℕ) → b.version ≡ version.Outcomes → 0 < due
-        → GoesTo b result
-        (StandsAt R.holds b (OutcomeNumbers outcomes due) tokens.old to.old)
-        (StandsAt R.holds b (OutcomeNumbers outcomes (due - 1)) tokens.new to.new) }
+    ensures told { (b : Telling R) (n due : ℕ) → IsCounted n outcomes
+        → b.version ≡ version.Outcomes → 0 < due → GoesTo b result
+        (StandsAt R.holds b (OutcomeNumbers n due) tokens.old to.old)
+        (StandsAt R.holds b (OutcomeNumbers n (due - 1)) tokens.new to.new) }
 
     // Memory is refused only if the receiver had no room.
     ensures full { IfErr result (λ f. f.why ≡ Memory → R.numbers_full to.old) }
@@ -177,9 +177,10 @@ pub(super) fn numbers<'a, R: Receive<'a>>(
     outcomes: u32,
     to: &mut R,
 ) -> Result<(), Fault>
-    ensures { (b : Telling R) → b.version ≡ version.Outcomes → GoesTo b result
-        (StandsAt R.holds b (OutcomeNumbers outcomes due) tokens.old to.old)
-        (StandsAt R.holds b (OutcomeNumbers outcomes 0) tokens.new to.new) }
+    ensures { (b : Telling R) (n : ℕ) → IsCounted n outcomes → b.version ≡ version.Outcomes
+        → GoesTo b result
+        (StandsAt R.holds b (OutcomeNumbers n due) tokens.old to.old)
+        (StandsAt R.holds b (OutcomeNumbers n 0) tokens.new to.new) }
 {
     while due > 0 {
         number(tokens, outcomes, to)?;

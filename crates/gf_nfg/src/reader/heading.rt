@@ -3,9 +3,9 @@
 ghost use Rattle.std.specs.Prelude.{◌≡◌, ◌≤◌, ◌*◌, ℕ, length};
 ghost use Rattle.gf_token.specs.Remaining.{StandsBefore};
 ghost use Rattle.gf_nfg.specs.inner.Heard.{Goes};
-ghost use Rattle.gf_nfg.specs.inner.Position.Position.{AfterComment, AfterStrategies};
-ghost use Rattle.gf_nfg.specs.inner.Position.Position.{BeforePlayers};
-ghost use Rattle.gf_nfg.specs.inner.Position.Position.{BeforeStrategies, Format};
+ghost use Rattle.gf_nfg.specs.Position.Position.{AfterComment, AfterStrategies};
+ghost use Rattle.gf_nfg.specs.Position.Position.{BeforePlayers};
+ghost use Rattle.gf_nfg.specs.Position.Position.{BeforeStrategies, Format};
 ghost use Rattle.gf_nfg.specs.inner.ReaderState.{answer, body_at};
 
 use super::{Reader, keep};

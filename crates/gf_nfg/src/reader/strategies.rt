@@ -7,9 +7,9 @@ ghost use Rattle.gf_token.specs.Remaining.{StandsBefore};
 ghost use Rattle.gf_token.specs.declared.fault.What.TheVariants as what;
 ghost use Rattle.gf_token.specs.declared.fault.Why.TheVariants.{Memory};
 ghost use Rattle.gf_nfg.specs.inner.Heard.{Goes};
-ghost use Rattle.gf_nfg.specs.inner.Position.Position.{AfterStrategies, BeforeList};
-ghost use Rattle.gf_nfg.specs.inner.Position.Position.{BeforeStrategies};
-ghost use Rattle.gf_nfg.specs.inner.Position.Position.{Counts, FirstStrategies, InList};
+ghost use Rattle.gf_nfg.specs.Position.Position.{AfterStrategies, BeforeList};
+ghost use Rattle.gf_nfg.specs.Position.Position.{BeforeStrategies};
+ghost use Rattle.gf_nfg.specs.Position.Position.{Counts, FirstStrategies, InList};
 ghost use Rattle.gf_nfg.specs.inner.ReaderState.{HasMore, answer, settling};
 
 use super::{Reader, keep};

@@ -14,5 +14,4 @@ pub mod Remainders
 pub mod Results
 pub mod Sets
 pub mod Shares
-pub mod Stops
 pub mod Tokens

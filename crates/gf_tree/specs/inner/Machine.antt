@@ -1,8 +1,8 @@
 -- The reader of extensive files as a machine: one token at a time. Sentence and Consistent say what
 -- it means; no public contract cites this file.
-use Rattle.std.specs.Prelude.{ℕ, zero, suc, ◌+◌, ◌-◌, ◌==◌, ◌||◌, Bool, false, List, [], ◌∷◌, ◌++◌}
-use Rattle.std.specs.Prelude.{length, codes, Option, Some, None, Result, Ok, Err, nat_eq, nat_le}
-use Rattle.std.specs.Prelude.{pos, if◌then◌else◌}
+use Rattle.std.specs.Prelude.{ℕ, zero, suc, ◌+◌, ◌-◌, ◌==◌, ◌||◌, ◌&&◌, Bool, true, false, List, []}
+use Rattle.std.specs.Prelude.{◌∷◌, ◌++◌, length, codes, Option, Some, None, Result, Ok, Err, nat_eq}
+use Rattle.std.specs.Prelude.{nat_le, pos, if◌then◌else◌}
 use Rattle.std.specs.Cmp.Lexicographic.{pointwise}
 use Rattle.gf_fraction.specs.Ratio.{Ratio, whole}
 use Rattle.gf_fraction.specs.Computed.{number_of}
@@ -13,7 +13,7 @@ use Rattle.gf_token.specs.Next.{is_bare_token}
 use Rattle.gf_token.specs.NumberWhy.{why_of}
 use Rattle.gf_token.specs.Indices.{count_of, index_of}
 use Rattle.gf_token.specs.declared.fault.Fault.{Fault}
-use Rattle.gf_token.specs.inner.Machine.{◌>>=◌, placed}
+use Rattle.gf_token.specs.inner.Machine.{read_on}
 use Rattle.gf_token.specs.Token.Token.{Opening, Closing, Comma, Text, Bare}
 use Rattle.gf_token.specs.declared.fault.Why.{Why}
 use Rattle.gf_token.specs.declared.fault.Why.TheVariants.{SumBelowOne, NoEntry, Expected}
@@ -77,16 +77,14 @@ pub data Position : Type 0 where
   OutcomeNumber : Begun → Position
   NewOutcomeName : Begun → ℕ → Position
   NewOutcomeOpening : Begun → ℕ → List ℕ → Position
-  -- a payoff, after these, with this many left; after the last, the closing brace
-  NewPayoff : Begun → ℕ → Outcome → ℕ → Position
-  -- the same, or one comma
-  AfterNewPayoff : Begun → ℕ → Outcome → ℕ → Position
+  -- a payoff, after these, with this many left; after the last, the closing brace; and whether a
+  -- comma may come before it
+  NewPayoff : Bool → Begun → ℕ → Outcome → ℕ → Position
   -- the name of a known outcome, or what follows the node
   KnownOutcomeName : Outcome → Position
   -- these payoffs are left
   KnownOutcomeOpening : List Ratio → Position
-  KnownPayoff : List Ratio → Position
-  AfterKnownPayoff : List Ratio → Position
+  KnownPayoff : Bool → List Ratio → Position
 
 pub record State : Type 0 where
   pub position : Position
@@ -100,6 +98,11 @@ nothing =
     record { title = []; comment = []; players = []; nodes = []; due = 1; sets = []; outcomes = [] }
 
 -- ---- what a position looks at
+
+-- a payoff in braces, if so many are left
+abbrev pub is_payoff_or_end : ℕ → Token → Bool
+is_payoff_or_end zero t = is_closing t
+is_payoff_or_end (suc left) t = is_bare_token t
 
 -- which tokens it looks into; any other is refused, and the refusal names what is due
 abbrev pub looks_at : Position → Token → Bool
@@ -120,14 +123,8 @@ looks_at (KnownAction _ _) t = is_text_token t || is_closing t
 looks_at AfterPlayers t = is_text_token t || is_bare_token t
 looks_at (KnownSetName _ _ _) t = is_text_token t || is_bare_token t
 looks_at (KnownOutcomeName _) t = is_text_token t || is_bare_token t
-looks_at (NewPayoff _ _ _ zero) t = is_closing t
-looks_at (NewPayoff _ _ _ (suc due)) t = is_bare_token t
-looks_at (AfterNewPayoff _ _ _ zero) t = is_comma t || is_closing t
-looks_at (AfterNewPayoff _ _ _ (suc due)) t = is_comma t || is_bare_token t
-looks_at (KnownPayoff []) t = is_closing t
-looks_at (KnownPayoff (_ ∷ _)) t = is_bare_token t
-looks_at (AfterKnownPayoff []) t = is_comma t || is_closing t
-looks_at (AfterKnownPayoff (_ ∷ _)) t = is_comma t || is_bare_token t
+looks_at (NewPayoff may _ _ _ left) t = (is_comma t && may) || is_payoff_or_end left t
+looks_at (KnownPayoff may left) t = (is_comma t && may) || is_payoff_or_end (length left) t
 looks_at _ t = is_bare_token t
 
 -- what is due if a node or the end is
@@ -162,16 +159,12 @@ due (KnownProbability _ _ _) n = Expected what.Number
 due (OutcomeNumber _) n = Expected what.Index
 due (NewOutcomeName _ _) n = NotDescribed
 due (NewOutcomeOpening _ _ _) n = Expected what.Opening
-due (NewPayoff _ _ _ zero) n = Expected what.Closing
-due (NewPayoff _ _ _ (suc left)) n = Expected what.Number
-due (AfterNewPayoff _ _ _ zero) n = Expected what.Closing
-due (AfterNewPayoff _ _ _ (suc left)) n = Expected what.Number
+due (NewPayoff _ _ _ _ zero) n = Expected what.Closing
+due (NewPayoff _ _ _ _ (suc left)) n = Expected what.Number
 due (KnownOutcomeName _) n = node_or_end n
 due (KnownOutcomeOpening _) n = Expected what.Opening
-due (KnownPayoff []) n = Expected what.Closing
-due (KnownPayoff (_ ∷ _)) n = Expected what.Number
-due (AfterKnownPayoff []) n = Expected what.Closing
-due (AfterKnownPayoff (_ ∷ _)) n = Expected what.Number
+due (KnownPayoff _ []) n = Expected what.Closing
+due (KnownPayoff _ (_ ∷ _)) n = Expected what.Number
 
 -- whether the file may end there, if this many nodes are due
 abbrev pub may_end : Position → ℕ → Bool
@@ -301,7 +294,7 @@ with_payoff outcome p = record outcome { payoffs = outcome.payoffs ++ p ∷ [] }
 
 abbrev pub paid : Content → Begun → ℕ → Outcome → ℕ → Result Ratio NumberFault → Result State Why
 paid c b n outcome due (Err fault) = Err (why_of fault)
-paid c b n outcome due (Ok p) = Ok (at (AfterNewPayoff b n (with_payoff outcome p) due) c)
+paid c b n outcome due (Ok p) = Ok (at (NewPayoff true b n (with_payoff outcome p) due) c)
 
 abbrev pub outcome_ends : Content → Begun → ℕ → Outcome → State
 outcome_ends c b n outcome = at NodeDue (with_node (with_outcome c n outcome) b (Some n))
@@ -348,22 +341,18 @@ taken (KnownProbability b p others) c (Bare t) =
 taken (OutcomeNumber b) c (Bare t) = outcome_number c b (index_of t)
 taken (NewOutcomeName b n) c (Text label) = Ok (at (NewOutcomeOpening b n label) c)
 taken (NewOutcomeOpening b n label) c Opening =
-    Ok (at (NewPayoff b n (record { name = label; payoffs = [] }) (length c.players)) c)
-taken (NewPayoff b n outcome zero) c Closing = Ok (outcome_ends c b n outcome)
-taken (NewPayoff b n outcome (suc left)) c (Bare t) = paid c b n outcome left (number_of t)
-taken (AfterNewPayoff b n outcome left) c Comma = Ok (at (NewPayoff b n outcome left) c)
-taken (AfterNewPayoff b n outcome zero) c Closing = Ok (outcome_ends c b n outcome)
-taken (AfterNewPayoff b n outcome (suc left)) c (Bare t) = paid c b n outcome left (number_of t)
+    Ok (at (NewPayoff false b n (record { name = label; payoffs = [] }) (length c.players)) c)
+taken (NewPayoff may b n outcome left) c Comma = Ok (at (NewPayoff false b n outcome left) c)
+taken (NewPayoff may b n outcome zero) c Closing = Ok (outcome_ends c b n outcome)
+taken (NewPayoff may b n outcome (suc left)) c (Bare t) = paid c b n outcome left (number_of t)
 taken (KnownOutcomeName outcome) c (Text label) =
     same_text outcome.name label (at (KnownOutcomeOpening outcome.payoffs) c)
 taken (KnownOutcomeName outcome) c (Bare b) = after_node c c.due b
-taken (KnownOutcomeOpening payoffs) c Opening = Ok (at (KnownPayoff payoffs) c)
-taken (KnownPayoff []) c Closing = Ok (at NodeDue c)
-taken (KnownPayoff (p ∷ ps)) c (Bare t) = same_number p (at (AfterKnownPayoff ps) c) (number_of t)
-taken (AfterKnownPayoff ps) c Comma = Ok (at (KnownPayoff ps) c)
-taken (AfterKnownPayoff []) c Closing = Ok (at NodeDue c)
-taken (AfterKnownPayoff (p ∷ ps)) c (Bare t) =
-    same_number p (at (AfterKnownPayoff ps) c) (number_of t)
+taken (KnownOutcomeOpening payoffs) c Opening = Ok (at (KnownPayoff false payoffs) c)
+taken (KnownPayoff may ps) c Comma = Ok (at (KnownPayoff false ps) c)
+taken (KnownPayoff may []) c Closing = Ok (at NodeDue c)
+taken (KnownPayoff may (p ∷ ps)) c (Bare t) =
+    same_number p (at (KnownPayoff true ps) c) (number_of t)
 taken q c t = Err (due q c.due)
 
 abbrev pub step : Position → Content → Token → Result State Why
@@ -378,8 +367,13 @@ step q c t =
 abbrev pub finish : Position → Content → Result Content Why
 finish q c = if may_end q c.due then Ok c else Err (due q c.due)
 
+-- as a machine of any format
+abbrev pub next : State → Token → Result State Why
+next s t = step s.position s.content t
+
+abbrev pub at_end : State → Result Content Why
+at_end s = finish s.position s.content
+
 -- the answer to the tokens to come, before the end of an input of this many bytes
 abbrev pub run : ℕ → Position → Content → List Lexeme → Result Content Fault
-run end q c [] = placed end end (finish q c)
-run end q c (l ∷ ls) =
-    placed l.start l.end (step q c l.token) >>= λ s. run end s.position s.content ls
+run end q c ls = read_on next at_end end (at q c) ls

@@ -1,6 +1,6 @@
 //! Descriptions that are repeated: they are compared with the first ones while they are read.
 
-ghost use Rattle.std.specs.Prelude.{◌≤◌, ◌∷◌, [], ℕ, List, length, OnOk};
+ghost use Rattle.std.specs.Prelude.{◌≤◌, ◌∷◌, [], false, ℕ, List, length, OnOk};
 ghost use Rattle.gf_fraction.specs.Ratio.{Ratio};
 ghost use Rattle.gf_token.specs.Label.{label_of};
 ghost use Rattle.gf_tree.specs.Actions.{action_of, actions_of};
@@ -118,8 +118,8 @@ pub(crate) fn same_set<'a>(
 /// Reads a payoff of an outcome that is known, and one comma if there is one.
 fn same_payoff(tokens: &mut Tokens<'_>, payoff: Fraction) -> Result<(), Fault>
     ensures machine { (c : Content) (others : List Ratio)
-        → Goes (heard (KnownPayoff (payoff ∷ others)) c tokens.old) result
-        (heard (KnownPayoff others) c tokens.new) }
+        → Goes (heard (KnownPayoff false (payoff ∷ others)) c tokens.old) result
+        (heard (KnownPayoff false others) c tokens.new) }
     ensures shorter { OnOk result (length tokens.new.ahead ≤ length tokens.old.ahead) }
 {
     let Some((word, number)) = tokens.number() else {

@@ -1,6 +1,6 @@
 //! The outcome of a node, which completes the node.
 
-ghost use Rattle.std.specs.Prelude.{◌≡◌, ◌+◌, ◌<◌, ◌≤◌, suc, ℕ, List, Some, None, length};
+ghost use Rattle.std.specs.Prelude.{◌≡◌, ◌+◌, ◌<◌, ◌≤◌, false, suc, ℕ, List, Some, None, length};
 ghost use Rattle.std.specs.Prelude.{map, nat_eq, option_map, position, slice_get};
 ghost use Rattle.std.specs.Prelude.{IfNone, IfOk, IfSome, OnOk};
 ghost use Rattle.gf_token.specs.Label.{label_of};
@@ -59,9 +59,9 @@ impl<'a> Reader<'a> {
     /// Reads a payoff of a new outcome, and one comma if there is one.
     fn payoff(&mut self) -> Result<(), Fault>
         ensures machine { (b : Begun) (number : ℕ) (name : List ℕ) (left : ℕ) → Goes
-            (answer (NewPayoff b number (outcome_with name self.old.outcomes.pending) (suc left))
-            self.old) result
-            (answer (NewPayoff b number (outcome_with name self.new.outcomes.pending) left)
+            (answer (NewPayoff false b number (outcome_with name self.old.outcomes.pending)
+            (suc left)) self.old) result
+            (answer (NewPayoff false b number (outcome_with name self.new.outcomes.pending) left)
             self.new) }
         ensures read { OnOk result (ReadsPayoff self.old self.new) }
     {
@@ -93,7 +93,7 @@ impl<'a> Reader<'a> {
             ≡ None }
         requires set { set ≤ length self.old.sets.known }
         ensures { GoesTelling R.holds result (λ _. set) (answer
-            (NewPayoff (begun_with self.old.sets.known (label_of node.entry) set)
+            (NewPayoff false (begun_with self.old.sets.known (label_of node.entry) set)
             number (outcome_with (label_of name.entry) self.old.outcomes.pending) 0) self.old)
             self.old self.new to.old to.new }
     {

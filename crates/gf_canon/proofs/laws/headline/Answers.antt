@@ -1,5 +1,6 @@
 use Rattle.gf_canon.proofs.lemmas.files.Headline.{equal_exactly, never_both, one_text, own_text}
-use Rattle.gf_canon.proofs.lemmas.files.Headline.{refused_with, same_exactly, text_or_refusal}
+use Rattle.gf_canon.proofs.lemmas.files.Headline.{same_exactly, text_or_refusal}
+use Rattle.gf_canon.proofs.lemmas.files.Refused.{refused_with}
 use Rattle.gf_canon.proofs.lemmas.files.RefusedOnce.{refused_once}
 use Rattle.gf_canon.proofs.laws.headline.Goals as goal
 
@@ -25,4 +26,5 @@ pub returns-clause-own_text : goal.returns-clause-own_text
 returns-clause-own_text c = own_text
 
 pub returns-clause-placed : goal.returns-clause-placed
-returns-clause-placed c = refused_with
+returns-clause-placed c =
+    λ bytes why span h. refused_with bytes (record { span = span; why = why }) h.1

@@ -2,13 +2,14 @@
 use Rattle.gf_canon.proofs.Common.{◌≡◌, ℕ, List, refl, sym, subst, inl, inr, ◌↔◌, ◌⊎◌, Span, Why}
 use Rattle.gf_canon.proofs.Common.{GameFile, SameFile, SpellsFile, canonical_file, canonical_text}
 use Rattle.gf_canon.proofs.Common.{extensive, strategic, IsCanonicalText, IsFileWithinLimit}
-use Rattle.gf_canon.proofs.Common.{IsRefused, IsRefusedWith, SpellsWithin, Kept}
+use Rattle.gf_canon.proofs.Common.{IsRefused, SpellsWithin, Kept}
 use Rattle.gf_canon.specs.CanonicalText.{MeanSame}
 use Rattle.gf_canon.proofs.lemmas.files.Texts.{canonical_reads_back, text_twice, is_game_file}
 use Rattle.gf_canon.proofs.lemmas.files.Texts.{spells_one_file}
 use Rattle.gf_canon.proofs.lemmas.files.Judged.{text_is}
 use Rattle.gf_canon.proofs.lemmas.texts.ByNames.{equal_texts_by}
-use Rattle.gf_canon.proofs.lemmas.files.RefusedOnce.{answered, not_both, placed}
+use Rattle.gf_canon.proofs.lemmas.files.Refused.{only_memory}
+use Rattle.gf_canon.proofs.lemmas.files.RefusedOnce.{answered}
 
 -- ---- a text or a refusal
 
@@ -24,15 +25,7 @@ text_or_refusal bytes = elim (answered bytes) [
 
 pub never_both : (bytes text : List ℕ) (why : Why) (span : Span) → IsCanonicalText bytes text
     → ¬ (IsRefused why bytes span)
-never_both bytes text why span p = not_both bytes p.file why span p.spelled
-
-pub refused_with : (bytes : List ℕ) (why : Why) (span : Span) → IsRefused why bytes span
-    → IsRefusedWith bytes (record { span = span; why = why })
-refused_with bytes why span h = record {
-  judged = h.1;
-  placed = placed bytes why span h;
-  unless_memory = λ x spells. absurd (not_both bytes x why span spells h);
-}
+never_both bytes text why span p h = h.0 (only_memory why bytes span p.file h.1 p.spelled)
 
 -- ---- texts
 

@@ -1,77 +1,61 @@
 -- How a file is refused, by the refusal of its format.
-use Rattle.gf_canon.proofs.Common.{IsWithoutFormat, BeginsWithWord, IsFormatReason, IsRefusedWith}
-use Rattle.gf_canon.proofs.Common.{IsWithinLimit, Unterminated, SpellsWithin, SpellsTable, Expected}
-use Rattle.gf_canon.proofs.Common.{SpellsGame, tokens_of, extensive, strategic, IsPlaced, GameFile}
-use Rattle.gf_canon.proofs.Common.{Broken, Memory, Result, subst, Token, Fault, Table, codes, IfErr}
-use Rattle.gf_canon.proofs.Common.{List, Span, Game, ◌≡◌, ◌∷◌, Err, sym, inl, inr, Why, ◌⊎◌, Ok, ℕ}
+use Rattle.gf_canon.proofs.Common.{IsWithoutFormat, TooManyProfiles, BeginsWithWord, IsRefusedWith}
+use Rattle.gf_canon.proofs.Common.{SpellsWithin, extensive, strategic, IsJudged, GameFile, Memory}
+use Rattle.gf_canon.proofs.Common.{Result, Fault, codes, IfErr, List, Span, ◌≡◌, refl, Err, sym, Why}
+use Rattle.gf_canon.proofs.Common.{Ok, ℕ}
 use Rattle.gf_canon.specs.Judgement.IsJudged.{of_extensive, of_neither, of_strategic}
 use Rattle.gf_canon.specs.declared.format.Format.{Format}
 use Rattle.gf_canon.specs.declared.format.Format.TheVariants.{Extensive, Strategic}
 use Rattle.gf_canon.specs.inner.FormatWord.{word_of}
-use Rattle.gf_canon.proofs.lemmas.files.EitherFormat.{extensive_placed, strategic_placed}
-use Rattle.gf_canon.proofs.lemmas.files.Formats.{named_by_word, none_without_format, two_words}
-use Rattle.gf_token.specs.declared.fault.What.TheVariants as due
+use Rattle.gf_canon.proofs.lemmas.files.EitherFormat.{placed}
+use Rattle.gf_canon.proofs.lemmas.files.Formats.{named_by_word, none_offending, two_words}
 use Rattle.gf_nfg.specs.Judgement as strategic_file
+use Rattle.gf_nfg.proofs.lemmas.places.Judged.{only_memory as only_memory_for_table}
 use Rattle.gf_tree.specs.Judgement as extensive_file
 
--- for its format
+-- bytes that mean a file are refused for lack of memory alone
+pub only_memory : (why : Why) (bytes : List ℕ) (span : Span) (x : GameFile)
+    → IsJudged why bytes span → SpellsWithin bytes x → why ≡ Memory
+only_memory Memory bytes span x j h = refl
+only_memory TooManyProfiles bytes span x (of_extensive named j) h = absurd j.reason.3.0
+only_memory TooManyProfiles bytes span (strategic t) (of_strategic named j) h =
+    only_memory_for_table TooManyProfiles bytes span t j h.spelled h.within
+only_memory TooManyProfiles bytes span (extensive g) (of_strategic named j) h =
+    absurd (two_words (sym (named_by_word (codes "NFG") bytes (extensive g) named h.spelled)))
+only_memory TooManyProfiles bytes span x (of_neither j) h =
+    absurd (none_offending bytes span x j.place h.spelled)
+only_memory why bytes span x j h =
+    absurd (none_offending bytes span x (placed why bytes span j) h.spelled)
 
-pub reason_at_first : (why : Why) (ts : List Token) → IsFormatReason why ts
-    → (why ≡ Unterminated) ⊎ (why ≡ Expected due.Format)
-reason_at_first why (Broken ∷ after) e = inl e
-reason_at_first why _ e = inr e
-
-pub placed_at_first : (why : Why) (bytes : List ℕ) (span : Span) → IsWithoutFormat why bytes span
-    → IsPlaced why bytes span
-placed_at_first why bytes span h = by (reason_at_first why (tokens_of h.place.after) h.reason)
-  where
-    by : (why ≡ Unterminated) ⊎ (why ≡ Expected due.Format) → IsPlaced why bytes span
-    by (inl e) = subst (λ (w : Why). IsPlaced w bytes span) (sym e) h.place
-    by (inr e) = subst (λ (w : Why). IsPlaced w bytes span) (sym e) h.place
-
-pub refused_at_first : (bytes : List ℕ) (fault : Fault)
-    → IsWithoutFormat fault.why bytes fault.span → IsRefusedWith bytes fault
-refused_at_first bytes fault h = record {
-  judged = of_neither h;
-  placed = placed_at_first fault.why bytes fault.span h;
-  unless_memory = λ x spells.
-      absurd (none_without_format fault.why bytes fault.span x h spells.spelled);
+pub refused_with : (bytes : List ℕ) (fault : Fault) → IsJudged fault.why bytes fault.span
+    → IsRefusedWith bytes fault
+refused_with bytes fault j = record {
+  judged = j;
+  placed = placed fault.why bytes fault.span j;
+  unless_memory = λ x. only_memory fault.why bytes fault.span x j;
 }
 
--- in its format
+pub refused_at_first : {A : Type 0} (bytes : List ℕ) (r : Result A Fault)
+    → IfErr r (λ fault. IsWithoutFormat fault.why bytes fault.span) → IfErr r (IsRefusedWith bytes)
+refused_at_first bytes (Ok a) h = tt
+refused_at_first bytes (Err fault) h = refused_with bytes fault (of_neither h)
 
 pub refused_game : {A : Type 0} (bytes : List ℕ) (r : Result A Fault) (format : Format)
     → format ≡ Extensive → BeginsWithWord (word_of format) bytes
     → IfErr r (λ fault. extensive_file.IsJudged fault.why bytes fault.span)
-    → IfErr r (λ fault. (g : Game) → SpellsGame bytes g → fault.why ≡ Memory)
     → IfErr r (IsRefusedWith bytes)
-refused_game bytes (Ok a) format is named judged memory = tt
-refused_game bytes (Err fault) Strategic is named judged memory = absurd cc
-refused_game bytes (Err fault) Extensive is named judged memory = record {
-  judged = of_extensive named judged;
-  placed = extensive_placed fault.why bytes fault.span named judged;
-  unless_memory = unless;
-}
-  where
-    unless : (x : GameFile) → SpellsWithin bytes x → fault.why ≡ Memory
-    unless (extensive g) h = memory g h.spelled
-    unless (strategic t) h =
-        absurd (two_words (named_by_word (codes "EFG") bytes (strategic t) named h.spelled))
+refused_game bytes (Ok a) format is named judged = tt
+refused_game bytes (Err fault) Strategic is named judged = absurd cc
+refused_game bytes (Err fault) Extensive is named judged =
+    refused_with bytes fault (of_extensive named judged)
 
 pub refused_table : {A : Type 0} (bytes : List ℕ) (r : Result A Fault) (format : Format)
     → format ≡ Strategic → BeginsWithWord (word_of format) bytes
     → IfErr r (λ fault. strategic_file.IsJudged fault.why bytes fault.span)
-    → IfErr r (λ fault. (t : Table) → SpellsTable bytes t → IsWithinLimit t → fault.why ≡ Memory)
     → IfErr r (IsRefusedWith bytes)
-refused_table bytes (Ok a) format is named judged memory = tt
-refused_table bytes (Err fault) Extensive is named judged memory = absurd cc
-refused_table bytes (Err fault) Strategic is named judged memory = record {
-  judged = of_strategic named judged;
-  placed = strategic_placed fault.why bytes fault.span named judged;
-  unless_memory = unless;
-}
-  where
-    unless : (x : GameFile) → SpellsWithin bytes x → fault.why ≡ Memory
-    unless (strategic t) h = memory t h.spelled h.within
-    unless (extensive g) h =
-        absurd (two_words (sym (named_by_word (codes "NFG") bytes (extensive g) named h.spelled)))
+refused_table bytes (Ok a) format is named judged = tt
+refused_table bytes (Err fault) Extensive is named judged = absurd cc
+refused_table bytes (Err fault) Strategic is named judged =
+    refused_with bytes fault (of_strategic named judged)
+
+pub ruleset refusals = (refused_at_first, refused_game, refused_table)

@@ -6,6 +6,8 @@ use Common.{Decides-eqb, flatten_map, option_map, map-append, first_uses, keys_a
 use Common.{use_after, Described, Describes, used_sets, map_entry, has_place, list_any, same_set}
 use Common.{FileNode, FileTree, set_uses, contains, flatten, Option, nat_eq, Listed, arith, subst}
 use Common.{Bool, List, ◌++◌, Some, None, refl, Game, ◌≡◌, ◌∷◌, map, sym, ◌∙◌, Use, Has, ap}
+use Common.{IsConsistent, IsGameOf, IsGame, ◌↔◌}
+use Rattle.gf_tree.proofs.lemmas.games.Consistent.{is_game}
 use Rattle.gf_tree.proofs.lemmas.games.Learned.{told_found}
 use Rattle.gf_tree.proofs.lemmas.games.Prefix.{flatten_once}
 use Rattle.gf_canon.specs.FirstDescribed.{DescribeFirstUses, IsFileOf}
@@ -107,4 +109,10 @@ one_file g f h p q =
       tree = tree i;
     }
 
-pub ruleset files_of_games = (file_of_game, one_file)
+pub are_games : (g : Game) → IsGame g ↔ ((f : FileTree) × IsConsistent f × IsGameOf f g)
+are_games g = (
+  λ game. let f = file_of_game g game in (f.0, f.1.consistent, f.1.game),
+  λ f. is_game f.0 g f.1 f.2,
+)
+
+pub ruleset files_of_games = (file_of_game, one_file, are_games)

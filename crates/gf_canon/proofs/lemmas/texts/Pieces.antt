@@ -1,88 +1,111 @@
--- The fields of a node's line say the tokens of the node.
+-- The fields of a node's line spell tokens, and these say what stands in the line.
 use Rattle.gf_canon.proofs.Common
-use Common.{IsSpellableOutcome, IsSpellableAction, described_fields, AllByRecursion, option_to_list}
-use Common.{InformationSet, IsSpellableSet, outcome_fields, action_fields, result_fields, IsOutcome}
-use Common.{mover_fields, MatchOption, step_fields, set_fields, node_text, flat_map, FileNode, zero}
-use Common.{decimal, IsLabel, Option, Action, SetKey, codes, Token, IsSet, List, Some, None, refl}
-use Common.{Text, Bare, suc, ◌^◌, ◌<◌, ◌∷◌, map, Use, [], ℕ, ⊤}
+use Common.{described_fields, AllByRecursion, InformationSet, IsSpellableAction, if◌then◌else◌, suc}
+use Common.{outcome_fields, action_fields, mover_fields, set_fields, flat_map, IsLabel}
+use Common.{append-nil, decimal, length, Action, codes, Token, false, List, Some, None, map}
+use Common.{refl, Text, Bare, Bool, true, zero, each, all_of_each, all_weaker, ◌^◌, ◌<◌, ◌++◌, ◌≡◌}
+use Common.{◌∷◌, inl, [], ℕ}
 use Rattle.gf_fraction.specs.NumberText.{number_text}
-use Rattle.std.specs.Fmt.{digits}
-use Rattle.gf_fraction.specs.Ratio.{Ratio, IsFraction}
-use Rattle.gf_token.proofs.SpelledNumbers.{number_spelled, index_spelled}
-use Rattle.gf_token.proofs.LaidOut.{AreSaid, Says, both, each, each_token, label, line, list, none}
-use Rattle.gf_token.proofs.LaidOut.{says_word, word}
-use Rattle.gf_tree.specs.Description.{Outcome}
-use Rattle.gf_tree.proofs.lemmas.written.Nodes.{action_tokens, set_tokens, outcome_tokens}
-use Rattle.gf_tree.proofs.lemmas.written.Nodes.{mover_letter, mover_tokens, letter, step_tokens}
-use Rattle.gf_tree.proofs.lemmas.written.Nodes.{result_tokens, node_tokens, IsSetUse, IsOutcomeUse}
-use Rattle.gf_tree.proofs.lemmas.written.Nodes.{IsWritable}
+use Rattle.gf_fraction.specs.Ratio.{IsFraction}
+use Rattle.gf_fraction.proofs.ReadingBack.{written_is_read}
+use Rattle.gf_token.specs.Grammar.{Each, IsPayoffInBraces, braced}
+use Rattle.gf_token.proofs.LaidOut.{AreSaid, Says, both, label, list, none, one, says_word, word}
+use Rattle.gf_token.proofs.SpelledNumbers.{decimal_is_index, index_spelled, number_spelled}
+use Rattle.gf_tree.specs.Description.{AreActions, Outcome}
+use Rattle.gf_tree.specs.Sentence.{IsAction, IsDescription, IsInformationSet, IsOutcomeDescription}
+use Rattle.gf_tree.specs.Sentence.{SpellsMover}
+use Rattle.gf_tree.proofs.lemmas.runs.KnownActions.{HasProbability, probabilities}
 
--- ---- single fields
+-- these fields spell tokens of this kind
+abbrev pub Say : List (List ℕ) → (List Token → Type 0) → Type 0
+Say fields P = (tokens : List Token) × AreSaid fields tokens × P tokens
 
-index : (n : ℕ) → n < 2 ^ 32 → AreSaid (decimal n ∷ []) (Bare (decimal n) ∷ [])
-index n h = word (decimal n) (index_spelled n h)
+-- and so do fields for each of these values, one after another
+module _ {X : Type 0} (P : List Token → X → Type 0) where
+  more : (fields others : List (List ℕ)) (x : X) (xs : List X) → Say fields (λ ts. P ts x)
+      → Say others (λ ts. Each P ts xs) → Say (fields ++ others) (λ ts. Each P ts (x ∷ xs))
+  more fields others x xs h k =
+      (h.0 ++ k.0, both h.1 k.1, (h.0, k.0, refl, h.2, k.2))
 
-numbers : (rs : List Ratio) → AllByRecursion IsFraction rs
-    → AreSaid (map number_text rs) (map (λ r. Bare (number_text r)) rs)
-numbers = each_token IsFraction number_text (λ r. Bare (number_text r))
-    (λ r h. says_word (number_text r) (number_spelled r h))
+  pub say_each : (fields : X → List (List ℕ)) (xs : List X)
+      → AllByRecursion (λ x. Say (fields x) (λ ts. P ts x)) xs
+      → Say (flat_map fields xs) (λ ts. Each P ts xs)
+  say_each fields [] h = ([], none, refl)
+  say_each fields (x ∷ xs) h =
+      more (fields x) (flat_map fields xs) x xs h.0 (say_each fields xs h.1)
 
--- ---- the fields of a node
+  pub say_each_field : (field : X → List ℕ) (xs : List X)
+      → AllByRecursion (λ x. (ts : List Token) × Says (field x) ts × P ts x) xs
+      → Say (map field xs) (λ ts. Each P ts xs)
+  say_each_field field [] h = ([], none, refl)
+  say_each_field field (x ∷ xs) h =
+      more (field x ∷ []) (map field xs) x xs (h.0.0, one (field x) h.0.0 h.0.1, h.0.2)
+      (say_each_field field xs h.1)
 
-probability : (o : Option Ratio) → MatchOption o ⊤ IsFraction
-    → AreSaid (map number_text (option_to_list o))
-    (map (λ r. Bare (number_text r)) (option_to_list o))
-probability None h = none
-probability (Some r) h = numbers (r ∷ []) (h, tt)
+-- ---- descriptions
 
-action : (a : Action) → IsSpellableAction a → AreSaid (action_fields a) (action_tokens a)
-action a h = both (label a.label h.0) (probability a.probability h.1)
+action : (player : ℕ) (a : Action) → HasProbability player a → IsSpellableAction a
+    → Say (action_fields a) (λ ts. IsAction player ts a)
+action zero a p h =
+    let is : IsFraction p.0 = rw p.1 at h.1 in (
+      Text a.label ∷ Bare (number_text p.0) ∷ [],
+      rw p.1 (both (label a.label h.0) (word (number_text p.0) (number_spelled p.0 is))),
+      (number_text p.0, p.0, refl, written_is_read p.0 is, p.1),
+    )
+action (suc player) a none_there h =
+    (Text a.label ∷ [], rw none_there (label a.label h.0), (refl, none_there))
 
-set : (s : InformationSet) → IsLabel s.name → AllByRecursion IsSpellableAction s.actions
-    → AreSaid (set_fields s) (set_tokens s)
-set s name actions = both (label s.name name)
-    (list (each IsSpellableAction action_fields action_tokens action s.actions actions))
+pub say_set : (player : ℕ) (set : InformationSet) → AreActions player set.actions
+    → IsLabel set.name → AllByRecursion IsSpellableAction set.actions
+    → Say (set_fields set) (λ ts. IsInformationSet player ts set)
+say_set player set are name can =
+    let actions = say_each (IsAction player) action_fields set.actions
+    (all_of_each _ set.actions (λ a m. action player a
+    (each (HasProbability player) set.actions a (probabilities player set.actions are) m)
+    (each IsSpellableAction set.actions a can m))) in (
+      Text set.name ∷ braced actions.0,
+      both (label set.name name) (list actions.1),
+      (actions.0, refl, actions.2),
+    )
 
-outcome : (o : Outcome) → IsLabel o.name → AllByRecursion IsFraction o.payoffs
-    → AreSaid (outcome_fields o) (outcome_tokens o)
-outcome o name payoffs = both (label o.name name) (list (numbers o.payoffs payoffs))
+pub say_outcome : (players : ℕ) (outcome : Outcome) → length outcome.payoffs ≡ players
+    → IsLabel outcome.name → AllByRecursion IsFraction outcome.payoffs
+    → Say (outcome_fields outcome) (λ ts. IsOutcomeDescription players ts outcome)
+say_outcome players outcome one_each name are =
+    let payoffs = say_each_field IsPayoffInBraces number_text outcome.payoffs
+    (all_weaker IsFraction _ (λ r is. (
+      Bare (number_text r) ∷ [],
+      says_word (number_text r) (number_spelled r is),
+      (number_text r, [], refl, written_is_read r is, inl refl),
+    )) outcome.payoffs are) in (
+      Text outcome.name ∷ braced payoffs.0,
+      both (label outcome.name name) (list payoffs.1),
+      (payoffs.0, refl, payoffs.2, one_each),
+    )
 
-described : {D : Type 0} (f : D → List (List ℕ)) (g : D → List Token) (P : D → Type 0)
-    → ((d : D) → P d → AreSaid (f d) (g d)) → (n : ℕ) (o : Option D) → n < 2 ^ 32
-    → MatchOption o ⊤ P
-    → AreSaid (described_fields f n o) (Bare (decimal n) ∷ flat_map g (option_to_list o))
-described f g P h n None small is = index n small
-described f g P h n (Some d) small is = both (index n small) (each P f g h (d ∷ []) (is, tt))
+-- ---- uses
 
-mover : (name : List ℕ) (player : ℕ) → IsLabel name → player < 2 ^ 32
-    → AreSaid (mover_fields name player)
-    (Bare (mover_letter player) ∷ Text name ∷ mover_tokens player)
-mover name zero h small = both (word (codes "c") (refl, tt)) (label name h)
-mover name (suc player) h small =
-    both (word (codes "p") (refl, tt)) (both (label name h) (index (suc player) small))
+pub say_index : (n : ℕ) → n < 2 ^ 32 → AreSaid (decimal n ∷ []) (Bare (decimal n) ∷ [])
+say_index n h = word (decimal n) (index_spelled n h)
 
-step : (players : ℕ) (name : List ℕ) (o : Option (Use SetKey InformationSet)) → IsLabel name
-    → MatchOption o ⊤ (IsSetUse players)
-    → AreSaid (step_fields name o) (Bare (letter o) ∷ Text name ∷ step_tokens o)
-step players name None h is = both (word (codes "t") (refl, tt)) (label name h)
-step players name (Some u) h is = both (mover name u.key.player h is.player)
-    (described set_fields set_tokens
-    (λ d. IsSet players u.key d × IsSpellableSet (record { key = u.key; description = d }))
-    (λ d s. set d s.1.name s.1.actions) u.key.number u.description is.number is.set)
+-- a number, described or used before
+pub say_described : {D : Type 0} (fields : D → List (List ℕ)) (P : List Token → D → Type 0) (n : ℕ)
+    (d : D) (before : Bool) → n < 2 ^ 32 → Say (fields d) (λ ts. P ts d)
+    → (ts : List Token)
+    × AreSaid (described_fields fields n (if before then None else Some d)) (Bare (decimal n) ∷ ts)
+    × IsDescription P ts (if before then None else Some d)
+say_described fields P n d true small h = ([], say_index n small, refl)
+say_described fields P n d false small h =
+    (h.0, both (say_index n small) (rw (append-nil (fields d)) h.1), h.2)
 
-null : AreSaid (result_fields None) (result_tokens None)
-unfolding digits
-null = word (codes "0") (refl, tt)
-
-result : (players : ℕ) (o : Option (Use ℕ Outcome)) → MatchOption o ⊤ (IsOutcomeUse players)
-    → AreSaid (result_fields o) (result_tokens o)
-result players None is = null
-result players (Some u) is = described outcome_fields outcome_tokens
-    (λ d. IsOutcome players u.key d × IsSpellableOutcome (record { key = u.key; description = d }))
-    (λ d s. outcome d s.1.name s.1.payoffs) u.key u.description is.number is.outcome
-
--- the text of a node spells its tokens
-pub said_node : (players : ℕ) (n : FileNode) → IsLabel n.name → IsWritable players n
-    → Says (node_text n) (node_tokens n)
-said_node players n name h =
-    line (both (step players n.name n.set name h.set) (result players n.outcome h.outcome))
+pub say_mover : (name : List ℕ) (player : ℕ) → IsLabel name → player < 2 ^ 32
+    → (letter : List ℕ) × (ts : List Token)
+    × AreSaid (mover_fields name player) (Bare letter ∷ Text name ∷ ts) × SpellsMover letter ts player
+say_mover name zero h small =
+    (codes "c", [], both (word (codes "c") (refl, tt)) (label name h), (refl, refl))
+say_mover name (suc player) h small = (
+  codes "p",
+  Bare (decimal (suc player)) ∷ [],
+  both (word (codes "p") (refl, tt)) (both (label name h) (say_index (suc player) small)),
+  (decimal (suc player), refl, refl, decimal_is_index (suc player) small),
+)

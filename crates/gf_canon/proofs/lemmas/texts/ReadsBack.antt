@@ -1,148 +1,155 @@
--- The text of a game spells that game.
+-- The text of a game spells that game, so files mean exactly the games that a file can hold.
 use Rattle.gf_canon.proofs.Common
-use Common.{IsSpellableOutcome, same_set_equality, AllByRecursion, IsSpellableSet, if◌then◌else◌, ℕ}
-use Common.{used_outcomes, IsConsistent, MatchOption, Decides-eqb, IsSpellable, first_line, IsLabel}
-use Common.{option_map, outcome_at, SpellsGame, node_after, file_nodes, IsOutcome, used_sets, false}
-use Common.{node_text, game_text, flat_map, same_set, FileNode, FileTree, IsGameOf, flatten, length}
-use Common.{in_keys, Option, nat_eq, Listed, SetKey, IsGame, set_at, subst, codes, Token, IsSet, []}
-use Common.{found, Bool, true, List, ◌++◌, Some, None, refl, Text, Bare, Node, Game, each, held, ap}
-use Common.{◌≡◌, ◌∷◌, map, sym, inl, inr, Has, ⊤}
-use Rattle.gf_token.specs.Grammar.{Each, braced}
-use Rattle.gf_token.proofs.LaidOut.{AreSaid, Says, Tells, both, each_field, empty, fields, label}
-use Rattle.gf_token.proofs.LaidOut.{labels, lines, list, word}
-use Rattle.gf_tree.specs.Sentence.{IsNode, Sentence}
-use Rattle.gf_tree.proofs.lemmas.written.Nodes.{node_tokens, IsSetUse, IsOutcomeUse, IsWritable}
-use Rattle.gf_tree.proofs.lemmas.written.Nodes.{nodes_written}
+use Common.{IsSpellableOutcome, same_set_equality, AllByRecursion, IsSpellableSet, result_fields, ℕ}
+use Common.{used_outcomes, Decides-eqb, IsSpellable, step_fields, IsLabel}
+use Common.{option_map, outcome_at, SpellsGame, node_after, file_nodes, use_after, used_sets, set_at}
+use Common.{node_text, game_text, set_fields, same_set, FileNode, flatten, list_any}
+use Common.{in_keys, Option, nat_eq, Listed, SetKey, IsGame, subst, codes, Token, IsSet, length, []}
+use Common.{found, List, ◌++◌, Some, None, refl, Text, Bare, Node, Game, each, held, ap}
+use Common.{◌≡◌, ◌∷◌, ◌↔◌, map, sym, inl, inr, Has, IsOutcome, outcome_fields, decimal}
+use Common.{arith}
+use Rattle.std.specs.Fmt.{digits}
+use Rattle.gf_token.specs.Grammar.{Each}
+use Rattle.gf_token.proofs.LaidOut.{AreSaid, Says, both, empty, fields, label, labels, line}
+use Rattle.gf_token.proofs.LaidOut.{lines, list, word}
+use Rattle.gf_token.proofs.SpelledNumbers.{decimal_is_index}
+use Rattle.gf_tree.specs.Sentence.{IsInformationSet, IsNode, IsOutcomeDescription, IsResult, IsStep}
+use Rattle.gf_tree.proofs.lemmas.games.Spelled.{spelled_is_spellable}
 use Rattle.gf_canon.proofs.lemmas.texts.FileOf.{entries_after, file_of_game, file_nodes_are}
-use Rattle.gf_canon.proofs.lemmas.texts.Pieces.{said_node}
+use Rattle.gf_canon.proofs.lemmas.texts.Pieces.{Say, say_described, say_each_field}
+use Rattle.gf_canon.proofs.lemmas.texts.Pieces.{say_mover, say_outcome, say_set}
 
--- ---- each node can be written
+-- ---- each node
 
--- a later use has no description
-unless : {A : Type 0} (P : A → Type 0) (x : A) (b : Bool) → P x
-    → MatchOption (if b then None else Some x) ⊤ P
-unless P x true h = tt
-unless P x false h = h
+null : AreSaid (result_fields None) (Bare (decimal 0) ∷ [])
+unfolding digits
+null = word (codes "0") (refl, tt)
 
-set_use : (g : Game) → IsGame g → IsSpellable g → (b : Bool) (key : SetKey)
-    → Has (used_sets g.tree) key → IsSetUse (length g.players)
-    (record { key = key; description = if b then None else set_at g key })
-set_use g game can b key i =
-    let f = found same_set same_set_equality g.sets key
-    (in_keys same_set same_set_equality (used_sets g.tree) g.sets key game.one_entry_each_set i) in
-    let spelled = each IsSpellableSet g.sets _ can.sets f.among in
-    let is = each (λ s. IsSet (length g.players) s.key s.description) g.sets _ game.each_set f.among
-    in
-    record {
-      above = is.number;
-      player = spelled.player;
-      number = spelled.number;
-      set = rw f.is_at (unless _ f.description b (is, spelled));
-    }
+module _ (g : Game) (game : IsGame g) (can : IsSpellable g) where
+  step : (name : List ℕ) (before : List SetKey) (o : Option SetKey) → IsLabel name
+      → ((key : SetKey) → o ≡ Some key → Has (used_sets g.tree) key)
+      → (letter : List ℕ) × (ts : List Token) × AreSaid (step_fields name
+      (option_map (use_after same_set (set_at g) before) o)) (Bare letter ∷ Text name ∷ ts)
+      × IsStep letter ts (option_map (use_after same_set (set_at g) before) o)
+  step name before None named among =
+      (codes "t", [], both (word (codes "t") (refl, tt)) (label name named), (refl, refl))
+  step name before (Some key) named among =
+      let f = found same_set same_set_equality g.sets key (in_keys same_set same_set_equality
+      (used_sets g.tree) g.sets key game.one_entry_each_set (among key refl)) in
+      let d = f.description in
+      let spelled = each IsSpellableSet g.sets _ can.sets f.among in
+      let is = each (λ s. IsSet (length g.players) s.key s.description) g.sets _ game.each_set
+      f.among in
+      let mover = say_mover name key.player named spelled.player in
+      let set = say_described set_fields (IsInformationSet key.player) key.number d
+      (list_any (same_set key) before) spelled.number
+      (say_set key.player d is.actions spelled.name spelled.actions) in
+      rw f.is_at (
+        mover.0,
+        mover.1 ++ Bare (decimal key.number) ∷ set.0,
+        both mover.2 set.1,
+        (
+          mover.1,
+          decimal key.number,
+          set.0,
+          refl,
+          mover.3,
+          (decimal_is_index key.number spelled.number, is.number),
+          set.2,
+        ),
+      )
 
-outcome_use : (g : Game) → IsGame g → IsSpellable g → (b : Bool) (number : ℕ)
-    → Has (used_outcomes g.tree) number → IsOutcomeUse (length g.players)
-    (record { key = number; description = if b then None else outcome_at g number })
-outcome_use g game can b number i =
-    let f = found nat_eq Decides-eqb g.outcomes number (in_keys nat_eq Decides-eqb
-    (used_outcomes g.tree) g.outcomes number game.one_entry_each_outcome i) in
-    let spelled = each IsSpellableOutcome g.outcomes _ can.outcomes f.among in
-    let is = each (λ o. IsOutcome (length g.players) o.key o.description) g.outcomes _
-    game.each_outcome f.among in
-    record {
-      above = is.number_from_one;
-      number = spelled.number;
-      outcome = rw f.is_at (unless _ f.description b (is, spelled));
-    }
+  result : (before : List ℕ) (o : Option ℕ)
+      → ((number : ℕ) → o ≡ Some number → Has (used_outcomes g.tree) number)
+      → Say (result_fields (option_map (use_after nat_eq (outcome_at g) before) o)) (λ ts.
+      IsResult (length g.players) ts (option_map (use_after nat_eq (outcome_at g) before) o))
+  result before None among =
+      (Bare (decimal 0) ∷ [], null, (decimal 0, refl, decimal_is_index 0 (omega arith)))
+  result before (Some number) among =
+      let f = found nat_eq Decides-eqb g.outcomes number (in_keys nat_eq Decides-eqb
+      (used_outcomes g.tree) g.outcomes number game.one_entry_each_outcome (among number refl)) in
+      let d = f.description in
+      let spelled = each IsSpellableOutcome g.outcomes _ can.outcomes f.among in
+      let is = each (λ o. IsOutcome (length g.players) o.key o.description) g.outcomes _
+      game.each_outcome f.among in
+      let outcome = say_described outcome_fields (IsOutcomeDescription (length g.players)) number d
+      (list_any (nat_eq number) before) spelled.number
+      (say_outcome (length g.players) d is.one_payoff_each spelled.name spelled.payoffs) in
+      rw f.is_at (
+        Bare (decimal number) ∷ outcome.0,
+        outcome.1,
+        (
+          decimal number,
+          outcome.0,
+          refl,
+          (decimal_is_index number spelled.number, is.number_from_one),
+          outcome.2,
+        ),
+      )
 
-at_option : {K U : Type 0} (P : U → Type 0) (f : K → U) (o : Option K)
-    → ((k : K) → o ≡ Some k → P (f k)) → MatchOption (option_map f o) ⊤ P
-at_option P f None h = tt
-at_option P f (Some k) h = h k refl
+  abbrev IsSaid : FileNode → Type 0
+  IsSaid n = (ts : List Token) × Says (node_text n) ts × IsNode (length g.players) ts n
 
-node_writable : (g : Game) → IsGame g → IsSpellable g
-    → (before : List (Listed Node)) (e : Listed Node) → Has (flatten g.tree) e
-    → IsWritable (length g.players) (node_after g before e.node)
-node_writable g game can before e i = record {
-  set = at_option (IsSetUse (length g.players)) _ e.node.set
-      (λ key q. set_use g game can _ key (held (λ n. n.set) (flatten g.tree) e key i q));
-  outcome = at_option (IsOutcomeUse (length g.players)) _ e.node.outcome (λ number q.
-      outcome_use g game can _ number (held (λ n. n.outcome) (flatten g.tree) e number i q));
-}
+  node : (before : List (Listed Node)) (e : Listed Node) → Has (flatten g.tree) e
+      → IsSaid (node_after g before e.node)
+  node before e i =
+      let es = flatten g.tree in
+      let name = each (λ (d : Listed Node). IsLabel d.node.name) es e can.nodes i in
+      let s = step e.node.name _ e.node.set name (λ key q. held (λ n. n.set) es e key i q) in
+      let r = result _ e.node.outcome (λ number q. held (λ n. n.outcome) es e number i q) in (
+        Bare s.0 ∷ Text e.node.name ∷ (s.1 ++ r.0),
+        line (both s.2 r.1),
+        record {
+          letter = s.0;
+          step = s.1;
+          result = r.0;
+          parts = refl;
+          is_step = s.3;
+          is_result = r.2;
+        },
+      )
 
--- what holds for each node after those before it holds for all
-all_nodes : (P : FileNode → Type 0) (g : Game)
-    → ((before : List (Listed Node)) (e : Listed Node) → Has (flatten g.tree) e
-    → P (node_after g before e.node))
-    → AllByRecursion P (file_nodes g)
-all_nodes P g holds = subst (AllByRecursion P) (sym (file_nodes_are g))
-    (by [] (flatten g.tree) (λ e i. i))
-  where
-    by : (before es : List (Listed Node)) → ((e : Listed Node) → Has es e → Has (flatten g.tree) e)
-        → AllByRecursion P (map (λ e. e.node) (entries_after g before es))
-    by before [] among = tt
-    by before (e ∷ es) among =
-        (holds before e (among e (inl refl)), by (before ++ e ∷ []) es (λ d i. among d (inr i)))
+  nodes : (before es : List (Listed Node)) → ((e : Listed Node) → Has es e → Has (flatten g.tree) e)
+      → AllByRecursion IsSaid (map (λ e. e.node) (entries_after g before es))
+  nodes before [] among = tt
+  nodes before (e ∷ es) among =
+      (node before e (among e (inl refl)), nodes (before ++ e ∷ []) es (λ d i. among d (inr i)))
 
--- ---- the heading
+  -- ---- the whole
 
-abbrev heading_tokens : Game → List Token
-heading_tokens g = Bare (codes "EFG") ∷ Bare (codes "2") ∷ Bare (codes "R") ∷ Text g.title
-    ∷ braced (map Text g.players)
-
-said_heading : (g : Game) → IsSpellable g
-    → AreSaid (first_line g.title g.players ∷ []) (heading_tokens g)
-said_heading g can = fields (both (word (codes "EFG") (refl, (refl, (refl, tt))))
-    (both (word (codes "2") (refl, tt)) (both (word (codes "R") (refl, tt))
-    (both (label g.title can.title) (list (labels g.players can.players))))))
-
--- ---- the whole
-
-abbrev game_tokens : Game → List Token
-game_tokens g = heading_tokens g ++ ((Text g.comment ∷ []) ++ flat_map node_tokens (file_nodes g))
-
-tells_game : (g : Game) → IsGame g → IsSpellable g → Tells (game_text g) (game_tokens g)
-tells_game g game can =
-    let IsSaid = λ (n : FileNode). Says (node_text n) (node_tokens n) in
-    let nodes = each_field IsSaid node_text node_tokens (λ n said. said) (file_nodes g)
-    (all_nodes IsSaid g (λ before e i. said_node (length g.players) (node_after g before e.node)
-    (each (λ (d : Listed Node). IsLabel d.node.name) (flatten g.tree) e can.nodes i)
-    (node_writable g game can before e i))) in
-    lines (both (said_heading g can) (both (label g.comment can.comment)
-    (both empty nodes)))
-
-is_sentence : (g : Game) → IsGame g → IsSpellable g → (f : FileTree) → g.title ≡ f.title
-    → g.comment ≡ f.comment → g.players ≡ f.players
-    → map (λ e. e.node) (flatten f.tree) ≡ file_nodes g
-    → Sentence (game_tokens g) f
-is_sentence g game can f title comment players nodes = record {
-  letter = codes "R";
-  comment = Text g.comment ∷ [];
-  nodes = flat_map node_tokens (file_nodes g);
-  parts = cc;
-  is_letter = inl refl;
-  is_comment = inr (ap (λ c. Text c ∷ []) comment);
-  are_nodes = subst (λ ps. Each (IsNode (length ps))
-      (flat_map node_tokens (file_nodes g)) (map (λ e. e.node) (flatten f.tree)))
-      players
-      (subst (λ ns. Each (IsNode (length g.players)) (flat_map node_tokens (file_nodes g)) ns)
-      (sym nodes)
-      (nodes_written (length g.players) (file_nodes g)
-      (all_nodes (IsWritable (length g.players)) g (node_writable g game can))));
-}
+  said_nodes : Say (map node_text (file_nodes g))
+      (λ ts. Each (IsNode (length g.players)) ts (file_nodes g))
+  said_nodes = say_each_field (IsNode (length g.players)) node_text (file_nodes g)
+      (subst (AllByRecursion IsSaid) (sym (file_nodes_are g)) (nodes [] (flatten g.tree) (λ e i. i)))
 
 pub text_reads_back : (g : Game) → IsGame g → IsSpellable g → SpellsGame (game_text g) g
 text_reads_back g game can =
-    let told = tells_game g game can 0 in
+    let nodes = said_nodes g game can in
+    let heading = fields (both (word (codes "EFG") (refl, (refl, (refl, tt))))
+    (both (word (codes "2") (refl, tt)) (both (word (codes "R") (refl, tt))
+    (both (label g.title can.title) (list (labels g.players can.players)))))) in
+    let told = lines (both heading (both (label g.comment can.comment) (both empty nodes.1))) 0 in
     let file = file_of_game g game in
-    let f = file.0 in
     let kept = file.1.game.kept in (
       told.0,
       told.1,
-      subst (λ ts. (f : FileTree) × Sentence ts f × IsConsistent f × IsGameOf f g) (sym told.2) (
-        f,
-        is_sentence g game can f (sym kept.title) (sym kept.comment) (sym kept.players) file.2,
+      rw told.2 (
+        file.0,
+        record {
+          letter = codes "R";
+          comment = Text g.comment ∷ [];
+          nodes = nodes.0;
+          parts = cc;
+          is_letter = inl refl;
+          is_comment = inr (ap (λ c. Text c ∷ []) (sym kept.comment));
+          are_nodes = rw (file.2, kept.players) nodes.2;
+        },
         file.1.consistent,
         file.1.game,
       ),
     )
+
+pub games_of_files : (g : Game)
+    → ((bytes : List ℕ) × SpellsGame bytes g) ↔ (IsGame g × IsSpellable g)
+games_of_files g =
+    (λ h. spelled_is_spellable h.0 g h.1, λ h. (game_text g, text_reads_back g h.0 h.1))

@@ -1,4 +1,4 @@
-use Rattle.gf_nfg.proofs.lemmas.limit.Counts.{limit_by_files}
+use Rattle.gf_nfg.proofs.lemmas.limit.Passes.{limit_by_files}
 use Rattle.gf_nfg.proofs.lemmas.limit.Worked.{at_second, nowhere}
 use Rattle.gf_nfg.proofs.laws.limit_by_files.Goals as goal
 

@@ -2,16 +2,16 @@
 -- their limit they stay there.
 use Rattle.gf_nfg.proofs.Common.{BeginsWithinLimit, StaysWithinLimit, IsBareOrClosing, SpellsTable}
 use Rattle.gf_nfg.proofs.Common.{IsStrategicFile, profile_limit, same_tokens, append-nil, tokens_of}
-use Rattle.gf_nfg.proofs.Common.{mul_assoc, Sentence, table_of, Position, product, is_past, Content}
-use Rattle.gf_nfg.proofs.Common.{finish, within, Lexeme, Broken, Spells, Result, length, Table, run}
-use Rattle.gf_nfg.proofs.Common.{State, start, taken, Token, arith, false, subst, step, List, true}
-use Rattle.gf_nfg.proofs.Common.{◌++◌, Err, Why, sym, ◌*◌, ◌<◌, ◌∙◌, ◌∷◌, ◌≡◌, ◌≤◌, Ok, [], p, ℕ}
+use Rattle.gf_nfg.proofs.Common.{Sentence, table_of, is_past, Content, TooManyProfiles, nat_lt}
+use Rattle.gf_nfg.proofs.Common.{finish, within, Lexeme, Spells, Result, length, Table, run, State}
+use Rattle.gf_nfg.proofs.Common.{start, taken, Token, arith, subst, step, List, nat_tests, false}
+use Rattle.gf_nfg.proofs.Common.{◌++◌, Err, Why, sym, ◌<◌, ◌∙◌, ◌∷◌, ◌≡◌, ◌≤◌, Ok, [], ℕ}
 use Rattle.gf_token.specs.inner.Machine as any_format
 use Rattle.gf_token.proofs.Reading.{IsReader}
-use Rattle.gf_token.proofs.Walks.{kept, run_after, run_split, then_ok, walk_more, walk_split}
+use Rattle.gf_token.proofs.Walks.{kept, run_after, run_split, run_whole, then_ok, walk_more}
+use Rattle.gf_token.proofs.Walks.{walk_split}
 use Rattle.gf_nfg.proofs.lemmas.runs.Ends.{ends, reached}
 use Rattle.gf_nfg.proofs.lemmas.runs.Sentence.{Read, one_table, sentence_again, sentence_found}
-use Rattle.gf_nfg.proofs.lemmas.runs.Strategies.{Kind, next}
 use Rattle.gf_nfg.proofs.lemmas.runs.Common.{Leads, walk}
 use Rattle.gf_nfg.proofs.lemmas.tables.Meaning.{length-entries}
 
@@ -50,64 +50,36 @@ pub makes_more : (s after : State) (t : Token)
     → step s t ≡ Ok after → s.content.profiles < after.content.profiles → IsBareOrClosing t
 makes_more s after t e more = grind arith
 
--- one more count was read
-abbrev HasCount : Content → Content → Type 0
-HasCount c d = (n : ℕ) × (d.counts ≡ c.counts ++ n ∷ []) × (d.profiles ≡ c.profiles * n)
-
--- a count or a list was read, or there are as many as before
-abbrev IsGrownAt : Position → Content → Content → Type 0
-IsGrownAt (p.Counts left) c d = HasCount c d
-IsGrownAt (p.BeforeList left) c d = HasCount c d
-IsGrownAt _ c d = (d.counts ≡ c.counts) × (d.profiles ≡ c.profiles)
-
-abbrev IsGrown : State → Result State Why → Type 0
-IsGrown s (Ok after) = IsGrownAt after.position s.content after.content
-IsGrown s (Err why) = Unit {0}
-
-grown : (s : State) (t : Token) → IsGrown s (step s t)
-grown s t = grind arith
-
--- the last count of those that were read
-pub last_count : (s after : State) (t : Token) (k : Kind) (due : ℕ) → after.position ≡ next k due
-    → step s t ≡ Ok after → (n : ℕ) × (after.content.counts ≡ s.content.counts ++ n ∷ [])
-last_count s after t k due q e = let h = subst (IsGrown s) e (grown s t) in grind arith
-
-product_snoc : (ns : List ℕ) (n : ℕ) → product (ns ++ n ∷ []) ≡ product ns * n
-product_snoc [] n = omega arith
-product_snoc (m ∷ ns) n = grind (arith, mul_assoc, product_snoc ns n)
-
-product_at : (q : Position) (c d : Content) → IsGrownAt q c d → c.profiles ≡ product c.counts
-    → d.profiles ≡ product d.counts
-product_at q c d h e = grind (arith, product_snoc)
-
--- their number is the product of the counts
-pub products : (ts : List Token) (s after : State) → walk s ts ≡ Ok after
-    → s.content.profiles ≡ product s.content.counts
-    → after.content.profiles ≡ product after.content.counts
-products ts s after e h = kept step (λ x. x.content.profiles ≡ product x.content.counts)
-    (λ x y t k f. product_at y.position x.content y.content (subst (IsGrown x) f (grown x t)) k)
-    ts s after h e
-
-bounded : (s after : State) (t : Token) → step s t ≡ Ok after → s.content.profiles ≤ profile_limit
-    → is_past after.position after.content.profiles ≡ false → after.content.profiles ≤ profile_limit
-bounded s after t e few not = let h = subst (IsGrown s) e (grown s t) in grind arith
-
-pub past : (q : Position) (n : ℕ) → is_past q n ≡ true → profile_limit < n
-past q n h = grind arith
-
 -- within their limit
 abbrev pub IsWithin : State → Type 0
 IsWithin s = s.content.profiles ≤ profile_limit
 
-within_is : (o : Result State Why) (after : State) → within o ≡ Ok after
-    → (o ≡ Ok after) × (is_past after.position after.content.profiles ≡ false)
-within_is o after e = grind arith
+-- the limit is looked at wherever they may pass it
+abbrev IsLookedAt : Result State Why → Type 0
+IsLookedAt (Ok after) =
+    is_past after.position after.content.profiles ≡ nat_lt profile_limit after.content.profiles
+IsLookedAt (Err why) = Unit {0}
 
+looked_at : (s : State) (t : Token) → nat_lt profile_limit s.content.profiles ≡ false
+    → IsLookedAt (step s t)
+looked_at s t few = grind arith
+
+past_is : (s after : State) (t : Token) → step s t ≡ Ok after → IsWithin s
+    → is_past after.position after.content.profiles ≡ nat_lt profile_limit after.content.profiles
+past_is s after t e few = subst IsLookedAt e (looked_at s t (grind (arith, nat_tests)))
+
+pub taken_past : (s after : State) (t : Token) → step s t ≡ Ok after → IsWithin s
+    → profile_limit < after.content.profiles → taken s t ≡ Err TooManyProfiles
+taken_past s after t e few over = let past = past_is s after t e few in grind (arith, nat_tests)
+
+pub taken_within : (s after : State) (t : Token) → step s t ≡ Ok after → IsWithin after
+    → taken s t ≡ Ok after
+taken_within s after t e few = grind (arith, past_is s, step_grows s, nat_tests)
+
+-- what is taken, the machine goes on with
 step_taken : (s after : State) (t : Token) → IsWithin s → taken s t ≡ Ok after
     → (step s t ≡ Ok after) × IsWithin after
-step_taken s after Broken few e = absurd cc
-step_taken s after t few e =
-    let h = within_is (step s t) after e in (h.0, bounded s after t h.0 few h.1)
+step_taken s after t few e = grind (arith, past_is s, nat_tests)
 
 -- where tokens lead that do not pass it
 pub stays : (ts : List Token) (s after : State) → IsWithin s → any_format.walk taken s ts ≡ Ok after
@@ -119,8 +91,17 @@ stays (t ∷ ts) s after few e =
     let m = stays ts h.0 after k.1 h.2 in
     (rw k.0 m.0, m.1)
 
+pub read_stays : (ts : List Token) (c : Content) → any_format.run taken finish start ts ≡ Ok c
+    → (run start ts ≡ Ok c) × (c.profiles ≤ profile_limit)
+read_stays ts c e =
+    let m = run_split taken finish ts [] start c (cc (append-nil ts, e)) in
+    let k = stays ts start m.0 (omega arith) m.1 in
+    let whole = run_whole step finish ts start m.0 k.0 in
+    let few = k.1 in
+    grind (arith, m.2)
+
 -- after one of these no list is open
-settles : (s after : State) (t : Token) → step s t ≡ Ok after → IsBareOrClosing t
+pub settles : (s after : State) (t : Token) → step s t ≡ Ok after → IsBareOrClosing t
     → reached after.position after.content.profiles ≡ after.content.profiles
 settles s after t e h = grind arith
 
@@ -132,6 +113,15 @@ walk_grows : (ts : List Token) (s after : State) → walk s ts ≡ Ok after
 walk_grows ts s after e = kept step (λ x. s.content.profiles ≤ x.content.profiles)
     (λ x y t k f. let more = step_grows x y t f in omega (arith, k, more)) ts s after
     (omega arith) e
+
+-- so they are taken, if they lead to a state within the limit
+pub takes : (ts : List Token) (s after : State) → walk s ts ≡ Ok after → IsWithin after
+    → any_format.walk taken s ts ≡ Ok after
+takes [] s after e few = e
+takes (t ∷ ts) s after e few =
+    let h = then_ok (step s t) (λ x. walk x ts) after e in
+    let less = walk_grows ts h.0 after h.2 in
+    rw (taken_within s h.0 t h.1 (omega (arith, few, less))) (takes ts h.0 after h.2 few)
 
 -- nor does a run that ends well
 run_grows : (ts : List Token) (s : State) (r : Content) → run s ts ≡ Ok r
@@ -154,7 +144,7 @@ read_past ts s h more t sentence =
     let grown = run_grows more s p.content run in
     grind (arith, size_read)
 
-begins_within : (ts : List Token) (s : State) → Leads ts s
+pub begins_within : (ts : List Token) (s : State) → Leads ts s
     → reached s.position s.content.profiles ≤ profile_limit → BeginsWithinLimit ts
 begins_within ts s h within =
     let e = ends s.position s.content in

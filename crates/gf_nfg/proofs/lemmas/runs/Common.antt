@@ -1,6 +1,5 @@
 -- What the lemmas on runs of the machine share.
-use Rattle.gf_nfg.proofs.Common.{Result, slice_eq-Decides, Decides-eqb, pointwise, ◌≡◌, State}
-use Rattle.gf_nfg.proofs.Common.{Token, nat_eq, start, true, ℕ, List, Ok, Why, refl, step}
+use Rattle.gf_nfg.proofs.Common.{List, Ok, Result, State, Token, Why, start, step, ◌≡◌}
 use Rattle.gf_token.specs.inner.Machine as any_format
 
 abbrev pub ok_why : {A : Type 0} → A → Result A Why
@@ -8,9 +7,6 @@ ok_why x = Ok x
 
 pub ok_is : {A : Type 0} (x y : A) → ok_why x ≡ ok_why y → x ≡ y
 ok_is x y e = cc
-
-pub same_bytes : (b word : List ℕ) → pointwise nat_eq b word ≡ true → b ≡ word
-same_bytes b word e = (slice_eq-Decides Decides-eqb b word (pointwise nat_eq b word) refl).0 e
 
 -- ---- where tokens lead the machine
 

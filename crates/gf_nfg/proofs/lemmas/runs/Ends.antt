@@ -1,9 +1,9 @@
 -- Each state of the machine can be completed.
 use Rattle.gf_nfg.proofs.Common
-use Common.{next_outcome, with_choices, with_payoffs, with_labels, gcd_within, with_count, Position}
+use Common.{false, true, with_choices, with_payoffs, with_labels, gcd_within, with_count, Position}
 use Common.{with_title, lowest_of, number_of, count_of, index_of, Content, Closing, Opening, length}
 use Common.{mul-one, le-leb, Ratio, whole, State, Comma, Token, arith, codes, step, Bare, Text, run}
-use Common.{List, Some, refl, zero, pos, suc, ◌*◌, ◌∙◌, ◌∷◌, ◌≡◌, at, Ok, [], p, ℕ}
+use Common.{List, Some, refl, zero, pos, suc, ◌*◌, ◌+◌, ◌∙◌, ◌∷◌, ◌≡◌, at, Ok, [], p, ℕ}
 
 -- it can be completed, to this many profiles
 pub record Ends (s : State) (profiles : ℕ) : Type 0 where
@@ -61,11 +61,11 @@ outcomes_ends : (outcomes : ℕ) (c : Content) → Ends (at (p.InOutcomes outcom
 outcomes_ends outcomes c = by Closing refl (numbers_ends outcomes c.profiles c)
 
 braced_ends : (outcomes left : ℕ) (c : Content)
-    → Ends (at (p.BracedPayoff outcomes left) c) c.profiles
-braced_ends outcomes zero c = by Closing refl (outcomes_ends (next_outcome outcomes) c)
+    → Ends (at (p.BracedPayoff false outcomes left) c) c.profiles
+braced_ends outcomes zero c = by Closing refl (outcomes_ends (outcomes + 1) c)
 braced_ends outcomes (suc left) c =
     by (Bare zero_text) (rw zero_is_number refl)
-    (by {s = at (p.AfterBracedPayoff outcomes left) (paid c)} Comma refl
+    (by {s = at (p.BracedPayoff true outcomes left) (paid c)} Comma refl
     (braced_ends outcomes left (paid c)))
 
 -- ---- strategies
@@ -123,6 +123,6 @@ ends (p.AfterComment left) c = by Opening refl (outcomes_ends 0 c)
 ends (p.FlatPayoffs left) c = flat_ends left c
 ends (p.InOutcomes outcomes) c = outcomes_ends outcomes c
 ends (p.OutcomeName outcomes) c = by (Text []) refl (braced_ends outcomes (length c.players) c)
-ends (p.BracedPayoff outcomes left) c = braced_ends outcomes left c
-ends (p.AfterBracedPayoff outcomes left) c = by Comma refl (braced_ends outcomes left c)
+ends (p.BracedPayoff true outcomes left) c = by Comma refl (braced_ends outcomes left c)
+ends (p.BracedPayoff false outcomes left) c = braced_ends outcomes left c
 ends (p.OutcomeNumbers outcomes left) c = numbers_ends outcomes left c

@@ -2,13 +2,12 @@
 -- the rows that they are.
 use Rattle.gf_nfg.proofs.Common
 use Common.{IsOutcomeInBraces, IsPayoffInBraces, take-append-drop, slice_get_within, AllByRecursion}
-use Common.{IsOutcomeNumber, length-append, next_outcome, number_again, with_choices, with_payoffs}
-use Common.{append_assoc, NumberFault, index_again, length-drop, append-nil, number_is, number_of}
-use Common.{IsPayoff, Position, index_is, index_of, Content, IsIndex, rows_of, Closing, Opening, Ok}
-use Common.{mul-suc, Option, Result, braced, chosen, row_of, length, Comma, Ratio, State, Token, []}
-use Common.{arith, false, ◌>>=◌, Pays, paid, Bare, Bool, Each, List, Some, Text, drop, refl, take}
-use Common.{true, zero, ◌++◌, run, inr, map, min, suc, ◌*◌, ◌+◌, ◌-◌, ◌<◌, ◌^◌, ◌∙◌, ◌∷◌, ◌≡◌, ◌≤◌}
-use Common.{◌⊎◌, ap, at, p, ℕ}
+use Common.{IsOutcomeNumber, length-append, number_again, with_choices, with_payoffs, append_assoc}
+use Common.{NumberFault, index_again, length-drop, append-nil, number_is, number_of, IsPayoff}
+use Common.{Position, index_is, index_of, Content, IsIndex, rows_of, Closing, Opening, Ok, mul-suc}
+use Common.{Option, Result, braced, chosen, row_of, length, Comma, Ratio, State, Token, [], arith}
+use Common.{false, ◌>>=◌, Pays, paid, Bare, Bool, Each, List, Some, Text, drop, refl, take, true}
+use Common.{zero, ◌++◌, run, inr, map, suc, ◌*◌, ◌+◌, ◌<◌, ◌∙◌, ◌∷◌, ◌≡◌, ◌≤◌, ◌⊎◌, ap, at, p, ℕ}
 use Rattle.gf_token.proofs.Grammar.{each_both}
 use Rattle.gf_nfg.proofs.lemmas.runs.Common.{ok_is}
 use Rattle.gf_nfg.proofs.lemmas.runs.Strategies.{First, all_in, each_parts, groups_found}
@@ -39,15 +38,9 @@ pub flat_again : (numbers : List Ratio) (ts : List Token) (c : Content) → Each
     → run (at (p.FlatPayoffs (length numbers)) c) ts ≡ Ok (with_payoffs c numbers)
 flat_again [] ts c h = grind (arith, append-nil)
 flat_again (n ∷ numbers) ts c h =
-    let more = flat_again numbers h.1 (with_payoffs c (n ∷ [])) h.4 in
-    grind (arith, number_again h.3.0 n h.3.2, append_assoc)
+    grind (arith, number_again h.3.0 n h.3.2, append_assoc, flat_again numbers h.1)
 
 -- ---- in braces
-
--- whether a comma may stand next
-abbrev pub braced_at : Bool → ℕ → ℕ → Position
-braced_at true = p.AfterBracedPayoff
-braced_at false = p.BracedPayoff
 
 abbrev with_one : Content → Ratio → Content
 with_one c n = with_payoffs c (n ∷ [])
@@ -57,10 +50,10 @@ all_payoffs [] c = rw append-nil refl
 all_payoffs (n ∷ ns) c = grind (arith, append_assoc, all_payoffs ns (with_one c n))
 
 abbrev braced_due : ℕ → ℕ → Content → State
-braced_due outcomes due c = at (p.BracedPayoff outcomes due) c
+braced_due outcomes due c = at (p.BracedPayoff false outcomes due) c
 
 comma_found : (ts : List Token) (due outcomes : ℕ) (c r : Content)
-    → run (at (p.AfterBracedPayoff outcomes due) c) ts ≡ Ok r
+    → run (at (p.BracedPayoff true outcomes due) c) ts ≡ Ok r
     → (comma : List Token) × (rest : List Token) × (ts ≡ comma ++ rest)
     × ((comma ≡ []) ⊎ (comma ≡ Comma ∷ [])) × (run (braced_due outcomes due c) rest ≡ Ok r)
 comma_found (Comma ∷ ts) due outcomes c r e = (Comma ∷ [], ts, refl, inr refl, e)
@@ -70,7 +63,7 @@ one_braced : (outcomes : ℕ) (ts : List Token) (due : ℕ) (c r : Content)
     → run (braced_due outcomes (suc due) c) ts ≡ Ok r
     → First IsPayoffInBraces (braced_due outcomes) with_one ts due c r
 one_braced outcomes (Bare b ∷ ts) due c r e =
-    let h = paid_found (p.AfterBracedPayoff outcomes due) c (number_of b) ts r e in
+    let h = paid_found (p.BracedPayoff true outcomes due) c (number_of b) ts r e in
     let k = comma_found ts due outcomes (with_one c h.0) r h.2 in
     let n = number_is b h.0 h.1 in
     (Bare b ∷ k.0, k.1, h.0, ap (λ x. Bare b ∷ x) k.2, (b, k.0, refl, n, k.3), k.4)
@@ -78,7 +71,7 @@ one_braced outcomes _ due c r e = absurd (grind arith)
 
 brace_found : (ts : List Token) (outcomes : ℕ) (c r : Content)
     → run (braced_due outcomes 0 c) ts ≡ Ok r → (rest : List Token) × (ts ≡ Closing ∷ rest)
-    × (run (at (p.InOutcomes (next_outcome outcomes)) c) rest ≡ Ok r)
+    × (run (at (p.InOutcomes (outcomes + 1)) c) rest ≡ Ok r)
 brace_found (Closing ∷ ts) outcomes c r e = (ts, refl, e)
 brace_found _ outcomes c r e = absurd cc
 
@@ -87,55 +80,45 @@ pub braces_found : (ts : List Token) (due outcomes : ℕ) (c r : Content)
     → run (braced_due outcomes due c) ts ≡ Ok r
     → (numbers : List Ratio) × (inner : List Token) × (rest : List Token)
     × (ts ≡ inner ++ Closing ∷ rest) × Each IsPayoffInBraces inner numbers × (length numbers ≡ due)
-    × (run (at (p.InOutcomes (next_outcome outcomes)) (with_payoffs c numbers)) rest ≡ Ok r)
+    × (run (at (p.InOutcomes (outcomes + 1)) (with_payoffs c numbers)) rest ≡ Ok r)
 braces_found ts due outcomes c r e =
     let h = groups_found IsPayoffInBraces (braced_due outcomes) with_one (one_braced outcomes) ts
     due c r e in
     let k = brace_found h.1 outcomes (all_in with_one c h.2) r h.6 in
-    grind (arith, run, next_outcome, all_payoffs)
+    grind (arith, run, all_payoffs)
 
 pub braces_again : (numbers : List Ratio) (inner rest : List Token) (outcomes : ℕ) (c : Content)
     → Each IsPayoffInBraces inner numbers → (may : Bool)
-    → run (at (braced_at may outcomes (length numbers)) c) (inner ++ Closing ∷ rest)
-    ≡ run (at (p.InOutcomes (next_outcome outcomes)) (with_payoffs c numbers)) rest
+    → run (at (p.BracedPayoff may outcomes (length numbers)) c) (inner ++ Closing ∷ rest)
+    ≡ run (at (p.InOutcomes (outcomes + 1)) (with_payoffs c numbers)) rest
 braces_again [] inner rest outcomes c h may = grind (arith, append-nil)
 braces_again (n ∷ numbers) inner rest outcomes c h may =
     let more = braces_again numbers h.1 rest outcomes (with_payoffs c (n ∷ [])) h.4 in
-    let plain = more false in
-    let after_comma = more true in
-    grind (arith, append_assoc, number_again h.3.0 n h.3.3)
+    grind (arith, append_assoc, number_again h.3.0 n h.3.3, more false, more true)
 
 -- ---- outcomes
-
--- the greatest number of this many outcomes
-abbrev pub greatest : ℕ → ℕ
-greatest n = min n (2 ^ 32 - 1)
-
-greatest_next : (n : ℕ) → next_outcome (greatest n) ≡ greatest (n + 1)
-greatest_next n = omega arith
 
 -- the outcomes still to come, and their closing brace
 abbrev pub Outcomes : List Token → ℕ → Content → Content → Type 0
 Outcomes ts before c r = (list : List Token) × (numbers : List Token)
     × (outcomes : List (List Ratio)) × (ts ≡ list ++ Closing ∷ numbers)
     × Each (IsOutcomeInBraces (length c.players)) list outcomes
-    × (run (at (p.OutcomeNumbers (greatest (before + length outcomes)) c.profiles)
+    × (run (at (p.OutcomeNumbers (before + length outcomes) c.profiles)
     (with_payoffs c (joined outcomes))) numbers ≡ Ok r)
 
 -- in more steps than there are tokens
 pub outcomes_in : (steps : ℕ) (ts : List Token) (before : ℕ) (c r : Content) → length ts < steps
-    → run (at (p.InOutcomes (greatest before)) c) ts ≡ Ok r → Outcomes ts before c r
+    → run (at (p.InOutcomes before) c) ts ≡ Ok r → Outcomes ts before c r
 outcomes_in zero ts before c r less e = absurd (omega arith)
 outcomes_in (suc steps) (Closing ∷ ts) before c r less e =
-    let none : greatest before ≡ greatest (before + 0) = omega arith in
+    let none : before ≡ before + 0 = omega arith in
     ([], ts, [], refl, refl, grind (arith, append-nil))
 outcomes_in (suc steps) (Opening ∷ Text name ∷ ts) before c r less e =
-    let b = braces_found ts (length c.players) (greatest before) c r e in
+    let b = braces_found ts (length c.players) before c r e in
     let size = ap length b.3 ∙ length-append b.1 (Closing ∷ b.2) in
     let h = outcomes_in steps b.2 (before + 1) (with_payoffs c b.0) r (omega (arith, less, size))
-    (cc (greatest_next before, b.6)) in
-    let more : greatest ((before + 1) + length h.2) ≡ greatest (before + length (b.0 ∷ h.2)) =
-    omega arith in
+    b.6 in
+    let more : (before + 1) + length h.2 ≡ before + length (b.0 ∷ h.2) = omega arith in
     let group = braced (Text name ∷ b.1) in
     let all = append_assoc c.payoffs b.0 (joined h.2) in
     let one : IsOutcomeInBraces (length c.players) group b.0 = (name, b.1, refl, b.4, b.5) in
@@ -144,23 +127,16 @@ outcomes_in (suc steps) (Opening ∷ Text name ∷ ts) before c r less e =
     (group ++ h.0, h.1, b.0 ∷ h.2, parts, (group, h.0, refl, one, h.4), cc all)
 outcomes_in (suc steps) _ before c r less e = absurd cc
 
-outcomes_more : (outcomes : List (List Ratio)) (list rest : List Token) (before : ℕ) (c : Content)
-    → Each (IsOutcomeInBraces (length c.players)) list outcomes
-    → run (at (p.InOutcomes (greatest before)) c) (list ++ Closing ∷ rest)
-    ≡ run (at (p.OutcomeNumbers (greatest (before + length outcomes)) c.profiles)
+pub outcomes_again : (outcomes : List (List Ratio)) (list rest : List Token) (before : ℕ)
+    (c : Content) → Each (IsOutcomeInBraces (length c.players)) list outcomes
+    → run (at (p.InOutcomes before) c) (list ++ Closing ∷ rest)
+    ≡ run (at (p.OutcomeNumbers (before + length outcomes) c.profiles)
     (with_payoffs c (joined outcomes))) rest
-outcomes_more [] list rest before c h = grind (arith, append-nil)
-outcomes_more (payoffs ∷ outcomes) list rest before c h =
-    let ends = braces_again payoffs h.3.1 (h.1 ++ Closing ∷ rest) (greatest before) c h.3.3 false in
-    let more = outcomes_more outcomes h.1 rest (before + 1) (with_payoffs c payoffs) h.4 in
-    grind (arith, h.3.0, greatest_next before, append_assoc, joined)
-
-pub outcomes_again : (outcomes : List (List Ratio)) (list rest : List Token) (c : Content)
-    → Each (IsOutcomeInBraces (length c.players)) list outcomes
-    → run (at (p.InOutcomes 0) c) (list ++ Closing ∷ rest)
-    ≡ run (at (p.OutcomeNumbers (greatest (length outcomes)) c.profiles)
-    (with_payoffs c (joined outcomes))) rest
-outcomes_again outcomes list rest c h = grind (arith, outcomes_more outcomes list rest 0 c h)
+outcomes_again [] list rest before c h = grind (arith, append-nil)
+outcomes_again (payoffs ∷ outcomes) list rest before c h =
+    let ends = braces_again payoffs h.3.1 (h.1 ++ Closing ∷ rest) before c h.3.3 false in
+    let more = outcomes_again outcomes h.1 rest (before + 1) (with_payoffs c payoffs) h.4 in
+    grind (arith, h.3.0, append_assoc, joined)
 
 -- ---- outcomes' numbers
 
@@ -202,8 +178,7 @@ pub choices_again : (choices : List ℕ) (ts : List Token) (outcomes : ℕ) (c :
     → run (at (p.OutcomeNumbers outcomes (length choices)) c) ts ≡ Ok (with_choices c choices)
 choices_again [] ts outcomes c h known = grind (arith, append-nil)
 choices_again (k ∷ choices) ts outcomes c h known =
-    let more = choices_again choices h.1 outcomes (with_choices c (k ∷ [])) h.4 known.1 in
-    grind (arith, index_again h.3.0 k h.3.2, append_assoc)
+    grind (arith, index_again h.3.0 k h.3.2, append_assoc, choices_again choices h.1 outcomes)
 
 -- ---- the rows of both bodies
 
@@ -238,7 +213,7 @@ outcomes_full players (row ∷ outcomes) list h = (h.3.4, outcomes_full players 
 module _ (players : ℕ) (outcomes : List (List Ratio))
     (full : AllByRecursion (λ row. length row ≡ players) outcomes) where
   pub choices_pay : (choices : List ℕ) (tokens : List Token) → Each IsChoice tokens choices
-      → AllByRecursion (λ k. k ≤ greatest (length outcomes)) choices
+      → AllByRecursion (λ k. k ≤ length outcomes) choices
       → Each (IsOutcomeNumber players outcomes) tokens
       (map (row_of players (joined outcomes)) choices)
   choices_pay [] tokens h known = h
@@ -251,13 +226,13 @@ module _ (players : ℕ) (outcomes : List (List Ratio))
   pub record Chosen (tokens : List Token) (rs : List (List Ratio)) : Type 0 where
     pub choices : List ℕ
     pub each : Each IsChoice tokens choices
-    pub known : AllByRecursion (λ k. k ≤ greatest (length outcomes)) choices
+    pub known : AllByRecursion (λ k. k ≤ length outcomes) choices
     pub rows : map (row_of players (joined outcomes)) choices ≡ rs
     pub count : length choices ≡ length rs
 
-  pays_row : (k : ℕ) (row : List Ratio) → k < 2 ^ 32 → Pays players outcomes k row
-      → (k ≤ greatest (length outcomes)) × (row_of players (joined outcomes) k ≡ row)
-  pays_row k row h h2 = grind (arith, slice_get_within, get-joined)
+  pays_row : (k : ℕ) (row : List Ratio) → Pays players outcomes k row
+      → (k ≤ length outcomes) × (row_of players (joined outcomes) k ≡ row)
+  pays_row k row h = grind (arith, slice_get_within, get-joined)
 
   pub choices_chosen : (rs : List (List Ratio)) (tokens : List Token)
       → Each (IsOutcomeNumber players outcomes) tokens rs → Chosen tokens rs
@@ -265,7 +240,7 @@ module _ (players : ℕ) (outcomes : List (List Ratio))
       record { choices = []; each = h; known = tt; rows = refl; count = refl }
   choices_chosen (row ∷ rs) tokens h =
       let k = h.3.1 in
-      let p = pays_row k row h.3.3.2 h.3.4 in
+      let p = pays_row k row h.3.4 in
       let more = choices_chosen rs h.1 h.4 in
       record {
         choices = k ∷ more.choices;

@@ -4,7 +4,7 @@ use Rattle.gf_nfg.proofs.Common
 use Common.{StandsBefore, content_told, MatchResult, HasToldAll, content_in, length-map, Remaining}
 use Common.{Position, StandsAt, Telling, Content, Heading, Opening, read_on, Answer, Lexeme, Memory}
 use Common.{Reader, Result, answer, length, lexeme, Fails, Fault, arith, heard, subst, Goes, List}
-use Common.{Span, Text, Told, refl, Err, sym, ◌-◌, ◌<◌, ◌∙◌, ◌∷◌, ◌≡◌, at, Ok, [], ap, p, ℕ}
+use Common.{Span, Text, Told, false, refl, Err, sym, ◌-◌, ◌<◌, ◌∙◌, ◌∷◌, ◌≡◌, at, Ok, [], ap, p, ℕ}
 use Rattle.gf_nfg.proofs.lemmas.places.Judged.{carried, lacks_memory}
 pub use Rattle.gf_token.proofs.Following.{goes_back, fails_back as ends_back}
 use Rattle.gf_nfg.specs.declared.reader.receive.Version.TheVariants as version
@@ -28,12 +28,18 @@ first_opens due c t new s some next input = grind arith
 
 -- ---- outcomes
 
+pub outcome_opened : {T : Type 0} {holds : T → T → Told → Type 0} {b : Telling T} {to : T}
+    {outcomes start end : ℕ} {t new : Remaining} → StandsAt holds b (p.InOutcomes outcomes) t to
+    → t.ahead ≡ lexeme start end Opening ∷ new.ahead → new.input ≡ t.input
+    → StandsAt holds b (p.OutcomeName outcomes) new to
+outcome_opened h next input = grind arith
+
 -- after the name of an outcome, a payoff is due for each player
 pub outcome_named : {T : Type 0} {holds : T → T → Told → Type 0} {b : Telling T} {to : T}
     {outcomes players start end : ℕ} {t new : Remaining} {label : List ℕ}
     → StandsAt holds b (p.OutcomeName outcomes) t to → length b.heading.players.items ≡ players
     → t.ahead ≡ lexeme start end (Text label) ∷ new.ahead → new.input ≡ t.input
-    → StandsAt holds b (p.BracedPayoff outcomes players) new to
+    → StandsAt holds b (p.BracedPayoff false outcomes players) new to
 outcome_named h size next input = grind (arith, length-map)
 
 -- ---- after the last of the strategies

@@ -1,19 +1,18 @@
 -- A run of the machine that succeeds has read a sentence, and each sentence is read.
 use Rattle.gf_nfg.proofs.Common
 use Common.{AllByRecursion, counted_labels, strategies_end, IsOutcomeBody, strategies_of, IsComment}
-use Common.{append_assoc, IsPayoffBody, with_comment, IsLabelList, HasPayoffs, all_weaker, Sentence}
+use Common.{append_assoc, IsPayoffBody, with_comment, IsLabelList, HasPayoffs, Sentence}
 use Common.{length-map, all_images, IsComplete, HasLabels, table_of, IsTable, IsCount, Opening, ◌≡◌}
 use Common.{Closing, Content, rows_by, product, length, braced, row_of, finish, arith, subst, Token}
-use Common.{Ratio, Table, start, ◌++◌, refl, Text, Each, rows, step, List, ◌≤◌, ◌∷◌, map, sym, ◌∙◌}
+use Common.{Ratio, Table, start, ◌++◌, refl, Text, Each, rows, step, List, ◌∷◌, map, sym, ◌∙◌}
 use Common.{inl, inr, ◌⊎◌, run, sum, ◌+◌, ◌*◌, ◌<◌, [], Ok, at, ℕ, p}
 use Rattle.gf_nfg.proofs.lemmas.tables.Lists.{joined, length-joined_rows, length-counted_labels}
 use Rattle.gf_nfg.proofs.lemmas.tables.Lists.{length-joined, product_above_zero, rows_again}
 use Rattle.gf_nfg.proofs.lemmas.tables.Meaning.{is_table, rows-table_of, strategies_of-joined}
 use Rattle.gf_nfg.proofs.lemmas.tables.Rows.{entries_again}
-use Rattle.gf_nfg.proofs.lemmas.runs.Payoffs.{flat_found, flat_again, greatest, outcomes_in}
-use Rattle.gf_nfg.proofs.lemmas.runs.Payoffs.{outcomes_again, choices_found, choices_again}
-use Rattle.gf_nfg.proofs.lemmas.runs.Payoffs.{rows_each, rows_joined, outcomes_full, choices_pay}
-use Rattle.gf_nfg.proofs.lemmas.runs.Payoffs.{choices_chosen}
+use Rattle.gf_nfg.proofs.lemmas.runs.Payoffs.{flat_found, flat_again, outcomes_in, outcomes_again}
+use Rattle.gf_nfg.proofs.lemmas.runs.Payoffs.{choices_found, choices_again, rows_each, rows_joined}
+use Rattle.gf_nfg.proofs.lemmas.runs.Payoffs.{outcomes_full, choices_pay, choices_chosen}
 use Rattle.gf_nfg.proofs.lemmas.runs.Strategies.{heading_found, strategies_again, strategies_found}
 use Rattle.gf_nfg.proofs.lemmas.runs.Strategies.{AllSome, heading_leads, heading_line, with_counts}
 use Rattle.gf_nfg.proofs.lemmas.runs.Strategies.{IsGroup, Kind, Strategies, heading, labels_in}
@@ -55,13 +54,10 @@ outcome_body : (ts : List Token) (c r : Content) → 0 < c.profiles
 outcome_body ts c r above e =
     let h = outcomes_in (length ts + 1) ts 0 (filled c [] []) r (omega arith) e in
     let none : 0 + length h.2 ≡ length h.2 = omega arith in
-    let k = choices_found h.1 c.profiles (greatest (length h.2))
-    (filled c (joined h.2) []) r (cc h.5) in
+    let k = choices_found h.1 c.profiles (length h.2) (filled c (joined h.2) []) r (cc h.5) in
     let some : 0 < length k.choices = omega (arith, k.count, above) in
     let full = outcomes_full (length c.players) h.2 h.0 h.4 in
     let size = length-joined_rows (length c.players) h.2 full in
-    let known = all_weaker (λ n. n ≤ greatest (length h.2)) (λ n. n ≤ length h.2)
-    (λ n small. omega (arith, small)) k.choices k.known in
     record {
       payoffs = joined h.2;
       choices = k.choices;
@@ -132,10 +128,10 @@ body_again body c rs above full count (inr b) =
     let d : Content = filled c (joined b.outcomes) [] in
     let goes : run (at (p.InOutcomes 0) (filled c [] [])) ((b.list ++ Closing ∷ []) ++ b.numbers)
     ≡ Ok (filled c (joined b.outcomes) o.choices) =
-    let list = outcomes_again b.outcomes b.list b.numbers (filled c [] []) b.listed in
-    let numbers = choices_again o.choices b.numbers (greatest (length b.outcomes)) d o.each
-    o.known in
-    cc (append_assoc b.list (Closing ∷ []) b.numbers, list, o.count, count, numbers) in
+    let list = outcomes_again b.outcomes b.list b.numbers 0 (filled c [] []) b.listed in
+    let none : 0 + length b.outcomes ≡ length b.outcomes = omega arith in
+    let numbers = choices_again o.choices b.numbers (length b.outcomes) d o.each o.known in
+    cc (append_assoc b.list (Closing ∷ []) b.numbers, list, none, o.count, count, numbers) in
     record {
       payoffs = joined b.outcomes;
       choices = o.choices;

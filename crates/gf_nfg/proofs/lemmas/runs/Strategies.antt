@@ -4,10 +4,11 @@ use Rattle.gf_nfg.proofs.Common
 use Common.{AllByRecursion, counted_labels, strategies_end, with_players, append_assoc, IsLabelList}
 use Common.{count_again, with_labels, with_count, append-nil, with_title, mul_assoc, Position, Each}
 use Common.{count_is, count_of, Closing, Content, IsCount, Opening, counted, nothing, product, Bare}
-use Common.{mul-one, Option, braced, length, listed, finish, State, start, ◌>>=◌, Token, arith, run}
-use Common.{codes, List, Some, Text, refl, zero, ◌++◌, step, inl, inr, map, suc, ◌*◌, ◌+◌, ◌<◌, ◌∙◌}
+use Common.{mul-one, Option, braced, length, finish, State, start, ◌>>=◌, Token, arith, run}
+use Common.{codes, List, Some, Text, refl, zero, ◌++◌, step, map, suc, ◌*◌, ◌+◌, ◌<◌, ◌∙◌}
 use Common.{◌∷◌, ◌≡◌, ◌⊎◌, Ok, [], ap, at, p, ℕ}
-use Rattle.gf_nfg.proofs.lemmas.runs.Common.{same_bytes, Leads, walk}
+use Rattle.gf_nfg.proofs.lemmas.runs.Common.{Leads, walk}
+use Rattle.gf_token.proofs.RowAnswers.{same_bytes}
 use Rattle.gf_token.proofs.Walks.{run_after, walk_on}
 use Rattle.gf_nfg.proofs.lemmas.tables.Lists.{joined, length-counted_labels}
 
@@ -17,15 +18,6 @@ use Rattle.gf_nfg.proofs.lemmas.tables.Lists.{joined, length-counted_labels}
 abbrev pub all_in : {A : Type 0} → (Content → A → Content) → Content → List A → Content
 all_in add c [] = c
 all_in add c (x ∷ xs) = all_in add (add c x) xs
-
--- as many as these items, and more
-abbrev pub and_more : {A : Type 0} → List A → ℕ → ℕ
-and_more [] due = due
-and_more (x ∷ xs) due = suc (and_more xs due)
-
-pub and_more_is : {A : Type 0} (xs : List A) (due : ℕ) → and_more xs due ≡ length xs + due
-and_more_is [] due = omega arith
-and_more_is (x ∷ xs) due = let h = and_more_is xs due in omega (arith, h)
 
 pub each_both : {A : Type 0} (P : List Token → A → Type 0) (Q : A → Type 0) (xs : List A)
     (ts : List Token) → Each (λ us x. P us x × Q x) ts xs → Each P ts xs × AllByRecursion Q xs
@@ -147,13 +139,10 @@ abbrev pub IsGroup : Kind → List Token → List (List ℕ) → Type 0
 IsGroup ByCounts = IsCount
 IsGroup ByLists = IsLabelList
 
--- where the next of them is read; the first may be of either kind
+-- where the next of them is read
 abbrev pub next : Kind → ℕ → Position
 next ByCounts = p.Counts
 next ByLists = p.BeforeList
-
-abbrev pub Takes : Kind → ℕ → Position → Type 0
-Takes k due q = (q ≡ p.FirstStrategies due) ⊎ (q ≡ next k due)
 
 -- the labels that are kept
 abbrev pub labels_in : Kind → Strategies → List (List ℕ)
@@ -177,8 +166,7 @@ pub all_groups : (k : Kind) (strategies : Strategies) (c : Content)
     ≡ with_counts c (map length strategies) (labels_in k strategies)
 all_groups k [] c = grind (arith, append-nil, mul-one)
 all_groups k (labels ∷ strategies) c =
-    let more = all_groups k strategies (with_group k c labels) in
-    grind (arith, append_assoc, append-nil, mul_assoc, joined)
+    grind (arith, all_groups k strategies, append_assoc, append-nil, mul_assoc, joined)
 
 -- ---- what was read
 
@@ -266,62 +254,52 @@ pub labels_walk : (labels : List (List ℕ)) (due n : ℕ) (c : Content)
     ≡ Ok (at (p.InList due (n + length labels)) (with_labels c labels))
 labels_walk [] due n c = grind (arith, append-nil)
 labels_walk (label ∷ labels) due n c =
-    let more = labels_walk labels due (n + 1) (with_labels c (label ∷ [])) in
-    grind (arith, append_assoc)
+    grind (arith, append_assoc, labels_walk labels due (n + 1))
 
-list_closed : (due : ℕ) (c : Content) (n : ℕ) → 0 < n
-    → listed due c n ≡ Ok (at (p.BeforeList due) (with_count c n))
-list_closed due c n some = grind arith
-
-group_walk : (k : Kind) (due : ℕ) (q : Position) → Takes k (suc due) q → (c : Content)
-    (group : List Token) (labels : List (List ℕ)) → IsGroup k group labels → 0 < length labels
-    → walk (at q c) group ≡ Ok (due_at k due (with_group k c labels))
-group_walk ByCounts due q takes c group labels h some =
+group_walk : (k : Kind) (due : ℕ) (c : Content) (group : List Token) (labels : List (List ℕ))
+    → IsGroup k group labels → 0 < length labels
+    → walk (due_at k (suc due) c) group ≡ Ok (due_at k due (with_group k c labels))
+group_walk ByCounts due c group labels h some =
     let same : length labels ≡ h.1 = ap length h.4 ∙ length-counted_labels h.1 in
     let read = count_again h.0 h.1 (omega (arith, some, same)) h.3 in
     grind arith
-group_walk ByLists due q takes c group labels h some =
+group_walk ByLists due c group labels h some =
     let texts = labels_walk labels due 0 c in
-    let closed = list_closed due (with_labels c labels) (length labels) some in
-    let whole = walk_on step (Opening ∷ map Text labels) (Closing ∷ []) (at q c)
+    let whole = walk_on step (Opening ∷ map Text labels) (Closing ∷ []) (due_at ByLists (suc due) c)
     (at (p.InList due (length labels)) (with_labels c labels)) in
     grind arith
 
--- where groups of some players lead, if this many more are due
-abbrev pub after_groups : Kind → Strategies → ℕ → Position → Position
-after_groups k [] due q = q
-after_groups k (labels ∷ strategies) due q = next k due
+-- where groups of all players lead
+groups_walk : (k : Kind) (strategies : Strategies) (inner : List Token) (c : Content)
+    → Each (IsGroup k) inner strategies → AllSome strategies
+    → walk (due_at k (length strategies) c) inner
+    ≡ Ok (due_at k 0 (all_in (with_group k) c strategies))
+groups_walk k [] inner c h some = ap (walk (due_at k 0 c)) h
+groups_walk k (labels ∷ strategies) inner c h some =
+    let first = group_walk k (length strategies) c h.0 labels h.3 some.0 in
+    let more = groups_walk k strategies h.1 (with_group k c labels) h.4 some.1 in
+    grind (arith, walk_on step)
 
-past_next : (k : Kind) (strategies : Strategies) (due : ℕ)
-    → after_groups k strategies due (next k (and_more strategies due)) ≡ next k due
-past_next k strategies due = grind arith
+-- the first may be of either kind
+either_first : (k : Kind) (strategies : Strategies) (inner rest : List Token) (c : Content)
+    → Each (IsGroup k) inner strategies
+    → run (at (p.FirstStrategies (length strategies)) c) (inner ++ Closing ∷ rest)
+    ≡ run (due_at k (length strategies) c) (inner ++ Closing ∷ rest)
+either_first k [] inner rest c h = grind arith
+either_first k (labels ∷ strategies) inner rest c h = grind arith
 
-pub groups_walk : (k : Kind) (strategies : Strategies) (inner : List Token) (due : ℕ) (q : Position)
-    → Takes k (and_more strategies due) q → (c : Content) → Each (IsGroup k) inner strategies
-    → AllSome strategies
-    → walk (at q c) inner
-    ≡ Ok (at (after_groups k strategies due q) (all_in (with_group k) c strategies))
-groups_walk k [] inner due q takes c h some = ap (walk (at q c)) h
-groups_walk k (labels ∷ strategies) inner due q takes c h some =
-    let first = group_walk k (and_more strategies due) q takes c h.0 labels h.3 some.0 in
-    let d = with_group k c labels in
-    let more = groups_walk k strategies h.1 due (next k (and_more strategies due)) (inr refl) d h.4
-    some.1 in
-    grind (arith, walk_on step, past_next)
-
-closed : (k : Kind) (strategies : Strategies) (rest : List Token) (c : Content)
-    → run (at (after_groups k strategies 0 (p.FirstStrategies 0)) c) (Closing ∷ rest)
-    ≡ run (strategies_end c) rest
-closed k strategies rest c = grind arith
+closed : (k : Kind) (rest : List Token) (c : Content)
+    → run (due_at k 0 c) (Closing ∷ rest) ≡ run (strategies_end c) rest
+closed k rest c = grind arith
 
 pub strategies_again : (k : Kind) (strategies : Strategies) (inner rest : List Token) (c : Content)
     → Each (IsGroup k) inner strategies → AllSome strategies
     → run (at (p.FirstStrategies (length strategies)) c) (inner ++ Closing ∷ rest)
     ≡ run (strategies_end (with_counts c (map length strategies) (labels_in k strategies))) rest
 strategies_again k strategies inner rest c h some =
-    let due : and_more strategies 0 ≡ length strategies =
-    let more = and_more_is strategies 0 in omega (arith, more) in
-    let w = groups_walk k strategies inner 0 (p.FirstStrategies (and_more strategies 0)) (inl refl)
-    c h some in
-    let goes = run_after step finish inner (Closing ∷ rest) _ _ w in
-    grind (arith, closed, all_in, all_groups)
+    let d = all_in (with_group k) c strategies in
+    let goes = run_after step finish inner (Closing ∷ rest) _ _
+    (groups_walk k strategies inner c h some) in
+    let first = either_first k strategies inner rest c h in
+    first ∙ goes ∙ closed k rest d ∙ ap (λ (x : Content). run (strategies_end x) rest)
+    (all_groups k strategies c)

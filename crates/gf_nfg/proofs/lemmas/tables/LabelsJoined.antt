@@ -1,10 +1,9 @@
 -- Labels that are put together: one after another, or joined to one.
-use Rattle.gf_nfg.proofs.Common.{◌≡◌, ℕ, ◌+◌, ◌∷◌, map, ◌∙◌, sym, sum, true, label_of}
-use Rattle.gf_nfg.proofs.Common.{IsLabel, RisesTo, pieces, List, ◌++◌, ap, Some, take, drop, refl}
-use Rattle.gf_nfg.proofs.Common.{arith, Label, [], append_assoc, join_with_byte, slice_get_within}
-use Rattle.gf_nfg.proofs.Common.{length, get_or_from_slice_get, is_spelling_after, slice_get}
-use Rattle.gf_nfg.proofs.Common.{and_from, and_parts, take_more, append-nil, length-drop}
-use Rattle.gf_nfg.proofs.Common.{length-take, AreSpellings}
+use Rattle.gf_nfg.proofs.Common.{get_or_from_slice_get, is_spelling_after, slice_get_within, pieces}
+use Rattle.gf_nfg.proofs.Common.{join_with_byte, append_assoc, AreSpellings, length-drop, slice_get}
+use Rattle.gf_nfg.proofs.Common.{length-take, append-nil, and_parts, take_more, label_of, and_from}
+use Rattle.gf_nfg.proofs.Common.{IsLabel, RisesTo, length, arith, Label, true, List, ◌++◌, Some, ap}
+use Rattle.gf_nfg.proofs.Common.{take, drop, refl, ◌≡◌, ◌+◌, ◌∷◌, map, ◌∙◌, sym, sum, [], ℕ}
 use Rattle.gf_nfg.specs.TableParts.{dashed}
 use Rattle.gf_nfg.proofs.lemmas.tables.Lists.{sum-cons}
 use Rattle.gf_nfg.proofs.lemmas.tables.Pieces.{rises_within}

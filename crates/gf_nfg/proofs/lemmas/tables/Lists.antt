@@ -1,5 +1,5 @@
 -- Lists that stand one after another, and their lengths.
-use Rattle.gf_nfg.proofs.Common.{◌≡◌, suc, ◌+◌, ◌*◌, ◌<◌, ◌∷◌, map, refl, sym, ap, ◌∙◌, sum}
+use Rattle.gf_nfg.proofs.Common.{◌≡◌, suc, ◌+◌, ◌*◌, ◌<◌, ◌∷◌, map, refl, ap, ◌∙◌, sum}
 use Rattle.gf_nfg.proofs.Common.{ℕ, take-append-drop, AllByRecursion, length-append, counted_labels}
 use Rattle.gf_nfg.proofs.Common.{zero, List, [], length, take, drop, Some, groups, drop_at, take_at}
 use Rattle.gf_nfg.proofs.Common.{arith, slice_get, length-drop, length-take, one-le-mul, length-map}
@@ -59,9 +59,7 @@ get-rows_of size n items k h = grind arith
 pub get-joined : {A : Type 0} (size : ℕ) (lists : List (List A)) (k : ℕ)
     → AllByRecursion (λ xs. length xs ≡ size) lists → k < length lists
     → slice_get lists k ≡ Some (take size (drop (k * size) (joined lists)))
-get-joined size lists k h less =
-    ap (λ xs. slice_get xs k) (sym (rows_again size lists h))
-    ∙ get-rows_of size (length lists) (joined lists) k less
+get-joined size lists k h less = grind (arith, rows_again, get-rows_of)
 
 -- of as many items as they hold they are full, and have them all
 pub full_in_turn : {A : Type 0} (size n : ℕ) (items : List A) → length items ≡ n * size

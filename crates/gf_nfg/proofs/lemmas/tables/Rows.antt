@@ -64,26 +64,21 @@ full_row : (players : ℕ) (payoffs : List Ratio) (number : ℕ) → number * pl
 full_row players payoffs zero h = length-replicate players (whole (pos 0))
 full_row players payoffs (suc k) h = grind (arith, length-take, length-drop)
 
-full_chosen : (players : ℕ) (payoffs : List Ratio) (numbers : List ℕ)
-    → AllByRecursion (λ number. number * players ≤ length payoffs) numbers
-    → AllByRecursion (λ row. length row ≡ players) (map (row_of players payoffs) numbers)
-full_chosen players payoffs [] h = tt
-full_chosen players payoffs (number ∷ numbers) h =
-    (full_row players payoffs number h.0, full_chosen players payoffs numbers h.1)
-
 pub full_rows : (players count : ℕ) (payoffs : List Ratio) (numbers : List ℕ)
     → HasRows players count payoffs numbers → AllByRecursion (λ row. length row ≡ players)
     (kept_rows players count payoffs (no_pay players) numbers)
 full_rows players count payoffs [] h = full_in_turn players count payoffs h
-full_rows players count payoffs (k ∷ numbers) h = full_chosen players payoffs (k ∷ numbers) h.1
+full_rows players count payoffs (k ∷ numbers) h =
+    all_images (λ row. length row ≡ players) (row_of players payoffs) (k ∷ numbers)
+    (all_weaker (λ number. number * players ≤ length payoffs)
+    (λ number. length (row_of players payoffs number) ≡ players) (full_row players payoffs)
+    (k ∷ numbers) h.1)
 
 -- without numbers the rows are the payoffs, and each has some if there are players
 pub in_turn : (players count : ℕ) (payoffs zeros : List Ratio) (numbers : List ℕ)
     (rs : List (List Ratio)) → numbers ≡ [] → HasRows players count payoffs numbers
     → kept_rows players count payoffs zeros numbers ≡ rs → payoffs ≡ joined rs
-in_turn players count payoffs zeros [] rs none h view =
-    sym (rows_in_turn players count payoffs h) ∙ ap joined view
-in_turn players count payoffs zeros (k ∷ numbers) rs none h view = absurd cc
+in_turn players count payoffs zeros numbers rs none h view = grind (arith, rows_in_turn)
 
 pub paid_in_turn : (players count : ℕ) (payoffs zeros : List Ratio) (numbers : List ℕ)
     (rs : List (List Ratio)) → numbers ≡ [] → HasRows players count payoffs numbers

@@ -1,5 +1,5 @@
 -- The canonical text of a table spells that table, so different tables have different texts.
-use Rattle.gf_nfg.proofs.Common.{◌≡◌, ℕ, List, [], ◌∷◌, ◌++◌, map, refl, ap, subst, inl, inr, arith}
+use Rattle.gf_nfg.proofs.Common.{◌≡◌, ℕ, List, [], ◌∷◌, ◌++◌, map, refl, ap, inl, inr, arith}
 use Rattle.gf_nfg.proofs.Common.{◌↔◌, codes, AllByRecursion, flat_map, IsLabel, Token, Text, Bare}
 use Rattle.gf_nfg.proofs.Common.{Each, braced, number_spelled, Ratio, IsFraction, written_is_read}
 use Rattle.gf_nfg.proofs.Common.{all_weaker, all_parts, all_lists, Table, IsTable, IsSpellable}
@@ -104,12 +104,11 @@ text_again bytes t u h k =
 pub equal_texts : (t u : Table) → IsTable t → IsSpellable t → IsTable u → IsSpellable u
     → (table_text t ≡ table_text u) ↔ SameTable t u
 equal_texts t u ht st hu su =
-    let same = same_is_equal t u ht hu in (
-      λ e. same.1 (spells_one_table (table_text u) t u
-          (subst (λ bytes. SpellsTable bytes t) e (text_reads_back t ht st))
-          (text_reads_back u hu su)),
-      λ h. ap table_text (same.0 h),
-    )
+    let same = same_is_equal t u ht hu in
+    let mine = text_reads_back t ht st in
+    let other = text_reads_back u hu su in
+    let one = spells_one_table (table_text u) t u in
+    grind arith
 
 pub equal_texts_of_files : (a b : List ℕ) (t u : Table) → SpellsTable a t → SpellsTable b u
     → (table_text t ≡ table_text u) ↔ SameTable t u

@@ -22,10 +22,7 @@ pub laid_more : {width left next : ℕ} {heading text out : List ℕ} {payoffs :
     → out ≡ text ++ (number_text n ++ end ∷ []) → AreLaid width left heading text payoffs
     → AreLaid width next heading out (payoffs ++ n ∷ [])
 laid_more {width} {left} {next} {heading} {text} {out} {payoffs} end n step e l = record {
-  with_more = λ more.
-      let before = l.with_more (n ∷ more) in
-      let here = step more in
-      grind (arith, append_assoc);
+  with_more = λ more. grind (arith, append_assoc, l.with_more (n ∷ more), step more);
 }
 
 -- ---- the lines of all payoffs
@@ -82,8 +79,7 @@ pub record BeginsText (bytes : List ℕ) (named : Bool) (c : Content) (text : Li
   pub text_is : text ≡ heading_text (names_by named (names_in c))
 
 is_outcomes : (v : Version) → ¬ (v ≡ Payoffs) → v ≡ Outcomes
-is_outcomes Payoffs not = absurd (not refl)
-is_outcomes Outcomes not = refl
+is_outcomes v not = grind arith
 
 pub outcomes_begin : (bytes : List ℕ) (heading : Heading) (named : Bool) (t : Text)
     → ¬ (t.version ≡ Payoffs) → HasToldTable (HasText named) bytes heading t

@@ -3,12 +3,13 @@
 use Rattle.gf_tree.proofs.Common.{first_use_numbers, first_use_number, outcome_numbers, Decides-eqb}
 use Rattle.gf_tree.proofs.Common.{InformationSet, renumbered_set, used_outcomes, IsRenumbering, ◌≡◌}
 use Rattle.gf_tree.proofs.Common.{player_keys, Renumbering, first_uses, renumbered, HasOutcome, map}
-use Rattle.gf_tree.proofs.Common.{Described, used_sets, eqb-true, same_set, SameGame, Outcome, Bool}
+use Rattle.gf_tree.proofs.Common.{Described, used_sets, eqb-true, same_set, SameGame, Bool}
 use Rattle.gf_tree.proofs.Common.{sets_of, Carries, SetKey, set_of, IsGame, HasSet, nat_eq, subst}
 use Rattle.gf_tree.proofs.Common.{List, refl, Game, sym, ◌∙◌, ◌↔◌, ap, ℕ}
 use Rattle.std.proofs.Common.{filter}
 use Rattle.gf_tree.specs.CanonicalGame.{canonical_game}
 use Rattle.gf_tree.specs.CarriedParts.{CarriesParts}
+use Rattle.gf_tree.proofs.lemmas.stores.RenumberedKept.{outcome_image, set_image}
 use Rattle.gf_tree.proofs.lemmas.games.Members.{filter_of_map, map_same, map_twice}
 use Rattle.gf_tree.proofs.lemmas.games.FirstUseNumbers.{number_kept}
 use Rattle.gf_tree.proofs.lemmas.games.Carried.{carried_map}
@@ -101,18 +102,15 @@ set_numbers_carried r g h game game' c player =
     ap (λ x. map (λ key. key.number) (player_keys x player))
     (sym c.image)
     ∙ ap (λ ss. map (λ key. key.number) (map (λ s. s.key) ss))
-    (filter_of_map mine mine moved g.sets (λ s i. refl))
-    ∙ map_twice (λ (key : SetKey). key.number) (λ s. s.key) (map moved own)
-    ∙ map_twice (λ s. s.key.number) moved own
+    (filter_of_map mine mine (set_image r) g.sets (λ s i. refl))
+    ∙ map_twice (λ (key : SetKey). key.number) (λ s. s.key) (map (set_image r) own)
+    ∙ map_twice (λ s. s.key.number) (set_image r) own
     ∙ map_same (λ s. r.set s.key.player s.key.number) (λ s. r.set player s.key.number) own
     (λ s i. cc (eqb-true s.key.player player (of_filter mine g.sets s i).1))
     ∙ sym (map_twice (λ (key : SetKey). r.set player key.number) (λ s. s.key) own)
   where
     mine : Described SetKey InformationSet → Bool
     mine s = nat_eq s.key.player player
-
-    moved : Described SetKey InformationSet → Described SetKey InformationSet
-    moved s = record { key = renumbered_set r s.key; description = s.description }
 
     own : List (Described SetKey InformationSet)
     own = filter mine g.sets
@@ -121,10 +119,8 @@ pub outcome_numbers_carried : (r : Renumbering) (g h : Game) → IsGame g → Is
     → outcome_numbers h ≡ map r.outcome (outcome_numbers g)
 outcome_numbers_carried r g h game game' c =
     ap outcome_numbers (sym c.image)
-    ∙ map_twice (λ o. o.key) moved g.outcomes ∙ sym (map_twice r.outcome (λ o. o.key) g.outcomes)
-  where
-    moved : Described ℕ Outcome → Described ℕ Outcome
-    moved o = record { key = r.outcome o.key; description = o.description }
+    ∙ map_twice (λ o. o.key) (outcome_image r) g.outcomes
+    ∙ sym (map_twice r.outcome (λ o. o.key) g.outcomes)
 
 -- ---- first-use numbers
 

@@ -91,8 +91,7 @@ undone {K} same tells f (u ∷ us) k apart i = elim (cases_Bool (same (f u) (f k
     here e = rw e (apart u k (inl refl) i ((tells (f u) (f k)).0 e))
 
     rest : same (f u) (f k) ≡ false → (u ≡ k) ⊎ Has us k → Has us k
-    rest e (inl q) = absurd (both_ways (same (f u) (f k)) e ((tells (f u) (f k)).1 (ap f q)))
-    rest e (inr j) = j
+    rest e h = grind (arith, both_ways)
 
     there : same (f u) (f k) ≡ false → undo same f us (f k) ≡ k → undo same f (u ∷ us) (f k) ≡ k
     there e h = rw e h

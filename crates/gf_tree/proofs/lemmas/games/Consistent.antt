@@ -10,7 +10,7 @@ use Common.{map, sym, ◌∙◌, inl, inr, Use, ap}
 use Rattle.gf_tree.proofs.lemmas.games.Uses.{Has, IsEquality, has_map, mapped_from, each}
 use Rattle.gf_tree.proofs.lemmas.games.Uses.{all_of_each, has_first, has_later, described}
 use Rattle.gf_tree.proofs.lemmas.games.FirstUses.{is_used, was_used, describe_all, found}
-use Rattle.gf_tree.proofs.lemmas.games.TreesOnce.{same_set_equality}
+use Rattle.gf_tree.proofs.lemmas.games.TreesOnce.{one_game, same_set_equality}
 
 -- ---- mapping keeps the shape
 
@@ -93,6 +93,10 @@ some_game f ok =
         outcomes = outcomes.2;
       },
     )
+
+pub one_game_each : (f : FileTree) → IsConsistent f
+    → (g : Game) × IsGameOf f g × ((h : Game) → IsGameOf f h → h ≡ g)
+one_game_each f ok = let g = some_game f ok in (g.0, g.1, λ h of. one_game f h g.0 ok of g.1)
 
 -- ---- and it is one
 

@@ -95,8 +95,4 @@ module _ {K : Type 0} (same : K → K → Bool) (tells : IsEquality same) where
 
   pub number_at_most : (ks : List K) (key : K) → Has ks key
       → first_use_number same ks key ≤ length (first_uses same ks)
-  number_at_most ks key i =
-      let p = placed ks key i in
-      let n = number_at ks p.0 p.1 key p.2 in
-      let all = ap length p.2 in
-      omega (arith, n, all, length-append p.0 (key ∷ p.1))
+  number_at_most ks key i = grind (arith, placed, number_at, length-append)

@@ -1,7 +1,7 @@
 -- Keys in order of first use, and their descriptions.
-use Rattle.gf_tree.proofs.Common.{◌≡◌, Bool, true, false, not, cond, List, [], ◌∷◌, map, Some, refl}
+use Rattle.gf_tree.proofs.Common.{arith, ◌≡◌, Bool, true, false, not, cond, List, [], ◌∷◌, map}
 use Rattle.gf_tree.proofs.Common.{sym, ap, ◌∙◌, inl, inr, AllByRecursion, ◌⊎◌, Described}
-use Rattle.gf_tree.proofs.Common.{description_at, first_uses, Use, Describes}
+use Rattle.gf_tree.proofs.Common.{description_at, first_uses, Use, Describes, refl, Some}
 use Rattle.std.proofs.Common.{filter}
 use Rattle.gf_tree.proofs.lemmas.games.Uses.{Has, IsEquality, differ}
 
@@ -9,14 +9,11 @@ use Rattle.gf_tree.proofs.lemmas.games.Uses.{Has, IsEquality, differ}
 
 of_cond : {X : Type 0} (b : Bool) (x : X) (xs : List X) (y : X) → Has (cond b (x ∷ xs) xs) y
     → ((b ≡ true) × (x ≡ y)) ⊎ Has xs y
-of_cond true x xs y (inl e) = inl (refl, e)
-of_cond true x xs y (inr h) = inr h
-of_cond false x xs y h = inr h
+of_cond b x xs y h = grind arith
 
 in_cond : {X : Type 0} (b : Bool) (x : X) (xs : List X) (y : X) → Has xs y
     → Has (cond b (x ∷ xs) xs) y
-in_cond true x xs y h = inr h
-in_cond false x xs y h = h
+in_cond b x xs y h = grind arith
 
 pub of_filter : {X : Type 0} (p : X → Bool) (xs : List X) (y : X) → Has (filter p xs) y
     → Has xs y × (p y ≡ true)
@@ -34,19 +31,12 @@ in_filter p (x ∷ xs) y (inr h) e = in_cond (p x) x (filter p xs) y (in_filter 
 
 -- ---- first uses
 
-used_by : {K : Type 0} (same : K → K → Bool) → IsEquality same → (key k : K) (ks : List K)
-    → Has (first_uses same ks) k → (b : Bool) → same key k ≡ b → Has (first_uses same (key ∷ ks)) k
-used_by same equality key k ks m true e = inl ((equality key k).0 e)
-used_by same equality key k ks m false e =
-    inr (in_filter (λ j. not (same key j)) (first_uses same ks) k m (ap not e))
-
 -- the keys that are used have a first use
 pub is_used : {K : Type 0} (same : K → K → Bool)
     → IsEquality same → (ks : List K) (k : K) → Has ks k → Has (first_uses same ks) k
 is_used same equality [] k h = absurd h
 is_used same equality (key ∷ ks) k (inl q) = inl q
-is_used same equality (key ∷ ks) k (inr m) =
-    used_by same equality key k ks (is_used same equality ks k m) (same key k) refl
+is_used same equality (key ∷ ks) k (inr m) = grind (arith, in_filter, is_used same equality ks k)
 
 -- and no others
 pub was_used : {K : Type 0} (same : K → K → Bool) (ks : List K) (k : K) → Has (first_uses same ks) k
@@ -61,16 +51,10 @@ abbrev pub AreDistinct : {K : Type 0} → List K → Type 0
 AreDistinct [] = Unit {0}
 AreDistinct (k ∷ ks) = (Has ks k → ⊥) × AreDistinct ks
 
-distinct_by : {K : Type 0} (test : K → Bool) (k : K) (ks : List K)
-    → AreDistinct (k ∷ ks) → AreDistinct (filter test ks) → (b : Bool)
-    → AreDistinct (cond b (k ∷ filter test ks) (filter test ks))
-distinct_by test k ks h rest true = (λ m. h.0 (of_filter test ks k m).0, rest)
-distinct_by test k ks h rest false = rest
-
 filter_distinct : {K : Type 0} (test : K → Bool) (ks : List K) → AreDistinct ks
     → AreDistinct (filter test ks)
 filter_distinct test [] h = tt
-filter_distinct test (k ∷ ks) h = distinct_by test k ks h (filter_distinct test ks h.1) (test k)
+filter_distinct test (k ∷ ks) h = grind (arith, of_filter, filter_distinct test ks h.1)
 
 not_itself : {K : Type 0} (same : K → K → Bool)
     → IsEquality same → (key : K) → not (same key key) ≡ true → ⊥

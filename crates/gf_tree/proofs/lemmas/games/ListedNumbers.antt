@@ -3,7 +3,7 @@ use Rattle.gf_tree.proofs.Common
 use Common.{false_from_ne_true, outcome_numbers, AllByRecursion, InformationSet, listed_numbers, []}
 use Common.{IsRenumbering, used_outcomes, number_listed, Decides-eqb, player_keys, slice_get, false}
 use Common.{both_ways, Described, used_sets, AreListed, same_set, length, get_or, SetKey, set_of, ℕ}
-use Common.{HasSet, IsGame, nat_eq, subst, arith, IsSet, zero, Bool, true, cond, List, Some, refl}
+use Common.{HasSet, IsGame, nat_eq, subst, arith, IsSet, Bool, List, Some}
 use Common.{Game, ◌≡◌, suc, ◌<◌, ◌≤◌, ◌∷◌, inl, inr, sym, ap}
 use Rattle.gf_tree.specs.ListedNumbers.{AreNumbers}
 use Rattle.gf_tree.proofs.lemmas.games.Carried.{in_keys}
@@ -29,57 +29,37 @@ positive (m ∷ ns) n h (inr i) = positive ns n h.2 i
 
 module _ {K : Type 0} (same : K → K → Bool) (tells : IsEquality same) where
   later : (k : K) (ks : List K) (key : K) → Has (k ∷ ks) key → same k key ≡ false → Has ks key
-  later k ks key (inl p) q = absurd (both_ways (same k key) q ((tells k key).1 p))
-  later k ks key (inr m) q = m
-
-  has_by : (k : K) (ks : List K) (n : ℕ) (ns : List ℕ) (key : K) → Has (k ∷ ks) key
-      → (Has ks key → Has ns (number_listed same ks ns key)) → (b : Bool) → same k key ≡ b
-      → Has (n ∷ ns) (number_listed same (k ∷ ks) (n ∷ ns) key)
-  has_by k ks n ns key i more true q = rw q (inl refl)
-  has_by k ks n ns key i more false q = rw q (inr (more (later k ks key i q)))
+  later k ks key h q = grind (arith, both_ways)
 
   pub has_number : (ks : List K) (ns : List ℕ) (key : K) → length ns ≡ length ks → Has ks key
       → Has ns (number_listed same ks ns key)
-  has_number [] ns key e i = absurd i
-  has_number (k ∷ ks) [] key e i = absurd (omega (arith, e))
   has_number (k ∷ ks) (n ∷ ns) key e i =
-      has_by k ks n ns key i (λ m. has_number ks ns key (omega (arith, e)) m) (same k key) refl
-
-  apart_by : (k : K) (ks : List K) (n : ℕ) (ns : List ℕ) (a b : K) → length ns ≡ length ks
-      → AreDistinct (n ∷ ns) → Has (k ∷ ks) a → Has (k ∷ ks) b
-      → (Has ks a → Has ks b → number_listed same ks ns a ≡ number_listed same ks ns b → a ≡ b)
-      → (x : Bool) → same k a ≡ x → (y : Bool) → same k b ≡ y
-      → cond x n (number_listed same ks ns a) ≡ cond y n (number_listed same ks ns b) → a ≡ b
-  apart_by k ks n ns a b h h2 h3 h4 h5 x h6 y h7 h8 = grind (arith, has_number, later)
+      grind (arith, later, has_number ks ns key (omega (arith, e)))
+  has_number ks ns key e i = grind arith
 
   pub numbers_apart : (ks : List K) (ns : List ℕ) (a b : K) → length ns ≡ length ks
       → AreDistinct ns → Has ks a → Has ks b
       → number_listed same ks ns a ≡ number_listed same ks ns b → a ≡ b
-  numbers_apart [] ns a b e d i j h = absurd i
-  numbers_apart (k ∷ ks) [] a b e d i j h = absurd (omega (arith, e))
   numbers_apart (k ∷ ks) (n ∷ ns) a b e d i j h =
-      grind (arith, apart_by, numbers_apart ks ns a b (omega (arith, e)) d.1)
+      grind (arith, has_number, later, numbers_apart ks ns a b (omega (arith, e)) d.1)
+  numbers_apart ks ns a b e d i j h = grind arith
 
   -- it stands at the key's place
   pub number_there : (ks : List K) (ns : List ℕ) (place : ℕ) (key : K) → length ns ≡ length ks
       → AreDistinct ks → slice_get ks place ≡ Some key
       → slice_get ns place ≡ Some (number_listed same ks ns key)
-  number_there [] ns zero key e d h = absurd cc
-  number_there [] ns (suc place) key e d h = absurd cc
-  number_there (k ∷ ks) [] place key e d h = absurd (omega (arith, e))
-  number_there (k ∷ ks) (n ∷ ns) zero key e d h = grind arith
   number_there (k ∷ ks) (n ∷ ns) (suc place) key e d h =
       let other : same k key ≡ false = false_from_ne_true (same k key)
       (λ t. d.0 (subst (Has ks) (sym ((tells k key).0 t)) (has_at ks place key h))) in
       rw other (number_there ks ns place key (omega (arith, e)) d.1 h)
+  number_there ks ns place key e d h = grind arith
 
 -- ---- the numbers of a game
 
 all_at : {X : Type 0} (P : X → Type 0) (xs : List X) (k : ℕ) (d : X) → AllByRecursion P xs
     → k < length xs → P (get_or xs k d)
-all_at P [] k d h i = absurd (omega (arith, i))
-all_at P (x ∷ xs) zero d h i = h.0
 all_at P (x ∷ xs) (suc k) d h i = all_at P xs k d h.1 (omega (arith, i))
+all_at P xs k d h i = grind arith
 
 module _ (g : Game) (game : IsGame g) (sets : List (List ℕ)) (outcomes : List ℕ)
     (listed : AreListed g sets outcomes) where

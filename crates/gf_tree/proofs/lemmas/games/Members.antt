@@ -1,6 +1,6 @@
 -- Lists, element by element.
 use Rattle.gf_tree.proofs.Common.{◌≡◌, Bool, true, List, [], ◌∷◌, ◌++◌, map, refl, ap, inl, inr, ℕ}
-use Rattle.gf_tree.proofs.Common.{zero, suc, ◌<◌, length, Some, slice_get, arith, filter}
+use Rattle.gf_tree.proofs.Common.{zero, suc, ◌<◌, length, Some, slice_get, arith, filter, get_or}
 use Rattle.gf_tree.proofs.Common.{AllByRecursion, filter-append}
 use Rattle.gf_tree.proofs.lemmas.games.Uses.{Has}
 
@@ -13,6 +13,16 @@ pub map_twice : {X Y Z : Type 0} (f : Y → Z) (g : X → Y) (xs : List X)
     → map f (map g xs) ≡ map (λ x. f (g x)) xs
 map_twice f g [] = refl
 map_twice f g (x ∷ xs) = ap (λ ys. f (g x) ∷ ys) (map_twice f g xs)
+
+-- what is mapped to the same list is the same at each place
+pub beside : {X Y Z : Type 0} (f : X → Z) (g : Y → Z)
+    (xs : List X) (ys : List Y) (at : ℕ) (d : X) (e : Y) → map f xs ≡ map g ys → at < length xs
+    → f (get_or xs at d) ≡ g (get_or ys at e)
+beside f g [] ys at d e h i = absurd (omega (arith, i))
+beside f g (x ∷ xs) [] at d e h i = absurd cc
+beside f g (x ∷ xs) (y ∷ ys) zero d e h i = cc
+beside f g (x ∷ xs) (y ∷ ys) (suc at) d e h i =
+    let same : map f xs ≡ map g ys = cc in beside f g xs ys at d e same (omega (arith, i))
 
 -- what is in one of two lists is in both together
 pub in_left : {X : Type 0} (xs ys : List X) (x : X) → Has xs x → Has (xs ++ ys) x
@@ -32,10 +42,8 @@ something_there (y ∷ xs) zero h = (y, refl)
 something_there (y ∷ xs) (suc place) h = something_there xs place (omega (arith, h))
 
 pub has_at : {X : Type 0} (xs : List X) (place : ℕ) (x : X) → slice_get xs place ≡ Some x → Has xs x
-has_at [] zero x h = absurd cc
-has_at [] (suc place) x h = absurd cc
-has_at (y ∷ xs) zero x h = inl cc
 has_at (y ∷ xs) (suc place) x h = inr (has_at xs place x h)
+has_at xs place x h = grind arith
 
 -- one more of a kind
 pub all_more : {X : Type 0} (P : X → Type 0) (xs : List X) (x : X) → AllByRecursion P xs → P x

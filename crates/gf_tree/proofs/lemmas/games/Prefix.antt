@@ -1,6 +1,6 @@
 -- Trees and their flat lists in prefix order determine each other.
 use Rattle.gf_tree.proofs.Common.{append_assoc, flatten_all, zero-add, flatten, branch, Listed, ◌≡◌}
-use Rattle.gf_tree.proofs.Common.{others, subst, arith, Trees, count, Fills, first, zero, List, suc}
+use Rattle.gf_tree.proofs.Common.{others, subst, arith, Trees, count, Fills, first, List, suc}
 use Rattle.gf_tree.proofs.Common.{◌++◌, refl, Tree, none, more, grow, ◌+◌, ◌∷◌, sym, ◌∙◌, [], ap, ℕ}
 use Rattle.std.proofs.lemmas.List.{append-nil}
 pub use Rattle.gf_tree.specs.GrowsAgain.{grows_again}
@@ -18,26 +18,20 @@ flatten_once t u e = ap (root_of t) (sym (grows_again t) ∙ ap grow e ∙ grows
 
 parts : {N : Type 0} (n : ℕ) (ts : Trees N)
     → flatten_all (first n ts) ++ flatten_all (others n ts) ≡ flatten_all ts
-parts zero ts = refl
-parts (suc n) none = refl
 parts (suc n) (more t ts) =
     cc (append_assoc (flatten t) (flatten_all (first n ts)) (flatten_all (others n ts)), parts n ts)
+parts n ts = grind arith
 
 count_first : {N : Type 0} (n m : ℕ) (ts : Trees N) → count ts ≡ n + m → count (first n ts) ≡ n
-count_first zero m ts e = refl
-count_first (suc n) m none e = absurd (omega (arith, e))
 count_first (suc n) m (more t ts) e = ap suc (count_first n m ts (omega (arith, e)))
+count_first n m ts e = grind arith
 
 count_others : {N : Type 0} (n m : ℕ) (ts : Trees N) → count ts ≡ n + m → count (others n ts) ≡ m
-count_others zero m ts e = omega (arith, e)
-count_others (suc n) m none e = absurd (omega (arith, e))
 count_others (suc n) m (more t ts) e = count_others n m ts (omega (arith, e))
+count_others n m ts e = grind arith
 
 grown : {N : Type 0} (due : ℕ) (es : List (Listed N)) → Fills due es
     → (count (grow es) ≡ due) × (flatten_all (grow es) ≡ es)
-grown zero [] h = (refl, refl)
-grown zero (e ∷ es) h = absurd h
-grown (suc due) [] h = absurd h
 grown {N} (suc due) (e ∷ es) h =
     let r = grown (e.children + due) es h in
     let k : count (first e.children (grow es)) ≡ e.children =
@@ -48,11 +42,11 @@ grown {N} (suc due) (e ∷ es) h =
       (λ i. record { node = e.node; children = k i } ∷ below)
           ∙ ap (λ x. e ∷ x) (parts e.children (grow es) ∙ r.1),
     )
+grown due es h = grind arith
 
 single : {N : Type 0} (ts : Trees N) → count ts ≡ 1 → (t : Tree N) × (ts ≡ more t none)
-single none e = absurd (omega (arith, e))
 single (more t none) e = (t, refl)
-single (more t (more u ts)) e = absurd (omega (arith, e))
+single ts e = grind arith
 
 pub one_tree : {N : Type 0} (es : List (Listed N)) → Fills 1 es → (t : Tree N) × (flatten t ≡ es)
 one_tree es h =

@@ -4,7 +4,7 @@ use Common.{first_use_numbers, renumbered_node, AllByRecursion, InformationSet, 
 use Common.{used_outcomes, IsRenumbering, Decides-eqb, HasChildren, Renumbering, MatchOption, subst}
 use Common.{renumbered, first_uses, option_map, outcome_at, IsOutcome, used_sets, Described, length}
 use Common.{same_set, flatten, Outcome, sets_of, Option, eq-eqb, Listed, SetKey, set_of, IsGame, ap}
-use Common.{set_at, HasSet, nat_eq, arith, IsSet, None, Some, refl, Node, Game, map, sym, ◌∙◌, ℕ}
+use Common.{set_at, HasSet, nat_eq, arith, IsSet, Some, refl, Node, Game, map, sym, ◌∙◌, ℕ}
 use Rattle.gf_tree.proofs.lemmas.games.FirstUseNumbers.{numbers_apart}
 use Rattle.gf_tree.proofs.lemmas.games.Lookups.{at_images}
 use Rattle.gf_tree.proofs.lemmas.games.MappedTrees.{held}
@@ -34,8 +34,7 @@ children_kept : (g h : Game) (f : SetKey → SetKey) (o : Option SetKey) (n : �
     → MatchOption o (n ≡ 0) (λ key. option_map (λ set. length set.actions) (set_at g key) ≡ Some n)
     → MatchOption (option_map f o) (n ≡ 0)
     (λ key. option_map (λ set. length set.actions) (set_at h key) ≡ Some n)
-children_kept g h f None n same c = c
-children_kept g h f (Some key) n same c = cc (same key refl)
+children_kept g h f o n same c = grind arith
 
 pub renumbered_is_game : (g : Game) (r : Renumbering) → IsGame g → IsRenumbering g r
     → IsGame (renumbered r g)

@@ -1,5 +1,5 @@
 -- Trees by their new numbers.
-use Rattle.gf_tree.proofs.Common.{◌≡◌, ℕ, ◌<◌, map, Option, None, Some, refl, ap, subst, ◌∙◌, arith}
+use Rattle.gf_tree.proofs.Common.{◌≡◌, ℕ, ◌<◌, map, Option, Some, refl, ap, subst, ◌∙◌, arith}
 use Rattle.gf_tree.proofs.Common.{filter_map, Decides-eqb, Tree, map_tree, Listed, flatten, SetKey}
 use Rattle.gf_tree.proofs.Common.{same_set, set_of, Node, Game, IsGame, used_sets, used_outcomes}
 use Rattle.gf_tree.proofs.Common.{Renumbering, IsRenumbering, renumbered_set, renumbered_node}
@@ -39,8 +39,7 @@ pub record Agree (r s : Renumbering) (t : Tree Node) : Type 0 where
 
 option_same : {X Y : Type 0} (f g : X → Y) (o : Option X) → ((x : X) → o ≡ Some x → f x ≡ g x)
     → option_map f o ≡ option_map g o
-option_same f g None h = refl
-option_same f g (Some x) h = ap Some (h x refl)
+option_same f g o h = grind arith
 
 pub agreed_trees : (r s : Renumbering) (t : Tree Node) → Agree r s t
     → map_tree (renumbered_node r) t ≡ map_tree (renumbered_node s) t

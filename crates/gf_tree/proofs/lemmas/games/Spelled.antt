@@ -5,8 +5,8 @@ use Common.{IsInformationSet, AllByRecursion, InformationSet, IsSpellableSet, Is
 use Common.{outcome_uses, MatchOption, cons_option, IsSpellable, SpellsMover, IsFraction, Describes}
 use Common.{keys_alone, SpellsGame, IsSpelled, FileTree, set_uses, IsAction, IsResult, Sentence, []}
 use Common.{IsGameOf, Closing, flatten, Outcome, IsLabel, Option, Listed, Action, SetKey, IsGame, ℕ}
-use Common.{IsStep, IsNode, subst, arith, Token, zero, List, ◌++◌, Some, None, Text, Each, Game, ap}
-use Common.{◌≡◌, suc, ◌^◌, ◌<◌, ◌∷◌, map, sym, ◌∙◌, Use}
+use Common.{IsStep, IsNode, subst, arith, Token, List, ◌++◌, Some, None, Text, Each, Game, ap}
+use Common.{◌≡◌, ◌^◌, ◌<◌, ◌∷◌, map, sym, ◌∙◌, Use}
 use Rattle.gf_fraction.proofs.AllElements.{all_parts, all_mapped}
 use Rattle.gf_token.proofs.SpelledTokens.{AllSpelled, all_spelled, braced_spelled, comment_spelled}
 use Rattle.gf_tree.proofs.lemmas.games.Uses.{each, all_of_each, has}
@@ -26,8 +26,7 @@ each_spelled P Q f (x ∷ xs) tokens h all =
 
 action_spelled : (player : ℕ) (tokens : List Token) (a : Action)
     → IsAction player tokens a → AllSpelled tokens → IsSpellableAction a
-action_spelled zero tokens a h all = grind arith
-action_spelled (suc player) tokens a h all = grind arith
+action_spelled player tokens a h all = grind arith
 
 mover_bound : (letter : List ℕ) (tokens : List Token) (player : ℕ)
     → SpellsMover letter tokens player → player < 2 ^ 32
@@ -102,8 +101,7 @@ node_spelled players tokens n h all =
 
 all_of_options : {X : Type 0} (P : X → Type 0) (o : Option X) (xs : List X)
     → MatchOption o (Unit {0}) P → AllByRecursion P xs → AllByRecursion P (cons_option o xs)
-all_of_options P None xs h k = k
-all_of_options P (Some x) xs h k = (h, k)
+all_of_options P o xs h k = grind arith
 
 sets_spelled : (es : List (Listed FileNode)) → AllByRecursion NodeSpelled (map (λ e. e.node) es)
     → AllByRecursion SetSpelled (set_uses es)

@@ -9,7 +9,7 @@ use Rattle.std.proofs.lemmas.Bool.Decides.{Decides-and}
 use Rattle.gf_tree.proofs.lemmas.games.Prefix.{flatten_once}
 use Rattle.gf_tree.proofs.lemmas.games.Uses.{described_once, Has, has_first, has_later, IsEquality}
 use Rattle.gf_tree.proofs.lemmas.games.Uses.{described}
-use Rattle.gf_tree.proofs.lemmas.games.SentencesOnce.{SaysAlike, says_once}
+use Rattle.gf_tree.proofs.lemmas.games.SentencesOnce.{says_once}
 
 pub same_set_equality : IsEquality same_set
 same_set_equality a b =
@@ -52,27 +52,26 @@ entries_once uses consistent (x ∷ xs) (y ∷ ys) among e h k =
     (λ u m. among u (has_later x.node.set (set_uses xs) u m)) (ap (drop 1) e) h.1 k.1 in
     λ i. record { node = node i; children = children i } ∷ rest i
 
--- the sets' uses are those of the nodes
-pub uses_of_nodes : (es : List (Listed FileNode))
-    → set_uses es ≡ filter_map (λ n. n.set) (map (λ e. e.node) es)
-uses_of_nodes [] = refl
-uses_of_nodes (e ∷ es) = ap (cons_option e.node.set) (uses_of_nodes es)
+-- the uses are those of the nodes
+pub uses_of_nodes : {U : Type 0} (use_in : FileNode → Option U) (es : List (Listed FileNode))
+    → filter_map (λ e. use_in e.node) es ≡ filter_map use_in (map (λ e. e.node) es)
+uses_of_nodes use_in [] = refl
+uses_of_nodes {U} use_in (e ∷ es) = ap (cons_option (use_in e.node)) (uses_of_nodes use_in es)
 
 -- ---- one file tree, and one game
 
-tree_once : (f g : FileTree) → SaysAlike f g → IsConsistent f → IsConsistent g → f ≡ g
-tree_once f g h p q =
+pub one_file_tree : (tokens : List Token) (f g : FileTree)
+    → Sentence tokens f → IsConsistent f → Sentence tokens g → IsConsistent g → f ≡ g
+one_file_tree tokens f g s p t q =
+    let h = says_once tokens s t in
     let es = flatten f.tree in
     let fs = flatten g.tree in
-    let uses : set_uses fs ≡ set_uses es = cc (uses_of_nodes fs, h.nodes, uses_of_nodes es) in
+    let uses : set_uses fs ≡ set_uses es =
+    cc (uses_of_nodes (λ n. n.set) fs, h.nodes, uses_of_nodes (λ n. n.set) es) in
     let children = subst (λ us. AllByRecursion (HasChildrenAsDescribed us) fs) uses q.children in
     let tree = flatten_once f.tree g.tree
     (entries_once (set_uses es) p.sets es fs (λ u m. m) h.nodes p.children children) in
     λ i. record { title = h.title i; comment = h.comment i; players = h.players i; tree = tree i }
-
-pub one_file_tree : (tokens : List Token) (f g : FileTree)
-    → Sentence tokens f → IsConsistent f → Sentence tokens g → IsConsistent g → f ≡ g
-one_file_tree tokens f g h p k q = tree_once f g (says_once tokens f g h k) p q
 
 pub one_game : (f : FileTree) (g h : Game) → IsConsistent f → IsGameOf f g → IsGameOf f h → g ≡ h
 one_game f g h consistent p q =

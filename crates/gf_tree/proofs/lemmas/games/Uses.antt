@@ -1,6 +1,6 @@
 -- Uses of keys: where each key is first used, and which descriptions a consistent list gives.
-use Rattle.gf_tree.proofs.Common.{◌≡◌, ◌↔◌, ℕ, zero, suc, ◌<◌, Bool, true, false, List, [], ◌∷◌}
-use Rattle.gf_tree.proofs.Common.{◌++◌, length, map, drop, get_or, Some, None, Option, refl, sym}
+use Rattle.gf_tree.proofs.Common.{◌≡◌, ◌↔◌, ℕ, suc, ◌<◌, Bool, true, false, List, [], ◌∷◌}
+use Rattle.gf_tree.proofs.Common.{◌++◌, length, map, drop, get_or, Some, Option, refl, sym}
 use Rattle.gf_tree.proofs.Common.{ap, subst, ◌∙◌, arith, inl, inr, ◌⊎◌, AllByRecursion, cons_option}
 use Rattle.gf_tree.proofs.Common.{Described, Use, Describes, AreConsistent}
 use Rattle.std.specs.List.{Contains}
@@ -13,9 +13,8 @@ Has [] x = ⊥
 Has (y ∷ ys) x = (y ≡ x) ⊎ Has ys x
 
 has_at : {X : Type 0} (xs : List X) (x : X) (k : ℕ) → k < length xs → get_or xs k x ≡ x → Has xs x
-has_at [] x k h e = absurd (omega (arith, h))
-has_at (y ∷ ys) x zero h e = inl e
 has_at (y ∷ ys) x (suc k) h e = inr (has_at ys x k (omega (arith, h)) e)
+has_at xs x k h e = grind arith
 
 pub has : {X : Type 0} (xs : List X) (x : X) → Contains xs x → Has xs x
 has xs x c = has_at xs x c.0 c.1 c.2
@@ -51,13 +50,11 @@ all_of_each P (x ∷ xs) h = (h x (inl refl), all_of_each P xs (λ y m. h y (inr
 
 pub has_first : {X : Type 0} (o : Option X) (xs : List X) (x : X) → o ≡ Some x
     → Has (cons_option o xs) x
-has_first None xs x e = absurd cc
-has_first (Some y) xs x e = inl cc
+has_first o xs x e = grind arith
 
 pub has_later : {X : Type 0} (o : Option X) (xs : List X) (x : X) → Has xs x
     → Has (cons_option o xs) x
-has_later None xs x h = h
-has_later (Some y) xs x h = inr h
+has_later o xs x h = grind arith
 
 -- ---- equality that is computed
 

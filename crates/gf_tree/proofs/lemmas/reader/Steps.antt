@@ -1,6 +1,6 @@
 -- What the reader keeps still stands for the same when more is known.
 use Rattle.gf_tree.proofs.Common
-use Common.{position_from-zero, slice_get_within, with_pending_set, actions_counted, InformationSet}
+use Common.{slice_get_within, with_pending_set, actions_counted, InformationSet}
 use Common.{description_at, OutcomeNumber, KnownOutcomes, entries_with, new_set_ends}
 use Common.{KnownSetName, outcome_with, StandsBefore, with_outcome, Decides-eqb, at_position, false}
 use Common.{with_action, option_map, length-map, actions_of, set_number, begun_with, ℕ}
@@ -9,15 +9,16 @@ use Common.{position, set_with, same_set, label_of, count_of, AreAmong, past_set
 use Common.{Position, then_run, with_set, Content, nothing, Closing, length, Option, Action, SetKey}
 use Common.{set_of, Format, Lexeme, nat_eq, Result, Reader, placed, Memory, lexeme, Answer, answer}
 use Common.{arith, subst, Ratio, Fault, Begun, begun, State, heard, Fails, Grows, zero, Bool, true}
-use Common.{List, ◌++◌, Some, None, refl, ◌==◌, Game, Span, Kept, Bare, find, ◌≡◌, ◌+◌, ◌<◌, ◌≤◌}
+use Common.{List, ◌++◌, Some, None, refl, ◌==◌, Game, Span, Kept, Bare, ◌≡◌, ◌+◌, ◌<◌, ◌≤◌}
 use Common.{suc, ◌∷◌, map, sym, ◌∙◌, run, Why, Err, [], ap, Ok, at}
 use Rattle.std.specs.Prelude.{OnOk, IfOk, IfNone, MatchResult}
+use Common.{get_or_from_slice_get, slice_get-map}
 use Rattle.std.proofs.lemmas.List.Quantifiers.{position-Some}
 use Rattle.gf_tree.specs.inner.KnownOutcomes.{with_pending_outcome}
 use Rattle.gf_token.specs.ReadAs.{IsReadAs}
 pub use Rattle.gf_token.proofs.Following.{carried, fails_back, goes_back, refused_why}
 use Rattle.gf_token.proofs.Walks.{passed_before}
-use Rattle.gf_tree.proofs.lemmas.runs.Places.{as_read, at_end, next}
+use Rattle.gf_tree.specs.inner.Machine.{at_end, next}
 use Rattle.gf_token.specs.declared.token.TextToken.{TextToken}
 use Rattle.gf_tree.specs.inner.AddsUp.{adds_up}
 use Rattle.gf_tree.specs.inner.FoundSet.{FoundOutcome, FoundSet}
@@ -25,6 +26,7 @@ use Rattle.gf_tree.specs.inner.ReaderState.{with_text}
 use Rattle.gf_tree.proofs.lemmas.stores.FoundKeys.{described_at, found_from, not_described}
 use Rattle.gf_tree.proofs.lemmas.stores.FoundKeys.{set_in_parts}
 use Rattle.gf_tree.proofs.lemmas.games.TreesOnce.{same_set_equality}
+use Rattle.gf_tree.proofs.lemmas.games.Members.{something_there}
 use Rattle.gf_tree.proofs.lemmas.games.Uses.{IsEquality}
 use Rattle.gf_tree.specs.declared.game.action.Action as held
 
@@ -98,22 +100,17 @@ pub new_begun : (known : List (Described SetKey InformationSet))
     → begun_with (known ++ s ∷ []) node (length known + 1) ≡ begun node s.key s.description
 new_begun known s node = grind (arith, at_next, get_next)
 
-module _ {K D : Type 0} (same : K → K → Bool) (tells : IsEquality same) (key : K) where
-  found_more : (e : Described K D) (es : List (Described K D)) (s : Described K D)
-      → (find (λ e. same e.key key) es ≡ Some s → s.key ≡ key)
-      → (b : Bool) → same e.key key ≡ b → find (λ e. same e.key key) (e ∷ es) ≡ Some s → s.key ≡ key
-  found_more e es s h b h2 h3 = grind arith
-
-  found_is : (es : List (Described K D)) (s : Described K D)
-      → find (λ e. same e.key key) es ≡ Some s → s.key ≡ key
-  found_is [] s h = absurd cc
-  found_is (e ∷ es) s h = found_more e es s (found_is es s) (same e.key key) refl h
-
-  -- the first place of a key has it
-  pub key_at : (es : List (Described K D)) (place : ℕ) (s : Described K D)
-      → position (same key) (map (λ e. e.key) es) ≡ Some place → slice_get es place ≡ Some s
-      → s.key ≡ key
-  key_at es place s h is = grind (arith, found_from, position_from-zero, found_is)
+-- the first place of a key has it
+pub key_at : {K D : Type 0} (same : K → K → Bool) → IsEquality same → (key : K)
+    (es : List (Described K D)) (place : ℕ) (s : Described K D)
+    → position (same key) (map (λ e. e.key) es) ≡ Some place → slice_get es place ≡ Some s
+    → s.key ≡ key
+key_at {K} {D} same tells key es place s h is =
+    let keys = map (λ (e : Described K D). e.key) es in
+    let there : slice_get keys place ≡ Some s.key =
+    cc (slice_get-map (λ (e : Described K D). e.key) es place, is) in
+    let stands = (position-Some (same key) keys place s.key h).1 in
+    sym ((tells key s.key).0 (rw (get_or_from_slice_get keys place s.key s.key there) at stands))
 
 pub found_set : (known : List (Described SetKey InformationSet)) (key : SetKey) (place : ℕ)
     (name : List ℕ) (actions : List Action)
@@ -257,29 +254,21 @@ goes_on (Err g) a b f e h = subst (Fails g) (sym e) h
 
 -- ---- an outcome that is known
 
-none_within : {A : Type 0} (xs : List A) (k : ℕ) → k < length xs → slice_get xs k ≡ None → ⊥
-none_within [] k h e = omega (arith, h)
-none_within (x ∷ xs) zero h e = cc
-none_within (x ∷ xs) (suc k) h e = none_within xs k (omega (arith, h)) e
-
 pub found_outcome : (known : List (Described ℕ Outcome)) (number place : ℕ)
     → position (nat_eq number) (map (λ o. o.key) known) ≡ Some place
     → FoundOutcome known number place
-found_outcome known number place at = by (slice_get known place) refl
+found_outcome known number place at =
+    let t = something_there known place within in
+    record {
+      outcome = t.0.description;
+      described = cc (described_at nat_eq Decides-eqb number known place at, t.1);
+      stands = ap (option_map (λ x. x.description)) t.1;
+      key = cc (at_next known place, t.1, key_at nat_eq Decides-eqb number known place t.0 at t.1);
+      within = omega (arith, within);
+    }
   where
     within : place < length known
     within = grind (arith, length-map, position-Some)
-
-    by : (o : Option (Described ℕ Outcome)) → slice_get known place ≡ o
-        → FoundOutcome known number place
-    by None is = absurd (none_within known place within is)
-    by (Some o) is = record {
-      outcome = o.description;
-      described = cc (described_at nat_eq Decides-eqb number known place at, is);
-      stands = ap (option_map (λ x. x.description)) is;
-      key = cc (at_next known place, is, key_at nat_eq Decides-eqb number known place o at is);
-      within = omega (arith, within);
-    }
 
 pub ruleset outcomes_known = (not_described, found_outcome)
 
@@ -302,8 +291,7 @@ pub lacks_memory : {f : Fault} {span : Span} {t : Remaining} {a : Answer} → St
     → f ≡ record { span = span; why = Memory } → (q : Position) (c : Content) → a ≡ heard q c t
     → Fails f a
 lacks_memory {f} {span} {t} {a} stands is q c goes =
-    let passed = rw (← as_read (length t.input) t.ahead q c) at
-    (passed_before next at_end t span stands (at q c)) in
+    let passed = passed_before next at_end t span stands (at q c) in
     grind (arith, carried)
 
 -- at the label of a player's action

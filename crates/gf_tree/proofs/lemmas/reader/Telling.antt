@@ -150,10 +150,11 @@ module _ {T : Type 0} {holds : T → T → Heading → List Told → Type 0} {be
 
 module _ {T : Type 0} (holds : T → T → Heading → List Told → Type 0) (untold : T)
     (heading : Heading) where
-  pub told_one_more : {old new : Reader} {from to : T} {nodes : List Kept} {before : Answer}
+  told_one_more : {old new : Reader} {from to : T} {nodes : List Kept} {before : Answer}
       {set : ℕ} → HasTold (λ t told. holds untold t heading told) old from nodes
       → (h : Tells holds set before old new from to)
-      → HasTold (λ t told. holds untold t heading told) new to (nodes ++ h.node ∷ [])
+      → HasTold (λ t told. holds untold t heading told) (with_children new set) to
+      (nodes ++ h.node ∷ [])
   told_one_more {old} {new} {from} {to} {nodes} {before} {set} k h = record {
     placed = placed_one_more (length new.sets.known) (length new.outcomes.known) nodes h.node
         (placed_among_more (length old.sets.known) (length old.outcomes.known)
@@ -191,14 +192,7 @@ module _ {T : Type 0} (holds : T → T → Heading → List Told → Type 0) (un
           (answer NodeDue (with_children new set)),
       entries_more new.sets.known new.outcomes.known k.nodes h.node,
     );
-    has_told =
-        let t = told_one_more k.has_told h in
-        record {
-          placed = t.placed;
-          told = t.told;
-          told_sets = t.told_sets;
-          told_outcomes = t.told_outcomes;
-        };
+    has_told = told_one_more k.has_told h;
   }
     where
       entries : entries_with old.sets.known old.outcomes.known k.nodes

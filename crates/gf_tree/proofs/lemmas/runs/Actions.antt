@@ -1,12 +1,12 @@
 -- Runs over the actions of a new information set in braces.
 use Rattle.gf_tree.proofs.Common.{AllByRecursion, InformationSet, OutcomeNumber, append_assoc, zero}
 use Rattle.gf_tree.proofs.Common.{new_set_ends, with_action, append-nil, IsFraction, AreActions, []}
-use Rattle.gf_tree.proofs.Common.{run_tokens, NewAction, share_of, IsAction, set_ends, then_run, Ok}
+use Rattle.gf_tree.proofs.Common.{run_tokens, NewAction, share_of, IsAction, then_run, Ok}
 use Rattle.gf_tree.proofs.Common.{with_set, Closing, Content, AddUpTo, length, Option, Result, List}
 use Rattle.gf_tree.proofs.Common.{AddsTo, Action, SetKey, set_of, shared, subst, arith, Token, ◌++◌}
 use Rattle.gf_tree.proofs.Common.{Ratio, whole, Share, begun, Some, None, refl, ints, ◌≤ℤ◌, Each, ℕ}
-use Rattle.gf_tree.proofs.Common.{Text, Bare, ◌≡◌, suc, ◌<◌, ◌∷◌, Err, sym, ◌∙◌, pos, Why, ap}
-use Rattle.gf_tree.proofs.lemmas.runs.Tokens.{Reads, run_on, guard_ok, ratio_is}
+use Rattle.gf_tree.proofs.Common.{Text, Bare, ◌≡◌, suc, ◌<◌, ◌∷◌, sym, ◌∙◌, pos, Why, ap}
+use Rattle.gf_tree.proofs.lemmas.runs.Tokens.{Reads, run_on, ratio_is}
 use Rattle.gf_tree.proofs.lemmas.runs.Shares.{share_found, share_again, sum_high}
 
 -- the probabilities of chance after this sum add up to one; a player's actions have none
@@ -16,8 +16,7 @@ AreOthers (suc player) sum actions = AllByRecursion (λ a. a.probability ≡ Non
 
 pub are_others : (player : ℕ) (actions : List Action) → AreActions player actions
     → AreOthers player (whole (pos 0)) actions
-are_others zero actions h = h
-are_others (suc player) actions h = h
+are_others player actions h = grind arith
 
 abbrev pub with_actions : InformationSet → List Action → InformationSet
 with_actions set actions = record set { actions = set.actions ++ actions }
@@ -59,22 +58,12 @@ new_end ts name player n set sum c r some are e = record {
   goes_on = cc (no_actions set);
 }
 
-end_by_player : (ts : List Token) (name : List ℕ) (player n : ℕ)
-    (set : InformationSet) (sum : Ratio) (c r : Content) → 0 < length set.actions
-    → then_run (set_ends c name player n set sum) (run_on ts) ≡ Ok r
-    → NewActions (Closing ∷ ts) name player n set sum c r
-end_by_player ts name zero n set sum c r some e = grind (arith, guard_ok, new_end, ratio_is)
-end_by_player ts name (suc player) n set sum c r some e =
-    new_end ts name (suc player) n set sum c r some tt e
-
 end_by_actions : (ts : List Token) (name : List ℕ) (player n : ℕ)
     (set : InformationSet) (actions : List Action) (sum : Ratio) (c r : Content)
     → set.actions ≡ actions
     → then_run (new_set_ends c name (set_of player n) set actions sum) (run_on ts) ≡ Ok r
     → NewActions (Closing ∷ ts) name player n set sum c r
-end_by_actions ts name player n set [] sum c r is e = absurd cc
-end_by_actions ts name player n set (a ∷ actions) sum c r is e =
-    end_by_player ts name player n set sum c r (let size = ap length is in omega (arith, size)) e
+end_by_actions ts name player n set actions sum c r is e = grind (arith, new_end, ratio_is)
 
 new_more : (first ts : List Token) (name label : List ℕ) (player n : ℕ) (set : InformationSet)
     (p : Option Ratio) (sum next : Ratio) (c r : Content)
@@ -105,8 +94,7 @@ pub shared_found : (c : Content) (name : List ℕ) (key : SetKey) (set : Informa
     (o : Result Share Why) (ts : List Token) (r : Content)
     → then_run (shared c name key set label o) (run_on ts) ≡ Ok r → (s : Share) × (o ≡ ok_share s)
     × Reads (NewAction name key (with_action set label (Some s.probability)) s.sum) c ts r
-shared_found c name key set label (Err why) ts r e = absurd cc
-shared_found c name key set label (Ok s) ts r e = (s, refl, e)
+shared_found c name key set label o ts r e = grind arith
 
 pub new_found : (ts : List Token) (name : List ℕ) (player n : ℕ)
     (set : InformationSet) (sum : Ratio) (c r : Content) → IsFraction sum
@@ -126,8 +114,7 @@ new_found (Text label ∷ Bare b ∷ ts) name zero n set sum c r fraction e =
     (b, s.probability, refl, is.number, refl)
     (λ actions k. (s.probability, s.sum, refl, is.not_below, is.adds, k))
     (new_found ts name 0 n (with_action set label (Some s.probability)) s.sum c r is.adds.1 h.2)
-new_found (Text label ∷ _) name zero n set sum c r fraction e = absurd cc
-new_found _ name player n set sum c r fraction e = absurd cc
+new_found ts name player n set sum c r fraction e = grind arith
 
 -- ---- each new set is read
 
@@ -153,21 +140,12 @@ high (a ∷ actions) inner sum fraction each h =
     sum_high sum p s.next each.3.3.fraction.den_above_zero fraction.den_above_zero s.not_below
     s.adds (high actions each.1 s.next s.adds.1 each.4 s.others)
 
-close_by_player : (player : ℕ) (rest : List Token) (name : List ℕ)
-    (n : ℕ) (set : InformationSet) (sum : Ratio) (c : Content) → AreOthers player sum []
-    → then_run (set_ends c name player n set sum) (run_on rest) ≡ run_tokens
-    (OutcomeNumber (begun name (set_of player n) set)) (with_set c (set_of player n) set) rest
-close_by_player zero rest name n set sum c h = rw h refl
-close_by_player (suc player) rest name n set sum c h = refl
-
 close_by_actions : (actions : List Action) (player : ℕ) (rest : List Token)
     (name : List ℕ) (n : ℕ) (set : InformationSet) (sum : Ratio) (c : Content)
     → 0 < length actions → AreOthers player sum []
     → then_run (new_set_ends c name (set_of player n) set actions sum) (run_on rest) ≡ run_tokens
     (OutcomeNumber (begun name (set_of player n) set)) (with_set c (set_of player n) set) rest
-close_by_actions [] player rest name n set sum c some h = absurd (omega (arith, some))
-close_by_actions (a ∷ actions) player rest name n set sum c some h =
-    close_by_player player rest name n set sum c h
+close_by_actions actions player rest name n set sum c some h = grind arith
 
 pub new_again : (actions : List Action) (player : ℕ) (inner rest : List Token)
     (name : List ℕ) (n : ℕ) (set : InformationSet) (sum : Ratio) (c : Content) → IsFraction sum
@@ -178,7 +156,11 @@ pub new_again : (actions : List Action) (player : ℕ) (inner rest : List Token)
     (with_set c (set_of player n) (with_actions set actions)) rest
 new_again [] player inner rest name n set sum c fraction each h some =
     let filled = subst (λ (s : InformationSet). 0 < length s.actions) (no_actions set) some in
-    cc (close_by_actions set.actions player rest name n set sum c filled h, no_actions set)
+    ap (λ (x : List Token). run_tokens (NewAction name (set_of player n) set sum) c
+    (x ++ Closing ∷ rest)) each
+    ∙ close_by_actions set.actions player rest name n set sum c filled h
+    ∙ ap (λ (s : InformationSet). run_tokens (OutcomeNumber (begun name (set_of player n) s))
+    (with_set c (set_of player n) s) rest) (sym (no_actions set))
 new_again (a ∷ actions) zero inner rest name n set sum c fraction each h some =
     let b = each.3.0 in
     let p = each.3.1 in
@@ -198,10 +180,4 @@ new_again (a ∷ actions) zero inner rest name n set sum c fraction each h some 
     run_tokens (OutcomeNumber (begun name (set_of 0 n) t)) (with_set c (set_of 0 n) t) rest)
     all
 new_again (a ∷ actions) (suc player) inner rest name n set sum c fraction each h some =
-    let is : a ≡ record { label = a.label; probability = None } =
-    λ i. record { label = a.label; probability = each.3.1 i } in
-    let all : with_actions (with_action set a.label None) actions ≡ with_actions set (a ∷ actions) =
-    cc (more_actions set a.label None actions) in
-    let more = subst (λ (t : InformationSet). 0 < length t.actions) (sym all) some in
-    cc (new_again actions (suc player) each.1 rest name n (with_action set a.label None) sum c
-    fraction each.4 h.1 more)
+    grind (arith, new_again actions (suc player) each.1 rest name n, with_action, more_actions)

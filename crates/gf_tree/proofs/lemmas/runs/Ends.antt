@@ -1,8 +1,8 @@
 -- Each state that the machine of the reader comes to can be completed.
 use Rattle.gf_tree.proofs.Common
-use Common.{KnownOutcomeOpening, NewOutcomeOpening, KnownProbability, KnownOutcomeName, MatchOption}
-use Common.{AfterKnownPayoff, KnownSetOpening, written_is_read, InformationSet, description_at, ◌≡◌}
-use Common.{outcome_number, NewProbability, NewOutcomeName, AfterNewPayoff, length-append, count_of}
+use Common.{finish, KnownOutcomeOpening, NewOutcomeOpening, KnownProbability, KnownOutcomeName}
+use Common.{KnownSetOpening, written_is_read, InformationSet, description_at, ◌≡◌}
+use Common.{outcome_number, NewProbability, NewOutcomeName, Bool, false, length-append, count_of}
 use Common.{player_number, BeforePlayers, NewSetOpening, OutcomeNumber, new_set_ends, AfterPlayers}
 use Common.{PersonalName, TerminalName, PlayerNumber, KnownSetName, with_action, KnownAction, arith}
 use Common.{KnownPayoff, number_text, IsFraction, past_label, set_number, ChanceName, NewSetName, ℕ}
@@ -10,7 +10,7 @@ use Common.{with_node, InPlayers, SetNumber, NewAction, NewPayoff, set_known, sa
 use Common.{Position, past_set, set_ends, Opening, Closing, Outcome, Content, Version, NodeDue, suc}
 use Common.{length, Option, Action, SetKey, set_of, shared, Format, Letter, nat_le, le-leb, codes}
 use Common.{Ratio, whole, Token, Begun, State, begun, Title, zero, true, List, Some, None, refl, []}
-use Common.{ints, Text, Bare, paid, step, ◌<◌, ◌∷◌, ◌∙◌, pos, Ok, ap, at}
+use Common.{ints, Text, Bare, paid, step, ◌<◌, ◌∷◌, ◌∙◌, pos, Ok, ap, at, MatchOption}
 use Rattle.gf_fraction.specs.Computed.{number_of, lowest_of, gcd_within}
 use Rattle.gf_token.specs.Indices.{index_of}
 use Rattle.gf_tree.proofs.lemmas.runs.Tokens.{Reads, run_on, text_again}
@@ -28,7 +28,7 @@ by : (q : Position) (c : Content) (t : Token) (s : State)
     → step q c t ≡ Ok s → Ends s.position s.content → Ends q c
 by q c t s e h = (t ∷ h.0, h.1, ap (λ o. then_run o (run_on h.0)) e ∙ h.2)
 
-zero_is_index : index_of (codes "0") ≡ Some 0
+pub zero_is_index : index_of (codes "0") ≡ Some 0
 unfolding index_of
 zero_is_index = refl
 
@@ -45,66 +45,80 @@ zero_is_number = refl
 abbrev terminal : Begun
 terminal = record { name = []; set = None; children = 0 }
 
-nodes_end : (due : ℕ) (c : Content) → c.due ≡ due → Ends NodeDue c
-nodes_end zero c is = ([], c, rw is refl)
-nodes_end (suc due) c is =
-    let behind : Content = with_node c terminal None in
-    let left : behind.due ≡ due = omega (arith, is) in
-    by NodeDue c (Bare (codes "t")) (at TerminalName c) (rw is refl)
-    (by TerminalName c (Text []) (at (OutcomeNumber terminal) c) refl
-    (by (OutcomeNumber terminal) c (Bare (codes "0")) (at NodeDue behind)
-    (ap (outcome_number c terminal) zero_is_index) (nodes_end due behind left)))
+abbrev pub terminals : ℕ → List Token
+terminals zero = []
+terminals (suc n) = Bare (codes "t") ∷ Text [] ∷ Bare (codes "0") ∷ terminals n
+
+-- terminal nodes without an outcome complete it, and describe nothing
+pub record Completed (q : Position) (c : Content) : Type 0 where
+  pub count : ℕ
+  pub end : Content
+  pub reads : Reads q c (terminals count) end
+  pub sets : end.sets ≡ c.sets
+  pub outcomes : end.outcomes ≡ c.outcomes
+
+none_due : (q : Position) (c : Content) → finish q c ≡ Ok c → Completed q c
+none_due q c e = record { count = 0; end = c; reads = e; sets = refl; outcomes = refl }
+
+by_node : (q : Position) (c : Content) → step q c (Bare (codes "t")) ≡ Ok (at TerminalName c)
+    → Completed NodeDue (with_node c terminal None) → Completed q c
+by_node q c e h = record {
+  count = suc h.count;
+  end = h.end;
+  reads = ap (λ o. then_run o (run_on (Text [] ∷ Bare (codes "0") ∷ terminals h.count))) e
+      ∙ ap (λ o. then_run (outcome_number c terminal o) (run_on (terminals h.count)))
+      zero_is_index ∙ h.reads;
+  sets = h.sets;
+  outcomes = h.outcomes;
+}
+
+pub nodes_end : (due : ℕ) (c : Content) → c.due ≡ due → Completed NodeDue c
+nodes_end zero c is = none_due NodeDue c (rw is refl)
+nodes_end (suc due) c is = by_node NodeDue c (rw is refl)
+    (nodes_end due (with_node c terminal None) (omega (arith, is)))
+
+pub after_outcome : (due : ℕ) (outcome : Outcome) (c : Content) → c.due ≡ due
+    → Completed (KnownOutcomeName outcome) c
+after_outcome zero outcome c is = none_due (KnownOutcomeName outcome) c (rw is refl)
+after_outcome (suc due) outcome c is =
+    by_node (KnownOutcomeName outcome) c (rw is refl) (nodes_end _ _ refl)
+
+pub after_players : (c : Content) → Completed AfterPlayers c
+after_players c = by_node AfterPlayers c refl (nodes_end _ _ refl)
+
+completes : {q : Position} {c : Content} → Completed q c → Ends q c
+completes h = (terminals h.count, h.end, h.reads)
 
 node_ends : (c : Content) → Ends NodeDue c
-node_ends c = nodes_end c.due c refl
+node_ends c = completes (nodes_end c.due c refl)
 
 outcome_ends : (b : Begun) (c : Content) → Ends (OutcomeNumber b) c
 outcome_ends b c = by (OutcomeNumber b) c (Bare (codes "0")) (at NodeDue (with_node c b None))
     (ap (outcome_number c b) zero_is_index) (node_ends (with_node c b None))
 
--- the same after a known outcome
-known_outcome_by : (due : ℕ) (outcome : Outcome) (c : Content) → c.due ≡ due
-    → Ends (KnownOutcomeName outcome) c
-known_outcome_by zero outcome c is = ([], c, rw is refl)
-known_outcome_by (suc due) outcome c is =
-    by (KnownOutcomeName outcome) c (Bare (codes "t")) (at TerminalName c) (rw is refl)
-    (by TerminalName c (Text []) (at (OutcomeNumber terminal) c) refl (outcome_ends terminal c))
-
 -- ---- payoffs
 
-new_payoffs_end : (left : ℕ) (b : Begun) (n : ℕ) (outcome : Outcome) (c : Content)
-    → Ends (AfterNewPayoff b n outcome left) c
-new_payoffs_end zero b n outcome c =
-    by (AfterNewPayoff b n outcome zero) c Closing _ refl (node_ends _)
-new_payoffs_end (suc left) b n outcome c =
-    by (AfterNewPayoff b n outcome (suc left)) c (Bare (codes "0")) _
-    (ap (paid c b n outcome left) zero_is_number) (new_payoffs_end left b n _ c)
+new_payoff_ends : (may : Bool) (left : ℕ) (b : Begun) (n : ℕ) (outcome : Outcome) (c : Content)
+    → Ends (NewPayoff may b n outcome left) c
+new_payoff_ends may zero b n outcome c =
+    by (NewPayoff may b n outcome zero) c Closing _ refl (node_ends _)
+new_payoff_ends may (suc left) b n outcome c =
+    by (NewPayoff may b n outcome (suc left)) c (Bare (codes "0")) _
+    (ap (paid c b n outcome left) zero_is_number) (new_payoff_ends true left b n _ c)
 
-new_payoff_ends : (left : ℕ) (b : Begun) (n : ℕ) (outcome : Outcome) (c : Content)
-    → Ends (NewPayoff b n outcome left) c
-new_payoff_ends zero b n outcome c = by (NewPayoff b n outcome zero) c Closing _ refl (node_ends _)
-new_payoff_ends (suc left) b n outcome c =
-    by (NewPayoff b n outcome (suc left)) c (Bare (codes "0")) _
-    (ap (paid c b n outcome left) zero_is_number) (new_payoffs_end left b n _ c)
-
-known_payoffs_end : (ps : List Ratio) (c : Content) → FinePayoffs ps → Ends (AfterKnownPayoff ps) c
-known_payoffs_end [] c h = by (AfterKnownPayoff []) c Closing (at NodeDue c) refl (node_ends c)
-known_payoffs_end (p ∷ ps) c h =
-    by (AfterKnownPayoff (p ∷ ps)) c (Bare (number_text p)) (at (AfterKnownPayoff ps) c)
-    (number_same p (at (AfterKnownPayoff ps) c) (number_text p) (written_is_read p h.0))
-    (known_payoffs_end ps c h.1)
-
-known_payoff_ends : (ps : List Ratio) (c : Content) → FinePayoffs ps → Ends (KnownPayoff ps) c
-known_payoff_ends [] c h = by (KnownPayoff []) c Closing (at NodeDue c) refl (node_ends c)
-known_payoff_ends (p ∷ ps) c h =
-    by (KnownPayoff (p ∷ ps)) c (Bare (number_text p)) (at (AfterKnownPayoff ps) c)
-    (number_same p (at (AfterKnownPayoff ps) c) (number_text p) (written_is_read p h.0))
-    (known_payoffs_end ps c h.1)
+known_payoff_ends : (may : Bool) (ps : List Ratio) (c : Content) → FinePayoffs ps
+    → Ends (KnownPayoff may ps) c
+known_payoff_ends may [] c h = by (KnownPayoff may []) c Closing (at NodeDue c) refl (node_ends c)
+known_payoff_ends may (p ∷ ps) c h =
+    by (KnownPayoff may (p ∷ ps)) c (Bare (number_text p)) (at (KnownPayoff true ps) c)
+    (number_same p (at (KnownPayoff true ps) c) (number_text p) (written_is_read p h.0))
+    (known_payoff_ends true ps c h.1)
 
 new_outcome_ends : (b : Begun) (n : ℕ) (label : List ℕ) (c : Content)
     → Ends (NewOutcomeOpening b n label) c
 new_outcome_ends b n label c =
-    by (NewOutcomeOpening b n label) c Opening _ refl (new_payoff_ends (length c.players) b n _ c)
+    by (NewOutcomeOpening b n label) c Opening _ refl
+    (new_payoff_ends false (length c.players) b n _ c)
 
 -- ---- actions
 
@@ -225,9 +239,6 @@ player_ends name c some =
 
 -- ---- headings
 
-after_players_end : (c : Content) → Ends AfterPlayers c
-after_players_end c = let k = node_ends (record c { comment = [] }) in (Text [] ∷ k.0, k.1, k.2)
-
 title_ends : (c : Content) → Ends Title c
 title_ends c =
     let k = node_ends (record c { title = []; comment = [] }) in
@@ -241,9 +252,9 @@ ends Version c h =
     let k = title_ends c in (Bare (codes "2") ∷ Bare (codes "R") ∷ k.0, k.1, k.2)
 ends Letter c h = let k = title_ends c in (Bare (codes "R") ∷ k.0, k.1, k.2)
 ends Title c h = title_ends c
-ends BeforePlayers c h = let k = after_players_end c in (Opening ∷ Closing ∷ k.0, k.1, k.2)
-ends InPlayers c h = let k = after_players_end c in (Closing ∷ k.0, k.1, k.2)
-ends AfterPlayers c h = after_players_end c
+ends BeforePlayers c h = let k = completes (after_players c) in (Opening ∷ Closing ∷ k.0, k.1, k.2)
+ends InPlayers c h = let k = completes (after_players c) in (Closing ∷ k.0, k.1, k.2)
+ends AfterPlayers c h = completes (after_players c)
 ends NodeDue c h = node_ends c
 ends ChanceName c h =
     by ChanceName c (Text []) (at (SetNumber [] 0) c) refl (set_number_ends [] 0 c)
@@ -266,10 +277,8 @@ ends (OutcomeNumber b) c h = outcome_ends b c
 ends (NewOutcomeName b n) c h = by (NewOutcomeName b n) c (Text [])
     (at (NewOutcomeOpening b n []) c) refl (new_outcome_ends b n [] c)
 ends (NewOutcomeOpening b n label) c h = new_outcome_ends b n label c
-ends (NewPayoff b n outcome left) c h = new_payoff_ends left b n outcome c
-ends (AfterNewPayoff b n outcome left) c h = new_payoffs_end left b n outcome c
-ends (KnownOutcomeName outcome) c h = known_outcome_by c.due outcome c refl
-ends (KnownOutcomeOpening ps) c h =
-    by (KnownOutcomeOpening ps) c Opening (at (KnownPayoff ps) c) refl (known_payoff_ends ps c h.0)
-ends (KnownPayoff ps) c h = known_payoff_ends ps c h.0
-ends (AfterKnownPayoff ps) c h = known_payoffs_end ps c h.0
+ends (NewPayoff may b n outcome left) c h = new_payoff_ends may left b n outcome c
+ends (KnownOutcomeName outcome) c h = completes (after_outcome c.due outcome c refl)
+ends (KnownOutcomeOpening ps) c h = by (KnownOutcomeOpening ps) c Opening
+    (at (KnownPayoff false ps) c) refl (known_payoff_ends false ps c h.0)
+ends (KnownPayoff may ps) c h = known_payoff_ends may ps c h.0

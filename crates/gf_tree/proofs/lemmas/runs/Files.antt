@@ -3,8 +3,8 @@ use Rattle.gf_tree.proofs.Common
 use Common.{AllByRecursion, InformationSet, description_at, length-append, append_assoc, option_map}
 use Common.{outcome_uses, cons_option, HasChildren, node_or_end, append-nil, keys_alone, after_node}
 use Common.{run_tokens, Described, same_set, FileNode, set_uses, then_run, Outcome, Content, length}
-use Common.{NodeDue, game_in, Option, nat_eq, Listed, Learns, IsNode, SetKey, false, subst, arith}
-use Common.{Token, Fills, zero, Bool, true, cond, List, ◌++◌, Some, None, refl, Bare, Each, Game, ℕ}
+use Common.{NodeDue, game_in, Option, nat_eq, Listed, Learns, IsNode, SetKey, subst, arith}
+use Common.{Token, Fills, zero, Bool, cond, List, ◌++◌, Some, refl, Bare, Each, Game, ℕ}
 use Common.{Node, ◌==◌, ◌≡◌, suc, ◌+◌, ◌-◌, ◌<◌, ◌∷◌, map, Err, sym, ◌∙◌, Use, [], Ok}
 use Rattle.gf_tree.proofs.lemmas.games.Consistent.{map_entry}
 use Rattle.gf_tree.proofs.lemmas.games.TreesOnce.{same_set_equality}
@@ -44,8 +44,7 @@ pub record NodesRead (ts : List Token) (c r : Content) : Type 0 where
 no_nodes : (c r : Content) (none : Bool) (due : ℕ) → c.due ≡ due → due == 0 ≡ none
     → AreSets (length c.players) c.sets → AreOutcomes (length c.players) c.outcomes
     → cond none (Ok c) (Err (node_or_end due)) ≡ ok_read r → NodesRead [] c r
-no_nodes c r false due is test sets outcomes e = absurd cc
-no_nodes c r true due is test sets outcomes e = grind (arith, ok_is, append-nil)
+no_nodes c r none due is test sets outcomes e = grind (arith, ok_is, append-nil)
 
 -- the uses of the first node, and the others
 pub more_uses : {K D : Type 0} (o : Option (Use K D)) (us : List (Use K D))
@@ -56,8 +55,7 @@ children_kept : (sets end : MapOf) (o : Option SetKey) (children : ℕ)
     → ((key : SetKey) (d : InformationSet) → description_at same_set sets key ≡ Some d
     → description_at same_set end key ≡ Some d)
     → HasChildrenBy sets o children → HasChildrenBy end o children
-children_kept sets end None children same h = h
-children_kept sets end (Some key) children same h = grind arith
+children_kept sets end o children same h = grind arith
 
 nodes_more : (ts : List Token) (due : ℕ) (c r : Content) → c.due ≡ suc due → (h : NodeRead ts c r)
     → NodesRead h.rest (past_node c h.node h.children h.sets h.outcomes) r → NodesRead ts c r
@@ -97,15 +95,11 @@ pub due_by : (b : List ℕ) (ts : List Token) (due : ℕ) (c r : Content)
     → c.due ≡ due → AreSets (length c.players) c.sets → AreOutcomes (length c.players) c.outcomes
     → then_run (after_node c due b) (run_on ts) ≡ Ok r
     → NodeRead (Bare b ∷ ts) c r × ((left : ℕ) × (c.due ≡ suc left))
-due_by b ts zero c r is sets outcomes e = absurd cc
-due_by b ts (suc due) c r is sets outcomes e = (letter_found b ts c r sets outcomes e, (due, is))
+due_by b ts due c r is sets outcomes e = grind (arith, letter_found)
 
 nodes_by : (size : ℕ) (ts : List Token) (c r : Content)
     → length ts < size → AreSets (length c.players) c.sets
     → AreOutcomes (length c.players) c.outcomes → Reads NodeDue c ts r → NodesRead ts c r
-nodes_by zero ts c r within sets outcomes e = absurd (omega (arith, within))
-nodes_by (suc size) [] c r within sets outcomes e =
-    no_nodes c r (c.due == 0) c.due refl refl sets outcomes e
 nodes_by (suc size) (Bare b ∷ ts) c r within sets outcomes e =
     let h = due_by b ts c.due c r refl sets outcomes e in
     let n = h.0 in
@@ -113,7 +107,7 @@ nodes_by (suc size) (Bare b ∷ ts) c r within sets outcomes e =
     nodes_more (Bare b ∷ ts) h.1.0 c r h.1.1 n
     (nodes_by size n.rest (past_node c n.node n.children n.sets n.outcomes) r
     (omega (arith, within, less)) n.are_sets n.are_outcomes n.goes_on)
-nodes_by (suc size) (_ ∷ ts) c r within sets outcomes e = absurd cc
+nodes_by size ts c r within sets outcomes e = grind (arith, no_nodes)
 
 pub nodes_found : (ts : List Token) (c r : Content) → AreSets (length c.players) c.sets
     → AreOutcomes (length c.players) c.outcomes → Reads NodeDue c ts r → NodesRead ts c r
@@ -134,8 +128,7 @@ children_then : (known mid end : MapOf) (o : Option (Use SetKey InformationSet))
     → description_at same_set end key ≡ Some d)
     → HasChildrenBy end (option_map (λ u. u.key) o) children
     → HasChildrenBy mid (option_map (λ u. u.key) o) children
-children_then known mid end None children learns same h = h
-children_then known mid end (Some u) children learns same h = grind (arith, known_after)
+children_then known mid end o children learns same h = grind (arith, known_after)
 
 -- all that is read after this content
 abbrev pub past_nodes : Content → List (Listed FileNode) → MapOf → List (Described ℕ Outcome)

@@ -1,9 +1,9 @@
 -- Runs over the heading of an extensive file: its format, title and players.
-use Rattle.gf_tree.proofs.Common.{BeforePlayers, append_assoc, AfterPlayers, with_player, pointwise}
+use Rattle.gf_tree.proofs.Common.{append_assoc, AfterPlayers, with_player, pointwise}
 use Rattle.gf_tree.proofs.Common.{append-nil, run_tokens, InPlayers, Opening, Closing, Content, ◌≡◌}
-use Rattle.gf_tree.proofs.Common.{nothing, Version, nat_eq, braced, Format, Letter, false, subst, ℕ}
+use Rattle.gf_tree.proofs.Common.{nothing, Version, nat_eq, braced, Format, Letter, subst, ℕ}
 use Rattle.gf_tree.proofs.Common.{arith, codes, Token, Title, Bool, true, List, ◌++◌, refl, Text}
-use Rattle.gf_tree.proofs.Common.{Bare, ◌||◌, ◌∷◌, map, sym, ◌∙◌, inl, inr, ◌⊎◌, [], ap, at}
+use Rattle.gf_tree.proofs.Common.{Bare, ◌||◌, ◌∷◌, map, sym, ◌∙◌, ◌⊎◌, [], ap, at}
 use Rattle.gf_tree.proofs.lemmas.runs.Tokens.{Reads, guard_ok, same_bytes}
 
 -- ---- what was read
@@ -25,9 +25,7 @@ only_version _ c r e = absurd cc
 pub either_letter : (b : List ℕ) (is_r is_d : Bool) → pointwise nat_eq b (codes "R") ≡ is_r
     → pointwise nat_eq b (codes "D") ≡ is_d → (is_r || is_d) ≡ true
     → (b ≡ codes "R") ⊎ (b ≡ codes "D")
-either_letter b true is_d er ed h = inl (same_bytes b (codes "R") er)
-either_letter b false true er ed h = inr (same_bytes b (codes "D") ed)
-either_letter b false false er ed h = absurd cc
+either_letter b is_r is_d er ed h = grind (arith, same_bytes)
 
 only_letter : (ts : List Token) (c r : Content) → Reads Letter c ts r
     → (letter : List ℕ) × (rest : List Token) × (ts ≡ Bare letter ∷ rest)
@@ -45,15 +43,11 @@ only_letter (Bare b ∷ rest) c r e =
 only_letter _ c r e = absurd cc
 
 only_title : (ts : List Token) (c r : Content) → Reads Title c ts r
-    → (title : List ℕ) × (rest : List Token) × (ts ≡ Text title ∷ rest)
-    × Reads BeforePlayers (record c { title = title }) rest r
-only_title (Text title ∷ rest) c r e = (title, rest, refl, e)
+    → (title : List ℕ) × (rest : List Token) × (ts ≡ Text title ∷ Opening ∷ rest)
+    × Reads InPlayers (record c { title = title }) rest r
+only_title (Text title ∷ Opening ∷ rest) c r e = (title, rest, refl, e)
+only_title (Text title ∷ _) c r e = absurd cc
 only_title _ c r e = absurd cc
-
-only_opening : (ts : List Token) (c r : Content) → Reads BeforePlayers c ts r
-    → (rest : List Token) × (ts ≡ Opening ∷ rest) × Reads InPlayers c rest r
-only_opening (Opening ∷ rest) c r e = (rest, refl, e)
-only_opening _ c r e = absurd cc
 
 abbrev with_players : Content → List (List ℕ) → Content
 with_players c players = record c { players = c.players ++ players }
@@ -89,12 +83,12 @@ pub record Heading (ts : List Token) (r : Content) : Type 0 where
   pub is_letter : (letter ≡ codes "R") ⊎ (letter ≡ codes "D")
   pub goes_on : Reads AfterPlayers (heading title players) rest r
 
-joined : (ts t1 t2 t3 t4 t5 rest : List Token) (letter title : List ℕ) (players : List (List ℕ))
+joined : (ts t1 t2 t3 t4 rest : List Token) (letter title : List ℕ) (players : List (List ℕ))
     → ts ≡ Bare (codes "EFG") ∷ t1 → t1 ≡ Bare (codes "2") ∷ t2 → t2 ≡ Bare letter ∷ t3
-    → t3 ≡ Text title ∷ t4 → t4 ≡ Opening ∷ t5 → t5 ≡ map Text players ++ Closing ∷ rest
+    → t3 ≡ Text title ∷ Opening ∷ t4 → t4 ≡ map Text players ++ Closing ∷ rest
     → ts ≡ Bare (codes "EFG") ∷ Bare (codes "2") ∷ Bare letter ∷ Text title
     ∷ (braced (map Text players) ++ rest)
-joined ts t1 t2 t3 t4 t5 rest letter title players e1 e2 e3 e4 e5 e6 = grind (arith, append_assoc)
+joined ts t1 t2 t3 t4 rest letter title players e1 e2 e3 e4 e5 = grind (arith, append_assoc)
 
 pub heading_found : (ts : List Token) (r : Content) → Reads Format nothing ts r → Heading ts r
 heading_found ts r e =
@@ -102,14 +96,13 @@ heading_found ts r e =
     let b = only_version a.0 nothing r a.2 in
     let c = only_letter b.0 nothing r b.2 in
     let d = only_title c.1 nothing r c.4 in
-    let f = only_opening d.1 (record nothing { title = d.0 }) r d.3 in
-    let g = players_found f.0 (record nothing { title = d.0 }) r f.2 in
+    let g = players_found d.1 (record nothing { title = d.0 }) r d.3 in
     record {
       letter = c.0;
       title = d.0;
       players = g.0;
       rest = g.1;
-      parts = joined ts a.0 b.0 c.1 d.1 f.0 g.1 c.0 d.0 g.0 a.1 b.1 c.2 d.2 f.1 g.2;
+      parts = joined ts a.0 b.0 c.1 d.1 g.1 c.0 d.0 g.0 a.1 b.1 c.2 d.2 g.2;
       is_letter = c.3;
       goes_on = g.3;
     }

@@ -42,18 +42,10 @@ pub record IsKnown {K D : Type 0} (same : K → K → Bool) (known : List (Descr
   pub told : (u.description ≡ None) ⊎ (u.description ≡ Some description)
   pub no_more : end ≡ known
 
-by_known : {K D : Type 0} (same : K → K → Bool) (known : List (Described K D))
-    (u : Use K D) (end : List (Described K D)) (o : Option D) → description_at same known u.key ≡ o
-    → MatchOption o ((d : D) × (u.description ≡ Some d) × (end ≡ known ++ one u.key d ∷ []))
-    (λ d. ((u.description ≡ None) ⊎ (u.description ≡ Some d)) × (end ≡ known))
-    → IsNew same known u end ⊎ IsKnown same known u end
-by_known same known u end None e h = grind arith
-by_known same known u end (Some d) e h = grind arith
-
 pub one_use : {K D : Type 0} (same : K → K → Bool)
     (known : List (Described K D)) (u : Use K D) (end : List (Described K D))
     → Learns same known (u ∷ []) end → IsNew same known u end ⊎ IsKnown same known u end
-one_use same known u end h = by_known same known u end (description_at same known u.key) refl h
+one_use same known u end h = grind arith
 
 -- ---- uses one after another
 
@@ -61,39 +53,13 @@ pub learns_on : {K D : Type 0} (same : K → K → Bool)
     (us vs : List (Use K D)) (known mid end : List (Described K D))
     → Learns same known us mid → Learns same mid vs end → Learns same known (us ++ vs) end
 learns_on same [] vs known mid end h k = subst (λ x. Learns same x vs end) h k
-learns_on {K} {D} same (u ∷ us) vs known mid end h k =
-    by (λ x l. learns_on same us vs x mid end l k) (description_at same known u.key) h
-  where
-    by : ((x : List (Described K D)) → Learns same x us mid → Learns same x (us ++ vs) end)
-        → (o : Option D) → MatchOption o
-        ((d : D) × (u.description ≡ Some d) × Learns same (known ++ one u.key d ∷ []) us mid)
-        (λ d. ((u.description ≡ None) ⊎ (u.description ≡ Some d)) × Learns same known us mid)
-        → MatchOption o ((d : D) × (u.description ≡ Some d)
-        × Learns same (known ++ one u.key d ∷ []) (us ++ vs) end)
-        (λ d.
-        ((u.description ≡ None) ⊎ (u.description ≡ Some d)) × Learns same known (us ++ vs) end)
-    by later None l = (l.0, l.1, later (known ++ one u.key l.0 ∷ []) l.2)
-    by later (Some d) l = (l.0, later known l.1)
+learns_on same (u ∷ us) vs known mid end h k = grind (arith, learns_on same us vs)
 
 pub learns_split : {K D : Type 0} (same : K → K → Bool)
     (us vs : List (Use K D)) (known end : List (Described K D)) → Learns same known (us ++ vs) end
     → (mid : List (Described K D)) × Learns same known us mid × Learns same mid vs end
 learns_split same [] vs known end h = (known, refl, h)
-learns_split {K} {D} same (u ∷ us) vs known end h =
-    by (λ x l. learns_split same us vs x end l) (description_at same known u.key) h
-  where
-    by : ((x : List (Described K D)) → Learns same x (us ++ vs) end
-        → (mid : List (Described K D)) × Learns same x us mid × Learns same mid vs end)
-        → (o : Option D) → MatchOption o ((d : D) × (u.description ≡ Some d)
-        × Learns same (known ++ one u.key d ∷ []) (us ++ vs) end)
-        (λ d.
-        ((u.description ≡ None) ⊎ (u.description ≡ Some d)) × Learns same known (us ++ vs) end)
-        → (mid : List (Described K D)) × MatchOption o
-        ((d : D) × (u.description ≡ Some d) × Learns same (known ++ one u.key d ∷ []) us mid)
-        (λ d. ((u.description ≡ None) ⊎ (u.description ≡ Some d)) × Learns same known us mid)
-        × Learns same mid vs end
-    by later None l = let r = later (known ++ one u.key l.0 ∷ []) l.2 in (r.0, (l.0, l.1, r.1), r.2)
-    by later (Some d) l = let r = later known l.1 in (r.0, (l.0, r.1), r.2)
+learns_split same (u ∷ us) vs known end h = grind (arith, learns_split same us vs)
 
 -- ---- what is known stays so
 
@@ -149,13 +115,4 @@ pub all_known : {K D : Type 0} (same : K → K → Bool) (P : Described K D → 
     (us : List (Use K D)) (known end : List (Described K D)) → Learns same known us end
     → AllByRecursion P end → AllByRecursion P known
 all_known same P [] known end h all = subst (AllByRecursion P) h all
-all_known {K} {D} same P (u ∷ us) known end h all =
-    by (λ x l. all_known same P us x end l all) (description_at same known u.key) h
-  where
-    by : ((x : List (Described K D)) → Learns same x us end → AllByRecursion P x) → (o : Option D)
-        → MatchOption o
-        ((d : D) × (u.description ≡ Some d) × Learns same (known ++ one u.key d ∷ []) us end)
-        (λ d. ((u.description ≡ None) ⊎ (u.description ≡ Some d)) × Learns same known us end)
-        → AllByRecursion P known
-    by later None l = all_before P known (one u.key l.0) (later (known ++ one u.key l.0 ∷ []) l.2)
-    by later (Some c) l = later known l.1
+all_known same P (u ∷ us) known end h all = grind (arith, all_known same P us, all_before)

@@ -1,12 +1,12 @@
 -- Runs over the information set of a node: its number, and its description.
 use Rattle.gf_tree.proofs.Common
 use Common.{IsInformationSet, KnownSetOpening, AllByRecursion, whole_fraction, InformationSet, List}
-use Common.{description_at, OutcomeNumber, NewSetOpening, IsDescription, append_assoc, KnownSetName}
-use Common.{count_again, KnownAction, IsFraction, NewSetName, IsPositive, set_number, run_tokens, ℕ}
-use Common.{Described, SetNumber, NewAction, count_of, same_set, past_set, then_run, count_is, ◌++◌}
-use Common.{Opening, Closing, Content, length, Option, braced, Action, SetKey, set_of, Learns, Some}
+use Common.{description_at, OutcomeNumber, IsDescription, append_assoc, KnownSetName}
+use Common.{count_again, IsFraction, NewSetName, IsPositive, set_number, run_tokens, ℕ}
+use Common.{Described, SetNumber, count_of, same_set, past_set, then_run, count_is, ◌++◌}
+use Common.{Opening, Closing, Content, length, Option, braced, SetKey, set_of, Learns, Some}
 use Common.{subst, arith, Token, whole, IsSet, begun, None, refl, Text, Bare, ◌≡◌, ◌<◌, ◌≤◌, ◌∷◌}
-use Common.{sym, ◌∙◌, inl, inr, ◌⊎◌, pos, Use, [], Ok, ap, at}
+use Common.{sym, ◌∙◌, inl, inr, ◌⊎◌, pos, Use, [], Ok, ap, at, set_with}
 use Rattle.gf_tree.proofs.lemmas.games.TreesOnce.{same_set_equality}
 use Rattle.gf_tree.proofs.lemmas.games.Members.{all_more}
 use Rattle.gf_tree.proofs.lemmas.runs.Tokens.{Reads, run_on, text_found, text_again}
@@ -39,30 +39,6 @@ pub record Past (ts : List Token) (name : List ℕ) (player n : ℕ) (c r : Cont
   pub are : AreSets (length c.players) sets
   pub goes_on : Reads (OutcomeNumber (begun name (set_of player n) set)) (with_sets c sets) rest r
 
-name_found : (ts : List Token) (name : List ℕ) (key : SetKey) (c r : Content)
-    → Reads (NewSetName name key) c ts r
-    → (label : List ℕ) × (rest : List Token) × (ts ≡ Text label ∷ rest)
-    × Reads (NewSetOpening name key label) c rest r
-name_found (Text label ∷ rest) name key c r e = (label, rest, refl, e)
-name_found _ name key c r e = absurd cc
-
-opening_found : (ts : List Token) (name : List ℕ) (key : SetKey) (label : List ℕ) (c r : Content)
-    → Reads (NewSetOpening name key label) c ts r → (rest : List Token) × (ts ≡ Opening ∷ rest)
-    × Reads (NewAction name key (record { name = label; actions = [] }) (whole (pos 0))) c rest r
-opening_found (Opening ∷ rest) name key label c r e = (rest, refl, e)
-opening_found _ name key label c r e = absurd cc
-
-known_opening_found : (ts : List Token) (b : _) (actions : List Action) (c r : Content)
-    → Reads (KnownSetOpening b actions) c ts r
-    → (rest : List Token) × (ts ≡ Opening ∷ rest) × Reads (KnownAction b actions) c rest r
-known_opening_found (Opening ∷ rest) b actions c r e = (rest, refl, e)
-known_opening_found _ b actions c r e = absurd cc
-
--- a name, an opening brace, and actions and the closing brace after it
-described : (ts t1 t2 inner rest : List Token) (label : List ℕ) → ts ≡ Text label ∷ t1
-    → t1 ≡ Opening ∷ t2 → t2 ≡ inner ++ Closing ∷ rest → ts ≡ (Text label ∷ braced inner) ++ rest
-described ts t1 t2 inner rest label e f g = grind (arith, append_assoc)
-
 zero_fraction : IsFraction (whole (pos 0))
 zero_fraction = whole_fraction 0 (omega arith)
 
@@ -70,21 +46,19 @@ new_after : (ts : List Token) (name : List ℕ) (player n : ℕ) (c r : Content)
     → player ≤ length c.players → 0 < n → AreSets (length c.players) c.sets
     → description_at same_set c.sets (set_of player n) ≡ None
     → Reads (NewSetName name (set_of player n)) c ts r → Past ts name player n c r
-new_after ts name player n c r among some are unknown e =
+new_after (Text label ∷ Opening ∷ ts) name player n c r among some are unknown e =
     let key = set_of player n in
-    let x = name_found ts name key c r e in
-    let y = opening_found x.1 name key x.0 c r x.3 in
-    let h = new_found y.0 name player n (record { name = x.0; actions = [] }) (whole (pos 0)) c r
-    zero_fraction y.2 in
-    let set : InformationSet = record { name = x.0; actions = h.actions } in
+    let h =
+    new_found ts name player n (set_with label []) (whole (pos 0)) c r zero_fraction e in
+    let set : InformationSet = set_with label h.actions in
     let is : IsSet (length c.players) key set = grind arith in
     record {
       description = Some set;
-      tokens = Text x.0 ∷ braced h.inner;
+      tokens = Text label ∷ braced h.inner;
       rest = h.rest;
       sets = c.sets ++ one key set ∷ [];
       set = set;
-      parts = described ts x.1 y.0 h.inner h.rest x.0 x.2 y.1 h.parts;
+      parts = cc (h.parts, append_assoc h.inner (Closing ∷ []) h.rest);
       is_description = (h.inner, refl, h.each);
       learns = learns_new same_set c.sets key set unknown;
       is_known = at_new same_set same_set_equality c.sets key set unknown;
@@ -92,46 +66,44 @@ new_after ts name player n c r among some are unknown e =
           all_more (λ s. IsSet (length c.players) s.key s.description) c.sets (one key set) are is;
       goes_on = h.goes_on;
     }
+new_after ts name player n c r among some are unknown e = grind arith
 
 known_after : (ts : List Token) (name : List ℕ)
     (player n : ℕ) (set : InformationSet) (c r : Content) → AreSets (length c.players) c.sets
     → description_at same_set c.sets (set_of player n) ≡ Some set
     → Reads (KnownSetName name (set_of player n) set) c ts r → Past ts name player n c r
-known_after (Text label ∷ ts) name player n set c r are known e =
+known_after (Text label ∷ Opening ∷ ts) name player n set c r are known e =
     let key = set_of player n in
     let b = begun name key set in
     let is =
     found_has same_set same_set_equality (IsSet (length c.players)) c.sets key set are known in
-    let h = text_found set.name label (at (KnownSetOpening b set.actions) c) ts r e in
-    let y = known_opening_found ts b set.actions c r h.1 in
+    let h =
+    text_found set.name label (at (KnownSetOpening b set.actions) c) (Opening ∷ ts) r e in
     let k =
-    known_found set.actions player y.0 b c r (probabilities player set.actions is.actions) y.2 in
+    known_found set.actions player ts b c r (probabilities player set.actions is.actions) h.1 in
     record {
       description = Some set;
       tokens = Text set.name ∷ braced k.inner;
       rest = k.rest;
       sets = c.sets;
       set = set;
-      parts = described (Text label ∷ ts) ts y.0 k.inner k.rest set.name
-          (ap (λ (x : List ℕ). Text x ∷ ts) h.0) y.1 k.parts;
+      parts = cc (h.0, k.parts, append_assoc k.inner (Closing ∷ []) k.rest);
       is_description = (k.inner, refl, k.each);
       learns = learns_again same_set c.sets key set (Some set) known (inr refl);
       is_known = known;
       are = are;
       goes_on = k.goes_on;
     }
-known_after (Bare t ∷ ts) name player n set c r are known e = grind arith
-known_after _ name player n set c r are known e = absurd cc
+known_after (Text label ∷ ts) name player n set c r are known e =
+    let h = text_found set.name label _ ts r e in absurd (let other = h.1 in cc)
+known_after ts name player n set c r are known e = grind arith
 
 past_found : (ts : List Token) (name : List ℕ)
     (player n : ℕ) (o : Option InformationSet) (c r : Content)
     → player ≤ length c.players → 0 < n → AreSets (length c.players) c.sets
     → description_at same_set c.sets (set_of player n) ≡ o
     → Reads (past_set name (set_of player n) o) c ts r → Past ts name player n c r
-past_found ts name player n None c r among some are is e =
-    new_after ts name player n c r among some are is e
-past_found ts name player n (Some set) c r among some are is e =
-    known_after ts name player n set c r are is e
+past_found ts name player n o c r among some are is e = grind (arith, new_after, known_after)
 
 -- ---- the number
 

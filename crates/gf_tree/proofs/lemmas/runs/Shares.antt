@@ -14,8 +14,7 @@ abbrev pub ok_share : Share → Result Share Why
 ok_share s = Ok s
 
 not_negative : (z : ℤ) → int_lt z (pos 0) ≡ false → pos 0 ≤ℤ z
-not_negative (pos n) h = omega (arith, ints)
-not_negative (negsuc n) h = absurd cc
+not_negative z h = grind (arith, ints)
 
 test_negative : (z : ℤ) → pos 0 ≤ℤ z → int_lt z (pos 0) ≡ false
 test_negative z h = grind (arith, ints)
@@ -95,13 +94,4 @@ naturals z x y a b n some above e high =
 -- a sum that a number not below zero leads to at most one is at most one
 pub sum_high : (sum p next : Ratio) → 0 < p.den → 0 < sum.den → pos 0 ≤ℤ p.num → AddsTo sum p next
     → next.num ≤ℤ pos next.den → sum.num ≤ℤ pos sum.den
-sum_high sum p next above some low adds high = by sum.num p.num next.num low high adds.2
-  where
-    by : (a b z : ℤ) → pos 0 ≤ℤ b → z ≤ℤ pos next.den
-        → z *ℤ pos (sum.den * p.den) ≡ (a *ℤ pos p.den +ℤ b *ℤ pos sum.den) *ℤ pos next.den
-        → a ≤ℤ pos sum.den
-    by (negsuc a) b z l h e = omega (arith, ints)
-    by (pos a) (negsuc b) z l h e = absurd (omega (arith, ints))
-    by (pos a) (pos b) (negsuc z) l h e = absurd (no_sign z (sum.den * p.den) a b p.den sum.den
-        next.den (mul_above sum.den p.den some above) e)
-    by (pos a) (pos b) (pos z) l h e = grind (arith, naturals)
+sum_high sum p next above some low adds high = grind (arith, ints, no_sign, mul_above, naturals)

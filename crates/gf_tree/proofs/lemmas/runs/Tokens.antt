@@ -1,8 +1,10 @@
 -- What the lemmas on runs of the machine share.
+use Rattle.gf_tree.proofs.Common.{arith}
 use Rattle.gf_tree.proofs.Common.{Decides-eqb, run_tokens, same_ratio, pointwise, same_text, Result}
-use Rattle.gf_tree.proofs.Common.{then_run, Position, Content, nat_eq, false, Ratio, Token, State}
-use Rattle.gf_tree.proofs.Common.{Bool, true, cond, List, refl, ◌==◌, ◌≡◌, Err, Why, Ok, ℕ}
-use Rattle.std.specs.Ordering.{int_eq}
+use Rattle.gf_tree.proofs.Common.{then_run, Position, Content, nat_eq, Ratio, Token, State}
+use Rattle.gf_tree.proofs.Common.{Bool, true, cond, List, refl, ◌≡◌, Err, Why, Ok, ℕ}
+use Rattle.gf_token.specs.inner.Machine as any_format
+use Rattle.gf_tree.specs.inner.Machine.{at_end, next}
 use Rattle.std.proofs.lemmas.Bool.{and_parts}
 use Rattle.std.proofs.lemmas.Slice.Eq.{slice_eq-Decides}
 use Rattle.std.proofs.lemmas.Bool.Decides.{Decides-int_eq}
@@ -12,7 +14,7 @@ abbrev pub Reads : Position → Content → List Token → Content → Type 0
 Reads q c ts r = run_tokens q c ts ≡ Ok r
 
 abbrev pub run_on : List Token → State → Result Content Why
-run_on ts s = run_tokens s.position s.content ts
+run_on ts s = any_format.run next at_end s ts
 
 abbrev pub ok_read : Content → Result Content Why
 ok_read r = Ok r
@@ -25,8 +27,7 @@ ok_is x y e = cc
 pub guard_ok : (b : Bool) (s : State) (why : Why) (ts : List Token) (r : Content)
     → then_run (cond b (Ok s) (Err why)) (run_on ts) ≡ Ok r
     → (b ≡ true) × Reads s.position s.content ts r
-guard_ok true s why ts r e = (refl, e)
-guard_ok false s why ts r e = absurd cc
+guard_ok b s why ts r e = grind arith
 
 pub same_bytes : (b word : List ℕ) → pointwise nat_eq b word ≡ true → b ≡ word
 same_bytes b word e = (slice_eq-Decides Decides-eqb b word (pointwise nat_eq b word) refl).0 e
@@ -46,11 +47,7 @@ pub text_again : (wanted : List ℕ) (s : State) → same_text wanted wanted s �
 text_again wanted s = rw (bytes_same wanted) refl
 
 pub ratio_is : (x y : Ratio) → same_ratio x y ≡ true → x ≡ y
-ratio_is x y e =
-    let h = and_parts (int_eq x.num y.num) (x.den == y.den) e in
-    let num = (Decides-int_eq x.num y.num).0 h.0 in
-    let den = (Decides-eqb x.den y.den).0 h.1 in
-    λ i. record { num = num i; den = den i }
+ratio_is x y e = grind (arith, and_parts)
 
 pub ratio_same : (x : Ratio) → same_ratio x x ≡ true
 ratio_same x = rw ((Decides-int_eq x.num x.num).1 refl, (Decides-eqb x.den x.den).1 refl) refl

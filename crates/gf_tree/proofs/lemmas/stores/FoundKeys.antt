@@ -27,18 +27,11 @@ module _ {K D : Type 0} (same : K → K → Bool) (tells : IsEquality same) (key
   found_from (e ∷ es) start place h =
       first_of_more e es start place (found_from es (start + 1) place) (same key e.key) refl h
 
-  none_of_more : (e : Described K D) (es : List (Described K D)) (start : ℕ)
-      → (position_from (same key) (start + 1) (map (λ e. e.key) es) ≡ None
-      → find (λ e. same e.key key) es ≡ None) → (b : Bool) → same key e.key ≡ b
-      → position_from (same key) start (map (λ e. e.key) (e ∷ es)) ≡ None
-      → find (λ e. same e.key key) (e ∷ es) ≡ None
-  none_of_more e es start h b h2 h3 = grind (arith, either_way)
-
   not_found_from : (es : List (Described K D)) (start : ℕ)
       → position_from (same key) start (map (λ e. e.key) es) ≡ None
       → find (λ e. same e.key key) es ≡ None
   not_found_from [] start h = refl
-  not_found_from (e ∷ es) start h = grind (arith, not_found_from es (start + 1), none_of_more)
+  not_found_from (e ∷ es) start h = grind (arith, either_way, not_found_from es (start + 1))
 
   pub described_at : (es : List (Described K D)) (place : ℕ)
       → position (same key) (map (λ e. e.key) es) ≡ Some place

@@ -10,6 +10,7 @@ use Common.{map, sym, ◌∙◌}
 use Rattle.std.proofs.Math.Seq.{drop-cons}
 use Rattle.gf_tree.specs.GrowsAgain.{root_grows_again}
 use Rattle.gf_tree.specs.KeptNodes.{node_with}
+use Rattle.gf_tree.proofs.lemmas.games.Members.{beside}
 use Rattle.gf_tree.proofs.lemmas.games.Prefix.{one_tree}
 use Rattle.gf_tree.proofs.lemmas.stores.SubtreeSizes.{begin_first, counts_of, drop_suc, skips_to}
 use Rattle.gf_tree.proofs.lemmas.stores.SubtreeSizes.{slice_get_after, stands, subtrees_counted}
@@ -53,16 +54,6 @@ mutual
       map-append (λ s. length (child_trees s)) (subtrees t) (subtrees_all ts)
       ∙ (λ i. counts_beside t i ++ all_counts_beside ts i)
       ∙ sym (map-append (λ e. e.children) (flatten t) (flatten_all ts))
-
--- what is mapped to the same list is the same at each place
-beside : {X Y Z : Type 0} (f : X → Z) (g : Y → Z)
-    (xs : List X) (ys : List Y) (at : ℕ) (d : X) (e : Y) → map f xs ≡ map g ys → at < length xs
-    → f (get_or xs at d) ≡ g (get_or ys at e)
-beside f g [] ys at d e h i = absurd (omega (arith, i))
-beside f g (x ∷ xs) [] at d e h i = absurd cc
-beside f g (x ∷ xs) (y ∷ ys) zero d e h i = cc
-beside f g (x ∷ xs) (y ∷ ys) (suc at) d e h i =
-    let same : map f xs ≡ map g ys = cc in beside f g xs ys at d e same (omega (arith, i))
 
 -- ---- a child's place
 
@@ -116,83 +107,58 @@ pub record IsTreeOf (sets : List (Described SetKey InformationSet))
   pub are : AreNodes sets outcomes nodes
   pub is : tree_with sets outcomes (map kept_of nodes) ≡ tree
 
-entries_are : (sets : List (Described SetKey InformationSet))
-    (outcomes : List (Described ℕ Outcome)) (nodes : List Stored) (tree : Tree Node)
-    → IsTreeOf sets outcomes nodes tree
-    → flatten tree ≡ entries_with sets outcomes (map kept_of nodes)
-entries_are sets outcomes nodes tree h = grind (arith, flatten_grown)
-
-pub sizes_beside : (sets : List (Described SetKey InformationSet))
-    (outcomes : List (Described ℕ Outcome)) (nodes : List Stored) (tree : Tree Node)
-    → IsTreeOf sets outcomes nodes tree → sizes_of nodes ≡ subtree_sizes tree
-sizes_beside sets outcomes nodes tree h = h.are.sizes ∙ ap subtree_sizes h.is
-
-pub as_many : (sets : List (Described SetKey InformationSet))
-    (outcomes : List (Described ℕ Outcome)) (nodes : List Stored) (tree : Tree Node)
-    → IsTreeOf sets outcomes nodes tree → length nodes ≡ length (subtrees tree)
-as_many sets outcomes nodes tree h = grind (arith, length-map, sizes_beside)
-
-pub node_there : (sets : List (Described SetKey InformationSet))
-    (outcomes : List (Described ℕ Outcome)) (nodes : List Stored)
-    (tree : Tree Node) (at : ℕ) (d : Stored) → IsTreeOf sets outcomes nodes tree
-    → at < length (subtrees tree)
-    → root_node (subtree_at tree at) ≡ node_with sets outcomes (kept_of (get_or nodes at d))
-node_there sets outcomes nodes tree at d h i =
-    let mapped : map root_node (subtrees tree)
-    ≡ map (λ n. node_with sets outcomes (kept_of n)) nodes =
-    cc (nodes_beside tree, entries_are sets outcomes nodes tree h, nodes_of sets outcomes nodes) in
-    beside root_node (λ n. node_with sets outcomes (kept_of n)) (subtrees tree) nodes at tree d
-    mapped i
-  where
-    nodes_of : (sets : List (Described SetKey InformationSet))
-        (outcomes : List (Described ℕ Outcome)) (ns : List Stored)
-        → map (λ e. e.node) (entries_with sets outcomes (map kept_of ns))
-        ≡ map (λ n. node_with sets outcomes (kept_of n)) ns
-    nodes_of sets outcomes [] = refl
-    nodes_of sets outcomes (n ∷ ns) = grind (arith, nodes_of sets outcomes ns)
-
 pub counts_kept : (sets : List (Described SetKey InformationSet))
     (outcomes : List (Described ℕ Outcome)) (ns : List Kept)
     → counts_of (entries_with sets outcomes ns) ≡ child_counts sets ns
 counts_kept sets outcomes [] = refl
 counts_kept sets outcomes (n ∷ ns) = grind (arith, counts_kept sets outcomes ns)
 
-pub children_there : (sets : List (Described SetKey InformationSet))
-    (outcomes : List (Described ℕ Outcome)) (nodes : List Stored)
-    (tree : Tree Node) (at : ℕ) (d : Stored) → IsTreeOf sets outcomes nodes tree
-    → at < length (subtrees tree)
-    → length (child_trees (subtree_at tree at)) ≡ child_count sets (get_or nodes at d).set
-children_there sets outcomes nodes tree at d h i =
-    let mapped : map (λ s. length (child_trees s)) (subtrees tree)
-    ≡ map (λ n. child_count sets n.set) nodes =
-    counts_beside tree ∙ ap counts_of (entries_are sets outcomes nodes tree h)
-    ∙ counts_kept sets outcomes (map kept_of nodes) ∙ counts_in sets nodes in
-    beside (λ s. length (child_trees s)) (λ n. child_count sets n.set) (subtrees tree) nodes at tree
-    d mapped i
-  where
-    counts_in : (sets : List (Described SetKey InformationSet)) (ns : List Stored)
-        → child_counts sets (map kept_of ns) ≡ map (λ n. child_count sets n.set) ns
-    counts_in sets [] = refl
-    counts_in sets (n ∷ ns) = ap (λ xs. child_count sets n.set ∷ xs) (counts_in sets ns)
-
 pub placed_there : (sets outcomes : ℕ) (nodes : List Stored) (at : ℕ) (d : Stored)
     → AreAmong sets outcomes (map kept_of nodes) → at < length nodes
     → IsAmong sets outcomes (kept_of (get_or nodes at d))
-placed_there sets outcomes [] at d p h = absurd (omega (arith, h))
-placed_there sets outcomes (n ∷ ns) zero d p h = p.0
 placed_there sets outcomes (n ∷ ns) (suc at) d p h =
     placed_there sets outcomes ns at d p.1 (omega (arith, h))
+placed_there sets outcomes nodes at d p h = grind arith
 
-pub child_there : (sets : List (Described SetKey InformationSet))
-    (outcomes : List (Described ℕ Outcome)) (nodes : List Stored) (tree : Tree Node) (at i : ℕ)
-    → IsTreeOf sets outcomes nodes tree
-    → at < length (subtrees tree) → i < length (child_trees (subtree_at tree at))
-    → Begin i (drop (at + 1) (sizes_of nodes))
-    × (slice_get (subtrees tree) (at + 1 + skipped i (drop (at + 1) (sizes_of nodes)))
-    ≡ slice_get (child_trees (subtree_at tree at)) i)
-child_there sets outcomes nodes tree at i h a b =
-    let r = child_is_there tree at i a b in
-    rw (sizes_beside sets outcomes nodes tree h) (r.begin, r.there)
+module _ {sets : List (Described SetKey InformationSet)} {outcomes : List (Described ℕ Outcome)}
+    {nodes : List Stored} {tree : Tree Node} (h : IsTreeOf sets outcomes nodes tree) where
+  entries_are : flatten tree ≡ entries_with sets outcomes (map kept_of nodes)
+  entries_are = grind (arith, flatten_grown)
+
+  pub sizes_beside : sizes_of nodes ≡ subtree_sizes tree
+  sizes_beside = h.are.sizes ∙ ap subtree_sizes h.is
+
+  pub as_many : length nodes ≡ length (subtrees tree)
+  as_many = grind (arith, length-map, sizes_beside)
+
+  pub node_there : (at : ℕ) (d : Stored) → at < length (subtrees tree)
+      → root_node (subtree_at tree at) ≡ node_with sets outcomes (kept_of (get_or nodes at d))
+  node_there at d i = beside root_node (λ n. node_with sets outcomes (kept_of n))
+      (subtrees tree) nodes at tree d (cc (nodes_beside tree, entries_are, nodes_of nodes)) i
+    where
+      nodes_of : (ns : List Stored) → map (λ e. e.node) (entries_with sets outcomes (map kept_of ns))
+          ≡ map (λ n. node_with sets outcomes (kept_of n)) ns
+      nodes_of [] = refl
+      nodes_of (n ∷ ns) = grind (arith, nodes_of ns)
+
+  pub children_there : (at : ℕ) (d : Stored) → at < length (subtrees tree)
+      → length (child_trees (subtree_at tree at)) ≡ child_count sets (get_or nodes at d).set
+  children_there at d i = beside (λ s. length (child_trees s)) (λ n. child_count sets n.set)
+      (subtrees tree) nodes at tree d (counts_beside tree ∙ ap counts_of entries_are
+      ∙ counts_kept sets outcomes (map kept_of nodes) ∙ counts_in nodes) i
+    where
+      counts_in : (ns : List Stored)
+          → child_counts sets (map kept_of ns) ≡ map (λ n. child_count sets n.set) ns
+      counts_in [] = refl
+      counts_in (n ∷ ns) = ap (λ xs. child_count sets n.set ∷ xs) (counts_in ns)
+
+  pub child_there : (at i : ℕ)
+      → at < length (subtrees tree) → i < length (child_trees (subtree_at tree at))
+      → Begin i (drop (at + 1) (sizes_of nodes))
+      × (slice_get (subtrees tree) (at + 1 + skipped i (drop (at + 1) (sizes_of nodes)))
+      ≡ slice_get (child_trees (subtree_at tree at)) i)
+  child_there at i a b =
+      let r = child_is_there tree at i a b in rw sizes_beside (r.begin, r.there)
 
 -- ---- a game of its parts
 

@@ -31,8 +31,8 @@ record IsUse {K D : Type 0} (same : K → K → Bool) (known : List (Described K
   within : position ≤ length known
   met_are : met ≡ length (first_uses same before)
 
-module _ {K D : Type 0} (same : K → K → Bool) (tells : IsEquality same)
-    (known : List (Described K D)) (before after : List K) (used : Option K) where
+module _ {K D : Type 0} {same : K → K → Bool} (tells : IsEquality same)
+    {known : List (Described K D)} {before after : List K} {used : Option K} where
   use_given : (position met : ℕ) → IsUse same known before after used position met
       → option_map (use_after same (description_at same known) before) used
       ≡ option_map (λ d. use_with d.key (position == suc met) d.description)
@@ -100,11 +100,8 @@ module _ (g : Game) (game : IsGame g) (nodes : List Kept)
     node_here : (told_node OfFile g.sets g.outcomes met_sets met_outcomes n).node
         ≡ node_after g (entries front) (entry_with g.sets g.outcomes n).node
     node_here =
-        let set = sym (use_given same_set same_set_equality g.sets (sets_in front) (sets_in ns)
-        (entry_with g.sets g.outcomes n).node.set n.set met_sets set_here) in
-        let outcome = sym (use_given nat_eq Decides-eqb g.outcomes (outcomes_in front)
-        (outcomes_in ns) (entry_with g.sets g.outcomes n).node.outcome n.outcome met_outcomes
-        outcome_here) in
+        let set = sym (use_given same_set_equality n.set met_sets set_here) in
+        let outcome = sym (use_given Decides-eqb n.outcome met_outcomes outcome_here) in
         λ i. record { name = n.name; set = set i; outcome = outcome i }
 
     one_more : entries (front ++ n ∷ []) ≡ entries front ++ entries (n ∷ [])
@@ -113,15 +110,13 @@ module _ (g : Game) (game : IsGame g) (nodes : List Kept)
     goes_on : IsFront (front ++ n ∷ []) ns (max met_sets n.set) (max met_outcomes n.outcome)
     goes_on = record {
       parts = here.parts ∙ sym (append_assoc front (n ∷ []) ns);
-      sets = met_given same_set same_set_equality g.sets (sets_in front) (sets_in ns)
-          (entry_with g.sets g.outcomes n).node.set n.set met_sets set_here
+      sets = met_given same_set_equality n.set met_sets set_here
           ∙ ap (λ ks. length (first_uses same_set ks))
           (sym (ap (filter_map (λ (e : Listed Node). e.node.set)) one_more
           ∙ filter_map-append (λ (e : Listed Node). e.node.set) (entries front)
           (entries (n ∷ []))));
-      outcomes = met_given nat_eq Decides-eqb g.outcomes (outcomes_in front)
-          (outcomes_in ns) (entry_with g.sets g.outcomes n).node.outcome n.outcome
-          met_outcomes outcome_here ∙ ap (λ ks. length (first_uses nat_eq ks))
+      outcomes = met_given Decides-eqb n.outcome met_outcomes outcome_here
+          ∙ ap (λ ks. length (first_uses nat_eq ks))
           (sym (ap (filter_map (λ (e : Listed Node). e.node.outcome)) one_more
           ∙ filter_map-append (λ (e : Listed Node). e.node.outcome) (entries front)
           (entries (n ∷ []))));

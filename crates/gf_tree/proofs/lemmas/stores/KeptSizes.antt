@@ -3,7 +3,7 @@ use Rattle.gf_tree.proofs.Common
 use Common.{InformationSet, subtree_sizes, child_counts, flatten_all, sizes_grown, child_count, ◌≡◌}
 use Common.{length-map, get_or-map, Described, drop-map, AreAmong, sizes_of, flatten, skipped, zero}
 use Common.{kept_of, length, get_or, Listed, SetKey, Stored, subst, arith, count, Begin, List, ◌++◌}
-use Common.{drop, refl, Tree, suc, ◌+◌, ◌-◌, ◌<◌, ◌≤◌, ◌∷◌, map, sym, ◌∙◌, [], ap, ℕ}
+use Common.{drop, Tree, suc, ◌+◌, ◌-◌, ◌<◌, ◌≤◌, ◌∷◌, map, sym, ◌∙◌, [], ap, ℕ}
 use Rattle.std.proofs.lemmas.List.{map-set, drop-set}
 use Rattle.std.proofs.Math.ListN.{set}
 use Rattle.gf_tree.proofs.lemmas.stores.SubtreeSizes.{begin_children, counts_of, sizes_are}
@@ -47,9 +47,8 @@ counts_at : (sets : List (Described SetKey InformationSet))
     (nodes : List Stored) (at : ℕ) (d : Stored) → at < length nodes
     → drop at (child_counts sets (map kept_of nodes)) ≡ child_count sets (get_or nodes at d).set
     ∷ drop (suc at) (child_counts sets (map kept_of nodes))
-counts_at sets [] at d h = absurd (omega (arith, h))
-counts_at sets (n ∷ nodes) zero d h = refl
 counts_at sets (n ∷ nodes) (suc at) d h = counts_at sets nodes at d (omega (arith, h))
+counts_at sets nodes at d h = grind arith
 
 -- the sizes are filled in from this place on
 pub record Filled {N : Type 0} (sets : List (Described SetKey InformationSet)) (t : Tree N)

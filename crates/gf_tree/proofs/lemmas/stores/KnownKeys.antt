@@ -19,11 +19,10 @@ use Rattle.gf_tree.proofs.lemmas.games.Uses.{Has, IsEquality, either_way}
 
 pub around : {A : Type 0} (xs : List A) (k : ℕ) (x : A) → slice_get xs k ≡ Some x
     → (front back : List A) × (xs ≡ front ++ x ∷ back) × (length front ≡ k)
-around [] zero x h = absurd cc
-around [] (suc k) x h = absurd cc
 around (y ∷ xs) zero x h = let e : y ≡ x = cc in ([], xs, ap (λ z. z ∷ xs) e, refl)
 around (y ∷ xs) (suc k) x h =
     let r = around xs k x h in (y ∷ r.0, r.1, ap (λ zs. y ∷ zs) r.2, ap suc r.3)
+around xs k x h = grind arith
 
 module _ {K : Type 0} (same : K → K → Bool) (tells : IsEquality same) where
   -- ---- a key that was used and one that was not

@@ -25,10 +25,8 @@ use Rattle.gf_tree.proofs.lemmas.games.Members.{has_at, something_there}
 
 from_there : {A : Type 0} (xs : List A) (k : ℕ) (x : A) → slice_get xs k ≡ Some x
     → drop k xs ≡ x ∷ drop (k + 1) xs
-from_there [] zero x h = absurd cc
-from_there [] (suc k) x h = absurd cc
-from_there (y ∷ xs) zero x h = let e : y ≡ x = cc in ap (λ z. z ∷ xs) e
 from_there (y ∷ xs) (suc k) x h = grind (arith, from_there xs k x h)
+from_there xs k x h = grind arith
 
 -- ---- places after subtrees
 
@@ -47,14 +45,13 @@ begin_here {N} t at h =
 -- one more tree is skipped
 skips_more : (n : ℕ) (xs : List ℕ) → Begin (suc n) xs
     → skipped (suc n) xs ≡ skipped n xs + skipped 1 (drop (skipped n xs) xs)
-skips_more zero xs h = omega arith
-skips_more (suc n) [] h = absurd h
 skips_more (suc n) (s ∷ xs) h =
     let rest = drop s (s ∷ xs) in
     let more = skips_more n rest h.1 in
     let same : drop (s + skipped n rest) (s ∷ xs) ≡ drop (skipped n rest) rest =
     sym (drop-drop (skipped n rest) s (s ∷ xs)) in
     rw same (omega (arith, more))
+skips_more n xs h = grind arith
 
 -- the branch of the next child, and the place of the one after it
 pub record IsNextChild {N : Type 0} (t : Tree N) (at before place : ℕ) : Type 0 where
@@ -125,13 +122,11 @@ actions_there g game place key actions at are =
 
 position_after : (ns : List ℕ) (start k n : ℕ) → AreDistinct ns → slice_get ns k ≡ Some n
     → position_from (nat_eq n) start ns ≡ Some (start + k)
-position_after [] start zero n d h = absurd cc
-position_after [] start (suc k) n d h = absurd cc
-position_after (m ∷ ns) start zero n d h = grind arith
 position_after (m ∷ ns) start (suc k) n d h =
     let other : nat_eq n m ≡ false = false_from_ne_true (nat_eq n m)
     (λ t. d.0 (subst (Has ns) (eqb-true n m t) (has_at ns k n h))) in
     rw other (position_after ns (start + 1) k n d.1 h ∙ ap Some (omega arith))
+position_after ns start k n d h = grind arith
 
 position_is : (ns : List ℕ) (k n : ℕ) → AreDistinct ns → slice_get ns k ≡ Some n
     → position (nat_eq n) ns ≡ Some k
@@ -150,11 +145,11 @@ kept_there p nodes g at n are is h here =
     let within : at < length (subtrees (tree_with sets outcomes (map kept_of nodes))) =
     subst (λ (x : Game). at < length (subtrees x.tree)) (sym is) h in
     subst (λ (x : Game). IsKeptAt x at n) is (record {
-      node = cc (node_there sets outcomes nodes _ at n tree within, here);
-      children = cc (children_there sets outcomes nodes _ at n tree within, here);
+      node = cc (node_there tree at n within, here);
+      children = cc (children_there tree at n within, here);
       placed = subst (λ (m : Stored). IsAmong (length sets) (length outcomes) (kept_of m))
           (sym here) (placed_there (length sets) (length outcomes) nodes at n are.placed
-          (omega (arith, within, as_many sets outcomes nodes _ tree)));
+          (omega (arith, within, as_many tree)));
     })
 
 module _ (g : Game) (at : ℕ) (n : Stored) (kept : IsKeptAt g at n) where

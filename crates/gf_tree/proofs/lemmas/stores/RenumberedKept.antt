@@ -3,7 +3,7 @@ use Rattle.gf_tree.proofs.Common
 use Common.{renumbered_node, actions_counted, InformationSet, renumbered_set, slice_get-map, Option}
 use Common.{subtree_sizes, entries_with, at_position, Renumbering, option_map, renumbered, map_tree}
 use Common.{map_trees, Described, game_with, tree_with, flatten, Outcome, no_node, Listed, SetKey}
-use Common.{others, arith, Trees, Fills, Parts, first, zero, List, refl, Tree, none, more, grow, []}
+use Common.{others, arith, Trees, Fills, Parts, first, List, refl, Tree, more, grow, []}
 use Common.{Node, Kept, root, ◌≡◌, suc, ◌+◌, ◌∷◌, map, ◌∙◌, ap, ℕ}
 use Rattle.gf_tree.proofs.lemmas.games.Consistent.{map_entry, flatten_map}
 use Rattle.gf_tree.proofs.lemmas.stores.SubtreeSizes.{counts_of, sizes_are}
@@ -12,15 +12,13 @@ use Rattle.gf_tree.proofs.lemmas.stores.SubtreeSizes.{counts_of, sizes_are}
 
 first_mapped : {N M : Type 0} (f : N → M) (n : ℕ) (ts : Trees N)
     → first n (map_trees f ts) ≡ map_trees f (first n ts)
-first_mapped f zero ts = refl
-first_mapped f (suc n) none = refl
 first_mapped f (suc n) (more t ts) = ap (more (map_tree f t)) (first_mapped f n ts)
+first_mapped f n ts = grind arith
 
 others_mapped : {N M : Type 0} (f : N → M) (n : ℕ) (ts : Trees N)
     → others n (map_trees f ts) ≡ map_trees f (others n ts)
-others_mapped f zero ts = refl
-others_mapped f (suc n) none = refl
 others_mapped f (suc n) (more t ts) = others_mapped f n ts
+others_mapped f n ts = grind arith
 
 grow_mapped : {N M : Type 0} (f : N → M) (es : List (Listed N))
     → grow (map (map_entry f) es) ≡ map_trees f (grow es)
@@ -34,10 +32,8 @@ root_mapped r ts = grind arith
 
 pub fills_mapped : {N M : Type 0} (f : N → M) (due : ℕ) (es : List (Listed N)) → Fills due es
     → Fills due (map (map_entry f) es)
-fills_mapped f zero [] h = tt
-fills_mapped f zero (e ∷ es) h = absurd h
-fills_mapped f (suc due) [] h = absurd h
 fills_mapped f (suc due) (e ∷ es) h = fills_mapped f (e.children + due) es h
+fills_mapped f due es h = grind arith
 
 counts_mapped : {N M : Type 0} (f : N → M) (es : List (Listed N))
     → counts_of (map (map_entry f) es) ≡ counts_of es

@@ -5,11 +5,13 @@ use Common.{outcome_numbers, AllByRecursion, InformationSet, listed_numbers, sli
 use Common.{position_from, used_outcomes, number_listed, number_among, MatchOption, Decides-eqb, []}
 use Common.{player_keys, Renumbering, option_map, renumbered, get_or-map, slice_get, same_Some, ◌≡◌}
 use Common.{Described, used_sets, AreListed, position, same_set, known_of, take-map, sets_of, false}
-use Common.{get_or, SetKey, set_of, IsGame, Global, nat_eq, subst, arith, zero, Bool, true, List, ℕ}
+use Common.{get_or, SetKey, set_of, IsGame, Global, nat_eq, subst, arith, Bool, true, List, ℕ}
 use Common.{◌++◌, take, Some, None, refl, ◌==◌, Game, suc, ◌+◌, ◌-◌, ◌<◌, ◌≤◌, ◌^◌, ◌∷◌, map, inl}
 use Common.{inr, sym, ◌∙◌, Vec, ap}
 use Rattle.std.specs.Prelude.{⊤}
+use Rattle.std.proofs.Math.Seq.{take-suc}
 use Rattle.gf_tree.proofs.lemmas.games.Carried.{entry_used}
+use Rattle.gf_tree.proofs.lemmas.stores.RenumberedKept.{outcome_image, set_image}
 use Rattle.gf_tree.proofs.lemmas.games.ListedNumbers.{some_player, as_long, listed_is_renumbering}
 use Rattle.gf_tree.proofs.lemmas.games.ListedNumbers.{number_there}
 use Rattle.gf_tree.proofs.lemmas.games.PlayerSets.{sets_by_first_use}
@@ -34,11 +36,9 @@ absent same tells key ks h = position_from-zero (same key) ks ∙ absent_from sa
 
 not_yet : {K : Type 0} (ks : List K) (place : ℕ) (key : K) → AreDistinct ks
     → slice_get ks place ≡ Some key → Has (take place ks) key → ⊥
-not_yet [] zero key d h i = absurd i
-not_yet [] (suc place) key d h i = absurd i
-not_yet (k ∷ ks) zero key d h i = absurd i
 not_yet (k ∷ ks) (suc place) key d h (inl e) = d.0 (subst (Has ks) (sym e) (has_at ks place key h))
 not_yet (k ∷ ks) (suc place) key d h (inr m) = not_yet ks place key d.1 h m
+not_yet ks place key d h i = grind arith
 
 -- the key of the next entry has not stood before it
 pub next_absent : {K D : Type 0} (same : K → K → Bool) → IsEquality same
@@ -54,17 +54,12 @@ next_absent {K} {D} same tells es place e d h =
 
 -- ---- one more entry
 
-take_next : {X : Type 0} (xs : List X) (place : ℕ) (x : X) → slice_get xs place ≡ Some x
-    → take (suc place) xs ≡ take place xs ++ x ∷ []
-take_next [] zero x h = absurd cc
-take_next [] (suc place) x h = absurd cc
-take_next (y ∷ xs) zero x h = let first : y ≡ x = cc in ap (λ z. z ∷ []) first
-take_next (y ∷ xs) (suc place) x h = ap (λ ys. y ∷ ys) (take_next xs place x h)
-
 pub taken : {X : Type 0} (xs : List X) (place : ℕ) (x : X) → slice_get xs place ≡ Some x
     → take (place + 1) xs ≡ take place xs ++ x ∷ []
 taken xs place x h =
-    let next : place + 1 ≡ suc place = omega arith in rw next (take_next xs place x h)
+    let next : place + 1 ≡ suc place = omega arith in
+    rw next (take-suc xs place x (slice_get_within xs place x h)
+    ∙ ap (λ y. take place xs ++ y ∷ []) (get_or_from_slice_get xs place x x h))
 
 -- ---- a set's number among those of its player
 
@@ -86,11 +81,9 @@ among_more t known place player s r false q = grind arith
 pub is_among : (known : List (Described SetKey InformationSet)) (place player : ℕ)
     (s : Described SetKey InformationSet)
     → slice_get known place ≡ Some s → s.key.player ≡ player → IsAmong known place player s
-is_among [] zero player s h e = absurd cc
-is_among [] (suc place) player s h e = absurd cc
-is_among (t ∷ known) zero player s h e = grind arith
 is_among (t ∷ known) (suc place) player s h e = among_more t known place player s
     (is_among known place player s h e) (t.key.player == player) refl
+is_among known place player s h e = grind arith
 
 -- ---- the numbers of sets, one after another
 
@@ -176,12 +169,6 @@ module _ (g : Game) (game : IsGame g) (lists : List (List ℕ)) (outcomes : List
   abbrev by_list : Renumbering
   by_list = listed_numbers g lists outcomes
 
-  abbrev image : Described SetKey InformationSet → Described SetKey InformationSet
-  image s = record {
-    key = set_of s.key.player (by_list.set s.key.player s.key.number);
-    description = s.description;
-  }
-
   distinct_sets : AreDistinct (map (λ s. s.key) (renumbered by_list g).sets)
   distinct_sets =
       let h =
@@ -190,8 +177,9 @@ module _ (g : Game) (game : IsGame g) (lists : List (List ℕ)) (outcomes : List
       (first_uses_distinct same_set same_set_equality (used_sets (renumbered by_list g).tree))
 
   image_there : (place : ℕ) (s : Described SetKey InformationSet) → slice_get g.sets place ≡ Some s
-      → slice_get (renumbered by_list g).sets place ≡ Some (image s)
-  image_there place s h = slice_get-map image g.sets place ∙ ap (option_map image) h
+      → slice_get (renumbered by_list g).sets place ≡ Some (set_image by_list s)
+  image_there place s h = slice_get-map (set_image by_list) g.sets place
+      ∙ ap (option_map (set_image by_list)) h
 
   pub set_absent : (from now : List (Described SetKey InformationSet)) (place number : ℕ)
       → from ≡ g.sets → now ≡ take place (renumbered by_list g).sets → place < length g.sets
@@ -202,7 +190,7 @@ module _ (g : Game) (game : IsGame g) (lists : List (List ℕ)) (outcomes : List
       let t = something_there g.sets place h in
       let is : number ≡ by_list.set t.0.key.player t.0.key.number = rw t.1 at m in
       rw (e, t.1, f, is) (next_absent same_set same_set_equality (renumbered by_list g).sets place
-      (image t.0) distinct_sets (image_there place t.0 t.1))
+      (set_image by_list t.0) distinct_sets (image_there place t.0 t.1))
 
   pub set_added : (from now new : List (Described SetKey InformationSet)) (place number : ℕ)
       → from ≡ g.sets → now ≡ take place (renumbered by_list g).sets
@@ -219,65 +207,57 @@ module _ (g : Game) (game : IsGame g) (lists : List (List ℕ)) (outcomes : List
       λ n. record { key = set_of t.0.key.player n; description = t.0.description } in
       let one : new ≡ now ++ entry number ∷ [] = rw (e, t.1) at added in
       let there = image_there place t.0 t.1 in
-      let more = taken (renumbered by_list g).sets place (image t.0) there in (
+      let more = taken (renumbered by_list g).sets place (set_image by_list t.0) there in (
         one ∙ (λ i. f i ++ entry (is i) ∷ []) ∙ sym more,
         rw one (all_more (λ s. s.key.number < 2 ^ 32) now (entry number) all small),
       )
 
--- ---- the numbers of outcomes, one after another
-
-module _ (g : Game) (game : IsGame g) (lists : List (List ℕ)) (outcomes : List ℕ)
-    (listed : AreListed g lists outcomes) where
-  abbrev outcomes_by_list : Renumbering
-  outcomes_by_list = listed_numbers g lists outcomes
-
-  abbrev outcome_image : Described ℕ Outcome → Described ℕ Outcome
-  outcome_image o = record { key = outcomes_by_list.outcome o.key; description = o.description }
+  -- ---- the numbers of outcomes, one after another
 
   distinct_keys : AreDistinct (outcome_numbers g)
   distinct_keys = subst AreDistinct (sym game.one_entry_each_outcome)
       (first_uses_distinct nat_eq Decides-eqb (used_outcomes g.tree))
 
-  distinct_outcomes : AreDistinct (map (λ o. o.key) (renumbered outcomes_by_list g).outcomes)
+  distinct_outcomes : AreDistinct (map (λ o. o.key) (renumbered by_list g).outcomes)
   distinct_outcomes =
-      let h = renumbered_is_game g outcomes_by_list game
+      let h = renumbered_is_game g by_list game
       (listed_is_renumbering g game lists outcomes listed) in
       subst AreDistinct (sym h.one_entry_each_outcome)
-      (first_uses_distinct nat_eq Decides-eqb (used_outcomes (renumbered outcomes_by_list g).tree))
+      (first_uses_distinct nat_eq Decides-eqb (used_outcomes (renumbered by_list g).tree))
 
   outcome_there : (place : ℕ) (o : Described ℕ Outcome) → slice_get g.outcomes place ≡ Some o
-      → slice_get (renumbered outcomes_by_list g).outcomes place ≡ Some (outcome_image o)
-  outcome_there place o h = cc (slice_get-map outcome_image g.outcomes place)
+      → slice_get (renumbered by_list g).outcomes place ≡ Some (outcome_image by_list o)
+  outcome_there place o h = cc (slice_get-map (outcome_image by_list) g.outcomes place)
 
   listed_outcome : (place number : ℕ) (o : Described ℕ Outcome)
       → slice_get g.outcomes place ≡ Some o → slice_get outcomes place ≡ Some number
-      → number ≡ outcomes_by_list.outcome o.key
+      → number ≡ by_list.outcome o.key
   listed_outcome place number o h e =
       grind (arith, slice_get-map, same_Some, number_there, distinct_keys)
 
   pub outcome_absent : (now : List (Described ℕ Outcome)) (place number : ℕ)
-      → now ≡ take place (renumbered outcomes_by_list g).outcomes
+      → now ≡ take place (renumbered by_list g).outcomes
       → place < length g.outcomes → slice_get outcomes place ≡ Some number
       → position (nat_eq number) (map (λ t. t.key) now) ≡ None
   outcome_absent now place number f h m =
       let t = something_there g.outcomes place h in
       let is = listed_outcome place number t.0 t.1 m in
-      rw (f, is) (next_absent nat_eq Decides-eqb (renumbered outcomes_by_list g).outcomes place
-      (outcome_image t.0) distinct_outcomes (outcome_there place t.0 t.1))
+      rw (f, is) (next_absent nat_eq Decides-eqb (renumbered by_list g).outcomes place
+      (outcome_image by_list t.0) distinct_outcomes (outcome_there place t.0 t.1))
 
   pub outcome_added : (from now new : List (Described ℕ Outcome)) (place number : ℕ)
-      → from ≡ g.outcomes → now ≡ take place (renumbered outcomes_by_list g).outcomes
+      → from ≡ g.outcomes → now ≡ take place (renumbered by_list g).outcomes
       → place < length g.outcomes → number < 2 ^ 32 → slice_get outcomes place ≡ Some number
       → AllByRecursion (λ o. o.key < 2 ^ 32) now → MatchOption (slice_get from place) ⊤
       (λ o. new ≡ now ++ record { key = number; description = o.description } ∷ [])
-      → (new ≡ take (place + 1) (renumbered outcomes_by_list g).outcomes)
+      → (new ≡ take (place + 1) (renumbered by_list g).outcomes)
       × AllByRecursion (λ o. o.key < 2 ^ 32) new
   outcome_added from now new place number e f h small m all added =
       let t = something_there g.outcomes place h in
       let is = listed_outcome place number t.0 t.1 m in
       let one : new ≡ now ++ record { key = number; description = t.0.description } ∷ [] =
       rw (e, t.1) at added in
-      let more = taken (renumbered outcomes_by_list g).outcomes place (outcome_image t.0)
+      let more = taken (renumbered by_list g).outcomes place (outcome_image by_list t.0)
       (outcome_there place t.0 t.1) in (
         one ∙ (λ i. f i ++ record { key = is i; description = t.0.description } ∷ []) ∙ sym more,
         rw one (all_more (λ (o : Described ℕ Outcome). o.key < 2 ^ 32) now _ all small),

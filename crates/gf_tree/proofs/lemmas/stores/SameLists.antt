@@ -1,32 +1,23 @@
 -- Lists whose items are tested one by one for what they stand for.
-use Rattle.gf_tree.proofs.Common.{◌≡◌, ℕ, zero, suc, ◌+◌, ◌<◌, ◌≤◌, List, [], ◌∷◌, length, map}
+use Rattle.gf_tree.proofs.Common.{◌≡◌, ℕ, suc, ◌+◌, ◌<◌, ◌≤◌, List, ◌∷◌, length, map}
 use Rattle.gf_tree.proofs.Common.{take, get_or, sym, ap, ◌∙◌, arith, length-map, take_all}
+use Rattle.gf_tree.proofs.lemmas.games.Members.{beside}
 
 module _ {A B : Type 0} (f : A → B) where
-  -- the items at one place stand for the same
-  there : (xs ys : List A) (k : ℕ) (x y : A) → k < length xs → map f xs ≡ map f ys
-      → f (get_or xs k x) ≡ f (get_or ys k y)
-  there [] ys k x y h e = absurd (omega (arith, h))
-  there (a ∷ xs) [] k x y h e = absurd cc
-  there (a ∷ xs) (b ∷ ys) zero x y h e = cc
-  there (a ∷ xs) (b ∷ ys) (suc k) x y h e =
-      let others : map f xs ≡ map f ys = cc in there xs ys k x y (omega (arith, h)) others
-
   pub same_there : (xs ys : List A) (k : ℕ) (x y : A) → k < length xs
       → x ≡ get_or xs k x → y ≡ get_or ys k y → map f xs ≡ map f ys → f x ≡ f y
-  same_there xs ys k x y h at_x at_y e = ap f at_x ∙ there xs ys k x y h e ∙ ap f (sym at_y)
+  same_there xs ys k x y h at_x at_y e =
+      ap f at_x ∙ beside f f xs ys k x y e h ∙ ap f (sym at_y)
 
   one_further : (xs ys : List A) (k : ℕ) (x y : A) → k < length xs → length xs ≡ length ys
       → f (get_or xs k x) ≡ f (get_or ys k y) → take k (map f xs) ≡ take k (map f ys)
       → take (suc k) (map f xs) ≡ take (suc k) (map f ys)
-  one_further [] ys k x y h n e s = absurd (omega (arith, h))
-  one_further (a ∷ xs) [] k x y h n e s = absurd (omega (arith, n))
-  one_further (a ∷ xs) (b ∷ ys) zero x y h n e s = ap (λ (z : B). z ∷ []) e
   one_further (a ∷ xs) (b ∷ ys) (suc k) x y h n e s =
       let first : f a ≡ f b = cc in
       let rest : take k (map f xs) ≡ take k (map f ys) = cc in
       let others = one_further xs ys k x y (omega (arith, h)) (omega (arith, n)) e rest in
       λ i. first i ∷ others i
+  one_further xs ys k x y h n e s = grind arith
 
   -- one more place
   pub same_more : (xs ys : List A) (k : ℕ) (x y : A) → k < length xs → length xs ≡ length ys

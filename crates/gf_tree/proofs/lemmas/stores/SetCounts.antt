@@ -1,5 +1,5 @@
 -- How many actions each set has, as it is kept separately.
-use Rattle.gf_tree.proofs.Common.{◌≡◌, ℕ, zero, suc, ◌<◌, ◌≤◌, List, [], ◌∷◌, ◌++◌, length, map}
+use Rattle.gf_tree.proofs.Common.{◌≡◌, ℕ, suc, ◌<◌, ◌≤◌, List, [], ◌∷◌, ◌++◌, length, map}
 use Rattle.gf_tree.proofs.Common.{Some, sym, ap, ◌∙◌, arith, AllByRecursion, length-map, map-append}
 use Rattle.gf_tree.proofs.Common.{actions_of, KnownSets, described, stored_sets, get_or, option_map}
 use Rattle.gf_tree.proofs.Common.{slice_get, slice_range, length-drop, length-take-le, AreStretches}
@@ -20,9 +20,8 @@ module _ (actions : List Held) (from : ℕ) (within : from ≤ length actions) w
       → n ≡ get_or (counts_of entries) place n → place < length entries
       → option_map (λ s. length s.description.actions)
       (slice_get (map (described actions) entries) place) ≡ Some n
-  counted [] place n all is there = absurd (omega (arith, there))
-  counted (e ∷ es) zero n all is there = ap (λ (k : ℕ). Some k) (as_many e all.0.0 all.0.1 ∙ sym is)
   counted (e ∷ es) (suc place) n all is there = counted es place n all.1 is (omega (arith, there))
+  counted entries place n all is there = grind (arith, as_many)
 
 pub is_counted : (entries : List StoredSet) (actions : List Held) (from : ℕ) (counts : List ℕ)
     (place n : ℕ) (whole : KnownSets) → AreStretches (λ e. e.start) end_of entries actions from

@@ -76,11 +76,10 @@ begins (branch n ts) ss = record {
 
 pub begin_first : {N : Type 0} (n : ℕ) (ts : Trees N) (ss : List (Tree N)) → n ≤ count ts
     → Begin n (sizes (subtrees_all ts ++ ss))
-begin_first zero ts ss h = tt
-begin_first (suc n) none ss h = absurd (omega (arith, h))
 begin_first (suc n) (more t ts) ss h =
     rw (append_assoc (subtrees t) (subtrees_all ts) ss)
     ((begins t (subtrees_all ts ++ ss)).one_more n (begin_first n ts ss (omega (arith, h))))
+begin_first n ts ss h = grind arith
 
 pub skipped_all : {N : Type 0} (ts : Trees N) (ss : List (Tree N))
     → skipped (count ts) (sizes (subtrees_all ts ++ ss)) ≡ length (flatten_all ts)

@@ -1,5 +1,5 @@
 use Rattle.gf_nfg.proofs.Common.{Outcomes, Payoffs, [], refl, answer}
-use Rattle.gf_nfg.specs.inner.Position.Position.{Format}
+use Rattle.gf_nfg.specs.Position.Position.{Format}
 use Rattle.gf_nfg.proofs.reader.Reader.tell.Goals as goal
 
 pub returns-in-Payoffs : goal.returns-in-Payoffs

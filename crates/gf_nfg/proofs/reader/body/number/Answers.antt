@@ -4,8 +4,8 @@ use Rattle.gf_nfg.proofs.lemmas.places.Judged.{lacks_memory}
 use Rattle.gf_nfg.proofs.reader.body.number.Goals as goal
 
 pub returns-in_default-number-clause-told : goal.returns-in_default-number-clause-told
-returns-in_default-number-clause-told g c = λ b due version some h.
+returns-in_default-number-clause-told g c = λ b n due counted version some h.
     lacks_memory c.in-Some.ensures.place c.at-in_default-number.ensures
-    (at (OutcomeNumbers c.args.outcomes (due - 1))
+    (at (OutcomeNumbers n (due - 1))
     (content_told (told_of b h.payoffs (h.numbers ++ c.in-Some-index.number ∷ []))))
     (h.goes ∙ search rules)

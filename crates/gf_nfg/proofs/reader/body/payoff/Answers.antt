@@ -1,5 +1,5 @@
-use Rattle.gf_nfg.proofs.Common.{rules, ◌-◌, ◌++◌, [], ◌∷◌, ◌∙◌, at, AfterBracedPayoff, FlatPayoffs}
-use Rattle.gf_nfg.proofs.Common.{content_told, told_of}
+use Rattle.gf_nfg.proofs.Common.{rules, ◌-◌, ◌++◌, [], ◌∷◌, ◌∙◌, at, BracedPayoff, FlatPayoffs}
+use Rattle.gf_nfg.proofs.Common.{content_told, told_of, true}
 use Rattle.gf_nfg.proofs.lemmas.places.Judged.{lacks_memory}
 use Rattle.gf_nfg.proofs.reader.body.payoff.Goals as goal
 
@@ -11,6 +11,6 @@ returns-in_default-payoff-clause-flat g c = λ b due some h.
 
 pub returns-in_default-payoff-clause-braced : goal.returns-in_default-payoff-clause-braced
 returns-in_default-payoff-clause-braced g c = λ b outcomes due some h.
-    lacks_memory c.in-Some.ensures.place c.at.ensures (at (AfterBracedPayoff outcomes (due - 1))
+    lacks_memory c.in-Some.ensures.place c.at.ensures (at (BracedPayoff true outcomes (due - 1))
     (content_told (told_of b (h.payoffs ++ c.in-Ok.payoff ∷ []) h.numbers)))
     (h.goes ∙ search rules)

@@ -8,5 +8,5 @@ skip-requires-clause-trees c =
     let tree : IsTreeOf c.self.inside.parts.sets.known c.self.inside.parts.outcomes.known
     c.self.inside.nodes.items c.args.self.now.tree =
     record { are = c.self.invariant.nodes_are; is = ap (λ (g : Game). g.tree) c.self.view_is } in
-    rw (c.deref.ensures.value, sizes_beside _ _ _ _ tree)
+    rw (c.deref.ensures.value, sizes_beside tree)
     (begin_here c.args.self.now.tree c.args.at c.requires)

@@ -1,5 +1,5 @@
 use Rattle.gf_tree.proofs.Common.{◌≡◌, ◌-◌, ◌∙◌, ℕ, suc, ap, arith, rules, label_of, outcome_with}
-use Rattle.gf_tree.proofs.Common.{NewPayoff, answer, begun_with}
+use Rattle.gf_tree.proofs.Common.{NewPayoff, answer, begun_with, false}
 use Rattle.gf_tree.proofs.lemmas.reader.Steps.{carried, fails_back}
 use Rattle.gf_tree.proofs.reader.Reader.new_outcome.Goals as goal
 
@@ -10,7 +10,7 @@ returns-in_err-payoff g c =
     fails_back {r = c.from_residual.result} _ (search rules)
     (carried (c.in_err-payoff.ensures.machine _ _ _ (c.loop-left.left - 1))
     (c.loop-left.invariant.goes
-    ∙ ap (λ (n : ℕ). answer (NewPayoff (begun_with c.args.self.now.sets.known
+    ∙ ap (λ (n : ℕ). answer (NewPayoff false (begun_with c.args.self.now.sets.known
     (label_of c.args.node) c.args.set) c.args.number
     (outcome_with (label_of c.in-Some.name.label) c.loop-left.self.outcomes.pending) n)
     c.loop-left.self) more))

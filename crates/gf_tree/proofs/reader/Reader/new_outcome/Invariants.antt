@@ -1,5 +1,5 @@
 use Rattle.gf_tree.proofs.Common.{◌≡◌, label_of, outcome_with, NewOutcomeName, NewPayoff, answer}
-use Rattle.gf_tree.proofs.Common.{begun_with}
+use Rattle.gf_tree.proofs.Common.{begun_with, false}
 use Rattle.gf_tree.specs.inner.ReaderState.{ReadsPayoff}
 use Rattle.gf_tree.proofs.reader.Reader.new_outcome.Given as goal
 
@@ -8,7 +8,7 @@ invariant-loop-left g l = record {
   goes : answer (NewOutcomeName
       (begun_with l.fn.self.sets.known (label_of l.node) l.set) l.number)
       l.fn.self
-      ≡ answer (NewPayoff (begun_with l.fn.self.sets.known (label_of l.node) l.set)
+      ≡ answer (NewPayoff false (begun_with l.fn.self.sets.known (label_of l.node) l.set)
       l.number (outcome_with (label_of l.name.label) l.self.outcomes.pending) l.left)
       l.self;
   read : ReadsPayoff l.fn.self l.self;

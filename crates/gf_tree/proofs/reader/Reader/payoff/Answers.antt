@@ -1,10 +1,10 @@
-use Rattle.gf_tree.proofs.Common.{◌++◌, [], ◌∷◌, rules, outcome_with, AfterNewPayoff, content_of}
+use Rattle.gf_tree.proofs.Common.{◌++◌, [], ◌∷◌, rules, outcome_with, NewPayoff, true, content_of}
 use Rattle.gf_tree.proofs.lemmas.reader.Steps.{lacks_memory}
 use Rattle.gf_tree.proofs.reader.Reader.payoff.Goals as goal
 
 pub returns-in_default-push-clause-machine : goal.returns-in_default-push-clause-machine
 returns-in_default-push-clause-machine c = λ b number name left.
     lacks_memory c.in-Some.ensures.place c.at.ensures
-    (AfterNewPayoff b number
+    (NewPayoff true b number
     (outcome_with name (c.args.self.now.outcomes.pending ++ c.in-Ok.payoff ∷ [])) left)
     (content_of c.args.self.now) (search rules)

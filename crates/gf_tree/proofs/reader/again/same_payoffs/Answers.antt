@@ -1,4 +1,4 @@
-use Rattle.gf_tree.proofs.Common.{◌∙◌, ◌+◌, ◌∷◌, ap, sym, drop, rules, at_drop_more, Ratio}
+use Rattle.gf_tree.proofs.Common.{◌∙◌, ◌+◌, ◌∷◌, ap, sym, drop, false, rules, at_drop_more, Ratio}
 use Rattle.gf_tree.proofs.Common.{KnownPayoff, heard}
 use Rattle.gf_tree.proofs.lemmas.reader.Steps.{carried, goes_back}
 use Rattle.gf_tree.proofs.reader.again.same_payoffs.Goals as goal
@@ -9,7 +9,7 @@ returns-in_err-same_payoff-clause-machine c = λ content.
     let others = drop (i + 1) c.args.payoffs.now in
     goes_back _ (search rules) (carried (c.in_err-same_payoff.ensures.machine content others)
     (c.loop-payoff.invariant.goes content
-    ∙ at_drop_more (λ payoffs. heard (KnownPayoff payoffs) content c.loop-payoff.tokens)
+    ∙ at_drop_more (λ payoffs. heard (KnownPayoff false payoffs) content c.loop-payoff.tokens)
     c.args.payoffs.now i c.payoff-item.result c.loop-payoff-test.true
-    ∙ ap (λ (p : Ratio). heard (KnownPayoff (p ∷ others)) content c.loop-payoff.tokens)
+    ∙ ap (λ (p : Ratio). heard (KnownPayoff false (p ∷ others)) content c.loop-payoff.tokens)
     (sym c.payoff-item.is)))

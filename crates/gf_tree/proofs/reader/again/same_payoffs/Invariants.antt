@@ -1,10 +1,10 @@
-use Rattle.gf_tree.proofs.Common.{◌≡◌, ◌≤◌, length, drop, Content, heard, KnownOutcomeOpening}
+use Rattle.gf_tree.proofs.Common.{◌≡◌, ◌≤◌, length, drop, false, Content, heard, KnownOutcomeOpening}
 use Rattle.gf_tree.proofs.Common.{KnownPayoff}
 use Rattle.gf_tree.proofs.reader.again.same_payoffs.Given as goal
 
 abbrev pub invariant-loop-payoff : goal.invariant-loop-payoff
 invariant-loop-payoff l = record {
   goes : (c : Content) → heard (KnownOutcomeOpening l.payoffs) c l.fn.tokens
-      ≡ heard (KnownPayoff (drop l.payoff-index l.payoffs)) c l.tokens;
+      ≡ heard (KnownPayoff false (drop l.payoff-index l.payoffs)) c l.tokens;
   shorter : length l.tokens.ahead ≤ length l.fn.tokens.ahead;
 }

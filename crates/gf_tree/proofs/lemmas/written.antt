@@ -1,3 +1,0 @@
-pub mod Games
-pub mod Nodes
-pub mod Tokens
