@@ -174,7 +174,7 @@ def judge_threads():
     """Gives what is wrong if many threads are hardly faster than one. What a busy machine leaves for them is
     seen by what the standard library gains, which does not hold the lock either."""
     if len(os.sched_getaffinity(0)) < PROCESSORS:
-        print(f"python: fewer than {PROCESSORS} processors, so the gain of threads is not tested")
+        print(f"NOT RUN python, what threads gain: there are fewer than {PROCESSORS} processors")
         return []
     games = [large_tree()] * 16
     possible = gain(hashlib.sha256, games)

@@ -51,29 +51,22 @@ check_page() {
     fi
 }
 
-# Each file that a document links to is there.
-check_links() {
-    local document target
-    for document in "$root"/*.md "$root"/docs/*.md "$root"/examples/*.md; do
-        while read -r target; do
-            if [[ -n $target && ! -e ${document%/*}/$target ]]; then
-                fail "${document#"$root"/}: there is no $target"
-            else
-                passed=$((passed + 1))
-            fi
-        done < <(grep -o '](\([^)#:]*\)[^):]*)' "$document" | sed 's/^](//; s/[#)].*//' | sort -u)
-    done
-}
-
-# The commands that documents show write what stands there.
-check_documents() {
+# Counts what another script passes and fails, which its last line says.
+check_by() { # SCRIPT WORD..
     local summary
-    summary=$("$root/tests/transcripts" README.md examples/README.md docs/COLLECTIONS.md CONTRIBUTING.md)
-    printf '%s\n' "$summary" | grep -v '^transcripts: '
-    if [[ $summary =~ transcripts:\ ([0-9]+)\ passed,\ ([0-9]+)\ failed$ ]]; then
+    summary=$("$root/tests/$1" "${@:2}")
+    printf '%s\n' "$summary" | grep -v "^$1: "
+    if [[ $summary =~ $1:\ ([0-9]+)\ passed,\ ([0-9]+)\ failed$ ]]; then
         passed=$((passed + BASH_REMATCH[1]))
         failed=$((failed + BASH_REMATCH[2]))
     else
-        fail "tests/transcripts: it has no last line"
+        fail "tests/$1: it has no last line"
     fi
+}
+
+# The files and headings that documents link to are there, and the commands that documents show write
+# what stands there.
+check_documents() {
+    check_by links
+    check_by transcripts README.md examples/README.md docs/COLLECTIONS.md CONTRIBUTING.md
 }
