@@ -196,6 +196,29 @@ check_progress() {
     printf '%s\n' "$scratch/late.efg" "$scratch/five.efg" >"$scratch/lines"
     printf '%s1 of 3 files%s%s: E4 at 26..29\n%s' "$erase" "$erase" "$scratch/refused.nfg" "$erase" >"$scratch/expected"
     judge "progress of duplicates" "$scratch/lines" "$scratch/expected" 2
+    run_at_terminal piped duplicates --quiet "${files[@]}"
+    echo "$scratch/refused.nfg: E4 at 26..29" >"$scratch/expected"
+    judge "progress of duplicates with --quiet" "$scratch/lines" "$scratch/expected" 2
+}
+
+# What is erased takes no byte from a line beside it, however long the line is.
+check_lines_at_terminal() {
+    local names=(late.efg) name length hash
+    for length in {1..80}; do
+        printf -v name '%*s' "$length" ''
+        names+=("${name// /n}")
+        cp "$scratch/five.efg" "$scratch/${names[-1]}"
+    done
+    pushd "$scratch" >/dev/null || return
+    run_at_terminal there hash "${names[@]}"
+    popd >/dev/null || return
+    hash=$(hash_of "$scratch/five.efg" "")
+    for name in "${names[@]}"; do
+        printf '%s%s\n' "$hash" "$name"
+    done >"$scratch/lines"
+    sed -E $'s/\r\e\\[K([0-9]+ of [0-9]+ files)?//g' "$scratch/err" >"$scratch/told"
+    mv "$scratch/told" "$scratch/err"
+    judge "lines of each length at a terminal" "$nothing" "$scratch/lines" 0
 }
 
 # Groups of two or more files, in order of their first files, whatever else is refused or missing.

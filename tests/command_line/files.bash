@@ -123,3 +123,45 @@ check_large() {
         judge "a text in pieces, of a table with $counts strategies" "$text" "$nothing" 0
     done
 }
+
+# Each file is opened once, A and then B, and both before either is read. The files are pipes: who
+# writes one waits until it is opened, so another order, or opening one again, takes too long.
+check_openings() {
+    local a=$scratch/a.pipe b=$scratch/b.pipe options
+    mkfifo "$a" "$b"
+    for options in "" --map --explain; do
+        {
+            exec 3>"$a" 4>"$b"
+            cat "$scratch/five.efg" >&4
+            exec 4>&-
+            cat "$scratch/five.efg" >&3
+            exec 3>&-
+        } &
+        # (no option is no word)
+        # shellcheck disable=SC2086
+        run same $options "$a" "$b"
+        printf 'same\n' >"$scratch/lines"
+        [[ $options != --map ]] || "$program" same --map "$scratch/five.efg" "$scratch/five.efg" >"$scratch/lines"
+        judge "same ${options:-without options}: both files are opened before either is read" \
+            "$scratch/lines" "$nothing" 0
+        kill $! 2>/dev/null
+        wait
+    done
+    for options in canon check table; do
+        cat "$scratch/refused.nfg" >"$a" &
+        run "$options" "$a"
+        judge_refusal "$options: the file is opened once" "E4 at 26..29" 2
+        kill $! 2>/dev/null
+        wait
+        cat "$scratch/refused.nfg" >"$a" &
+        run "$options" --explain "$a"
+        cp "$scratch/err" "$scratch/told"
+        run "$options" --explain "$scratch/refused.nfg"
+        sed "s|^$scratch/refused.nfg|$a|" "$scratch/err" >"$scratch/expected"
+        cp "$scratch/told" "$scratch/err"
+        judge "$options --explain: the file is opened once" "$nothing" "$scratch/expected" 2
+        kill $! 2>/dev/null
+        wait
+    done
+    rm "$a" "$b"
+}

@@ -1,8 +1,7 @@
 //! The arguments that the program was started with.
 
-use crate::command_line::parse;
-use gf_run::{ArgumentsFault, Asked};
-use std::alloc::Global;
+use gf_words::{Request, WordsFault, parse_request};
+use std::alloc::{AllocError, Global};
 use std::env;
 use std::env::FillError;
 use std::io::ErrorKind;
@@ -34,22 +33,31 @@ impl<R: Env> Env for AfterName<'_, R> {
 }
 
 /// Why there are no arguments. Those that are not UTF-8 are wrong usage.
-fn no_arguments(alloc: Global, kind: ErrorKind) -> ArgumentsFault {
+fn no_arguments(alloc: Global, kind: ErrorKind) -> WordsFault {
     match (kind, String::from_str(alloc, NOT_UTF8)) {
-        (ErrorKind::InvalidData, Ok(text)) => ArgumentsFault::Usage(text),
-        _ => ArgumentsFault::Memory,
+        (ErrorKind::InvalidData, Ok(text)) => WordsFault::Usage(text),
+        _ => WordsFault::Memory,
     }
 }
 
-fn arguments_given<R: Env>(rt: &R, alloc: Global) -> Result<Vec<String>, ArgumentsFault> {
+fn arguments_given<R: Env>(rt: &R, alloc: Global) -> Result<Vec<String>, WordsFault> {
     match env::args(&(AfterName { rt }, alloc)) {
         Ok(arguments) => Ok(arguments.collect(alloc)?),
         Err(error) => Err(no_arguments(alloc, error.kind())),
     }
 }
 
+fn words_of<'a>(alloc: Global, arguments: &'a [String]) -> Result<Vec<&'a str>, AllocError> {
+    let mut words = Vec::new(alloc);
+    for argument in arguments {
+        words.push(argument.as_str())?;
+    }
+    Ok(words)
+}
+
 /// What the program was started for.
-pub fn job_asked<R: Env + AllocGlobal>(rt: &R) -> Result<Asked, ArgumentsFault> {
+pub fn request_given<R: Env + AllocGlobal>(rt: &R) -> Result<Request, WordsFault> {
     let arguments = arguments_given(rt, rt.alloc())?;
-    parse(rt.alloc(), arguments.as_slice())
+    let words = words_of(rt.alloc(), arguments.as_slice())?;
+    parse_request(rt.alloc(), words.as_slice())
 }

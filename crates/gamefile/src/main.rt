@@ -2,63 +2,50 @@
 //! holds, writes a tree as a table, and says whether two files mean the same.
 #![tactic(auto)]
 
-use arguments::job_asked;
-use gf_run::{
-    Asked, Collection, Counted, Erasing, Shown, answer, perform, perform_explained, run_collection,
-};
-use std::io::{IsTerminal, Stderr, Stdout};
+use arguments::request_given;
+use gf_run::{Counted, Erasing, HostInputs, Shown, answer, perform};
+use gf_words::{Collection, Job, Request};
+use std::io::IsTerminal;
 use std::process::ExitCode;
 
 mod arguments;
-mod command_line;
-mod commands;
-mod help;
 
 /// Whether standard error is a terminal on which it is shown how many files are done.
-fn is_told(rt: &HostRuntime, files: &Collection) -> bool {
-    !files.quiet && rt.stderr().is_terminal()
-}
-
-/// Standard output. If how many files are done is shown there, that is erased before a line.
-fn erasing_output(rt: &HostRuntime, shows: bool) -> Counted<Erasing<Stdout>> {
-    let stdout = rt.stdout();
-    let erases = shows && stdout.is_terminal();
-    Counted::new(Erasing::new(stdout, erases))
-}
-
-/// Says which files are the same game, or writes the hash of each.
-fn run_over(rt: &HostRuntime, files: &Collection) -> u8 {
-    let shows = is_told(rt, files);
-    let mut progress = Shown::new(rt, rt.stderr(), shows);
-    let mut output = erasing_output(rt, shows);
-    let mut errors = Counted::new(Erasing::new(rt.stderr(), shows));
-    run_collection(rt, files, &mut progress, &mut output, &mut errors)
-}
-
-/// Does what is asked, and returns the exit status.
-fn run_asked(
-    rt: &HostRuntime,
-    asked: Asked,
-    output: &mut Counted<Stdout>,
-    errors: &mut Counted<Stderr>,
-) -> u8 {
-    match asked {
-        Asked::Job { job, explain } => {
-            if explain {
-                perform_explained(rt.alloc(), rt, &job, output, errors)
-            } else {
-                perform(rt.alloc(), rt, &job, output, errors)
-            }
+fn shows_progress(rt: &HostRuntime, job: &Job) -> bool {
+    match job {
+        Job::Hash(Collection { quiet, .. }) | Job::Duplicates(Collection { quiet, .. }) => {
+            !*quiet && rt.stderr().is_terminal()
         }
-        Asked::Files(files) => run_over(rt, &files),
+        _ => false,
     }
 }
 
+/// Does what is asked for, and returns the exit status. If how many files are done is shown, that
+/// is erased before a line is written beside it.
+fn run(rt: &HostRuntime, request: &Request) -> u8 {
+    let shows = shows_progress(rt, &request.job);
+    let erases = shows && rt.stdout().is_terminal();
+    let mut inputs = HostInputs::new(rt);
+    let mut progress = Shown::new(rt, rt.stderr(), shows);
+    let mut output = Counted::new(Erasing::new(rt.stdout(), erases));
+    let mut errors = Counted::new(Erasing::new(rt.stderr(), shows));
+    perform(
+        rt,
+        &mut inputs,
+        request,
+        &mut progress,
+        &mut output,
+        &mut errors,
+    )
+}
+
 fn main(rt: HostRuntime) -> ExitCode {
-    let mut output = Counted::new(rt.stdout());
-    let mut errors = Counted::new(rt.stderr());
-    ExitCode::from(match job_asked(&rt) {
-        Ok(asked) => run_asked(&rt, asked, &mut output, &mut errors),
-        Err(fault) => answer(&fault, &mut output, &mut errors),
+    ExitCode::from(match request_given(&rt) {
+        Ok(request) => run(&rt, &request),
+        Err(fault) => {
+            let mut output = Counted::new(rt.stdout());
+            let mut errors = Counted::new(rt.stderr());
+            answer(&fault, &mut output, &mut errors)
+        }
     })
 }

@@ -6,8 +6,8 @@ use Rattle.gf_token.specs.declared.fault.What.{What}
 use Rattle.gf_token.specs.declared.fault.What.TheVariants as what
 use Rattle.gf_token.specs.declared.fault.Why.{Why}
 use Rattle.gf_token.specs.declared.fault.Why.TheVariants as why
-use Rattle.gf_canon.specs.declared.format.Format.{Format}
-use Rattle.gf_canon.specs.declared.format.Format.TheVariants as format
+use Rattle.gf_canon.specs.declared.kind.FileKind.{FileKind}
+use Rattle.gf_canon.specs.declared.kind.FileKind.TheVariants as kind
 use Rattle.gf_canon.specs.declared.sameness.Names.{Names}
 use Rattle.gf_canon.specs.declared.sameness.Names.TheVariants as names
 use Rattle.gf_calls.specs.declared.fault.FaultNumbers.{FaultNumbers}
@@ -32,10 +32,10 @@ status_number status.TooSmall = 8
 abbrev pub Answers : ℕ → (Status → Type 0) → Type 0
 Answers result Is = (status : Status) × (result ≡ status_number status) × Is status
 
--- the number of a format; 0 is the number of none
-abbrev pub kind_number : Format → ℕ
-kind_number format.Extensive = 1
-kind_number format.Strategic = 2
+-- the number of a kind of file; 0 is the number of none
+abbrev pub kind_number : FileKind → ℕ
+kind_number kind.Tree = 1
+kind_number kind.Strategic = 2
 
 -- what was expected; 0 stands for nothing
 abbrev pub what_number : What → ℕ

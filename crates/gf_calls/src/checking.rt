@@ -6,15 +6,15 @@ ghost use Rattle.gf_calls.specs.Numbers.{kind_number};
 
 use crate::fault::{FaultNumbers, tell};
 use crate::status::Status;
-use gf_canon::{Format, check};
+use gf_canon::{FileKind, check};
 use std::alloc::Global;
 
-fn kind_number(format: Format) -> u32
-    ensures { result ≡ kind_number format }
+fn kind_number(kind: FileKind) -> u32
+    ensures { result ≡ kind_number kind }
 {
-    match format {
-        Format::Extensive => 1,
-        Format::Strategic => 2,
+    match kind {
+        FileKind::Tree => 1,
+        FileKind::Strategic => 2,
     }
 }
 
@@ -24,8 +24,8 @@ pub fn check_file(alloc: Global, input: &[u8], kind: &mut u32, fault: &mut Fault
         (record { kind = kind.new; numbers = fault.new }) result }
 {
     match check(alloc, input) {
-        Ok(format) => {
-            *kind = kind_number(format);
+        Ok(found) => {
+            *kind = kind_number(found);
             Status::Done
         }
         Err(refusal) => tell(refusal, fault),

@@ -12,8 +12,8 @@ pub use Rattle.gf_canon.specs.Judgement.{IsPlaced, IsRefused, IsRefusedWith, IsW
 pub use Rattle.gf_canon.specs.Judgement.{MeansFile}
 pub use Rattle.gf_canon.specs.NamesAside.{IsTextBy, SameAsideNames, file_by, unnamed, unnamed_game}
 pub use Rattle.gf_canon.specs.NamesAside.{unnamed_node, unnamed_outcome, unnamed_set, unnamed_table}
-pub use Rattle.gf_canon.specs.NewNumbers.{IsOnlyRenumbering, new_numbers, new_outcome_number}
-pub use Rattle.gf_canon.specs.NewNumbers.{new_set_number, number_of_set, set_order}
+pub use Rattle.gf_canon.specs.NewNumbers.{IsOnlyRenumbering, NewNumbers, new_numbers}
+pub use Rattle.gf_canon.specs.NewNumbers.{new_outcome_number, new_set_number}
 pub use Rattle.gf_canon.specs.Pairs.{outcome_pairs, renumbering_pairs, set_numbers, set_pairs}
 pub use Rattle.gf_canon.specs.SameBy.{SameBy}
 pub use Rattle.gf_canon.specs.declared.numbering.pairs.NumberPair.{NumberPair}
@@ -22,6 +22,7 @@ pub use Rattle.gf_canon.specs.declared.sameness.Names.{Names}
 pub use Rattle.gf_canon.specs.declared.sameness.Names.TheVariants.{Aside, Kept}
 pub use Rattle.gf_canon.specs.inner.NamedBy.{game_by, heading_by, name_by, node_by, outcome_by}
 pub use Rattle.gf_canon.specs.inner.NamedBy.{set_by, use_by}
+pub use Rattle.gf_canon.specs.inner.NumberMaps.{number_of_set, numbers_in, set_order}
 pub use Rattle.gf_canon.specs.inner.TextParts.{first_line, heading_text, mover_letter, node_line}
 pub use Rattle.gf_canon.specs.inner.TextParts.{number_then, plain_line, player_letter, player_then}
 pub use Rattle.gf_canon.specs.inner.TextParts.{tail_text, told_text}

@@ -1,6 +1,6 @@
 pub mod CanonicalFile
 pub mod CanonicalText
-pub mod FileFormat
+pub mod KindOfFile
 pub mod FirstDescribed
 pub mod GameFile
 pub mod GameText

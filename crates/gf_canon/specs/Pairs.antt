@@ -5,7 +5,7 @@ use Rattle.gf_nfg.specs.Profiles.{numbers_from}
 use Rattle.gf_tree.specs.KeysInOrder.{outcome_numbers, player_keys}
 use Rattle.gf_tree.specs.Game.{Game}
 use Rattle.gf_tree.specs.Renumbering.{Renumbering}
-use Rattle.gf_tree.specs.SameGame.{Carries}
+use Rattle.gf_tree.specs.SameGame.{Carries, SameGame}
 use Rattle.gf_canon.specs.GameFile.{GameFile}
 use Rattle.gf_canon.specs.GameFile.GameFile.{extensive}
 use Rattle.gf_canon.specs.declared.numbering.pairs.NumberPair.{NumberPair}
@@ -35,3 +35,8 @@ abbrev pub ArePairs : GameFile → GameFile → List NumberPair → Type 0
 ArePairs (extensive g) (extensive h) pairs =
     (r : Renumbering) → Carries r g h → pairs ≡ renumbering_pairs r g
 ArePairs _ _ pairs = pairs ≡ []
+
+-- games that are the same, so that there may be pairs to tell
+abbrev pub HavePairs : GameFile → GameFile → Type 0
+HavePairs (extensive g) (extensive h) = SameGame g h
+HavePairs _ _ = ⊥

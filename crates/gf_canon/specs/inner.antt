@@ -1,8 +1,9 @@
 -- Definitions that only proofs and private contracts use.
 pub mod ComparedTrees
-pub mod FormatWord
+pub mod KindWord
 pub mod ListedInOrder
 pub mod NamedBy
 pub mod Noted
+pub mod NumberMaps
 pub mod TextParts
 pub mod ToldFile

@@ -1,16 +1,14 @@
 //! The canonical text of a game file.
 
-ghost use Rattle.std.specs.Prelude.{◌≡◌, IfErr, IfOk, MatchResult};
+ghost use Rattle.std.specs.Prelude.{◌≡◌, [], IfErr, IfOk, MatchResult};
 ghost use Rattle.gf_token.specs.declared.fault.Why.TheVariants.{Memory};
-ghost use Rattle.gf_tree.specs.Game.{Game as game};
-ghost use Rattle.gf_tree.specs.GameOf.{SpellsGame};
 ghost use Rattle.gf_tree.specs.Judgement.{IsJudged as IsExtensiveJudged};
 ghost use Rattle.gf_canon.specs.GameFile.{GameFile, canonical_text};
 ghost use Rattle.gf_canon.specs.CanonicalText.{IsCanonicalText, SpellsWithin};
 ghost use Rattle.gf_canon.specs.Judgement.{IsJudged, IsPlaced, IsRefusedWith};
 ghost use Rattle.gf_canon.specs.NamesAside.{IsTextBy, file_by};
 
-use crate::format::{Format, format_of};
+use crate::kind::{FileKind, kind_of};
 use crate::sameness::Names;
 use crate::text::lines::Lines;
 use gf_nfg::{TextPieces, canonical_nfg};
@@ -21,9 +19,8 @@ use std::alloc::Global;
 /// The canonical text of an extensive file, written while it is read.
 fn canonical_efg(alloc: Global, input: &[u8], names: Names) -> Result<TextPieces, Fault>
     ensures text { IfOk result (λ text. IsTextBy names input.now text.rest) }
+    ensures none { IfOk result (λ text. text.piece ≡ []) }
     ensures judged { IfErr result (λ fault. IsExtensiveJudged fault.why input.now fault.span) }
-    ensures memory { IfErr result (λ fault. (g : game) → SpellsGame input.now g
-        → fault.why ≡ Memory) }
 {
     // A canonical text is seldom longer than the file.
     let mut lines = Lines::new(alloc, input.len(), names);
@@ -35,11 +32,12 @@ fn canonical_efg(alloc: Global, input: &[u8], names: Names) -> Result<TextPieces
 #[tactic(auto, using(crate::proofs::lemmas::files::Refused::refusals))]
 fn text_of(alloc: Global, input: &[u8], names: Names) -> Result<TextPieces, Fault>
     ensures text { IfOk result (λ text. IsTextBy names input.now text.rest) }
+    ensures none { IfOk result (λ text. text.piece ≡ []) }
     ensures refused { IfErr result (IsRefusedWith input.now) }
 {
-    match format_of(input)? {
-        Format::Extensive => canonical_efg(alloc, input, names),
-        Format::Strategic => canonical_nfg(alloc, input, names.are_kept()),
+    match kind_of(input)? {
+        FileKind::Tree => canonical_efg(alloc, input, names),
+        FileKind::Strategic => canonical_nfg(alloc, input, names.are_kept()),
     }
 }
 
@@ -64,6 +62,7 @@ fn text_of(alloc: Global, input: &[u8], names: Names) -> Result<TextPieces, Faul
 ///   is made, although most of it is not touched unless the text is made whole.
 pub fn canonical_text(alloc: Global, input: &[u8], names: Names) -> Result<TextPieces, Fault>
     ensures text { IfOk result (λ text. IsTextBy names input.now text.rest) }
+    ensures none { IfOk result (λ text. text.piece ≡ []) }
     ensures only { (x : GameFile) → SpellsWithin input.now x → MatchResult result
         (λ text. text.rest ≡ canonical_text (file_by names x)) (λ fault. fault.why ≡ Memory) }
     ensures judged { IfErr result (λ fault. IsJudged fault.why input.now fault.span) }

@@ -1,11 +1,11 @@
 //! Whether a file is valid, with nothing of it kept.
 
 ghost use Rattle.std.specs.Prelude.{IfErr, IfOk};
-ghost use Rattle.gf_canon.specs.FileFormat.{MeansFileOf};
+ghost use Rattle.gf_canon.specs.KindOfFile.{MeansFileOf};
 ghost use Rattle.gf_canon.specs.Judgement.{IsRefusedWith};
 ghost use Rattle.gf_canon.specs.inner.ToldFile.{IsToldFile};
 
-use crate::format::{Format, format_of};
+use crate::kind::{FileKind, kind_of};
 use gf_nfg::check_nfg;
 use gf_token::Fault;
 use gf_tree::{NumberedNode, Receive, ToldHeading, tell_efg};
@@ -32,7 +32,7 @@ impl<'a> Receive<'a> for Unkept {
     }
 }
 
-/// The format of a game file, which is read whole. A tree is told to a receiver; nothing of a table
+/// The kind of a game file, which is read whole. A tree is told to a receiver; nothing of a table
 /// is kept.
 ///
 /// Refused as by `canonical`; E19 if memory is refused for the descriptions of sets and outcomes,
@@ -42,32 +42,32 @@ pub(crate) fn tell_file<'a, R: Receive<'a>>(
     alloc: Global,
     input: &'a [u8],
     to: &mut R,
-) -> Result<Format, Fault>
+) -> Result<FileKind, Fault>
     requires untold { R.untold to.old }
     ensures told { IfOk result (IsToldFile (R.holds to.old) to.new input.entry.now) }
     ensures refused { IfErr result (IsRefusedWith input.entry.now) }
 {
-    match format_of(input)? {
-        Format::Extensive => {
+    match kind_of(input)? {
+        FileKind::Tree => {
             tell_efg(alloc, input, to)?;
-            Ok(Format::Extensive)
+            Ok(FileKind::Tree)
         }
-        Format::Strategic => {
+        FileKind::Strategic => {
             check_nfg(alloc, input)?;
-            Ok(Format::Strategic)
+            Ok(FileKind::Strategic)
         }
     }
 }
 
-/// The format of a game file, which is read whole. The nodes of a tree are not kept, and no text is
+/// The kind of a game file, which is read whole. The nodes of a tree are not kept, and no text is
 /// made.
 ///
 /// # Errors
 ///
 /// Those of `canonical`; E19 if memory is refused for the descriptions of sets and outcomes, or for
 /// the labels of a table.
-pub fn check(alloc: Global, input: &[u8]) -> Result<Format, Fault>
-    ensures format { IfOk result (MeansFileOf input.now) }
+pub fn check(alloc: Global, input: &[u8]) -> Result<FileKind, Fault>
+    ensures kind { IfOk result (MeansFileOf input.now) }
     ensures refused { IfErr result (IsRefusedWith input.now) }
 {
     tell_file(alloc, input, &mut Unkept)

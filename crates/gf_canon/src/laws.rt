@@ -45,7 +45,8 @@ ghost use Rattle.gf_canon.specs.WorkedGames.{renamed_prize, seen, two_prizes, un
 /// If two lists of bytes have canonical texts, these are equal exactly when the bytes mean the
 /// same. Two trees do if some renumbering of information sets, player by player, and of outcomes
 /// carries one to the other; two tables do if title, comment, players, strategies and the payoffs
-/// at each profile agree; a tree and a table never do. A canonical text is its own canonical text.
+/// at each profile agree; a tree and a table never do. A canonical text is its own canonical text,
+/// and means the canonical game, or the table.
 ///
 /// A refusal stands at the offending place in the language of both formats, or where the profiles
 /// of a table pass their limit, with the reason that the format gives there.
@@ -65,6 +66,8 @@ pub fn headline()
         → MeanSame a b ↔ SameFile x y }
     ensures own_text { (bytes text : List ℕ) → IsCanonicalText bytes text
         → IsCanonicalText text text }
+    ensures reads_back { (bytes : List ℕ) (x : GameFile) → SpellsWithin bytes x
+        → SpellsWithin (canonical_text x) (canonical_file x) }
     ensures placed { (bytes : List ℕ) (why : Why) (span : Span) → IsRefused why bytes span
         → IsRefusedWith bytes (record { span = span; why = why }) }
 {}

@@ -4,8 +4,8 @@
 
 mod canonise;
 mod checking;
-mod format;
 mod hash;
+mod kind;
 pub mod laws;
 mod meaning;
 mod numbering;
@@ -14,8 +14,8 @@ mod text;
 
 pub use crate::canonise::{canonical, canonical_by, canonical_text};
 pub use crate::checking::check;
-pub use crate::format::Format;
 pub use crate::hash::sha256_of;
+pub use crate::kind::FileKind;
 pub use crate::meaning::{Meaning, read_file};
 pub use crate::numbering::carry::renumbering;
 pub use crate::numbering::new_numbers::Renumbering;

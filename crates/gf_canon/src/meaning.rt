@@ -5,7 +5,7 @@ ghost use Rattle.gf_canon.specs.CanonicalText.{SpellsWithin};
 ghost use Rattle.gf_canon.specs.Judgement.{IsRefusedWith};
 ghost use Rattle.gf_canon.specs.MeaningOf.{file_of, file_of_listed};
 
-use crate::format::{Format, format_of};
+use crate::kind::{FileKind, kind_of};
 use gf_nfg::{ListedTable, Table, list_nfg, read_nfg};
 use gf_token::Fault;
 use gf_tree::{Game, ListedGame, list_efg, read_efg};
@@ -34,9 +34,9 @@ pub(crate) fn list_file<'a>(alloc: Global, input: &'a [u8]) -> Result<Listed<'a>
         (λ listed. SpellsWithin input.entry.now (file_of_listed listed)) }
     ensures refused { IfErr result (IsRefusedWith input.entry.now) }
 {
-    match format_of(input)? {
-        Format::Extensive => Ok(Listed::Tree(list_efg(alloc, input)?)),
-        Format::Strategic => Ok(Listed::Table(list_nfg(alloc, input)?)),
+    match kind_of(input)? {
+        FileKind::Tree => Ok(Listed::Tree(list_efg(alloc, input)?)),
+        FileKind::Strategic => Ok(Listed::Table(list_nfg(alloc, input)?)),
     }
 }
 
@@ -51,8 +51,8 @@ pub fn read_file<'a>(alloc: Global, input: &'a [u8]) -> Result<Meaning<'a>, Faul
     ensures spelled { IfOk result (λ meaning. SpellsWithin input.entry.now (file_of meaning)) }
     ensures refused { IfErr result (IsRefusedWith input.entry.now) }
 {
-    match format_of(input)? {
-        Format::Extensive => Ok(Meaning::Tree(read_efg(alloc, input)?)),
-        Format::Strategic => Ok(Meaning::Table(read_nfg(alloc, input)?)),
+    match kind_of(input)? {
+        FileKind::Tree => Ok(Meaning::Tree(read_efg(alloc, input)?)),
+        FileKind::Strategic => Ok(Meaning::Table(read_nfg(alloc, input)?)),
     }
 }

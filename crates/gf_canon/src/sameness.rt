@@ -13,7 +13,7 @@ ghost use Rattle.gf_canon.specs.Sameness.{AreRefusedWith, LacksMemory};
 ghost use Rattle.gf_canon.specs.inner.NamedBy.{are_kept};
 
 use crate::checking::{Unkept, check, tell_file};
-use crate::format::{Format, format_of};
+use crate::kind::{FileKind, kind_of};
 use crate::meaning::{Listed, Meaning, list_file};
 use crate::sameness::compare::same_name;
 use crate::sameness::comparison::Comparison;
@@ -101,8 +101,8 @@ fn same_as_tree(alloc: Global, g: &ListedGame<'_>, b: &[u8], names: Names) -> Re
 {
     let mut comparison = Comparison::new(g, names);
     match tell_file(alloc, b, &mut comparison) {
-        Ok(Format::Extensive) => Ok(comparison.is_same()),
-        Ok(Format::Strategic) => Ok(false),
+        Ok(FileKind::Tree) => Ok(comparison.is_same()),
+        Ok(FileKind::Strategic) => Ok(false),
         Err(fault) => Err(fault),
     }
 }
@@ -120,12 +120,12 @@ fn same_as_table(
         × IfOk compared (λ answer. IsTrue answer ↔ SameBy names (strategic t.now) y)) }
     ensures refused { IfErr result (IsRefusedWith b.now) }
 {
-    match format_of(b)? {
-        Format::Extensive => {
+    match kind_of(b)? {
+        FileKind::Tree => {
             tell_efg(alloc, b, &mut Unkept)?;
             Ok(Ok(false))
         }
-        Format::Strategic => compare_nfg(alloc, t, b, names.are_kept()),
+        FileKind::Strategic => compare_nfg(alloc, t, b, names.are_kept()),
     }
 }
 

@@ -95,7 +95,7 @@ pub use Rattle.gf_fraction.proofs.Rationals.{times_one, IsAbove, plus_above, tim
 pub use Rattle.gf_fraction.proofs.Rationals.{total_above, plus_comm}
 pub use Rattle.gf_fraction.proofs.Sums.{IsLcm-from_gcd}
 pub use Rattle.gf_fraction.proofs.WholeNumbers.{whole_fraction}
-pub use Rattle.gf_fraction.specs.Computed.{product_of, sum_of}
+pub use Rattle.gf_fraction.specs.inner.Computed.{product_of, sum_of}
 pub use Rattle.gf_fraction.specs.Sum.{scaled_num, SumFits, AddsTo, IsLcm, IsSum}
 pub use Rattle.gf_fraction.specs.Product.{MultipliesTo, IsProduct}
 pub use Rattle.gf_fraction.specs.Ratio.{Ratio, IsFraction, whole, IsWithin, HasValue}
@@ -107,7 +107,7 @@ pub use Rattle.gf_nfg.specs.Limit.{profile_limit}
 pub use Rattle.gf_nfg.specs.ProfilePlaces.{IsProfile}
 pub use Rattle.gf_nfg.specs.Profiles.{product, profiles, positions, numbers_from}
 pub use Rattle.gf_nfg.specs.Table.{Table, IsTable}
-pub use Rattle.gf_nfg.specs.TableAccess.{IsTableOf}
+pub use Rattle.gf_nfg.specs.TableOfParts.{IsTableOf}
 pub use Rattle.gf_token.specs.Label.{label_of}
 pub use Rattle.gf_token.specs.Positions.{at_position}
 pub use Rattle.gf_tree.proofs.lemmas.games.Canonical.{carried_is_renumbered}

@@ -2,7 +2,7 @@
 
 ghost use Rattle.std.specs.Prelude.{◌≡◌, ◌≤◌, ℕ, List, IfOk, IsErrOf, OnOk, length};
 ghost use Rattle.std.specs.List.{Contains};
-ghost use Rattle.gf_nfg.specs.TableAccess.{IsTableOf};
+ghost use Rattle.gf_nfg.specs.TableOfParts.{IsTableOf};
 ghost use Rattle.gf_form.specs.inner.strategies.Counted.{AreCounts};
 ghost use Rattle.gf_form.specs.inner.rows.FitsTable.{FitsTable};
 ghost use Rattle.gf_form.specs.inner.rows.ProfileRows.{AreRowsAt};

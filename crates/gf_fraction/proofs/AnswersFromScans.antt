@@ -7,8 +7,8 @@ use Rattle.gf_fraction.specs.NumberSpelling.{Reading, IsPlain, HasShape, SpellsR
 use Rattle.gf_fraction.specs.NumberSpelling.{IsNumber, IsBounded, den_of}
 use Rattle.gf_fraction.specs.NoNumber.{HasNumberFault}
 use Rattle.gf_fraction.specs.NumberSpelling.IsPlain.{whole, pointed}
-use Rattle.gf_fraction.specs.NumberScan.{is_minus, after_sign, scan}
-use Rattle.gf_fraction.specs.NumberScan.{reading_of, IsValueOf, HasReadingFault}
+use Rattle.gf_fraction.specs.inner.NumberScan.{is_minus, after_sign, scan}
+use Rattle.gf_fraction.specs.inner.NumberScan.{reading_of, IsValueOf, HasReadingFault}
 use Rattle.gf_fraction.specs.declared.read.Spelling.{Spelling}
 use Rattle.gf_fraction.specs.declared.fraction.NumberFault.{NumberFault}
 use Rattle.gf_fraction.proofs.PowersOfTen.{power_of_ten-above}

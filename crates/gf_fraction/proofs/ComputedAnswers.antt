@@ -1,15 +1,15 @@
 -- The computed answer of reading is the one that the text has.
 use Rattle.std.proofs.Common.{◌≡◌, ℕ, ℤ, pos, ◌^◌, ◌<◌, Bool, true, List, Option}
-use Rattle.std.proofs.Common.{Some, None, Result, Ok, MatchResult, arith, refl, sym, subst}
+use Rattle.std.proofs.Common.{Some, None, Result, Ok, Err, MatchResult, arith, refl, sym, subst}
 use Rattle.std.specs.Prelude.{◌≤ℤ◌}
 use Rattle.std.proofs.lemmas.Int.{ints}
 use Rattle.std.proofs.lemmas.Result.{MatchResult-weaker}
 use Rattle.gf_fraction.specs.Ratio.{Ratio}
 use Rattle.gf_fraction.specs.NumberSpelling.{power_of_ten, IsBounded, IsNumber, Reading, den_of}
-use Rattle.gf_fraction.specs.NoNumber.{Reads}
-use Rattle.gf_fraction.specs.NumberScan.{IsValueOf, HasReadingFault, scan}
-use Rattle.gf_fraction.specs.NumberScan.{after_sign, is_minus, reading_of}
-use Rattle.gf_fraction.specs.Computed.{is_bounded, value_of, answer_of, number_of}
+use Rattle.gf_fraction.specs.NoNumber.{HasNumberFault, Reads}
+use Rattle.gf_fraction.specs.inner.NumberScan.{IsValueOf, HasReadingFault, scan}
+use Rattle.gf_fraction.specs.inner.NumberScan.{after_sign, is_minus, reading_of}
+use Rattle.gf_fraction.specs.inner.Computed.{is_bounded, value_of, answer_of, number_of}
 use Rattle.gf_fraction.specs.declared.fraction.NumberFault.{NumberFault}
 use Rattle.gf_fraction.specs.declared.read.Spelling.{Spelling}
 use Rattle.gf_fraction.proofs.Integers.{unsigned_abs-signed}
@@ -57,6 +57,13 @@ answer_is text a h = one_answer text a (number_of text) h (number_is_computed te
 -- the number that a text spells is the one that is computed of it
 pub number_again : (text : List ℕ) (n : Ratio) → IsNumber text n → number_of text ≡ Ok n
 number_again text n h = sym (answer_is text (Ok n) h)
+
+-- and so is its fault
+pub number_fault : (text : List ℕ) (fault : NumberFault) → HasNumberFault text fault
+    → number_of text ≡ Err fault
+number_fault text fault h = sym (answer_is text (Err fault) h)
+
+pub ruleset number_answers = (answer_is, number_again, number_fault)
 
 pub number_is : (text : List ℕ) (n : Ratio) → number_of text ≡ Ok n → IsNumber text n
 number_is text n e = subst (Reads text) e (number_is_computed text)

@@ -10,8 +10,8 @@ use Rattle.std.proofs.Math.Nat.{mod-lt}
 use Rattle.gf_fraction.specs.Ratio.{Ratio, IsFraction, IsWithin, HasValue}
 use Rattle.gf_fraction.specs.Sum.{IsSum, SumFits}
 use Rattle.gf_fraction.specs.Product.{IsProduct, ProductFits}
-use Rattle.gf_fraction.specs.Steps.{IsLowest, PartsFit}
-use Rattle.gf_fraction.specs.Computed.{gcd_within, lowest_of, is_within, sum_of, product_of}
+use Rattle.gf_fraction.specs.inner.Steps.{IsLowest, PartsFit}
+use Rattle.gf_fraction.specs.inner.Computed.{gcd_within, lowest_of, is_within, sum_of, product_of}
 use Rattle.gf_fraction.proofs.Divisors.{HoldsCommon-self, IsLowest-div}
 use Rattle.gf_fraction.proofs.LowestTerms.{IsLowestRatio-fraction, reduced_fraction, IsLowestRatio}
 use Rattle.gf_fraction.proofs.LowestTerms.{reduced_value, one_fraction, mul_pos_left, one_lowest}

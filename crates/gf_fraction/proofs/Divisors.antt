@@ -8,7 +8,7 @@ use Rattle.std.proofs.Math.Nat.{pos_of_dvd_of_pos, div-mul_cancel, mul-dvd-mul_r
 use Rattle.std.proofs.Math.Nat.{dvd_of_mul-dvd-mul_right, one-dvd, mod-add-div'}
 use Rattle.std.proofs.Math.Nat.{add-mul-mod_self_right, mod-eq_of_lt, mul-lt-mul_of_pos_right}
 use Rattle.std.proofs.Math.Nat.{mod-lt, dvd-mod_iff, dvd-mul_right}
-use Rattle.gf_fraction.specs.Steps.{HoldsCommon, IsLowest}
+use Rattle.gf_fraction.specs.inner.Steps.{HoldsCommon, IsLowest}
 
 pub IsGcd-one_right : (n : ℕ) → IsGcd n 1 1
 IsGcd-one_right n = (one-dvd n, dvd_refl 1, λ _ _ q. q)

@@ -13,9 +13,9 @@ use Rattle.gf_fraction.specs.NumberSpelling.Reading.{decimal, rational}
 use Rattle.gf_fraction.specs.NumberSpelling.IsSign.{absent, plus, minus}
 use Rattle.gf_fraction.specs.NumberSpelling.IsPlain.{whole, pointed}
 use Rattle.gf_fraction.specs.NumberSpelling.HasShape.{plain, raised, fraction}
-use Rattle.gf_fraction.specs.NumberScan.{capped, leading, unread, leading_value, has_digits}
-use Rattle.gf_fraction.specs.NumberScan.{is_minus, after_sign, scan, scan_rest, scan_decimal}
-use Rattle.gf_fraction.specs.NumberScan.{scan_end, scan_pointed, scan_exponent, scan_fraction}
+use Rattle.gf_fraction.specs.inner.NumberScan.{capped, leading, unread, leading_value, has_digits}
+use Rattle.gf_fraction.specs.inner.NumberScan.{is_minus, after_sign, scan, scan_rest, scan_decimal}
+use Rattle.gf_fraction.specs.inner.NumberScan.{scan_end, scan_pointed, scan_exponent, scan_fraction}
 use Rattle.gf_fraction.specs.declared.read.Spelling.{Spelling}
 use Rattle.gf_fraction.specs.declared.read.Spelling.TheVariants.{Decimal, Rational}
 use Rattle.gf_fraction.proofs.LeadingDigits.{leading_after, capped-after}

@@ -5,7 +5,7 @@ use Rattle.std.specs.Char.{digit_value, is_ascii_digit}
 use Rattle.std.specs.Str.Parse.{digits_value_after}
 use Rattle.std.proofs.lemmas.Bool.Decides.{nat_tests}
 use Rattle.std.proofs.Math.Seq.{drop-cons}
-use Rattle.gf_fraction.specs.NumberScan.{capped, leading, unread, leading_value}
+use Rattle.gf_fraction.specs.inner.NumberScan.{capped, leading, unread, leading_value}
 
 -- a digit's value
 pub digit_value-ascii : (c : ℕ) → is_ascii_digit c ≡ true → digit_value c ≡ c - 48

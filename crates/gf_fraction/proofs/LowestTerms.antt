@@ -8,7 +8,7 @@ use Rattle.std.proofs.lemmas.Int.{unsigned_abs-mul}
 use Rattle.std.proofs.lemmas.Nat.Gcd.{dvd_antisymm, IsGcd-swap}
 use Rattle.std.proofs.Math.Nat.{dvd-mul_left, le-mul_of_pos_right}
 use Rattle.gf_fraction.specs.Ratio.{Ratio, IsFraction, IsWithin, HasValue, signed}
-use Rattle.gf_fraction.specs.Steps.{IsLowest}
+use Rattle.gf_fraction.specs.inner.Steps.{IsLowest}
 use Rattle.gf_fraction.proofs.Divisors.{dvd_of_dvd-mul}
 use Rattle.gf_fraction.proofs.Integers.{unsigned_abs-signed, signed-unsigned_abs, signed-*}
 use Rattle.gf_fraction.proofs.Integers.{*ℤ_right_comm, *ℤ-cancel_right}

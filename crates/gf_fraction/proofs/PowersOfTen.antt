@@ -4,10 +4,10 @@ use Rattle.std.specs.Prelude.{unsigned_abs, ◌-ℤ◌, ◌≤ℤ◌}
 use Rattle.std.proofs.lemmas.Int.{ints}
 use Rattle.std.proofs.Math.Nat.{one-le-pow, pow-le-pow_right}
 use Rattle.gf_fraction.specs.Ratio.{Ratio, IsFraction, signed}
-use Rattle.gf_fraction.specs.Steps.{IsLowest}
+use Rattle.gf_fraction.specs.inner.Steps.{IsLowest}
 use Rattle.gf_fraction.specs.NumberSpelling.{power_of_ten, scaled_digits}
 use Rattle.gf_fraction.specs.NumberSpelling.Reading.{decimal}
-use Rattle.gf_fraction.specs.NumberScan.{IsScaled, IsValueOf, HasReadingFault}
+use Rattle.gf_fraction.specs.inner.NumberScan.{IsScaled, IsValueOf, HasReadingFault}
 use Rattle.gf_fraction.specs.declared.fraction.NumberFault.{NumberFault}
 use Rattle.gf_fraction.specs.declared.fraction.NumberFault.TheVariants.{TooLarge}
 use Rattle.gf_fraction.proofs.LowestTerms.{value_from}

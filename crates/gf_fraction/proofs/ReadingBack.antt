@@ -16,7 +16,7 @@ use Rattle.gf_fraction.specs.NumberSpelling.IsSign.{absent, minus}
 use Rattle.gf_fraction.specs.NumberSpelling.IsPlain.{whole}
 use Rattle.gf_fraction.specs.NumberSpelling.HasShape.{plain, fraction}
 use Rattle.gf_fraction.specs.NumberText.{number_text}
-use Rattle.gf_fraction.specs.NumberScan.{reading_of}
+use Rattle.gf_fraction.specs.inner.NumberScan.{reading_of}
 use Rattle.gf_fraction.specs.declared.fraction.NumberFault.{NumberFault}
 use Rattle.gf_fraction.specs.declared.fraction.NumberFault.TheVariants.{NotANumber, ZeroDenominator}
 use Rattle.gf_fraction.specs.declared.fraction.NumberFault.TheVariants.{TooLarge}

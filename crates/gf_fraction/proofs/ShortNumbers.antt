@@ -1,23 +1,24 @@
 -- Short numbers: what is read of a text one part at a time spells a number.
 use Rattle.std.proofs.Common.{Bool, ◌≡◌, ℕ, pos, ◌+◌, ◌-◌, ◌*◌, ◌^◌, ◌<◌, ◌≤◌, true, List, [], ◌∷◌}
 use Rattle.std.proofs.Common.{◌++◌, length, get_or, take, drop, arith, lit<, refl, ap, sym, ◌∙◌}
-use Rattle.std.proofs.Common.{subst, append_assoc, length-append}
+use Rattle.std.proofs.Common.{subst, append_assoc, length-append, Option, Some, None}
 use Rattle.std.specs.Char.{digit_value, is_ascii_digit}
 use Rattle.std.specs.Str.Parse.{AllDigits, IsNumeral, digits_value, digits_value_after}
-use Rattle.std.specs.Prelude.{◌-ℤ◌}
+use Rattle.std.specs.Prelude.{◌-ℤ◌, MatchOption}
 use Rattle.std.proofs.lemmas.Int.{ints}
 use Rattle.std.proofs.lemmas.List.{append-nil, take_all, take_more}
 use Rattle.std.proofs.Math.Seq.{take-append_seam}
 use Rattle.gf_fraction.specs.Ratio.{Ratio, IsFraction, HasValue, signed}
-use Rattle.gf_fraction.specs.Steps.{IsLowest}
+use Rattle.gf_fraction.specs.inner.Steps.{IsLowest}
 use Rattle.gf_fraction.specs.NumberSpelling.{HasShape, IsNumber, IsSign, size_of, den_of}
 use Rattle.gf_fraction.specs.NumberSpelling.{scaled_digits, power_of_ten, IsPlain}
 use Rattle.gf_fraction.specs.NumberSpelling.Reading.{decimal, rational}
 use Rattle.gf_fraction.specs.NumberSpelling.HasShape.{plain, fraction}
-use Rattle.gf_fraction.specs.NumberScan.{AreRead, Completes, after_sign}
-use Rattle.gf_fraction.specs.ShortNumber.{EndsDigits, IsLeft, IsReadOn}
-use Rattle.gf_fraction.specs.ShortNumber.IsReadOn.{whole}
-use Rattle.gf_fraction.specs.ShortNumber.IsLeft.{no_denominator, many_places}
+use Rattle.gf_fraction.specs.inner.NumberScan.{AreRead, Completes, after_sign}
+use Rattle.gf_fraction.specs.ReadOn.{BeginsNoDigit, EndsDigits, IsLeft, IsReadOn}
+use Rattle.gf_fraction.specs.inner.ShortNumber.{IsLeftByWords, IsReadInWords, Stops}
+use Rattle.gf_fraction.specs.inner.ShortNumber.IsReadInWords.{whole}
+use Rattle.gf_fraction.specs.inner.ShortNumber.IsLeftByWords.{no_denominator, many_places}
 use Rattle.gf_fraction.proofs.Divisors.{IsGcd-one_right}
 use Rattle.gf_fraction.proofs.FoundIsSpelled.{has_sign}
 use Rattle.gf_fraction.proofs.LowestTerms.{value_from}
@@ -90,7 +91,7 @@ ratio_completes n d p q text under rest num_short den_short slash h above low = 
   more = 47 ∷ h.digits;
   reading = rational n d;
   spelled = slash ∙ ap (λ t. 47 ∷ t) h.spelled;
-  read_on = IsReadOn.rational h.digits rest h.run (subst (λ k. 0 < k) h.is above);
+  read_on = IsReadInWords.rational h.digits rest h.run (subst (λ k. 0 < k) h.is above);
   has_shape =
       λ digits numeral value. subst (λ (t : List ℕ × (ℕ × ℕ)). HasShape t.0 (rational t.1.0 t.1.1))
       (λ i. (append_assoc digits (47 ∷ []) h.digits i, (value i, sym h.is i)))
@@ -112,7 +113,7 @@ decimal_completes n v p q places text after rest short point h count few low =
       more = 46 ∷ h.digits;
       reading = decimal v places (pos 0);
       spelled = point ∙ ap (λ t. 46 ∷ t) h.spelled;
-      read_on = IsReadOn.pointed h.digits rest h.run (omega (arith, same, few));
+      read_on = IsReadInWords.pointed h.digits rest h.run (omega (arith, same, few));
       has_shape =
           λ digits numeral value.
           let all : digits_value 10 (digits ++ h.digits) ≡ v =
@@ -141,18 +142,44 @@ decimal_completes n v p q places text after rest short point h count few low =
 -- ---- what is left
 
 pub ratio_left : (n d : ℕ) (text under rest : List ℕ) → text ≡ 47 ∷ under → AreRead 0 under d rest
-    → d ≡ 0 → IsLeft n text
+    → d ≡ 0 → IsLeftByWords n text
 ratio_left n d text under rest slash h zero =
-    subst (IsLeft n) (sym (slash ∙ ap (λ t. 47 ∷ t) h.spelled))
+    subst (IsLeftByWords n) (sym (slash ∙ ap (λ t. 47 ∷ t) h.spelled))
     (no_denominator h.digits rest h.run (sym h.is ∙ zero))
 
 pub decimal_left : (n v places : ℕ) (text after rest : List ℕ) → text ≡ 46 ∷ after
-    → AreRead n after v rest → places ≡ length after - length rest → 19 < places → IsLeft n text
+    → AreRead n after v rest → places ≡ length after - length rest → 19 < places
+    → IsLeftByWords n text
 decimal_left n v places text after rest point h count many =
     let long : length after ≡ length h.digits + length rest =
     ap length h.spelled ∙ length-append h.digits rest in
-    subst (IsLeft n) (sym (point ∙ ap (λ t. 46 ∷ t) h.spelled))
+    subst (IsLeftByWords n) (sym (point ∙ ap (λ t. 46 ∷ t) h.spelled))
     (many_places h.digits rest h.run (omega (arith, long, count, many)))
+
+-- ---- how far it is read on, whatever room there is
+
+no_digit : (v : ℕ) (rest : List ℕ) → v ≡ 0 → Stops v rest → BeginsNoDigit rest
+no_digit v [] zero h = tt
+no_digit v (c ∷ cs) zero h = grind (arith, digit_from_ascii)
+
+read_on : (n : ℕ) (more rest : List ℕ) → IsReadInWords n more rest → IsReadOn more rest
+read_on n _ _ (IsReadInWords.whole rest ends) = IsReadOn.whole rest ends
+read_on n _ _ (IsReadInWords.rational den rest run above) =
+    IsReadOn.rational den rest run.all above
+read_on n _ _ (IsReadInWords.pointed after rest run few) =
+    IsReadOn.pointed after rest run.all
+
+left : (n : ℕ) (text : List ℕ) → IsLeftByWords n text → IsLeft text
+left n _ (no_denominator den rest run zero) =
+    IsLeft.no_denominator den rest run.all zero (no_digit _ rest zero run.stops)
+left n _ (many_places after rest run many) =
+    IsLeft.many_places after rest run.all (omega (arith, many))
+
+pub reads_on : (n : ℕ) (text : List ℕ) (o : Option (Ratio × ℕ))
+    → MatchOption o (IsLeftByWords n text) (λ r. IsReadInWords n (take r.1 text) (drop r.1 text))
+    → MatchOption o (IsLeft text) (λ r. IsReadOn (take r.1 text) (drop r.1 text))
+reads_on n text None h = left n text h
+reads_on n text (Some r) h = read_on n (take r.1 text) (drop r.1 text) h
 
 -- ---- the number
 

@@ -7,7 +7,7 @@ use Rattle.std.proofs.lemmas.Nat.Bits.{bit_at-trailing_zeros}
 use Rattle.std.proofs.lemmas.Nat.Gcd.{dvd_refl, dvd_trans, dvd_of_mod-eq-zero, IsGcd-from_mod}
 use Rattle.std.proofs.Math.Nat.{div-mul_cancel, dvd-mul_right, dvd-mul_left, mul-dvd-mul_right}
 use Rattle.std.proofs.Math.Nat.{dvd_of_mul-dvd-mul_right, pow-succ', pow-zero}
-use Rattle.gf_fraction.specs.Steps.{HoldsCommon, IsLowest, IsPrime, IsReduced}
+use Rattle.gf_fraction.specs.inner.Steps.{HoldsCommon, IsLowest, IsPrime, IsReduced}
 use Rattle.gf_fraction.proofs.Divisors.{IsGcd-one_right, IsLowest-same, HoldsCommon-self}
 use Rattle.gf_fraction.proofs.Divisors.{coprime_parts, dvd_of_dvd-mul}
 use Rattle.gf_fraction.proofs.OddParts.{coprime-pow, coprime_two, low_bits, odd_part}

@@ -13,8 +13,8 @@ use Rattle.gf_fraction.specs.NumberSpelling.{Reading, IsSign, IsPlain, IsExponen
 use Rattle.gf_fraction.specs.NumberSpelling.Reading.{decimal, rational}
 use Rattle.gf_fraction.specs.NumberSpelling.IsPlain.{whole, pointed}
 use Rattle.gf_fraction.specs.NumberSpelling.HasShape.{plain, raised, fraction}
-use Rattle.gf_fraction.specs.NumberScan.{capped, leading, unread, is_minus, after_sign, scan}
-use Rattle.gf_fraction.specs.NumberScan.{scan_rest, scan_decimal, scan_end, scan_exponent}
+use Rattle.gf_fraction.specs.inner.NumberScan.{capped, leading, unread, is_minus, after_sign, scan}
+use Rattle.gf_fraction.specs.inner.NumberScan.{scan_rest, scan_decimal, scan_end, scan_exponent}
 use Rattle.gf_fraction.specs.declared.read.Spelling.{Spelling}
 use Rattle.gf_fraction.specs.declared.read.Spelling.TheVariants.{Decimal, Rational}
 use Rattle.gf_fraction.proofs.LeadingDigits.{capped-after}

@@ -11,7 +11,7 @@ use Rattle.std.proofs.Math.Nat.{mul-div_cancel, dvd-mul_right, dvd-mul_left, mul
 use Rattle.std.proofs.Math.Nat.{dvd-add, dvd-add_iff_right, le-mul_of_pos_right, div_self}
 use Rattle.gf_fraction.specs.Ratio.{Ratio, IsFraction, IsWithin, HasValue}
 use Rattle.gf_fraction.specs.Sum.{IsSum, IsLcm, SumFits}
-use Rattle.gf_fraction.specs.Steps.{HoldsCommon, PartsFit}
+use Rattle.gf_fraction.specs.inner.Steps.{HoldsCommon, PartsFit}
 use Rattle.gf_fraction.proofs.Integers.{*ℤ_assoc, *ℤ_right_comm, add-*ℤ, *-cancel_right, *ℤ-one}
 use Rattle.gf_fraction.proofs.LowestTerms.{mul_pos_left}
 use Rattle.gf_fraction.proofs.Divisors.{IsGcd-div, dvd_of_dvd-mul}

@@ -1,11 +1,9 @@
-pub mod Computed
 pub mod NoNumber
-pub mod NumberScan
 pub mod NumberSpelling
 pub mod NumberText
 pub mod Product
 pub mod Ratio
 pub mod Rational
-pub mod ShortNumber
-pub mod Steps
+pub mod ReadOn
 pub mod Sum
+pub mod inner

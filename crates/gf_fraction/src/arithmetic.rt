@@ -4,7 +4,7 @@ ghost use Rattle.std.specs.Prelude.{◌≡◌, ℤ, pos, ◌+◌, ◌*◌, ◌/�
 ghost use Rattle.std.specs.Prelude.{◌≤◌, ◌+ℤ◌, ◌*ℤ◌, unsigned_abs, MatchResult};
 ghost use Rattle.std.specs.Int.{IsGcd};
 ghost use Rattle.gf_fraction.specs.Ratio.{IsWithin, signed};
-ghost use Rattle.gf_fraction.specs.Steps.{PartsFit};
+ghost use Rattle.gf_fraction.specs.inner.Steps.{PartsFit};
 
 /// The result does not fit.
 #[derive(Clone, Copy)]

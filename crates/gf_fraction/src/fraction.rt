@@ -6,7 +6,7 @@ ghost use Rattle.std.specs.Int.{IsGcd};
 ghost use Rattle.gf_fraction.specs.Ratio.{HasValue, IsFraction, IsWithin, signed, whole};
 ghost use Rattle.gf_fraction.specs.Sum.{IsSum, SumFits};
 ghost use Rattle.gf_fraction.specs.Product.{IsProduct, ProductFits};
-ghost use Rattle.gf_fraction.specs.Steps.{HoldsCommon};
+ghost use Rattle.gf_fraction.specs.inner.Steps.{HoldsCommon};
 
 use crate::arithmetic::{LARGEST, Overflow, gcd, product, quotient, sum_over, total, with_sign};
 use crate::lowest::lowest;

@@ -2,7 +2,8 @@
 //! divisions by a constant are enough.
 
 ghost use Rattle.std.specs.Prelude.{◌≡◌, ℕ, ◌*◌, ◌^◌, ◌<◌, ◌≤◌};
-ghost use Rattle.gf_fraction.specs.Steps.{HoldsCommon, IsLowest, IsPrime, IsReduced, factored};
+ghost use Rattle.gf_fraction.specs.inner.Steps.{HoldsCommon, IsLowest, IsPrime, IsReduced};
+ghost use Rattle.gf_fraction.specs.inner.Steps.{factored};
 
 use crate::arithmetic::{WORD, gcd, quotient, word_gcd};
 

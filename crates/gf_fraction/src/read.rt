@@ -6,12 +6,13 @@ ghost use Rattle.std.specs.Str.Parse.{IsNumeral, digits_value};
 ghost use Rattle.gf_fraction.specs.NumberSpelling.{IsNumber, IsSign, scaled_digits};
 ghost use Rattle.gf_fraction.specs.NoNumber.{Reads};
 ghost use Rattle.gf_fraction.specs.NumberSpelling.Reading.{decimal, rational};
-ghost use Rattle.gf_fraction.specs.ShortNumber.{IsLeft, IsReadOn};
-ghost use Rattle.gf_fraction.specs.NumberScan.{AreRead, Completes, HasReadingFault};
-ghost use Rattle.gf_fraction.specs.NumberScan.{IsNotShort, IsScaled, IsValueOf, after_sign};
-ghost use Rattle.gf_fraction.specs.NumberScan.{unread, capped, is_minus, leading, leading_value};
-ghost use Rattle.gf_fraction.specs.NumberScan.{reading_of, scan, scan_decimal, scan_exponent};
-ghost use Rattle.gf_fraction.specs.NumberScan.{scan_fraction};
+ghost use Rattle.gf_fraction.specs.ReadOn.{IsLeft, IsReadOn};
+ghost use Rattle.gf_fraction.specs.inner.ShortNumber.{IsLeftByWords, IsReadInWords};
+ghost use Rattle.gf_fraction.specs.inner.NumberScan.{AreRead, Completes, HasReadingFault};
+ghost use Rattle.gf_fraction.specs.inner.NumberScan.{IsNotShort, IsScaled, IsValueOf, after_sign};
+ghost use Rattle.gf_fraction.specs.inner.NumberScan.{unread, capped, is_minus, leading};
+ghost use Rattle.gf_fraction.specs.inner.NumberScan.{leading_value, reading_of, scan, scan_decimal};
+ghost use Rattle.gf_fraction.specs.inner.NumberScan.{scan_exponent, scan_fraction};
 
 use crate::arithmetic::{LARGEST, product, with_sign};
 use crate::fraction::{Fraction, NumberFault};
@@ -88,7 +89,7 @@ fn word_digits(from: u64, text: &[u8]) -> (u64, &[u8])
 /// terms, and what comes after the number.
 #[inline(always)]
 fn short_end(num: u64, text: &[u8]) -> Option<(u64, u64, &[u8])>
-    ensures { MatchOption result (IsLeft num text.entry.now)
+    ensures { MatchOption result (IsLeftByWords num text.entry.now)
         (λ r. Completes num text.entry.now r.0 r.1 r.2.now) }
 {
     match text {
@@ -113,6 +114,22 @@ fn short_end(num: u64, text: &[u8]) -> Option<(u64, u64, &[u8])>
     }
 }
 
+/// The number that a sign, digits of the value `num` and what follows them in a text spell, and how
+/// many bytes that is.
+#[inline(always)]
+fn read_on(negative: bool, num: u64, text: &[u8]) -> Option<(Fraction, usize)>
+    ensures number { IfSome result (λ r. (sign digits : List ℕ) → IsSign sign negative
+        → IsNumeral 10 digits → digits_value 10 digits ≡ num
+        → IsNumber (sign ++ digits ++ take r.1 text.now) r.0) }
+    ensures end { MatchOption result (IsLeftByWords num text.now)
+        (λ r. IsReadInWords num (take r.1 text.now) (drop r.1 text.now)) }
+    ensures within { IfSome result (λ r. r.1 ≤ length text.now) }
+{
+    let (num, den, rest) = short_end(num, text)?;
+    let number = Fraction::of_words(negative, num, den);
+    Some((number, text.len() - rest.len()))
+}
+
 /// The number that a text spells, if all of it is read in one pass. Most numbers are.
 fn short(text: &[u8]) -> Option<Fraction>
     ensures { MatchOption result (IsNotShort (after_sign text.now)) (λ r. IsNumber text.now r) }
@@ -122,7 +139,7 @@ fn short(text: &[u8]) -> Option<Fraction>
     if rest.len() == unsigned.len() {
         return None;
     }
-    let (number, len) = Fraction::after_digits(negative, num, rest)?;
+    let (number, len) = read_on(negative, num, rest)?;
     if len == rest.len() {
         Some(number)
     } else {
@@ -350,19 +367,17 @@ impl Fraction {
     /// read the digits need not read them again. Digits for which 64 bits have no room and
     /// exponents are not read, so more bytes of a number may follow.
     ///
-    /// `None` if the denominator is zero or has no digits, or if more than 19 digits follow the
-    /// point. Then only `Fraction::read` tells whether there is a number.
+    /// `None` if the denominator is zero or has no digits, or if too many digits follow the point.
+    /// Then only `Fraction::read` tells whether there is a number.
     #[inline(always)]
     pub fn after_digits(negative: bool, num: u64, text: &[u8]) -> Option<(Fraction, usize)>
         ensures number { IfSome result (λ r. (sign digits : List ℕ) → IsSign sign negative
             → IsNumeral 10 digits → digits_value 10 digits ≡ num
             → IsNumber (sign ++ digits ++ take r.1 text.now) r.0) }
-        ensures end { MatchOption result (IsLeft num text.now)
-            (λ r. IsReadOn num (take r.1 text.now) (drop r.1 text.now)) }
+        ensures end { MatchOption result (IsLeft text.now)
+            (λ r. IsReadOn (take r.1 text.now) (drop r.1 text.now)) }
         ensures within { IfSome result (λ r. r.1 ≤ length text.now) }
     {
-        let (num, den, rest) = short_end(num, text)?;
-        let number = Fraction::of_words(negative, num, den);
-        Some((number, text.len() - rest.len()))
+        read_on(negative, num, text)
     }
 }

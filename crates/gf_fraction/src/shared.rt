@@ -19,7 +19,7 @@ pub struct SharedDenominator {
 
 impl Model for SharedDenominator {
     ghost use Rattle.std.specs.Prelude.{◌≡◌, ℕ, ◌^◌, ◌<◌};
-    ghost use Rattle.gf_fraction.specs.Steps.{factored};
+    ghost use Rattle.gf_fraction.specs.inner.Steps.{factored};
 
     ghost Value = { ℕ };
 

@@ -1,12 +1,7 @@
 -- Which tables are the same, and which are the same in all that is played.
 use Rattle.std.specs.Prelude.{◌≡◌, ◌↔◌, ℕ, List}
-use Rattle.std.specs.List.{Contains}
 use Rattle.gf_fraction.specs.Ratio.{Ratio}
-use Rattle.gf_nfg.specs.Table.{Table}
-
--- the table pays these at this profile
-abbrev pub PaysAt : Table → List ℕ → List Ratio → Type 0
-PaysAt t profile payoffs = Contains t.entries (record { profile = profile; payoffs = payoffs })
+use Rattle.gf_nfg.specs.Table.{Table, PaysAt}
 
 -- players, strategies and the payoffs at each profile are equal
 pub record SamePlay (t u : Table) : Type 0 where

@@ -1,6 +1,6 @@
 -- The table that a strategic file means.
 use Rattle.std.specs.Prelude.{◌≡◌, ℕ, ◌<◌, List, length, map}
-use Rattle.std.specs.List.{AllByRecursion}
+use Rattle.std.specs.List.{AllByRecursion, Contains}
 use Rattle.gf_fraction.specs.Ratio.{Ratio}
 use Rattle.gf_nfg.specs.Profiles.{profiles}
 
@@ -16,6 +16,10 @@ pub record Table : Type 0 where
   pub players : List (List ℕ)
   pub strategies : List (List (List ℕ))
   pub entries : List Entry
+
+-- the table pays these at this profile
+abbrev pub PaysAt : Table → List ℕ → List Ratio → Type 0
+PaysAt t profile payoffs = Contains t.entries (record { profile = profile; payoffs = payoffs })
 
 abbrev pub rows : Table → List (List Ratio)
 rows t = map (λ e. e.payoffs) t.entries

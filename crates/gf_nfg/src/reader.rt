@@ -23,13 +23,13 @@ mod strategies;
 
 use crate::reader::receive::{Receive, Version};
 use crate::table::heading::Heading;
-use gf_token::{Fault, Label, Span, TextToken, Tokens, Why};
+use gf_token::{Cursor, Fault, Label, Span, TextToken, Why};
 use std::alloc::Global;
 
 /// Reads a strategic file.
 #[derive(Drop)]
 pub struct Reader<'a> {
-    tokens: Tokens<'a>,
+    tokens: Cursor<'a>,
     /// What was read of it so far.
     heading: Heading<'a>,
     /// The input cannot hold more numbers than this.
@@ -60,7 +60,7 @@ impl<'a> Reader<'a> {
         ensures spelled { Spells 0 input.entry.now result.tokens.ahead }
     {
         Reader {
-            tokens: Tokens::new(input),
+            tokens: Cursor::new(input),
             heading: Heading::new(alloc),
             room: input.len() / 2 + 1,
         }

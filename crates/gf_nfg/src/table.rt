@@ -1,15 +1,17 @@
 //! Strategic files in memory: the players, their strategies, and the payoffs at each profile.
 
 ghost use Rattle.std.specs.Prelude.{◌≡◌, ◌*◌, ◌<◌, ◌≤◌, IfOk, length, map};
-ghost use Rattle.std.specs.Prelude.{min, option_and_then, option_map, vec_len};
+ghost use Rattle.std.specs.Prelude.{MatchOption, min, option_and_then, option_map, vec_len};
 ghost use Rattle.std.specs.List.{AllByRecursion};
 ghost use Rattle.gf_fraction.specs.Ratio.{IsFraction};
 ghost use Rattle.gf_token.specs.Label.{label_of};
+ghost use Rattle.gf_token.specs.Positions.{at_position};
 ghost use Rattle.gf_nfg.specs.Limit.{IsWithinLimit, profile_limit};
+ghost use Rattle.gf_nfg.specs.ProfilePlaces.{IsProfile};
 ghost use Rattle.gf_nfg.specs.Profiles.{product};
 ghost use Rattle.gf_nfg.specs.Spellable.{IsSpellable};
-ghost use Rattle.gf_nfg.specs.Table.{IsTable, rows};
-ghost use Rattle.gf_nfg.specs.TableAccess.{IsTableOf, at_position, payoffs_at};
+ghost use Rattle.gf_nfg.specs.Table.{IsTable, PaysAt, rows};
+ghost use Rattle.gf_nfg.specs.TableOfParts.{IsTableOf};
 ghost use Rattle.gf_nfg.specs.TableParts.{AreParts, IsHeld, table_with};
 
 use crate::table::labels::Labels;
@@ -257,9 +259,10 @@ impl Table {
 
     /// The payoffs at the profile of these strategies, one for each player. `None` if the list has
     /// another length than the list of players, or if a number is not a strategy of its player.
-    #[tactic(auto, using(crate::proofs::lemmas::tables::Places::payoffs_at_place))]
     pub fn payoffs(&self, profile: &[u32]) -> Option<&[Fraction]>
-        ensures { option_map (λ row. row.now) result ≡ payoffs_at profile.now self.now.entries }
+        ensures { MatchOption result
+            (¬ (IsProfile (map length self.now.strategies) profile.now))
+            (λ row. PaysAt self.now profile.now row.now) }
     {
         match place_of(&self.names, profile) {
             Some(place) => Some(self.payoffs.row(place)),

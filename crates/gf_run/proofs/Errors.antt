@@ -12,6 +12,11 @@ pub IfErr-only : {T E : Type 0} (r : Result T E) (only : E) (P : E → Type 0)
 IfErr-only (Ok x) only P is holds = tt
 IfErr-only (Err e) only P is holds = subst P (sym is) holds
 
+-- a result that is this error
+pub is_error : {T E : Type 0} (r : Result T E) (e : E) → IsErrAnd r (λ x. x ≡ e) → r ≡ Err e
+is_error (Ok x) e is = absurd is
+is_error (Err x) e is = cc
+
 -- what follows from what is known of the value
 pub IfOk-then : {T E : Type 0} (r : Result T E) (P Q : T → Type 0) → IfOk r P
     → ((x : T) → P x → Q x) → IfOk r Q

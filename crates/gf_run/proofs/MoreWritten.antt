@@ -1,6 +1,6 @@
 -- A text that is written turn by turn, and part by part.
 use Rattle.std.proofs.Common.{◌≡◌, ℕ, ◌-◌, ◌<◌, ◌≤◌, List, [], ◌++◌, length, take, drop, ap, sym}
-use Rattle.std.proofs.Common.{◌∙◌, Option, Result, append_assoc, append-nil, arith, length-append}
+use Rattle.std.proofs.Common.{◌∙◌, Result, append_assoc, append-nil, arith, length-append}
 use Rattle.std.proofs.Common.{length-drop, refl, subst, take-append-drop}
 use Rattle.std.proofs.lemmas.List.{take_all}
 use Rattle.std.proofs.KnownBytes.{Appends-kept, Appends-nil, Appends-trans}
@@ -8,6 +8,7 @@ use Rattle.std.specs.Io.KnownBytes.{Appends, Keeps}
 use Rattle.std.specs.declared.io.Error.{Error}
 use Rattle.gf_run.specs.Failures.{HasRisen}
 use Rattle.gf_run.specs.Output.{IsNext, IsOffer, IsWriteFault, IsWritten, Stops}
+use Rattle.gf_run.specs.Streams.{Writer}
 use Rattle.gf_run.specs.Turns.{Moves, Transfers, none, more}
 use Rattle.gf_run.proofs.WeakerRequests.{Moves-weaker, Stops-weaker}
 
@@ -44,16 +45,14 @@ module _ {S : Type 0} (gives : S → List ℕ → Result ℕ Error → S → Typ
       (more (front ++ done) bytes n old at new all some
       (Moves-weaker _ _ _ (later done) _ _ _ _ m))
 
--- for a writer: the bytes that it holds, its count of failures, and what a push gives
-module _ {S : Type 0} (contents : S → Option (List ℕ)) (count : S → ℕ)
-    (gives : S → List ℕ → Result ℕ Error → S → Type 0) where
+module _ {S : Type 0} (writer : Writer S) where
   -- the bytes of a text before this rest were taken
   pub record IsBegun (old new : S) (text rest : List ℕ) : Type 0 where
     pub taken : List ℕ
     pub front : taken ++ rest ≡ text
-    pub appended : Appends (contents old) (contents new) taken
-    pub turns : Transfers gives (IsNext text) taken old new
-    pub grown : count old ≤ count new
+    pub appended : Appends (writer.contents old) (writer.contents new) taken
+    pub turns : Transfers writer.gives (IsNext text) taken old new
+    pub grown : writer.count old ≤ writer.count new
 
   -- none was
   pub IsBegun-none : (s : S) (text : List ℕ) → IsBegun s s text text
@@ -67,19 +66,19 @@ module _ {S : Type 0} (contents : S → Option (List ℕ)) (count : S → ℕ)
 
   -- all were
   pub IsBegun-all : (old new : S) (text rest : List ℕ) → IsBegun old new text rest → rest ≡ []
-      → IsWritten contents gives old new text
+      → IsWritten writer old new text
   IsBegun-all old new text rest begun empty =
       let all : begun.taken ≡ text =
       sym (append-nil begun.taken) ∙ ap (λ ys. begun.taken ++ ys) (sym empty) ∙ begun.front in
       record {
         appended = rw (sym all) begun.appended;
-        turns = subst (λ ys. Transfers gives (IsNext text) ys old new) all begun.turns;
+        turns = subst (λ ys. Transfers writer.gives (IsNext text) ys old new) all begun.turns;
       }
 
   -- a turn took the first n bytes of the rest
   pub IsBegun-turn : (old mid new : S) (text rest : List ℕ) (n : ℕ) → IsBegun old mid text rest
-      → 0 < length rest → Appends (contents mid) (contents new) (take n rest)
-      → (0 < n) × Moves gives (IsOffer rest) rest n mid new → count mid ≤ count new
+      → 0 < length rest → Appends (writer.contents mid) (writer.contents new) (take n rest)
+      → (0 < n) × Moves writer.gives (IsOffer rest) rest n mid new → writer.count mid ≤ writer.count new
       → IsBegun old new text (take (length rest - n) (drop n rest))
   IsBegun-turn old mid new text rest n begun some appended turn grown =
       let left : take (length rest - n) (drop n rest) ≡ drop n rest =
@@ -98,9 +97,9 @@ module _ {S : Type 0} (contents : S → Option (List ℕ)) (count : S → ℕ)
 
   -- a turn failed
   pub IsBegun-fault : (old mid new : S) (text rest : List ℕ) → IsBegun old mid text rest
-      → 0 < length rest → Keeps (contents mid) (contents new)
-      → Stops gives (IsOffer rest) mid new → HasRisen (count mid) (count new)
-      → IsWriteFault contents count gives old new text
+      → 0 < length rest → Keeps (writer.contents mid) (writer.contents new)
+      → Stops writer.gives (IsOffer rest) mid new → HasRisen (writer.count mid) (writer.count new)
+      → IsWriteFault writer old new text
   IsBegun-fault old mid new text rest begun some kept stops counted =
       let offered = IsNext-offer text begun.taken rest begun.front some in
       let before = begun.grown in
@@ -120,7 +119,7 @@ module _ {S : Type 0} (contents : S → Option (List ℕ)) (count : S → ℕ)
   -- the next part of the text was written
   pub IsBegun-part : (old mid new : S) (text rest part back : List ℕ)
       → IsBegun old mid text rest → rest ≡ part ++ back
-      → IsWritten contents gives mid new part → count mid ≤ count new
+      → IsWritten writer mid new part → writer.count mid ≤ writer.count new
       → IsBegun old new text back
   IsBegun-part old mid new text rest part back begun is written grown =
       let front = ap (λ ys. begun.taken ++ ys) (sym is) ∙ begun.front in
@@ -129,7 +128,7 @@ module _ {S : Type 0} (contents : S → Option (List ℕ)) (count : S → ℕ)
         taken = begun.taken ++ part;
         front = append_assoc begun.taken part back ∙ front;
         appended = Appends-trans _ _ _ _ _ begun.appended written.appended;
-        turns = Transfers-after gives _ _ begun.taken
+        turns = Transfers-after writer.gives _ _ begun.taken
             (IsNext-within text begun.taken part back front) part old mid new begun.turns
             written.turns;
         grown = omega arith;
@@ -138,8 +137,8 @@ module _ {S : Type 0} (contents : S → Option (List ℕ)) (count : S → ℕ)
   -- a prefix of it was, and then the writer failed
   pub IsBegun-cut : (old mid new : S) (text rest part back : List ℕ)
       → IsBegun old mid text rest → rest ≡ part ++ back
-      → IsWriteFault contents count gives mid new part
-      → IsWriteFault contents count gives old new text
+      → IsWriteFault writer mid new part
+      → IsWriteFault writer old new text
   IsBegun-cut old mid new text rest part back begun is fault =
       let front = ap (λ ys. begun.taken ++ ys) (sym is) ∙ begun.front in
       let within = IsNext-within text begun.taken part back front in
@@ -154,7 +153,7 @@ module _ {S : Type 0} (contents : S → Option (List ℕ)) (count : S → ℕ)
         appended = Appends-trans _ _ _ _ _ begun.appended fault.appended;
         counted = record { risen = omega arith };
         mid = fault.mid;
-        turns = Transfers-after gives _ _ begun.taken within fault.taken old mid fault.mid
+        turns = Transfers-after writer.gives _ _ begun.taken within fault.taken old mid fault.mid
             begun.turns fault.turns;
         last = Stops-weaker _ _ _ (within fault.taken) _ _ fault.last;
       }

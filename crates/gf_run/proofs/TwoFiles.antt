@@ -1,18 +1,17 @@
 -- The answer about two files that are compared.
-use Rattle.std.proofs.Common.{◌≡◌, ℕ, Bool, false, List}
+use Rattle.std.proofs.Common.{◌≡◌, ℕ, Bool, List}
 use Rattle.std.specs.Prelude.{◌↔◌, IsTrue}
 use Rattle.gf_canon.specs.GameFile.{GameFile}
 use Rattle.gf_canon.specs.CanonicalText.{SpellsWithin}
 use Rattle.gf_canon.specs.Judgement.{MeansFile}
 use Rattle.gf_canon.specs.SameBy.{SameBy}
 use Rattle.gf_canon.specs.declared.sameness.Names.{Names}
-use Rattle.gf_run.specs.JobRun.{IsAnswerBy}
-use Rattle.gf_run.specs.SameText.{answer_line}
+use Rattle.gf_run.specs.SameText.{IsAnswer, IsLine, answer_line}
 
--- without their renumbering
+-- by names
 pub compared : (names : Names) (same : Bool) (a b text : List ℕ)
     → ((x y : GameFile) → SpellsWithin a x → SpellsWithin b y → IsTrue same ↔ SameBy names x y)
-    → MeansFile a × MeansFile b → text ≡ answer_line same → IsAnswerBy false names same a b text
+    → MeansFile a × MeansFile b → text ≡ answer_line same → IsAnswer (SameBy names) IsLine same a b text
 compared names same a b text says mean is = record {
   first = mean.0.0;
   second = mean.1.0;

@@ -1,80 +1,74 @@
 -- What a run that looks for duplicates does, file by file and then with their groups.
-use Rattle.std.specs.Prelude.{◌≡◌, ◌⊎◌, ℕ, max, List, [], ◌∷◌, ◌++◌, Option, Result}
-use Rattle.std.specs.declared.io.Error.{Error}
+use Rattle.std.specs.Prelude.{◌≡◌, ◌⊎◌, ℕ, max, List, [], ◌∷◌, ◌++◌, Ok, Err}
 use Rattle.gf_canon.specs.declared.sameness.Names.{Names}
 use Rattle.gf_run.specs.Duplicates.{HashedFile, duplicates, groups_status, groups_text}
 use Rattle.gf_run.specs.Ending.{IsTold}
 use Rattle.gf_run.specs.FaultLine.{fault_line}
 use Rattle.gf_run.specs.FaultStatus.{status_of}
-use Rattle.gf_run.specs.HashText.{IsHashOf}
-use Rattle.gf_run.specs.Hashes.{IsNotHashed, IsToldOf, Standing, name_of}
-use Rattle.gf_run.specs.Input.{IsReadWhole}
-use Rattle.gf_run.specs.Opening.{RunsOver}
+use Rattle.gf_run.specs.HashText.{ReadsHash}
+use Rattle.gf_run.specs.Hashes.{IsToldOf, Over, Standing, name_of}
+use Rattle.gf_run.specs.Opening.{Opener}
 use Rattle.gf_run.specs.Output.{IsWriteFault, IsWritten}
+use Rattle.gf_run.specs.Streams.{Reader, Writer}
+use Rattle.gf_run.specs.declared.collections.file.CollectionFile.{CollectionFile}
 use Rattle.gf_run.specs.declared.fault.RunFault.{RunFault}
 use Rattle.gf_run.specs.declared.fault.RunFault.TheVariants.{Memory, Write}
-use Rattle.gf_run.specs.declared.asked.Input.{Input}
 
--- how far the reading of files has come: the files that have a hash, in their order, standard
--- error, and the worst status so far
-pub record Reading (E : Type 0) : Type 0 where
+-- how far the reading of files has come: what opens inputs, the files that have a hash, in their
+-- order, standard error, and the worst status so far
+pub record Reading (I E : Type 0) : Type 0 where
+  pub inputs : I
   pub files : List HashedFile
   pub errors : E
   pub status : ℕ
 
--- for what opens inputs, and for the inputs
-module _ {S : Type 0} (standard : S → Type 0) (opens : List ℕ → Result S Error → Type 0)
-    (remaining : S → Option (List ℕ)) (gives : S → List ℕ → Result ℕ Error → S → Type 0) where
-  -- the file was opened and read whole, and this is the hash of its canonical text
-  abbrev pub HasHash : Names → List ℕ → Input → Type 0
-  HasHash names hash input = RunsOver standard opens (λ old new.
-      (bytes : List ℕ) × IsHashOf names bytes hash × IsReadWhole remaining gives old new bytes)
-      input
-
--- and for standard error
-module _ {S E : Type 0} (standard : S → Type 0) (opens : List ℕ → Result S Error → Type 0)
-    (remaining : S → Option (List ℕ)) (count : S → ℕ)
-    (gives : S → List ℕ → Result ℕ Error → S → Type 0) (contents : E → Option (List ℕ))
-    (failures : E → ℕ) (takes : E → List ℕ → Result ℕ Error → E → Type 0) where
+-- for what opens inputs, and for standard error
+module _ {I S E : Type 0} (opener : Opener I S) (reader : Reader S) (errors : Writer E)
+    (names : Names) where
   -- one file: it has a hash; or it has none, and its fault was reported
-  pub data Reads (names : Names) (input : Input) (a b : Reading E) : Type 0 where
-    hashed : (hash : List ℕ) → HasHash standard opens remaining gives names hash input
-        → b.files ≡ a.files ++ record { name = name_of input; hash = hash } ∷ []
-        → b.errors ≡ a.errors → b.status ≡ a.status → Reads names input a b
+  pub data Reads (file : CollectionFile) (a b : Reading I E) : Type 0 where
+    hashed : (hash : List ℕ) → Over opener (ReadsHash reader names) file (Ok hash) a.inputs b.inputs
+        → b.files ≡ a.files ++ record { name = name_of file; hash = hash } ∷ []
+        → b.errors ≡ a.errors → b.status ≡ a.status → Reads file a b
     failed : (fault : RunFault) (status : ℕ)
-        → IsNotHashed standard opens remaining count gives fault input → b.files ≡ a.files
-        → IsToldOf contents failures takes (name_of input) fault status a.errors b.errors
-        → b.status ≡ max a.status status → Reads names input a b
+        → Over opener (ReadsHash reader names) file (Err fault) a.inputs b.inputs
+        → b.files ≡ a.files → IsToldOf errors (name_of file) fault status a.errors b.errors
+        → b.status ≡ max a.status status → Reads file a b
 
--- for standard output and for standard error
-module _ {W E : Type 0} (contents : W → Option (List ℕ)) (count : W → ℕ)
-    (takes : W → List ℕ → Result ℕ Error → W → Type 0) (contents' : E → Option (List ℕ))
-    (count' : E → ℕ) (takes' : E → List ℕ → Result ℕ Error → E → Type 0) where
+-- for standard output and for standard error, before and after; `worst` is the worst status so far
+module _ {W E : Type 0} (writer : Writer W) (errors : Writer E) (o o' : W) (e e' : E)
+    (worst status : ℕ) where
   -- memory ran out, which was reported, and nothing was written
-  pub record IsOutOfMemory (output : W) (a : Reading E) (b : Standing W E) : Type 0 where
-    pub unwritten : b.output ≡ output
-    pub told : IsTold contents' count' takes' (fault_line Memory) a.errors b.errors
-    pub status : b.status ≡ max a.status (status_of Memory)
+  pub record IsOutOfMemory : Type 0 where
+    pub unwritten : o' ≡ o
+    pub told : IsTold errors (fault_line Memory) e e'
+    pub is_status : status ≡ max worst (status_of Memory)
 
   -- after all files: the groups were written; or a prefix of them, and then the writer failed,
   -- which was reported; or memory ran out
-  pub data Closes (output : W) (a : Reading E) (b : Standing W E) : Type 0 where
-    written : IsWritten contents takes output b.output (groups_text (duplicates a.files))
-        → b.errors ≡ a.errors → b.status ≡ max a.status (groups_status (duplicates a.files))
-        → Closes output a b
-    cut_off : IsWriteFault contents count takes output b.output (groups_text (duplicates a.files))
-        → IsTold contents' count' takes' (fault_line Write) a.errors b.errors
-        → b.status ≡ max a.status (status_of Write) → Closes output a b
-    out_of_memory : IsOutOfMemory output a b → Closes output a b
+  pub data Closes (files : List HashedFile) : Type 0 where
+    written : IsWritten writer o o' (groups_text (duplicates files)) → e' ≡ e
+        → status ≡ max worst (groups_status (duplicates files)) → Closes files
+    cut_off : IsWriteFault writer o o' (groups_text (duplicates files))
+        → IsTold errors (fault_line Write) e e' → status ≡ max worst (status_of Write)
+        → Closes files
+    out_of_memory : IsOutOfMemory → Closes files
 
-  -- and for what opens inputs, and for the inputs
-  module _ {S : Type 0} (standard : S → Type 0) (opens : List ℕ → Result S Error → Type 0)
-      (remaining : S → Option (List ℕ)) (failures : S → ℕ)
-      (gives : S → List ℕ → Result ℕ Error → S → Type 0) where
-    -- the files, one after another, and then their groups; or the files until memory ran out
-    abbrev pub Finds : Names → List Input → W → Reading E → Standing W E → Type 0
-    Finds names [] output a b = Closes output a b
-    Finds names (input ∷ inputs) output a b = IsOutOfMemory output a b
-        ⊎ ((mid : Reading E)
-        × Reads standard opens remaining failures gives contents' count' takes' names input a mid
-        × Finds names inputs output mid b)
+-- and for what opens inputs
+module _ {I S W E : Type 0} (opener : Opener I S) (reader : Reader S) (writer : Writer W)
+    (errors : Writer E) (names : Names) where
+  -- the files, one after another, and then their groups; or the files up to one for whose name
+  -- memory ran out
+  abbrev pub Finds : W → List CollectionFile → Reading I E → Standing I W E → Type 0
+  Finds output [] a b = (b.inputs ≡ a.inputs)
+      × Closes writer errors output b.output a.errors b.errors a.status b.status a.files
+  Finds output (file ∷ files) a b = ((hash : List ℕ)
+      × Over opener (ReadsHash reader names) file (Ok hash) a.inputs b.inputs
+      × IsOutOfMemory writer errors output b.output a.errors b.errors a.status b.status)
+      ⊎ ((mid : Reading I E) × Reads opener reader errors names file a mid
+      × Finds output files mid b)
+
+  -- all files: nothing is known of them at first
+  abbrev pub FindsAll : List CollectionFile → Standing I W E → Standing I W E → Type 0
+  FindsAll files a b = Finds a.output files
+      (record { inputs = a.inputs; files = []; errors = a.errors; status = a.status }) b

@@ -42,8 +42,4 @@ short_line Memory = codes "E19"
 
 -- the line of a fault, with its line feed
 abbrev pub fault_line : RunFault → List ℕ
-fault_line (Refused which fault) = prefix_of which ++ place_text fault ++ codes "\n"
-fault_line (Read which) = prefix_of which ++ codes "E20\n"
-fault_line Write = codes "E21\n"
-fault_line (Form fault) = form_text fault ++ codes "\n"
-fault_line Memory = codes "E19\n"
+fault_line fault = fault_prefix fault ++ short_line fault ++ codes "\n"

@@ -1,14 +1,14 @@
 -- What is written about the kind of a file.
 use Rattle.std.specs.Prelude.{◌≡◌, ℕ, List, codes}
-use Rattle.gf_canon.specs.FileFormat.{MeansFileOf}
-use Rattle.gf_canon.specs.declared.format.Format.{Format}
-use Rattle.gf_canon.specs.declared.format.Format.TheVariants.{Extensive, Strategic}
+use Rattle.gf_canon.specs.KindOfFile.{MeansFileOf}
+use Rattle.gf_canon.specs.declared.kind.FileKind.{FileKind}
+use Rattle.gf_canon.specs.declared.kind.FileKind.TheVariants.{Strategic, Tree}
 
--- the line for a file in this format
-abbrev pub kind_line : Format → List ℕ
-kind_line Extensive = codes "tree\n"
+-- the line for a file of this kind
+abbrev pub kind_line : FileKind → List ℕ
+kind_line Tree = codes "tree\n"
 kind_line Strategic = codes "table\n"
 
--- the bytes mean a file in this format, within the limit, and this is its line
-abbrev pub IsKindLine : Format → List ℕ → List ℕ → Type 0
-IsKindLine format bytes text = MeansFileOf bytes format × (text ≡ kind_line format)
+-- the bytes mean a file of this kind, within the limit, and this is its line
+abbrev pub IsKindLine : FileKind → List ℕ → List ℕ → Type 0
+IsKindLine kind bytes text = MeansFileOf bytes kind × (text ≡ kind_line kind)

@@ -1,21 +1,19 @@
 -- What is written for a file as a table: the strategic form of a tree, or its reduced form, and a
 -- table as it is.
-use Rattle.std.specs.Prelude.{◌≡◌, ◌⊎◌, ℕ, List, Option, Result}
-use Rattle.std.specs.declared.io.Error.{Error}
+use Rattle.std.specs.Prelude.{◌≡◌, ℕ, List}
 use Rattle.gf_nfg.specs.Table.{Table}
 use Rattle.gf_nfg.specs.TableText.{table_text}
 use Rattle.gf_canon.specs.GameFile.{GameFile}
 use Rattle.gf_canon.specs.GameFile.GameFile.{extensive, strategic}
 use Rattle.gf_canon.specs.CanonicalText.{SpellsWithin}
-use Rattle.gf_canon.specs.Judgement.{IsRefusedWith, MeansFile}
+use Rattle.gf_canon.specs.Judgement.{IsRefusedWith}
 use Rattle.gf_form.specs.Forms as forms
 use Rattle.gf_form.specs.declared.fault.FormFault.{FormFault}
 use Rattle.gf_form.specs.declared.fault.FormFault.TheVariants as form
 use Rattle.gf_form.specs.declared.forms.Strategies.{Strategies}
 use Rattle.gf_run.specs.declared.fault.RunFault.{RunFault}
-use Rattle.gf_run.specs.declared.fault.RunFault.TheVariants.{Refused, Write, Form, Memory}
+use Rattle.gf_run.specs.declared.fault.RunFault.TheVariants.{Refused, Form, Memory}
 use Rattle.gf_run.specs.declared.fault.Which.TheVariants.{Only}
-use Rattle.gf_run.specs.Run.{EndsReading}
 
 -- why a file has no table; a file that is a table always has one
 abbrev pub IsFileWithoutForm : Strategies → GameFile → FormFault → Type 0
@@ -53,13 +51,3 @@ IsFaultOfBytes strategies bytes (Refused which fault) =
     (which ≡ Only) × IsRefusedWith bytes fault
 IsFaultOfBytes strategies bytes fault =
     (x : GameFile) × SpellsWithin bytes x × IsFormFault strategies x fault
-
--- for a reader: the bytes that it has left, if it reports them, its count of failures, and what a
--- pull gives
-module _ {S : Type 0} (remaining : S → Option (List ℕ)) (count : S → ℕ)
-    (gives : S → List ℕ → Result ℕ Error → S → Type 0) where
-  -- how far a run that has no answer read its input: not to the end, or whole
-  abbrev pub ReadsFormUntil : Strategies → RunFault → S → S → Type 0
-  ReadsFormUntil strategies fault old new = EndsReading remaining count gives
-      (λ bytes why. IsFaultOfBytes strategies bytes why ⊎ ((why ≡ Write) × MeansFile bytes))
-      Only fault old new

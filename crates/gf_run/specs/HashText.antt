@@ -1,12 +1,12 @@
 -- The hash of a file and its line, and why a file has none.
-use Rattle.std.specs.Prelude.{◌≡◌, ℕ, List, ◌++◌, codes, Option, Result}
-use Rattle.std.specs.declared.io.Error.{Error}
+use Rattle.std.specs.Prelude.{◌≡◌, ℕ, List, ◌++◌, codes, Result, Ok, Err}
 use Rattle.hex.specs.Hex.{encode_lower}
 use Rattle.sha2.specs.Sha256.{sha256}
 use Rattle.gf_canon.specs.Judgement.{IsRefusedWith, MeansFile}
 use Rattle.gf_canon.specs.NamesAside.{IsTextBy}
 use Rattle.gf_canon.specs.declared.sameness.Names.{Names}
 use Rattle.gf_run.specs.Input.{IsNotRead, IsReadWhole}
+use Rattle.gf_run.specs.Streams.{Reader}
 use Rattle.gf_run.specs.declared.fault.RunFault.{RunFault}
 use Rattle.gf_run.specs.declared.fault.RunFault.TheVariants.{Refused, Read, Write, Form, Memory}
 use Rattle.gf_run.specs.declared.fault.Which.TheVariants.{Only}
@@ -27,21 +27,24 @@ pub record IsHashLine (names : Names) (name bytes line : List ℕ) : Type 0 wher
   pub hashed : IsHashOf names bytes hash
   pub is_line : line ≡ hash_line name hash
 
--- Why the bytes of a file have no hash or no line of it: they are refused; or they mean a file, and
--- memory or the writer failed.
+-- why the bytes of a file have no hash or no line of it: they are refused; or they mean a file, and
+-- memory ran out
 abbrev pub IsFaultOfFile : List ℕ → RunFault → Type 0
 IsFaultOfFile bytes (Refused which fault) = (which ≡ Only) × IsRefusedWith bytes fault
 IsFaultOfFile bytes (Read which) = ⊥
-IsFaultOfFile bytes Write = MeansFile bytes
+IsFaultOfFile bytes Write = ⊥
 IsFaultOfFile bytes (Form fault) = ⊥
 IsFaultOfFile bytes Memory = MeansFile bytes
 
--- for a reader: the bytes that it has left, if it reports them, its count of failures, and what a
--- pull gives
-module _ {S : Type 0} (remaining : S → Option (List ℕ)) (count : S → ℕ)
-    (gives : S → List ℕ → Result ℕ Error → S → Type 0) where
-  -- how far a run that has no line read its input: not to the end, or whole
-  pub data ReadsFileUntil (fault : RunFault) (old new : S) : Type 0 where
-    not_read : IsNotRead remaining count gives Only fault old new → ReadsFileUntil fault old new
-    read : (bytes : List ℕ) → IsReadWhole remaining gives old new bytes → IsFaultOfFile bytes fault
-        → ReadsFileUntil fault old new
+-- a file is read whole, and the hash of its canonical text is the result
+module _ {R : Type 0} (reader : Reader R) where
+  pub data ReadsHash (names : Names) (result : Result (List ℕ) RunFault) (i i' : R) : Type 0 where
+    -- the bytes mean a file with this hash
+    hashed : (hash bytes : List ℕ) → result ≡ Ok hash → IsReadWhole reader i i' bytes
+        → IsHashOf names bytes hash → ReadsHash names result i i'
+    -- it was not read whole
+    unread : (fault : RunFault) → result ≡ Err fault → IsNotRead reader Only fault i i'
+        → ReadsHash names result i i'
+    -- its bytes have no hash
+    refused : (fault : RunFault) (bytes : List ℕ) → result ≡ Err fault
+        → IsReadWhole reader i i' bytes → IsFaultOfFile bytes fault → ReadsHash names result i i'

@@ -1,13 +1,13 @@
 -- How an input is read.
-use Rattle.std.specs.Prelude.{◌≡◌, ℕ, ◌+◌, ◌<◌, ◌≤◌, List, length, Option, Result}
+use Rattle.std.specs.Prelude.{◌≡◌, ℕ, ◌+◌, ◌<◌, ◌≤◌, List, length}
 use Rattle.std.specs.Io.KnownBytes.{Consumes, IsAtEnd}
-use Rattle.std.specs.declared.io.Error.{Error}
 use Rattle.gf_token.specs.declared.fault.Fault.{Fault}
 use Rattle.gf_token.specs.declared.fault.Why.TheVariants.{TooLong}
 use Rattle.gf_run.specs.declared.fault.RunFault.{RunFault}
 use Rattle.gf_run.specs.declared.fault.RunFault.TheVariants.{Refused, Read, Write, Form, Memory}
 use Rattle.gf_run.specs.declared.fault.Which.{Which}
 use Rattle.gf_run.specs.Failures.{HasRisen}
+use Rattle.gf_run.specs.Streams.{Reader}
 use Rattle.gf_run.specs.Turns.{GivesUp, Moves, Transfers}
 
 -- the most bytes that an input has
@@ -27,23 +27,21 @@ pub record HasRoom (bytes buffer : List ℕ) : Type 0 where
   pub some : 0 < length buffer
   pub within : length bytes + length buffer ≤ limit + 1
 
--- for a reader: the bytes that it has left, if it reports them, and what a pull gives
-module _ {S : Type 0} (remaining : S → Option (List ℕ))
-    (gives : S → List ℕ → Result ℕ Error → S → Type 0) where
+module _ {S : Type 0} (reader : Reader S) where
   -- these bytes came
   pub record IsRead (old new : S) (bytes : List ℕ) : Type 0 where
-    pub consumed : Consumes (remaining old) (remaining new) bytes
-    pub turns : Transfers gives HasRoom bytes old new
+    pub consumed : Consumes (reader.remaining old) (reader.remaining new) bytes
+    pub turns : Transfers reader.gives HasRoom bytes old new
 
   -- these bytes came, no more than the limit, and then the end
   pub record IsReadWhole (old new : S) (bytes : List ℕ) : Type 0 where
     pub within : length bytes ≤ limit
-    pub consumed : Consumes (remaining old) (remaining new) bytes
-    pub at_end : IsAtEnd (remaining new)
+    pub consumed : Consumes (reader.remaining old) (reader.remaining new) bytes
+    pub at_end : IsAtEnd (reader.remaining new)
     pub mid : S
-    pub turns : Transfers gives HasRoom bytes old mid
+    pub turns : Transfers reader.gives HasRoom bytes old mid
     pub buffer : List ℕ
-    pub last : Moves gives (HasRoom bytes) buffer 0 mid new
+    pub last : Moves reader.gives (HasRoom bytes) buffer 0 mid new
 
   -- no more bytes came than the limit
   pub record IsReadInPart (old new : S) : Type 0 where
@@ -57,24 +55,21 @@ module _ {S : Type 0} (remaining : S → Option (List ℕ))
     pub one_more : length bytes ≡ limit + 1
     pub read : IsRead old new bytes
 
--- for a reader: its count of failures too
-module _ {S : Type 0} (remaining : S → Option (List ℕ)) (count : S → ℕ)
-    (gives : S → List ℕ → Result ℕ Error → S → Type 0) where
   -- no more bytes came than the limit, and then the reader failed, which was counted
   pub record IsReadFault (old new : S) : Type 0 where
     pub bytes : List ℕ
     pub within : length bytes ≤ limit
-    pub consumed : Consumes (remaining old) (remaining new) bytes
-    pub counted : HasRisen (count old) (count new)
+    pub consumed : Consumes (reader.remaining old) (reader.remaining new) bytes
+    pub counted : HasRisen (reader.count old) (reader.count new)
     pub mid : S
-    pub turns : Transfers gives HasRoom bytes old mid
-    pub last : GivesUp gives (HasRoom bytes) mid new
+    pub turns : Transfers reader.gives HasRoom bytes old mid
+    pub last : GivesUp reader.gives (HasRoom bytes) mid new
 
   -- an input could not be read whole: how far it was read, at each fault
   abbrev pub IsNotRead : Which → RunFault → S → S → Type 0
   IsNotRead input (Refused which fault) old new =
-      (which ≡ input) × (fault ≡ too_long) × IsTooLong remaining gives old new
+      (which ≡ input) × (fault ≡ too_long) × IsTooLong old new
   IsNotRead input (Read which) old new = (which ≡ input) × IsReadFault old new
   IsNotRead input Write old new = ⊥
   IsNotRead input (Form fault) old new = ⊥
-  IsNotRead input Memory old new = IsReadInPart remaining gives old new
+  IsNotRead input Memory old new = IsReadInPart old new

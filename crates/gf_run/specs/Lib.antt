@@ -1,4 +1,4 @@
-pub mod AnswerText
+pub mod Collected
 pub mod Counted
 pub mod Duplicates
 pub mod DuplicatesRun
@@ -15,13 +15,16 @@ pub mod FormText
 pub mod HashText
 pub mod Hashes
 pub mod Input
-pub mod JobRun
+pub mod Kept
 pub mod Opened
 pub mod Opening
 pub mod Output
+pub mod Performed
+pub mod Performs
 pub mod Place
 pub mod Run
 pub mod RunOfTwo
 pub mod SameFaults
 pub mod SameText
+pub mod Streams
 pub mod Turns

@@ -1,8 +1,9 @@
 -- How an output is written.
-use Rattle.std.specs.Prelude.{◌≡◌, ℕ, ◌<◌, ◌⊎◌, List, ◌++◌, length, Option, Result}
+use Rattle.std.specs.Prelude.{◌≡◌, ℕ, ◌<◌, ◌⊎◌, List, ◌++◌, length, Result}
 use Rattle.std.specs.Io.KnownBytes.{Appends}
 use Rattle.std.specs.declared.io.Error.{Error}
 use Rattle.gf_run.specs.Failures.{HasRisen}
+use Rattle.gf_run.specs.Streams.{Writer}
 use Rattle.gf_run.specs.Turns.{GivesUp, Moves, Transfers}
 
 -- these bytes are offered
@@ -21,17 +22,12 @@ module _ {S : Type 0} (gives : S → List ℕ → Result ℕ Error → S → Typ
   abbrev pub Stops : (List ℕ → Type 0) → S → S → Type 0
   Stops P old new = GivesUp gives P old new ⊎ ((bytes : List ℕ) × Moves gives P bytes 0 old new)
 
--- for a writer: the bytes that it holds, if it reports them, and what a push gives
-module _ {S : Type 0} (contents : S → Option (List ℕ))
-    (gives : S → List ℕ → Result ℕ Error → S → Type 0) where
+module _ {S : Type 0} (writer : Writer S) where
   -- a text was taken whole: each turn offered bytes that came next
   pub record IsWritten (old new : S) (text : List ℕ) : Type 0 where
-    pub appended : Appends (contents old) (contents new) text
-    pub turns : Transfers gives (IsNext text) text old new
+    pub appended : Appends (writer.contents old) (writer.contents new) text
+    pub turns : Transfers writer.gives (IsNext text) text old new
 
--- for a writer: its count of failures too
-module _ {S : Type 0} (contents : S → Option (List ℕ)) (count : S → ℕ)
-    (gives : S → List ℕ → Result ℕ Error → S → Type 0) where
   -- a prefix of a text was taken, less than the whole, and then the writer failed, which was
   -- counted
   pub record IsWriteFault (old new : S) (text : List ℕ) : Type 0 where
@@ -39,8 +35,8 @@ module _ {S : Type 0} (contents : S → Option (List ℕ)) (count : S → ℕ)
     pub rest : List ℕ
     pub front : taken ++ rest ≡ text
     pub less : 0 < length rest
-    pub appended : Appends (contents old) (contents new) taken
-    pub counted : HasRisen (count old) (count new)
+    pub appended : Appends (writer.contents old) (writer.contents new) taken
+    pub counted : HasRisen (writer.count old) (writer.count new)
     pub mid : S
-    pub turns : Transfers gives (IsNext text) taken old mid
-    pub last : Stops gives (IsNext text taken) mid new
+    pub turns : Transfers writer.gives (IsNext text) taken old mid
+    pub last : Stops writer.gives (IsNext text taken) mid new

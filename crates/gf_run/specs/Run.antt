@@ -1,42 +1,60 @@
--- What a run over one input reads and writes, and why the bytes of a file are refused.
-use Rattle.std.specs.Prelude.{◌≡◌, ◌⊎◌, ℕ, List, Option, Result}
-use Rattle.std.specs.declared.io.Error.{Error}
+-- What a run over one input does.
+use Rattle.std.specs.Prelude.{◌≡◌, ℕ, List, Result, Ok, Err, ⊤}
 use Rattle.gf_token.specs.declared.fault.Fault.{Fault}
 use Rattle.gf_canon.specs.Judgement.{IsRefusedWith}
+use Rattle.gf_canon.specs.NamesAside.{IsTextBy}
+use Rattle.gf_canon.specs.declared.kind.FileKind.{FileKind}
+use Rattle.gf_canon.specs.declared.sameness.Names.{Names}
+use Rattle.gf_form.specs.declared.forms.Strategies.{Strategies}
+use Rattle.gf_run.specs.FileKinds.{IsKindLine}
+use Rattle.gf_run.specs.FormText.{IsFaultOfBytes, IsFormText}
+use Rattle.gf_run.specs.HashText.{IsFaultOfFile, IsHashLine}
+use Rattle.gf_run.specs.Input.{IsNotRead, IsReadWhole}
+use Rattle.gf_run.specs.Output.{IsWriteFault, IsWritten}
+use Rattle.gf_run.specs.Streams.{Reader, Writer}
 use Rattle.gf_run.specs.declared.fault.RunFault.{RunFault}
 use Rattle.gf_run.specs.declared.fault.RunFault.TheVariants.{Refused, Write}
-use Rattle.gf_run.specs.declared.fault.Which.{Which}
 use Rattle.gf_run.specs.declared.fault.Which.TheVariants.{Only}
-use Rattle.gf_run.specs.Input.{IsNotRead, IsReadWhole}
 
--- the bytes that were read have this answer, and its text was written
-pub record Answers (IsAnswer : List ℕ → List ℕ → Type 0)
-    (read written : List ℕ → Type 0) : Type 0 where
-  pub bytes : List ℕ
-  pub text : List ℕ
-  pub input : read bytes
-  pub answer : IsAnswer bytes text
-  pub output : written text
-
--- the bytes of an input are refused with this fault
-abbrev pub IsRefusalOf : (List ℕ → Fault → Type 0) → Which → List ℕ → RunFault → Type 0
-IsRefusalOf Refuses input bytes (Refused which fault) = (which ≡ input) × Refuses bytes fault
-IsRefusalOf Refuses input bytes fault = ⊥
-
--- the bytes of the one input are
+-- the bytes of the one input are refused with this fault
 abbrev pub IsRefusal : List ℕ → RunFault → Type 0
-IsRefusal bytes fault = IsRefusalOf IsRefusedWith Only bytes fault
+IsRefusal bytes (Refused which fault) = (which ≡ Only) × IsRefusedWith bytes fault
+IsRefusal bytes fault = ⊥
 
--- for a reader: the bytes that it has left, if it reports them, its count of failures, and what a
--- pull gives
-module _ {S : Type 0} (remaining : S → Option (List ℕ)) (count : S → ℕ)
-    (gives : S → List ℕ → Result ℕ Error → S → Type 0) where
-  -- how far an input was read until this fault: not to the end; or whole, and its bytes have it
-  abbrev pub EndsReading : (List ℕ → RunFault → Type 0) → Which → RunFault → S → S → Type 0
-  EndsReading IsFault input fault old new = IsNotRead remaining count gives input fault old new
-      ⊎ ((bytes : List ℕ) × IsReadWhole remaining gives old new bytes × IsFault bytes fault)
+-- `Answers` says which texts answer the bytes of an input, and `Refuses` why bytes have no answer.
+module _ {A R W : Type 0} (reader : Reader R) (writer : Writer W)
+    (Answers : A → List ℕ → List ℕ → Type 0) (Refuses : List ℕ → RunFault → Type 0) where
+  pub data Runs (result : Result A RunFault) (i i' : R) (o o' : W) : Type 0 where
+    -- the input was read whole, and the text that answers its bytes was written
+    answered : (answer : A) (bytes text : List ℕ) → result ≡ Ok answer
+        → IsReadWhole reader i i' bytes → Answers answer bytes text
+        → IsWritten writer o o' text → Runs result i i' o o'
+    -- so it was, but only a prefix of the text, and then the writer failed
+    cut_off : (answer : A) (bytes text : List ℕ) → result ≡ Err Write
+        → IsReadWhole reader i i' bytes → Answers answer bytes text
+        → IsWriteFault writer o o' text → Runs result i i' o o'
+    -- the input was not read whole, and nothing was asked of the output
+    unread : (fault : RunFault) → result ≡ Err fault → IsNotRead reader Only fault i i'
+        → o' ≡ o → Runs result i i' o o'
+    -- its bytes have no answer, and nothing was asked of the output
+    refused : (fault : RunFault) (bytes : List ℕ) → result ≡ Err fault
+        → IsReadWhole reader i i' bytes → Refuses bytes fault → o' ≡ o → Runs result i i' o o'
 
-  -- how far a run that has no answer read an input, at each fault
-  abbrev pub ReadsUntil : (List ℕ → Fault → Type 0) → Which → RunFault → S → S → Type 0
-  ReadsUntil Refuses input fault old new = EndsReading
-      (λ bytes why. IsRefusalOf Refuses input bytes why ⊎ (why ≡ Write)) input fault old new
+-- the runs
+module _ {R W : Type 0} (reader : Reader R) (writer : Writer W) where
+  -- `run_canon_by`
+  abbrev pub RunsCanonBy : Names → Result ⊤ RunFault → R → R → W → W → Type 0
+  RunsCanonBy names = Runs reader writer (λ answer. IsTextBy names) IsRefusal
+
+  -- `run_check`
+  abbrev pub RunsCheck : Result FileKind RunFault → R → R → W → W → Type 0
+  RunsCheck = Runs reader writer IsKindLine IsRefusal
+
+  -- `run_table` and `run_table_reduced`
+  abbrev pub RunsTable : Strategies → Result ⊤ RunFault → R → R → W → W → Type 0
+  RunsTable strategies =
+      Runs reader writer (λ answer. IsFormText strategies) (IsFaultOfBytes strategies)
+
+  -- `run_hash`
+  abbrev pub RunsHash : Names → List ℕ → Result ⊤ RunFault → R → R → W → W → Type 0
+  RunsHash names name = Runs reader writer (λ answer. IsHashLine names name) IsFaultOfFile

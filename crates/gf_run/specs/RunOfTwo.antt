@@ -1,22 +1,16 @@
--- What a run over two inputs reads and writes, and why two files that were read have no answer.
-use Rattle.std.specs.Prelude.{◌≡◌, ◌⊎◌, ℕ, List, Option, Result}
-use Rattle.std.specs.declared.io.Error.{Error}
+-- What a run over two inputs does.
+use Rattle.std.specs.Prelude.{◌≡◌, ℕ, Bool, List, Result, Ok, Err}
+use Rattle.gf_canon.specs.GameFile.{SameFile}
 use Rattle.gf_canon.specs.Judgement.{IsRefusedWith, MeansFile}
+use Rattle.gf_canon.specs.SameBy.{SameBy}
+use Rattle.gf_canon.specs.declared.sameness.Names.{Names}
+use Rattle.gf_run.specs.Input.{IsNotRead, IsReadWhole}
+use Rattle.gf_run.specs.Output.{IsWriteFault, IsWritten}
+use Rattle.gf_run.specs.SameText.{IsAnswer, IsLine, IsLineAndMap}
+use Rattle.gf_run.specs.Streams.{Reader, Writer}
 use Rattle.gf_run.specs.declared.fault.RunFault.{RunFault}
 use Rattle.gf_run.specs.declared.fault.RunFault.TheVariants.{Refused, Read, Write, Form, Memory}
 use Rattle.gf_run.specs.declared.fault.Which.TheVariants.{Only, First, Second}
-use Rattle.gf_run.specs.Input.{IsNotRead, IsReadWhole}
-
--- the bytes that were read from two inputs have this answer, and its text was written
-pub record AnswersTwo (IsAnswer : List ℕ → List ℕ → List ℕ → Type 0)
-    (first second written : List ℕ → Type 0) : Type 0 where
-  pub first_bytes : List ℕ
-  pub second_bytes : List ℕ
-  pub text : List ℕ
-  pub first_input : first first_bytes
-  pub second_input : second second_bytes
-  pub answer : IsAnswer first_bytes second_bytes text
-  pub output : written text
 
 -- Why two files that were read whole have no answer: the first is refused; or it is not, and the
 -- second is; or both mean files, and memory ran out.
@@ -29,22 +23,41 @@ IsFaultOfFiles a b Write = ⊥
 IsFaultOfFiles a b (Form fault) = ⊥
 IsFaultOfFiles a b Memory = MeansFile a × MeansFile b
 
--- for two readers: the bytes that each has left, if it reports them, its count of failures, and
--- what a pull gives
-module _ {R S : Type 0} (remaining : R → Option (List ℕ)) (count : R → ℕ)
-    (gives : R → List ℕ → Result ℕ Error → R → Type 0) (remaining' : S → Option (List ℕ))
-    (count' : S → ℕ) (gives' : S → List ℕ → Result ℕ Error → S → Type 0) where
-  -- How far two inputs were read until this fault: the first could not be read whole, and the
-  -- second was not asked; or the first was, and the second could not be.
-  pub data AreNotRead (fault : RunFault) (a a' : R) (b b' : S) : Type 0 where
-    first_not_read : IsNotRead remaining count gives First fault a a' → b' ≡ b
-        → AreNotRead fault a a' b b'
-    second_not_read : (bytes : List ℕ) → IsReadWhole remaining gives a a' bytes
-        → IsNotRead remaining' count' gives' Second fault b b' → AreNotRead fault a a' b b'
+-- `Answers` says which texts answer the bytes of two inputs.
+module _ {R S W : Type 0} (first : Reader R) (second : Reader S) (writer : Writer W)
+    (Answers : Bool → List ℕ → List ℕ → List ℕ → Type 0) where
+  pub data RunsTwo (result : Result Bool RunFault) (a a' : R) (b b' : S) (o o' : W)
+      : Type 0 where
+    -- the inputs were read whole, and the text that answers their bytes was written
+    answered : (same : Bool) (x y text : List ℕ) → result ≡ Ok same
+        → IsReadWhole first a a' x → IsReadWhole second b b' y → Answers same x y text
+        → IsWritten writer o o' text → RunsTwo result a a' b b' o o'
+    -- so it was, but only a prefix of the text, and then the writer failed
+    cut_off : (same : Bool) (x y text : List ℕ) → result ≡ Err Write
+        → IsReadWhole first a a' x → IsReadWhole second b b' y → Answers same x y text
+        → IsWriteFault writer o o' text → RunsTwo result a a' b b' o o'
+    -- the first was not read whole, and nothing was asked of the second or of the output
+    first_unread : (fault : RunFault) → result ≡ Err fault → IsNotRead first First fault a a'
+        → b' ≡ b → o' ≡ o → RunsTwo result a a' b b' o o'
+    -- the first was read whole, but not the second, and nothing was asked of the output
+    second_unread : (fault : RunFault) (x : List ℕ) → result ≡ Err fault
+        → IsReadWhole first a a' x → IsNotRead second Second fault b b'
+        → o' ≡ o → RunsTwo result a a' b b' o o'
+    -- their bytes have no answer, and nothing was asked of the output
+    refused : (fault : RunFault) (x y : List ℕ) → result ≡ Err fault
+        → IsReadWhole first a a' x → IsReadWhole second b b' y → IsFaultOfFiles x y fault
+        → o' ≡ o → RunsTwo result a a' b b' o o'
 
-  -- how far a run that has no answer read its two inputs: not both to the end, or both whole
-  abbrev pub ReadsTwoUntil : RunFault → R → R → S → S → Type 0
-  ReadsTwoUntil fault a a' b b' = AreNotRead fault a a' b b'
-      ⊎ ((bytes bytes' : List ℕ) × IsReadWhole remaining gives a a' bytes
-      × IsReadWhole remaining' gives' b b' bytes' × (IsFaultOfFiles bytes bytes' fault
-      ⊎ ((fault ≡ Write) × MeansFile bytes × MeansFile bytes')))
+-- the runs
+module _ {R S W : Type 0} (first : Reader R) (second : Reader S) (writer : Writer W) where
+  -- `run_same`
+  abbrev pub RunsSame : Result Bool RunFault → R → R → S → S → W → W → Type 0
+  RunsSame = RunsTwo first second writer (IsAnswer SameFile IsLine)
+
+  -- `run_same_by`
+  abbrev pub RunsSameBy : Names → Result Bool RunFault → R → R → S → S → W → W → Type 0
+  RunsSameBy names = RunsTwo first second writer (IsAnswer (SameBy names) IsLine)
+
+  -- `run_same_map`
+  abbrev pub RunsSameMap : Result Bool RunFault → R → R → S → S → W → W → Type 0
+  RunsSameMap = RunsTwo first second writer (IsAnswer SameFile IsLineAndMap)

@@ -2,6 +2,7 @@
 
 pub mod collection;
 pub mod duplicates;
+pub mod file;
 pub mod folders;
 pub mod groups;
 pub mod hash;

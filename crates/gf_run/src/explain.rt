@@ -1,5 +1,6 @@
 //! A fault in words: where it is, what is wrong, the line with marks under the place, and a hint.
 
+pub mod cause;
 mod excerpt;
 mod place;
 mod sentence;

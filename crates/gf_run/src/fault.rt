@@ -12,7 +12,6 @@ use gf_canon::SameFault;
 use gf_form::FormFault;
 use gf_token::{Fault, Why};
 use std::alloc::AllocError;
-use std::io;
 use thiserror::Error;
 
 /// The input that a fault is about.
@@ -80,24 +79,6 @@ impl From<FormFault> for RunFault {
             FormFault::Memory => RunFault::Memory,
             form => RunFault::Form(form),
         }
-    }
-}
-
-/// A fault, and what is known about it.
-#[derive(Clone, Copy)]
-pub struct Failure {
-    pub fault: RunFault,
-    /// Whether the input that it is about was opened.
-    pub is_open: bool,
-    /// The last error of this input, or of the output.
-    pub error: Option<io::Error>,
-}
-
-impl From<Failure> for RunFault {
-    ghost from_gives = { λ failure fault. fault ≡ failure.fault };
-
-    fn from(failure: Failure) -> RunFault {
-        failure.fault
     }
 }
 

@@ -1,9 +1,8 @@
-//! What the program does for a job, and the runs over inputs that are open.
+//! The runs over inputs that are open, and what the program does for a job.
 
-pub mod answer;
 pub mod ending;
-pub mod explained;
 pub mod job;
+pub mod one_file;
 pub mod run;
 pub mod run_of_two;
-pub mod table;
+pub mod two_files;

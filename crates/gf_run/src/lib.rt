@@ -2,7 +2,6 @@
 //! fault in one line with an exit status. It works over any readers and writers.
 #![tactic(auto)]
 
-mod asked;
 mod collections;
 mod explain;
 mod fault;
@@ -12,22 +11,23 @@ mod opening;
 mod streams;
 mod texts;
 
-pub use asked::{ArgumentsFault, Asked, Collection, Input, Job, Paths};
-pub use collections::collection::run_collection;
+pub use collections::collection::{perform_duplicates, perform_hash};
 pub use collections::duplicates::run_duplicates;
+pub use collections::file::CollectionFile;
 pub use collections::hash::run_hash;
 pub use collections::hashes::run_hashes;
 pub use collections::paths::files_at;
 pub use collections::progress::{Erasing, Progress, Shown};
 pub use fault::{RunFault, Which, WriteFault, answer_status, status};
 pub use jobs::ending::{answer, tell};
-pub use jobs::explained::perform_explained;
 pub use jobs::job::perform;
-pub use jobs::run::{run_canon, run_check, run_table, run_table_reduced};
+pub use jobs::run::{run_canon, run_canon_by, run_check, run_table, run_table_reduced};
 pub use jobs::run_of_two::{run_same, run_same_by, run_same_map};
 pub use opening::inputs::Inputs;
-pub use opening::opened::Opened;
+pub use opening::opened::{HostInputs, Opened};
 pub use streams::counted::Counted;
+pub use streams::kept::Kept;
+pub use streams::last_error::LastError;
 pub use streams::sink::Sink;
 pub use streams::source::{LIMIT, Source};
 pub use texts::report::write_fault;

@@ -1,5 +1,4 @@
-//! How the inputs of a job are opened and read.
+//! How inputs are opened.
 
 pub mod inputs;
 pub mod opened;
-pub mod read;

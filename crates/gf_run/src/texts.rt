@@ -1,9 +1,10 @@
-//! What is written in addition to the texts of files: answers about two files, and the lines of
-//! faults.
+//! What is written: the texts of answers, and the line of a fault.
 
 pub mod comparison;
+pub mod game;
 pub mod joined;
 pub mod line;
 pub mod renumbering;
 pub mod report;
+pub mod table;
 pub mod text;

@@ -3,5 +3,4 @@
 mod faults;
 mod forms;
 mod library;
-mod runs;
 mod trees;

@@ -81,11 +81,6 @@ both {xs} {ys} {ts} {us} first second =
     record { each = each_both (λ ts field. Says field ts) xs ys ts us first.each second.each }
 
 module _ {X : Type 0} (P : X → Type 0) where
-  pub each : (f : X → List (List ℕ)) (g : X → List Token) → ((x : X) → P x → AreSaid (f x) (g x))
-      → (xs : List X) → AllByRecursion P xs → AreSaid (flat_map f xs) (flat_map g xs)
-  each f g h [] all = none
-  each f g h (x ∷ xs) all = both (h x all.0) (each f g h xs all.1)
-
   pub each_field : (f : X → List ℕ) (g : X → List Token) → ((x : X) → P x → Says (f x) (g x))
       → (xs : List X) → AllByRecursion P xs → AreSaid (map f xs) (flat_map g xs)
   each_field f g h [] all = none

@@ -1,6 +1,6 @@
 -- The reading of an index, as a function, is the index that a text is.
 use Rattle.std.proofs.Common.{◌≡◌, ℕ, ◌<◌, ◌^◌, Bool, true, false, cond}
-use Rattle.std.proofs.Common.{List, [], ◌∷◌, arith, refl, Option, Some, None}
+use Rattle.std.proofs.Common.{List, [], ◌∷◌, arith, refl, sym, ◌∙◌, Option, Some, None}
 use Rattle.std.specs.Prelude.{nat_lt}
 use Rattle.std.specs.List.{list_all}
 use Rattle.std.specs.Char.{is_ascii_digit}
@@ -8,10 +8,11 @@ use Rattle.std.specs.Str.Parse.{AllDigits, digits_value}
 use Rattle.std.proofs.lemmas.Bool.{and_parts}
 use Rattle.std.proofs.lemmas.Bool.Decides.{nat_tests}
 use Rattle.gf_fraction.proofs.SpelledIsFound.{ascii_from_digit, digit_from_ascii}
-use Rattle.gf_token.specs.Index.{IsDigits, IsIndex}
+use Rattle.gf_token.specs.Index.{IsDigits, IsIndex, ReadsIndex}
 use Rattle.gf_token.specs.NoIndex.{IsNoIndex}
 use Rattle.gf_token.specs.declared.index.IndexFault.{IndexFault}
-use Rattle.gf_token.specs.Indices.{is_numeral, index_of, count_of, positive}
+use Rattle.gf_token.specs.declared.index.IndexFault.TheVariants.{NotDigits, TooLarge}
+use Rattle.gf_token.specs.inner.Indices.{is_numeral, index_of, count_of, positive}
 
 all_digits : (ds : List ℕ) → list_all is_ascii_digit ds ≡ true → AllDigits 10 ds
 all_digits [] h = tt
@@ -38,11 +39,6 @@ pub index_again : (bs : List ℕ) (n : ℕ) → IsIndex bs n → index_of bs ≡
 unfolding index_of
 index_again bs n h = grind (arith, nat_tests, numeral_of)
 
--- what is not an index is not read
-pub index_none : (bs : List ℕ) (fault : IndexFault) → IsNoIndex bs fault → index_of bs ≡ None
-unfolding index_of
-index_none bs fault h = grind (arith, no_numeral, nat_tests, numeral_of)
-
 index_by : (bs : List ℕ) (n : ℕ) (numeral small : Bool) → is_numeral bs ≡ numeral
     → nat_lt (digits_value 10 bs) (2 ^ 32) ≡ small
     → cond numeral (cond small (Some (digits_value 10 bs)) None) None ≡ Some n → IsIndex bs n
@@ -52,6 +48,34 @@ index_by bs n numeral small en es e = grind (arith, nat_tests, IsDigits-numeral)
 pub index_is : (bs : List ℕ) (n : ℕ) → index_of bs ≡ Some n → IsIndex bs n
 unfolding index_of
 index_is bs n e = index_by bs n (is_numeral bs) (nat_lt (digits_value 10 bs) (2 ^ 32)) refl refl e
+
+-- what is not an index is none
+pub no_index : (bs : List ℕ) (fault : IndexFault) → IsNoIndex bs fault → (n : ℕ) → ¬ (IsIndex bs n)
+no_index bs NotDigits h n k = h k.0
+no_index bs TooLarge h n k = omega (arith, h.1, k.1, k.2)
+
+none_by : (bs : List ℕ) (o : Option ℕ) → index_of bs ≡ o → ((n : ℕ) → ¬ (IsIndex bs n)) → o ≡ None
+none_by bs (Some n) e none = absurd (none n (index_is bs n e))
+none_by bs None e none = refl
+
+-- so whatever reading an index answers is what is computed
+pub index_read : (bs : List ℕ) (o : Option ℕ) → ReadsIndex bs o → o ≡ index_of bs
+index_read bs (Some n) h = sym (index_again bs n h)
+index_read bs None h = sym (none_by bs (index_of bs) refl h)
+
+pub index_none : (bs : List ℕ) → ((n : ℕ) → ¬ (IsIndex bs n)) → index_of bs ≡ None
+index_none bs none = none_by bs (index_of bs) refl none
+
+pub ruleset index_answers = (index_read, index_again, index_none)
+
+reads_by : (bs : List ℕ) (o : Option ℕ) → index_of bs ≡ o → ReadsIndex bs o
+reads_by bs (Some n) e = index_is bs n e
+reads_by bs None e = λ n h. let f : None ≡ Some n = sym e ∙ index_again bs n h in cc
+
+-- it has one answer
+pub one_index : (bs : List ℕ) → (read : Option ℕ) × ReadsIndex bs read
+    × ((other : Option ℕ) → ReadsIndex bs other → other ≡ read)
+one_index bs = (index_of bs, reads_by bs (index_of bs) refl, index_read bs)
 
 positive_is : (o : Option ℕ) (n : ℕ) → positive o ≡ Some n → (0 < n) × (o ≡ Some n)
 positive_is o n e = grind arith

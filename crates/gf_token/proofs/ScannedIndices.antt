@@ -5,11 +5,11 @@ use Rattle.std.specs.Prelude.{nat_lt, slice_range, if◌then◌else◌}
 use Rattle.std.specs.Char.{digit_value, is_ascii_digit}
 use Rattle.std.specs.Str.Parse.{AllDigits, digits_value}
 use Rattle.std.proofs.Math.Nat.{pow-le-pow_right}
+use Rattle.std.proofs.lemmas.Bool.Decides.{nat_tests}
 use Rattle.std.proofs.lemmas.Int.Digits.{digits_more, digits_value_more, digits_value-lt}
 use Rattle.std.proofs.lemmas.List.{get_or-drop, length-drop, length-take-le}
 use Rattle.gf_fraction.proofs.SpelledIsFound.{digit_from_ascii}
-use Rattle.gf_token.specs.Indices.{index_of}
-use Rattle.gf_token.proofs.ReadingIndices.{numeral_of}
+use Rattle.gf_token.specs.Index.{ReadsIndex}
 
 -- a digit more
 module _ (bytes : List ℕ) (start at : ℕ) (from : start ≤ at) (within : at < length bytes)
@@ -61,8 +61,6 @@ has_room bytes start at value from within few all is =
 pub scanned : (bytes : List ℕ) (start at value : ℕ) → start < at → at ≤ length bytes
     → AllDigits 10 (slice_range bytes start at)
     → value ≡ digits_value 10 (slice_range bytes start at)
-    → (if nat_lt value (2 ^ 32) then Some value else None)
-    ≡ index_of (slice_range bytes start at)
-unfolding index_of
+    → ReadsIndex (slice_range bytes start at) (if nat_lt value (2 ^ 32) then Some value else None)
 scanned bytes start at value some within digits is =
-    grind (arith, length-take-le, length-drop, numeral_of)
+    grind (arith, length-take-le, length-drop, nat_tests)

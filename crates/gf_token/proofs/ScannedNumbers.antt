@@ -14,9 +14,9 @@ use Rattle.std.proofs.lemmas.List.{length-drop, length-take-le, take_rest}
 use Rattle.std.proofs.lemmas.List.Folds.{drop_split}
 use Rattle.gf_fraction.specs.Ratio.{Ratio, signed, whole}
 use Rattle.gf_fraction.specs.NumberSpelling.{IsNumber, IsSign}
-use Rattle.gf_fraction.proofs.ComputedAnswers.{number_again}
 use Rattle.gf_fraction.proofs.WholeNumbers.{digits_spelled as whole_spelled, is_sign_of, sign_of}
 use Rattle.gf_token.specs.Byte.{is_bare, is_space}
+use Rattle.gf_token.specs.Index.{ReadsIndex}
 use Rattle.gf_token.specs.Token.{lexeme}
 use Rattle.gf_token.specs.Token.Token.{Bare}
 use Rattle.gf_token.specs.TokenSpelling.{IsSpelled, MayPrecede}
@@ -81,7 +81,7 @@ finds_number bytes start end r number order within ends =
       begins = omega (arith, long, some_bytes text bare);
       within = within;
       found = finds_bare bytes start end bare order within ends;
-      number = sym (number_again text r number);
+      number = number;
     }
 
 pub digits_found : (bytes : List ℕ) (start at : ℕ) → start < at → at ≤ length bytes
@@ -104,7 +104,8 @@ spaced_found bytes from end value index space some within digits ends valued is 
   found =
       gap_more bytes from (omega (arith, some, within)) space
       ∙ digits_found bytes (from + 1) end some (omega (arith, within)) digits (λ _. ends);
-  read = is ∙ scanned bytes (from + 1) end value some (omega (arith, within)) digits valued;
+  read = subst (ReadsIndex _) (sym is)
+      (scanned bytes (from + 1) end value some (omega (arith, within)) digits valued);
 }
 
 is_45 : (b : ℕ) → (b == 45) ≡ true → b ≡ 45

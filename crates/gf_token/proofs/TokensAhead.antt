@@ -1,9 +1,9 @@
 -- What is known about the tokens of an input that are still to come.
-use Rattle.std.proofs.Common.{◌≡◌, ◌<◌, ◌≤◌, ◌+◌, ℕ, Bool, true, List, [], ◌∷◌, ◌++◌, length}
+use Rattle.std.proofs.Common.{◌≡◌, ◌<◌, ◌≤◌, ◌+◌, ℕ, List, [], ◌∷◌, ◌++◌, length}
 use Rattle.std.proofs.Common.{sym, ap, subst, append_assoc, arith, zero-add}
 use Rattle.std.proofs.lemmas.List.{length-append}
 use Rattle.gf_token.specs.inner.Finding.{lexed}
-use Rattle.gf_token.specs.Remaining.{AreAhead, AreInOrder, Remaining, StandsBefore, Takes}
+use Rattle.gf_token.specs.Remaining.{AreAhead, AreInOrder, StandsBefore}
 use Rattle.gf_token.specs.Token.{Token, Lexeme, lexeme, spelling}
 use Rattle.gf_token.specs.Token.Token.{Opening, Closing, Comma, Text, Bare, Broken}
 use Rattle.gf_token.specs.TokenSpelling.{GoesOn, Spells}
@@ -91,14 +91,3 @@ pub few_ahead : (input : List ℕ) (ls : List Lexeme) → Spells 0 input ls → 
 few_ahead input ls h = let few = few_in_order _ 0 ls (all_in_order input ls h) in omega (arith, few)
 
 pub ruleset tokens_steps = (found, all_ahead, few_ahead)
-
-pub taken_token : (test : Token → Bool) (old new : Remaining) (token : Token) (start end : ℕ)
-    → old.ahead ≡ lexeme start end token ∷ new.ahead → new.input ≡ old.input → test token ≡ true
-    → Takes test old new
-taken_token test old new token start end next input passes = record {
-  token = token;
-  start = start;
-  end = end;
-  parts = λ i. record { input = sym input i; ahead = next i };
-  passes = passes;
-}

@@ -53,8 +53,9 @@ refusal end why (l ∷ ls) = record {
   why = if is_broken l.token then Unterminated else why;
 }
 
--- the next token does not pass the test, and is refused; or the end is
-pub record IsNextRefused (test : Token → Bool) (due : Why) (remaining : Remaining) (fault : Fault)
+-- the next token does not pass the test, and is refused; or the end is; nothing is taken
+pub record IsNextRefused (test : Token → Bool) (due : Why) (old new : Remaining) (fault : Fault)
     : Type 0 where
-  pub other : starts test remaining.ahead ≡ false
-  pub refused : fault ≡ refusal (length remaining.input) due remaining.ahead
+  pub other : starts test old.ahead ≡ false
+  pub refused : fault ≡ refusal (length old.input) due old.ahead
+  pub kept : new ≡ old

@@ -1,9 +1,8 @@
 //! Indices: counts, and the numbers of players, information sets and outcomes.
 
 ghost use Rattle.std.specs.Prelude.{◌≡◌, MatchResult};
-ghost use Rattle.gf_token.specs.Index.{IsIndex};
+ghost use Rattle.gf_token.specs.Index.{IsIndex, ReadsIndex};
 ghost use Rattle.gf_token.specs.NoIndex.{IsNoIndex};
-ghost use Rattle.gf_token.specs.Indices.{index_of};
 
 /// Why a text is not an index.
 #[derive(Clone, Copy, PartialEq, Eq)]
@@ -52,7 +51,7 @@ pub fn read_index(text: &[u8]) -> Result<u32, IndexFault>
 
 /// The index that `text` spells, if it spells one.
 pub(crate) fn index_in(text: &[u8]) -> Option<u32>
-    ensures { result ≡ index_of text.now }
+    ensures { ReadsIndex text.now result }
 {
     match read_index(text) {
         Ok(index) => Some(index),

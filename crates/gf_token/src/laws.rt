@@ -1,8 +1,7 @@
 //! Laws of the definitions, each as the contract of a function that does nothing.
 
-ghost use Rattle.std.specs.Prelude.{◌≡◌, ◌↔◌, ◌<◌, ◌∷◌, ◌++◌, ℕ, List, IsTrue, Some};
-ghost use Rattle.gf_token.specs.Index.{IsIndex};
-ghost use Rattle.gf_token.specs.Indices.{count_of, index_of};
+ghost use Rattle.std.specs.Prelude.{◌≡◌, ◌↔◌, ◌∷◌, ◌++◌, ℕ, List, IsTrue, Option};
+ghost use Rattle.gf_token.specs.Index.{ReadsIndex};
 ghost use Rattle.gf_token.specs.LabelSpelling.{is_spelling};
 ghost use Rattle.gf_token.specs.EscapedQuotes.{EscapesQuotes, EndsInBackslash};
 ghost use Rattle.gf_token.specs.Token.{Lexeme};
@@ -28,11 +27,8 @@ pub fn labels_escape_quotes()
         → IsTrue (is_spelling bytes) ↔ (EscapesQuotes bytes × ¬ (EndsInBackslash bytes)) }
 {}
 
-/// If an index is due, bytes are read as `n` exactly when they are only digits, at least one, with
-/// the value `n`, which is at most 4,294,967,295. If a count is due, exactly when `n` is also above
-/// 0.
-pub fn indices_by_digits()
-    ensures index { (bytes : List ℕ) (n : ℕ) → (index_of bytes ≡ Some n) ↔ IsIndex bytes n }
-    ensures count { (bytes : List ℕ) (n : ℕ)
-        → (count_of bytes ≡ Some n) ↔ (IsIndex bytes n × (0 < n)) }
+/// If an index is due, bytes are read in one way: as the index that they are, or as none.
+pub fn one_index()
+    ensures { (bytes : List ℕ) → (read : Option ℕ) × ReadsIndex bytes read
+        × ((other : Option ℕ) → ReadsIndex bytes other → other ≡ read) }
 {}

@@ -8,6 +8,7 @@
 #![tactic(auto)]
 
 mod byte;
+mod cursor;
 mod fault;
 mod heading;
 mod index;
@@ -15,12 +16,11 @@ mod label;
 pub mod laws;
 mod scan;
 mod token;
-mod tokens;
 mod write;
 
+pub use cursor::Cursor;
 pub use fault::{Fault, Span, What, Why};
 pub use index::{IndexFault, read_index};
 pub use label::Label;
 pub use token::{BareToken, Kind, TextToken, Token};
-pub use tokens::Tokens;
 pub use write::write_label;

@@ -1,4 +1,4 @@
-//! Where the tokens of an input begin and end: functions over its bytes, of which `Tokens` is made.
+//! Where the tokens of an input begin and end: functions over its bytes, of which `Cursor` is made.
 //!
 //! What is called at each token is `inline(always)`: wide values would otherwise pass through
 //! memory.
@@ -10,11 +10,11 @@ ghost use Rattle.std.specs.Bool.{OnTrue};
 ghost use Rattle.std.specs.Int.{from_bool};
 ghost use Rattle.std.specs.Char.{digit_value, is_ascii_digit};
 ghost use Rattle.std.specs.Str.Parse.{AllDigits, digits_value};
-ghost use Rattle.gf_fraction.specs.Computed.{number_of};
+ghost use Rattle.gf_fraction.specs.NoNumber.{Reads};
 ghost use Rattle.gf_token.specs.Byte.{is_space, is_bare};
 ghost use Rattle.gf_token.specs.inner.Finding.{lexed, ClosesText, EndsDigits, EndsGap, Finds};
 ghost use Rattle.gf_token.specs.inner.Finding.{FindsIndex, FindsNumber, IsNotShort};
-ghost use Rattle.gf_token.specs.Indices.{index_of};
+ghost use Rattle.gf_token.specs.Index.{ReadsIndex};
 ghost use Rattle.gf_token.specs.Label.{label_of};
 ghost use Rattle.gf_token.specs.Next.{starts, is_text_of};
 ghost use Rattle.gf_token.specs.Token.{lexeme};
@@ -179,7 +179,7 @@ pub(crate) fn index_end(input: &[u8], start: usize) -> (usize, Option<u32>)
     ensures found { lexed input.now start
         ≡ lexeme start result.0 (Bare (slice_range input.now start result.0))
         ∷ lexed input.now result.0 }
-    ensures index { result.1 ≡ index_of (slice_range input.now start result.0) }
+    ensures index { ReadsIndex (slice_range input.now start result.0) result.1 }
 {
     if input[start].is_ascii_digit() {
         let (at, value) = digits_end(input, start);
@@ -259,7 +259,7 @@ pub(crate) fn number_end(input: &[u8], start: usize) -> (usize, Result<Fraction,
     ensures found { lexed input.now start
         ≡ lexeme start result.0 (Bare (slice_range input.now start result.0))
         ∷ lexed input.now result.0 }
-    ensures number { result.1 ≡ number_of (slice_range input.now start result.0) }
+    ensures number { Reads (slice_range input.now start result.0) result.1 }
 {
     if let Some((end, number)) = short_number_end(input, start) {
         return (end, Ok(number));

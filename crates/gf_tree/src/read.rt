@@ -59,8 +59,11 @@ pub fn read_efg<'a>(alloc: Global, input: &'a [u8]) -> Result<Game<'a>, Fault>
 ///
 /// # Errors
 ///
-/// Those of `read_efg`, also if the receiver is refused memory; the receiver has then been told a
-/// part of the file.
+/// Those of `read_efg`, also if the receiver is refused memory. The receiver has then been told
+/// what is complete before this place: nothing, the heading, or the heading and some nodes. A node
+/// ends at the number of its outcome if this is 0 or known, and otherwise at the description that
+/// follows. If the receiver was refused memory, this was for the heading or the node that ends at
+/// this place.
 #[tactic(auto, using(crate::proofs::lemmas::reader::ToldGames::told))]
 pub fn tell_efg<'a, R: Receive<'a>>(alloc: Global, input: &'a [u8], to: &mut R) -> Result<(), Fault>
     requires untold { R.untold to.old }

@@ -30,13 +30,13 @@ use crate::game::parts::Parts;
 use crate::game::sets::Sets;
 use crate::numbers::indexing::Indexing;
 use crate::reader::receive::Receive;
-use gf_token::{Fault, Label, Span, Tokens};
+use gf_token::{Cursor, Fault, Label, Span};
 use std::alloc::Global;
 
 /// Reads an extensive file.
 #[derive(Drop)]
 pub(crate) struct Reader<'a> {
-    tokens: Tokens<'a>,
+    tokens: Cursor<'a>,
     title: Label<'a>,
     comment: Label<'a>,
     players: Vec<Label<'a>>,
@@ -63,7 +63,7 @@ impl<'a> Reader<'a> {
     {
         let empty = Label::new(&[]).unwrap();
         Reader {
-            tokens: Tokens::new(input),
+            tokens: Cursor::new(input),
             title: empty,
             comment: empty,
             players: Vec::new(alloc),

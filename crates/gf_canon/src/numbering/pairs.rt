@@ -1,6 +1,7 @@
 //! Which numbers of two games correspond.
 
-ghost use Rattle.std.specs.Prelude.{◌≡◌, ◌↔◌, ◌++◌, ℕ, IfErr, IfOk, IsTrue, List, [], OnOk, false};
+ghost use Rattle.std.specs.Prelude.{◌≡◌, ◌↔◌, ◌⊎◌, ◌++◌, ℕ, IfErr, IfOk, IsTrue, List, []};
+ghost use Rattle.std.specs.Prelude.{OnErr, OnOk, false};
 ghost use Rattle.gf_tree.specs.IsGame.{IsGame};
 ghost use Rattle.gf_tree.specs.Renumbering.{Renumbering};
 ghost use Rattle.gf_tree.specs.SameGame.{Carries};
@@ -9,8 +10,10 @@ ghost use Rattle.gf_canon.specs.CanonicalText.{SpellsWithin};
 ghost use Rattle.gf_canon.specs.GameFile.{GameFile, SameFile};
 ghost use Rattle.gf_canon.specs.Judgement.{MeansFile};
 ghost use Rattle.gf_canon.specs.MeaningOf.{file_of};
-ghost use Rattle.gf_canon.specs.Pairs.{ArePairs, outcome_pairs, renumbering_pairs, set_pairs};
+ghost use Rattle.gf_canon.specs.Pairs.{ArePairs, HavePairs, outcome_pairs, renumbering_pairs};
+ghost use Rattle.gf_canon.specs.Pairs.{set_pairs};
 ghost use Rattle.gf_canon.specs.Sameness.{AreRefusedWith};
+ghost use Rattle.gf_canon.specs.declared.sameness.SameFault.TheVariants.{Memory};
 
 use crate::meaning::{Meaning, read_file};
 use crate::sameness::{Names, SameFault, same_meaning};
@@ -134,7 +137,8 @@ fn tell_pairs<P: ReceivePairs>(g: &Game<'_>, h: &Game<'_>, to: &mut P) -> Result
 ///
 /// # Errors
 ///
-/// `AllocError` if memory is refused.
+/// `AllocError` if memory is refused. Then the receiver is as it was, unless both are games that
+/// are the same: of these it may have been told some of the pairs.
 pub fn pairs_between<P: ReceivePairs>(
     alloc: Global,
     a: &Meaning<'_>,
@@ -145,6 +149,8 @@ pub fn pairs_between<P: ReceivePairs>(
     ensures told { IfOk result (λ same. IsTrue same → P.holds to.old [] → (pairs : List NumberPair)
         × ArePairs (file_of a.now) (file_of b.now) pairs × P.holds to.new pairs) }
     ensures untold { IfOk result (λ same. same ≡ false → to.new ≡ to.old) }
+    ensures untouched { OnErr result ((to.new ≡ to.old)
+        ⊎ HavePairs (file_of a.now) (file_of b.now)) }
 {
     let same = same_meaning(alloc, a, b, Names::Kept)?;
     if let (true, Meaning::Tree(g), Meaning::Tree(h)) = (same, a, b) {
@@ -167,6 +173,8 @@ fn pairs_beside<P: ReceivePairs>(
     ensures untold { IfOk result (λ same. same ≡ false → to.new ≡ to.old) }
     ensures refused { IfErr result (λ fault.
         (a : List ℕ) → MeansFile a → AreRefusedWith a b.now fault) }
+    ensures untouched { IfErr result (λ fault. (to.new ≡ to.old) ⊎ ((fault ≡ Memory)
+        × (y : GameFile) × SpellsWithin b.now y × HavePairs (file_of first.now) y)) }
 {
     match read_file(alloc, b) {
         Ok(second) => match pairs_between(alloc, first, &second, to) {
@@ -182,7 +190,9 @@ fn pairs_beside<P: ReceivePairs>(
 ///
 /// # Errors
 ///
-/// Those of `same`.
+/// Those of `same`. If a file is refused, the receiver is as it was. If memory is refused after
+/// both were accepted (`Memory`), so it is, unless both mean games that are the same: of these it
+/// may have been told some of the pairs.
 pub fn pairs_of_files<P: ReceivePairs>(
     alloc: Global,
     a: &[u8],
@@ -194,6 +204,8 @@ pub fn pairs_of_files<P: ReceivePairs>(
         → (pairs : List NumberPair) × ArePairs x y pairs × P.holds to.new pairs)) }
     ensures untold { IfOk result (λ same. same ≡ false → to.new ≡ to.old) }
     ensures refused { IfErr result (AreRefusedWith a.now b.now) }
+    ensures untouched { IfErr result (λ fault. (to.new ≡ to.old) ⊎ ((fault ≡ Memory)
+        × (x y : GameFile) × SpellsWithin a.now x × SpellsWithin b.now y × HavePairs x y)) }
 {
     match read_file(alloc, a) {
         Ok(first) => pairs_beside(alloc, &first, b, to),

@@ -16,11 +16,12 @@ ghost use Rattle.gf_nfg.specs.inner.ReaderState.{GoesTo, IsCounted, StandsAt, Te
 ghost use Rattle.gf_nfg.specs.declared.reader.receive.Version.TheVariants as version;
 
 use crate::reader::receive::Receive;
-use gf_token::{Fault, Tokens, What, Why};
+use gf_token::{Cursor, Fault, What, Why};
 
 /// Reads a payoff, and tells it.
+#[tactic(auto, using(gf_fraction::proofs::ComputedAnswers::number_answers))]
 #[inline(always)]
-fn payoff<'a, R: Receive<'a>>(tokens: &mut Tokens<'a>, to: &mut R) -> Result<(), Fault>
+fn payoff<'a, R: Receive<'a>>(tokens: &mut Cursor<'a>, to: &mut R) -> Result<(), Fault>
     ensures flat { (b : Telling R) (due : ℕ) → 0 < due → GoesTo b result
         (StandsAt R.holds b (FlatPayoffs due) tokens.old to.old)
         (StandsAt R.holds b (FlatPayoffs (due - 1)) tokens.new to.new) }
@@ -48,7 +49,7 @@ fn payoff<'a, R: Receive<'a>>(tokens: &mut Tokens<'a>, to: &mut R) -> Result<(),
 
 /// Reads this many payoffs.
 pub(super) fn payoffs<'a, R: Receive<'a>>(
-    tokens: &mut Tokens<'a>,
+    tokens: &mut Cursor<'a>,
     mut due: u128,
     to: &mut R,
 ) -> Result<(), Fault>
@@ -65,7 +66,7 @@ pub(super) fn payoffs<'a, R: Receive<'a>>(
 
 /// Passes the one comma that may follow a payoff in braces.
 #[inline(always)]
-fn comma(tokens: &mut Tokens<'_>)
+fn comma(tokens: &mut Cursor<'_>)
     ensures machine { (c : Content) (outcomes due : ℕ)
         → heard (at (BracedPayoff true outcomes due) c) tokens.old
         ≡ heard (at (BracedPayoff false outcomes due) c) tokens.new }
@@ -76,7 +77,7 @@ fn comma(tokens: &mut Tokens<'_>)
 
 /// Reads this many payoffs in braces.
 fn braced_payoffs<'a, R: Receive<'a>>(
-    tokens: &mut Tokens<'a>,
+    tokens: &mut Cursor<'a>,
     mut due: usize,
     to: &mut R,
 ) -> Result<(), Fault>
@@ -95,7 +96,7 @@ fn braced_payoffs<'a, R: Receive<'a>>(
 
 /// Reads an outcome, after its opening brace.
 fn outcome<'a, R: Receive<'a>>(
-    tokens: &mut Tokens<'a>,
+    tokens: &mut Cursor<'a>,
     players: usize,
     to: &mut R,
 ) -> Result<(), Fault>
@@ -118,7 +119,7 @@ fn outcome<'a, R: Receive<'a>>(
 /// Reads the outcomes, after their opening brace. Returns how many there are, or `u32::MAX` if
 /// there are more: no index is greater.
 pub(super) fn outcomes<'a, R: Receive<'a>>(
-    tokens: &mut Tokens<'a>,
+    tokens: &mut Cursor<'a>,
     players: usize,
     to: &mut R,
 ) -> Result<u32, Fault>
@@ -141,9 +142,10 @@ pub(super) fn outcomes<'a, R: Receive<'a>>(
 }
 
 /// Reads the number of one of this many outcomes, and tells it.
+#[tactic(auto, using(gf_token::proofs::ReadingIndices::index_answers))]
 #[inline(always)]
 fn number<'a, R: Receive<'a>>(
-    tokens: &mut Tokens<'a>,
+    tokens: &mut Cursor<'a>,
     outcomes: u32,
     to: &mut R,
 ) -> Result<(), Fault>
@@ -172,7 +174,7 @@ fn number<'a, R: Receive<'a>>(
 
 /// Reads the numbers of outcomes at this many profiles, for this many outcomes.
 pub(super) fn numbers<'a, R: Receive<'a>>(
-    tokens: &mut Tokens<'a>,
+    tokens: &mut Cursor<'a>,
     mut due: u32,
     outcomes: u32,
     to: &mut R,
@@ -190,7 +192,7 @@ pub(super) fn numbers<'a, R: Receive<'a>>(
 }
 
 /// Reads the end.
-pub(super) fn end(tokens: &mut Tokens<'_>) -> Result<(), Fault>
+pub(super) fn end(tokens: &mut Cursor<'_>) -> Result<(), Fault>
     ensures flat { (c : Content) → MatchResult result
         (λ _. (heard (at (FlatPayoffs 0) c) tokens.old).machine ≡ Ok c)
         (λ f. Fails f (heard (at (FlatPayoffs 0) c) tokens.old)) }

@@ -1,7 +1,7 @@
 //! Counts, from the indices that bare tokens spell.
 
 ghost use Rattle.std.specs.Prelude.{◌≡◌};
-ghost use Rattle.gf_token.specs.Indices.{positive};
+ghost use Rattle.gf_token.specs.inner.Indices.{positive};
 
 /// The count that an index is: it is above zero.
 #[inline(always)]

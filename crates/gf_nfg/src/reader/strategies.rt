@@ -43,6 +43,7 @@ impl<'a> Reader<'a> {
     }
 
     /// Reads a count that is due.
+    #[tactic(auto, using(gf_token::proofs::ReadingIndices::index_answers))]
     fn count(&mut self, due: What) -> Result<(), Fault>
         ensures first { (left : ℕ) → 0 < left → due ≡ what.Strategies
             → starts is_opening self.old.tokens.ahead ≡ false

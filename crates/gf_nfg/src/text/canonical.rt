@@ -1,6 +1,6 @@
 //! The canonical text of a strategic file.
 
-ghost use Rattle.std.specs.Prelude.{◌≡◌, ◌++◌, List, ℕ, IfErr, IfOk, map};
+ghost use Rattle.std.specs.Prelude.{◌≡◌, ◌++◌, [], List, ℕ, IfErr, IfOk, map};
 ghost use Rattle.gf_token.specs.declared.fault.Why.TheVariants.{Memory};
 ghost use Rattle.gf_nfg.specs.Judgement.{IsJudged};
 ghost use Rattle.gf_nfg.specs.Limit.{IsWithinLimit};
@@ -22,9 +22,10 @@ use std::alloc::{AllocError, Global};
 /// A text that ends with a line for each profile.
 fn with_lines(alloc: Global, text: Vec<u8>, parts: Parts<'_>) -> Result<TextPieces, AllocError>
     requires { IsComplete (content_of parts) }
-    ensures { IfOk result (λ whole. whole.rest ≡ text.items
+    ensures rest { IfOk result (λ whole. whole.rest ≡ text.items
         ++ lines_text
         (map row_text (rows_by (content_of parts.entry) parts.entry.kept.numbers.items))) }
+    ensures none { IfOk result (λ whole. whole.piece ≡ []) }
 {
     let rows = parts.rows(alloc)?;
     TextPieces::with_rows(alloc, text, rows)
@@ -40,6 +41,7 @@ fn with_lines(alloc: Global, text: Vec<u8>, parts: Parts<'_>) -> Result<TextPiec
 pub fn canonical_nfg(alloc: Global, input: &[u8], named: bool) -> Result<TextPieces, Fault>
     ensures text { IfOk result (λ text. (t : Table) × SpellsTable input.now t × IsWithinLimit t
         × (text.rest ≡ table_text (named_by named t))) }
+    ensures none { IfOk result (λ text. text.piece ≡ []) }
     ensures only { IfErr result (λ fault. (t : Table) → SpellsTable input.now t → IsWithinLimit t
         → fault.why ≡ Memory) }
     ensures judged { IfErr result (λ fault. IsJudged fault.why input.now fault.span) }

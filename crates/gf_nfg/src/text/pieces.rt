@@ -46,9 +46,10 @@ impl Model for TextPieces {
 }
 
 impl TextPieces {
-    /// A text in one piece.
+    /// A text in one piece, which is not given yet.
     pub fn of(text: Vec<u8>) -> TextPieces
-        ensures { result.rest ≡ text.items }
+        ensures rest { result.rest ≡ text.items }
+        ensures none { result.piece ≡ [] }
     {
         let alloc = *text.allocator();
         TextPieces {
@@ -64,7 +65,8 @@ impl TextPieces {
     /// that memory could not hold is refused; most of the room is never touched.
     fn with_lines(text: Vec<u8>, lines: Lines, numbers: Vec<u32>) -> Result<TextPieces, AllocError>
         requires { AllByRecursion (λ number. number < length lines) numbers.items }
-        ensures { IfOk result (λ t. t.rest ≡ text.items ++ lines_with lines numbers.items) }
+        ensures rest { IfOk result (λ t. t.rest ≡ text.items ++ lines_with lines numbers.items) }
+        ensures none { IfOk result (λ t. t.piece ≡ []) }
     {
         let mut piece = text;
         lines.reserve(&numbers, &mut piece)?;
@@ -84,7 +86,8 @@ impl TextPieces {
         text: Vec<u8>,
         rows: Rows,
     ) -> Result<TextPieces, AllocError>
-        ensures { IfOk result (λ t. t.rest ≡ text.items ++ lines_text (map row_text rows)) }
+        ensures rest { IfOk result (λ t. t.rest ≡ text.items ++ lines_text (map row_text rows)) }
+        ensures none { IfOk result (λ t. t.piece ≡ []) }
     {
         match rows.into_shared() {
             Ok(shared) => {

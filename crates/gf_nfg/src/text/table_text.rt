@@ -50,9 +50,9 @@ impl Model for TextAndPayoffs {
 }
 
 impl TextAndPayoffs {
-    /// A text, and nothing after it.
+    /// A text, as far as it was given, and nothing after it.
     pub fn of(alloc: Global, text: TextPieces) -> TextAndPayoffs
-        ensures { result.rest ≡ text.rest }
+        ensures { result ≡ text }
     {
         TextAndPayoffs {
             text,
@@ -104,8 +104,9 @@ fn with_payoffs(
     names: Names,
     payoffs: Vec<Fraction>,
 ) -> Result<TextAndPayoffs, AllocError>
-    ensures { IfOk result (λ whole. whole.rest ≡ heading_text names
+    ensures rest { IfOk result (λ whole. whole.rest ≡ heading_text names
         ++ payoffs_text (length names.players) (length names.players) payoffs.items) }
+    ensures none { IfOk result (λ whole. whole.piece ≡ []) }
 {
     let mut text = Vec::new(alloc);
     write_front(&names, true, &mut text)?;
@@ -133,7 +134,8 @@ fn with_payoffs(
 ///
 /// `AllocError` if memory is refused.
 pub fn text_of(alloc: Global, t: Table) -> Result<TextAndPayoffs, AllocError>
-    ensures { IfOk result (λ text. text.rest ≡ table_text t) }
+    ensures rest { IfOk result (λ text. text.rest ≡ table_text t) }
+    ensures none { IfOk result (λ text. text.piece ≡ []) }
 {
     let (names, rows) = t.into_parts();
     match rows.into_payoffs() {

@@ -1,19 +1,19 @@
 //! The run that says which files are the same game.
 
-ghost use Rattle.std.specs.Prelude.{◌≡◌, List, [], IfErr, IfOk, OnErr};
+ghost use Rattle.std.specs.Prelude.{◌≡◌, ℕ, List, IfOk, Ok, OnErr};
 ghost use Rattle.gf_run.specs.Duplicates.{HashedFile, IsKeptOf};
-ghost use Rattle.gf_run.specs.DuplicatesRun.{Closes, Finds, HasHash, Reads};
-ghost use Rattle.gf_run.specs.Hashes.{IsNotHashed};
+ghost use Rattle.gf_run.specs.DuplicatesRun.{Closes, FindsAll, Reads};
+ghost use Rattle.gf_run.specs.HashText.{ReadsHash};
+ghost use Rattle.gf_run.specs.Hashes.{Over};
 
-use crate::asked::Input;
+use crate::collections::file::{CollectionFile, name_of, open_file};
 use crate::collections::groups::Groups;
 use crate::collections::hash::read_hash;
-use crate::collections::hashes::{name_of, tell_of};
+use crate::collections::hashes::tell_of;
 use crate::collections::progress::Progress;
 use crate::fault::RunFault;
 use crate::jobs::ending::tell;
 use crate::opening::inputs::Inputs;
-use crate::opening::read::open_input;
 use crate::streams::sink::{Sink, push_all};
 use gf_canon::Names;
 use std::alloc::{AllocError, Global};
@@ -21,17 +21,14 @@ use std::alloc::{AllocError, Global};
 /// Opens a file, and gives the hash of its canonical text.
 fn hash_of_file<I: Inputs>(
     alloc: Global,
-    inputs: &I,
-    file: &Input,
+    inputs: &mut I,
+    file: &CollectionFile,
     names: Names,
 ) -> Result<[u8; 32], RunFault>
-    ensures hash { IfOk result (λ hash. HasHash (I.standard_gives inputs.now)
-        (I.open_gives inputs.now) I.Opened.remaining I.Opened.pull_gives names hash file.now) }
-    ensures failed { IfErr result (λ fault. IsNotHashed (I.standard_gives inputs.now)
-        (I.open_gives inputs.now) I.Opened.remaining I.Opened.count I.Opened.pull_gives
-        fault file.now) }
+    ensures { Over I.opener (ReadsHash I.Opened.reader names) file.now result
+        inputs.old inputs.new }
 {
-    let mut input = open_input(inputs, file)?;
+    let mut input = open_file(inputs, file)?;
     read_hash(alloc, &mut input, names)
 }
 
@@ -39,8 +36,8 @@ fn hash_of_file<I: Inputs>(
 /// worst status so far.
 fn read_next<'a, I: Inputs, E: Sink>(
     alloc: Global,
-    inputs: &I,
-    file: &'a Input,
+    inputs: &mut I,
+    file: &'a CollectionFile,
     names: Names,
     worst: u8,
     groups: &mut Groups<'a>,
@@ -48,12 +45,12 @@ fn read_next<'a, I: Inputs, E: Sink>(
 ) -> Result<u8, AllocError>
     ensures read { IfOk result (λ status. (files : List HashedFile) → IsKeptOf files groups.old
         → (after : List HashedFile) × IsKeptOf after groups.new
-        × Reads (I.standard_gives inputs.now) (I.open_gives inputs.now)
-        I.Opened.remaining I.Opened.count I.Opened.pull_gives
-        E.contents E.count E.push_gives names file.now
-        (record { files = files; errors = errors.old; status = worst })
-        (record { files = after; errors = errors.new; status = status })) }
-    ensures untold { OnErr result (errors.new ≡ errors.old) }
+        × Reads I.opener I.Opened.reader E.writer names file.now
+        (record { inputs = inputs.old; files = files; errors = errors.old; status = worst })
+        (record { inputs = inputs.new; files = after; errors = errors.new; status = status })) }
+    ensures out_of_memory { OnErr result ((errors.new ≡ errors.old) × ((hash : List ℕ)
+        × Over I.opener (ReadsHash I.Opened.reader names) file.now (Ok hash)
+        inputs.old inputs.new)) }
 {
     match hash_of_file(alloc, inputs, file, names) {
         Ok(hash) => {
@@ -72,10 +69,8 @@ fn write_groups<W: Sink, E: Sink>(
     output: &mut W,
     errors: &mut E,
 ) -> u8
-    ensures { (files : List HashedFile) → IsKeptOf files groups.now
-        → Closes W.contents W.count W.push_gives E.contents E.count E.push_gives output.old
-        (record { files = files; errors = errors.old; status = worst })
-        (record { output = output.new; errors = errors.new; status = result }) }
+    ensures { (files : List HashedFile) → IsKeptOf files groups.now → Closes W.writer E.writer
+        output.old output.new errors.old errors.new worst result files }
 {
     match groups.text(alloc) {
         Ok(text) => match push_all(output, text.as_slice()) {
@@ -97,18 +92,21 @@ fn write_groups<W: Sink, E: Sink>(
 /// nothing is written. `progress` is told of each file that is done.
 pub fn run_duplicates<I: Inputs, P: Progress, W: Sink, E: Sink>(
     alloc: Global,
-    inputs: &I,
-    files: &[Input],
+    inputs: &mut I,
+    files: &[CollectionFile],
     names: Names,
     progress: &mut P,
     output: &mut W,
     errors: &mut E,
 ) -> u8
-    ensures { Finds W.contents W.count W.push_gives E.contents E.count E.push_gives
-        (I.standard_gives inputs.now) (I.open_gives inputs.now)
-        I.Opened.remaining I.Opened.count I.Opened.pull_gives names files.now output.old
-        (record { files = []; errors = errors.old; status = 0 })
-        (record { output = output.new; errors = errors.new; status = result }) }
+    ensures { FindsAll I.opener I.Opened.reader W.writer E.writer names files.now
+        (record { inputs = inputs.old; output = output.old; errors = errors.old; status = 0 })
+        (record {
+          inputs = inputs.new;
+          output = output.new;
+          errors = errors.new;
+          status = result;
+        }) }
 {
     let mut groups = Groups::new(alloc);
     let mut worst = 0;

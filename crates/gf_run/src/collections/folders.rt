@@ -1,7 +1,8 @@
 //! The files that a path names: a file itself, or, for a folder, the game files below it.
 
-use crate::asked::Input;
+use crate::collections::file::CollectionFile;
 use crate::texts::joined::joined;
+use gf_words::Input;
 use std::alloc::{AllocError, Global};
 use std::collections::BTreeSet;
 use std::io::{BufRead, BufReader, ErrorKind, Read};
@@ -10,10 +11,13 @@ use std::rt::Files;
 use std::{fs, io};
 
 /// The file of this name in a folder. One whose name is not UTF-8 cannot be opened.
-fn file_in(alloc: Global, folder: &[u8], name: &[u8]) -> Result<Input, AllocError> {
+fn file_in(alloc: Global, folder: &[u8], name: &[u8]) -> Result<CollectionFile, AllocError> {
     match String::from_utf8(joined(alloc, &[folder, name])?) {
-        Ok(path) => Ok(Input::File(path)),
-        Err(error) => Ok(Input::NotText(String::from_utf8_lossy(alloc, error.as_bytes())?)),
+        Ok(path) => Ok(CollectionFile::Input(Input::File(path))),
+        Err(error) => {
+            let shown = String::from_utf8_lossy(alloc, error.as_bytes())?;
+            Ok(CollectionFile::NotText(shown))
+        }
     }
 }
 
@@ -74,7 +78,7 @@ fn push_entries(
     alloc: Global,
     folder: &str,
     names: &[Vec<u8>],
-    waiting: &mut Vec<Input>,
+    waiting: &mut Vec<CollectionFile>,
 ) -> Result<(), AllocError> {
     for name in names.iter().rev() {
         if !matches!(name.as_slice(), b"." | b"..") {
@@ -89,7 +93,7 @@ fn push_entries(
 fn open_folder<R: Files + AllocGlobal>(
     rt: &R,
     folder: &str,
-    waiting: &mut Vec<Input>,
+    waiting: &mut Vec<CollectionFile>,
 ) -> Result<bool, AllocError> {
     // A link to a folder can be opened only by a path with a slash at its end.
     let slash = if folder.ends_with('/') { "" } else { "/" };
@@ -106,12 +110,12 @@ fn open_folder<R: Files + AllocGlobal>(
 /// read whole is kept as a file, which cannot be read either.
 fn is_kept<R: Files + AllocGlobal>(
     rt: &R,
-    file: &Input,
+    file: &CollectionFile,
     is_named: bool,
     folders: &mut BTreeSet<(u64, u64)>,
-    waiting: &mut Vec<Input>,
+    waiting: &mut Vec<CollectionFile>,
 ) -> Result<bool, AllocError> {
-    let Input::File(path) = file else {
+    let CollectionFile::Input(Input::File(path)) = file else {
         return Ok(true);
     };
     match folder_at(rt, path.as_str()) {
@@ -127,7 +131,7 @@ fn is_kept<R: Files + AllocGlobal>(
 pub fn push_files<R: Files + AllocGlobal>(
     rt: &R,
     path: &[u8],
-    files: &mut Vec<Input>,
+    files: &mut Vec<CollectionFile>,
 ) -> Result<(), AllocError> {
     let mut waiting = vec![in rt.alloc(); file_in(rt.alloc(), b"", path)?]?;
     let mut folders = BTreeSet::new(rt.alloc());

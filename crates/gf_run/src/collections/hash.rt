@@ -1,11 +1,8 @@
 //! The hash of a file's canonical text, and the run that writes it.
 
-ghost use Rattle.std.specs.Prelude.{◌≡◌, ◌≢◌, ℕ, List, IfErr, IfOk, OnOk};
-ghost use Rattle.gf_run.specs.HashText.{IsFaultOfFile, IsHashLine, IsHashOf, ReadsFileUntil};
-ghost use Rattle.gf_run.specs.HashText.{hash_line};
-ghost use Rattle.gf_run.specs.Input.{IsReadWhole};
-ghost use Rattle.gf_run.specs.Output.{IsWriteFault, IsWritten};
-ghost use Rattle.gf_run.specs.Run.{Answers};
+ghost use Rattle.std.specs.Prelude.{◌≡◌, IfErr, IfOk};
+ghost use Rattle.gf_run.specs.HashText.{IsFaultOfFile, IsHashOf, ReadsHash, hash_line};
+ghost use Rattle.gf_run.specs.Run.{RunsHash};
 
 use crate::fault::{RunFault, Which, refused};
 use crate::streams::sink::{Sink, push_all};
@@ -18,7 +15,6 @@ use std::alloc::{AllocError, Global};
 fn hash_of(alloc: Global, bytes: &[u8], names: Names) -> Result<[u8; 32], RunFault>
     ensures hash { IfOk result (λ hash. IsHashOf names bytes.now hash) }
     ensures refused { IfErr result (IsFaultOfFile bytes.now) }
-    ensures before_writing { IfErr result (λ fault. fault ≢ RunFault.Write) }
 {
     match canonical_text(alloc, bytes, names) {
         Ok(text) => Ok(sha256_of(text)),
@@ -30,21 +26,17 @@ fn hash_of(alloc: Global, bytes: &[u8], names: Names) -> Result<[u8; 32], RunFau
 ///
 /// # Errors
 ///
-/// - `Refused`, `Read`: as `perform` has them.
+/// - `Refused`, `Read`: as `run_canon_by` has them.
 /// - `Memory`: memory ran out while the input was read.
 pub fn read_hash<R: Source>(
     alloc: Global,
     input: &mut R,
     names: Names,
 ) -> Result<[u8; 32], RunFault>
-    ensures hash { IfOk result (λ hash. (bytes : List ℕ) × IsHashOf names bytes hash
-        × IsReadWhole R.remaining R.pull_gives input.old input.new bytes) }
-    ensures refused { IfErr result (λ fault.
-        ReadsFileUntil R.remaining R.count R.pull_gives fault input.old input.new) }
-    ensures before_writing { IfErr result (λ fault. fault ≢ RunFault.Write) }
+    ensures { ReadsHash R.reader names result input.old input.new }
 {
     let bytes = load(alloc, input, Which::Only)?;
-    hash_of(alloc, &bytes, names)
+    hash_of(alloc, bytes.as_slice(), names)
 }
 
 /// The line of a hash: in hexadecimal, two spaces and the name of the file, as `sha256sum` writes
@@ -64,7 +56,7 @@ fn hash_line(alloc: Global, name: &str, hash: [u8; 32]) -> Result<Vec<u8>, Alloc
 ///
 /// # Errors
 ///
-/// - `Refused`, `Read`, `Write`: as `perform` has them.
+/// - `Refused`, `Read`, `Write`: as `run_canon_by` has them.
 /// - `Memory`: memory ran out while the input was read, or for the line of a valid file.
 pub fn run_hash<R: Source, W: Sink>(
     alloc: Global,
@@ -73,15 +65,8 @@ pub fn run_hash<R: Source, W: Sink>(
     names: Names,
     output: &mut W,
 ) -> Result<(), RunFault>
-    ensures done { OnOk result (Answers (IsHashLine names name.now)
-        (IsReadWhole R.remaining R.pull_gives input.old input.new)
-        (IsWritten W.contents W.push_gives output.old output.new)) }
-    ensures refused { IfErr result (λ fault.
-        ReadsFileUntil R.remaining R.count R.pull_gives fault input.old input.new) }
-    ensures untouched { IfErr result (λ fault. fault ≢ RunFault.Write → output.new ≡ output.old) }
-    ensures cut_off { result ≡ Err RunFault.Write → Answers (IsHashLine names name.now)
-        (IsReadWhole R.remaining R.pull_gives input.old input.new)
-        (IsWriteFault W.contents W.count W.push_gives output.old output.new) }
+    ensures { RunsHash R.reader W.writer names name.now result input.old input.new
+        output.old output.new }
 {
     let hash = read_hash(alloc, input, names)?;
     let line = hash_line(alloc, name, hash)?;

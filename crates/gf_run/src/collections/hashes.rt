@@ -1,32 +1,21 @@
 //! The run that writes the hashes of many files.
 
-ghost use Rattle.std.specs.Prelude.{◌≡◌, ◌≢◌, IfErr, IfOk, OnErr, OnOk};
-ghost use Rattle.gf_run.specs.Hashes.{IsHashed, IsNotHashed, IsToldOf, Runs, Step};
-ghost use Rattle.gf_run.specs.Hashes.{name_of, named_line};
-ghost use Rattle.gf_run.specs.Output.{IsWriteFault, IsWritten};
+ghost use Rattle.std.specs.Prelude.{◌≡◌, ◌≢◌, Err, IfErr, IfOk, OnErr};
+ghost use Rattle.gf_run.specs.Hashes.{HashesAll, IsToldOf, Over, Step, named_line};
+ghost use Rattle.gf_run.specs.Hashes.{name_of};
+ghost use Rattle.gf_run.specs.Run.{RunsHash};
 
-use crate::asked::Input;
+use crate::collections::file::{CollectionFile, name_of, open_file};
 use crate::collections::hash::run_hash;
 use crate::collections::progress::Progress;
 use crate::fault::{RunFault, WriteFault, status};
 use crate::jobs::ending::tell;
 use crate::opening::inputs::Inputs;
-use crate::opening::read::open_input;
 use crate::streams::sink::{Sink, push_all};
 use crate::texts::joined::joined;
 use crate::texts::report::line_of;
 use gf_canon::Names;
 use std::alloc::{AllocError, Global};
-
-/// What an input is called.
-pub(crate) fn name_of(input: &Input) -> &str
-    ensures { result.now ≡ name_of input.now }
-{
-    match input {
-        Input::Standard => "-",
-        Input::File(name) | Input::NotText(name) => name.as_str(),
-    }
-}
 
 /// The line of a fault after the name of its file.
 fn named_line(alloc: Global, name: &str, fault: &RunFault) -> Result<Vec<u8>, AllocError>
@@ -37,8 +26,7 @@ fn named_line(alloc: Global, name: &str, fault: &RunFault) -> Result<Vec<u8>, Al
 
 /// Writes the fault of a file after its name, and returns its status.
 pub(crate) fn tell_of<E: Sink>(alloc: Global, name: &str, fault: &RunFault, errors: &mut E) -> u8
-    ensures { IsToldOf E.contents E.count E.push_gives name.now fault.now result
-        errors.old errors.new }
+    ensures { IsToldOf E.writer name.now fault.now result errors.old errors.new }
 {
     match named_line(alloc, name, fault) {
         Ok(line) => {
@@ -52,23 +40,17 @@ pub(crate) fn tell_of<E: Sink>(alloc: Global, name: &str, fault: &RunFault, erro
 /// Opens a file, and writes the line of its hash.
 fn hash_file<I: Inputs, W: Sink>(
     alloc: Global,
-    inputs: &I,
-    file: &Input,
+    inputs: &mut I,
+    file: &CollectionFile,
     names: Names,
     output: &mut W,
 ) -> Result<(), RunFault>
-    ensures hashed { OnOk result (IsHashed (I.standard_gives inputs.now) (I.open_gives inputs.now)
-        I.Opened.remaining I.Opened.count I.Opened.pull_gives names
-        (IsWritten W.contents W.push_gives output.old output.new) file.now) }
-    ensures failed { IfErr result (λ fault. fault ≢ RunFault.Write → (output.new ≡ output.old)
-        × IsNotHashed (I.standard_gives inputs.now) (I.open_gives inputs.now)
-        I.Opened.remaining I.Opened.count I.Opened.pull_gives fault file.now) }
-    ensures cut_off { result ≡ Err RunFault.Write
-        → IsHashed (I.standard_gives inputs.now) (I.open_gives inputs.now)
-        I.Opened.remaining I.Opened.count I.Opened.pull_gives names
-        (IsWriteFault W.contents W.count W.push_gives output.old output.new) file.now }
+    ensures over { Over I.opener (λ r s t.
+        RunsHash I.Opened.reader W.writer names (name_of file.now) r s t output.old output.new)
+        file.now result inputs.old inputs.new }
+    ensures untouched { IfErr result (λ fault. fault ≢ RunFault.Write → output.new ≡ output.old) }
 {
-    let mut input = open_input(inputs, file)?;
+    let mut input = open_file(inputs, file)?;
     run_hash(alloc, &mut input, name_of(file), names, output)
 }
 
@@ -76,23 +58,25 @@ fn hash_file<I: Inputs, W: Sink>(
 /// far.
 fn hash_next<I: Inputs, W: Sink, E: Sink>(
     alloc: Global,
-    inputs: &I,
-    file: &Input,
+    inputs: &mut I,
+    file: &CollectionFile,
     names: Names,
     worst: u8,
     output: &mut W,
     errors: &mut E,
 ) -> Result<u8, WriteFault>
     ensures step { IfOk result (λ status.
-        Step (I.standard_gives inputs.now) (I.open_gives inputs.now)
-        I.Opened.remaining I.Opened.count I.Opened.pull_gives W.contents W.count W.push_gives
-        E.contents E.count E.push_gives names file.now
-        (record { output = output.old; errors = errors.old; status = worst })
-        (record { output = output.new; errors = errors.new; status = status })) }
-    ensures cut_off { OnErr result ((errors.new ≡ errors.old)
-        × IsHashed (I.standard_gives inputs.now) (I.open_gives inputs.now)
-        I.Opened.remaining I.Opened.count I.Opened.pull_gives names
-        (IsWriteFault W.contents W.count W.push_gives output.old output.new) file.now) }
+        Step I.opener I.Opened.reader W.writer E.writer names file.now
+        (record { inputs = inputs.old; output = output.old; errors = errors.old; status = worst })
+        (record {
+          inputs = inputs.new;
+          output = output.new;
+          errors = errors.new;
+          status = status;
+        })) }
+    ensures cut_off { OnErr result ((errors.new ≡ errors.old) × Over I.opener (λ r s t.
+        RunsHash I.Opened.reader W.writer names (name_of file.now) r s t output.old output.new)
+        file.now (Err RunFault.Write) inputs.old inputs.new) }
 {
     match hash_file(alloc, inputs, file, names, output) {
         Ok(()) => Ok(worst),
@@ -114,18 +98,21 @@ fn hash_next<I: Inputs, W: Sink, E: Sink>(
 /// that is done.
 pub fn run_hashes<I: Inputs, P: Progress, W: Sink, E: Sink>(
     alloc: Global,
-    inputs: &I,
-    files: &[Input],
+    inputs: &mut I,
+    files: &[CollectionFile],
     names: Names,
     progress: &mut P,
     output: &mut W,
     errors: &mut E,
 ) -> u8
-    ensures { Runs (I.standard_gives inputs.now) (I.open_gives inputs.now)
-        I.Opened.remaining I.Opened.count I.Opened.pull_gives W.contents W.count W.push_gives
-        E.contents E.count E.push_gives names files.now
-        (record { output = output.old; errors = errors.old; status = 0 })
-        (record { output = output.new; errors = errors.new; status = result }) }
+    ensures { HashesAll I.opener I.Opened.reader W.writer E.writer names files.now
+        (record { inputs = inputs.old; output = output.old; errors = errors.old; status = 0 })
+        (record {
+          inputs = inputs.new;
+          output = output.new;
+          errors = errors.new;
+          status = result;
+        }) }
 {
     let mut worst = 0;
     for file in files {

@@ -1,7 +1,5 @@
 //! The line and the column of a place in a file.
 
-ghost use Rattle.std.specs.Prelude.{◌≤◌, length};
-ghost use Rattle.gf_run.specs.Input.{limit};
 ghost use Rattle.gf_run.specs.Place.{IsPlaceAfter};
 
 /// A line and a column, both from 1. Columns are counted in bytes.
@@ -14,7 +12,6 @@ pub struct Place {
 /// The place after these bytes: its line is 1 plus the number of line feeds, and its column is 1
 /// plus the number of bytes since the last of them.
 pub fn place_after(bytes: &[u8]) -> Place
-    requires { length bytes.now ≤ limit }
     ensures { IsPlaceAfter bytes.now result }
 {
     let mut place = Place { line: 1, column: 1 };

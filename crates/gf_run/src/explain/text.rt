@@ -1,14 +1,14 @@
 //! The text of an explanation.
 
-ghost use Rattle.std.specs.Prelude.{◌≡◌, ◌≤◌, IfOk, length};
+ghost use Rattle.std.specs.Prelude.{◌≡◌, IfOk};
 ghost use Rattle.gf_run.specs.Explained.{IsExplained, IsHead, IsWhere, placed_text, unplaced_text};
-ghost use Rattle.gf_run.specs.Input.{limit};
 
+use crate::explain::cause::Cause;
 use crate::explain::excerpt::push_excerpt;
 use crate::explain::place::{Place, place_after};
 use crate::explain::sentence::{hint, push_form, push_sentence};
 use crate::explain::shown::{Part, push_line};
-use crate::fault::{Failure, RunFault};
+use crate::fault::RunFault;
 use crate::texts::joined::joined;
 use crate::texts::report::short_line_of;
 use gf_token::{Fault, Why};
@@ -44,7 +44,6 @@ fn unplaced(alloc: Global, name: &str) -> Result<Vec<u8>, AllocError>
 /// Where a refusal is: the name of the file, the line and the column. For a file that is too long,
 /// only its name.
 fn where_of(alloc: Global, fault: &Fault, name: &str, bytes: &[u8]) -> Result<Vec<u8>, AllocError>
-    requires { length bytes.now ≤ limit }
     ensures { IfOk result (λ text. IsWhere fault.now name.now bytes.now text.items) }
 {
     if fault.why == Why::TooLong {
@@ -56,7 +55,6 @@ fn where_of(alloc: Global, fault: &Fault, name: &str, bytes: &[u8]) -> Result<Ve
 
 /// What an explanation begins with.
 fn head_of(alloc: Global, fault: &RunFault, name: &str, bytes: &[u8]) -> Result<Vec<u8>, AllocError>
-    requires { length bytes.now ≤ limit }
     ensures { IfOk result (λ head. IsHead fault.now name.now bytes.now head.items) }
 {
     match fault {
@@ -66,9 +64,7 @@ fn head_of(alloc: Global, fault: &RunFault, name: &str, bytes: &[u8]) -> Result<
 }
 
 /// Appends what is wrong with a file, the line of the place, and a hint.
-fn push_refusal(text: &mut String, fault: &Fault, bytes: &[u8]) -> Result<(), AllocError>
-    requires { length bytes.now ≤ limit }
-{
+fn push_refusal(text: &mut String, fault: &Fault, bytes: &[u8]) -> Result<(), AllocError> {
     let start = fault.span.start.min(bytes.len());
     let end = fault.span.end.min(bytes.len()).max(start);
     let found = &bytes[start..end];
@@ -85,7 +81,7 @@ fn push_refusal(text: &mut String, fault: &Fault, bytes: &[u8]) -> Result<(), Al
     }
 }
 
-/// Appends what failed, and what the system says about that, if it is known.
+/// Appends what failed, and what the system says about that, if it says anything.
 fn push_failed(
     alloc: Global,
     text: &mut String,
@@ -115,23 +111,23 @@ fn push_failed(
 fn push_rest(
     alloc: Global,
     text: &mut String,
-    failure: &Failure,
+    fault: &RunFault,
+    cause: &Cause,
     name: &str,
     bytes: &[u8],
-) -> Result<(), AllocError>
-    requires { length bytes.now ≤ limit }
-{
-    match &failure.fault {
+) -> Result<(), AllocError> {
+    match fault {
         RunFault::Refused { fault, .. } => push_refusal(text, fault, bytes),
         RunFault::Read(_) => {
-            let words = if failure.is_open {
-                "cannot read "
-            } else {
-                "cannot open "
+            let words = match cause {
+                Cause::Opening(_) => "cannot open ",
+                Cause::Transfer(_) => "cannot read ",
             };
-            push_failed(alloc, text, words, name, &failure.error)
+            push_failed(alloc, text, words, name, &cause.error())
         }
-        RunFault::Write => push_failed(alloc, text, "cannot write the output", "", &failure.error),
+        RunFault::Write => {
+            push_failed(alloc, text, "cannot write the output", "", &cause.error())
+        }
         RunFault::Form(fault) => push_form(text, fault),
         RunFault::Memory => text.push_str("out of memory\n"),
     }
@@ -141,18 +137,17 @@ fn push_rest(
 /// the line of the file with marks under the place, and a hint.
 pub fn explanation(
     alloc: Global,
-    failure: &Failure,
+    fault: &RunFault,
+    cause: &Cause,
     name: &str,
     bytes: &[u8],
 ) -> Result<Vec<u8>, AllocError>
-    requires { length bytes.now ≤ limit }
-    ensures { IfOk result (λ text.
-        IsExplained failure.now.fault name.now bytes.now text.items) }
+    ensures { IfOk result (λ text. IsExplained fault.now name.now bytes.now text.items) }
 {
     let mut rest = String::new(alloc);
-    push_rest(alloc, &mut rest, failure, name, bytes)?;
-    let head = head_of(alloc, &failure.fault, name, bytes)?;
-    let line = short_line_of(&failure.fault);
+    push_rest(alloc, &mut rest, fault, cause, name, bytes)?;
+    let head = head_of(alloc, fault, name, bytes)?;
+    let line = short_line_of(fault);
     joined(
         alloc,
         &[head.as_slice(), line.as_slice(), b": ", rest.as_bytes()],

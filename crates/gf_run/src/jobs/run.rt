@@ -1,21 +1,16 @@
 //! The runs over an input that is open: each reads it whole, judges it, and writes its answer.
 
-ghost use Rattle.std.specs.Prelude.{◌≡◌, ◌≢◌, IfErr, IfOk, OnOk};
-ghost use Rattle.gf_canon.specs.Judgement.{IsRefusedWith};
-ghost use Rattle.gf_canon.specs.NamesAside.{IsTextBy};
-ghost use Rattle.gf_run.specs.FileKinds.{IsKindLine};
-ghost use Rattle.gf_run.specs.FormText.{IsFormText, ReadsFormUntil};
-ghost use Rattle.gf_run.specs.Input.{IsReadWhole};
-ghost use Rattle.gf_run.specs.Output.{IsWriteFault, IsWritten};
-ghost use Rattle.gf_run.specs.Run.{Answers, ReadsUntil};
+ghost use Rattle.gf_canon.specs.declared.sameness.Names.TheVariants.{Kept};
+ghost use Rattle.gf_form.specs.declared.forms.Strategies.TheVariants.{Pure, Reduced};
+ghost use Rattle.gf_run.specs.Run.{RunsCanonBy, RunsCheck, RunsTable};
 
 use crate::fault::{RunFault, Which};
-use crate::jobs::answer::{canon, format_of, kind_line};
-use crate::jobs::table::table;
 use crate::streams::sink::{Sink, push_all};
 use crate::streams::source::{Source, load};
+use crate::texts::game::{canon, kind_line, kind_of};
+use crate::texts::table::table;
 use crate::texts::text::push_text;
-use gf_canon::{Format, Names};
+use gf_canon::{FileKind, Names};
 use gf_form::Strategies;
 use std::alloc::Global;
 
@@ -35,88 +30,80 @@ use std::alloc::Global;
 /// - `Read`, `Write`: the reader or the writer failed, or was interrupted sixteen times in a row,
 ///   or the writer took nothing. `failures` has counted it.
 /// - `Memory`: memory ran out while the input was read.
-pub fn run_canon<R: Source, W: Sink>(
+pub fn run_canon_by<R: Source, W: Sink>(
     alloc: Global,
     input: &mut R,
     names: Names,
     output: &mut W,
 ) -> Result<(), RunFault>
-    ensures done { OnOk result (Answers (IsTextBy names)
-        (IsReadWhole R.remaining R.pull_gives input.old input.new)
-        (IsWritten W.contents W.push_gives output.old output.new)) }
-    ensures refused { IfErr result (λ fault. ReadsUntil
-        R.remaining R.count R.pull_gives IsRefusedWith Which.Only fault input.old input.new) }
-    ensures untouched { IfErr result (λ fault. fault ≢ RunFault.Write → output.new ≡ output.old) }
-    ensures cut_off { result ≡ Err RunFault.Write → Answers (IsTextBy names)
-        (IsReadWhole R.remaining R.pull_gives input.old input.new)
-        (IsWriteFault W.contents W.count W.push_gives output.old output.new) }
+    ensures { RunsCanonBy R.reader W.writer names result input.old input.new output.old output.new }
 {
     let bytes = load(alloc, input, Which::Only)?;
-    let answer = canon(alloc, bytes.as_slice(), names)?;
-    push_text(output, answer.text)?;
+    let text = canon(alloc, bytes.as_slice(), names)?;
+    push_text(output, text)?;
     Ok(())
 }
 
-/// Returns the format of the file that it reads; writes `tree` or `table` and a line feed.
+/// Writes the canonical text of the file that it reads, as `run_canon_by` does with names kept.
 ///
-/// No node of a tree is kept, and no text of a game is made. It reads and writes as `run_canon`
+/// # Errors
+///
+/// Those of `run_canon_by`.
+pub fn run_canon<R: Source, W: Sink>(
+    alloc: Global,
+    input: &mut R,
+    output: &mut W,
+) -> Result<(), RunFault>
+    ensures { RunsCanonBy R.reader W.writer Kept result input.old input.new output.old output.new }
+{
+    run_canon_by(alloc, input, Names::Kept, output)
+}
+
+/// Returns the kind of the file that it reads; writes `tree` or `table` and a line feed.
+///
+/// No node of a tree is kept, and no text of a game is made. It reads and writes as `run_canon_by`
 /// does.
 ///
 /// # Errors
 ///
-/// Those of `run_canon`.
+/// Those of `run_canon_by`.
 pub fn run_check<R: Source, W: Sink>(
     alloc: Global,
     input: &mut R,
     output: &mut W,
-) -> Result<Format, RunFault>
-    ensures done { IfOk result (λ format. Answers (IsKindLine format)
-        (IsReadWhole R.remaining R.pull_gives input.old input.new)
-        (IsWritten W.contents W.push_gives output.old output.new)) }
-    ensures refused { IfErr result (λ fault. ReadsUntil
-        R.remaining R.count R.pull_gives IsRefusedWith Which.Only fault input.old input.new) }
-    ensures untouched { IfErr result (λ fault. fault ≢ RunFault.Write → output.new ≡ output.old) }
-    ensures cut_off { result ≡ Err RunFault.Write → (format : Format) × Answers (IsKindLine format)
-        (IsReadWhole R.remaining R.pull_gives input.old input.new)
-        (IsWriteFault W.contents W.count W.push_gives output.old output.new) }
+) -> Result<FileKind, RunFault>
+    ensures { RunsCheck R.reader W.writer result input.old input.new output.old output.new }
 {
     let bytes = load(alloc, input, Which::Only)?;
-    let format = format_of(alloc, bytes.as_slice())?;
-    push_all(output, kind_line(format))?;
-    Ok(format)
+    let kind = kind_of(alloc, bytes.as_slice())?;
+    push_all(output, kind_line(kind))?;
+    Ok(kind)
 }
 
 /// Writes the form of the tree that it reads, or its reduced form; a table as it is.
 fn run_form<R: Source, W: Sink>(
     alloc: Global,
     input: &mut R,
-    output: &mut W,
     strategies: Strategies,
+    output: &mut W,
 ) -> Result<(), RunFault>
-    ensures done { OnOk result (Answers (IsFormText strategies)
-        (IsReadWhole R.remaining R.pull_gives input.old input.new)
-        (IsWritten W.contents W.push_gives output.old output.new)) }
-    ensures refused { IfErr result (λ fault. ReadsFormUntil
-        R.remaining R.count R.pull_gives strategies fault input.old input.new) }
-    ensures untouched { IfErr result (λ fault. fault ≢ RunFault.Write → output.new ≡ output.old) }
-    ensures cut_off { result ≡ Err RunFault.Write → Answers (IsFormText strategies)
-        (IsReadWhole R.remaining R.pull_gives input.old input.new)
-        (IsWriteFault W.contents W.count W.push_gives output.old output.new) }
+    ensures { RunsTable R.reader W.writer strategies result input.old input.new
+        output.old output.new }
 {
     let bytes = load(alloc, input, Which::Only)?;
-    let answer = table(alloc, bytes.as_slice(), strategies)?;
-    push_text(output, answer.text)?;
+    let text = table(alloc, bytes.as_slice(), strategies)?;
+    push_text(output, text)?;
     Ok(())
 }
 
 /// Writes the strategic form of the tree that it reads, as a strategic file in canonical text; for
 /// a strategic file, its canonical text.
 ///
-/// It reads and writes as `run_canon` does.
+/// It reads and writes as `run_canon_by` does.
 ///
 /// # Errors
 ///
-/// Those of `run_canon`, and also:
+/// Those of `run_canon_by`, and also:
 /// - `Form` with `TooManyProfiles`: the tree has more than 1,048,576 profiles.
 /// - `Form` with `Overflow`: it has no more, and this profile, counted from 1, is the first at
 ///   which the bottom-up value of some player is not defined.
@@ -126,17 +113,9 @@ pub fn run_table<R: Source, W: Sink>(
     input: &mut R,
     output: &mut W,
 ) -> Result<(), RunFault>
-    ensures done { OnOk result (Answers (IsFormText Strategies.Pure)
-        (IsReadWhole R.remaining R.pull_gives input.old input.new)
-        (IsWritten W.contents W.push_gives output.old output.new)) }
-    ensures refused { IfErr result (λ fault. ReadsFormUntil
-        R.remaining R.count R.pull_gives Strategies.Pure fault input.old input.new) }
-    ensures untouched { IfErr result (λ fault. fault ≢ RunFault.Write → output.new ≡ output.old) }
-    ensures cut_off { result ≡ Err RunFault.Write → Answers (IsFormText Strategies.Pure)
-        (IsReadWhole R.remaining R.pull_gives input.old input.new)
-        (IsWriteFault W.contents W.count W.push_gives output.old output.new) }
+    ensures { RunsTable R.reader W.writer Pure result input.old input.new output.old output.new }
 {
-    run_form(alloc, input, output, Strategies::Pure)
+    run_form(alloc, input, Strategies::Pure, output)
 }
 
 /// Writes the reduced form of the tree that it reads, by its reduced strategies, as a strategic
@@ -152,15 +131,8 @@ pub fn run_table_reduced<R: Source, W: Sink>(
     input: &mut R,
     output: &mut W,
 ) -> Result<(), RunFault>
-    ensures done { OnOk result (Answers (IsFormText Strategies.Reduced)
-        (IsReadWhole R.remaining R.pull_gives input.old input.new)
-        (IsWritten W.contents W.push_gives output.old output.new)) }
-    ensures refused { IfErr result (λ fault. ReadsFormUntil
-        R.remaining R.count R.pull_gives Strategies.Reduced fault input.old input.new) }
-    ensures untouched { IfErr result (λ fault. fault ≢ RunFault.Write → output.new ≡ output.old) }
-    ensures cut_off { result ≡ Err RunFault.Write → Answers (IsFormText Strategies.Reduced)
-        (IsReadWhole R.remaining R.pull_gives input.old input.new)
-        (IsWriteFault W.contents W.count W.push_gives output.old output.new) }
+    ensures { RunsTable R.reader W.writer Reduced result input.old input.new
+        output.old output.new }
 {
-    run_form(alloc, input, output, Strategies::Reduced)
+    run_form(alloc, input, Strategies::Reduced, output)
 }

@@ -1,56 +1,14 @@
 //! The runs that compare two files, over inputs that are open.
 
-ghost use Rattle.std.specs.Prelude.{◌≡◌, ◌≢◌, Bool, IfErr, IfOk};
-ghost use Rattle.gf_canon.specs.GameFile.{SameFile};
-ghost use Rattle.gf_canon.specs.SameBy.{SameBy};
-ghost use Rattle.gf_run.specs.Input.{IsReadWhole};
-ghost use Rattle.gf_run.specs.JobRun.{IsAnswerBy};
-ghost use Rattle.gf_run.specs.Output.{IsWriteFault, IsWritten};
-ghost use Rattle.gf_run.specs.RunOfTwo.{AnswersTwo, ReadsTwoUntil};
-ghost use Rattle.gf_run.specs.SameText.{IsAnswer, IsLine, IsLineAndMap};
+ghost use Rattle.std.specs.Prelude.{◌≡◌};
+ghost use Rattle.gf_run.specs.RunOfTwo.{RunsSame, RunsSameBy, RunsSameMap};
 
-use crate::fault::RunFault;
-use crate::opening::read::read_both;
-use crate::streams::sink::Sink;
-use crate::streams::source::Source;
-use crate::texts::comparison::compare;
-use crate::texts::text::push_text;
+use crate::fault::{RunFault, Which};
+use crate::streams::sink::{Sink, push_all};
+use crate::streams::source::{Source, load};
+use crate::texts::comparison::{compare, compare_with_map};
 use gf_canon::Names;
 use std::alloc::Global;
-
-/// The run that compares two files: with their renumbering if `map` is true, otherwise by `names`.
-fn run_compare<R: Source, S: Source, W: Sink>(
-    alloc: Global,
-    a: &mut R,
-    b: &mut S,
-    map: bool,
-    names: Names,
-    output: &mut W,
-) -> Result<bool, RunFault>
-    ensures done { IfOk result (λ same. AnswersTwo (IsAnswerBy map names same)
-        (IsReadWhole R.remaining R.pull_gives a.old a.new)
-        (IsReadWhole S.remaining S.pull_gives b.old b.new)
-        (IsWritten W.contents W.push_gives output.old output.new)) }
-    ensures refused { IfErr result (λ fault. ReadsTwoUntil R.remaining R.count R.pull_gives
-        S.remaining S.count S.pull_gives fault a.old a.new b.old b.new) }
-    ensures untouched { IfErr result (λ fault. fault ≢ RunFault.Write → output.new ≡ output.old) }
-    ensures cut_off { result ≡ Err RunFault.Write → (same : Bool)
-        × AnswersTwo (IsAnswerBy map names same)
-        (IsReadWhole R.remaining R.pull_gives a.old a.new)
-        (IsReadWhole S.remaining S.pull_gives b.old b.new)
-        (IsWriteFault W.contents W.count W.push_gives output.old output.new) }
-{
-    let texts = read_both(alloc, a, b)?;
-    let answer = compare(
-        alloc,
-        texts.first.as_slice(),
-        texts.second.as_slice(),
-        map,
-        names,
-    )?;
-    push_text(output, answer.text)?;
-    Ok(answer.same)
-}
 
 /// Returns whether the two files that it reads mean the same, with names or without, as `same_by`
 /// says; writes `same` or `different` and a line feed.
@@ -75,20 +33,14 @@ pub fn run_same_by<R: Source, S: Source, W: Sink>(
     names: Names,
     output: &mut W,
 ) -> Result<bool, RunFault>
-    ensures done { IfOk result (λ same. AnswersTwo (IsAnswer (SameBy names) IsLine same)
-        (IsReadWhole R.remaining R.pull_gives a.old a.new)
-        (IsReadWhole S.remaining S.pull_gives b.old b.new)
-        (IsWritten W.contents W.push_gives output.old output.new)) }
-    ensures refused { IfErr result (λ fault. ReadsTwoUntil R.remaining R.count R.pull_gives
-        S.remaining S.count S.pull_gives fault a.old a.new b.old b.new) }
-    ensures untouched { IfErr result (λ fault. fault ≢ RunFault.Write → output.new ≡ output.old) }
-    ensures cut_off { result ≡ Err RunFault.Write → (same : Bool)
-        × AnswersTwo (IsAnswer (SameBy names) IsLine same)
-        (IsReadWhole R.remaining R.pull_gives a.old a.new)
-        (IsReadWhole S.remaining S.pull_gives b.old b.new)
-        (IsWriteFault W.contents W.count W.push_gives output.old output.new) }
+    ensures { RunsSameBy R.reader S.reader W.writer names result a.old a.new b.old b.new
+        output.old output.new }
 {
-    run_compare(alloc, a, b, false, names, output)
+    let first = load(alloc, a, Which::First)?;
+    let second = load(alloc, b, Which::Second)?;
+    let answer = compare(alloc, first.as_slice(), second.as_slice(), names)?;
+    push_all(output, answer.text.as_slice())?;
+    Ok(answer.same)
 }
 
 /// Returns whether the two files that it reads mean the same, as `same` says; writes `same` or
@@ -105,20 +57,10 @@ pub fn run_same<R: Source, S: Source, W: Sink>(
     b: &mut S,
     output: &mut W,
 ) -> Result<bool, RunFault>
-    ensures done { IfOk result (λ same. AnswersTwo (IsAnswer SameFile IsLine same)
-        (IsReadWhole R.remaining R.pull_gives a.old a.new)
-        (IsReadWhole S.remaining S.pull_gives b.old b.new)
-        (IsWritten W.contents W.push_gives output.old output.new)) }
-    ensures refused { IfErr result (λ fault. ReadsTwoUntil R.remaining R.count R.pull_gives
-        S.remaining S.count S.pull_gives fault a.old a.new b.old b.new) }
-    ensures untouched { IfErr result (λ fault. fault ≢ RunFault.Write → output.new ≡ output.old) }
-    ensures cut_off { result ≡ Err RunFault.Write → (same : Bool)
-        × AnswersTwo (IsAnswer SameFile IsLine same)
-        (IsReadWhole R.remaining R.pull_gives a.old a.new)
-        (IsReadWhole S.remaining S.pull_gives b.old b.new)
-        (IsWriteFault W.contents W.count W.push_gives output.old output.new) }
+    ensures { RunsSame R.reader S.reader W.writer result a.old a.new b.old b.new
+        output.old output.new }
 {
-    run_compare(alloc, a, b, false, Names::Kept, output)
+    run_same_by(alloc, a, b, Names::Kept, output)
 }
 
 /// Returns whether the two files that it reads mean the same, as `same` says; writes `same` or
@@ -142,18 +84,12 @@ pub fn run_same_map<R: Source, S: Source, W: Sink>(
     b: &mut S,
     output: &mut W,
 ) -> Result<bool, RunFault>
-    ensures done { IfOk result (λ same. AnswersTwo (IsAnswer SameFile IsLineAndMap same)
-        (IsReadWhole R.remaining R.pull_gives a.old a.new)
-        (IsReadWhole S.remaining S.pull_gives b.old b.new)
-        (IsWritten W.contents W.push_gives output.old output.new)) }
-    ensures refused { IfErr result (λ fault. ReadsTwoUntil R.remaining R.count R.pull_gives
-        S.remaining S.count S.pull_gives fault a.old a.new b.old b.new) }
-    ensures untouched { IfErr result (λ fault. fault ≢ RunFault.Write → output.new ≡ output.old) }
-    ensures cut_off { result ≡ Err RunFault.Write → (same : Bool)
-        × AnswersTwo (IsAnswer SameFile IsLineAndMap same)
-        (IsReadWhole R.remaining R.pull_gives a.old a.new)
-        (IsReadWhole S.remaining S.pull_gives b.old b.new)
-        (IsWriteFault W.contents W.count W.push_gives output.old output.new) }
+    ensures { RunsSameMap R.reader S.reader W.writer result a.old a.new b.old b.new
+        output.old output.new }
 {
-    run_compare(alloc, a, b, true, Names::Kept, output)
+    let first = load(alloc, a, Which::First)?;
+    let second = load(alloc, b, Which::Second)?;
+    let answer = compare_with_map(alloc, first.as_slice(), second.as_slice())?;
+    push_all(output, answer.text.as_slice())?;
+    Ok(answer.same)
 }

@@ -1,27 +1,38 @@
 //! How the inputs of a job are opened.
 
-ghost use Rattle.std.specs.Prelude.{ℕ, List, Result, ⊤};
-ghost use Rattle.std.specs.declared.io.Error.{Error};
+ghost use Rattle.gf_run.specs.Opening.{IsNotOpened, IsOpened, Opener};
+ghost use Rattle.std.specs.Prelude.{◌≡◌, MatchResult};
 
+use crate::streams::last_error::LastError;
 use crate::streams::source::Source;
+use gf_words::Input;
 use std::io;
 
 /// What opens inputs.
 pub trait Inputs {
     /// An input that is open.
-    type Opened: Source + Drop;
+    type Opened: Source + LastError + Drop;
 
-    /// Holds for what standard input may be.
-    ghost standard_gives: { Self → Self.Opened → Type 0 } = { λ _ _. ⊤ };
-
-    /// Holds for a name and for what opening the file of this name may answer.
-    ghost open_gives: { Self → List ℕ → Result Self.Opened Error → Type 0 } = { λ _ _ _. ⊤ };
+    /// What opening gives.
+    ghost opener: { Opener Self Self.Opened };
 
     /// Standard input.
-    fn standard(&self) -> Self::Opened
-        ensures { standard_gives self.now result };
+    fn standard(&mut self) -> Self::Opened
+        ensures { opener.standard self.old result self.new };
 
     /// Opens the file of this name. A folder can be opened, and its first read fails.
-    fn open(&self, name: &str) -> Result<Self::Opened, io::Error>
-        ensures { open_gives self.now name.now result };
+    fn open(&mut self, name: &str) -> Result<Self::Opened, io::Error>
+        ensures { opener.file self.old name.now result self.new };
+}
+
+/// Opens an input.
+pub fn open_input<I: Inputs>(inputs: &mut I, input: &Input) -> Result<I::Opened, io::Error>
+    ensures { MatchResult result
+        (λ opened. IsOpened I.opener input.now inputs.old opened inputs.new)
+        (λ _. IsNotOpened I.opener input.now inputs.old inputs.new) }
+{
+    match input {
+        Input::Standard => Ok(inputs.standard()),
+        Input::File(name) => inputs.open(name.as_str()),
+    }
 }

@@ -1,8 +1,6 @@
 //! The inputs of the program: standard input, and files.
 
-ghost use Rattle.std.specs.Prelude.{IfOk};
-ghost use Rattle.gf_run.specs.Counted.{inner_of};
-ghost use Rattle.gf_run.specs.Opened.{IsFile, IsStandard, remaining_of};
+ghost use Rattle.gf_run.specs.Opened.{host_opener, remaining_of};
 
 use crate::opening::inputs::Inputs;
 use crate::streams::counted::Counted;
@@ -28,18 +26,28 @@ impl<S: Read, F: Read> Read for Opened<S, F> {
     }
 }
 
-impl Inputs for HostRuntime {
+/// What opens the inputs of the program.
+#[derive(Drop)]
+pub struct HostInputs<'a> {
+    rt: &'a HostRuntime,
+}
+
+impl<'a> HostInputs<'a> {
+    pub fn new(rt: &'a HostRuntime) -> HostInputs<'a> {
+        HostInputs { rt }
+    }
+}
+
+impl Inputs for HostInputs<'_> {
     type Opened = Counted<Opened<Stdin, File>>;
 
-    ghost standard_gives = { λ _ input. IsStandard (inner_of input) };
+    ghost opener = { host_opener };
 
-    ghost open_gives = { λ _ _ answer. IfOk answer (λ input. IsFile (inner_of input)) };
-
-    fn standard(&self) -> Counted<Opened<Stdin, File>> {
-        Counted::new(Opened::Standard(self.stdin()))
+    fn standard(&mut self) -> Counted<Opened<Stdin, File>> {
+        Counted::new(Opened::Standard(self.rt.stdin()))
     }
 
-    fn open(&self, name: &str) -> Result<Counted<Opened<Stdin, File>>, io::Error> {
-        Ok(Counted::new(Opened::File(fs::open(self, name)?)))
+    fn open(&mut self, name: &str) -> Result<Counted<Opened<Stdin, File>>, io::Error> {
+        Ok(Counted::new(Opened::File(fs::open(self.rt, name)?)))
     }
 }

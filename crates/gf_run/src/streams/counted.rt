@@ -1,9 +1,10 @@
 //! A reader or a writer with a count of its failures.
 
-ghost use Rattle.std.specs.Prelude.{◌≡◌, None};
+ghost use Rattle.std.specs.Prelude.{◌≡◌, None, refl};
+ghost use Rattle.gf_run.specs.Counted.{counted_reader, counted_writer};
 ghost use Rattle.gf_run.specs.Counted.{failures_of, inner_of, last_of};
-ghost use Rattle.gf_run.specs.Failures.{CountsPull, CountsPush};
 
+use crate::streams::last_error::LastError;
 use crate::streams::sink::Sink;
 use crate::streams::source::Source;
 use std::io;
@@ -53,11 +54,7 @@ impl<W: Write> Write for Counted<W> {
 }
 
 impl<R: Read> Source for Counted<R> {
-    ghost count = { failures_of };
-
-    ghost last = { last_of };
-
-    ghost pull_gives = { λ old _ given new. CountsPull (failures_of old) given (failures_of new) };
+    ghost reader = { counted_reader R.remaining };
 
     fn pull(&mut self, to: &mut [u8]) -> Result<usize, io::Error> {
         let answer = self.inner.read(to);
@@ -72,17 +69,11 @@ impl<R: Read> Source for Counted<R> {
         self.failures
     }
 
-    fn last_error(&self) -> Option<io::Error> {
-        self.last_error
-    }
+    ghost reads = { λ _. refl };
 }
 
 impl<W: Write> Sink for Counted<W> {
-    ghost count = { failures_of };
-
-    ghost last = { last_of };
-
-    ghost push_gives = { λ old _ given new. CountsPush (failures_of old) given (failures_of new) };
+    ghost writer = { counted_writer W.contents };
 
     fn push(&mut self, from: &[u8]) -> Result<usize, io::Error> {
         let answer = self.inner.write(from);
@@ -98,6 +89,12 @@ impl<W: Write> Sink for Counted<W> {
     fn failures(&self) -> u64 {
         self.failures
     }
+
+    ghost writes = { λ _. refl };
+}
+
+impl<T> LastError for Counted<T> {
+    ghost last = { last_of };
 
     fn last_error(&self) -> Option<io::Error> {
         self.last_error

@@ -1,20 +1,23 @@
 //! What is written about two files that are compared.
 
-ghost use Rattle.std.specs.Prelude.{◌≡◌, IfErr, IfOk, OnOk};
+ghost use Rattle.std.specs.Prelude.{◌≡◌, IfErr, IfOk};
 ghost use Rattle.gf_canon.specs.GameFile.{SameFile};
-ghost use Rattle.gf_canon.specs.Judgement.{MeansFile};
-ghost use Rattle.gf_run.specs.AnswerText.{bytes_of};
-ghost use Rattle.gf_run.specs.JobRun.{IsAnswerBy};
+ghost use Rattle.gf_canon.specs.SameBy.{SameBy};
 ghost use Rattle.gf_run.specs.RunOfTwo.{IsFaultOfFiles};
-ghost use Rattle.gf_run.specs.SameText.{IsAnswer, IsLineAndMap, answer_line};
+ghost use Rattle.gf_run.specs.SameText.{IsAnswer, IsLine, IsLineAndMap, answer_line};
 
 use crate::fault::RunFault;
 use crate::texts::joined::joined;
 use crate::texts::renumbering::pair_line;
-use crate::texts::text::{Answer, Text};
-use gf_canon::{Names, NumberPair, ReceivePairs, TextPieces, pairs_of_files, same_by};
-use gf_nfg::TextAndPayoffs;
+use gf_canon::{Names, NumberPair, ReceivePairs, pairs_of_files, same_by};
 use std::alloc::{AllocError, Global};
+
+/// Whether two files are the same, and what is written about it.
+#[derive(Drop)]
+pub struct Answer {
+    pub same: bool,
+    pub text: Vec<u8>,
+}
 
 /// The line of an answer.
 fn answer_line(same: bool) -> &'static [u8]
@@ -46,9 +49,9 @@ impl ReceivePairs for PairLines {
 /// carries the first to the second.
 ///
 /// Refused as by `same`.
-fn compare_with_map(alloc: Global, a: &[u8], b: &[u8]) -> Result<Answer, RunFault>
+pub fn compare_with_map(alloc: Global, a: &[u8], b: &[u8]) -> Result<Answer, RunFault>
     ensures answer { IfOk result (λ answer.
-        IsAnswer SameFile IsLineAndMap answer.same a.now b.now (bytes_of answer.text)) }
+        IsAnswer SameFile IsLineAndMap answer.same a.now b.now answer.text.items) }
     ensures refused { IfErr result (IsFaultOfFiles a.now b.now) }
 {
     let mut lines = PairLines {
@@ -56,34 +59,18 @@ fn compare_with_map(alloc: Global, a: &[u8], b: &[u8]) -> Result<Answer, RunFaul
     };
     let same = pairs_of_files(alloc, a, b, &mut lines)?;
     let text = joined(alloc, &[answer_line(same), lines.text.as_slice()])?;
-    Ok(Answer {
-        same,
-        text: Text::Made(TextAndPayoffs::of(alloc, TextPieces::of(text))),
-    })
+    Ok(Answer { same, text })
 }
 
-/// Whether two files are the same, and what is written about it: with their renumbering if `map`
-/// is true, otherwise by `names`.
+/// Whether two files are the same, with names or without.
 ///
 /// Refused as by `same_by`.
-pub fn compare(
-    alloc: Global,
-    a: &[u8],
-    b: &[u8],
-    map: bool,
-    names: Names,
-) -> Result<Answer, RunFault>
+pub fn compare(alloc: Global, a: &[u8], b: &[u8], names: Names) -> Result<Answer, RunFault>
     ensures answer { IfOk result (λ answer.
-        IsAnswerBy map names answer.same a.now b.now (bytes_of answer.text)) }
-    ensures mean { OnOk result (MeansFile a.now × MeansFile b.now) }
-    ensures fault { IfErr result (IsFaultOfFiles a.now b.now) }
+        IsAnswer (SameBy names) IsLine answer.same a.now b.now answer.text.items) }
+    ensures refused { IfErr result (IsFaultOfFiles a.now b.now) }
 {
-    if map {
-        return compare_with_map(alloc, a, b);
-    }
     let same = same_by(alloc, a, b, names)?;
-    Ok(Answer {
-        same,
-        text: Text::Line(answer_line(same)),
-    })
+    let text = Vec::from_slice(alloc, answer_line(same))?;
+    Ok(Answer { same, text })
 }

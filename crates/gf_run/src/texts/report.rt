@@ -60,7 +60,6 @@ pub(crate) fn short_line_of(fault: &RunFault) -> Line
 }
 
 /// The line of a fault.
-#[tactic(auto, using(crate::proofs::FaultLines::line_parts))]
 pub(crate) fn line_of(fault: &RunFault) -> Line
     ensures { result ≡ fault_line fault.now }
 {
@@ -80,9 +79,8 @@ pub(crate) fn line_of(fault: &RunFault) -> Line
 /// prefix of the line has been written then.
 pub fn write_fault<W: Sink>(fault: &RunFault, output: &mut W) -> Result<(), WriteFault>
     ensures all { OnOk result
-        (IsWritten W.contents W.push_gives output.old output.new (fault_line fault.now)) }
-    ensures part { OnErr result (IsWriteFault W.contents W.count W.push_gives
-        output.old output.new (fault_line fault.now)) }
+        (IsWritten W.writer output.old output.new (fault_line fault.now)) }
+    ensures part { OnErr result (IsWriteFault W.writer output.old output.new (fault_line fault.now)) }
 {
     push_all(output, line_of(fault).as_slice())
 }

@@ -2,12 +2,12 @@
 use Rattle.std.specs.Prelude.{◌≡◌, ℕ, ◌+◌, ◌<◌, ◌≤◌, true, false, List, [], ◌∷◌, length, drop}
 use Rattle.std.specs.Prelude.{get_or, slice_range, take, Option, Result, Ok, Err}
 use Rattle.std.specs.Char.{is_ascii_digit}
-use Rattle.std.specs.Str.Parse.{AllDigits, digits_value}
+use Rattle.std.specs.Str.Parse.{AllDigits}
 use Rattle.gf_fraction.specs.Ratio.{Ratio}
-use Rattle.gf_fraction.specs.Computed.{number_of}
-use Rattle.gf_fraction.specs.ShortNumber.{IsLeft, IsReadOn}
+use Rattle.gf_fraction.specs.NumberSpelling.{IsNumber}
+use Rattle.gf_fraction.specs.ReadOn.{IsLeft, IsReadOn}
 use Rattle.gf_token.specs.Byte.{is_bare, is_space}
-use Rattle.gf_token.specs.Indices.{index_of}
+use Rattle.gf_token.specs.Index.{ReadsIndex}
 use Rattle.gf_token.specs.LabelSpelling.{is_spelling}
 use Rattle.gf_token.specs.Token.{Lexeme, lexeme}
 use Rattle.gf_token.specs.Token.Token.{Bare, Text, Broken}
@@ -34,7 +34,7 @@ pub record FindsNumber (bytes : List ℕ) (start end : ℕ) (r : Ratio) : Type 0
   pub within : end ≤ length bytes
   pub found : lexed bytes start
       ≡ lexeme start end (Bare (slice_range bytes start end)) ∷ lexed bytes end
-  pub number : Ok r ≡ number_of (slice_range bytes start end)
+  pub number : IsNumber (slice_range bytes start end) r
 
 -- after a byte of whitespace at `from`, a bare token ends at `end` and is read as this index
 pub record FindsIndex (bytes : List ℕ) (from end : ℕ) (index : Option ℕ) : Type 0 where
@@ -42,7 +42,7 @@ pub record FindsIndex (bytes : List ℕ) (from end : ℕ) (index : Option ℕ) :
   pub within : end ≤ length bytes
   pub found : lexed bytes from
       ≡ lexeme (from + 1) end (Bare (slice_range bytes (from + 1) end)) ∷ lexed bytes end
-  pub read : index ≡ index_of (slice_range bytes (from + 1) end)
+  pub read : ReadsIndex (slice_range bytes (from + 1) end) index
 
 -- the digits from place `first` on, of which at most 19 count, end at `at`
 pub record EndsDigits (bytes : List ℕ) (first at : ℕ) : Type 0 where
@@ -58,11 +58,9 @@ pub data IsNotShort (bytes : List ℕ) (first : ℕ) : Type 0 where
   no_digit : (first < length bytes → is_ascii_digit (get_or bytes first 0) ≡ false)
       → IsNotShort bytes first
   left : (at : ℕ) → EndsDigits bytes first at
-      → IsLeft (digits_value 10 (slice_range bytes first at)) (drop at bytes)
-      → IsNotShort bytes first
+      → IsLeft (drop at bytes) → IsNotShort bytes first
   more : (at len : ℕ) → EndsDigits bytes first at
-      → IsReadOn (digits_value 10 (slice_range bytes first at)) (take len (drop at bytes))
-      (drop len (drop at bytes))
+      → IsReadOn (take len (drop at bytes)) (drop len (drop at bytes))
       → at + len < length bytes → is_bare (get_or bytes (at + len) 0) ≡ true
       → IsNotShort bytes first
 

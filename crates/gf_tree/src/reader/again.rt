@@ -14,10 +14,11 @@ ghost use Rattle.gf_tree.specs.inner.ReaderState.{Goes, heard};
 
 use crate::game::action::Action;
 use gf_fraction::Fraction;
-use gf_token::{Fault, Label, Tokens, What, Why};
+use gf_token::{Cursor, Fault, Label, What, Why};
 
 /// Reads a number that has to have this value.
-fn same_probability(tokens: &mut Tokens<'_>, probability: Fraction) -> Result<(), Fault>
+#[tactic(auto, using(gf_fraction::proofs::ComputedAnswers::number_answers))]
+fn same_probability(tokens: &mut Cursor<'_>, probability: Fraction) -> Result<(), Fault>
     ensures machine { (c : Content) (b : Begun) (others : List spec_action)
         → Goes (heard (KnownProbability b probability others) c tokens.old) result
         (heard (KnownAction b others) c tokens.new) }
@@ -39,7 +40,7 @@ fn same_probability(tokens: &mut Tokens<'_>, probability: Fraction) -> Result<()
 }
 
 /// Reads an action of a set that is known.
-fn same_action<'a>(tokens: &mut Tokens<'a>, action: &Action<'a>) -> Result<(), Fault>
+fn same_action<'a>(tokens: &mut Cursor<'a>, action: &Action<'a>) -> Result<(), Fault>
     ensures machine { (c : Content) (b : Begun) (others : List spec_action)
         → Goes (heard (KnownAction b (action_of action.now ∷ others)) c tokens.old) result
         (heard (KnownAction b others) c tokens.new) }
@@ -60,7 +61,7 @@ fn same_action<'a>(tokens: &mut Tokens<'a>, action: &Action<'a>) -> Result<(), F
 }
 
 /// Reads the end of the actions of a set that is known.
-fn same_actions_end(tokens: &mut Tokens<'_>) -> Result<(), Fault>
+fn same_actions_end(tokens: &mut Cursor<'_>) -> Result<(), Fault>
     ensures machine { (c : Content) (b : Begun)
         → Goes (heard (KnownAction b []) c tokens.old) result
         (heard (OutcomeNumber b) c tokens.new) }
@@ -77,7 +78,7 @@ fn same_actions_end(tokens: &mut Tokens<'_>) -> Result<(), Fault>
 
 /// Reads the actions of a set that is known, after its name.
 #[inline(never)]
-fn same_actions<'a>(tokens: &mut Tokens<'a>, actions: &[Action<'a>]) -> Result<(), Fault>
+fn same_actions<'a>(tokens: &mut Cursor<'a>, actions: &[Action<'a>]) -> Result<(), Fault>
     ensures machine { (c : Content) (b : Begun)
         → Goes (heard (KnownSetOpening b (actions_of actions.now)) c tokens.old) result
         (heard (OutcomeNumber b) c tokens.new) }
@@ -95,7 +96,7 @@ fn same_actions<'a>(tokens: &mut Tokens<'a>, actions: &[Action<'a>]) -> Result<(
 /// Reads the description of a set that is known, if there is one.
 #[inline(always)]
 pub(crate) fn same_set<'a>(
-    tokens: &mut Tokens<'a>,
+    tokens: &mut Cursor<'a>,
     name: Label<'a>,
     actions: &[Action<'a>],
 ) -> Result<(), Fault>
@@ -116,7 +117,8 @@ pub(crate) fn same_set<'a>(
 }
 
 /// Reads a payoff of an outcome that is known, and one comma if there is one.
-fn same_payoff(tokens: &mut Tokens<'_>, payoff: Fraction) -> Result<(), Fault>
+#[tactic(auto, using(gf_fraction::proofs::ComputedAnswers::number_answers))]
+fn same_payoff(tokens: &mut Cursor<'_>, payoff: Fraction) -> Result<(), Fault>
     ensures machine { (c : Content) (others : List Ratio)
         → Goes (heard (KnownPayoff false (payoff ∷ others)) c tokens.old) result
         (heard (KnownPayoff false others) c tokens.new) }
@@ -139,7 +141,7 @@ fn same_payoff(tokens: &mut Tokens<'_>, payoff: Fraction) -> Result<(), Fault>
 }
 
 /// Reads the payoffs of an outcome that is known, after its name.
-fn same_payoffs(tokens: &mut Tokens<'_>, payoffs: &[Fraction]) -> Result<(), Fault>
+fn same_payoffs(tokens: &mut Cursor<'_>, payoffs: &[Fraction]) -> Result<(), Fault>
     ensures machine { (c : Content)
         → Goes (heard (KnownOutcomeOpening payoffs.now) c tokens.old) result
         (heard NodeDue c tokens.new) }
@@ -159,7 +161,7 @@ fn same_payoffs(tokens: &mut Tokens<'_>, payoffs: &[Fraction]) -> Result<(), Fau
 
 /// Reads the description of an outcome that is known, if there is one.
 pub(crate) fn same_outcome<'a>(
-    tokens: &mut Tokens<'a>,
+    tokens: &mut Cursor<'a>,
     name: Label<'a>,
     payoffs: &[Fraction],
 ) -> Result<(), Fault>

@@ -57,6 +57,7 @@ impl<'a> Reader<'a> {
     }
 
     /// Reads a payoff of a new outcome, and one comma if there is one.
+    #[tactic(auto, using(gf_fraction::proofs::ComputedAnswers::number_answers))]
     fn payoff(&mut self) -> Result<(), Fault>
         ensures machine { (b : Begun) (number : ℕ) (name : List ℕ) (left : ℕ) → Goes
             (answer (NewPayoff false b number (outcome_with name self.old.outcomes.pending)
@@ -188,6 +189,7 @@ impl<'a> Reader<'a> {
 
     /// Reads the number of a node's outcome, or 0 for none, and the outcome's description, if there
     /// is one. Whether there is one is checked first, as for sets. This completes the node.
+    #[tactic(auto, using(gf_token::proofs::ReadingIndices::index_answers))]
     #[inline(always)]
     pub(super) fn outcome<R: Receive<'a>>(
         &mut self,

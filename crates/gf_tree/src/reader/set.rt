@@ -226,6 +226,7 @@ impl<'a> Reader<'a> {
     ///
     /// Whether a description follows is checked first: mostly it does if the set is new, and does
     /// not if it is known, so what comes next does not wait for the set's place.
+    #[tactic(auto, using(gf_token::proofs::ReadingIndices::index_answers))]
     #[inline(always)]
     pub(super) fn set(&mut self, player: u32) -> Result<u32, Fault>
         ensures machine { (node : List ℕ) → MatchResult result

@@ -8,7 +8,7 @@ returns-clause-text c =
     let kept = c.new-lines.result.names in record {
       file = extensive g.0;
       spelled = record { spelled = g.1; within = tt };
-      is_text = c.of.ensures
+      is_text = c.of.ensures.rest
           ∙ told_is_canonical (λ lines. lines.text.items) (λ lines. lines.names ≡ kept) kept
           c.tell_efg.new.to g.0 g.2
           ∙ ap (λ names. canonical_text (file_by names (extensive g.0))) c.new-lines.ensures.names;

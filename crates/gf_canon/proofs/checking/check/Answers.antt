@@ -1,6 +1,6 @@
 use Rattle.gf_canon.proofs.Common.{rules}
-use Rattle.gf_canon.proofs.lemmas.texts.ToldFiles.{told_format}
+use Rattle.gf_canon.proofs.lemmas.texts.ToldFiles.{told_kind}
 use Rattle.gf_canon.proofs.checking.check.Goals as goal
 
-pub returns-clause-format : goal.returns-clause-format
-returns-clause-format c = search (rules, told_format)
+pub returns-clause-kind : goal.returns-clause-kind
+returns-clause-kind c = search (rules, told_kind)

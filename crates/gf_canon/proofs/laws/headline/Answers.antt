@@ -1,5 +1,5 @@
 use Rattle.gf_canon.proofs.lemmas.files.Headline.{equal_exactly, never_both, one_text, own_text}
-use Rattle.gf_canon.proofs.lemmas.files.Headline.{same_exactly, text_or_refusal}
+use Rattle.gf_canon.proofs.lemmas.files.Headline.{reads_back, same_exactly, text_or_refusal}
 use Rattle.gf_canon.proofs.lemmas.files.Refused.{refused_with}
 use Rattle.gf_canon.proofs.lemmas.files.RefusedOnce.{refused_once}
 use Rattle.gf_canon.proofs.laws.headline.Goals as goal
@@ -24,6 +24,9 @@ returns-clause-same_exactly c = same_exactly
 
 pub returns-clause-own_text : goal.returns-clause-own_text
 returns-clause-own_text c = own_text
+
+pub returns-clause-reads_back : goal.returns-clause-reads_back
+returns-clause-reads_back c = reads_back
 
 pub returns-clause-placed : goal.returns-clause-placed
 returns-clause-placed c =

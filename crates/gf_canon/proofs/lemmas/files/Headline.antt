@@ -1,6 +1,6 @@
 -- Bytes have one canonical text or one refusal, and equal texts exactly when they mean the same.
 use Rattle.gf_canon.proofs.Common.{◌≡◌, ℕ, List, refl, sym, subst, inl, inr, ◌↔◌, ◌⊎◌, Span, Why}
-use Rattle.gf_canon.proofs.Common.{GameFile, SameFile, SpellsFile, canonical_file, canonical_text}
+use Rattle.gf_canon.proofs.Common.{GameFile, SameFile, canonical_file, canonical_text}
 use Rattle.gf_canon.proofs.Common.{extensive, strategic, IsCanonicalText, IsFileWithinLimit}
 use Rattle.gf_canon.proofs.Common.{IsRefused, SpellsWithin, Kept}
 use Rattle.gf_canon.specs.CanonicalText.{MeanSame}
@@ -37,14 +37,18 @@ limit_kept : (x : GameFile) → IsFileWithinLimit x → IsFileWithinLimit (canon
 limit_kept (extensive g) within = within
 limit_kept (strategic t) within = within
 
+pub reads_back : (bytes : List ℕ) (x : GameFile) → SpellsWithin bytes x
+    → SpellsWithin (canonical_text x) (canonical_file x)
+reads_back bytes x h = record {
+  spelled = canonical_reads_back bytes x h.spelled;
+  within = limit_kept x h.within;
+}
+
 pub own_text : (bytes text : List ℕ) → IsCanonicalText bytes text → IsCanonicalText text text
 own_text bytes text p = record {
   file = canonical_file p.file;
-  spelled = record {
-    spelled = subst (λ (ts : List ℕ). SpellsFile ts (canonical_file p.file)) (sym p.is_text)
-        (canonical_reads_back bytes p.file p.spelled.spelled);
-    within = limit_kept p.file p.spelled.within;
-  };
+  spelled = subst (λ (ts : List ℕ). SpellsWithin ts (canonical_file p.file)) (sym p.is_text)
+      (reads_back bytes p.file p.spelled);
   is_text = cc (text_twice p.file (is_game_file bytes p.file p.spelled.spelled));
 }
 

@@ -8,16 +8,11 @@ use Common.{option_map, filter_map, HasOutcome, IsEquality, unwrap_or, nat_tests
 use Common.{map_entry, map_twice, set_order, only_sets, same_set, contains, SameGame, nat_cmp, Bool}
 use Common.{flatten, Carries, nat_eq, SetKey, set_of, IsGame, Listed, HasSet, subst, arith, is_eq}
 use Common.{Agree, cond, List, None, Some, refl, Game, Node, ◌≡◌, suc, ◌∷◌, map, sym, ◌∙◌, inl, inr}
-use Common.{◌↔◌, get, Has, has, ◌⊎◌, [], ap, ℕ}
+use Common.{◌↔◌, get, Has, has, ◌⊎◌, [], ap, ℕ, IsRenumbering, NewNumbers, Renumbering, numbers_in}
 use Rattle.gf_canon.specs.inner.Noted.{noted}
-use Rattle.gf_canon.specs.declared.numbering.new_numbers.Renumbering.{Renumbering}
-use Rattle.gf_tree.specs.Renumbering as numbers
+use Rattle.gf_canon.proofs.lemmas.numbers.Kept.{kept_outcome, kept_set, same_pair}
 
 -- ---- one set
-
--- two pairs compare equal exactly when they are
-same_pair : (a b : ℕ × ℕ) → is_eq (set_order a b) ≡ same_set (set_of a.0 a.1) (set_of b.0 b.1)
-same_pair a b = grind (arith, nat_tests)
 
 pub set_noted : (had now : SetKey → Option ℕ) (k m : ℕ × ℕ) (old new : Option SetKey)
     → Some (set_of k.0 k.1) ≡ old → Some (set_of m.0 m.1) ≡ new → (key : SetKey)
@@ -65,7 +60,7 @@ module _ {K : Type 0} (f : K → ℕ) (had : K → Option ℕ) (all : List K)
 
 -- ---- nodes one after another
 
-pub record AreWalked (r : numbers.Renumbering) (g : Game) (sets : SetKey → Option ℕ)
+pub record AreWalked (r : Renumbering) (g : Game) (sets : SetKey → Option ℕ)
     (outcomes : ℕ → Option ℕ) (left others : List Node) : Type 0 where
   pub images : others ≡ map (renumbered_node r) left
   pub sets_noted : AreNoted (λ k. r.set k.player k.number) sets (used_sets g.tree)
@@ -78,7 +73,7 @@ filter_of_nodes : {K : Type 0} (f : Node → Option K) (es : List (Listed Node))
 filter_of_nodes f [] = refl
 filter_of_nodes f (e ∷ es) = ap (cons_option (f e.node)) (filter_of_nodes f es)
 
-nodes_of_image : (r : numbers.Renumbering) (es : List (Listed Node))
+nodes_of_image : (r : Renumbering) (es : List (Listed Node))
     → map (λ e. e.node) (map (map_entry (renumbered_node r)) es)
     ≡ map (renumbered_node r) (map (λ e. e.node) es)
 nodes_of_image r es = map_twice (λ (e : Listed Node). e.node) (map_entry (renumbered_node r)) es
@@ -89,7 +84,7 @@ image_number : {K : Type 0} (f number : K → ℕ) (image : K → K) → ((k : K
 image_number f number image is None new e = cc
 image_number f number image is (Some k) new e = cc (is k)
 
-module _ (r : numbers.Renumbering) (g : Game) {sets : SetKey → Option ℕ}
+module _ (r : Renumbering) (g : Game) {sets : SetKey → Option ℕ}
     {outcomes : ℕ → Option ℕ} {left others : List Node} where
   pub walk_begins : (h : Game) → Carries r g h → ((k : SetKey) → sets k ≡ None)
       → ((n : ℕ) → outcomes n ≡ None) → left ≡ map (λ e. e.node) (flatten g.tree)
@@ -138,16 +133,18 @@ module _ (r : numbers.Renumbering) (g : Game) {sets : SetKey → Option ℕ}
 
 -- ---- all nodes
 
-module _ (found : Renumbering) (g h : Game) (game : IsGame g) (r : numbers.Renumbering)
-    (c : Carries r g h)
-    (sets : AreNoted (λ k. r.set k.player k.number) (number_of_set found.sets) (used_sets g.tree)
-    [])
-    (outcomes : AreNoted r.outcome (get nat_cmp found.outcomes) (used_outcomes g.tree) []) where
+module _ (by_set : BTreeMap (ℕ × ℕ) ℕ) (by_outcome : BTreeMap ℕ ℕ) (g h : Game) (game : IsGame g)
+    (r : Renumbering) (c : Carries r g h)
+    (sets : AreNoted (λ k. r.set k.player k.number) (number_of_set by_set) (used_sets g.tree) [])
+    (outcomes : AreNoted r.outcome (get nat_cmp by_outcome) (used_outcomes g.tree) []) where
+  abbrev found : NewNumbers
+  found = numbers_in by_set by_outcome
+
   new_set : (player number : ℕ) → HasSet g player number
       → new_set_number found player number ≡ Some (r.set player number)
-  new_set player number i = number_is (λ k. r.set k.player k.number) (number_of_set found.sets)
-      (used_sets g.tree) sets (set_of player number)
-      (has (used_sets g.tree) (set_of player number) i)
+  new_set player number i = sym (kept_set by_set by_outcome player number)
+      ∙ number_is (λ k. r.set k.player k.number) (number_of_set by_set) (used_sets g.tree) sets
+      (set_of player number) (has (used_sets g.tree) (set_of player number) i)
 
   new_outcome : (number : ℕ) → HasOutcome g number
       → new_outcome_number found number ≡ Some (r.outcome number)
@@ -155,15 +152,17 @@ module _ (found : Renumbering) (g h : Game) (game : IsGame g) (r : numbers.Renum
     arith,
     outcome_number_positive g game 0 (has (used_outcomes g.tree) 0 i),
   ))
-  new_outcome (suc n) i = number_is r.outcome (get nat_cmp found.outcomes) (used_outcomes g.tree)
-      outcomes (suc n) (has (used_outcomes g.tree) (suc n) i)
+  new_outcome (suc n) i = sym (kept_outcome by_set by_outcome n)
+      ∙ number_is r.outcome (get nat_cmp by_outcome) (used_outcomes g.tree) outcomes (suc n)
+      (has (used_outcomes g.tree) (suc n) i)
 
   has_new_set : (player number : ℕ)
       → IsSome (new_set_number found player number) ↔ HasSet g player number
   has_new_set player number = (
     λ some. contains (used_sets g.tree) (set_of player number)
-        (one_of_all (λ k. r.set k.player k.number) (number_of_set found.sets) (used_sets g.tree)
-        sets (set_of player number) some),
+        (one_of_all (λ k. r.set k.player k.number) (number_of_set by_set) (used_sets g.tree)
+        sets (set_of player number)
+        (subst IsSome (sym (kept_set by_set by_outcome player number)) some)),
     λ i. subst IsSome (sym (new_set player number i)) refl,
   )
 
@@ -172,7 +171,8 @@ module _ (found : Renumbering) (g h : Game) (game : IsGame g) (r : numbers.Renum
   has_new_outcome zero = (λ some. inl refl, λ h. refl)
   has_new_outcome (suc n) = (
     λ some. inr (contains (used_outcomes g.tree) (suc n) (one_of_all r.outcome
-        (get nat_cmp found.outcomes) (used_outcomes g.tree) outcomes (suc n) some)),
+        (get nat_cmp by_outcome) (used_outcomes g.tree) outcomes (suc n)
+        (subst IsSome (sym (kept_outcome by_set by_outcome n)) some))),
     λ h. grind (arith, new_outcome (suc n)),
   )
 
@@ -193,7 +193,7 @@ module _ (found : Renumbering) (g h : Game) (game : IsGame g) (r : numbers.Renum
     outcomes = λ number i. outcome_agrees number (contains (used_outcomes g.tree) number i);
   }
 
-  found_is_renumbering : numbers.IsRenumbering g (new_numbers found)
+  found_is_renumbering : IsRenumbering g (new_numbers found)
   found_is_renumbering = grind (arith, set_agrees, outcome_agrees)
 
   found_carries : Carries (new_numbers found) g h
@@ -213,14 +213,14 @@ module _ (found : Renumbering) (g h : Game) (game : IsGame g) (r : numbers.Renum
         ∙ ap Some (only_outcomes r s g h c d number i);
   }
 
-pub walk_ends : (found : Renumbering) (g h : Game) {left others : List Node} → IsGame g
-    → SameGame g h
-    → ((r : numbers.Renumbering) → Carries r g h → AreWalked r g (number_of_set found.sets)
-    (get nat_cmp found.outcomes) left others)
-    → left ≡ [] → IsOnlyRenumbering found g h
-walk_ends found g h game (r, c) walked none =
+pub walk_ends : (by_set : BTreeMap (ℕ × ℕ) ℕ) (by_outcome : BTreeMap ℕ ℕ) (g h : Game)
+    {left others : List Node} → IsGame g → SameGame g h
+    → ((r : Renumbering) → Carries r g h
+    → AreWalked r g (number_of_set by_set) (get nat_cmp by_outcome) left others)
+    → left ≡ [] → IsOnlyRenumbering (numbers_in by_set by_outcome) g h
+walk_ends by_set by_outcome g h game (r, c) walked none =
     let w = rw none at walked r c in
-    only_renumbering found g h game r c w.sets_noted w.outcomes_noted
+    only_renumbering by_set by_outcome g h game r c w.sets_noted w.outcomes_noted
 
 -- ---- empty maps
 

@@ -2,10 +2,10 @@ use Rattle.gf_canon.proofs.Common.{extensive}
 use Rattle.gf_canon.proofs.lemmas.sameness.ComparedTrees.{no_game, same_as_table}
 use Rattle.gf_canon.proofs.sameness.same_as_table.Goals as goal
 
-pub returns-in_ok-tell_efg-in-Extensive-clause-same :
-    goal.returns-in_ok-tell_efg-in-Extensive-clause-same
-returns-in_ok-tell_efg-in-Extensive-clause-same c =
-    let t = c.in_ok-tell_efg-in-Extensive.ensures.told in
+pub returns-in_ok-tell_efg-in-Tree-clause-same :
+    goal.returns-in_ok-tell_efg-in-Tree-clause-same
+returns-in_ok-tell_efg-in-Tree-clause-same c =
+    let t = c.in_ok-tell_efg-in-Tree.ensures.told in
     (extensive t.0, record { spelled = t.1; within = tt }, no_game c.args.names c.args.t.now t.0)
 
 pub returns-in-Strategic-clause-same : goal.returns-in-Strategic-clause-same

@@ -2,9 +2,9 @@ use Rattle.gf_canon.proofs.Common.{extensive, strategic}
 use Rattle.gf_canon.proofs.lemmas.sameness.ComparedTrees.{no_table, same_as_told}
 use Rattle.gf_canon.proofs.sameness.same_as_tree.Goals as goal
 
-pub returns-in-Ok-Extensive-clause-same : goal.returns-in-Ok-Extensive-clause-same
-returns-in-Ok-Extensive-clause-same c =
-    let t = rw c.in-Ok-Extensive.field-0-is at c.in-Ok-Extensive.ensures.told in
+pub returns-in-Ok-Tree-clause-same : goal.returns-in-Ok-Tree-clause-same
+returns-in-Ok-Tree-clause-same c =
+    let t = rw c.in-Ok-Tree.field-0-is at c.in-Ok-Tree.ensures.told in
     let new = c.new-comparison in (
       extensive t.0,
       record { spelled = t.1; within = tt },

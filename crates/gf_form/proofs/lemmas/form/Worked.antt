@@ -7,8 +7,8 @@ use Rattle.gf_form.proofs.Common.{reduced_by, balancing, unlikely, IsPaidAt, IsE
 use Rattle.gf_form.proofs.Common.{length, IsGame, ending, get_or, nat_lt, payoff, codes, arith, ◌∷◌}
 use Rattle.gf_form.proofs.Common.{Ratio, whole, ◌*ℤ◌, ◌++◌, refl, Game, pos, ◌+◌, ◌<◌, [], ℕ}
 use Rattle.std.specs.Fmt.{digits}
-use Rattle.gf_fraction.specs.Computed.{gcd_within, lowest_of, number_of, sum_of, product_of}
-use Rattle.gf_token.specs.Indices.{index_of}
+use Rattle.gf_fraction.specs.inner.Computed.{gcd_within, lowest_of, number_of, sum_of, product_of}
+use Rattle.gf_token.specs.inner.Indices.{index_of}
 use Rattle.gf_token.specs.inner.Lexing.{lex}
 use Rattle.gf_token.specs.inner.Lexing.Mode.{Gap}
 use Rattle.gf_tree.specs.inner.Machine.{nothing, run}

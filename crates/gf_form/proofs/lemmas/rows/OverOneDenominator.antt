@@ -9,7 +9,7 @@ use Common.{add-*ℤ, sum_of, arith, subst, Ratio, times, IsLcm, IsSum, zero, re
 use Common.{ints, plus, back, ◌≡◌, suc, pos, ◌+◌, ◌*◌, ◌/◌, ◌%◌, ◌^◌, ◌<◌, ◌≤◌, sym, ◌∙◌, ◌∣◌, ap}
 use Rattle.std.specs.Int.{IsGcd}
 use Rattle.std.proofs.lemmas.Nat.Gcd.{IsGcd-from_zero, IsGcd-from_mod, IsGcd-swap, le_of_dvd}
-use Rattle.gf_fraction.specs.Computed.{lowest_of}
+use Rattle.gf_fraction.specs.inner.Computed.{lowest_of}
 use Rattle.gf_fraction.proofs.ComputedArithmetic.{lowest_of-value}
 use Rattle.gf_fraction.proofs.Divisors.{dvd_of_dvd-mul}
 use Rattle.gf_fraction.proofs.Integers.{*-cancel_right}

@@ -8,7 +8,7 @@ use Common.{scaled_num, MatchBool, payoff_at, dvd_refl, times_of, *ℤ-zero, one
 use Common.{plus_of, AddsTo, branch, SetKey, *ℤ-one, arith, Ratio, value, Trees, IsLcm, subst, none}
 use Common.{Some, zero, Node, None, ◌*ℤ◌, Tree, refl, more, ◌==◌, Game, true, Bool, ◌≡◌, ◌/◌, sym}
 use Common.{◌+◌, ◌∙◌, pos, suc, ◌*◌, ◌↔◌, ap, ℤ}
-use Rattle.gf_fraction.specs.Computed.{sum_of}
+use Rattle.gf_fraction.specs.inner.Computed.{sum_of}
 use Rattle.gf_fraction.proofs.ComputedArithmetic.{product_is_computed}
 use Rattle.gf_form.proofs.lemmas.values.Denominators.{probability_fraction, payoff_fraction}
 use Rattle.std.proofs.Math.Nat.{div_self}

@@ -1,6 +1,6 @@
 use Rattle.std.proofs.Common.{◌/◌, subst, sym}
 use Rattle.std.proofs.Math.Nat.{pos_of_dvd_of_pos}
-use Rattle.gf_fraction.specs.Steps.{IsLowest}
+use Rattle.gf_fraction.specs.inner.Steps.{IsLowest}
 use Rattle.gf_fraction.proofs.Divisors.{IsLowest-div}
 use Rattle.gf_fraction.proofs.lowest.lowest.Goals as goal
 

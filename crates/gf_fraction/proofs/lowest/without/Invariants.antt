@@ -1,5 +1,5 @@
 use Rattle.std.proofs.Common.{ℕ, ◌*◌, ◌^◌}
-use Rattle.gf_fraction.specs.Steps.{HoldsCommon, IsReduced}
+use Rattle.gf_fraction.specs.inner.Steps.{HoldsCommon, IsReduced}
 use Rattle.gf_fraction.proofs.lowest.without.Given as goal
 
 abbrev pub invariant-loop-left : goal.invariant-loop-left

@@ -1,7 +1,7 @@
 use Rattle.std.proofs.Common.{◌≡◌, ◌<◌, ◌+◌, length, take, drop, subst, sym, ap, ◌∙◌, arith}
 use Rattle.std.proofs.lemmas.List.{length-append, length-drop, take-append-drop}
 use Rattle.gf_fraction.specs.NumberSpelling.{IsNumber, IsSign}
-use Rattle.gf_fraction.specs.NumberScan.{AreRead, IsNotShort, after_sign}
+use Rattle.gf_fraction.specs.inner.NumberScan.{AreRead, IsNotShort, after_sign}
 use Rattle.gf_fraction.proofs.FoundIsSpelled.{has_sign}
 use Rattle.gf_fraction.proofs.ShortNumbers.{parts_of}
 use Rattle.gf_fraction.proofs.read.short.Goals as goal

@@ -1,7 +1,7 @@
 use Rattle.std.proofs.Common.{◌≡◌, ◌<◌, ◌∙◌, ◌+◌, ◌-◌, ◌*◌, ap, sym}
 use Rattle.std.proofs.Common.{true, length, drop, get_or, arith}
 use Rattle.std.specs.Char.{is_ascii_digit}
-use Rattle.gf_fraction.specs.NumberScan.{capped, leading_value}
+use Rattle.gf_fraction.specs.inner.NumberScan.{capped, leading_value}
 use Rattle.gf_fraction.proofs.LeadingDigits.{leading_value-drop, unread-drop, capped-leading}
 use Rattle.gf_fraction.proofs.read.wide_digits.Goals as goal
 use Rattle.gf_fraction.proofs.read.wide_digits.Goals.{then-value, else-value}

@@ -1,5 +1,5 @@
 use Rattle.std.proofs.Common.{◌≡◌, ◌≤◌, ◌^◌, drop}
-use Rattle.gf_fraction.specs.NumberScan.{unread, capped, leading_value}
+use Rattle.gf_fraction.specs.inner.NumberScan.{unread, capped, leading_value}
 use Rattle.gf_fraction.proofs.read.wide_digits.Given as goal
 
 abbrev pub invariant-loop-i : goal.invariant-loop-i

@@ -1,7 +1,7 @@
 use Rattle.std.proofs.Common.{◌≡◌, ◌≤◌, ◌-◌, length, take}
 use Rattle.std.specs.Prelude.{◌⊎◌, []}
 use Rattle.std.specs.Str.Parse.{AllDigits, digits_value_after}
-use Rattle.gf_fraction.specs.ShortNumber.{IsShort}
+use Rattle.gf_fraction.specs.inner.ShortNumber.{IsShort}
 use Rattle.gf_fraction.proofs.read.word_digits.Given as goal
 
 abbrev pub invariant-loop-len : goal.invariant-loop-len

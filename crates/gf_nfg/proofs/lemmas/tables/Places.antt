@@ -1,52 +1,19 @@
 -- The places of profiles.
 use Rattle.gf_nfg.proofs.Common
-use Common.{slice_eq-Decides, mul-le-mul_right, AllByRecursion, profile_limit, Decides-eqb, product}
-use Common.{all_images, payoffs_at, entries_of, table_with, length-map, get_or-map, slice_get, zero}
-use Common.{pointwise, drop_more, IsProfile, mul_comm, profiles, IsPlaced, IsTable, nat_eq, length}
-use Common.{get_or, IsHeld, own_of, arith, Ratio, place, Table, Names, List, drop, None, refl, rows}
-use Common.{◌≡◌, suc, ◌+◌, ◌-◌, ◌*◌, ◌<◌, ◌≤◌, ◌∷◌, map, sym, ◌∙◌, ◌⊎◌, [], ap, ℕ}
+use Common.{mul-le-mul_right, AllByRecursion, profile_limit, get_or_from_slice_get, product}
+use Common.{all_images, table_with, length-map, get_or-map, slice_get, zero, drop_more, IsProfile}
+use Common.{mul_comm, profiles, IsPlaced, IsTable, PaysAt, length, get_or, IsHeld, own_of, arith}
+use Common.{Ratio, place, Table, Entry, Names, List, drop, Some, rows}
+use Common.{◌≡◌, ◌∙◌, ap, suc, ◌+◌, ◌-◌, ◌*◌, ◌<◌, ◌≤◌, ◌∷◌, map, ◌⊎◌, [], ℕ}
 use Rattle.std.proofs.lemmas.List.Elements.{AllZip-get_or, length_all_zip}
 use Rattle.gf_nfg.proofs.lemmas.tables.Profiles.{every_profile, length-profiles}
 use Rattle.gf_nfg.proofs.lemmas.tables.Profiles.{place_at as stands_at}
-use Rattle.gf_nfg.proofs.lemmas.tables.Rows.{entries_again, entries_counted}
-
--- the payoffs of the first entry with a profile, at this place
-found_at : (profile : List ℕ) (ps : List (List ℕ)) (rs : List (List Ratio)) (k : ℕ)
-    → length ps ≡ length rs → k < length ps → get_or ps k profile ≡ profile
-    → ((i : ℕ) → i < k → ¬ (get_or ps i profile ≡ profile))
-    → payoffs_at profile (entries_of ps rs) ≡ slice_get rs k
-found_at profile (p ∷ ps) (r ∷ rs) (suc k) e h is first =
-    let other = first 0 (omega arith) in
-    let later = found_at profile ps rs k (omega (arith, e)) (omega (arith, h)) is
-    (λ i less. first (suc i) (omega (arith, less))) in
-    grind (arith, slice_eq-Decides Decides-eqb p profile (pointwise nat_eq p profile) refl)
-found_at profile (p ∷ ps) rs k e h is first =
-    grind (arith, slice_eq-Decides Decides-eqb p profile (pointwise nat_eq p profile) refl)
-found_at profile ps rs k e h is first = absurd (omega (arith, e, h))
-
-none_at : (profile : List ℕ) (ps : List (List ℕ)) (rs : List (List Ratio))
-    → ((i : ℕ) → i < length ps → ¬ (get_or ps i profile ≡ profile))
-    → payoffs_at profile (entries_of ps rs) ≡ None
-none_at profile (p ∷ ps) (r ∷ rs) none =
-    let other = none 0 (omega arith) in
-    let later = none_at profile ps rs (λ i less. none (suc i) (omega (arith, less))) in
-    grind (arith, slice_eq-Decides Decides-eqb p profile (pointwise nat_eq p profile) refl)
-none_at profile ps rs none = grind arith
+use Rattle.gf_nfg.proofs.lemmas.tables.Rows.{entries_counted}
 
 -- a profile stands at its place alone
 place_found : (counts profile : List ℕ) (k i : ℕ) → IsPlaced counts profile k
     → i < length (profiles counts) → get_or (profiles counts) i profile ≡ profile → i ≡ k
 place_found counts profile k i h less same = grind (arith, stands_at counts i profile less)
-
-payoffs_placed : (counts profile : List ℕ) (rs : List (List Ratio)) (k : ℕ)
-    → length (profiles counts) ≡ length rs → IsPlaced counts profile k
-    → payoffs_at profile (entries_of (profiles counts) rs) ≡ slice_get rs k
-payoffs_placed counts profile rs k e h =
-    let c = (every_profile counts profile).1 h.is_profile in
-    let here = place_found counts profile k c.0 h c.1 c.2 in
-    found_at profile (profiles counts) rs c.0 e c.1 c.2
-    (λ i less same. let there = place_found counts profile k i h (omega (arith, less, c.1)) same in
-    omega (arith, less, here, there)) ∙ ap (slice_get rs) here
 
 pub place_below : (counts profile : List ℕ) (k : ℕ) → IsPlaced counts profile k
     → k < product counts
@@ -132,26 +99,26 @@ strategy_fits {names} {profile} {at} a above within =
 
 -- ---- the payoffs of a table at a profile
 
-module _ (t : Table) (profile : List ℕ) (h : IsTable t) where
-  abbrev counts : List ℕ
-  counts = map length t.strategies
+-- its entry at the place of a profile is the one with this profile
+pays_at_place : (t : Table) (profile : List ℕ) (k : ℕ) (row : List Ratio) → IsTable t
+    → IsPlaced (map length t.strategies) profile k → slice_get (rows t) k ≡ Some row
+    → PaysAt t profile row
+pays_at_place t profile k row h placed there =
+    let e : Entry = record { profile = profile; payoffs = row } in
+    let c = (every_profile (map length t.strategies) profile).1 placed.is_profile in
+    let here = place_found (map length t.strategies) profile k c.0 placed c.1 c.2 in
+    let less : k < length t.entries =
+    omega (arith, place_below (map length t.strategies) profile k placed, entries_counted t h) in
+    let named = get_or-map (λ (x : Entry). x.profile) t.entries k e profile less in
+    let paid = get_or-map (λ (x : Entry). x.payoffs) t.entries k e row less in
+    (k, less, grind (arith, get_or_from_slice_get))
 
-  entries : entries_of (profiles counts) (rows t) ≡ t.entries
-  entries = ap (λ ps. entries_of ps (rows t)) (sym h.one_entry_each) ∙ entries_again t.entries
-
-  sizes : length (profiles counts) ≡ length (rows t)
-  sizes = length-profiles counts
-      ∙ sym (entries_counted t h) ∙ sym (length-map t.entries (λ e. e.payoffs))
-
-  pub payoffs_found : (k : ℕ) → IsPlaced counts profile k
-      → payoffs_at profile t.entries ≡ slice_get (rows t) k
-  payoffs_found k placed =
-      ap (payoffs_at profile) (sym entries) ∙ payoffs_placed counts profile (rows t) k sizes placed
-
-  pub no_payoffs : ¬ (IsProfile counts profile) → payoffs_at profile t.entries ≡ None
-  no_payoffs not =
-      ap (payoffs_at profile) (sym entries) ∙ none_at profile (profiles counts) (rows t)
-      (λ i less same. not ((every_profile counts profile).0 (i, less, same)))
+pub pays_there : (names : Names) (rs : List (List Ratio)) (profile : List ℕ) (k : ℕ)
+    (row : List Ratio) → IsHeld names rs → IsPlaced (map length names.strategies) profile k
+    → slice_get rs k ≡ Some row → PaysAt (table_with names rs) profile row
+pays_there names rs profile k row h placed there =
+    pays_at_place (table_with names rs) profile k row h.is_table placed
+    (ap (λ qs. slice_get qs k) h.rows_are ∙ there)
 
 pub place_there : (names : Names) (rs : List (List Ratio)) (profile : List ℕ) (place : ℕ)
     → IsHeld names rs → IsPlaced (map length names.strategies) profile place → place < length rs
@@ -160,5 +127,3 @@ place_there names rs profile place h found =
 
 pub ruleset places_found =
     (as_many, length-map, place_below, player_before, strategy_in, strategy_fits)
-
-pub ruleset payoffs_at_place = (no_payoffs, payoffs_found)

@@ -1,6 +1,6 @@
 use Rattle.std.proofs.Common.{ℕ, List, take, drop, arith, subst, sym}
 use Rattle.std.proofs.lemmas.List.{take_rest}
-use Rattle.gf_fraction.specs.ShortNumber.{IsLeft, IsReadOn}
+use Rattle.gf_fraction.specs.ReadOn.{IsLeft, IsReadOn}
 use Rattle.gf_token.specs.inner.Finding.{IsNotShort}
 use Rattle.gf_token.proofs.ScannedNumbers.{whole_found, number_found}
 use Rattle.gf_token.proofs.scan.short_number_end.Goals as goal
@@ -17,9 +17,7 @@ returns-in_err-number c =
     let d = c.digits_end-at in
     rw (c.from_residual.ensures, sym c.from.ensures)
     (IsNotShort.left d.result.0 d.ensures.ends
-    (subst (λ (t : ℕ × List ℕ). IsLeft t.0 t.1)
-    (λ i. (d.ensures.value i, take_rest c.args.input.now d.result.0 i))
-    c.in_err-number.ensures.end))
+    (subst IsLeft (take_rest c.args.input.now d.result.0) c.in_err-number.ensures.end))
 
 pub returns-then-is_over-2 : goal.returns-then-is_over-2
 returns-then-is_over-2 c =
@@ -36,7 +34,6 @@ returns-else-is_over-2 c =
     let more = c.is_over-2.ensures.more c.if-is_over-2.false in
     rw (sym c.from.ensures)
     (IsNotShort.more d.result.0 len d.ensures.ends
-    (subst (λ (t : ℕ × List ℕ). IsReadOn t.0 (take len t.1) (drop len t.1))
-    (λ i. (d.ensures.value i, take_rest c.args.input.now d.result.0 i))
-    c.in_ok-number.ensures.end)
+    (subst (λ (t : List ℕ). IsReadOn (take len t) (drop len t))
+    (take_rest c.args.input.now d.result.0) c.in_ok-number.ensures.end)
     more.0 more.1)

@@ -13,6 +13,9 @@ use Common.{List, ◌++◌, Some, None, refl, ◌==◌, Game, Span, Kept, Bare, 
 use Common.{suc, ◌∷◌, map, sym, ◌∙◌, run, Why, Err, [], ap, Ok, at}
 use Rattle.std.specs.Prelude.{OnOk, IfOk, IfNone, MatchResult}
 use Common.{get_or_from_slice_get, slice_get-map}
+use Common.{PlayerNumber, UnknownPlayer, player_number}
+use Rattle.std.proofs.lemmas.Bool.Decides.{nat_tests}
+use Rattle.gf_token.specs.inner.Machine.Fails.{of_file}
 use Rattle.std.proofs.lemmas.List.Quantifiers.{position-Some}
 use Rattle.gf_tree.specs.inner.KnownOutcomes.{with_pending_outcome}
 use Rattle.gf_token.specs.ReadAs.{IsReadAs}
@@ -213,6 +216,45 @@ set_again c node player n a b t all rest after is number goes =
       machine = then_run (placed a b (set_number c node player o))
           (λ s. run (length rest.input) s.position s.content rest.ahead);
     }) (sym number) ∙ goes
+
+-- ---- the number of a player
+
+player_in : (c : Content) (node : List ℕ) (n : ℕ) → n ≤ length c.players
+    → player_number c node (Some n) ≡ Ok (at (SetNumber node n) c)
+player_in c node n within = grind (arith, nat_tests)
+
+player_out : (c : Content) (node : List ℕ) (n : ℕ) → length c.players < n
+    → player_number c node (Some n) ≡ Err UnknownPlayer
+player_out c node n above = grind (arith, nat_tests)
+
+-- what follows from it
+module _ (c : Content) (node : List ℕ) (n a b : ℕ) (t : List ℕ) (all rest : Remaining)
+    (is : all ≡ record { input = rest.input; ahead = lexeme a b (Bare t) ∷ rest.ahead })
+    (number : Some n ≡ count_of t) where
+  after : (r : Result State Why) → player_number c node (Some n) ≡ r
+      → heard (PlayerNumber node) c all ≡ record {
+        input = rest.input;
+        machine = then_run (placed a b r)
+            (λ s. run (length rest.input) s.position s.content rest.ahead);
+      }
+  after r e =
+      ap (heard (PlayerNumber node) c) is
+      ∙ ap (λ (o : Result State Why). record {
+        input = rest.input;
+        machine = then_run (placed a b o)
+            (λ s. run (length rest.input) s.position s.content rest.ahead);
+      }) (ap (player_number c node) (sym number) ∙ e)
+
+  pub player_again : n ≤ length c.players
+      → heard (PlayerNumber node) c all ≡ heard (SetNumber node n) c rest
+  player_again within = after (Ok (at (SetNumber node n) c)) (player_in c node n within)
+
+  pub player_unknown : (f : Fault)
+      → f ≡ record { span = record { start = a; end = b }; why = UnknownPlayer }
+      → length c.players < n → Fails f (heard (PlayerNumber node) c all)
+  player_unknown f same above = of_file
+      (ap (λ (x : Answer). x.machine) (after (Err UnknownPlayer) (player_out c node n above))
+      ∙ ap (λ (g : Fault). Err g) (sym same))
 
 -- ---- a new set is whole
 

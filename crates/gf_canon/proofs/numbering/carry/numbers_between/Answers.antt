@@ -26,4 +26,5 @@ returns c =
           (c.loop-node.invariant c.requires.same.0 c.requires.same.1) w.in-Some.ensures.steps
           w.in_default.ensures.steps.0)
     ] in
-    walk_ends _ c.args.g.now c.args.h.now c.requires.game c.requires.same c.loop-node.invariant none
+    walk_ends c.loop-node.sets c.loop-node.outcomes c.args.g.now c.args.h.now c.requires.game
+    c.requires.same c.loop-node.invariant none

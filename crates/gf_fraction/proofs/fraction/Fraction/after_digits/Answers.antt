@@ -1,6 +1,5 @@
-use Rattle.std.proofs.Common.{arith}
-use Rattle.gf_fraction.proofs.ShortNumbers.{completed_number}
+use Rattle.gf_fraction.proofs.ShortNumbers.{reads_on}
 use Rattle.gf_fraction.proofs.fraction.Fraction.after_digits.Goals as goal
 
-pub returns-clause-number : goal.returns-clause-number
-returns-clause-number c = grind (arith, completed_number)
+pub returns-clause-end : goal.returns-clause-end
+returns-clause-end c = reads_on c.args.num c.args.text.now c.read_on.result c.read_on.ensures.end

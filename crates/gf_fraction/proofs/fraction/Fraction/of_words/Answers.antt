@@ -1,7 +1,7 @@
 use Rattle.std.proofs.Common.{◌≡◌, arith, sym, subst, to_z, of_z}
 use Rattle.std.specs.Int.{w128}
 use Rattle.gf_fraction.specs.Ratio.{Ratio, IsFraction, signed}
-use Rattle.gf_fraction.specs.Steps.{IsLowest}
+use Rattle.gf_fraction.specs.inner.Steps.{IsLowest}
 use Rattle.gf_fraction.proofs.LowestTerms.{fraction_from}
 use Rattle.gf_fraction.proofs.fraction.Fraction.of_words.Goals as goal
 

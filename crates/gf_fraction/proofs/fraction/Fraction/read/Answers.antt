@@ -1,6 +1,6 @@
 use Rattle.std.proofs.Common.{arith, ◌≡◌, ◌∙◌, ℕ, List, Bool, ap, sym, Some}
 use Rattle.std.proofs.lemmas.Result.{MatchResult-weaker}
-use Rattle.gf_fraction.specs.NumberScan.{after_sign, is_minus, scan}
+use Rattle.gf_fraction.specs.inner.NumberScan.{after_sign, is_minus, scan}
 use Rattle.gf_fraction.specs.declared.read.Spelling.{Spelling}
 use Rattle.gf_fraction.proofs.FoundIsSpelled.{FoundNumber, found_number}
 use Rattle.gf_fraction.proofs.AnswersFromScans.{number_from_value, fault_from_reading, unspelled}

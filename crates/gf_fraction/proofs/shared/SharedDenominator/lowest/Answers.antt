@@ -3,7 +3,7 @@ use Rattle.std.specs.Int.{w128}
 use Rattle.std.specs.Prelude.{int_lt, unsigned_abs}
 use Rattle.std.proofs.lemmas.Int.{to_z-of_z}
 use Rattle.gf_fraction.specs.Ratio.{signed}
-use Rattle.gf_fraction.specs.Steps.{HoldsCommon}
+use Rattle.gf_fraction.specs.inner.Steps.{HoldsCommon}
 use Rattle.gf_fraction.proofs.Divisors.{HoldsCommon-self}
 use Rattle.gf_fraction.proofs.LowestTerms.{signed_value}
 use Rattle.gf_fraction.proofs.shared.SharedDenominator.lowest.Goals as goal

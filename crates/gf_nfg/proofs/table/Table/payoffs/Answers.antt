@@ -1,5 +1,5 @@
-use Rattle.gf_nfg.proofs.Common.{arith}
-use Rattle.gf_nfg.proofs.lemmas.tables.Places.{place_there}
+use Rattle.gf_nfg.proofs.Common.{PaysAt, arith, subst}
+use Rattle.gf_nfg.proofs.lemmas.tables.Places.{pays_there, place_there}
 use Rattle.gf_nfg.proofs.lemmas.tables.Rows.{entries_counted}
 use Rattle.gf_nfg.proofs.table.Table.payoffs.Goals as goal
 
@@ -11,3 +11,8 @@ place_of-requires-clause-within c =
 pub row-requires : goal.row-requires
 row-requires c = place_there _ c.self.inside.payoffs c.args.profile.now _ c.self.invariant
     c.in-Some.ensures
+
+pub returns-in-Some : goal.returns-in-Some
+returns-in-Some c = subst (λ t. PaysAt t c.args.profile.now c.row.result.now) c.self.view_is
+    (pays_there _ c.self.inside.payoffs c.args.profile.now _ _ c.self.invariant
+    c.in-Some.ensures c.row.ensures)

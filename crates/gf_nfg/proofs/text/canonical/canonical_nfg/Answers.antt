@@ -8,7 +8,7 @@ pub returns-then-eq-clause-text : goal.returns-then-eq-clause-text
 returns-then-eq-clause-text c =
     let told = rw c.new-text.ensures.named at c.in_ok-heading.ensures.told in
     let h = payoffs_written _ _ c.args.named c.tell_nfg.new.to (search rules) told in
-    (h.0, h.1, h.2, c.of.ensures ∙ h.3)
+    (h.0, h.1, h.2, c.of.ensures.rest ∙ h.3)
 
 pub with_lines-requires : goal.with_lines-requires
 with_lines-requires c =
@@ -25,7 +25,7 @@ returns-in-Ok-clause-text c =
       begun.means.spelled,
       begun.means.within,
       text_with c.args.named content c.in-Ok.text.rest begun.means.complete
-          (c.in-Ok.ensures ∙ ap (λ (bs : List ℕ). bs ++ lines_text
+          (c.in-Ok.ensures.rest ∙ ap (λ (bs : List ℕ). bs ++ lines_text
           (map row_text (rows_by content content.choices))) begun.text_is),
     )
 

@@ -2,7 +2,7 @@ use Rattle.gf_nfg.proofs.Common.{append_assoc, arith}
 use Rattle.gf_nfg.proofs.lemmas.texts.Lists.{heading_is}
 use Rattle.gf_nfg.proofs.text.table_text.with_payoffs.Goals as goal
 
-pub returns : goal.returns
-returns c =
+pub returns-clause-rest : goal.returns-clause-rest
+returns-clause-rest c =
     let is = heading_is c.args.names in
     grind (arith, append_assoc)

@@ -1,17 +1,12 @@
-use Rattle.std.proofs.Common.{inr}
-use Rattle.gf_run.proofs.Hashed.{IfErr-both}
+use Rattle.std.proofs.Common.{◌∙◌, ap, Err}
+use Rattle.gf_run.specs.Hashes.{opened, unopened}
+use Rattle.gf_run.proofs.Errors.{is_error}
 use Rattle.gf_run.proofs.collections.duplicates.hash_of_file.Goals as goal
 
-pub returns-clause-failed : goal.returns-clause-failed
-returns-clause-failed g c =
-    IfErr-both c.read_hash.result _ _ _ c.read_hash.ensures.refused
-    c.read_hash.ensures.before_writing
-    (λ fault refused other. (
-      other,
-      inr (record {
-        old = c.in_ok-input.input;
-        new = c.read_hash.new.input;
-        opened = c.in_ok-input.ensures;
-        run = refused;
-      }),
-    ))
+pub returns-in_err-input : goal.returns-in_err-input
+returns-in_err-input g c = unopened c.in_err-input.ensures.1
+    (is_error _ _ c.from_residual.ensures.1 ∙ ap Err c.in_err-input.ensures.0)
+
+pub returns : goal.returns
+returns g c =
+    opened c.in_ok-input.input c.read_hash.new.input c.in_ok-input.ensures c.read_hash.ensures

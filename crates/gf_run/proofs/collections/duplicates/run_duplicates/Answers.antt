@@ -18,20 +18,35 @@ returns g c =
     let now = c.loop-file.invariant in
     let write = c.write_groups in
     now.2
-    (record { output = write.new.output; errors = write.new.errors; status = write.result })
+    (record {
+      inputs = c.loop-file.inputs;
+      output = write.new.output;
+      errors = write.new.errors;
+      status = write.result;
+    })
     (rw (drop_all c.loop-file.file-index c.args.files.now c.loop-file-test.false)
-    (write.ensures now.0 now.1))
+    (refl, write.ensures now.0 now.1))
 
 pub loop-file-init : goal.loop-file-init
 loop-file-init g c = ([], c.new-groups.ensures, λ end rest. rest)
 
 pub returns-in-Err : goal.returns-in-Err
 returns-in-Err g c =
+    let out = c.in-Err.ensures.out_of_memory in
     c.loop-file.invariant.2
-    (record { output = c.args.output.now; errors = c.tell.new.errors; status = c.max.result })
+    (record {
+      inputs = c.read_next.new.inputs;
+      output = c.args.output.now;
+      errors = c.tell.new.errors;
+      status = c.max.result;
+    })
     (rw (left_at c.args.files.now c.loop-file.file-index c.file-item.result
-    c.loop-file-test.true c.file-item.is) (inl (record {
-      unwritten = refl;
-      told = rw c.in-Err.ensures.untold at c.tell.ensures.told;
-      status = rw c.tell.ensures.status at c.max.ensures;
-    })))
+    c.loop-file-test.true c.file-item.is) (inl (
+      out.1.0,
+      out.1.1,
+      record {
+        unwritten = refl;
+        told = rw out.0 at c.tell.ensures.told;
+        is_status = rw c.tell.ensures.status at c.max.ensures;
+      },
+    )))

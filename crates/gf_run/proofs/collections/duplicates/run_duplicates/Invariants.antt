@@ -7,14 +7,10 @@ use Rattle.gf_run.proofs.collections.duplicates.run_duplicates.Given as goal
 -- the files that were read are kept, and what comes after them comes after all files so far
 abbrev pub invariant-loop-file : goal.invariant-loop-file
 invariant-loop-file g l = (files : List HashedFile) × IsKeptOf files l.groups
-    × ((end : Standing g.row.W.Denot g.row.E.Denot)
-    → Finds g.W.Write.contents g.W.Sink.count g.W.Sink.push_gives g.E.Write.contents g.E.Sink.count
-    g.E.Sink.push_gives (g.I.Inputs.standard_gives l.inputs) (g.I.Inputs.open_gives l.inputs)
-    g.I.Opened.Read.remaining g.I.Opened.Source.count g.I.Opened.Source.pull_gives
-    l.names (drop l.file-index l.files) l.output
-    (record { files = files; errors = l.errors; status = l.worst }) end
-    → Finds g.W.Write.contents g.W.Sink.count g.W.Sink.push_gives g.E.Write.contents g.E.Sink.count
-    g.E.Sink.push_gives (g.I.Inputs.standard_gives l.inputs) (g.I.Inputs.open_gives l.inputs)
-    g.I.Opened.Read.remaining g.I.Opened.Source.count g.I.Opened.Source.pull_gives
-    l.names l.files l.fn.output
-    (record { files = []; errors = l.fn.errors; status = 0 }) end)
+    × ((end : Standing g.row.I.Denot g.row.W.Denot g.row.E.Denot)
+    → Finds g.I.Inputs.opener g.I.Opened.Source.reader g.W.Sink.writer g.E.Sink.writer
+    l.names l.output (drop l.file-index l.files)
+    (record { inputs = l.inputs; files = files; errors = l.errors; status = l.worst }) end
+    → Finds g.I.Inputs.opener g.I.Opened.Source.reader g.W.Sink.writer g.E.Sink.writer
+    l.names l.fn.output l.files
+    (record { inputs = l.fn.inputs; files = []; errors = l.fn.errors; status = 0 }) end)

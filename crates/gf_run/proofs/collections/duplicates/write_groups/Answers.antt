@@ -18,6 +18,6 @@ returns-in-Ok-push_all g c = λ files is.
           text (omega (arith, w.if-len-gt0.false, c.len.ensures, c.in-Ok.text.ok.0))
     ] in
     written (subst
-    (λ (t : List ℕ). IsWritten g.W.Write.contents g.W.Sink.push_gives c.args.output.now
+    (λ (t : List ℕ). IsWritten g.W.Sink.writer c.args.output.now
     c.push_all.new.output t) (c.as_slice.ensures.value ∙ text) c.in-Ok-push_all.ensures.all) refl
     (c.max.ensures ∙ ap (λ (s : ℕ). max c.args.worst s) status)

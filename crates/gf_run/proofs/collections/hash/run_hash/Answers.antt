@@ -1,24 +1,30 @@
-use Rattle.gf_run.specs.HashText.{read}
-use Rattle.gf_run.proofs.Errors.{IfErr-only}
-use Rattle.gf_run.proofs.FormTexts.{not_of_writer}
+use Rattle.std.proofs.Common.{refl}
+use Rattle.gf_run.specs.Run.{answered, cut_off, refused}
+use Rattle.gf_run.proofs.Errors.{is_error}
+use Rattle.gf_run.proofs.Hashed.{of_hash, unhashed}
 use Rattle.gf_run.proofs.collections.hash.run_hash.Goals as goal
 
-pub returns-in_err-hash-clause-cut_off : goal.returns-in_err-hash-clause-cut_off
-returns-in_err-hash-clause-cut_off g c = not_of_writer _ _ _ c.from_residual.ensures.1
-    c.in_err-hash.ensures.before_writing
+pub returns-in_err-hash : goal.returns-in_err-hash
+returns-in_err-hash g c = unhashed _ _ _ _ _ _ _ _ _ (is_error _ _ c.from_residual.ensures.1)
+    c.in_err-hash.ensures
 
-pub returns-in_err-line-clause-refused : goal.returns-in_err-line-clause-refused
-returns-in_err-line-clause-refused g c =
-    let hashed = c.in_ok-hash.ensures.hash in
-    IfErr-only _ _ _ c.from_residual-in_err-line.ensures.1
-    (read hashed.0 hashed.2 (hashed.1.is_text.file, hashed.1.is_text.spelled))
+pub returns-in_err-line : goal.returns-in_err-line
+returns-in_err-line g c =
+    let read = of_hash _ _ _ _ _ c.in_ok-hash.ensures in
+    let text = read.2.is_text in
+    refused _ _ (is_error _ _ c.from_residual-in_err-line.ensures.1) read.1
+    (text.file, text.spelled) refl
 
-pub returns-in_err-push_all-clause-refused : goal.returns-in_err-push_all-clause-refused
-returns-in_err-push_all-clause-refused g c =
-    let hashed = c.in_ok-hash.ensures.hash in
-    IfErr-only _ _ _ c.from_residual-in_err-push_all.ensures.1
-    (read hashed.0 hashed.2 (hashed.1.is_text.file, hashed.1.is_text.spelled))
+pub returns-in_err-push_all : goal.returns-in_err-push_all
+returns-in_err-push_all g c =
+    let read = of_hash _ _ _ _ _ c.in_ok-hash.ensures in
+    cut_off tt _ _ (is_error _ _ c.from_residual-in_err-push_all.ensures.1) read.1
+    (record { hash = _; hashed = read.2; is_line = c.in_ok-line.ensures })
+    (rw c.as_slice.ensures.value at c.in_err-push_all.ensures.part)
 
-pub returns-in_err-hash-clause-refused : goal.returns-in_err-hash-clause-refused
-returns-in_err-hash-clause-refused g c =
-    IfErr-only _ _ _ c.from_residual.ensures.1 c.in_err-hash.ensures.refused
+pub returns : goal.returns
+returns g c =
+    let read = of_hash _ _ _ _ _ c.in_ok-hash.ensures in
+    answered tt _ _ refl read.1
+    (record { hash = _; hashed = read.2; is_line = c.in_ok-line.ensures })
+    (rw c.as_slice.ensures.value at c.in_ok-push_all.ensures.all)

@@ -6,8 +6,8 @@ use Rattle.gf_run.proofs.streams.source.load.Given as goal
 abbrev pub invariant-loop-bytes : goal.invariant-loop-bytes
 invariant-loop-bytes g l = record {
   within : vec_len l.bytes ≤ limit;
-  read : IsRead g.R.Read.remaining g.R.Source.pull_gives l.fn.input l.input l.bytes.items;
-  grown : g.R.Source.count l.fn.input ≤ g.R.Source.count l.input;
+  read : IsRead g.R.Source.reader l.fn.input l.input l.bytes.items;
+  grown : g.R.Source.reader.count l.fn.input ≤ g.R.Source.reader.count l.input;
 }
 
 abbrev pub decreases-loop-bytes : goal.decreases-loop-bytes

@@ -5,5 +5,5 @@ use Rattle.gf_run.proofs.streams.source.pull_again.Given as goal
 
 -- each pull so far was interrupted
 abbrev pub invariant-loop-turn : goal.invariant-loop-turn
-invariant-loop-turn g l = IsAskedAgain g.R.Read.remaining g.R.Source.count g.R.Source.pull_gives
+invariant-loop-turn g l = IsAskedAgain g.R.Source.reader.remaining g.R.Source.reader.count g.R.Source.reader.gives
     (HasLength (length l.fn.to)) l._turn l.fn.input l.input

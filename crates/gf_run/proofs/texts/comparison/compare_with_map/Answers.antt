@@ -17,6 +17,6 @@ returns-clause-answer c =
       same_exactly = says.4;
       is_text = line_and_map says.0 says.1 same lines _ says.4 (λ yes. says.5 yes none)
           (λ no. ap (λ (told : PairLines). told.text.items) (c.in_ok-same.ensures.untold no) ∙ none)
-          (c.of-2.ensures ∙ c.of.ensures ∙ two_parts same _ _ lines _ c.answer_line.ensures
-          c.as_slice.ensures.value c.in_ok-text.ensures);
+          (two_parts same _ _ lines _ c.answer_line.ensures c.as_slice.ensures.value
+          c.in_ok-text.ensures);
     }

@@ -1,6 +1,7 @@
 use Rattle.gf_tree.proofs.Common.{◌≡◌, ap, arith, false, Some, None, refl, rules, label_of}
 use Rattle.gf_tree.proofs.Common.{is_quoted, starts, Reader, with_node, KnownOutcomeName, NodeDue}
 use Rattle.gf_tree.proofs.Common.{begun_with, content_of}
+use Rattle.gf_token.proofs.ReadingIndices.{index_read}
 use Rattle.gf_tree.proofs.lemmas.reader.Steps.{lacks_memory}
 use Rattle.gf_tree.proofs.lemmas.stores.PassedBy.{outcome_passed_by}
 use Rattle.gf_tree.specs.inner.ReaderState.{with_children}
@@ -9,6 +10,7 @@ use Rattle.gf_tree.proofs.reader.Reader.outcome.Goals as goal
 
 pub returns-in_default-tell : goal.returns-in_default-tell
 returns-in_default-tell g c =
+    let read = index_read c.in-Some.word.bytes.now c.in-Some.index c.in-Some.ensures.index in
     lacks_memory c.in-Some.ensures.place c.at-in_default-tell.ensures NodeDue
     (with_node (content_of c.args.self.now)
     (begun_with c.args.self.now.sets.known (label_of c.args.node) c.args.set) None)
@@ -16,6 +18,7 @@ returns-in_default-tell g c =
 
 pub returns-then-number-eq0 : goal.returns-then-number-eq0
 returns-then-number-eq0 g c =
+    let read = index_read c.in-Some.word.bytes.now c.in-Some.index c.in-Some.ensures.index in
     tells NodeDue {old = c.args.self.now} {r = record c.args.self.now { tokens = c.index.new.self }}
     refl refl (grows_none c.args.self.now.sets.known) (grows_none c.args.self.now.outcomes.known)
     (record { set = c.requires.set; outcome = omega arith })
@@ -23,6 +26,7 @@ returns-then-number-eq0 g c =
 
 pub returns-in_default-tell-2 : goal.returns-in_default-tell-2
 returns-in_default-tell-2 g c =
+    let read = index_read c.in-Some.word.bytes.now c.in-Some.index c.in-Some.ensures.index in
     lacks_memory c.in-Some.ensures.place c.at-in_default-tell-2.ensures
     (KnownOutcomeName c.in-Some-known_outcome.ensures.known.outcome)
     (with_node (content_of c.args.self.now)
@@ -32,6 +36,7 @@ returns-in_default-tell-2 g c =
 
 pub returns : goal.returns
 returns g c =
+    let read = index_read c.in-Some.word.bytes.now c.in-Some.index c.in-Some.ensures.index in
     let known = c.in-Some-known_outcome.ensures.known in
     let told = c.in-Ok-tell.ensures in
     let now = c.tell-2.new.self in

@@ -1,5 +1,6 @@
 use Rattle.gf_tree.proofs.Common.{◌∙◌, ap, rules, set_of, content_of}
-use Rattle.gf_token.specs.Indices.{positive}
+use Rattle.gf_token.specs.inner.Indices.{positive}
+use Rattle.gf_token.proofs.ReadingIndices.{index_read}
 use Rattle.gf_tree.proofs.lemmas.stores.PassedBy.{set_passed_by}
 use Rattle.gf_tree.proofs.lemmas.reader.Steps.{set_again, set_known_again, taken}
 use Rattle.gf_tree.proofs.reader.Reader.set.Goals as goal
@@ -9,10 +10,11 @@ returns-in-Some-described-clause-machine c = λ node.
     let content = content_of c.args.self.now in
     let key = set_of c.args.player c.in-Some-count.number in
     let tokens = c.index.new.self in
+    let read = index_read c.in-Some.word.bytes.now c.in-Some.index c.in-Some.ensures.index in
     set_again content node c.args.player c.in-Some-count.number _ _ _ c.args.self.now.tokens tokens
     _
     (taken c.in-Some.ensures.next c.in-Some.ensures.input)
-    (c.in-Some-count.ensures ∙ ap positive c.in-Some.ensures.index)
+    (c.in-Some-count.ensures ∙ ap positive read)
     (set_known_again content node key c.in-Some-described.set.place tokens tokens _
     c.in-Some-described.ensures.known (set_passed_by content node key _ tokens.input tokens.ahead
     (search rules)))

@@ -1,0 +1,134 @@
+//! Games by other numbers, their texts, payoffs and tables.
+
+use crate::games::{BONUS, FIVE, FIVE_BY_OTHER_NUMBERS, FIVE_TEXT_BY_OTHER_NUMBERS, RULED_OUT};
+use crate::memory::Came;
+use crate::memory::parts::{BEFORE, came_of};
+use crate::memory::texts::right_if;
+use gf_canon::{renumber, renumbering, write_efg};
+use gf_form::{EvalFault, FormFault, are_strategies, expected, table, table_reduced};
+use gf_fraction::Fraction;
+use gf_nfg::Table;
+use gf_tree::{Game, read_efg};
+use std::alloc::{AllocError, Global};
+
+/// What came of a call that gives the game by these numbers, the first two of which are sets.
+fn came_of_copy(
+    answer: Result<Game<'_>, AllocError>,
+    chance: u32,
+    second: u32,
+    outcome: u32,
+) -> Came {
+    match answer {
+        Ok(copy) => right_if(
+            copy.set_number(0, 1) == Some(chance)
+                && copy.set_number(1, 2) == Some(second)
+                && copy.outcome_number(1) == Some(outcome),
+        ),
+        Err(AllocError) => Came::OutOfMemory,
+    }
+}
+
+pub fn give_numbers(alloc: Global) -> Came {
+    let (Ok(game), Ok(chance), Ok(own)) = (
+        read_efg(alloc, FIVE),
+        Vec::from_slice(alloc, &[2]),
+        Vec::from_slice(alloc, &[3, 8]),
+    ) else {
+        return Came::NotMade;
+    };
+    if game.players().len() != 1 || game.outcome_count() != 1 {
+        return Came::Wrong;
+    }
+    if game.set_count(0) != 1 || game.set_count(1) != 2 {
+        return Came::Wrong;
+    }
+    came_of_copy(game.with_numbers(alloc, &[chance, own], &[2]), 2, 8, 2)
+}
+
+pub fn number_by_first_use(alloc: Global) -> Came {
+    match read_efg(alloc, FIVE) {
+        Ok(game) => came_of_copy(renumber(alloc, &game), 1, 2, 1),
+        Err(_) => Came::NotMade,
+    }
+}
+
+pub fn write_tree(alloc: Global) -> Came {
+    let (Ok(game), Ok(mut out)) = (
+        read_efg(alloc, FIVE_BY_OTHER_NUMBERS),
+        Vec::from_slice(alloc, BEFORE),
+    ) else {
+        return Came::NotMade;
+    };
+    let answer = write_efg(&game, &mut out);
+    came_of(answer, out.as_slice(), FIVE_TEXT_BY_OTHER_NUMBERS)
+}
+
+pub fn find_renumbering(alloc: Global) -> Came {
+    let (Ok(game), Ok(copy)) = (
+        read_efg(alloc, FIVE),
+        read_efg(alloc, FIVE_BY_OTHER_NUMBERS),
+    ) else {
+        return Came::NotMade;
+    };
+    match renumbering(alloc, &game, &copy) {
+        Ok(Some(new)) => right_if(new.set(1, 7) == Some(3) && new.outcome(4) == Some(2)),
+        Ok(None) => Came::Wrong,
+        Err(AllocError) => Came::OutOfMemory,
+    }
+}
+
+fn came_of_payoffs(answer: Result<Vec<Fraction>, EvalFault>) -> Came {
+    match answer {
+        Ok(payoffs) => {
+            let (Ok(two), Ok(half)) = (Fraction::new(2, 1), Fraction::new(1, 2)) else {
+                return Came::Wrong;
+            };
+            right_if(payoffs.as_slice() == [two, half].as_slice())
+        }
+        Err(EvalFault::Memory) => Came::OutOfMemory,
+        Err(EvalFault::Overflow) => Came::Wrong,
+    }
+}
+
+pub fn expect_payoffs(alloc: Global) -> Came {
+    let (Ok(game), Ok(first)) = (read_efg(alloc, BONUS), Vec::from_slice(alloc, &[2])) else {
+        return Came::NotMade;
+    };
+    let choices = [first, Vec::new(alloc)];
+    if !are_strategies(&game, &choices) {
+        return Came::Wrong;
+    }
+    came_of_payoffs(expected(alloc, &game, &choices))
+}
+
+/// What came of a call that gives a table, of which this is paid to the first player at a profile.
+fn came_of_form(answer: Result<Table, FormFault>, profile: &[u32], payoff: Fraction) -> Came {
+    match answer {
+        Ok(table) => match table.payoffs(profile) {
+            Some(payoffs) => right_if(payoffs.first() == Some(&payoff)),
+            None => Came::Wrong,
+        },
+        Err(FormFault::Memory) => Came::OutOfMemory,
+        Err(_) => Came::Wrong,
+    }
+}
+
+pub fn form(alloc: Global) -> Came {
+    let Ok(game) = read_efg(alloc, BONUS) else {
+        return Came::NotMade;
+    };
+    if game.players().len() != 2 {
+        return Came::Wrong;
+    }
+    came_of_form(table(alloc, &game), &[2, 1], Fraction::whole(false, 2))
+}
+
+pub fn reduced_form(alloc: Global) -> Came {
+    let Ok(game) = read_efg(alloc, RULED_OUT) else {
+        return Came::NotMade;
+    };
+    if game.players().len() != 1 {
+        return Came::Wrong;
+    }
+    came_of_form(table_reduced(alloc, &game), &[3], Fraction::whole(false, 3))
+}

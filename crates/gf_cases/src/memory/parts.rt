@@ -1,0 +1,93 @@
+//! Fractions, labels and tables that are written or made.
+
+use crate::games::{SELTEN, SELTEN_TEXT};
+use crate::memory::Came;
+use gf_fraction::Fraction;
+use gf_nfg::{Table, read_nfg, write_nfg};
+use gf_token::{Label, write_label};
+use std::alloc::{AllocError, Global};
+
+/// What an output holds before it is written to.
+pub const BEFORE: &[u8] = b"; ";
+
+/// What came of a call that writes this after what its output holds.
+pub fn came_of(answer: Result<(), AllocError>, out: &[u8], text: &[u8]) -> Came {
+    match answer {
+        Ok(()) if out.strip_prefix(BEFORE) == Some(text) => Came::Right,
+        Err(AllocError) if out == BEFORE => Came::OutOfMemory,
+        _ => Came::Wrong,
+    }
+}
+
+pub fn write_fraction(alloc: Global) -> Came {
+    let text: &[u8] = b"-1/170141183460469231731687303715884105727";
+    let (Ok(fraction), Ok(mut out)) = (Fraction::read(text), Vec::from_slice(alloc, BEFORE)) else {
+        return Came::NotMade;
+    };
+    let answer = fraction.write(&mut out);
+    came_of(answer, out.as_slice(), text)
+}
+
+pub fn write_text(alloc: Global) -> Came {
+    let spelling: &[u8] = b"say \\\"hi\\\" \\a";
+    let (Some(label), Ok(mut out)) = (Label::new(spelling), Vec::from_slice(alloc, BEFORE)) else {
+        return Came::NotMade;
+    };
+    let answer = write_label(label, &mut out);
+    came_of(answer, out.as_slice(), b"\"say \\\"hi\\\" \\a\"")
+}
+
+pub fn write_table(alloc: Global) -> Came {
+    let (Ok(table), Ok(mut out)) = (read_nfg(alloc, SELTEN), Vec::from_slice(alloc, BEFORE)) else {
+        return Came::NotMade;
+    };
+    let answer = write_nfg(&table, &mut out);
+    came_of(answer, out.as_slice(), SELTEN_TEXT)
+}
+
+fn has_parts(t: &Table) -> bool {
+    let payoffs = [Fraction::zero(), Fraction::whole(false, 3)];
+    t.payoffs(&[2, 2]) == Some(payoffs.as_slice())
+        && (t.players(), t.profiles(), t.strategies(1)) == (2, 6, Some(3))
+}
+
+/// The table with these three strategies of its first player, of which the second has two, made of
+/// its parts.
+fn made<'a>(
+    alloc: Global,
+    title: Label<'a>,
+    player: Label<'a>,
+    labels: [Label<'a>; 3],
+) -> Result<Table, Came> {
+    let (one, two, three) = (labels[0], labels[1], labels[2]);
+    let (Ok(first), Ok(second)) = (vec![in alloc; one, two, three], vec![in alloc; one, two]) else {
+        return Err(Came::NotMade);
+    };
+    let rows = [1, 1, 0, 2, 0, 2, 1, 1, 0, 3, 2, 0].map(|n| Fraction::whole(false, n));
+    match Table::new(
+        alloc,
+        title,
+        title,
+        &[player, player],
+        &[first, second],
+        &rows,
+    ) {
+        Ok(table) => Ok(table),
+        Err(AllocError) => Err(Came::OutOfMemory),
+    }
+}
+
+pub fn make_table(alloc: Global) -> Came {
+    let (Some(title), Some(one), Some(two)) = (
+        Label::new(b"Selten"),
+        Label::new(b"1"),
+        Label::new(b"2"),
+    ) else {
+        return Came::Wrong;
+    };
+    match made(alloc, title, one, [one, two, title]) {
+        Ok(table) if has_parts(&table) => Came::Right,
+        Ok(_) => Came::Wrong,
+        Err(came) => came,
+    }
+}

@@ -1,0 +1,78 @@
+//! Files that are read, canonised and compared.
+
+use crate::games::{
+    FIVE, FIVE_BY_OTHER_NUMBERS, FIVE_TEXT, ONE_OUTCOME, ONE_OUTCOME_RENAMED, SELTEN_BY_OUTCOMES,
+    SELTEN_TEXT,
+};
+use crate::memory::Came;
+use gf_canon::{Names, SameFault, canonical, same, same_by};
+use gf_fraction::Fraction;
+use gf_nfg::read_nfg;
+use gf_token::{Fault, Why};
+use gf_tree::{Game, read_efg};
+use std::alloc::Global;
+
+/// What came of a call that refused a file which is right.
+pub fn came_of_fault(fault: Fault) -> Came {
+    match fault.why {
+        Why::Memory => Came::OutOfMemory,
+        _ => Came::Wrong,
+    }
+}
+
+pub fn right_if(is_right: bool) -> Came {
+    if is_right { Came::Right } else { Came::Wrong }
+}
+
+pub fn read_table(alloc: Global) -> Came {
+    let payoffs = [Fraction::zero(), Fraction::whole(false, 3)];
+    match read_nfg(alloc, SELTEN_BY_OUTCOMES) {
+        Ok(table) => right_if(table.payoffs(&[2, 2]) == Some(payoffs.as_slice())),
+        Err(fault) => came_of_fault(fault),
+    }
+}
+
+fn has_numbers(game: &Game<'_>) -> bool {
+    game.len() == 7
+        && game.set_number(0, 1) == Some(9)
+        && game.set_number(1, 2) == Some(3)
+        && game.outcome_number(1) == Some(4)
+}
+
+pub fn read_tree(alloc: Global) -> Came {
+    match read_efg(alloc, FIVE) {
+        Ok(game) => right_if(has_numbers(&game)),
+        Err(fault) => came_of_fault(fault),
+    }
+}
+
+fn canonise(alloc: Global, file: &[u8], text: &[u8]) -> Came {
+    match canonical(alloc, file) {
+        Ok(found) => right_if(found.as_slice() == text),
+        Err(fault) => came_of_fault(fault),
+    }
+}
+
+pub fn canonise_table(alloc: Global) -> Came {
+    canonise(alloc, SELTEN_BY_OUTCOMES, SELTEN_TEXT)
+}
+
+pub fn canonise_tree(alloc: Global) -> Came {
+    canonise(alloc, FIVE, FIVE_TEXT)
+}
+
+fn came_of_sameness(answer: Result<bool, SameFault>) -> Came {
+    match answer {
+        Ok(is_same) => right_if(is_same),
+        Err(SameFault::First(fault) | SameFault::Second(fault)) => came_of_fault(fault),
+        Err(SameFault::Memory) => Came::OutOfMemory,
+    }
+}
+
+pub fn compare(alloc: Global) -> Came {
+    came_of_sameness(same(alloc, FIVE, FIVE_BY_OTHER_NUMBERS))
+}
+
+pub fn compare_aside(alloc: Global) -> Came {
+    came_of_sameness(same_by(alloc, ONE_OUTCOME, ONE_OUTCOME_RENAMED, Names::Aside))
+}

@@ -1,0 +1,138 @@
+//! The nodes of a game, the renumbering between two games, and the payoffs of tables.
+
+use crate::cases::Cases;
+use crate::games::{
+    BONUS, FIVE, FIVE_BY_OTHER_NUMBERS, NULL_OUTCOME, NULL_OUTCOME_BY_PAYOFFS, ONE_SET, SELTEN,
+    TWO_SETS,
+};
+use gf_canon::{Renumbering, renumbering};
+use gf_nfg::read_nfg;
+use gf_tree::{Branch, Game, read_efg};
+use std::alloc::Global;
+
+/// The outcome numbers of `BONUS` in prefix order.
+static OUTCOMES: [u32; 7] = [0, 1, 2, 0, 0, 0, 3];
+
+/// The ways to its nodes, and how many children each has.
+static CHILDREN: [(&[usize], usize); 7] = [
+    (&[], 2),
+    (&[1], 2),
+    (&[1, 1], 0),
+    (&[1, 2], 0),
+    (&[2], 2),
+    (&[2, 1], 0),
+    (&[2, 2], 0),
+];
+
+/// Whether the nodes of a game have these outcome numbers.
+fn have_outcomes(game: &Game<'_>, outcomes: &[u32]) -> bool {
+    let mut place = 0;
+    for node in game.nodes() {
+        if outcomes.get(place) != Some(&node.outcome) {
+            return false;
+        }
+        place = place.saturating_add(1);
+    }
+    place == outcomes.len()
+}
+
+fn branch_at<'g, 'a>(game: &'g Game<'a>, way: &[usize]) -> Option<Branch<'g, 'a>> {
+    let mut branch = game.root();
+    for child in way {
+        branch = branch.child(*child)?;
+    }
+    Some(branch)
+}
+
+fn has_children(game: &Game<'_>, way: &[usize], children: usize) -> bool {
+    match branch_at(game, way) {
+        Some(branch) => {
+            let past = children.saturating_add(1);
+            branch.children() == children
+                && branch.child(0).is_none()
+                && branch.child(past).is_none()
+        }
+        None => false,
+    }
+}
+
+fn nodes(alloc: Global, cases: &mut Cases) {
+    let Ok(game) = read_efg(alloc, BONUS) else {
+        cases.add("a tree", false);
+        return;
+    };
+    cases.add("its outcomes", have_outcomes(&game, &OUTCOMES));
+    for (way, children) in &CHILDREN {
+        cases.add("its children", has_children(&game, way, *children));
+    }
+}
+
+/// The renumbering between two trees; `Err` if there is no answer.
+fn between(alloc: Global, a: &[u8], b: &[u8]) -> Result<Option<Renumbering>, ()> {
+    let (Ok(first), Ok(second)) = (read_efg(alloc, a), read_efg(alloc, b)) else {
+        return Err(());
+    };
+    match renumbering(alloc, &first, &second) {
+        Ok(found) => Ok(found),
+        Err(_) => Err(()),
+    }
+}
+
+fn new_numbers(alloc: Global, cases: &mut Cases) {
+    let Ok(Some(new)) = between(alloc, FIVE, FIVE_BY_OTHER_NUMBERS) else {
+        cases.add("a renumbering", false);
+        return;
+    };
+    cases.add("set 0 9", new.set(0, 9) == Some(2));
+    cases.add("set 1 7", new.set(1, 7) == Some(3));
+    cases.add("set 1 3", new.set(1, 3) == Some(8));
+    cases.add("set 1 9", new.set(1, 9).is_none());
+    cases.add("set 2 7", new.set(2, 7).is_none());
+    cases.add("outcome 0", new.outcome(0) == Some(0));
+    cases.add("outcome 4", new.outcome(4) == Some(2));
+    cases.add("outcome 1", new.outcome(1).is_none());
+}
+
+fn has_none(alloc: Global, a: &[u8], b: &[u8]) -> bool {
+    match between(alloc, a, b) {
+        Ok(found) => found.is_none(),
+        Err(()) => false,
+    }
+}
+
+fn agree(alloc: Global, a: &[u8], b: &[u8]) -> Option<bool> {
+    match (read_nfg(alloc, a), read_nfg(alloc, b)) {
+        (Ok(first), Ok(second)) => Some(first.play_agrees(&second)),
+        _ => None,
+    }
+}
+
+fn agreement(alloc: Global, cases: &mut Cases) {
+    let (outcomes, payoffs) = (NULL_OUTCOME, NULL_OUTCOME_BY_PAYOFFS);
+    cases.add(
+        "tables that agree",
+        agree(alloc, outcomes, payoffs) == Some(true),
+    );
+    cases.add(
+        "in the other order",
+        agree(alloc, payoffs, outcomes) == Some(true),
+    );
+    cases.add(
+        "tables that differ",
+        agree(alloc, SELTEN, outcomes) == Some(false),
+    );
+    cases.add(
+        "in the other order",
+        agree(alloc, outcomes, SELTEN) == Some(false),
+    );
+}
+
+pub fn trees(alloc: Global) -> Cases {
+    let mut cases = Cases::new();
+    nodes(alloc, &mut cases);
+    new_numbers(alloc, &mut cases);
+    cases.add("no renumbering", has_none(alloc, ONE_SET, TWO_SETS));
+    cases.add("in the other order", has_none(alloc, TWO_SETS, ONE_SET));
+    agreement(alloc, &mut cases);
+    cases
+}

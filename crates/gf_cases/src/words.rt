@@ -1,0 +1,93 @@
+//! What the words of a command line ask for.
+
+use crate::cases::Cases;
+use gf_canon::Names;
+use gf_words::{Input, Job, WordsFault, parse_words};
+use std::alloc::Global;
+
+/// What words ask for. A file that is not named is standard input.
+#[derive(Clone, Copy)]
+enum Asked {
+    Canon(Option<&'static str>, Names),
+    Check(Option<&'static str>),
+    Table(Option<&'static str>, bool),
+    Same(&'static str, &'static str, bool, Names),
+    Help,
+    Usage,
+}
+
+static WORDS: [(&[&str], Asked); 20] = [
+    (&[], Asked::Canon(None, Names::Kept)),
+    (&["canon"], Asked::Canon(None, Names::Kept)),
+    (
+        &["canon", "a.nfg"],
+        Asked::Canon(Some("a.nfg"), Names::Kept),
+    ),
+    (&["canon", "--no-names"], Asked::Canon(None, Names::Aside)),
+    (&["check", "a.efg"], Asked::Check(Some("a.efg"))),
+    (&["check"], Asked::Check(None)),
+    (&["table"], Asked::Table(None, false)),
+    (&["table", "a"], Asked::Table(Some("a"), false)),
+    (&["table", "--reduced"], Asked::Table(None, true)),
+    (&["table", "--reduced", "a"], Asked::Table(Some("a"), true)),
+    (
+        &["same", "a", "b"],
+        Asked::Same("a", "b", false, Names::Kept),
+    ),
+    (
+        &["same", "--map", "a", "b"],
+        Asked::Same("a", "b", true, Names::Kept),
+    ),
+    (
+        &["same", "--no-names", "a", "b"],
+        Asked::Same("a", "b", false, Names::Aside),
+    ),
+    (&["same", "--map", "--no-names", "a", "b"], Asked::Usage),
+    (&["same", "a"], Asked::Usage),
+    (&["same", "a", "b", "c"], Asked::Usage),
+    (&["canon", "a", "b"], Asked::Usage),
+    (&["tree"], Asked::Usage),
+    (&["a.efg"], Asked::Usage),
+    (&["--help"], Asked::Help),
+];
+
+fn is_input(input: &Input, name: Option<&str>) -> bool {
+    match (input, name) {
+        (Input::Standard, None) => true,
+        (Input::File(file), Some(name)) => file.as_str() == name,
+        _ => false,
+    }
+}
+
+fn is_job(job: &Job, asked: Asked) -> bool {
+    match (job, asked) {
+        (Job::Canon { input, names }, Asked::Canon(name, other)) => {
+            is_input(input, name) && *names == other
+        }
+        (Job::Check(input), Asked::Check(name)) => is_input(input, name),
+        (Job::Table { input, reduced }, Asked::Table(name, other)) => {
+            is_input(input, name) && *reduced == other
+        }
+        (Job::Same { a, b, map, names }, Asked::Same(first, second, with_map, other)) => {
+            a.as_str() == first && b.as_str() == second && *map == with_map && *names == other
+        }
+        _ => false,
+    }
+}
+
+fn is_answered(alloc: Global, words: &[&str], asked: Asked) -> bool {
+    match parse_words(alloc, words) {
+        Ok(job) => is_job(&job, asked),
+        Err(WordsFault::Help(_)) => matches!(asked, Asked::Help),
+        Err(WordsFault::Usage(_)) => matches!(asked, Asked::Usage),
+        Err(WordsFault::Memory) => false,
+    }
+}
+
+pub fn words(alloc: Global) -> Cases {
+    let mut cases = Cases::new();
+    for (words, asked) in &WORDS {
+        cases.add("words", is_answered(alloc, words, *asked));
+    }
+    cases
+}

@@ -1,0 +1,11 @@
+use Rattle.std.proofs.Common.{refl}
+use Rattle.gf_run.specs.Collected.{found, unlisted}
+use Rattle.gf_run.proofs.collections.collection.perform_hash.Goals as goal
+
+pub returns-in-Ok : goal.returns-in-Ok
+returns-in-Ok g c = found c.in-Ok.files.items c.files_at.new.inputs c.in-Ok.ensures.opened
+    c.in-Ok.ensures.files (rw c.as_slice.ensures.value at c.run_hashes.ensures)
+
+pub returns-in-Err : goal.returns-in-Err
+returns-in-Err g c =
+    unlisted c.in-Err.fault c.in-Err.ensures.opened refl c.tell_unlisted.ensures

@@ -1,0 +1,20 @@
+use Rattle.gf_run.proofs.jobs.job.perform.Goals as goal
+
+pub returns-in-Canon : goal.returns-in-Canon
+returns-in-Canon g c = rw c.in-Canon.is c.perform_canon.ensures
+
+pub returns-in-Check : goal.returns-in-Check
+returns-in-Check g c = rw c.in-Check.is c.perform_check.ensures
+
+pub returns-in-Table : goal.returns-in-Table
+returns-in-Table g c = rw c.in-Table.is c.perform_table.ensures
+
+pub returns-in-Same : goal.returns-in-Same
+returns-in-Same g c = rw c.in-Same.is
+    (rw (c.as_str-a.ensures.value, c.as_str-b.ensures.value) at c.perform_same.ensures)
+
+pub returns-in-Hash : goal.returns-in-Hash
+returns-in-Hash g c = rw c.in-Hash.is c.perform_hash.ensures
+
+pub returns-in-Duplicates : goal.returns-in-Duplicates
+returns-in-Duplicates g c = rw c.in-Duplicates.is c.perform_duplicates.ensures

@@ -1,0 +1,61 @@
+-- What the program does for the files of a collection.
+use Rattle.std.specs.Prelude.{◌≡◌, ◌⊎◌, ℕ, List, [], ◌∷◌, codes}
+use Rattle.std.specs.String.{string_bytes}
+use Rattle.gf_words.specs.declared.job.Input.{Input}
+use Rattle.gf_words.specs.declared.job.Input.TheVariants as input
+use Rattle.gf_words.specs.declared.job.Paths.{Paths}
+use Rattle.gf_words.specs.declared.job.Paths.TheVariants as paths
+use Rattle.gf_run.specs.Ending.{IsTold}
+use Rattle.gf_run.specs.FaultLine.{fault_line}
+use Rattle.gf_run.specs.FaultStatus.{status_of}
+use Rattle.gf_run.specs.Hashes.{IsToldOf, Standing}
+use Rattle.gf_run.specs.Opening.{IsNotOpened, IsOpened, Opener}
+use Rattle.gf_run.specs.Streams.{Writer}
+use Rattle.gf_run.specs.declared.collections.file.CollectionFile.{CollectionFile}
+use Rattle.gf_run.specs.declared.collections.file.CollectionFile.TheVariants as file
+use Rattle.gf_run.specs.declared.fault.RunFault.{RunFault}
+
+-- the files of a collection that is standard input: this alone
+abbrev pub IsOfPaths : Paths → List CollectionFile → Type 0
+IsOfPaths paths.Standard files = files ≡ file.Input input.Standard ∷ []
+IsOfPaths paths files = Unit {0}
+
+-- what a list of names is called
+abbrev pub list_name : Input → List ℕ
+list_name input.Standard = codes "-"
+list_name (input.File name) = string_bytes name
+
+-- Why the files are not known was reported: that a list could not be read, after its name; or that
+-- memory ran out.
+abbrev pub IsToldOfPaths : {E : Type 0} → Writer E → Paths → RunFault → ℕ → E → E → Type 0
+IsToldOfPaths errors (paths.List list end) fault status old new =
+    IsToldOf errors (list_name list) fault status old new
+    ⊎ ((status ≡ status_of fault) × IsTold errors (fault_line fault) old new)
+IsToldOfPaths errors paths fault status old new =
+    (status ≡ status_of fault) × IsTold errors (fault_line fault) old new
+
+-- for what opens inputs
+module _ {I S : Type 0} (opener : Opener I S) where
+  -- a list of names was opened once, if it could be
+  abbrev pub IsListOpened : Input → I → I → Type 0
+  IsListOpened list i i' = ((s : S) × IsOpened opener list i s i') ⊎ IsNotOpened opener list i i'
+
+  -- what is opened to find the files of a collection
+  abbrev pub ArePathsOpened : Paths → I → I → Type 0
+  ArePathsOpened (paths.List list end) i i' = IsListOpened list i i'
+  ArePathsOpened paths i i' = i' ≡ i
+
+  -- for standard output and for standard error; `Does` says what is done for files
+  module _ {W E : Type 0} (errors : Writer E)
+      (Does : List CollectionFile → Standing I W E → Standing I W E → Type 0) where
+    pub data PerformsAll (paths : Paths) (a b : Standing I W E) : Type 0 where
+      -- the files are found, before any of them is opened, and this was done for them
+      found : (files : List CollectionFile) (mid : I) → ArePathsOpened paths a.inputs mid
+          → IsOfPaths paths files
+          → Does files
+          (record { inputs = mid; output = a.output; errors = a.errors; status = a.status }) b
+          → PerformsAll paths a b
+      -- they are not, which was reported
+      unlisted : (fault : RunFault) → ArePathsOpened paths a.inputs b.inputs
+          → b.output ≡ a.output → IsToldOfPaths errors paths fault b.status a.errors b.errors
+          → PerformsAll paths a b

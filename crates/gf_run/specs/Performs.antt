@@ -1,0 +1,36 @@
+-- What the program does for each job.
+use Rattle.std.specs.Prelude.{Bool}
+use Rattle.std.specs.String.{string_bytes}
+use Rattle.gf_words.specs.declared.job.Job.{Job}
+use Rattle.gf_words.specs.declared.job.Job.TheVariants.{Canon, Check, Duplicates, Hash, Same, Table}
+use Rattle.gf_run.specs.Collected.{PerformsAll}
+use Rattle.gf_run.specs.DuplicatesRun.{FindsAll}
+use Rattle.gf_run.specs.Hashes.{HashesAll, Standing}
+use Rattle.gf_run.specs.Kept.{kept_reader}
+use Rattle.gf_run.specs.Opening.{Opener}
+use Rattle.gf_run.specs.Performed.{PerformsOne, PerformsTwo, RunsComparison, strategies_of}
+use Rattle.gf_run.specs.Run.{RunsCanonBy, RunsCheck, RunsTable}
+use Rattle.gf_run.specs.Streams.{Reader, Writer}
+
+-- for what opens inputs, for the inputs, for standard output and for standard error; `explain` says
+-- whether a fault is explained
+module _ {I S W E : Type 0} (opener : Opener I S) (reader : Reader S) (writer : Writer W)
+    (errors : Writer E) (explain : Bool) where
+  abbrev pub Performs : Job → Standing I W E → Standing I W E → Type 0
+  Performs (Canon input names) a b = PerformsOne opener errors explain
+      (RunsCanonBy (kept_reader reader) writer names) input
+      b.status a.inputs b.inputs a.output b.output a.errors b.errors
+  Performs (Check input) a b = PerformsOne opener errors explain
+      (RunsCheck (kept_reader reader) writer) input
+      b.status a.inputs b.inputs a.output b.output a.errors b.errors
+  Performs (Table input reduced) a b = PerformsOne opener errors explain
+      (RunsTable (kept_reader reader) writer (strategies_of reduced)) input
+      b.status a.inputs b.inputs a.output b.output a.errors b.errors
+  Performs (Same first second map names) a b = PerformsTwo opener errors explain
+      (RunsComparison (kept_reader reader) writer map names)
+      (string_bytes first) (string_bytes second)
+      b.status a.inputs b.inputs a.output b.output a.errors b.errors
+  Performs (Hash files) a b = PerformsAll opener errors
+      (HashesAll opener reader writer errors files.names) files.paths a b
+  Performs (Duplicates files) a b = PerformsAll opener errors
+      (FindsAll opener reader writer errors files.names) files.paths a b

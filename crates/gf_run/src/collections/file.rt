@@ -1,0 +1,47 @@
+//! The files of a collection, and how they are opened.
+
+ghost use Rattle.std.specs.Prelude.{◌≡◌, MatchResult};
+ghost use Rattle.gf_run.specs.Hashes.{IsFileNotOpened, IsFileOpened, name_of};
+
+use crate::fault::{RunFault, Which};
+use crate::opening::inputs::{Inputs, open_input};
+use gf_words::Input;
+
+/// A file of a collection.
+#[derive(Drop)]
+pub enum CollectionFile {
+    /// One that may be opened.
+    Input(Input),
+    /// One whose name is not UTF-8, so that it cannot be opened: its name, with U+FFFD in place of
+    /// what is not.
+    NotText(String),
+}
+
+/// What a file is called.
+pub(crate) fn name_of(file: &CollectionFile) -> &str
+    ensures { result.now ≡ name_of file.now }
+{
+    match file {
+        CollectionFile::Input(Input::Standard) => "-",
+        CollectionFile::Input(Input::File(name)) | CollectionFile::NotText(name) => name.as_str(),
+    }
+}
+
+/// Opens a file. If it cannot be opened, that is a read fault.
+pub(crate) fn open_file<I: Inputs>(
+    inputs: &mut I,
+    file: &CollectionFile,
+) -> Result<I::Opened, RunFault>
+    ensures { MatchResult result
+        (λ opened. IsFileOpened I.opener file.now inputs.old opened inputs.new)
+        (λ fault. (fault ≡ RunFault.Read Which.Only)
+        × IsFileNotOpened I.opener file.now inputs.old inputs.new) }
+{
+    match file {
+        CollectionFile::Input(input) => match open_input(inputs, input) {
+            Ok(opened) => Ok(opened),
+            Err(_) => Err(RunFault::Read(Which::Only)),
+        },
+        CollectionFile::NotText(_) => Err(RunFault::Read(Which::Only)),
+    }
+}

@@ -1,0 +1,44 @@
+//! The answers about the game in a file: its canonical text, and its kind.
+
+ghost use Rattle.std.specs.Prelude.{◌≡◌, IfErr, IfOk};
+ghost use Rattle.gf_canon.specs.KindOfFile.{MeansFileOf};
+ghost use Rattle.gf_canon.specs.NamesAside.{IsTextBy};
+ghost use Rattle.gf_run.specs.FileKinds.{kind_line};
+ghost use Rattle.gf_run.specs.Run.{IsRefusal};
+
+use crate::fault::{RunFault, refused};
+use gf_canon::{FileKind, Names, canonical_text, check};
+use gf_nfg::TextAndPayoffs;
+use std::alloc::Global;
+
+/// The canonical text of a file, with names or without.
+pub fn canon(alloc: Global, bytes: &[u8], names: Names) -> Result<TextAndPayoffs, RunFault>
+    ensures text { IfOk result (λ text. IsTextBy names bytes.now text.rest) }
+    ensures refused { IfErr result (IsRefusal bytes.now) }
+{
+    match canonical_text(alloc, bytes, names) {
+        Ok(text) => Ok(TextAndPayoffs::of(alloc, text)),
+        Err(fault) => Err(refused(fault)),
+    }
+}
+
+/// The kind of a file. No node of a tree is kept, and no text of a game is made.
+pub fn kind_of(alloc: Global, bytes: &[u8]) -> Result<FileKind, RunFault>
+    ensures kind { IfOk result (MeansFileOf bytes.now) }
+    ensures refused { IfErr result (IsRefusal bytes.now) }
+{
+    match check(alloc, bytes) {
+        Ok(kind) => Ok(kind),
+        Err(fault) => Err(refused(fault)),
+    }
+}
+
+/// The line that says what a file of this kind holds.
+pub fn kind_line(kind: FileKind) -> &'static [u8]
+    ensures { result.now ≡ kind_line kind }
+{
+    match kind {
+        FileKind::Tree => b"tree\n",
+        FileKind::Strategic => b"table\n",
+    }
+}

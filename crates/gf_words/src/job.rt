@@ -1,0 +1,71 @@
+//! What the words of a command line may ask for.
+
+use gf_canon::Names;
+
+/// Where a file is read from.
+#[derive(Drop)]
+pub enum Input {
+    /// Standard input.
+    Standard,
+    /// The file of this name.
+    File(String),
+}
+
+/// What one run is to do.
+#[derive(Drop)]
+pub enum Job {
+    /// To write the canonical text of a file, with its names or with these left aside.
+    Canon {
+        input: Input,
+        names: Names,
+    },
+    /// To say what a file holds.
+    Check(Input),
+    /// To write the strategic form of a tree, or its reduced form if `reduced` is true; or a table
+    /// in canonical form.
+    Table {
+        input: Input,
+        reduced: bool,
+    },
+    /// To say whether the files of these names mean the same; if `map` is true, with the numbers
+    /// that correspond. `names` says whether the names in them count.
+    Same {
+        a: String,
+        b: String,
+        map: bool,
+        names: Names,
+    },
+    /// To write the hash of each file of a collection.
+    Hash(Collection),
+    /// To say which files of a collection are the same game.
+    Duplicates(Collection),
+}
+
+/// What names the files of a collection.
+#[derive(Drop)]
+pub enum Paths {
+    /// Nothing does: it is standard input alone.
+    Standard,
+    /// The files and folders of these names.
+    Named(Vec<String>),
+    /// The files and folders in this list, in which each name ends with the byte `end`.
+    List { list: Input, end: u8 },
+}
+
+/// The files that are read in one run.
+#[derive(Drop)]
+pub struct Collection {
+    pub paths: Paths,
+    /// Whether the names in the files count.
+    pub names: Names,
+    /// Whether the terminal does not show how many files are done.
+    pub quiet: bool,
+}
+
+/// A job, and how it is done.
+#[derive(Drop)]
+pub struct Request {
+    pub job: Job,
+    /// Whether its fault is explained in words.
+    pub explain: bool,
+}

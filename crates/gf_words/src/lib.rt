@@ -1,0 +1,14 @@
+//! What the words of a command line ask for: a job, a help text, or nothing that can be done.
+#![tactic(auto)]
+
+mod commands;
+mod fault;
+mod help;
+mod job;
+mod program;
+mod request;
+mod words;
+
+pub use fault::WordsFault;
+pub use job::{Collection, Input, Job, Paths, Request};
+pub use words::{parse_request, parse_words};

@@ -1,0 +1,185 @@
+//! The request that `clap`'s matches of the words make.
+
+ghost use Rattle.std.specs.Prelude.{◌≡◌, IfOk, map, option_map};
+ghost use Rattle.std.specs.String.{string_bytes};
+ghost use Rattle.clap.specs.Matches.{found_of};
+ghost use Rattle.clap.specs.Simple.{subcommand_rows_of};
+ghost use Rattle.clap.specs.Walk.{all_of, first_of, rows_of};
+ghost use Rattle.gf_words.specs.Request.{ArePathsOf, IsCollectionOf, IsInputOf, IsJobOf};
+ghost use Rattle.gf_words.specs.Request.{IsRequestBy, IsRequestOf, IsSameOf, end_of, file_named};
+ghost use Rattle.gf_words.specs.Request.{has_flag, input_name, list_name, names_of};
+
+use crate::job::{Collection, Input, Job, Paths, Request};
+use clap::ArgMatches;
+use gf_canon::Names;
+use std::alloc::{AllocError, Global};
+
+/// The first text of an argument.
+fn text_of<'a>(given: &ArgMatches<'a>, id: &str) -> Option<&'a str>
+    ensures { option_map (λ text. text.now) result
+        ≡ first_of id.now (rows_of (found_of given.now)) }
+{
+    given.get_str(id)
+}
+
+/// All texts of an argument.
+fn texts_of<'b, 'a>(given: &'b ArgMatches<'a>, id: &str) -> Option<&'b [&'a str]>
+    ensures { option_map (λ texts. map (λ text. text.now) texts.now) result
+        ≡ all_of id.now (rows_of (found_of given.now)) }
+{
+    given.get_strs(id)
+}
+
+/// Whether a flag is given: its text is `true` then. What `get_flag` answers is stated of the texts
+/// `true` and `false` only.
+fn is_given(given: &ArgMatches<'_>, flag: &str) -> bool
+    ensures { result ≡ has_flag flag.now (rows_of (found_of given.now)) }
+{
+    match text_of(given, flag) {
+        Some(text) => text == "true",
+        None => false,
+    }
+}
+
+fn names_of(given: &ArgMatches<'_>) -> Names
+    ensures { result ≡ names_of (rows_of (found_of given.now)) }
+{
+    if is_given(given, "no-names") {
+        Names::Aside
+    } else {
+        Names::Kept
+    }
+}
+
+/// The one file that a command reads; standard input if none is named.
+fn input_of(alloc: Global, given: &ArgMatches<'_>) -> Result<Input, AllocError>
+    ensures { IfOk result (IsInputOf (rows_of (found_of given.now))) }
+{
+    match text_of(given, "FILE") {
+        Some(name) => Ok(Input::File(String::from_str(alloc, name)?)),
+        None => Ok(Input::Standard),
+    }
+}
+
+/// The name of a file that has to be named, so that there is one.
+fn name_of(alloc: Global, given: &ArgMatches<'_>, id: &str) -> Result<String, AllocError>
+    ensures { IfOk result (λ name.
+        string_bytes name ≡ file_named id.now (rows_of (found_of given.now))) }
+{
+    match text_of(given, id) {
+        Some(name) => String::from_str(alloc, name),
+        None => Ok(String::new(alloc)),
+    }
+}
+
+fn same_of(alloc: Global, given: &ArgMatches<'_>) -> Result<Job, AllocError>
+    ensures { IfOk result (IsSameOf (rows_of (found_of given.now))) }
+{
+    Ok(Job::Same {
+        a: name_of(alloc, given, "A")?,
+        b: name_of(alloc, given, "B")?,
+        map: is_given(given, "map"),
+        names: names_of(given),
+    })
+}
+
+/// The files and folders of these names.
+#[tactic(auto, using(std::proofs::lemmas::List::map_push))]
+fn paths_named(alloc: Global, names: &[&str]) -> Result<Vec<String>, AllocError>
+    ensures { IfOk result (λ paths.
+        map string_bytes paths.items ≡ map (λ name. name.now) names.now) }
+{
+    let mut paths = Vec::new(alloc);
+    for name in names {
+        paths.push(String::from_str(alloc, name)?)?;
+    }
+    Ok(paths)
+}
+
+/// The list of names that a word means; `-` is standard input.
+fn list_of(alloc: Global, name: &str) -> Result<Input, AllocError>
+    ensures { IfOk result (λ list. input_name list ≡ list_name name.now) }
+{
+    if name == "-" {
+        Ok(Input::Standard)
+    } else {
+        Ok(Input::File(String::from_str(alloc, name)?))
+    }
+}
+
+/// The byte that ends each name of a list.
+fn end_of(given: &ArgMatches<'_>) -> u8
+    ensures { result ≡ end_of (rows_of (found_of given.now)) }
+{
+    if is_given(given, "null") { 0 } else { b'\n' }
+}
+
+fn paths_of(alloc: Global, given: &ArgMatches<'_>) -> Result<Paths, AllocError>
+    ensures { IfOk result (ArePathsOf (rows_of (found_of given.now))) }
+{
+    if let Some(name) = text_of(given, "files-from") {
+        return Ok(Paths::List {
+            list: list_of(alloc, name)?,
+            end: end_of(given),
+        });
+    }
+    match texts_of(given, "FILES") {
+        Some(names) => Ok(Paths::Named(paths_named(alloc, names)?)),
+        None => Ok(Paths::Standard),
+    }
+}
+
+fn collection_of(alloc: Global, given: &ArgMatches<'_>) -> Result<Collection, AllocError>
+    ensures { IfOk result (IsCollectionOf (rows_of (found_of given.now))) }
+{
+    Ok(Collection {
+        paths: paths_of(alloc, given)?,
+        names: names_of(given),
+        quiet: is_given(given, "quiet"),
+    })
+}
+
+/// What a command asks for. The one that is not named here is `canon`.
+fn job_of(alloc: Global, name: &str, given: &ArgMatches<'_>) -> Result<Job, AllocError>
+    ensures { IfOk result (IsJobOf name.now (rows_of (found_of given.now))) }
+{
+    Ok(if name == "check" {
+        Job::Check(input_of(alloc, given)?)
+    } else if name == "table" {
+        Job::Table {
+            input: input_of(alloc, given)?,
+            reduced: is_given(given, "reduced"),
+        }
+    } else if name == "same" {
+        same_of(alloc, given)?
+    } else if name == "hash" {
+        Job::Hash(collection_of(alloc, given)?)
+    } else if name == "duplicates" {
+        Job::Duplicates(collection_of(alloc, given)?)
+    } else {
+        Job::Canon {
+            input: input_of(alloc, given)?,
+            names: names_of(given),
+        }
+    })
+}
+
+fn request_by(alloc: Global, name: &str, given: &ArgMatches<'_>) -> Result<Request, AllocError>
+    ensures { IfOk result (IsRequestBy name.now (rows_of (found_of given.now))) }
+{
+    Ok(Request {
+        job: job_of(alloc, name, given)?,
+        explain: is_given(given, "explain"),
+    })
+}
+
+/// What matches ask for. With no command it is `canon`, which has no options then.
+pub(crate) fn request_of(alloc: Global, matches: &ArgMatches<'_>) -> Result<Request, AllocError>
+    ensures { IfOk result (IsRequestOf (rows_of (found_of matches.now))
+        (subcommand_rows_of matches.now)) }
+{
+    match matches.subcommand() {
+        Some(command) => request_by(alloc, command.0, command.1),
+        None => request_by(alloc, "canon", matches),
+    }
+}

@@ -1,0 +1,101 @@
+//! From words to a job.
+
+ghost use Rattle.std.specs.Prelude.{◌≡◌, IfErr, IfOk, map, true};
+ghost use Rattle.clap.specs.Values.{kind_of};
+ghost use Rattle.clap.specs.declared.error.kind.ErrorKind.TheVariants.{OutOfMemory};
+ghost use Rattle.gf_words.specs.CommandLine.{IsJobIn, IsRequestIn, are_taken};
+ghost use Rattle.gf_words.specs.declared.fault.WordsFault.TheVariants.{Memory};
+
+use crate::fault::WordsFault;
+use crate::job::{Job, Request};
+use crate::program::gamefile;
+use crate::request::request_of;
+use clap::Error;
+use clap::error::ErrorKind;
+use std::alloc::{AllocError, Global};
+
+/// Whether a word that is not a command looks like the name of a game file. A word that a terminal
+/// may not show as it is does not.
+fn looks_like_file(word: &str) -> bool {
+    for byte in word.as_bytes() {
+        if !byte.is_ascii_graphic() {
+            return false;
+        }
+    }
+    word.ends_with(".efg") || word.ends_with(".nfg")
+}
+
+/// Appends the command that was perhaps meant, if the first word names a file instead.
+fn push_hint(words: &[&str], text: &mut String) -> Result<(), AllocError> {
+    match words.first() {
+        Some(first) if looks_like_file(first) => {
+            text.push_str("\nFor its canonical text: gamefile canon ")?;
+            text.push_str(first)?;
+            text.push('\n')
+        }
+        _ => Ok(()),
+    }
+}
+
+/// What is said about words that ask for no job.
+fn text_of(alloc: Global, error: &Error, words: &[&str]) -> Result<String, AllocError> {
+    let mut text = error.to_string(alloc)?;
+    if error.kind() == ErrorKind::InvalidSubcommand {
+        push_hint(words, &mut text)?;
+    }
+    Ok(text)
+}
+
+fn fault_of(alloc: Global, error: &Error, words: &[&str]) -> WordsFault
+    ensures { kind_of error.now ≡ OutOfMemory → result ≡ Memory }
+{
+    match error.kind() {
+        ErrorKind::OutOfMemory => WordsFault::Memory,
+        kind => match (kind, text_of(alloc, error, words)) {
+            (_, Err(AllocError)) => WordsFault::Memory,
+            (ErrorKind::DisplayHelp | ErrorKind::DisplayVersion, Ok(text)) => {
+                WordsFault::Help(text)
+            }
+            (_, Ok(text)) => WordsFault::Usage(text),
+        },
+    }
+}
+
+/// What the words after the program's name ask for, and whether its fault is explained: a command
+/// with `--explain` is explained, and `hash` and `duplicates` do not have it. `parse_words` says
+/// which words there are, and how they fail.
+pub fn parse_request(alloc: Global, words: &[&str]) -> Result<Request, WordsFault>
+    ensures request { IfOk result (IsRequestIn (map (λ word. word.now) words.now)) }
+    ensures taken { are_taken (map (λ word. word.now) words.now) ≡ true
+        → IfErr result (λ fault. fault ≡ Memory) }
+{
+    let program = gamefile(alloc)?;
+    match program.try_get_matches_from(words) {
+        Ok(matches) => Ok(request_of(alloc, &matches)?),
+        Err(error) => Err(fault_of(alloc, &error, words)),
+    }
+}
+
+/// The job that the words after the program's name ask for: `canon [--no-names] [FILE]`, `check
+/// [FILE]`, `table [--reduced] [FILE]` or `same [--map | --no-names] A B`, each with `--explain` or
+/// without; `hash` or `duplicates` with `[--no-names] [--quiet]`, and with `[FILE|FOLDER]..` or
+/// `--files-from FILE [--null]`; or no words, which mean `canon` of standard input. Options may
+/// stand anywhere after the command, but not after `--`.
+///
+/// # Errors
+///
+/// - `Help`: the words ask for help, as `--help` or `help` does, also after a command; or for the
+///   version, as `--version` or `-V` does, but not after a command.
+/// - `Usage`: they ask for nothing of this kind.
+/// - `Memory`: memory ran out. If it ran out while the words were judged, `Usage` may come in its
+///   place.
+pub fn parse_words(alloc: Global, words: &[&str]) -> Result<Job, WordsFault>
+    ensures job { IfOk result (IsJobIn (map (λ word. word.now) words.now)) }
+    ensures taken { are_taken (map (λ word. word.now) words.now) ≡ true
+        → IfErr result (λ fault. fault ≡ Memory) }
+{
+    match parse_request(alloc, words) {
+        Ok(request) => Ok(request.job),
+        Err(fault) => Err(fault),
+    }
+}
