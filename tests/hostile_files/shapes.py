@@ -333,7 +333,7 @@ SHAPES = {
         partial(payoff_that_never_comes, 20, Fraction(1, 10**20 + 39), Fraction(1, 10**28 + 27)),
         partial(payoff_that_never_comes, 20, Fraction(1, 7), Fraction(1, 49)),
     ),
-    "long payoffs": (LONG_PAYOFFS, partial(payoffs_over, 10**9 + 7, 10)),
+    "long payoffs": (LONG_PAYOFFS, partial(payoffs_over, 10**18 + 9, 10)),
     "fractions apart": (partial(matrix, 300, fractions_apart), partial(side_by_side, 16)),
     "sums of prime denominators": (
         partial(sums_of_denominators, 8, primes(32, 1000)),
