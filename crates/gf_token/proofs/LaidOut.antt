@@ -8,7 +8,7 @@ use Rattle.gf_token.specs.Grammar.{Each, braced}
 use Rattle.gf_token.specs.LabelSpelling.{IsLabel}
 use Rattle.gf_token.specs.TextLayout.{lines_text, list_text, quoted, spaced}
 use Rattle.gf_token.specs.Token.{Token, Lexeme, lexeme, spelling}
-use Rattle.gf_token.specs.Token.Token.{Opening, Closing, Text, Bare}
+use Rattle.gf_token.specs.Token.Token.{Opening, Closing, Comma, Text, Bare, Broken}
 use Rattle.gf_token.specs.TokenSpelling.{IsSpelled, MayPrecede, GoesOn, Spells}
 use Rattle.gf_token.proofs.Grammar.{each_both}
 use Rattle.gf_token.proofs.Spelled.{wider}
@@ -107,6 +107,27 @@ label l h = one (quoted l) (Text l ∷ []) (says_label l h)
 pub labels : (ls : List (List ℕ)) → AllByRecursion IsLabel ls
     → AreSaid (map quoted ls) (map Text ls)
 labels = each_token IsLabel quoted Text says_label
+
+-- ---- any tokens
+
+-- all tokens but a broken text
+abbrev pub IsWhole : Token → Type 0
+IsWhole Broken = ⊥
+IsWhole _ = Unit {0}
+
+says_any : (t : Token) → IsSpelled t → IsWhole t → Says (spelling t) (t ∷ [])
+says_any Opening h whole = says_token Opening tt (λ rest apart. tt) (λ ls A a. a)
+says_any Closing h whole = says_token Closing tt (λ rest apart. tt) (λ ls A a. a)
+says_any Comma h whole = says_token Comma tt (λ rest apart. tt) (λ ls A a. a)
+says_any (Text l) h whole = says_label l h
+says_any (Bare bytes) h whole = says_word bytes h
+says_any Broken h whole = absurd whole
+
+pub each_said : (ts : List Token) → AllByRecursion IsSpelled ts → AllByRecursion IsWhole ts
+    → AreSaid (map spelling ts) ts
+each_said [] h whole = none
+each_said (t ∷ ts) h whole =
+    both (one (spelling t) (t ∷ []) (says_any t h.0 whole.0)) (each_said ts h.1 whole.1)
 
 -- ---- lines of fields, and lists in braces
 

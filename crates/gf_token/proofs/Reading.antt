@@ -10,17 +10,20 @@ use Rattle.gf_token.specs.TokenSpelling.{Spells}
 use Rattle.gf_token.specs.declared.fault.Span.{Span}
 use Rattle.gf_token.specs.declared.fault.Why.{Why}
 use Rattle.gf_token.specs.inner.Machine.{run, read_on, walk, HasPassed}
+use Rattle.gf_token.proofs.SpelledTokens.{AllSpelled}
 use Rattle.gf_token.proofs.TokensAhead.{all_in_order}
 use Rattle.gf_token.proofs.Walks.{run_after, run_split, run_whole, walk_more, passed}
 use Rattle.gf_token.proofs.Walks.{GoesThrough, StopsAt}
 
--- what is read is a file, each file is read, and each state that tokens lead to can be completed
+-- what is read is a file, each file is read, and each state that tokens lead to can be completed,
+-- by tokens that are spelled if these are
 pub record IsReader {S C : Type 0} (step : S → Token → Result S Why) (finish : S → Result C Why)
     (start : S) (IsFile : List Token → Type 0) : Type 0 where
   pub is_file : (ts : List Token) (r : C) → run step finish start ts ≡ Ok r → IsFile ts
   pub is_read : (ts : List Token) → IsFile ts → (r : C) × (run step finish start ts ≡ Ok r)
   pub ends : (ts : List Token) (s : S) → walk step start ts ≡ Ok s
       → (more : List Token) × (r : C) × (run step finish s more ≡ Ok r)
+      × (AllSpelled ts → AllSpelled more)
 
 module _ {S C : Type 0} {step : S → Token → Result S Why} {finish : S → Result C Why} {start : S}
     {IsFile : List Token → Type 0} (reader : IsReader step finish start IsFile) where

@@ -4,10 +4,12 @@ use Rattle.std.proofs.Common.{refl, sym, ap, subst, ◌∙◌, append-nil, arith
 use Rattle.gf_token.specs.Place.{tokens_of, IsSpanOf}
 use Rattle.gf_token.specs.Remaining.{AreInOrder, Remaining, StandsBefore}
 use Rattle.gf_token.specs.Token.{Token, Lexeme}
+use Rattle.gf_token.specs.TokenSpelling.{IsSpelled}
 use Rattle.gf_token.specs.declared.fault.Fault.{Fault}
 use Rattle.gf_token.specs.declared.fault.Span.{Span}
 use Rattle.gf_token.specs.declared.fault.Why.{Why}
 use Rattle.gf_token.specs.inner.Machine.{◌>>=◌, placed, run, read_on, walk, HasPassed}
+use Rattle.gf_token.proofs.SpelledTokens.{AllSpelled}
 
 pub then_ok : {A B E : Type 0} (o : Result A E) (f : A → Result B E) (r : B) → (o >>= f) ≡ Ok r
     → (mid : A) × (o ≡ Ok mid) × (f mid ≡ Ok r)
@@ -55,6 +57,18 @@ module _ {S : Type 0} (step : S → Token → Result S Why) where
   kept P keeps (t ∷ ts) s after holds e =
       let h = then_ok (step s t) (λ x. walk step x ts) after e in
       kept P keeps ts h.0 after (keeps s h.0 t holds h.1) h.2
+
+  -- and so does what each step keeps by a token that is spelled, if something is given
+  pub kept_by_spelled : (G : Type 0) (P : S → Type 0)
+      → ((s after : S) (t : Token) → (G → IsSpelled t) → P s → step s t ≡ Ok after → P after)
+      → (ts : List Token) (s after : S)
+      → (G → AllSpelled ts) → P s → walk step s ts ≡ Ok after → P after
+  kept_by_spelled G P keeps [] s after spelled holds e =
+      let same : s ≡ after = cc in subst P same holds
+  kept_by_spelled G P keeps (t ∷ ts) s after spelled holds e =
+      let h = then_ok (step s t) (λ x. walk step x ts) after e in
+      kept_by_spelled G P keeps ts h.0 after (λ g. (spelled g).1)
+      (keeps s h.0 t (λ g. (spelled g).0) holds h.1) h.2
 
 -- ---- tokens with their places
 

@@ -1,5 +1,5 @@
 -- What an iterator over branches stands for.
-use Rattle.std.specs.Prelude.{◌≡◌, ◌+◌, ℕ, List, drop, Option, IfSome}
+use Rattle.std.specs.Prelude.{◌≡◌, ◌+◌, ℕ, List, drop, Option, MatchOption}
 use Rattle.std.specs.Iterator.{YieldsFirstBy}
 use Rattle.gf_tree.specs.Tree.{Tree}
 use Rattle.gf_tree.specs.Game.{Game, Node}
@@ -24,5 +24,6 @@ branches_given b = b.before
 abbrev pub YieldsBranches : Branches → Option Branch → Branches → Type 0
 YieldsBranches old next new = YieldsFirstBy tree_of branches_left old next new
     × (game_of_branches new ≡ game_of_branches old)
-    × IfSome next (λ b. (game_of b ≡ game_of_branches old)
+    × MatchOption next (branches_given new ≡ branches_given old)
+    (λ b. (game_of b ≡ game_of_branches old)
     × (branches_given new ≡ branches_given old + 1))

@@ -22,7 +22,9 @@ pub is_reader : IsReader step finish start IsStrategicFile
 is_reader = record {
   is_file = λ ts r e. (table_of r, (sentence_found ts r e).sentence);
   is_read = λ ts file. let p = sentence_again ts file.0 file.1 in (p.content, p.read);
-  ends = λ ts s h. let e = ends s.position s.content in (e.more, e.read, e.goes_on);
+  ends = λ ts s h.
+      let e = ends s.position s.content in
+      (e.more, e.read, e.goes_on, λ before. e.spelled);
 }
 
 -- what all tokens mean

@@ -14,10 +14,13 @@ lists_spelled [] = tt
 lists_spelled (own ∷ lists) = (labels_spelled own.items, lists_spelled lists)
 
 -- the clones of fractions are these
-pub clones_are : (xs ys : List Ratio) → AllZip (λ x y. (y ≡ x) × IsFraction y) xs ys
-    → AllByRecursion IsFraction ys
-clones_are (x ∷ xs) (y ∷ ys) h = (h.0.1, clones_are xs ys h.1)
-clones_are xs ys h = grind arith
+abbrev pub AreKept : List Ratio → List Ratio → Type 0
+AreKept xs ys = (ys ≡ xs) × AllByRecursion IsFraction ys
+
+pub clones_are : (xs ys : List Ratio) → AllZip (λ x y. (y ≡ x) × IsFraction y) xs ys → AreKept xs ys
+clones_are [] [] h = (refl, tt)
+clones_are (x ∷ xs) (y ∷ ys) h = let k = clones_are xs ys h.1 in (cc (k.0, h.0.0), (h.0.1, k.1))
+clones_are xs ys h = absurd (grind arith)
 
 -- ---- parts that fit
 

@@ -1,5 +1,5 @@
 -- Canonical text, piece by piece.
-use Rattle.gf_nfg.proofs.Common.{◌≡◌, ℕ, ◌+◌, ◌<◌, [], ◌∷◌, map, refl, sym, ap, Err, Ok}
+use Rattle.gf_nfg.proofs.Common.{◌≡◌, ℕ, ◌+◌, ◌<◌, ◌∙◌, [], ◌∷◌, map, refl, sym, ap, Err, Ok}
 use Rattle.gf_nfg.proofs.Common.{append_assoc, at_drop_more, take-append-le, take-append-drop, List}
 use Rattle.gf_nfg.proofs.Common.{◌++◌, drop, Some, codes, OnErr, Result, Ratio, spaced, Keeps}
 use Rattle.gf_nfg.proofs.Common.{length, get_or, drop_all, line_text, list_text, row_text}
@@ -52,6 +52,10 @@ pub ruleset rows_spaced = (append_assoc, spaced_is)
 abbrev pub lines_rest : List (List Ratio) → ℕ → List ℕ
 lines_rest rs at = lines_text (map row_text (drop at rs))
 
-pub row_next : (rs : List (List Ratio)) (at : ℕ) → at < length rs
-    → lines_rest rs at ≡ line_text (get_or rs at []) ++ lines_rest rs (at + 1)
-row_next rs at h = at_drop_more (λ left. lines_text (map row_text left)) rs at [] h
+-- a row more was written
+pub row_written : (rs : List (List Ratio)) (at : ℕ) (row : List Ratio) (old new whole : List ℕ)
+    → slice_get rs at ≡ Some row → new ≡ old ++ line_text row → old ++ lines_rest rs at ≡ whole
+    → new ++ lines_rest rs (at + 1) ≡ whole
+row_written rs at row old new whole is written h =
+    rw (written, append_assoc old (line_text row) (lines_rest rs (at + 1)))
+    (ap (λ left. old ++ lines_text (map row_text left)) (sym (drop_from rs at row is)) ∙ h)

@@ -1,4 +1,5 @@
--- Each state that the machine of the reader comes to can be completed.
+-- Each state that the machine of the reader comes to can be completed, by tokens that can be
+-- spelled if those before can.
 use Rattle.gf_tree.proofs.Common
 use Common.{finish, KnownOutcomeOpening, NewOutcomeOpening, KnownProbability, KnownOutcomeName}
 use Common.{KnownSetOpening, written_is_read, InformationSet, description_at, ◌≡◌}
@@ -10,23 +11,16 @@ use Common.{with_node, InPlayers, SetNumber, NewAction, NewPayoff, set_known, sa
 use Common.{Position, past_set, set_ends, Opening, Closing, Outcome, Content, Version, NodeDue, suc}
 use Common.{length, Option, Action, SetKey, set_of, shared, Format, Letter, nat_le, le-leb, codes}
 use Common.{Ratio, whole, Token, Begun, State, begun, Title, zero, true, List, Some, None, refl, []}
-use Common.{ints, Text, Bare, paid, step, ◌<◌, ◌∷◌, ◌∙◌, pos, Ok, ap, at, MatchOption}
+use Common.{IsSpelled, ints, Text, Bare, paid, step, ◌<◌, ◌∷◌, ◌∙◌, pos, Ok, ap, at, MatchOption}
 use Rattle.gf_fraction.specs.inner.Computed.{number_of, lowest_of, gcd_within}
 use Rattle.gf_token.specs.inner.Indices.{index_of}
+use Rattle.gf_token.proofs.SpelledNumbers.{number_spelled}
+use Rattle.gf_token.proofs.SpelledTokens.{AllSpelled}
 use Rattle.gf_tree.proofs.lemmas.runs.Tokens.{Reads, run_on, text_again}
 use Rattle.gf_tree.proofs.lemmas.runs.Payoffs.{number_same}
 use Rattle.gf_tree.proofs.lemmas.runs.Shares.{share_again}
 use Rattle.gf_tree.proofs.lemmas.runs.Remainders.{IsShare, remainder, zero_share}
 use Rattle.gf_tree.proofs.lemmas.runs.Keeps.{Fine, FineActions, FinePayoffs}
-
--- it can be completed
-abbrev pub Ends : Position → Content → Type 0
-Ends q c = (more : List Token) × (r : Content) × Reads q c more r
-
--- by a token that leads to a state that can be completed
-by : (q : Position) (c : Content) (t : Token) (s : State)
-    → step q c t ≡ Ok s → Ends s.position s.content → Ends q c
-by q c t s e h = (t ∷ h.0, h.1, ap (λ o. then_run o (run_on h.0)) e ∙ h.2)
 
 pub zero_is_index : index_of (codes "0") ≡ Some 0
 unfolding index_of
@@ -48,6 +42,10 @@ terminal = record { name = []; set = None; children = 0 }
 abbrev pub terminals : ℕ → List Token
 terminals zero = []
 terminals (suc n) = Bare (codes "t") ∷ Text [] ∷ Bare (codes "0") ∷ terminals n
+
+terminals_spelled : (n : ℕ) → AllSpelled (terminals n)
+terminals_spelled zero = tt
+terminals_spelled (suc n) = ((refl, tt), (refl, ((refl, tt), terminals_spelled n)))
 
 -- terminal nodes without an outcome complete it, and describe nothing
 pub record Completed (q : Position) (c : Content) : Type 0 where
@@ -86,199 +84,244 @@ after_outcome (suc due) outcome c is =
 pub after_players : (c : Content) → Completed AfterPlayers c
 after_players c = by_node AfterPlayers c refl (nodes_end _ _ refl)
 
-completes : {q : Position} {c : Content} → Completed q c → Ends q c
-completes h = (terminals h.count, h.end, h.reads)
+-- if it is given that the tokens before can be spelled
+module _ (Given : Type 0) where
+  -- it can be completed, by tokens that can be spelled
+  abbrev pub Ends : Position → Content → Type 0
+  Ends q c = (more : List Token) × (r : Content) × Reads q c more r × (Given → AllSpelled more)
 
-node_ends : (c : Content) → Ends NodeDue c
-node_ends c = completes (nodes_end c.due c refl)
+  -- by a token that leads to a state that can be completed
+  by : (q : Position) (c : Content) (t : Token) → (Given → IsSpelled t)
+      → (s : State) → step q c t ≡ Ok s → Ends s.position s.content → Ends q c
+  by q c t spelled s e h = (
+    t ∷ h.0,
+    h.1,
+    ap (λ o. then_run o (run_on h.0)) e ∙ h.2,
+    λ g. (spelled g, h.3 g),
+  )
 
-outcome_ends : (b : Begun) (c : Content) → Ends (OutcomeNumber b) c
-outcome_ends b c = by (OutcomeNumber b) c (Bare (codes "0")) (at NodeDue (with_node c b None))
-    (ap (outcome_number c b) zero_is_index) (node_ends (with_node c b None))
+  -- by the text of a fraction
+  by_number : (q : Position) (c : Content) (p : Ratio) → IsFraction p → (s : State)
+      → step q c (Bare (number_text p)) ≡ Ok s → Ends s.position s.content → Ends q c
+  by_number q c p is = by q c (Bare (number_text p)) (λ g. number_spelled p is)
 
--- ---- payoffs
+  completes : {q : Position} {c : Content} → Completed q c → Ends q c
+  completes h = (terminals h.count, h.end, h.reads, λ g. terminals_spelled h.count)
 
-new_payoff_ends : (may : Bool) (left : ℕ) (b : Begun) (n : ℕ) (outcome : Outcome) (c : Content)
-    → Ends (NewPayoff may b n outcome left) c
-new_payoff_ends may zero b n outcome c =
-    by (NewPayoff may b n outcome zero) c Closing _ refl (node_ends _)
-new_payoff_ends may (suc left) b n outcome c =
-    by (NewPayoff may b n outcome (suc left)) c (Bare (codes "0")) _
-    (ap (paid c b n outcome left) zero_is_number) (new_payoff_ends true left b n _ c)
+  node_ends : (c : Content) → Ends NodeDue c
+  node_ends c = completes (nodes_end c.due c refl)
 
-known_payoff_ends : (may : Bool) (ps : List Ratio) (c : Content) → FinePayoffs ps
-    → Ends (KnownPayoff may ps) c
-known_payoff_ends may [] c h = by (KnownPayoff may []) c Closing (at NodeDue c) refl (node_ends c)
-known_payoff_ends may (p ∷ ps) c h =
-    by (KnownPayoff may (p ∷ ps)) c (Bare (number_text p)) (at (KnownPayoff true ps) c)
-    (number_same p (at (KnownPayoff true ps) c) (number_text p) (written_is_read p h.0))
-    (known_payoff_ends true ps c h.1)
+  outcome_ends : (b : Begun) (c : Content) → Ends (OutcomeNumber b) c
+  outcome_ends b c = by (OutcomeNumber b) c (Bare (codes "0")) (λ g. (refl, tt))
+      (at NodeDue (with_node c b None))
+      (ap (outcome_number c b) zero_is_index) (node_ends (with_node c b None))
 
-new_outcome_ends : (b : Begun) (n : ℕ) (label : List ℕ) (c : Content)
-    → Ends (NewOutcomeOpening b n label) c
-new_outcome_ends b n label c =
-    by (NewOutcomeOpening b n label) c Opening _ refl
-    (new_payoff_ends false (length c.players) b n _ c)
+  -- ---- payoffs
 
--- ---- actions
+  new_payoff_ends : (may : Bool) (left : ℕ) (b : Begun) (n : ℕ) (outcome : Outcome) (c : Content)
+      → Ends (NewPayoff may b n outcome left) c
+  new_payoff_ends may zero b n outcome c =
+      by (NewPayoff may b n outcome zero) c Closing (λ g. tt) _ refl (node_ends _)
+  new_payoff_ends may (suc left) b n outcome c =
+      by (NewPayoff may b n outcome (suc left)) c (Bare (codes "0")) (λ g. (refl, tt)) _
+      (ap (paid c b n outcome left) zero_is_number) (new_payoff_ends true left b n _ c)
 
-closed : (name : List ℕ) (player n : ℕ) (set : InformationSet) (sum : Ratio) (c : Content)
-    → sum ≡ whole (pos 1)
-    → set_ends c name player n set sum ≡ Ok (set_known c name (set_of player n) set)
-closed name player n set sum c h = grind arith
+  known_payoff_ends : (may : Bool) (ps : List Ratio) (c : Content) → FinePayoffs Given ps
+      → Ends (KnownPayoff may ps) c
+  known_payoff_ends may [] c h =
+      by (KnownPayoff may []) c Closing (λ g. tt) (at NodeDue c) refl (node_ends c)
+  known_payoff_ends may (p ∷ ps) c h =
+      by_number (KnownPayoff may (p ∷ ps)) c p h.0 (at (KnownPayoff true ps) c)
+      (number_same p (at (KnownPayoff true ps) c) (number_text p) (written_is_read p h.0))
+      (known_payoff_ends true ps c h.1)
 
--- after an action, if the probabilities add up to one
-actions_end : (name : List ℕ) (key : SetKey) (set : InformationSet)
-    (actions : List Action) (sum : Ratio) (c : Content) → set.actions ≡ actions → 0 < length actions
-    → sum ≡ whole (pos 1) → Ends (NewAction name key set sum) c
-actions_end name key set [] sum c is some one = absurd (omega (arith, some))
-actions_end name key set (a ∷ actions) sum c is some one =
-    let after = set_known c name key set in
-    by (NewAction name key set sum) c Closing after
-    (cc (is, closed name key.player key.number set sum c one))
-    (outcome_ends (begun name key set) after.content)
+  new_outcome_ends : (b : Begun) (n : ℕ) (label : List ℕ) (c : Content)
+      → Ends (NewOutcomeOpening b n label) c
+  new_outcome_ends b n label c =
+      by (NewOutcomeOpening b n label) c Opening (λ g. tt) _ refl
+      (new_payoff_ends false (length c.players) b n _ c)
 
-one_more : (set : InformationSet) (label : List ℕ) (p : Option Ratio)
-    → 0 < length (with_action set label p).actions
-one_more set label p = grind (arith, length-append)
+  -- ---- actions
 
-probability_ends : (name : List ℕ) (key : SetKey)
-    (set : InformationSet) (sum : Ratio) (label : List ℕ) (c : Content)
-    → IsShare sum → Ends (NewProbability name key set sum label) c
-probability_ends name key set sum label c share =
-    let rest = remainder sum share in
-    let read = share_again sum rest.rest (whole (pos 1)) (number_text rest.rest) share.fraction
-    (written_is_read rest.rest rest.fraction) rest.low rest.adds (omega (arith, ints)) in
-    let full = with_action set label (Some rest.rest) in
-    by (NewProbability name key set sum label) c (Bare (number_text rest.rest))
-    (at (NewAction name key full (whole (pos 1))) c) (ap (shared c name key set label) read)
-    (actions_end name key full full.actions (whole (pos 1)) c refl
-    (one_more set label (Some rest.rest)) refl)
+  closed : (name : List ℕ) (player n : ℕ) (set : InformationSet) (sum : Ratio) (c : Content)
+      → sum ≡ whole (pos 1)
+      → set_ends c name player n set sum ≡ Ok (set_known c name (set_of player n) set)
+  closed name player n set sum c h = grind arith
 
--- a player's actions have no probabilities
-player_end : (name : List ℕ) (player n : ℕ) (set : InformationSet)
-    (actions : List Action) (sum : Ratio) (c : Content) → set.actions ≡ actions → 0 < length actions
-    → Ends (NewAction name (set_of (suc player) n) set sum) c
-player_end name player n set [] sum c is some = absurd (omega (arith, some))
-player_end name player n set (a ∷ actions) sum c is some =
-    by (NewAction name (set_of (suc player) n) set sum) c Closing _
-    (ap (λ x. new_set_ends c name (set_of (suc player) n) set x sum) is) (outcome_ends _ _)
+  -- after an action, if the probabilities add up to one
+  actions_end : (name : List ℕ) (key : SetKey) (set : InformationSet)
+      (actions : List Action) (sum : Ratio) (c : Content) → set.actions ≡ actions → 0 < length actions
+      → sum ≡ whole (pos 1) → Ends (NewAction name key set sum) c
+  actions_end name key set [] sum c is some one = absurd (omega (arith, some))
+  actions_end name key set (a ∷ actions) sum c is some one =
+      let after = set_known c name key set in
+      by (NewAction name key set sum) c Closing (λ g. tt) after
+      (cc (is, closed name key.player key.number set sum c one))
+      (outcome_ends (begun name key set) after.content)
 
-action_ends : (name : List ℕ) (player n : ℕ) (set : InformationSet) (sum : Ratio) (c : Content)
-    → IsShare sum → Ends (NewAction name (set_of player n) set sum) c
-action_ends name zero n set sum c share =
-    by (NewAction name (set_of 0 n) set sum) c (Text [])
-    (at (NewProbability name (set_of 0 n) set sum []) c) refl
-    (probability_ends name (set_of 0 n) set sum [] c share)
-action_ends name (suc player) n set sum c share =
-    let more = with_action set [] None in
-    by (NewAction name (set_of (suc player) n) set sum) c (Text [])
-    (at (NewAction name (set_of (suc player) n) more sum) c) refl
-    (player_end name player n more more.actions sum c refl (one_more set [] None))
+  one_more : (set : InformationSet) (label : List ℕ) (p : Option Ratio)
+      → 0 < length (with_action set label p).actions
+  one_more set label p = grind (arith, length-append)
 
-new_set_end : (name : List ℕ) (key : SetKey) (label : List ℕ) (c : Content)
-    → Ends (NewSetOpening name key label) c
-new_set_end name key label c = by (NewSetOpening name key label) c Opening _ refl
-    (action_ends name key.player key.number _ (whole (pos 0)) c zero_share)
+  probability_ends : (name : List ℕ) (key : SetKey)
+      (set : InformationSet) (sum : Ratio) (label : List ℕ) (c : Content)
+      → IsShare sum → Ends (NewProbability name key set sum label) c
+  probability_ends name key set sum label c share =
+      let rest = remainder sum share in
+      let read = share_again sum rest.rest (whole (pos 1)) (number_text rest.rest) share.fraction
+      (written_is_read rest.rest rest.fraction) rest.low rest.adds (omega (arith, ints)) in
+      let full = with_action set label (Some rest.rest) in
+      by_number (NewProbability name key set sum label) c rest.rest rest.fraction
+      (at (NewAction name key full (whole (pos 1))) c) (ap (shared c name key set label) read)
+      (actions_end name key full full.actions (whole (pos 1)) c refl
+      (one_more set label (Some rest.rest)) refl)
 
-known_actions_end : (actions : List Action) (b : Begun) (c : Content) → FineActions actions
-    → Ends (KnownAction b actions) c
-known_actions_end [] b c h =
-    by (KnownAction b []) c Closing (at (OutcomeNumber b) c) refl (outcome_ends b c)
-known_actions_end (a ∷ actions) b c h =
-    by (KnownAction b (a ∷ actions)) c (Text a.label) (at (past_label b a.probability actions) c)
-    (text_again a.label (at (past_label b a.probability actions) c))
-    (behind a.probability h.0 (known_actions_end actions b c h.1))
-  where
-    behind : (o : Option Ratio) → MatchOption o (Unit {0}) IsFraction
-        → Ends (KnownAction b actions) c → Ends (past_label b o actions) c
-    behind None is later = later
-    behind (Some p) is later =
-        by (KnownProbability b p actions) c (Bare (number_text p)) (at (KnownAction b actions) c)
-        (number_same p (at (KnownAction b actions) c) (number_text p) (written_is_read p is)) later
+  -- a player's actions have no probabilities
+  player_end : (name : List ℕ) (player n : ℕ) (set : InformationSet)
+      (actions : List Action) (sum : Ratio) (c : Content) → set.actions ≡ actions → 0 < length actions
+      → Ends (NewAction name (set_of (suc player) n) set sum) c
+  player_end name player n set [] sum c is some = absurd (omega (arith, some))
+  player_end name player n set (a ∷ actions) sum c is some =
+      by (NewAction name (set_of (suc player) n) set sum) c Closing (λ g. tt) _
+      (ap (λ x. new_set_ends c name (set_of (suc player) n) set x sum) is) (outcome_ends _ _)
 
-known_probability_ends : (b : Begun) (p : Ratio) (actions : List Action) (c : Content)
-    → IsFraction p → FineActions actions → Ends (KnownProbability b p actions) c
-known_probability_ends b p actions c is h =
-    by (KnownProbability b p actions) c (Bare (number_text p)) (at (KnownAction b actions) c)
-    (number_same p (at (KnownAction b actions) c) (number_text p) (written_is_read p is))
-    (known_actions_end actions b c h)
+  action_ends : (name : List ℕ) (player n : ℕ) (set : InformationSet) (sum : Ratio) (c : Content)
+      → IsShare sum → Ends (NewAction name (set_of player n) set sum) c
+  action_ends name zero n set sum c share =
+      by (NewAction name (set_of 0 n) set sum) c (Text []) (λ g. refl)
+      (at (NewProbability name (set_of 0 n) set sum []) c) refl
+      (probability_ends name (set_of 0 n) set sum [] c share)
+  action_ends name (suc player) n set sum c share =
+      let more = with_action set [] None in
+      by (NewAction name (set_of (suc player) n) set sum) c (Text []) (λ g. refl)
+      (at (NewAction name (set_of (suc player) n) more sum) c) refl
+      (player_end name player n more more.actions sum c refl (one_more set [] None))
 
--- ---- sets
+  new_set_end : (name : List ℕ) (key : SetKey) (label : List ℕ) (c : Content)
+      → Ends (NewSetOpening name key label) c
+  new_set_end name key label c = by (NewSetOpening name key label) c Opening (λ g. tt) _ refl
+      (action_ends name key.player key.number _ (whole (pos 0)) c zero_share)
 
-known_set_ends : (name : List ℕ) (key : SetKey) (set : InformationSet) (c : Content)
-    → Ends (KnownSetName name key set) c
-known_set_ends name key set c =
-    by (KnownSetName name key set) c (Bare (codes "0"))
-    (at NodeDue (with_node c (begun name key set) None))
-    (ap (outcome_number c (begun name key set)) zero_is_index) (node_ends _)
+  known_actions_end : (actions : List Action) (b : Begun) (c : Content) → FineActions Given actions
+      → Ends (KnownAction b actions) c
+  known_actions_end [] b c h =
+      by (KnownAction b []) c Closing (λ g. tt) (at (OutcomeNumber b) c) refl (outcome_ends b c)
+  known_actions_end (a ∷ actions) b c h =
+      by (KnownAction b (a ∷ actions)) c (Text a.label) h.0.0
+      (at (past_label b a.probability actions) c)
+      (text_again a.label (at (past_label b a.probability actions) c))
+      (behind a.probability h.0.1 (known_actions_end actions b c h.1))
+    where
+      behind : (o : Option Ratio) → MatchOption o (Unit {0}) IsFraction
+          → Ends (KnownAction b actions) c → Ends (past_label b o actions) c
+      behind None is later = later
+      behind (Some p) is later =
+          by_number (KnownProbability b p actions) c p is (at (KnownAction b actions) c)
+          (number_same p (at (KnownAction b actions) c) (number_text p) (written_is_read p is)) later
 
-new_name_ends : (name : List ℕ) (key : SetKey) (c : Content) → Ends (NewSetName name key) c
-new_name_ends name key c = by (NewSetName name key) c (Text []) (at (NewSetOpening name key []) c)
-    refl (new_set_end name key [] c)
+  known_probability_ends : (b : Begun) (p : Ratio) (actions : List Action) (c : Content)
+      → IsFraction p → FineActions Given actions → Ends (KnownProbability b p actions) c
+  known_probability_ends b p actions c is h =
+      by_number (KnownProbability b p actions) c p is (at (KnownAction b actions) c)
+      (number_same p (at (KnownAction b actions) c) (number_text p) (written_is_read p is))
+      (known_actions_end actions b c h)
 
-past_ends : (name : List ℕ) (key : SetKey) (o : Option InformationSet) (c : Content)
-    → Ends (past_set name key o) c
-past_ends name key None c = new_name_ends name key c
-past_ends name key (Some set) c = known_set_ends name key set c
+  -- ---- sets
 
-set_number_ends : (name : List ℕ) (player : ℕ) (c : Content) → Ends (SetNumber name player) c
-set_number_ends name player c =
-    by (SetNumber name player) c (Bare (codes "1"))
-    (at (past_set name (set_of player 1) (description_at same_set c.sets (set_of player 1))) c)
-    (ap (set_number c name player) one_is_count)
-    (past_ends name (set_of player 1) (description_at same_set c.sets (set_of player 1)) c)
+  known_set_ends : (name : List ℕ) (key : SetKey) (set : InformationSet) (c : Content)
+      → Ends (KnownSetName name key set) c
+  known_set_ends name key set c =
+      by (KnownSetName name key set) c (Bare (codes "0")) (λ g. (refl, tt))
+      (at NodeDue (with_node c (begun name key set) None))
+      (ap (outcome_number c (begun name key set)) zero_is_index) (node_ends _)
 
-player_ends : (name : List ℕ) (c : Content) → 0 < length c.players → Ends (PlayerNumber name) c
-player_ends name c some =
-    let within : nat_le 1 (length c.players) ≡ true =
-    le-leb 1 (length c.players) (omega (arith, some)) in
-    let first : player_number c name (Some 1) ≡ Ok (at (SetNumber name 1) c) = cc within in
-    by (PlayerNumber name) c (Bare (codes "1")) (at (SetNumber name 1) c)
-    (ap (player_number c name) one_is_count ∙ first) (set_number_ends name 1 c)
+  new_name_ends : (name : List ℕ) (key : SetKey) (c : Content) → Ends (NewSetName name key) c
+  new_name_ends name key c =
+      by (NewSetName name key) c (Text []) (λ g. refl) (at (NewSetOpening name key []) c)
+      refl (new_set_end name key [] c)
 
--- ---- headings
+  past_ends : (name : List ℕ) (key : SetKey) (o : Option InformationSet) (c : Content)
+      → Ends (past_set name key o) c
+  past_ends name key None c = new_name_ends name key c
+  past_ends name key (Some set) c = known_set_ends name key set c
 
-title_ends : (c : Content) → Ends Title c
-title_ends c =
-    let k = node_ends (record c { title = []; comment = [] }) in
-    (Text [] ∷ Opening ∷ Closing ∷ Text [] ∷ k.0, k.1, k.2)
+  set_number_ends : (name : List ℕ) (player : ℕ) (c : Content) → Ends (SetNumber name player) c
+  set_number_ends name player c =
+      by (SetNumber name player) c (Bare (codes "1")) (λ g. (refl, tt))
+      (at (past_set name (set_of player 1) (description_at same_set c.sets (set_of player 1))) c)
+      (ap (set_number c name player) one_is_count)
+      (past_ends name (set_of player 1) (description_at same_set c.sets (set_of player 1)) c)
 
-pub ends : (q : Position) (c : Content) → Fine q c → Ends q c
-ends Format c h =
-    let k = title_ends c in
-    (Bare (codes "EFG") ∷ Bare (codes "2") ∷ Bare (codes "R") ∷ k.0, k.1, k.2)
-ends Version c h =
-    let k = title_ends c in (Bare (codes "2") ∷ Bare (codes "R") ∷ k.0, k.1, k.2)
-ends Letter c h = let k = title_ends c in (Bare (codes "R") ∷ k.0, k.1, k.2)
-ends Title c h = title_ends c
-ends BeforePlayers c h = let k = completes (after_players c) in (Opening ∷ Closing ∷ k.0, k.1, k.2)
-ends InPlayers c h = let k = completes (after_players c) in (Closing ∷ k.0, k.1, k.2)
-ends AfterPlayers c h = completes (after_players c)
-ends NodeDue c h = node_ends c
-ends ChanceName c h =
-    by ChanceName c (Text []) (at (SetNumber [] 0) c) refl (set_number_ends [] 0 c)
-ends PersonalName c h =
-    by PersonalName c (Text []) (at (PlayerNumber []) c) refl (player_ends [] c h.0)
-ends TerminalName c h =
-    by TerminalName c (Text []) (at (OutcomeNumber terminal) c) refl (outcome_ends terminal c)
-ends (PlayerNumber name) c h = player_ends name c h.0
-ends (SetNumber name player) c h = set_number_ends name player c
-ends (NewSetName name key) c h = new_name_ends name key c
-ends (NewSetOpening name key label) c h = new_set_end name key label c
-ends (NewAction name key set sum) c h = action_ends name key.player key.number set sum c h.0.0
-ends (NewProbability name key set sum label) c h = probability_ends name key set sum label c h.0.0
-ends (KnownSetName name key set) c h = known_set_ends name key set c
-ends (KnownSetOpening b actions) c h = by (KnownSetOpening b actions) c Opening
-    (at (KnownAction b actions) c) refl (known_actions_end actions b c h.0)
-ends (KnownAction b actions) c h = known_actions_end actions b c h.0
-ends (KnownProbability b p actions) c h = known_probability_ends b p actions c h.0.0 h.0.1
-ends (OutcomeNumber b) c h = outcome_ends b c
-ends (NewOutcomeName b n) c h = by (NewOutcomeName b n) c (Text [])
-    (at (NewOutcomeOpening b n []) c) refl (new_outcome_ends b n [] c)
-ends (NewOutcomeOpening b n label) c h = new_outcome_ends b n label c
-ends (NewPayoff may b n outcome left) c h = new_payoff_ends may left b n outcome c
-ends (KnownOutcomeName outcome) c h = completes (after_outcome c.due outcome c refl)
-ends (KnownOutcomeOpening ps) c h = by (KnownOutcomeOpening ps) c Opening
-    (at (KnownPayoff false ps) c) refl (known_payoff_ends false ps c h.0)
-ends (KnownPayoff may ps) c h = known_payoff_ends may ps c h.0
+  player_ends : (name : List ℕ) (c : Content) → 0 < length c.players → Ends (PlayerNumber name) c
+  player_ends name c some =
+      let within : nat_le 1 (length c.players) ≡ true =
+      le-leb 1 (length c.players) (omega (arith, some)) in
+      let first : player_number c name (Some 1) ≡ Ok (at (SetNumber name 1) c) = cc within in
+      by (PlayerNumber name) c (Bare (codes "1")) (λ g. (refl, tt)) (at (SetNumber name 1) c)
+      (ap (player_number c name) one_is_count ∙ first) (set_number_ends name 1 c)
+
+  -- ---- headings
+
+  title_ends : (c : Content) → Ends Title c
+  title_ends c =
+      let k = node_ends (record c { title = []; comment = [] }) in (
+        Text [] ∷ Opening ∷ Closing ∷ Text [] ∷ k.0,
+        k.1,
+        k.2,
+        λ g. (refl, (tt, (tt, (refl, k.3 g)))),
+      )
+
+  pub ends : (q : Position) (c : Content) → Fine Given q c → Ends q c
+  ends Format c h =
+      let k = title_ends c in (
+        Bare (codes "EFG") ∷ Bare (codes "2") ∷ Bare (codes "R") ∷ k.0,
+        k.1,
+        k.2,
+        λ g. ((refl, (refl, (refl, tt))), ((refl, tt), ((refl, tt), k.3 g))),
+      )
+  ends Version c h =
+      let k = title_ends c in (
+        Bare (codes "2") ∷ Bare (codes "R") ∷ k.0,
+        k.1,
+        k.2,
+        λ g. ((refl, tt), ((refl, tt), k.3 g)),
+      )
+  ends Letter c h =
+      let k = title_ends c in
+      (Bare (codes "R") ∷ k.0, k.1, k.2, λ g. ((refl, tt), k.3 g))
+  ends Title c h = title_ends c
+  ends BeforePlayers c h =
+      let k = completes (after_players c) in
+      (Opening ∷ Closing ∷ k.0, k.1, k.2, λ g. (tt, (tt, k.3 g)))
+  ends InPlayers c h =
+      let k = completes (after_players c) in
+      (Closing ∷ k.0, k.1, k.2, λ g. (tt, k.3 g))
+  ends AfterPlayers c h = completes (after_players c)
+  ends NodeDue c h = node_ends c
+  ends ChanceName c h =
+      by ChanceName c (Text []) (λ g. refl) (at (SetNumber [] 0) c) refl (set_number_ends [] 0 c)
+  ends PersonalName c h =
+      by PersonalName c (Text []) (λ g. refl) (at (PlayerNumber []) c) refl (player_ends [] c h.0)
+  ends TerminalName c h =
+      by TerminalName c (Text []) (λ g. refl) (at (OutcomeNumber terminal) c) refl
+      (outcome_ends terminal c)
+  ends (PlayerNumber name) c h = player_ends name c h.0
+  ends (SetNumber name player) c h = set_number_ends name player c
+  ends (NewSetName name key) c h = new_name_ends name key c
+  ends (NewSetOpening name key label) c h = new_set_end name key label c
+  ends (NewAction name key set sum) c h = action_ends name key.player key.number set sum c h.0.0
+  ends (NewProbability name key set sum label) c h = probability_ends name key set sum label c h.0.0
+  ends (KnownSetName name key set) c h = known_set_ends name key set c
+  ends (KnownSetOpening b actions) c h = by (KnownSetOpening b actions) c Opening (λ g. tt)
+      (at (KnownAction b actions) c) refl (known_actions_end actions b c h.0)
+  ends (KnownAction b actions) c h = known_actions_end actions b c h.0
+  ends (KnownProbability b p actions) c h = known_probability_ends b p actions c h.0.0 h.0.1
+  ends (OutcomeNumber b) c h = outcome_ends b c
+  ends (NewOutcomeName b n) c h = by (NewOutcomeName b n) c (Text []) (λ g. refl)
+      (at (NewOutcomeOpening b n []) c) refl (new_outcome_ends b n [] c)
+  ends (NewOutcomeOpening b n label) c h = new_outcome_ends b n label c
+  ends (NewPayoff may b n outcome left) c h = new_payoff_ends may left b n outcome c
+  ends (KnownOutcomeName outcome) c h = completes (after_outcome c.due outcome c refl)
+  ends (KnownOutcomeOpening ps) c h = by (KnownOutcomeOpening ps) c Opening (λ g. tt)
+      (at (KnownPayoff false ps) c) refl (known_payoff_ends false ps c h.0)
+  ends (KnownPayoff may ps) c h = known_payoff_ends may ps c h.0

@@ -1,5 +1,6 @@
 -- What holds wherever the machine goes on: numbers that it knows are fractions, a sum of
--- probabilities is at most one, and if a player moves, there is such a player.
+-- probabilities is at most one, and if a player moves, there is such a player. The labels of
+-- actions that it knows can be spelled, if the tokens can.
 use Rattle.gf_tree.proofs.Common
 use Common.{KnownOutcomeOpening, KnownOutcomeName, KnownProbability, KnownSetOpening, player_number}
 use Common.{AllByRecursion, InformationSet, NewProbability, description_at, outcome_number, Closing}
@@ -8,7 +9,7 @@ use Common.{KnownAction, KnownPayoff, MatchOption, NumberFault, node_letter, IsF
 use Common.{set_number, Described, NewAction, NewPayoff, new_label, number_is, Position, past_set}
 use Common.{same_set, set_ends, share_of, Content, Outcome, Action, Option, Result, SetKey, length}
 use Common.{nat_eq, shared, Begun, Ratio, Share, State, Token, arith, List, None, Some, Text, paid}
-use Common.{refl, step, ◌++◌, Err, Why, suc, ◌<◌, ◌∷◌, ◌≡◌, Ok, [], ℕ}
+use Common.{IsLabel, IsSpelled, refl, step, ◌++◌, Err, Why, suc, ◌<◌, ◌∷◌, ◌≡◌, Ok, [], ℕ}
 use Rattle.gf_fraction.specs.inner.Computed.{number_of}
 use Rattle.gf_tree.proofs.lemmas.games.TreesOnce.{same_set_equality}
 use Rattle.gf_tree.proofs.lemmas.games.Members.{all_more}
@@ -16,145 +17,153 @@ use Rattle.gf_tree.proofs.lemmas.runs.Learned.{found_has, one}
 use Rattle.gf_tree.proofs.lemmas.runs.Shares.{share_found}
 use Rattle.gf_tree.proofs.lemmas.runs.Remainders.{zero_share, IsShare, sum_low}
 
-abbrev pub FineActions : List Action → Type 0
-FineActions actions = AllByRecursion (λ a. MatchOption a.probability (Unit {0}) IsFraction) actions
+-- if it is given that the tokens can be spelled
+module _ (Given : Type 0) where
+  -- an action's label can be spelled, and its probability is a fraction
+  abbrev pub IsFineAction : Action → Type 0
+  IsFineAction a = (Given → IsLabel a.label) × MatchOption a.probability (Unit {0}) IsFraction
 
-abbrev pub FinePayoffs : List Ratio → Type 0
-FinePayoffs ps = AllByRecursion IsFraction ps
+  abbrev pub FineActions : List Action → Type 0
+  FineActions actions = AllByRecursion IsFineAction actions
 
--- if there are this many players
-abbrev pub FineAt : ℕ → Position → Type 0
-FineAt players PersonalName = 0 < players
-FineAt players (PlayerNumber name) = 0 < players
-FineAt players (NewAction name key set sum) = IsShare sum × FineActions set.actions
-FineAt players (NewProbability name key set sum label) = IsShare sum × FineActions set.actions
-FineAt players (KnownSetName name key set) = FineActions set.actions
-FineAt players (KnownSetOpening b actions) = FineActions actions
-FineAt players (KnownAction b actions) = FineActions actions
-FineAt players (KnownProbability b p actions) = IsFraction p × FineActions actions
-FineAt players (NewPayoff may b n outcome left) = FinePayoffs outcome.payoffs
-FineAt players (KnownOutcomeName outcome) = FinePayoffs outcome.payoffs
-FineAt players (KnownOutcomeOpening ps) = FinePayoffs ps
-FineAt players (KnownPayoff may ps) = FinePayoffs ps
-FineAt players _ = Unit {0}
+  abbrev pub FinePayoffs : List Ratio → Type 0
+  FinePayoffs ps = AllByRecursion IsFraction ps
 
-abbrev FineSets : List (Described SetKey InformationSet) → Type 0
-FineSets sets = AllByRecursion (λ s. FineActions s.description.actions) sets
+  -- if there are this many players
+  abbrev pub FineAt : ℕ → Position → Type 0
+  FineAt players PersonalName = 0 < players
+  FineAt players (PlayerNumber name) = 0 < players
+  FineAt players (NewAction name key set sum) = IsShare sum × FineActions set.actions
+  FineAt players (NewProbability name key set sum label) =
+      IsShare sum × FineActions set.actions × (Given → IsLabel label)
+  FineAt players (KnownSetName name key set) = FineActions set.actions
+  FineAt players (KnownSetOpening b actions) = FineActions actions
+  FineAt players (KnownAction b actions) = FineActions actions
+  FineAt players (KnownProbability b p actions) = IsFraction p × FineActions actions
+  FineAt players (NewPayoff may b n outcome left) = FinePayoffs outcome.payoffs
+  FineAt players (KnownOutcomeName outcome) = FinePayoffs outcome.payoffs
+  FineAt players (KnownOutcomeOpening ps) = FinePayoffs ps
+  FineAt players (KnownPayoff may ps) = FinePayoffs ps
+  FineAt players _ = Unit {0}
 
-abbrev FineOutcomes : List (Described ℕ Outcome) → Type 0
-FineOutcomes outcomes = AllByRecursion (λ o. FinePayoffs o.description.payoffs) outcomes
+  abbrev FineSets : List (Described SetKey InformationSet) → Type 0
+  FineSets sets = AllByRecursion (λ s. FineActions s.description.actions) sets
 
-abbrev pub Fine : Position → Content → Type 0
-Fine q c = FineAt (length c.players) q × FineSets c.sets × FineOutcomes c.outcomes
+  abbrev FineOutcomes : List (Described ℕ Outcome) → Type 0
+  FineOutcomes outcomes = AllByRecursion (λ o. FinePayoffs o.description.payoffs) outcomes
 
-abbrev pub LeadsFine : Result State Why → Type 0
-LeadsFine (Ok s) = Fine s.position s.content
-LeadsFine (Err why) = Unit {0}
+  abbrev pub Fine : Position → Content → Type 0
+  Fine q c = FineAt (length c.players) q × FineSets c.sets × FineOutcomes c.outcomes
 
-module _ (c : Content) (sets : FineSets c.sets) (outcomes : FineOutcomes c.outcomes) where
-  letter_keeps : (b : List ℕ) → LeadsFine (node_letter c b)
-  letter_keeps b = grind arith
+  abbrev pub LeadsFine : Result State Why → Type 0
+  LeadsFine (Ok s) = Fine s.position s.content
+  LeadsFine (Err why) = Unit {0}
 
-  due_keeps : (due : ℕ) (b : List ℕ) → LeadsFine (after_node c due b)
-  due_keeps due b = grind (arith, letter_keeps)
+  module _ (c : Content) (sets : FineSets c.sets) (outcomes : FineOutcomes c.outcomes) where
+    letter_keeps : (b : List ℕ) → LeadsFine (node_letter c b)
+    letter_keeps b = grind arith
 
-  player_keeps : (name : List ℕ) (o : Option ℕ) → LeadsFine (player_number c name o)
-  player_keeps name o = grind arith
+    due_keeps : (due : ℕ) (b : List ℕ) → LeadsFine (after_node c due b)
+    due_keeps due b = grind (arith, letter_keeps)
 
-  past_set_keeps : (name : List ℕ) (key : SetKey) (o : Option InformationSet)
-      → description_at same_set c.sets key ≡ o → Fine (past_set name key o) c
-  past_set_keeps name key None e = (tt, sets, outcomes)
-  past_set_keeps name key (Some set) e = (
-    found_has same_set same_set_equality (λ k s. FineActions s.actions) c.sets key set sets e,
-    sets,
-    outcomes,
+    player_keeps : (name : List ℕ) (o : Option ℕ) → LeadsFine (player_number c name o)
+    player_keeps name o = grind arith
+
+    past_set_keeps : (name : List ℕ) (key : SetKey) (o : Option InformationSet)
+        → description_at same_set c.sets key ≡ o → Fine (past_set name key o) c
+    past_set_keeps name key None e = (tt, sets, outcomes)
+    past_set_keeps name key (Some set) e = (
+      found_has same_set same_set_equality (λ k s. FineActions s.actions) c.sets key set sets e,
+      sets,
+      outcomes,
+    )
+
+    set_keeps : (name : List ℕ) (player : ℕ) (o : Option ℕ) → LeadsFine (set_number c name player o)
+    set_keeps name player o = grind (arith, past_set_keeps)
+
+    label_keeps : (name : List ℕ) (player n : ℕ) (set : InformationSet) (sum : Ratio) (label : List ℕ)
+        → IsShare sum → FineActions set.actions → (Given → IsLabel label)
+        → Fine (new_label c name player n set sum label).position
+        (new_label c name player n set sum label).content
+    label_keeps name player n set sum label share fine spelled = grind (arith, all_more)
+
+    known_keeps : (key : SetKey) (set : InformationSet) → FineActions set.actions
+        → FineSets (c.sets ++ one key set ∷ [])
+    known_keeps key set fine =
+        all_more (λ s. FineActions s.description.actions) c.sets (one key set) sets fine
+
+    ends_keeps : (name : List ℕ) (player n : ℕ) (set : InformationSet) (sum : Ratio)
+        → FineActions set.actions → LeadsFine (set_ends c name player n set sum)
+    ends_keeps name player n set sum fine = grind (arith, known_keeps)
+
+    new_ends_keeps : (name : List ℕ) (key : SetKey)
+        (set : InformationSet) (actions : List Action) (sum : Ratio)
+        → FineActions set.actions → LeadsFine (new_set_ends c name key set actions sum)
+    new_ends_keeps name key set actions sum fine = grind (arith, ends_keeps)
+
+    shared_keeps : (name : List ℕ) (key : SetKey) (set : InformationSet)
+        (sum : Ratio) (label b : List ℕ) (o : Result Share Why)
+        → IsShare sum → FineActions set.actions → (Given → IsLabel label) → share_of sum b ≡ o
+        → LeadsFine (shared c name key set label o)
+    shared_keeps name key set sum label b (Err why) share fine spelled e = tt
+    shared_keeps name key set sum label b (Ok s) share fine spelled e =
+        let h = share_found sum b s share.fraction e in
+        let number = h.number.fraction in
+        let low = sum_low sum s.probability s.sum share.fraction.den_above_zero number.den_above_zero
+        share.low h.not_below h.adds.2 in (
+          (
+            record { fraction = h.adds.1; low = low; high = h.not_above },
+            all_more IsFineAction set.actions
+                (record { label = label; probability = Some s.probability }) fine (spelled, number),
+          ),
+          sets,
+          outcomes,
+        )
+
+    past_outcome_keeps : (b : Begun) (n : ℕ) (o : Option Outcome)
+        → description_at nat_eq c.outcomes n ≡ o
+        → Fine (past_outcome c b n o).position (past_outcome c b n o).content
+    past_outcome_keeps b n None e = (tt, sets, outcomes)
+    past_outcome_keeps b n (Some outcome) e = (
+      found_has nat_eq Decides-eqb (λ k o. FinePayoffs o.payoffs) c.outcomes n outcome outcomes e,
+      sets,
+      outcomes,
+    )
+
+    outcome_keeps : (b : Begun) (o : Option ℕ) → LeadsFine (outcome_number c b o)
+    outcome_keeps b o = grind (arith, past_outcome_keeps)
+
+    paid_keeps : (b : Begun) (n : ℕ) (outcome : Outcome)
+        (left : ℕ) (t : List ℕ) (o : Result Ratio NumberFault)
+        → FinePayoffs outcome.payoffs → number_of t ≡ o → LeadsFine (paid c b n outcome left o)
+    paid_keeps b n outcome left t (Err fault) fine e = tt
+    paid_keeps b n outcome left t (Ok p) fine e =
+        (all_more IsFraction outcome.payoffs p fine (number_is t p e).fraction, sets, outcomes)
+
+    outcome_known : (n : ℕ) (outcome : Outcome) → FinePayoffs outcome.payoffs
+        → FineOutcomes (c.outcomes ++ one n outcome ∷ [])
+    outcome_known n outcome fine =
+        all_more (λ o. FinePayoffs o.description.payoffs) c.outcomes (one n outcome) outcomes fine
+
+  -- ---- each step keeps it
+
+  pub keeps : (q : Position) (c : Content) (t : Token) → (Given → IsSpelled t) → Fine q c
+      → LeadsFine (step q c t)
+  keeps (NewAction name key set sum) c (Text l) h f =
+      label_keeps c f.1 f.2 name key.player key.number set sum l f.0.0 f.0.1 h
+  keeps (NewAction name key set sum) c Closing h f =
+      new_ends_keeps c f.1 f.2 name key set set.actions sum f.0.1
+  keeps (NewProbability name key set sum label) c (Bare b) h f =
+      shared_keeps c f.1 f.2 name key set sum label b (share_of sum b) f.0.0 f.0.1 f.0.2 refl
+  keeps (NewPayoff may b n outcome (suc left)) c (Bare t) h f =
+      paid_keeps c f.1 f.2 b n outcome left t (number_of t) f.0 refl
+  keeps q c t h f = grind (
+    arith,
+    zero_share,
+    due_keeps,
+    player_keeps,
+    set_keeps,
+    outcome_keeps,
+    letter_keeps,
+    outcome_known,
   )
-
-  set_keeps : (name : List ℕ) (player : ℕ) (o : Option ℕ) → LeadsFine (set_number c name player o)
-  set_keeps name player o = grind (arith, past_set_keeps)
-
-  label_keeps : (name : List ℕ) (player n : ℕ) (set : InformationSet) (sum : Ratio) (label : List ℕ)
-      → IsShare sum → FineActions set.actions
-      → Fine (new_label c name player n set sum label).position
-      (new_label c name player n set sum label).content
-  label_keeps name player n set sum label share fine = grind (arith, all_more)
-
-  known_keeps : (key : SetKey) (set : InformationSet) → FineActions set.actions
-      → FineSets (c.sets ++ one key set ∷ [])
-  known_keeps key set fine =
-      all_more (λ s. FineActions s.description.actions) c.sets (one key set) sets fine
-
-  ends_keeps : (name : List ℕ) (player n : ℕ) (set : InformationSet) (sum : Ratio)
-      → FineActions set.actions → LeadsFine (set_ends c name player n set sum)
-  ends_keeps name player n set sum fine = grind (arith, known_keeps)
-
-  new_ends_keeps : (name : List ℕ) (key : SetKey)
-      (set : InformationSet) (actions : List Action) (sum : Ratio)
-      → FineActions set.actions → LeadsFine (new_set_ends c name key set actions sum)
-  new_ends_keeps name key set actions sum fine = grind (arith, ends_keeps)
-
-  shared_keeps : (name : List ℕ) (key : SetKey) (set : InformationSet)
-      (sum : Ratio) (label b : List ℕ) (o : Result Share Why)
-      → IsShare sum → FineActions set.actions → share_of sum b ≡ o
-      → LeadsFine (shared c name key set label o)
-  shared_keeps name key set sum label b (Err why) share fine e = tt
-  shared_keeps name key set sum label b (Ok s) share fine e =
-      let h = share_found sum b s share.fraction e in
-      let number = h.number.fraction in
-      let low = sum_low sum s.probability s.sum share.fraction.den_above_zero number.den_above_zero
-      share.low h.not_below h.adds.2 in (
-        (
-          record { fraction = h.adds.1; low = low; high = h.not_above },
-          all_more (λ a. MatchOption a.probability (Unit {0}) IsFraction) set.actions
-              (record { label = label; probability = Some s.probability }) fine number,
-        ),
-        sets,
-        outcomes,
-      )
-
-  past_outcome_keeps : (b : Begun) (n : ℕ) (o : Option Outcome)
-      → description_at nat_eq c.outcomes n ≡ o
-      → Fine (past_outcome c b n o).position (past_outcome c b n o).content
-  past_outcome_keeps b n None e = (tt, sets, outcomes)
-  past_outcome_keeps b n (Some outcome) e = (
-    found_has nat_eq Decides-eqb (λ k o. FinePayoffs o.payoffs) c.outcomes n outcome outcomes e,
-    sets,
-    outcomes,
-  )
-
-  outcome_keeps : (b : Begun) (o : Option ℕ) → LeadsFine (outcome_number c b o)
-  outcome_keeps b o = grind (arith, past_outcome_keeps)
-
-  paid_keeps : (b : Begun) (n : ℕ) (outcome : Outcome)
-      (left : ℕ) (t : List ℕ) (o : Result Ratio NumberFault)
-      → FinePayoffs outcome.payoffs → number_of t ≡ o → LeadsFine (paid c b n outcome left o)
-  paid_keeps b n outcome left t (Err fault) fine e = tt
-  paid_keeps b n outcome left t (Ok p) fine e =
-      (all_more IsFraction outcome.payoffs p fine (number_is t p e).fraction, sets, outcomes)
-
-  outcome_known : (n : ℕ) (outcome : Outcome) → FinePayoffs outcome.payoffs
-      → FineOutcomes (c.outcomes ++ one n outcome ∷ [])
-  outcome_known n outcome fine =
-      all_more (λ o. FinePayoffs o.description.payoffs) c.outcomes (one n outcome) outcomes fine
-
--- ---- each step keeps it
-
-pub keeps : (q : Position) (c : Content) (t : Token) → Fine q c → LeadsFine (step q c t)
-keeps (NewAction name key set sum) c (Text l) f =
-    label_keeps c f.1 f.2 name key.player key.number set sum l f.0.0 f.0.1
-keeps (NewAction name key set sum) c Closing f =
-    new_ends_keeps c f.1 f.2 name key set set.actions sum f.0.1
-keeps (NewProbability name key set sum label) c (Bare b) f =
-    shared_keeps c f.1 f.2 name key set sum label b (share_of sum b) f.0.0 f.0.1 refl
-keeps (NewPayoff may b n outcome (suc left)) c (Bare t) f =
-    paid_keeps c f.1 f.2 b n outcome left t (number_of t) f.0 refl
-keeps q c t f = grind (
-  arith,
-  zero_share,
-  due_keeps,
-  player_keeps,
-  set_keeps,
-  outcome_keeps,
-  letter_keeps,
-  outcome_known,
-)

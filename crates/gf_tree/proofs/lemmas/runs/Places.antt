@@ -7,6 +7,7 @@ use Rattle.gf_tree.proofs.Common.{run, ◌↔◌, Ok, at, ℕ}
 use Rattle.gf_token.specs.inner.Machine.{walk}
 use Rattle.gf_tree.specs.inner.Machine.{at_end, next}
 use Rattle.gf_token.proofs.Reading.{IsReader}
+use Rattle.gf_token.proofs.SpelledTokens.{AllSpelled}
 use Rattle.gf_token.proofs.Walks as any_walk
 use Rattle.gf_tree.proofs.lemmas.games.Consistent.{some_game}
 use Rattle.gf_tree.proofs.lemmas.games.Learned.{game_learned_once}
@@ -25,10 +26,12 @@ run_reads end q c ls r = any_walk.reads next at_end end (at q c) ls r
 
 -- what holds for each state that tokens lead to
 pub leads_fine : (ts : List Token) (s : State) → walk next (at Format nothing) ts ≡ Ok s
-    → Fine s.position s.content
-leads_fine ts s = any_walk.kept next (λ x. Fine x.position x.content)
-    (λ x after t fine e. subst LeadsFine e (keeps x.position x.content t fine)) ts
-    (at Format nothing) s (tt, tt, tt)
+    → Fine (AllSpelled ts) s.position s.content
+leads_fine ts s = any_walk.kept_by_spelled next (AllSpelled ts)
+    (λ x. Fine (AllSpelled ts) x.position x.content)
+    (λ x after t spelled fine e. subst (LeadsFine (AllSpelled ts)) e
+    (keeps (AllSpelled ts) x.position x.content t spelled fine)) ts
+    (at Format nothing) s (λ all. all) (tt, tt, tt)
 
 -- ---- what is read
 
@@ -46,5 +49,5 @@ is_reader = record {
       let f = file_found tokens r e in
       (f.file, f.sentence, ((game_learned_once f.file (game_in r)).0 f.learns).0);
   is_read = is_read;
-  ends = λ tokens s h. ends s.position s.content (leads_fine tokens s h);
+  ends = λ tokens s h. ends (AllSpelled tokens) s.position s.content (leads_fine tokens s h);
 }

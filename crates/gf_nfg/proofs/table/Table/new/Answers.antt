@@ -1,5 +1,6 @@
 use Rattle.gf_nfg.proofs.Common.{arith, ◌∙◌, ap, label_of, length, length-map}
-use Rattle.gf_nfg.proofs.lemmas.tables.Made.{clones_are, lists_spelled, names_with, parts_of_labels}
+use Rattle.gf_nfg.proofs.lemmas.tables.Made.{AreKept, clones_are, lists_spelled, names_with}
+use Rattle.gf_nfg.proofs.lemmas.tables.Made.{parts_of_labels}
 use Rattle.gf_nfg.proofs.lemmas.tables.Rows.{counts_of_lists, some_in_lists}
 use Rattle.gf_nfg.proofs.table.Table.new.Goals as goal
 
@@ -7,13 +8,17 @@ pub in_turn-requires : goal.in_turn-requires
 in_turn-requires c =
     let lists = c.args.strategies.now in
     let counts = counts_of_lists label_of lists in
-    let payoffs = ap length (c.in_ok-rows.ensures.items_if_clones_equal (λ x y h. h.0)) in
+    let kept : AreKept c.args.rows.now c.in_ok-rows.rows.items =
+    search (arith, clones_are, c.in_ok-rows.ensures) in
     rw (c.in_ok-names.ensures, c.in_ok-strategies.ensures) (parts_of_labels c.args.title
     c.args.comment c.args.players.now _ c.in_ok-rows.rows.items
     (length-map lists _ ∙ c.requires.one_list_each)
     (some_in_lists label_of lists c.requires.some_strategy)
-    (rw counts c.requires.profiles) (clones_are c.args.rows.now _ c.in_ok-rows.ensures.items)
-    (rw counts (payoffs ∙ c.requires.rows)) (lists_spelled lists))
+    (rw counts c.requires.profiles) kept.1
+    (rw counts (ap length kept.0 ∙ c.requires.rows)) (lists_spelled lists))
 
 pub returns : goal.returns
-returns c = grind (arith, names_with, c.in_ok-rows.ensures.items_if_clones_equal)
+returns c =
+    let kept : AreKept c.args.rows.now c.in_ok-rows.rows.items =
+    search (arith, clones_are, c.in_ok-rows.ensures) in
+    grind (arith, names_with, kept.0)
