@@ -32,6 +32,9 @@ library/out/libgamefile.so.1: $(sources) $(wildcard library/gamefile.*) library/
 install: gamefile $(if $(wildcard library/out/libgamefile.so.1),install-library)
 	install -D -m 755 gamefile $(DESTDIR)$(PREFIX)/bin/gamefile
 	install -D -m 644 docs/gamefile.1 $(DESTDIR)$(PREFIX)/share/man/man1/gamefile.1
+	install -D -m 644 completions/gamefile.bash \
+	    $(DESTDIR)$(PREFIX)/share/bash-completion/completions/gamefile
+	install -D -m 644 completions/_gamefile $(DESTDIR)$(PREFIX)/share/zsh/site-functions/_gamefile
 
 install-library:
 	install -D -m 644 library/gamefile.h $(DESTDIR)$(PREFIX)/include/gamefile.h

@@ -31,7 +31,7 @@ check_words() {
     for words in same "same a" "same a b c" "same --map --no-names a b" "same --map --map a b" \
         "same --map a" "canon a b" "canon --no-names --no-names" "canon --map a" "canon --reduced a" \
         "hash --map a" "hash --no-names --no-names" "duplicates --map a" "check -x" "check --no-names" \
-        "hash --explain a" "hash -0 a" "hash --files-from" "hash --files-from a b" "check --files-from a" \
+        "check --zero a" "hash -0 a" "hash --files-from" "hash --files-from a b" "check --files-from a" \
         "canon --quiet a" "check --explain --explain" --explain \
         "check --reduced" "table a b" "table --reduced --reduced" tree Canon can - "-- canon" --canon \
         a.efg "canon --version" "same -V a b"; do

@@ -41,6 +41,9 @@ check_hash_folders() {
     cp "$scratch/table.nfg" "$folder/a.Nfg"
     cp "$scratch/table.nfg" "$folder/b.nfg"
     cp "$scratch/table.nfg" "$folder/c.efg/d.nfg"
+    mkdir "$folder/.hidden"
+    cp "$scratch/table.nfg" "$folder/.hidden/e.nfg"
+    cp "$scratch/table.nfg" "$folder/.f.nfg"
     echo other >"$folder/readme.txt"
     ln -s ../../games "$folder/b/deep/loop"
     ln -s ../b.nfg "$folder/b/linked.nfg"
@@ -59,8 +62,14 @@ check_hash_folders() {
     sed "s|  $folder/|  $scratch/linked/|" "$scratch/lines" >"$scratch/expected"
     judge "hash of a link to a folder" "$scratch/expected" "$nothing" 0
     rm "$scratch/linked"
-    run hash "$folder/empty"
-    judge "hash of an empty folder" "$nothing" "$nothing" 0
+    run hash "$folder/.hidden" "$folder/.f.nfg"
+    { hash_of "$scratch/table.nfg" "$folder/.hidden/e.nfg" &&
+        hash_of "$scratch/table.nfg" "$folder/.f.nfg"; } >"$scratch/expected"
+    judge "hash of what is hidden, and named" "$scratch/expected" "$nothing" 0
+    run hash "$folder/empty" "$folder/c.efg" "$folder/empty/"
+    hash_of "$scratch/table.nfg" "$folder/c.efg/d.nfg" >"$scratch/one"
+    printf '%s: no game files\n' "$folder/empty" "$folder/empty/" >"$scratch/expected"
+    judge "hash of folders without game files" "$scratch/one" "$scratch/expected" 0
     cp "$scratch/five.efg" "$folder/"$'d-\xff.efg'
     run hash "$folder/"
     echo "$folder/"$'d-\ufffd.efg: E20' >"$scratch/expected"
@@ -94,23 +103,23 @@ check_unreadable() { # FOLDER
 }
 
 # A file that goes while those before it are read: the first one is a pipe, which is opened once all
-# names are known.
+# names are known. A pipe in the folder itself is passed over.
 check_vanishing() { # FOLDER
-    local reader
-    mkfifo "$1/A.efg"
+    local reader pipe=$scratch/pipe
+    mkfifo "$pipe" "$1/A.efg"
     cp "$scratch/five.efg" "$1/z.efg"
-    { hash_of "$scratch/five.efg" "$1/A.efg" && cat "$scratch/lines"; } >"$scratch/more"
-    timeout 60 "$program" hash "$1" >"$scratch/out" 2>"$scratch/err" &
+    { hash_of "$scratch/five.efg" "$pipe" && cat "$scratch/lines"; } >"$scratch/more"
+    timeout 60 "$program" hash "$pipe" "$1" >"$scratch/out" 2>"$scratch/err" &
     reader=$!
     {
         rm "$1/z.efg"
         cat "$scratch/five.efg"
-    } >"$1/A.efg"
+    } >"$pipe"
     status=0
     wait "$reader" || status=$?
     echo "$1/z.efg: E20" >"$scratch/expected"
     judge "hash of a folder with a file that goes" "$scratch/more" "$scratch/expected" 4
-    rm "$1/A.efg"
+    rm "$pipe" "$1/A.efg"
 }
 
 # Files that a list names: in lines, ended by zero bytes, and of standard input.
@@ -128,13 +137,16 @@ check_hash_list() {
     tr '\n' '\0' <"$list" >"$scratch/null"
     run hash --files-from="$scratch/null" -0
     judge "hash of a list with zero bytes" "$scratch/lines" "$nothing" 0
+    sed $'s/$/\r/' "$list" >"$scratch/windows"
+    run hash --files-from "$scratch/windows"
+    judge "hash of a list whose lines end with CR LF" "$scratch/lines" "$nothing" 0
     run hash -0 --files-from - < <(find "$scratch" -name "a*b.efg" -print0)
-    hash_of "$five" "$odd" >"$scratch/lines"
+    printf '\\%s  %s\n' "$(launch canon <"$five" | sha256sum | cut -d ' ' -f 1)" "${odd//$'\n'/\\n}" >"$scratch/lines"
     judge "hash of a name with a line feed" "$scratch/lines" "$nothing" 0
     run hash --files-from "$nothing" <"$accepted.nfg"
     judge "hash of an empty list" "$nothing" "$nothing" 0
     run hash --files-from - < <(printf '%s\n\n%s\n' "$scratch/missing.efg" $'d-\xff.efg')
-    printf '%s: E20\n: E20\nd-\ufffd.efg: E20\n' "$scratch/missing.efg" >"$scratch/expected"
+    printf '%s: E20\nd-\ufffd.efg: E20\n' "$scratch/missing.efg" >"$scratch/expected"
     judge "hash of a list of what cannot be opened" "$nothing" "$scratch/expected" 4
     run hash --files-from "$scratch/missing"
     judge_refusal "hash of a missing list" "$scratch/missing: E20" 4
@@ -142,6 +154,105 @@ check_hash_list() {
     judge_refusal "hash of a list that is a folder" "$games: E20" 4
     run duplicates --files-from - < <(printf '%s\n' "$five" "$scratch/copy.efg")
     judge_lines "duplicates of a list" 1 "$five" "$scratch/copy.efg"
+}
+
+# Names that `sha256sum` escapes, which it reads back; with --zero they stand as they are.
+check_hash_names() {
+    local names=($'line\nfeed' $'carriage\rreturn' 'back\slash' plain) name
+    mkdir "$scratch/names" && pushd "$scratch/names" >/dev/null || return
+    for name in "${names[@]}"; do
+        launch canon <"$scratch/five.efg" >"$name"
+    done
+    sha256sum "${names[@]}" >"$scratch/lines"
+    run hash "${names[@]}"
+    judge "hash of names that are escaped" "$scratch/lines" "$nothing" 0
+    sha256sum --quiet --check "$scratch/out" >"$scratch/told" 2>&1
+    status=$?
+    : >"$scratch/out"
+    judge "hashes that sha256sum checks" "$scratch/told" "$nothing" 0
+    sha256sum --zero "${names[@]}" >"$scratch/lines"
+    run hash -z "${names[@]}"
+    judge "hash --zero" "$scratch/lines" "$nothing" 0
+    sha256sum "${names[@]}" | sed -E 's/^(\\?)[0-9a-f]{64}  /\1/' >"$scratch/lines"
+    run duplicates "${names[@]}"
+    judge "duplicates of names that are escaped" "$scratch/lines" "$nothing" 1
+    printf '%s\0' "${names[@]}" >"$scratch/lines"
+    run duplicates --zero "${names[@]}"
+    judge "duplicates --zero" "$scratch/lines" "$nothing" 1
+    cp "$accepted.nfg" other
+    run duplicates --zero other plain other plain
+    printf 'other\0other\0\0plain\0plain\0' >"$scratch/lines"
+    judge "duplicates --zero: two groups" "$scratch/lines" "$nothing" 1
+    popd >/dev/null || return
+    rm -r "$scratch/names"
+}
+
+# `check` of several files and of folders, each with a line after its name.
+check_several() {
+    local five=$scratch/five.efg table=$scratch/table.nfg refused=$scratch/refused.nfg
+    run check "$five" "$refused" "$table"
+    printf '%s: tree\n%s: table\n' "$five" "$table" >"$scratch/lines"
+    echo "$refused: E4 at 26..29" >"$scratch/expected"
+    judge "check of three files" "$scratch/lines" "$scratch/expected" 2
+    run check "$scratch/missing" "$refused" "$five"
+    echo "$five: tree" >"$scratch/lines"
+    printf '%s: E20\n%s: E4 at 26..29\n' "$scratch/missing" "$refused" >"$scratch/expected"
+    judge "check of a missing file among several" "$scratch/lines" "$scratch/expected" 4
+    run check - "$table" <"$five"
+    printf -- '-: tree\n%s: table\n' "$table" >"$scratch/lines"
+    judge "check of standard input and a file" "$scratch/lines" "$nothing" 0
+    mkdir "$scratch/one" && cp "$five" "$scratch/one/a.efg"
+    run check "$scratch/one"
+    echo "$scratch/one/a.efg: tree" >"$scratch/lines"
+    judge "check of a folder" "$scratch/lines" "$nothing" 0
+    launch check "$five" "$table" >/dev/full 2>"$scratch/err"
+    : >"$scratch/out"
+    judge_refusal "check of several: standard output full" "E21" 4
+    rm -r "$scratch/one"
+}
+
+# `--explain` of several files: what is said of one, and what says nothing of its file after its name.
+check_several_explained() {
+    local refused=$scratch/refused.nfg missing=$scratch/missing five=$scratch/five.efg command
+    for command in check hash duplicates; do
+        run check --explain "$refused"
+        cp "$scratch/err" "$scratch/expected"
+        echo "$missing: E20: cannot open $missing: No such file or directory (os error 2)" >>"$scratch/expected"
+        run "$command" --explain "$refused" "$missing"
+        judge "$command --explain of two files" "$nothing" "$scratch/expected" 4
+    done
+    launch hash --explain "$five" >/dev/full 2>"$scratch/err"
+    : >"$scratch/out"
+    judge_refusal "hash --explain: standard output full" \
+        "E21: cannot write the output: No space left on device (os error 28)" 4
+}
+
+# `-` is standard input, and `./-` a file.
+check_dash() {
+    local command
+    pushd "$scratch" >/dev/null || return
+    cp table.nfg ./-
+    for command in canon check table; do
+        run "$command" <five.efg
+        cp out lines
+        run "$command" - <five.efg
+        judge "$command -" lines "$nothing" 0
+        run "$command" table.nfg
+        cp out lines
+        run "$command" ./- <five.efg
+        judge "$command ./-" lines "$nothing" 0
+    done
+    run same - table.nfg <./-
+    echo same >lines
+    judge "same - B" lines "$nothing" 0
+    run same table.nfg - <five.efg
+    echo different >lines
+    judge "same A -" lines "$nothing" 1
+    run hash ./- - <five.efg
+    { hash_of table.nfg ./- && hash_of five.efg -; } >lines
+    judge "hash of standard input and a file of its name" lines "$nothing" 0
+    rm ./-
+    popd >/dev/null || return
 }
 
 # Runs the program with standard error at a terminal, and standard output there or in a pipe. The first
@@ -226,13 +337,21 @@ check_duplicates() {
     local folder=$scratch/-games names
     mkdir "$folder"
     run duplicates -- "$folder"
-    judge "duplicates: an empty folder" "$nothing" "$nothing" 0
+    echo "$folder: no game files" >"$scratch/expected"
+    judge "duplicates: an empty folder" "$nothing" "$scratch/expected" 0
     run duplicates <"$accepted.nfg"
     judge "duplicates: standard input" "$nothing" "$nothing" 0
     cp "$scratch/five.efg" "$scratch/prize.efg" "$folder"
     cp "$accepted.nfg" "$folder/selten.NFG"
     run duplicates -- "$folder"
     judge "duplicates: other games" "$nothing" "$nothing" 0
+    ln -s five.efg "$folder/a-link.efg"
+    ln "$folder/five.efg" "$folder/another-name.efg"
+    run duplicates -- "$folder" "$folder/"
+    judge "duplicates: a file by other names" "$nothing" "$nothing" 0
+    run duplicates -- "$folder/five.efg" "$folder/a-link.efg"
+    judge_lines "duplicates: a file by names that are given" 1 "$folder/five.efg" "$folder/a-link.efg"
+    rm "$folder/a-link.efg" "$folder/another-name.efg"
     cp "$scratch/copy.efg" "$folder"
     cp "$accepted.out" "$folder/a b.nfg"
     names=("$folder/a b.nfg" "$folder/selten.NFG" "" "$folder/copy.efg" "$folder/five.efg")

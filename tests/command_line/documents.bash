@@ -19,7 +19,7 @@ named_by_page() {
             s/^\.BR \([a-z]*\) " .*/\1/p
             s/^\.B \(--[a-z-]*\)$/\1/p
             s/^\.BI \(--[a-z-]*\) .*$/\1/p
-            s/^\.BR -[hV0] .*\(--[a-z-]*\)$/\1/p
+            s/^\.BR -[hV0z] .*\(--[a-z-]*\)$/\1/p
         }'
 }
 
@@ -51,6 +51,23 @@ check_page() {
     fi
 }
 
+# The hook for pre-commit runs `check` on game files, and on no others.
+check_hook() {
+    local hook=$root/.pre-commit-hooks.yaml entry files
+    entry=$(sed -n 's/^  entry: gamefile //p' "$hook")
+    files=$(sed -n "s/^  files: '\(.*\)'$/\1/p" "$hook")
+    printf '%s\n' a.efg b/c.nfg d.efg.txt efg | grep -E "$files" >"$scratch/out"
+    : >"$scratch/err"
+    status=0
+    printf '%s\n' a.efg b/c.nfg >"$scratch/expected"
+    judge "files of the hook" "$scratch/expected" "$nothing" 0
+    echo "$accepted.nfg: table" >"$scratch/expected"
+    launch check --explain "$scratch/refused.nfg" 2>"$scratch/lines"
+    # shellcheck disable=SC2086
+    run $entry "$accepted.nfg" "$scratch/refused.nfg"
+    judge "the hook" "$scratch/expected" "$scratch/lines" 2
+}
+
 # Counts what another script passes and fails, which its last line says.
 check_by() { # SCRIPT WORD..
     local summary
@@ -67,6 +84,7 @@ check_by() { # SCRIPT WORD..
 # The files and headings that documents link to are there, and the commands that documents show write
 # what stands there.
 check_documents() {
+    check_hook
     check_by links
     check_by transcripts README.md examples/README.md docs/COLLECTIONS.md CONTRIBUTING.md
 }

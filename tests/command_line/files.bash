@@ -49,9 +49,9 @@ check_files() {
     local missing=$scratch/missing socket=$scratch/socket closed=$scratch/closed.nfg
     run canon "$missing" <"$accepted.nfg"
     judge_refusal "a missing file" "E20" 4
-    run check "$root" <"$accepted.nfg"
+    run canon "$root" <"$accepted.nfg"
     judge_refusal "a folder" "E20" 4
-    run canon - <"$accepted.nfg"
+    run canon ./- <"$accepted.nfg"
     judge_refusal "a file named -" "E20" 4
     python3 -c 'import socket, sys; socket.socket(socket.AF_UNIX).bind(sys.argv[1])' "$socket"
     run check "$socket"

@@ -4,26 +4,52 @@
 
 use arguments::request_given;
 use gf_run::{Counted, Erasing, HostInputs, Shown, answer, perform};
-use gf_words::{Collection, Job, Request};
+use gf_words::{Input, Job, Paths, Request, WordsFault};
+use std::alloc::{AllocError, Global};
+use std::fs;
 use std::io::IsTerminal;
 use std::process::ExitCode;
 
 mod arguments;
 
 /// Whether standard error is a terminal on which it is shown how many files are done.
-fn shows_progress(rt: &HostRuntime, job: &Job) -> bool {
-    match job {
-        Job::Hash(Collection { quiet, .. }) | Job::Duplicates(Collection { quiet, .. }) => {
-            !*quiet && rt.stderr().is_terminal()
+fn shows_progress(rt: &HostRuntime, request: &Request) -> bool {
+    match request.job {
+        Job::CheckAll(_) | Job::Hash { .. } | Job::Duplicates { .. } => {
+            !request.quiet && rt.stderr().is_terminal()
         }
         _ => false,
     }
 }
 
+fn is_folder(rt: &HostRuntime, path: &str) -> bool {
+    match fs::metadata(rt, path) {
+        Ok(found) => found.is_dir(),
+        Err(_) => false,
+    }
+}
+
+fn alone(alloc: Global, path: &str) -> Result<Paths, AllocError> {
+    let mut paths = Vec::new(alloc);
+    paths.push(String::from_str(alloc, path)?)?;
+    Ok(Paths::Named(paths))
+}
+
+/// What is asked for. To check a folder means to check the game files below it.
+fn request(rt: &HostRuntime) -> Result<Request, WordsFault> {
+    let mut request = request_given(rt)?;
+    if let Job::Check(Input::File(path)) = &request.job {
+        if is_folder(rt, path.as_str()) {
+            request.job = Job::CheckAll(alone(rt.alloc(), path.as_str())?);
+        }
+    }
+    Ok(request)
+}
+
 /// Does what is asked for, and returns the exit status. If how many files are done is shown, that
 /// is erased before a line is written beside it.
 fn run(rt: &HostRuntime, request: &Request) -> u8 {
-    let shows = shows_progress(rt, &request.job);
+    let shows = shows_progress(rt, request);
     let erases = shows && rt.stdout().is_terminal();
     let mut inputs = HostInputs::new(rt);
     let mut progress = Shown::new(rt, rt.stderr(), shows);
@@ -40,7 +66,7 @@ fn run(rt: &HostRuntime, request: &Request) -> u8 {
 }
 
 fn main(rt: HostRuntime) -> ExitCode {
-    ExitCode::from(match request_given(&rt) {
+    ExitCode::from(match request(&rt) {
         Ok(request) => run(&rt, &request),
         Err(fault) => {
             let mut output = Counted::new(rt.stdout());

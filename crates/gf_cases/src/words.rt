@@ -2,7 +2,7 @@
 
 use crate::cases::Cases;
 use gf_canon::Names;
-use gf_words::{Input, Job, WordsFault, parse_words};
+use gf_words::{Input, Job, Paths, WordsFault, parse_words};
 use std::alloc::Global;
 
 /// What words ask for. A file that is not named is standard input.
@@ -10,13 +10,14 @@ use std::alloc::Global;
 enum Asked {
     Canon(Option<&'static str>, Names),
     Check(Option<&'static str>),
+    CheckAll(&'static [&'static str]),
     Table(Option<&'static str>, bool),
     Same(&'static str, &'static str, bool, Names),
     Help,
     Usage,
 }
 
-static WORDS: [(&[&str], Asked); 20] = [
+static WORDS: [(&[&str], Asked); 23] = [
     (&[], Asked::Canon(None, Names::Kept)),
     (&["canon"], Asked::Canon(None, Names::Kept)),
     (
@@ -26,6 +27,9 @@ static WORDS: [(&[&str], Asked); 20] = [
     (&["canon", "--no-names"], Asked::Canon(None, Names::Aside)),
     (&["check", "a.efg"], Asked::Check(Some("a.efg"))),
     (&["check"], Asked::Check(None)),
+    (&["check", "a", "b"], Asked::CheckAll(&["a", "b"])),
+    (&["canon", "-"], Asked::Canon(None, Names::Kept)),
+    (&["canon", "./-"], Asked::Canon(Some("./-"), Names::Kept)),
     (&["table"], Asked::Table(None, false)),
     (&["table", "a"], Asked::Table(Some("a"), false)),
     (&["table", "--reduced"], Asked::Table(None, true)),
@@ -59,12 +63,22 @@ fn is_input(input: &Input, name: Option<&str>) -> bool {
     }
 }
 
+fn are_named(paths: &Paths, names: &[&str]) -> bool {
+    match paths {
+        Paths::Named(paths) => {
+            paths.len() == names.len() && paths.iter().zip(names).all(|(a, b)| a.as_str() == *b)
+        }
+        _ => false,
+    }
+}
+
 fn is_job(job: &Job, asked: Asked) -> bool {
     match (job, asked) {
         (Job::Canon { input, names }, Asked::Canon(name, other)) => {
             is_input(input, name) && *names == other
         }
         (Job::Check(input), Asked::Check(name)) => is_input(input, name),
+        (Job::CheckAll(paths), Asked::CheckAll(names)) => are_named(paths, names),
         (Job::Table { input, reduced }, Asked::Table(name, other)) => {
             is_input(input, name) && *reduced == other
         }

@@ -4,6 +4,7 @@ use Rattle.std.proofs.Common.{get_or, length, refl, subst}
 use Rattle.std.proofs.lemmas.List.{drop_more}
 use Rattle.std.specs.Prelude.{⊤}
 use Rattle.gf_canon.specs.declared.sameness.Names.{Names}
+use Rattle.gf_words.specs.declared.job.LineEnd.{LineEnd}
 use Rattle.gf_run.specs.HashText.{IsFaultOfFile, IsHashOf, ReadsHash, hashed, refused, unread}
 use Rattle.gf_run.specs.Input.{IsReadWhole}
 use Rattle.gf_run.specs.Run as run
@@ -25,12 +26,12 @@ read_hashed reader names (Err fault) i i' whole is why = refused fault _ refl wh
 
 -- why a file has no hash is why its line is not written
 pub unhashed : {S W : Type 0} (reader : Reader S) (writer : Writer W) (names : Names)
-    (name : List ℕ) (fault : RunFault) (r : Result ⊤ RunFault) (i i' : S) (o : W) → r ≡ Err fault
-    → ReadsHash reader names (Err fault) i i' → RunsHash reader writer names name r i i' o o
-unhashed reader writer names name fault r i i' o is (hashed hash bytes e whole h) = absurd cc
-unhashed reader writer names name fault r i i' o is (unread same e not_read) =
+    (end : LineEnd) (name : List ℕ) (fault : RunFault) (r : Result ⊤ RunFault) (i i' : S) (o : W) → r ≡ Err fault
+    → ReadsHash reader names (Err fault) i i' → RunsHash reader writer names end name r i i' o o
+unhashed reader writer names end name fault r i i' o is (hashed hash bytes e whole h) = absurd cc
+unhashed reader writer names end name fault r i i' o is (unread same e not_read) =
     run.unread same (cc) not_read refl
-unhashed reader writer names name fault r i i' o is (refused same bytes e whole why) =
+unhashed reader writer names end name fault r i i' o is (refused same bytes e whole why) =
     run.refused same bytes (cc) whole why refl
 
 -- the bytes of a file that has a hash

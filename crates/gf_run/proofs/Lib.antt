@@ -6,6 +6,7 @@ pub mod GroupsText
 pub mod Hashed
 pub mod Interruptions
 pub mod KeptBytes
+pub mod KindLines
 pub mod MapLines
 pub mod MoreRead
 pub mod MoreWritten

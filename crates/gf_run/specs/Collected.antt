@@ -1,5 +1,6 @@
 -- What the program does for the files of a collection.
-use Rattle.std.specs.Prelude.{◌≡◌, ◌⊎◌, ℕ, List, [], ◌∷◌, codes}
+use Rattle.std.specs.Prelude.{◌≡◌, ◌⊎◌, ℕ, List, [], ◌∷◌, ◌++◌, codes, None}
+use Rattle.std.specs.List.{flat_map}
 use Rattle.std.specs.String.{string_bytes}
 use Rattle.gf_words.specs.declared.job.Input.{Input}
 use Rattle.gf_words.specs.declared.job.Input.TheVariants as input
@@ -8,7 +9,8 @@ use Rattle.gf_words.specs.declared.job.Paths.TheVariants as paths
 use Rattle.gf_run.specs.Ending.{IsTold}
 use Rattle.gf_run.specs.FaultLine.{fault_line}
 use Rattle.gf_run.specs.FaultStatus.{status_of}
-use Rattle.gf_run.specs.Hashes.{IsToldOf, Standing}
+use Rattle.gf_run.specs.CollectionRun.{Standing}
+use Rattle.gf_run.specs.NamedFault.{IsToldOf}
 use Rattle.gf_run.specs.Opening.{IsNotOpened, IsOpened, Opener}
 use Rattle.gf_run.specs.Streams.{Writer}
 use Rattle.gf_run.specs.declared.collections.file.CollectionFile.{CollectionFile}
@@ -29,10 +31,19 @@ list_name (input.File name) = string_bytes name
 -- memory ran out.
 abbrev pub IsToldOfPaths : {E : Type 0} → Writer E → Paths → RunFault → ℕ → E → E → Type 0
 IsToldOfPaths errors (paths.List list end) fault status old new =
-    IsToldOf errors (list_name list) fault status old new
+    IsToldOf errors (list_name list) None fault status old new
     ⊎ ((status ≡ status_of fault) × IsTold errors (fault_line fault) old new)
 IsToldOfPaths errors paths fault status old new =
     (status ≡ status_of fault) × IsTold errors (fault_line fault) old new
+
+-- what is said of folders that have no game files: a line for each
+abbrev pub without_games : List (List ℕ) → List ℕ
+without_games folders = flat_map (λ folder. folder ++ codes ": no game files\n") folders
+
+-- it was said of some folders, as far as memory and the writer allowed
+abbrev pub AreToldOf : {E : Type 0} → Writer E → E → E → Type 0
+AreToldOf errors old new = (new ≡ old)
+    ⊎ ((folders : List (List ℕ)) × IsTold errors (without_games folders) old new)
 
 -- for what opens inputs
 module _ {I S : Type 0} (opener : Opener I S) where
@@ -49,11 +60,12 @@ module _ {I S : Type 0} (opener : Opener I S) where
   module _ {W E : Type 0} (errors : Writer E)
       (Does : List CollectionFile → Standing I W E → Standing I W E → Type 0) where
     pub data PerformsAll (paths : Paths) (a b : Standing I W E) : Type 0 where
-      -- the files are found, before any of them is opened, and this was done for them
-      found : (files : List CollectionFile) (mid : I) → ArePathsOpened paths a.inputs mid
-          → IsOfPaths paths files
+      -- the files are found, before any of them is opened; folders that have none may be
+      -- reported; and this was done for the files
+      found : (files : List CollectionFile) (mid : I) (e : E) → ArePathsOpened paths a.inputs mid
+          → IsOfPaths paths files → AreToldOf errors a.errors e
           → Does files
-          (record { inputs = mid; output = a.output; errors = a.errors; status = a.status }) b
+          (record { inputs = mid; output = a.output; errors = e; status = a.status }) b
           → PerformsAll paths a b
       -- they are not, which was reported
       unlisted : (fault : RunFault) → ArePathsOpened paths a.inputs b.inputs

@@ -1,5 +1,5 @@
 -- What a counted reader or writer shows.
-use Rattle.std.specs.Prelude.{◌≡◌, ℕ, List, Option}
+use Rattle.std.specs.Prelude.{ℕ, List, Option}
 use Rattle.std.specs.declared.io.Error.{Error}
 use Rattle.gf_run.specs.Failures.{CountsPull, CountsPush, KeepsLast}
 use Rattle.gf_run.specs.Streams.{Reader, Writer}

@@ -1,8 +1,10 @@
 -- Which of the files that were read are the same game, and the text that names them.
-use Rattle.std.specs.Prelude.{◌≡◌, ℕ, Bool, nat_eq, nat_lt, List, [], ◌∷◌, ◌++◌, codes, length, map}
+use Rattle.std.specs.Prelude.{◌≡◌, ℕ, Bool, nat_eq, nat_lt, List, [], ◌∷◌, ◌++◌, length, map}
 use Rattle.std.specs.Cmp.Lexicographic.{pointwise}
 use Rattle.std.specs.List.{Contains, filter, flat_map, join_by}
 use Rattle.gf_tree.specs.FiniteMap.{first_uses}
+use Rattle.gf_words.specs.declared.job.LineEnd.{LineEnd}
+use Rattle.gf_run.specs.NameText.{end_text, mark, name_text}
 
 -- a file that was read: its name, and the hash of its canonical text
 pub record HashedFile : Type 0 where
@@ -44,18 +46,22 @@ has_two names = nat_lt 1 (length names)
 abbrev pub duplicates : List HashedFile → List (List (List ℕ))
 duplicates files = filter has_two (map names_of (groups_of files))
 
+-- the line of a name
+abbrev pub name_line : LineEnd → List ℕ → List ℕ
+name_line end name = mark end name ++ name_text end name ++ end_text end
+
 -- a line for each name
-abbrev pub name_lines : List (List ℕ) → List ℕ
-name_lines names = flat_map (λ name. name ++ codes "\n") names
+abbrev pub name_lines : LineEnd → List (List ℕ) → List ℕ
+name_lines end names = flat_map (name_line end) names
 
 -- the names of groups, with an empty line between two groups
-abbrev pub groups_text : List (List (List ℕ)) → List ℕ
-groups_text groups = join_by name_lines (codes "\n") groups
+abbrev pub groups_text : LineEnd → List (List (List ℕ)) → List ℕ
+groups_text end groups = join_by (name_lines end) (end_text end) groups
 
 -- the empty line before a group, unless the text so far is empty
-abbrev pub empty_line : List ℕ → List ℕ
-empty_line [] = []
-empty_line (byte ∷ text) = codes "\n"
+abbrev pub empty_line : LineEnd → List ℕ → List ℕ
+empty_line end [] = []
+empty_line end (byte ∷ text) = end_text end
 
 -- the exit status if these are the groups of two files or more
 abbrev pub groups_status : List (List (List ℕ)) → ℕ

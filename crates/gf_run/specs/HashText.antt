@@ -5,15 +5,18 @@ use Rattle.sha2.specs.Sha256.{sha256}
 use Rattle.gf_canon.specs.Judgement.{IsRefusedWith, MeansFile}
 use Rattle.gf_canon.specs.NamesAside.{IsTextBy}
 use Rattle.gf_canon.specs.declared.sameness.Names.{Names}
+use Rattle.gf_words.specs.declared.job.LineEnd.{LineEnd}
 use Rattle.gf_run.specs.Input.{IsNotRead, IsReadWhole}
+use Rattle.gf_run.specs.NameText.{end_text, mark, name_text}
 use Rattle.gf_run.specs.Streams.{Reader}
 use Rattle.gf_run.specs.declared.fault.RunFault.{RunFault}
 use Rattle.gf_run.specs.declared.fault.RunFault.TheVariants.{Refused, Read, Write, Form, Memory}
 use Rattle.gf_run.specs.declared.fault.Which.TheVariants.{Only}
 
 -- a hash in hexadecimal, two spaces, and the name of the file
-abbrev pub hash_line : List ℕ → List ℕ → List ℕ
-hash_line name hash = encode_lower hash ++ codes "  " ++ name ++ codes "\n"
+abbrev pub hash_line : LineEnd → List ℕ → List ℕ → List ℕ
+hash_line end name hash =
+    mark end name ++ encode_lower hash ++ codes "  " ++ name_text end name ++ end_text end
 
 -- the bytes mean a file, and this is the hash of its canonical text
 pub record IsHashOf (names : Names) (bytes hash : List ℕ) : Type 0 where
@@ -22,10 +25,10 @@ pub record IsHashOf (names : Names) (bytes hash : List ℕ) : Type 0 where
   pub is_hash : hash ≡ sha256 text
 
 -- the bytes mean a file, and this is the line of its hash
-pub record IsHashLine (names : Names) (name bytes line : List ℕ) : Type 0 where
+pub record IsHashLine (names : Names) (end : LineEnd) (name bytes line : List ℕ) : Type 0 where
   pub hash : List ℕ
   pub hashed : IsHashOf names bytes hash
-  pub is_line : line ≡ hash_line name hash
+  pub is_line : line ≡ hash_line end name hash
 
 -- why the bytes of a file have no hash or no line of it: they are refused; or they mean a file, and
 -- memory ran out

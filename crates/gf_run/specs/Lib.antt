@@ -1,4 +1,5 @@
 pub mod Collected
+pub mod CollectionRun
 pub mod Counted
 pub mod Duplicates
 pub mod DuplicatesRun
@@ -10,12 +11,14 @@ pub mod FaultInput
 pub mod FaultLine
 pub mod FaultStatus
 pub mod FileKinds
+pub mod FileLines
 pub mod FormFaults
 pub mod FormText
 pub mod HashText
-pub mod Hashes
 pub mod Input
 pub mod Kept
+pub mod NameText
+pub mod NamedFault
 pub mod Opened
 pub mod Opening
 pub mod Output

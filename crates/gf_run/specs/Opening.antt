@@ -1,5 +1,6 @@
 -- What is opened for a job.
-use Rattle.std.specs.Prelude.{ℕ, List, Result, Ok, Err}
+use Rattle.std.specs.Prelude.{◌≡◌, ℕ, Bool, true, false, List, codes, Result, Ok, Err}
+use Rattle.std.specs.Str.{bytes_eq}
 use Rattle.std.specs.String.{string_bytes}
 use Rattle.std.specs.declared.io.Error.{Error}
 use Rattle.gf_words.specs.declared.job.Input.{Input}
@@ -22,3 +23,12 @@ module _ {I S : Type 0} (opener : Opener I S) where
   IsNotOpened Standard i i' = ⊥
   IsNotOpened (File name) i i' =
       (error : Error) × opener.file i (string_bytes name) (Err error) i'
+
+  -- what opening a name gives, by whether it is that of standard input
+  abbrev pub OpensBy : Bool → List ℕ → I → Result S Error → I → Type 0
+  OpensBy true name i answer i' = (s : S) × (answer ≡ Ok s) × opener.standard i s i'
+  OpensBy false name i answer i' = opener.file i name answer i'
+
+  -- what opening a name gives; `-` is standard input
+  abbrev pub Opens : List ℕ → I → Result S Error → I → Type 0
+  Opens name = OpensBy (bytes_eq name (codes "-")) name

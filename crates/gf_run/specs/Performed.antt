@@ -9,8 +9,8 @@ use Rattle.gf_run.specs.Ending.{Ends}
 use Rattle.gf_run.specs.Explained.{called_input}
 use Rattle.gf_run.specs.FaultInput.{is_of_second, of_second}
 use Rattle.gf_run.specs.FaultStatus.{answer_status}
-use Rattle.gf_run.specs.Kept.{bytes_kept, kept_at_first, kept_reader, source_of}
-use Rattle.gf_run.specs.Opening.{IsNotOpened, IsOpened, Opener}
+use Rattle.gf_run.specs.Kept.{bytes_kept, kept_at_first, source_of}
+use Rattle.gf_run.specs.Opening.{IsNotOpened, IsOpened, Opener, Opens}
 use Rattle.gf_run.specs.RunOfTwo.{RunsSameBy, RunsSameMap}
 use Rattle.gf_run.specs.Streams.{Reader, Writer}
 use Rattle.gf_run.specs.declared.fault.RunFault.{RunFault}
@@ -57,17 +57,17 @@ module _ {I S E : Type 0} (opener : Opener I S) (errors : Writer E) (explain : B
     -- a job over two files: `a` is opened first, and then `b`
     pub data PerformsTwo (status : ℕ) (i i' : I) (o o' : W) (e e' : E) : Type 0 where
       -- the first could not be opened, and nothing was asked of the second or of the output
-      first_unopened : (error : Error) → opener.file i a (Err error) i' → o' ≡ o
+      first_unopened : (error : Error) → Opens opener a i (Err error) i' → o' ≡ o
           → Ends errors answer_status a (kept_at_first explain) (Err (Read First)) status e e'
           → PerformsTwo status i i' o o' e e'
       -- the second could not be
-      second_unopened : (s : S) (mid : I) (error : Error) → opener.file i a (Ok s) mid
-          → opener.file mid b (Err error) i' → o' ≡ o
+      second_unopened : (s : S) (mid : I) (error : Error) → Opens opener a i (Ok s) mid
+          → Opens opener b mid (Err error) i' → o' ≡ o
           → Ends errors answer_status b (kept_at_first explain) (Err (Read Second)) status e e'
           → PerformsTwo status i i' o o' e e'
       -- each was opened once, and the run ended so
       opened : (s s' t t' : Kept S) (mid : I) (result : Result Bool RunFault)
-          → opener.file i a (Ok (source_of s)) mid → opener.file mid b (Ok (source_of t)) i'
+          → Opens opener a i (Ok (source_of s)) mid → Opens opener b mid (Ok (source_of t)) i'
           → bytes_kept s ≡ kept_at_first explain → bytes_kept t ≡ kept_at_first explain
           → Run result s s' t t' o o'
           → Ends errors answer_status (of_fault result a b)

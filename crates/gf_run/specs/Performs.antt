@@ -2,15 +2,19 @@
 use Rattle.std.specs.Prelude.{Bool}
 use Rattle.std.specs.String.{string_bytes}
 use Rattle.gf_words.specs.declared.job.Job.{Job}
-use Rattle.gf_words.specs.declared.job.Job.TheVariants.{Canon, Check, Duplicates, Hash, Same, Table}
+use Rattle.gf_words.specs.declared.job.Job.TheVariants.{Canon, Check, CheckAll, Duplicates}
+use Rattle.gf_words.specs.declared.job.Job.TheVariants.{Hash, Same, Table}
 use Rattle.gf_run.specs.Collected.{PerformsAll}
+use Rattle.gf_run.specs.CollectionRun.{Standing}
 use Rattle.gf_run.specs.DuplicatesRun.{FindsAll}
-use Rattle.gf_run.specs.Hashes.{HashesAll, Standing}
+use Rattle.gf_run.specs.FileLines.{WritesAll}
 use Rattle.gf_run.specs.Kept.{kept_reader}
 use Rattle.gf_run.specs.Opening.{Opener}
 use Rattle.gf_run.specs.Performed.{PerformsOne, PerformsTwo, RunsComparison, strategies_of}
 use Rattle.gf_run.specs.Run.{RunsCanonBy, RunsCheck, RunsTable}
 use Rattle.gf_run.specs.Streams.{Reader, Writer}
+use Rattle.gf_run.specs.declared.collections.line.FileLine.TheVariants.{Kind}
+use Rattle.gf_run.specs.declared.collections.line.FileLine.TheVariants.{Hash as HashLine}
 
 -- for what opens inputs, for the inputs, for standard output and for standard error; `explain` says
 -- whether a fault is explained
@@ -30,7 +34,9 @@ module _ {I S W E : Type 0} (opener : Opener I S) (reader : Reader S) (writer : 
       (RunsComparison (kept_reader reader) writer map names)
       (string_bytes first) (string_bytes second)
       b.status a.inputs b.inputs a.output b.output a.errors b.errors
-  Performs (Hash files) a b = PerformsAll opener errors
-      (HashesAll opener reader writer errors files.names) files.paths a b
-  Performs (Duplicates files) a b = PerformsAll opener errors
-      (FindsAll opener reader writer errors files.names) files.paths a b
+  Performs (CheckAll files) a b = PerformsAll opener errors
+      (WritesAll opener reader writer errors explain Kind) files a b
+  Performs (Hash files names end) a b = PerformsAll opener errors
+      (WritesAll opener reader writer errors explain (HashLine names end)) files a b
+  Performs (Duplicates files names end) a b = PerformsAll opener errors
+      (FindsAll opener reader writer errors explain names end) files a b

@@ -11,11 +11,12 @@ mod opening;
 mod streams;
 mod texts;
 
-pub use collections::collection::{perform_duplicates, perform_hash};
 pub use collections::duplicates::run_duplicates;
 pub use collections::file::CollectionFile;
+pub use collections::folders::{FoundFiles, Repeats};
 pub use collections::hash::run_hash;
-pub use collections::hashes::run_hashes;
+pub use collections::line::{FileLine, run_kind};
+pub use collections::lines::run_lines;
 pub use collections::paths::files_at;
 pub use collections::progress::{Erasing, Progress, Shown};
 pub use fault::{RunFault, Which, WriteFault, answer_status, status};

@@ -41,6 +41,10 @@ of_canon : are_taken (codes "canon" ∷ codes "--no-names" ∷ codes "a.efg" ∷
 unfolding clap_on_literals
 of_canon = refl
 
+of_check : are_taken (codes "check" ∷ codes "--explain" ∷ codes "a.efg" ∷ codes "b.efg" ∷ []) ≡ true
+unfolding clap_on_literals
+of_check = refl
+
 of_table : are_taken (codes "table" ∷ codes "--reduced" ∷ []) ≡ true
 unfolding clap_on_literals
 of_table = refl

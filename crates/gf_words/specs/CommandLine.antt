@@ -52,14 +52,14 @@ file = new_rule (codes "FILE")
 
 abbrev pub of_files : List Rule
 of_files = no_names ∷ tied (option (codes "files-from")) ∷ tied (flag_or_letter (codes "null") 48)
-    ∷ flag (codes "quiet") ∷ many (codes "FILES") ∷ []
+    ∷ flag_or_letter (codes "zero") 122 ∷ explain ∷ flag (codes "quiet") ∷ many (codes "FILES") ∷ []
 
 abbrev pub command : Text → List Rule → Shape
 command name rules = record (new_shape name) { rules = rules }
 
 abbrev pub commands : List Shape
 commands = command (codes "canon") (no_names ∷ explain ∷ file ∷ [])
-    ∷ command (codes "check") (explain ∷ file ∷ [])
+    ∷ command (codes "check") (explain ∷ flag (codes "quiet") ∷ many (codes "FILES") ∷ [])
     ∷ command (codes "table") (flag (codes "reduced") ∷ explain ∷ file ∷ [])
     ∷ command (codes "same") (flag (codes "map") ∷ tied no_names ∷ explain ∷ required (codes "A")
     ∷ required (codes "B") ∷ [])

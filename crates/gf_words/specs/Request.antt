@@ -9,11 +9,12 @@ use Rattle.std.specs.String.{string_bytes}
 use Rattle.clap.specs.Walk.{Row, Text, all_of, first_of}
 use Rattle.gf_canon.specs.declared.sameness.Names.{Names}
 use Rattle.gf_canon.specs.declared.sameness.Names.TheVariants.{Kept, Aside}
-use Rattle.gf_words.specs.declared.job.Collection.{Collection}
 use Rattle.gf_words.specs.declared.job.Input.{Input}
 use Rattle.gf_words.specs.declared.job.Input.TheVariants as input
 use Rattle.gf_words.specs.declared.job.Job.{Job}
 use Rattle.gf_words.specs.declared.job.Job.TheVariants as job
+use Rattle.gf_words.specs.declared.job.LineEnd.{LineEnd}
+use Rattle.gf_words.specs.declared.job.LineEnd.TheVariants.{LineFeed, Null}
 use Rattle.gf_words.specs.declared.job.Paths.{Paths}
 use Rattle.gf_words.specs.declared.job.Paths.TheVariants as paths
 use Rattle.gf_words.specs.declared.job.Request.{Request}
@@ -31,15 +32,15 @@ abbrev pub input_name : Input → Option Text
 input_name input.Standard = None
 input_name (input.File name) = Some (string_bytes name)
 
--- the name of the file that a word means as a list; `-` is standard input
-abbrev pub list_name : Text → Option Text
-list_name name = if bytes_eq name (codes "-") then None else Some name
+-- the name of the file that a word names; `-` is standard input
+abbrev pub named : Text → Option Text
+named word = if bytes_eq word (codes "-") then None else Some word
 
--- the byte that ends each name of a list: NUL, or the end of a line
-abbrev pub end_of : List Row → ℕ
-end_of rows = if has_flag (codes "null") rows then 0 else 10
+-- NUL if a flag is given, otherwise a line feed
+abbrev pub end_by : Text → List Row → LineEnd
+end_by flag rows = if has_flag flag rows then Null else LineFeed
 
--- the files of a collection are those of the list, if there is one, or those that are named, if any
+-- several files are those of the list, if there is one, or those that are named, if any
 -- are; or else standard input
 abbrev pub ArePathsOf : List Row → Paths → Type 0
 ArePathsOf rows paths.Standard =
@@ -47,16 +48,13 @@ ArePathsOf rows paths.Standard =
 ArePathsOf rows (paths.Named names) = (first_of (codes "files-from") rows ≡ None)
     × (all_of (codes "FILES") rows ≡ Some (map string_bytes names.items))
 ArePathsOf rows (paths.List list end) =
-    (option_map list_name (first_of (codes "files-from") rows) ≡ Some (input_name list))
-    × (end ≡ end_of rows)
+    (option_map named (first_of (codes "files-from") rows) ≡ Some (input_name list))
+    × (end ≡ end_by (codes "null") rows)
 
-abbrev pub IsCollectionOf : List Row → Collection → Type 0
-IsCollectionOf rows files = ArePathsOf rows files.paths × (files.names ≡ names_of rows)
-    × (files.quiet ≡ has_flag (codes "quiet") rows)
-
--- the one input of a command
-abbrev pub IsInputOf : List Row → Input → Type 0
-IsInputOf rows input = input_name input ≡ first_of (codes "FILE") rows
+-- the one input of a command: the one that is named, or standard input
+abbrev pub IsInputOf : Option Text → Input → Type 0
+IsInputOf None read = input_name read ≡ None
+IsInputOf (Some word) read = input_name read ≡ named word
 
 -- the file that has to be named by this argument
 abbrev pub file_named : Text → List Row → Text
@@ -68,6 +66,24 @@ IsSameOf rows (job.Same a b map names) = (string_bytes a ≡ file_named (codes "
     × (names ≡ names_of rows)
 IsSameOf rows _ = ⊥
 
+-- of the words for files there is none, or this one alone
+abbrev pub IsAlone : Option (List Text) → Input → Type 0
+IsAlone None read = IsInputOf None read
+IsAlone (Some (word ∷ [])) read = IsInputOf (Some word) read
+IsAlone (Some words) read = ⊥
+
+-- there are several
+abbrev pub AreSeveral : Option (List Text) → Type 0
+AreSeveral None = ⊥
+AreSeveral (Some (word ∷ [])) = ⊥
+AreSeveral (Some words) = Unit {0}
+
+abbrev pub IsCheckOf : List Row → Job → Type 0
+IsCheckOf rows (job.Check read) = IsAlone (all_of (codes "FILES") rows) read
+IsCheckOf rows (job.CheckAll files) =
+    AreSeveral (all_of (codes "FILES") rows) × ArePathsOf rows files
+IsCheckOf rows _ = ⊥
+
 -- the commands but for `canon`
 abbrev pub other_commands : List Text
 other_commands = codes "check" ∷ codes "table" ∷ codes "same" ∷ codes "hash"
@@ -78,20 +94,25 @@ IsNamed name word = bytes_eq name word ≡ true
 
 -- the job of the command of this name
 abbrev pub IsJobOf : Text → List Row → Job → Type 0
-IsJobOf name rows (job.Canon input names) = (list_any (bytes_eq name) other_commands ≡ false)
-    × IsInputOf rows input × (names ≡ names_of rows)
-IsJobOf name rows (job.Check input) = IsNamed name (codes "check") × IsInputOf rows input
-IsJobOf name rows (job.Table input reduced) = IsNamed name (codes "table") × IsInputOf rows input
-    × (reduced ≡ has_flag (codes "reduced") rows)
+IsJobOf name rows (job.Canon read names) = (list_any (bytes_eq name) other_commands ≡ false)
+    × IsInputOf (first_of (codes "FILE") rows) read × (names ≡ names_of rows)
+IsJobOf name rows (job.Check read) =
+    IsNamed name (codes "check") × IsCheckOf rows (job.Check read)
+IsJobOf name rows (job.CheckAll files) =
+    IsNamed name (codes "check") × IsCheckOf rows (job.CheckAll files)
+IsJobOf name rows (job.Table read reduced) = IsNamed name (codes "table")
+    × IsInputOf (first_of (codes "FILE") rows) read × (reduced ≡ has_flag (codes "reduced") rows)
 IsJobOf name rows (job.Same a b map names) =
     IsNamed name (codes "same") × IsSameOf rows (job.Same a b map names)
-IsJobOf name rows (job.Hash files) = IsNamed name (codes "hash") × IsCollectionOf rows files
-IsJobOf name rows (job.Duplicates files) =
-    IsNamed name (codes "duplicates") × IsCollectionOf rows files
+IsJobOf name rows (job.Hash files names end) = IsNamed name (codes "hash")
+    × ArePathsOf rows files × (names ≡ names_of rows) × (end ≡ end_by (codes "zero") rows)
+IsJobOf name rows (job.Duplicates files names end) = IsNamed name (codes "duplicates")
+    × ArePathsOf rows files × (names ≡ names_of rows) × (end ≡ end_by (codes "zero") rows)
 
 abbrev pub IsRequestBy : Text → List Row → Request → Type 0
 IsRequestBy name rows request =
     IsJobOf name rows request.job × (request.explain ≡ has_flag (codes "explain") rows)
+    × (request.quiet ≡ has_flag (codes "quiet") rows)
 
 -- the request of a command, or of no command: that is `canon`
 abbrev pub IsRequestOf : List Row → Option (Text × List Row) → Request → Type 0

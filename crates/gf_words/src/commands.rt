@@ -120,6 +120,14 @@ const NULL: Argument = Argument {
     needs: &["files-from"],
 };
 
+const ZERO: Argument = Argument {
+    name: "zero",
+    form: Form::FlagOrLetter('z'),
+    about: help::ZERO,
+    excludes: &[],
+    needs: &[],
+};
+
 const QUIET: Argument = Argument {
     name: "quiet",
     form: Form::Flag,
@@ -148,7 +156,7 @@ pub static COMMANDS: [Entry; 6] = [
         name: "check",
         about: help::CHECK,
         after: help::AFTER_CHECK,
-        arguments: &[EXPLAIN, FILE],
+        arguments: &[EXPLAIN, QUIET, FILES],
     },
     Entry {
         name: "table",
@@ -166,12 +174,12 @@ pub static COMMANDS: [Entry; 6] = [
         name: "hash",
         about: help::HASH,
         after: help::AFTER_HASH,
-        arguments: &[NO_NAMES, FILES_FROM, NULL, QUIET, FILES],
+        arguments: &[NO_NAMES, FILES_FROM, NULL, ZERO, EXPLAIN, QUIET, FILES],
     },
     Entry {
         name: "duplicates",
         about: help::DUPLICATES,
         after: help::AFTER_DUPLICATES,
-        arguments: &[NO_NAMES, FILES_FROM, NULL, QUIET, FILES],
+        arguments: &[NO_NAMES, FILES_FROM, NULL, ZERO, EXPLAIN, QUIET, FILES],
     },
 ];

@@ -13,8 +13,8 @@ compare games";
 pub const AFTER: &str = "\
 A game file is extensive (.efg) and holds a tree, or strategic (.nfg) and holds
 a table; its first word tells which. Without a command, the canonical text of
-standard input is written: see 'gamefile help canon'. '-' is an ordinary file
-name; to name standard input, use /dev/stdin.
+standard input is written: see 'gamefile help canon'. The file '-' is standard
+input, and './-' is a file of that name.
 
 Exit status:
   0  done; for same: the files are the same
@@ -52,7 +52,7 @@ The status is 0, or 2 if the file is refused.
 Example:
   gamefile canon game.efg > canonical.efg";
 
-pub const CHECK: &str = "Say whether a game file is valid, and what it holds";
+pub const CHECK: &str = "Say whether game files are valid, and what they hold";
 
 pub const AFTER_CHECK: &str = "\
 Reads the whole file, and writes tree or table. A file that breaks the format is
@@ -60,13 +60,18 @@ refused: nothing is written, and standard error has one line, such as
 E4 at 40..43, with a code and the place in bytes from 0. The status is 0, or 2
 if the file is refused.
 
-With --explain, that line begins with the file, the line and the column, and
-ends with what is wrong. The line of the file follows, with marks under the
-place, and perhaps a hint.
+Of several files, or a folder, each has a line after its name, such as
+game.efg: tree, or on standard error game.efg: E4 at 40..43, and the run goes
+on. The status is the worst of all files: 0, 2, 4 or 5. A folder stands for the
+game files below it, as for hash.
+
+With --explain, the line of a refusal begins with the file, the line and the
+column, and ends with what is wrong. The line of the file follows, with marks
+under the place, and perhaps a hint.
 
 Examples:
   gamefile check game.nfg
-  gamefile check --explain game.efg";
+  gamefile check --explain games";
 
 pub const TABLE: &str = "Write the strategic form of a game";
 
@@ -98,23 +103,27 @@ pub const FIRST: &str = "The first game file";
 
 pub const SECOND: &str = "The second game file";
 
+pub const ZERO: &str = "End lines with a NUL byte, and write names as they are";
+
 pub const FILES: &str = "Game files and folders; standard input if none is named";
 
 pub const FILES_FROM: &str = "Read the names of files and folders from FILE";
 
-pub const NULL: &str = "Names end with a NUL byte, as from find -print0";
+pub const NULL: &str = "Names in FILE end with NUL instead of a newline";
 
-pub const QUIET: &str = "Do not show on the terminal how many files are done";
+pub const QUIET: &str = "Show no progress";
 
 pub const HASH: &str = "Write a hash of each game file";
 
 pub const AFTER_HASH: &str = "\
 Writes one line for each file, as sha256sum does: the SHA-256 digest of its
 canonical text, two spaces, and its name. So files of the same game have the
-same hash. Standard input has the name '-'. A folder stands for all files below
+same hash. As there, a name with a backslash or an end of line has it escaped,
+and its line begins with a backslash; with --zero nothing is escaped, and each
+line ends with NUL. Standard input has the name '-'. A folder stands for all files below
 it whose names end in .efg or .nfg, in upper or lower case, in the order of the
-bytes of their names. Links are followed, but no folder below it is visited
-twice.
+bytes of their names, but for hidden ones. Links are followed, but no folder
+below it is visited twice.
 
 A file that is refused or cannot be read gets no line here, but one on standard
 error, such as game.efg: E4 at 40..43, and the run goes on. The status is the
@@ -133,22 +142,23 @@ pub const AFTER_DUPLICATES: &str = "\
 Writes the groups of two or more files that are the same game: a name on each
 line, and an empty line between two groups. Two files are in the same group if
 'hash' writes the same hash for both, as it does if 'same' finds them the same.
-Files and folders are read as by 'hash', and groups come in the order of their
-first files.
+Files and folders are read, and names are written, as by 'hash', also with
+--zero. A file that a folder has by two names is read once. Groups come in the
+order of their first files.
 
 A file that is refused or cannot be read is in no group. Standard error has a
 line for it, such as game.efg: E4 at 40..43, and the run goes on. The status is
-0 if no two files are the same, and 1 if some are; if a file fails, it is the
-worst of all files: 2, 4 or 5.
+0 if no two files are the same, and 1 if some are; if any file fails, the
+highest of 2, 4 and 5.
 
 With --no-names, files are the same if 'same --no-names' finds them so.
 
 Example:
   gamefile duplicates games";
 
-pub const MAP: &str = "If two trees are the same, also write what corresponds";
+pub const MAP: &str = "Also list which numbers correspond";
 
-pub const NO_NAMES: &str = "Leave out names and texts that do not affect play";
+pub const NO_NAMES: &str = "Leave aside titles, comments and the names of nodes, sets, outcomes";
 
 pub const AFTER_SAME: &str = "\
 Writes same, with status 0, or different, with status 1. Two trees are the same

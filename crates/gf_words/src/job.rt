@@ -21,6 +21,8 @@ pub enum Job {
     },
     /// To say what a file holds.
     Check(Input),
+    /// To say what each of these files holds.
+    CheckAll(Paths),
     /// To write the strategic form of a tree, or its reduced form if `reduced` is true; or a table
     /// in canonical form.
     Table {
@@ -35,31 +37,39 @@ pub enum Job {
         map: bool,
         names: Names,
     },
-    /// To write the hash of each file of a collection.
-    Hash(Collection),
-    /// To say which files of a collection are the same game.
-    Duplicates(Collection),
+    /// To write the hash of each of these files. `names` says whether the names in the files
+    /// count.
+    Hash {
+        files: Paths,
+        names: Names,
+        end: LineEnd,
+    },
+    /// To say which of these files are the same game.
+    Duplicates {
+        files: Paths,
+        names: Names,
+        end: LineEnd,
+    },
 }
 
-/// What names the files of a collection.
+/// What ends a line that has the name of a file.
+#[derive(Clone, Copy)]
+pub enum LineEnd {
+    /// A line feed.
+    LineFeed,
+    /// The byte NUL, which no name has.
+    Null,
+}
+
+/// What names several files.
 #[derive(Drop)]
 pub enum Paths {
     /// Nothing does: it is standard input alone.
     Standard,
     /// The files and folders of these names.
     Named(Vec<String>),
-    /// The files and folders in this list, in which each name ends with the byte `end`.
-    List { list: Input, end: u8 },
-}
-
-/// The files that are read in one run.
-#[derive(Drop)]
-pub struct Collection {
-    pub paths: Paths,
-    /// Whether the names in the files count.
-    pub names: Names,
-    /// Whether the terminal does not show how many files are done.
-    pub quiet: bool,
+    /// The files and folders in this list, in which `end` ends each name.
+    List { list: Input, end: LineEnd },
 }
 
 /// A job, and how it is done.
@@ -68,4 +78,6 @@ pub struct Request {
     pub job: Job,
     /// Whether its fault is explained in words.
     pub explain: bool,
+    /// Whether the terminal does not show how many files are done.
+    pub quiet: bool,
 }

@@ -10,5 +10,5 @@ mod request;
 mod words;
 
 pub use fault::WordsFault;
-pub use job::{Collection, Input, Job, Paths, Request};
+pub use job::{Input, Job, LineEnd, Paths, Request};
 pub use words::{parse_request, parse_words};

@@ -1,15 +1,15 @@
 //! The request that `clap`'s matches of the words make.
 
-ghost use Rattle.std.specs.Prelude.{◌≡◌, IfOk, map, option_map};
+ghost use Rattle.std.specs.Prelude.{◌≡◌, IfOk, codes, map, option_map};
 ghost use Rattle.std.specs.String.{string_bytes};
 ghost use Rattle.clap.specs.Matches.{found_of};
 ghost use Rattle.clap.specs.Simple.{subcommand_rows_of};
 ghost use Rattle.clap.specs.Walk.{all_of, first_of, rows_of};
-ghost use Rattle.gf_words.specs.Request.{ArePathsOf, IsCollectionOf, IsInputOf, IsJobOf};
-ghost use Rattle.gf_words.specs.Request.{IsRequestBy, IsRequestOf, IsSameOf, end_of, file_named};
-ghost use Rattle.gf_words.specs.Request.{has_flag, input_name, list_name, names_of};
+ghost use Rattle.gf_words.specs.Request.{ArePathsOf, IsCheckOf, IsInputOf};
+ghost use Rattle.gf_words.specs.Request.{IsJobOf, IsRequestBy, IsRequestOf, IsSameOf, end_by};
+ghost use Rattle.gf_words.specs.Request.{file_named, has_flag, input_name, named, names_of};
 
-use crate::job::{Collection, Input, Job, Paths, Request};
+use crate::job::{Input, Job, LineEnd, Paths, Request};
 use clap::ArgMatches;
 use gf_canon::Names;
 use std::alloc::{AllocError, Global};
@@ -51,12 +51,23 @@ fn names_of(given: &ArgMatches<'_>) -> Names
     }
 }
 
-/// The one file that a command reads; standard input if none is named.
+/// The input that a word names; `-` is standard input.
+fn input_named(alloc: Global, word: &str) -> Result<Input, AllocError>
+    ensures { IfOk result (λ input. input_name input ≡ named word.now) }
+{
+    if word == "-" {
+        Ok(Input::Standard)
+    } else {
+        Ok(Input::File(String::from_str(alloc, word)?))
+    }
+}
+
+/// The one input of a command; standard input if none is named.
 fn input_of(alloc: Global, given: &ArgMatches<'_>) -> Result<Input, AllocError>
-    ensures { IfOk result (IsInputOf (rows_of (found_of given.now))) }
+    ensures { IfOk result (IsInputOf (first_of (codes "FILE") (rows_of (found_of given.now)))) }
 {
     match text_of(given, "FILE") {
-        Some(name) => Ok(Input::File(String::from_str(alloc, name)?)),
+        Some(word) => input_named(alloc, word),
         None => Ok(Input::Standard),
     }
 }
@@ -96,31 +107,24 @@ fn paths_named(alloc: Global, names: &[&str]) -> Result<Vec<String>, AllocError>
     Ok(paths)
 }
 
-/// The list of names that a word means; `-` is standard input.
-fn list_of(alloc: Global, name: &str) -> Result<Input, AllocError>
-    ensures { IfOk result (λ list. input_name list ≡ list_name name.now) }
+/// NUL if a flag is given, otherwise a line feed.
+fn end_by(given: &ArgMatches<'_>, flag: &str) -> LineEnd
+    ensures { result ≡ end_by flag.now (rows_of (found_of given.now)) }
 {
-    if name == "-" {
-        Ok(Input::Standard)
+    if is_given(given, flag) {
+        LineEnd::Null
     } else {
-        Ok(Input::File(String::from_str(alloc, name)?))
+        LineEnd::LineFeed
     }
-}
-
-/// The byte that ends each name of a list.
-fn end_of(given: &ArgMatches<'_>) -> u8
-    ensures { result ≡ end_of (rows_of (found_of given.now)) }
-{
-    if is_given(given, "null") { 0 } else { b'\n' }
 }
 
 fn paths_of(alloc: Global, given: &ArgMatches<'_>) -> Result<Paths, AllocError>
     ensures { IfOk result (ArePathsOf (rows_of (found_of given.now))) }
 {
-    if let Some(name) = text_of(given, "files-from") {
+    if let Some(word) = text_of(given, "files-from") {
         return Ok(Paths::List {
-            list: list_of(alloc, name)?,
-            end: end_of(given),
+            list: input_named(alloc, word)?,
+            end: end_by(given, "null"),
         });
     }
     match texts_of(given, "FILES") {
@@ -129,14 +133,15 @@ fn paths_of(alloc: Global, given: &ArgMatches<'_>) -> Result<Paths, AllocError>
     }
 }
 
-fn collection_of(alloc: Global, given: &ArgMatches<'_>) -> Result<Collection, AllocError>
-    ensures { IfOk result (IsCollectionOf (rows_of (found_of given.now))) }
+/// One file that is named, or standard input if none is, or several files.
+fn check_of(alloc: Global, given: &ArgMatches<'_>) -> Result<Job, AllocError>
+    ensures { IfOk result (IsCheckOf (rows_of (found_of given.now))) }
 {
-    Ok(Collection {
-        paths: paths_of(alloc, given)?,
-        names: names_of(given),
-        quiet: is_given(given, "quiet"),
-    })
+    match texts_of(given, "FILES") {
+        None => Ok(Job::Check(Input::Standard)),
+        Some([word]) => Ok(Job::Check(input_named(alloc, word)?)),
+        Some(_) => Ok(Job::CheckAll(paths_of(alloc, given)?)),
+    }
 }
 
 /// What a command asks for. The one that is not named here is `canon`.
@@ -144,7 +149,7 @@ fn job_of(alloc: Global, name: &str, given: &ArgMatches<'_>) -> Result<Job, Allo
     ensures { IfOk result (IsJobOf name.now (rows_of (found_of given.now))) }
 {
     Ok(if name == "check" {
-        Job::Check(input_of(alloc, given)?)
+        check_of(alloc, given)?
     } else if name == "table" {
         Job::Table {
             input: input_of(alloc, given)?,
@@ -153,9 +158,17 @@ fn job_of(alloc: Global, name: &str, given: &ArgMatches<'_>) -> Result<Job, Allo
     } else if name == "same" {
         same_of(alloc, given)?
     } else if name == "hash" {
-        Job::Hash(collection_of(alloc, given)?)
+        Job::Hash {
+            files: paths_of(alloc, given)?,
+            names: names_of(given),
+            end: end_by(given, "zero"),
+        }
     } else if name == "duplicates" {
-        Job::Duplicates(collection_of(alloc, given)?)
+        Job::Duplicates {
+            files: paths_of(alloc, given)?,
+            names: names_of(given),
+            end: end_by(given, "zero"),
+        }
     } else {
         Job::Canon {
             input: input_of(alloc, given)?,
@@ -170,6 +183,7 @@ fn request_by(alloc: Global, name: &str, given: &ArgMatches<'_>) -> Result<Reque
     Ok(Request {
         job: job_of(alloc, name, given)?,
         explain: is_given(given, "explain"),
+        quiet: is_given(given, "quiet"),
     })
 }
 

@@ -61,9 +61,9 @@ fn fault_of(alloc: Global, error: &Error, words: &[&str]) -> WordsFault
     }
 }
 
-/// What the words after the program's name ask for, and whether its fault is explained: a command
-/// with `--explain` is explained, and `hash` and `duplicates` do not have it. `parse_words` says
-/// which words there are, and how they fail.
+/// What the words after the program's name ask for, and how: whether a fault is explained, and
+/// whether the terminal does not show how many files are done. `parse_words` says which words there
+/// are, and how they fail.
 pub fn parse_request(alloc: Global, words: &[&str]) -> Result<Request, WordsFault>
     ensures request { IfOk result (IsRequestIn (map (λ word. word.now) words.now)) }
     ensures taken { are_taken (map (λ word. word.now) words.now) ≡ true
@@ -76,11 +76,12 @@ pub fn parse_request(alloc: Global, words: &[&str]) -> Result<Request, WordsFaul
     }
 }
 
-/// The job that the words after the program's name ask for: `canon [--no-names] [FILE]`, `check
-/// [FILE]`, `table [--reduced] [FILE]` or `same [--map | --no-names] A B`, each with `--explain` or
-/// without; `hash` or `duplicates` with `[--no-names] [--quiet]`, and with `[FILE|FOLDER]..` or
-/// `--files-from FILE [--null]`; or no words, which mean `canon` of standard input. Options may
-/// stand anywhere after the command, but not after `--`.
+/// The job that the words after the program's name ask for: `canon [--no-names] [FILE]`, `table
+/// [--reduced] [FILE]`, `same [--map | --no-names] A B` or `check [--quiet] [FILE|FOLDER]..`; `hash`
+/// or `duplicates` with `[--no-names] [--zero] [--quiet]`, and with `[FILE|FOLDER]..` or
+/// `--files-from FILE [--null]`; each with `--explain` or without; or no words, which mean `canon`
+/// of standard input. Options may stand anywhere after the command, but not after `--`. The file `-`
+/// is standard input.
 ///
 /// # Errors
 ///

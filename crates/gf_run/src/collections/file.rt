@@ -1,9 +1,10 @@
 //! The files of a collection, and how they are opened.
 
 ghost use Rattle.std.specs.Prelude.{◌≡◌, MatchResult};
-ghost use Rattle.gf_run.specs.Hashes.{IsFileNotOpened, IsFileOpened, name_of};
+ghost use Rattle.gf_run.specs.CollectionRun.{IsFileNotOpened, IsFileOpened};
+ghost use Rattle.gf_run.specs.NamedFault.{name_of};
 
-use crate::fault::{RunFault, Which};
+use crate::explain::cause::Cause;
 use crate::opening::inputs::{Inputs, open_input};
 use gf_words::Input;
 
@@ -27,21 +28,20 @@ pub(crate) fn name_of(file: &CollectionFile) -> &str
     }
 }
 
-/// Opens a file. If it cannot be opened, that is a read fault.
+/// Opens a file, or says why it cannot be opened.
 pub(crate) fn open_file<I: Inputs>(
     inputs: &mut I,
     file: &CollectionFile,
-) -> Result<I::Opened, RunFault>
+) -> Result<I::Opened, Cause>
     ensures { MatchResult result
         (λ opened. IsFileOpened I.opener file.now inputs.old opened inputs.new)
-        (λ fault. (fault ≡ RunFault.Read Which.Only)
-        × IsFileNotOpened I.opener file.now inputs.old inputs.new) }
+        (λ _. IsFileNotOpened I.opener file.now inputs.old inputs.new) }
 {
     match file {
         CollectionFile::Input(input) => match open_input(inputs, input) {
             Ok(opened) => Ok(opened),
-            Err(_) => Err(RunFault::Read(Which::Only)),
+            Err(error) => Err(Cause::Opening(error)),
         },
-        CollectionFile::NotText(_) => Err(RunFault::Read(Which::Only)),
+        CollectionFile::NotText(_) => Err(Cause::Transfer(None)),
     }
 }

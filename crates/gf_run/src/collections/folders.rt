@@ -1,8 +1,10 @@
 //! The files that a path names: a file itself, or, for a folder, the game files below it.
 
+ghost use Rattle.std.specs.Prelude.{◌≡◌, []};
+
 use crate::collections::file::CollectionFile;
 use crate::texts::joined::joined;
-use gf_words::Input;
+use gf_words::{Input, LineEnd};
 use std::alloc::{AllocError, Global};
 use std::collections::BTreeSet;
 use std::io::{BufRead, BufReader, ErrorKind, Read};
@@ -31,18 +33,104 @@ fn is_game_file(name: &str) -> bool {
     }
 }
 
-/// The device and the number of the folder that a path names, through links. `None` if it does not
-/// name a folder.
-fn folder_at<R: Files>(rt: &R, path: &str) -> Option<(u64, u64)> {
+/// Which file or folder something is: its device, and its number there.
+type Identity = (u64, u64);
+
+/// What stands at a path.
+enum Found {
+    Folder(Identity),
+    File(Identity),
+    /// A pipe, a socket or a device, which a folder may have among its files.
+    Other,
+    /// Nothing that can be seen.
+    Nothing,
+}
+
+/// What a path names, through links.
+fn found_at<R: Files>(rt: &R, path: &str) -> Found {
     match fs::metadata(rt, path) {
-        Ok(found) if found.is_dir() => Some((found.dev(), found.ino())),
-        _ => None,
+        Ok(found) if found.is_dir() => Found::Folder((found.dev(), found.ino())),
+        Ok(found) if found.is_file() => Found::File((found.dev(), found.ino())),
+        Ok(_) => Found::Other,
+        Err(_) => Found::Nothing,
+    }
+}
+
+/// The files of a collection, as far as they are found.
+#[derive(Drop)]
+pub struct FoundFiles {
+    pub files: Vec<CollectionFile>,
+    /// The folders that were named and have no game files.
+    pub without_games: Vec<Vec<u8>>,
+    /// Those of the files that are known, if a folder's files are passed over that come again, as by
+    /// a link.
+    seen: Option<BTreeSet<Identity>>,
+}
+
+impl FoundFiles {
+    /// None yet.
+    pub fn new(alloc: Global, repeats: Repeats) -> FoundFiles
+        ensures { result.files.items ≡ [] }
+    {
+        FoundFiles {
+            files: Vec::new(alloc),
+            without_games: Vec::new(alloc),
+            seen: match repeats {
+                Repeats::Kept => None,
+                Repeats::PassedOver => Some(BTreeSet::new(alloc)),
+            },
+        }
+    }
+
+    /// Whether a file that a folder has comes for the first time, unless that does not matter.
+    fn is_new(&mut self, file: Identity) -> Result<bool, AllocError> {
+        match &mut self.seen {
+            Some(seen) => Ok(seen.insert(file)?),
+            None => Ok(true),
+        }
+    }
+}
+
+/// Whether a file of a folder that came before, by another name, is kept.
+#[derive(Clone, Copy)]
+pub enum Repeats {
+    Kept,
+    PassedOver,
+}
+
+/// A name in a list of lines without the carriage return that may stand before the line feed.
+fn without_return(mut name: Vec<u8>) -> Vec<u8> {
+    if name.as_slice().ends_with(b"\r") {
+        name.truncate(name.len() - 1);
+    }
+    name
+}
+
+/// Adds the names in a list, each of which has this end. Blank lines are passed over. Names that
+/// came before an error stay.
+pub(crate) fn push_listed<R: Read + Drop>(
+    alloc: Global,
+    input: R,
+    end: LineEnd,
+    names: &mut Vec<Vec<u8>>,
+) -> io::Result<()> {
+    match end {
+        LineEnd::Null => push_names(alloc, input, 0, names),
+        LineEnd::LineFeed => {
+            for line in BufReader::new(alloc, input)?.split(alloc, b'\n') {
+                let name = without_return(line?);
+                if !name.is_empty() {
+                    names.push(name)?;
+                }
+            }
+            Ok(())
+        }
     }
 }
 
 /// Adds the names that a reader gives, each ended by this byte. Those that came before an error
 /// stay.
-pub(crate) fn push_names<R: Read + Drop>(
+fn push_names<R: Read + Drop>(
     alloc: Global,
     input: R,
     end: u8,
@@ -73,7 +161,7 @@ fn push_names_in<R: Files + AllocGlobal>(
 }
 
 /// Puts the files of these names in a folder before everything that waits, so that the first comes
-/// first.
+/// first. Hidden ones, whose names begin with a full stop, are left out.
 fn push_entries(
     alloc: Global,
     folder: &str,
@@ -81,7 +169,7 @@ fn push_entries(
     waiting: &mut Vec<CollectionFile>,
 ) -> Result<(), AllocError> {
     for name in names.iter().rev() {
-        if !matches!(name.as_slice(), b"." | b"..") {
+        if !name.as_slice().starts_with(b".") {
             waiting.push(file_in(alloc, folder.as_bytes(), name.as_slice())?)?;
         }
     }
@@ -106,42 +194,65 @@ fn open_folder<R: Files + AllocGlobal>(
 }
 
 /// Whether a file that waited is kept: it is a game file, was named itself, or has a name that is
-/// not UTF-8. The folder at its path is opened, unless it was visited already; one that cannot be
-/// read whole is kept as a file, which cannot be read either.
+/// not UTF-8. A pipe, a socket or a device is kept only if it was named. The folder at its path is
+/// opened, unless it was visited already; one that cannot be read whole is kept as a file, which
+/// cannot be read either.
 fn is_kept<R: Files + AllocGlobal>(
     rt: &R,
     file: &CollectionFile,
     is_named: bool,
-    folders: &mut BTreeSet<(u64, u64)>,
+    folders: &mut BTreeSet<Identity>,
     waiting: &mut Vec<CollectionFile>,
+    found: &mut FoundFiles,
 ) -> Result<bool, AllocError> {
     let CollectionFile::Input(Input::File(path)) = file else {
         return Ok(true);
     };
-    match folder_at(rt, path.as_str()) {
-        Some(folder) => Ok(folders.insert(folder)? && !open_folder(rt, path.as_str(), waiting)?),
-        None => Ok(is_named || is_game_file(path.as_str())),
+    match found_at(rt, path.as_str()) {
+        Found::Folder(folder) => {
+            Ok(folders.insert(folder)? && !open_folder(rt, path.as_str(), waiting)?)
+        }
+        Found::File(file) if is_named || is_game_file(path.as_str()) => {
+            Ok(found.is_new(file)? || is_named)
+        }
+        Found::Nothing => Ok(is_named || is_game_file(path.as_str())),
+        Found::File(_) | Found::Other => Ok(is_named),
+    }
+}
+
+/// A file that was named; `-` is standard input.
+fn file_named(alloc: Global, path: &[u8]) -> Result<CollectionFile, AllocError> {
+    if path == b"-".as_slice() {
+        Ok(CollectionFile::Input(Input::Standard))
+    } else {
+        file_in(alloc, b"", path)
     }
 }
 
 /// Adds the file at a path, or the game files below the folder there: those whose names end in
-/// `.efg` or `.nfg`, in upper or lower case, each folder ordered by the bytes of its names. No
-/// folder is visited twice, so links may lead anywhere. A name that is not UTF-8 may be that of a
-/// game file or of a folder, so it is added too.
+/// `.efg` or `.nfg`, in upper or lower case, each folder ordered by the bytes of its names. What is
+/// hidden, by a name that begins with a full stop, is passed over, unless it is named. No folder is
+/// visited twice, so links may lead anywhere. A name that is not UTF-8 may be that of a game file or
+/// of a folder, so it is added too. A folder below which nothing is added is without games.
 pub fn push_files<R: Files + AllocGlobal>(
     rt: &R,
     path: &[u8],
-    files: &mut Vec<CollectionFile>,
+    found: &mut FoundFiles,
 ) -> Result<(), AllocError> {
-    let mut waiting = vec![in rt.alloc(); file_in(rt.alloc(), b"", path)?]?;
-    let mut folders = BTreeSet::new(rt.alloc());
+    let alloc = rt.alloc();
+    let count = found.files.len();
+    let mut waiting = vec![in alloc; file_named(alloc, path)?]?;
+    let mut folders = BTreeSet::new(alloc);
     for turn in 0..u64::MAX {
         let Some(file) = waiting.pop() else {
             break;
         };
-        if is_kept(rt, &file, turn == 0, &mut folders, &mut waiting)? {
-            files.push(file)?;
+        if is_kept(rt, &file, turn == 0, &mut folders, &mut waiting, found)? {
+            found.files.push(file)?;
         }
+    }
+    if found.files.len() == count {
+        found.without_games.push(joined(alloc, &[path])?)?;
     }
     Ok(())
 }

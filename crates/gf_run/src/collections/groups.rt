@@ -2,8 +2,11 @@
 
 ghost use Rattle.std.specs.Prelude.{◌≡◌, List, [], ◌∷◌, ◌++◌, map, IfOk, OnOk};
 ghost use Rattle.gf_run.specs.Duplicates.{HashedFile, IsKeptOf, KeptNames};
-ghost use Rattle.gf_run.specs.Duplicates.{duplicates, empty_line, groups_text, name_lines};
+ghost use Rattle.gf_run.specs.Duplicates.{duplicates, empty_line, groups_text, name_line};
+ghost use Rattle.gf_run.specs.Duplicates.{name_lines};
 
+use crate::texts::name::{end_text, mark, push_name};
+use gf_words::LineEnd;
 use indexmap::IndexSet;
 use std::alloc::{AllocError, Global};
 use std::marker::Model;
@@ -27,27 +30,35 @@ impl<'a> Model for Groups<'a> {
     } };
 }
 
+/// Appends the line of a name.
+fn push_line(text: &mut Vec<u8>, name: &str, end: LineEnd) -> Result<(), AllocError>
+    ensures { OnOk result (text.new.items ≡ text.old.items ++ name_line end name.now) }
+{
+    text.extend_from_slice(mark(name, end))?;
+    push_name(text, name, end)?;
+    text.extend_from_slice(end_text(end))
+}
+
 /// Appends a line for each name.
-fn push_names(text: &mut Vec<u8>, names: &[&str]) -> Result<(), AllocError>
+fn push_names(text: &mut Vec<u8>, names: &[&str], end: LineEnd) -> Result<(), AllocError>
     ensures { OnOk result (text.new.items ≡ text.old.items
-        ++ name_lines (map (λ name. name.now) names.now)) }
+        ++ name_lines end (map (λ name. name.now) names.now)) }
 {
     for name in names {
-        text.extend_from_slice(name.as_bytes())?;
-        text.push(b'\n')?;
+        push_line(text, name, end)?;
     }
     Ok(())
 }
 
 /// Appends a line for each name, after an empty line unless the text is empty.
-fn push_group(text: &mut Vec<u8>, names: &[&str]) -> Result<(), AllocError>
+fn push_group(text: &mut Vec<u8>, names: &[&str], end: LineEnd) -> Result<(), AllocError>
     ensures { OnOk result (text.new.items ≡ text.old.items
-        ++ empty_line text.old.items ++ name_lines (map (λ name. name.now) names.now)) }
+        ++ empty_line end text.old.items ++ name_lines end (map (λ name. name.now) names.now)) }
 {
     if !text.is_empty() {
-        text.push(b'\n')?;
+        text.extend_from_slice(end_text(end))?;
     }
-    push_names(text, names)
+    push_names(text, names, end)
 }
 
 impl<'a> Groups<'a> {
@@ -76,14 +87,14 @@ impl<'a> Groups<'a> {
 
     /// The names of each group of two files or more, a line for each, with an empty line between
     /// two groups.
-    pub fn text(&self, alloc: Global) -> Result<Vec<u8>, AllocError>
+    pub fn text(&self, alloc: Global, end: LineEnd) -> Result<Vec<u8>, AllocError>
         ensures { IfOk result (λ text. (files : List HashedFile) → IsKeptOf files self.now
-            → text.items ≡ groups_text (duplicates files)) }
+            → text.items ≡ groups_text end (duplicates files)) }
     {
         let mut text = Vec::new(alloc);
         for group in &self.names {
             if group.len() > 1 {
-                push_group(&mut text, group.as_slice())?;
+                push_group(&mut text, group.as_slice(), end)?;
             }
         }
         Ok(text)

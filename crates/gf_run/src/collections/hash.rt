@@ -7,8 +7,9 @@ ghost use Rattle.gf_run.specs.Run.{RunsHash};
 use crate::fault::{RunFault, Which, refused};
 use crate::streams::sink::{Sink, push_all};
 use crate::streams::source::{Source, load};
-use crate::texts::joined::joined;
+use crate::texts::name::{end_text, mark, push_name};
 use gf_canon::{Names, canonical_text, sha256_of};
+use gf_words::LineEnd;
 use std::alloc::{AllocError, Global};
 
 /// The hash of these bytes' canonical text: SHA-256 (FIPS 180-4).
@@ -41,15 +42,23 @@ pub fn read_hash<R: Source>(
 
 /// The line of a hash: in hexadecimal, two spaces and the name of the file, as `sha256sum` writes
 /// it.
-fn hash_line(alloc: Global, name: &str, hash: [u8; 32]) -> Result<Vec<u8>, AllocError>
-    ensures { IfOk result (λ line. line.items ≡ hash_line name.now hash) }
+fn hash_line(alloc: Global, name: &str, end: LineEnd, hash: [u8; 32]) -> Result<Vec<u8>, AllocError>
+    ensures { IfOk result (λ line. line.items ≡ hash_line end name.now hash) }
 {
     let digits = hex::encode(alloc, hash)?;
-    joined(alloc, &[digits.as_bytes(), b"  ", name.as_bytes(), b"\n"])
+    let mut line = Vec::new(alloc);
+    line.extend_from_slice(mark(name, end))?;
+    line.extend_from_slice(digits.as_bytes())?;
+    line.extend_from_slice(b"  ")?;
+    push_name(&mut line, name, end)?;
+    line.extend_from_slice(end_text(end))?;
+    Ok(line)
 }
 
 /// Writes the hash of the canonical text of the file that it reads, with names or without, and the
-/// name: `HEX  NAME` and a line feed.
+/// name, as `sha256sum` does: `HEX  NAME` and a line feed. If the name has a line feed, a carriage
+/// return or a backslash, these are written `\\n`, `\\r` and `\\\\`, and the line begins with a
+/// backslash. With `LineEnd::Null` the line ends with NUL, and the name stands as it is.
 ///
 /// The input is read whole before it is judged. Before any fault except `Write`, nothing is asked
 /// of the output.
@@ -63,13 +72,14 @@ pub fn run_hash<R: Source, W: Sink>(
     input: &mut R,
     name: &str,
     names: Names,
+    end: LineEnd,
     output: &mut W,
 ) -> Result<(), RunFault>
-    ensures { RunsHash R.reader W.writer names name.now result input.old input.new
+    ensures { RunsHash R.reader W.writer names end name.now result input.old input.new
         output.old output.new }
 {
     let hash = read_hash(alloc, input, names)?;
-    let line = hash_line(alloc, name, hash)?;
+    let line = hash_line(alloc, name, end, hash)?;
     push_all(output, line.as_slice())?;
     Ok(())
 }

@@ -4,18 +4,18 @@ ghost use Rattle.std.specs.Prelude.{◌≡◌, ◌∷◌, [], IfOk};
 ghost use Rattle.gf_run.specs.Collected.{ArePathsOpened, IsListOpened, IsOfPaths};
 
 use crate::collections::file::CollectionFile;
-use crate::collections::folders::{is_whole, push_files, push_names};
+use crate::collections::folders::{FoundFiles, Repeats, is_whole, push_files, push_listed};
 use crate::fault::{RunFault, Which};
 use crate::opening::inputs::{Inputs, open_input};
-use gf_words::{Input, Paths};
+use gf_words::{Input, LineEnd, Paths};
 use std::rt::Files;
 
-/// The names in a list, each of which ends with this byte; the last one may end with the list.
+/// The names in a list, each of which has this end; the last one may end with the list.
 fn names_in<R: AllocGlobal, I: Inputs>(
     rt: &R,
     inputs: &mut I,
     list: &Input,
-    end: u8,
+    end: LineEnd,
 ) -> Result<Vec<Vec<u8>>, RunFault>
     ensures { IsListOpened I.opener list.now inputs.old inputs.new }
 {
@@ -24,49 +24,53 @@ fn names_in<R: AllocGlobal, I: Inputs>(
         Err(_) => return Err(RunFault::Read(Which::Only)),
     };
     let mut names = Vec::new(rt.alloc());
-    if is_whole(push_names(rt.alloc(), input, end, &mut names))? {
+    if is_whole(push_listed(rt.alloc(), input, end, &mut names))? {
         Ok(names)
     } else {
         Err(RunFault::Read(Which::Only))
     }
 }
 
-/// The files that paths lead to, in their order.
+/// The files that the paths in a list lead to, in their order.
 fn files_below<R: Files + AllocGlobal>(
     rt: &R,
     paths: &[Vec<u8>],
-) -> Result<Vec<CollectionFile>, RunFault> {
-    let mut files = Vec::new(rt.alloc());
+    repeats: Repeats,
+) -> Result<FoundFiles, RunFault> {
+    let mut found = FoundFiles::new(rt.alloc(), repeats);
     for path in paths {
-        push_files(rt, path.as_slice(), &mut files)?;
+        push_files(rt, path.as_slice(), &mut found)?;
     }
-    Ok(files)
+    Ok(found)
 }
 
 /// The files that paths in words lead to, in their order.
 fn files_named<R: Files + AllocGlobal>(
     rt: &R,
     paths: &[String],
-) -> Result<Vec<CollectionFile>, RunFault> {
-    let mut files = Vec::new(rt.alloc());
+    repeats: Repeats,
+) -> Result<FoundFiles, RunFault> {
+    let mut found = FoundFiles::new(rt.alloc(), repeats);
     for path in paths {
-        push_files(rt, path.as_bytes(), &mut files)?;
+        push_files(rt, path.as_bytes(), &mut found)?;
     }
-    Ok(files)
+    Ok(found)
 }
 
 /// Standard input alone.
-fn standard_input<R: AllocGlobal>(rt: &R) -> Result<Vec<CollectionFile>, RunFault>
-    ensures { IfOk result (λ files. files.items ≡ CollectionFile.Input Input.Standard ∷ []) }
+fn standard_input<R: AllocGlobal>(rt: &R) -> Result<FoundFiles, RunFault>
+    ensures { IfOk result (λ found. found.files.items ≡ CollectionFile.Input Input.Standard ∷ []) }
 {
-    let mut files = Vec::with_capacity(rt.alloc(), 1)?;
-    files.push_reserved(CollectionFile::Input(Input::Standard));
-    Ok(files)
+    let mut found = FoundFiles::new(rt.alloc(), Repeats::Kept);
+    match found.files.push(CollectionFile::Input(Input::Standard)) {
+        Ok(()) => Ok(found),
+        Err(_) => Err(RunFault::Memory),
+    }
 }
 
 /// The files of a collection, in the order of their paths. For a folder these are the game files
 /// below it, each folder ordered by the bytes of its names; a folder that cannot be read whole is
-/// kept as a file.
+/// kept as a file. `repeats` says whether a file is kept that a folder has by two names.
 ///
 /// # Errors
 ///
@@ -76,16 +80,17 @@ pub fn files_at<R: Files + AllocGlobal, I: Inputs>(
     rt: &R,
     inputs: &mut I,
     paths: &Paths,
-) -> Result<Vec<CollectionFile>, RunFault>
+    repeats: Repeats,
+) -> Result<FoundFiles, RunFault>
     ensures opened { ArePathsOpened I.opener paths.now inputs.old inputs.new }
-    ensures files { IfOk result (λ files. IsOfPaths paths.now files.items) }
+    ensures files { IfOk result (λ found. IsOfPaths paths.now found.files.items) }
 {
     match paths {
         Paths::Standard => standard_input(rt),
-        Paths::Named(names) => files_named(rt, names.as_slice()),
+        Paths::Named(names) => files_named(rt, names.as_slice(), repeats),
         Paths::List { list, end } => {
             let names = names_in(rt, inputs, list, *end)?;
-            files_below(rt, names.as_slice())
+            files_below(rt, names.as_slice(), repeats)
         }
     }
 }

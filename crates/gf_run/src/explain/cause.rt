@@ -25,9 +25,16 @@ impl Cause {
 
 /// What the system says about a fault of a run over this source and this output.
 pub fn cause_of<S: LastError, W: LastError>(fault: &RunFault, source: &S, output: &W) -> Cause {
+    match fault {
+        RunFault::Write => Cause::Transfer(output.last_error()),
+        _ => cause_of_source(fault, source),
+    }
+}
+
+/// The same of a run that has no output.
+pub fn cause_of_source<S: LastError>(fault: &RunFault, source: &S) -> Cause {
     Cause::Transfer(match fault {
         RunFault::Read(_) => source.last_error(),
-        RunFault::Write => output.last_error(),
-        RunFault::Refused { .. } | RunFault::Form(_) | RunFault::Memory => None,
+        _ => None,
     })
 }

@@ -2,7 +2,8 @@
 
 ghost use Rattle.gf_run.specs.Performs.{Performs};
 
-use crate::collections::collection::{perform_duplicates, perform_hash};
+use crate::collections::collection::{perform_duplicates, perform_lines};
+use crate::collections::line::FileLine;
 use crate::collections::progress::Progress;
 use crate::jobs::one_file::{perform_canon, perform_check, perform_table};
 use crate::jobs::two_files::perform_same;
@@ -21,7 +22,8 @@ use std::rt::Files;
 /// - `Table`: `run_table`, or `run_table_reduced`.
 /// - `Same`: `run_same_map` if `map` is true, otherwise `run_same_by`. The first file is opened, and
 ///   then the second, before either is read.
-/// - `Hash`: `run_hash` for each file of the collection, as `run_hashes` says.
+/// - `CheckAll`: `run_kind` for each file of the collection, as `run_lines` says.
+/// - `Hash`: `run_hash` for each file of the collection, likewise.
 /// - `Duplicates`: `run_duplicates`.
 ///
 /// The status is 0, or 1 if two files are compared and differ, or if some files of a collection are
@@ -64,7 +66,19 @@ pub fn perform<R: Files + AllocGlobal, I: Inputs, P: Progress, W: Sink + LastErr
             let (a, b) = (a.as_str(), b.as_str());
             perform_same(alloc, inputs, a, b, *map, *names, explain, output, errors)
         }
-        Job::Hash(files) => perform_hash(rt, inputs, files, progress, output, errors),
-        Job::Duplicates(files) => perform_duplicates(rt, inputs, files, progress, output, errors),
+        Job::CheckAll(files) => {
+            let line = FileLine::Kind;
+            perform_lines(rt, inputs, files, line, explain, progress, output, errors)
+        }
+        Job::Hash { files, names, end } => {
+            let line = FileLine::Hash(*names, *end);
+            perform_lines(rt, inputs, files, line, explain, progress, output, errors)
+        }
+        Job::Duplicates { files, names, end } => {
+            let (names, end) = (*names, *end);
+            perform_duplicates(
+                rt, inputs, files, names, end, explain, progress, output, errors,
+            )
+        }
     }
 }

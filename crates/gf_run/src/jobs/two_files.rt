@@ -10,7 +10,7 @@ use crate::explain::cause::cause_of;
 use crate::fault::{RunFault, Which, answer_status, is_of_second};
 use crate::jobs::ending::{tell_of_file, tell_unopened};
 use crate::jobs::run_of_two::{run_same_by, run_same_map};
-use crate::opening::inputs::Inputs;
+use crate::opening::inputs::{Inputs, open_named};
 use crate::streams::kept::Kept;
 use crate::streams::last_error::LastError;
 use crate::streams::sink::Sink;
@@ -81,11 +81,11 @@ pub fn perform_same<I: Inputs, W: Sink + LastError, E: Sink>(
         (RunsComparison (kept_reader I.Opened.reader) W.writer map names) a.now b.now result
         inputs.old inputs.new output.old output.new errors.old errors.new }
 {
-    let first = match inputs.open(a) {
+    let first = match open_named(inputs, a) {
         Ok(first) => first,
         Err(error) => return tell_unopened(alloc, Which::First, error, a, explain, errors),
     };
-    let second = match inputs.open(b) {
+    let second = match open_named(inputs, b) {
         Ok(second) => second,
         Err(error) => return tell_unopened(alloc, Which::Second, error, b, explain, errors),
     };

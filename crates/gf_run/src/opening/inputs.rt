@@ -1,6 +1,6 @@
 //! How the inputs of a job are opened.
 
-ghost use Rattle.gf_run.specs.Opening.{IsNotOpened, IsOpened, Opener};
+ghost use Rattle.gf_run.specs.Opening.{IsNotOpened, IsOpened, Opener, Opens};
 ghost use Rattle.std.specs.Prelude.{◌≡◌, MatchResult};
 
 use crate::streams::last_error::LastError;
@@ -23,6 +23,17 @@ pub trait Inputs {
     /// Opens the file of this name. A folder can be opened, and its first read fails.
     fn open(&mut self, name: &str) -> Result<Self::Opened, io::Error>
         ensures { opener.file self.old name.now result self.new };
+}
+
+/// Opens what a word names; `-` is standard input.
+pub fn open_named<I: Inputs>(inputs: &mut I, name: &str) -> Result<I::Opened, io::Error>
+    ensures { Opens I.opener name.now inputs.old result inputs.new }
+{
+    if name == "-" {
+        Ok(inputs.standard())
+    } else {
+        inputs.open(name)
+    }
 }
 
 /// Opens an input.

@@ -1,10 +1,11 @@
-use Rattle.std.proofs.Common.{refl}
 use Rattle.gf_run.specs.Collected.{found, unlisted}
+use Rattle.std.proofs.Common.{refl}
 use Rattle.gf_run.proofs.collections.collection.perform_duplicates.Goals as goal
 
 pub returns-in-Ok : goal.returns-in-Ok
-returns-in-Ok g c = found c.in-Ok.files.items c.files_at.new.inputs c.in-Ok.ensures.opened
-    c.in-Ok.ensures.files (rw c.as_slice.ensures.value at c.run_duplicates.ensures)
+returns-in-Ok g c = found c.in-Ok.found.files.items c.files_at.new.inputs
+    c.tell_without_games.new.errors c.in-Ok.ensures.opened c.in-Ok.ensures.files
+    c.tell_without_games.ensures (rw c.as_slice-files.ensures.value at c.run_duplicates.ensures)
 
 pub returns-in-Err : goal.returns-in-Err
 returns-in-Err g c =

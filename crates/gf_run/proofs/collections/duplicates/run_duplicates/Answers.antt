@@ -44,6 +44,7 @@ returns-in-Err g c =
     c.loop-file-test.true c.file-item.is) (inl (
       out.1.0,
       out.1.1,
+      out.1.2,
       record {
         unwritten = refl;
         told = rw out.0 at c.tell.ensures.told;

@@ -11,10 +11,10 @@ returns-in-Ok-push_all g c = λ files is.
     let text = c.in-Ok.ensures files is in
     let status : c.if-len-gt0.max ≡ groups_status (duplicates files) = elim c.if-len-gt0.branch [
       | then-len-gt0 w ↦ w.max-is
-          ∙ status_of_some (map names_of (groups_of files)) c.in-Ok.text.items
+          ∙ status_of_some c.args.end (map names_of (groups_of files)) c.in-Ok.text.items
           text (omega (arith, w.if-len-gt0.true, c.len.ensures, c.in-Ok.text.ok.0))
       | else-len-gt0 w ↦ w.max-is
-          ∙ status_of_none (map names_of (groups_of files)) c.in-Ok.text.items
+          ∙ status_of_none c.args.end (map names_of (groups_of files)) c.in-Ok.text.items
           text (omega (arith, w.if-len-gt0.false, c.len.ensures, c.in-Ok.text.ok.0))
     ] in
     written (subst

@@ -5,7 +5,7 @@ use Rattle.gf_run.proofs.Hashed.{of_hash, unhashed}
 use Rattle.gf_run.proofs.collections.hash.run_hash.Goals as goal
 
 pub returns-in_err-hash : goal.returns-in_err-hash
-returns-in_err-hash g c = unhashed _ _ _ _ _ _ _ _ _ (is_error _ _ c.from_residual.ensures.1)
+returns-in_err-hash g c = unhashed _ _ _ _ _ _ _ _ _ _ (is_error _ _ c.from_residual.ensures.1)
     c.in_err-hash.ensures
 
 pub returns-in_err-line : goal.returns-in_err-line

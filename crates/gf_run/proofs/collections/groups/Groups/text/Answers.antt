@@ -13,15 +13,15 @@ loop-group-preserved c =
     (sym c.deref-group-items.ensures.value) in
     let size = length-map c.group-item.result.items (λ name. name.now) in
     elim c.if-len-gt1.branch [
-      | then-len-gt1+in_ok-push_group w ↦ with_item (λ group. map (λ name. name.now) group.items)
+      | then-len-gt1+in_ok-push_group w ↦ with_item c.args.end (λ group. map (λ name. name.now) group.items)
           c.deref-group-items.result.now c.args.self.now.names are c.loop-group.group-index
           c.group-item.result c.loop-group-test.true c.group-item.is c.loop-group.text.items
           c.loop-group.invariant
           (omega (arith, w.if-len-gt1.true, c.len.ensures, size, c.group-item.result.ok.0))
           _ (ap (λ t. t.items) w.text-is ∙ w.in_ok-push_group.ensures
-          ∙ ap (λ l. c.loop-group.text.items ++ empty_line c.loop-group.text.items
-          ++ name_lines (map (λ name. name.now) l)) w.as_slice.ensures.value)
-      | else-len-gt1 w ↦ without_item (λ group. map (λ name. name.now) group.items)
+          ∙ ap (λ l. c.loop-group.text.items ++ empty_line c.args.end c.loop-group.text.items
+          ++ name_lines c.args.end (map (λ name. name.now) l)) w.as_slice.ensures.value)
+      | else-len-gt1 w ↦ without_item c.args.end (λ group. map (λ name. name.now) group.items)
           c.deref-group-items.result.now c.args.self.now.names are c.loop-group.group-index
           c.group-item.result c.loop-group-test.true c.group-item.is c.loop-group.text.items
           c.loop-group.invariant
@@ -35,7 +35,7 @@ returns c = λ files is.
     ∙ ap (λ l. map (λ group. map (λ name. name.now) group.items) l)
     (sym c.deref-group-items.ensures.value) in
     c.loop-group.invariant
-    ∙ ap (λ (gs : List (List (List ℕ))). groups_text (filter has_two gs))
+    ∙ ap (λ (gs : List (List (List ℕ))). groups_text c.args.end (filter has_two gs))
     (take_all c.loop-group.group-index c.args.self.now.names
     (omega (
       arith,

@@ -5,4 +5,4 @@ use Rattle.gf_run.proofs.collections.groups.Groups.text.Given as goal
 -- the text so far is that of the groups so far
 abbrev pub invariant-loop-group : goal.invariant-loop-group
 invariant-loop-group l =
-    l.text.items ≡ groups_text (filter has_two (take l.group-index l.self.names))
+    l.text.items ≡ groups_text l.end (filter has_two (take l.group-index l.self.names))
