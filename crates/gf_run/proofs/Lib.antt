@@ -13,5 +13,6 @@ pub mod MoreWritten
 pub mod OneGroup
 pub mod Places
 pub mod Runs
+pub mod ShownTexts
 pub mod TwoFiles
 pub mod WeakerRequests

@@ -8,6 +8,7 @@ use Rattle.gf_words.specs.declared.job.Input.{Input}
 use Rattle.gf_words.specs.declared.job.Input.TheVariants as input
 use Rattle.gf_run.specs.FaultLine.{fault_line, short_line}
 use Rattle.gf_run.specs.Place.{IsPlaceAfter}
+use Rattle.gf_run.specs.Shown.{IsShown, shown_name}
 use Rattle.gf_run.specs.declared.explain.place.Place.{Place}
 use Rattle.gf_run.specs.declared.fault.RunFault.{RunFault}
 use Rattle.gf_run.specs.declared.fault.RunFault.TheVariants.{Refused}
@@ -34,11 +35,12 @@ IsHead (Refused which fault) name bytes text = IsWhere fault name bytes text
 IsHead fault name bytes text = text ≡ []
 
 -- an explanation of a fault of the file with this name and these bytes: its first line has the
--- place, and then the line of the fault
+-- place, and then the line of the fault. No control characters of the name or the file are shown.
 pub record IsExplained (fault : RunFault) (name bytes text : List ℕ) : Type 0 where
   pub head : List ℕ
   pub rest : List ℕ
-  pub is_head : IsHead fault name bytes head
+  pub is_head : IsHead fault (shown_name name) bytes head
+  pub is_shown : IsShown rest
   pub is_text : text ≡ head ++ short_line fault ++ codes ": " ++ rest
 
 -- what an input is called in an explanation

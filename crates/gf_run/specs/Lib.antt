@@ -29,5 +29,6 @@ pub mod Run
 pub mod RunOfTwo
 pub mod SameFaults
 pub mod SameText
+pub mod Shown
 pub mod Streams
 pub mod Turns

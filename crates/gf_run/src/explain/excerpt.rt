@@ -1,7 +1,7 @@
 //! The line of a file that a fault is about, with marks under the place.
 
 use crate::explain::place::Place;
-use crate::explain::shown::{Part, push_line};
+use crate::explain::shown::{Part, ShownText, push_line, takes_columns};
 use gf_token::Span;
 use itoa::Buffer;
 use std::alloc::AllocError;
@@ -11,6 +11,9 @@ const WIDTH: usize = 80;
 
 /// How many of them, at most, come before the place if as many come after it.
 const HALF: usize = 40;
+
+/// The bytes of the longest character.
+const LONGEST: usize = 4;
 
 /// What is shown of a line.
 #[derive(Clone, Copy)]
@@ -35,25 +38,58 @@ fn first_line(bytes: &[u8]) -> &[u8] {
     bytes
 }
 
+/// Whether a byte is one of a character that began before it.
+fn is_inside(byte: u8) -> bool {
+    byte & 0xc0 == 0x80
+}
+
+/// At most this many bytes from the front, which end with a whole character.
+pub fn front_of(bytes: &[u8], most: usize) -> &[u8] {
+    if bytes.len() <= most {
+        return bytes;
+    }
+    for less in 0..LONGEST {
+        let end = most.saturating_sub(less);
+        if !is_inside(bytes[end]) {
+            return &bytes[..end];
+        }
+    }
+    &bytes[..most]
+}
+
+/// At most this many bytes at the end, which begin with a whole character.
+fn back_of(bytes: &[u8], most: usize) -> &[u8] {
+    if bytes.len() <= most {
+        return bytes;
+    }
+    let first = bytes.len() - most;
+    for start in first..bytes.len().min(first.saturating_add(LONGEST)) {
+        if !is_inside(bytes[start]) {
+            return &bytes[start..];
+        }
+    }
+    &bytes[first..]
+}
+
 /// What is shown of the line in which a place of this many bytes begins, given what comes before
 /// the place in the line, and the rest of the line.
 fn cut<'a>(before: &'a [u8], rest: &'a [u8], marked: usize) -> Excerpt<'a> {
     let most_before = WIDTH - rest.len().min(HALF);
-    let kept_before = before.len().min(most_before);
-    let kept = rest.len().min(WIDTH - kept_before);
-    let (marked, after) = rest[..kept].split_at(marked.min(kept));
+    let kept_before = back_of(before, most_before);
+    let kept = front_of(rest, WIDTH - before.len().min(most_before));
+    let (marked, after) = kept.split_at(marked.min(kept.len()));
     Excerpt {
-        before: &before[before.len() - kept_before..],
+        before: kept_before,
         marked,
         after,
-        cut_before: kept_before < before.len(),
-        cut_after: kept < rest.len(),
+        cut_before: kept_before.len() < before.len(),
+        cut_after: kept.len() < rest.len(),
     }
 }
 
 /// Appends the line of a place in a file, after its number, and marks under the place.
 pub fn push_excerpt(
-    text: &mut String,
+    text: &mut ShownText,
     bytes: &[u8],
     span: Span,
     place: Place,
@@ -71,11 +107,11 @@ pub fn push_excerpt(
 
 /// Appends what is shown of a line, after its number, and marks under the place.
 fn push_lines<'a>(
-    text: &mut String,
+    text: &mut ShownText,
     number: &'a [u8],
     excerpt: &Excerpt<'a>,
 ) -> Result<(), AllocError> {
-    let no_mark = excerpt.marked.is_empty();
+    let has_marks = takes_columns(excerpt.marked);
     push_line(
         text,
         &[
@@ -103,7 +139,7 @@ fn push_lines<'a>(
                 b" | "
             }),
             Part::Marks(excerpt.before, ' '),
-            Part::Marks(if no_mark { b"^" } else { excerpt.marked }, '^'),
+            Part::Marks(if has_marks { excerpt.marked } else { b"^" }, '^'),
         ],
     )
 }

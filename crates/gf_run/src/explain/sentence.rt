@@ -1,7 +1,8 @@
-//! What is wrong with a file, in a sentence, and how to mend it. The sentences that name no token
-//! are those of library/gamefile.c.
+//! What is wrong with a file, in a sentence. The sentences that name no token are those of
+//! library/gamefile.c.
 
-use crate::explain::shown::{Part, push_line};
+use crate::explain::excerpt::front_of;
+use crate::explain::shown::{Part, ShownText, push_line};
 use gf_form::FormFault;
 use gf_token::{What, Why};
 use itoa::Buffer;
@@ -48,23 +49,13 @@ fn about_number(why: Why) -> Sentence {
         Why::NegativeProbability => Sentence::Plain("a probability cannot be negative"),
         Why::SumAboveOne => Sentence::Plain("the probabilities add up to more than 1"),
         Why::SumBelowOne => Sentence::Plain("the probabilities add up to less than 1"),
-        _ => Sentence::Plain("the sum of these probabilities needs more than 127 bits"),
+        _ => Sentence::Plain("the sum of these probabilities cannot be worked out within 127 bits"),
     }
 }
 
-/// The sentence of a fault in a file; for a fault in a number, that of `about_number`.
-fn sentence_of(why: Why, found: &[u8]) -> Sentence {
+/// The sentence of a fault in a use or a description; for any other, that of `about_number`.
+fn about_use(why: Why, found: &[u8]) -> Sentence {
     match why {
-        Why::TooLong => Sentence::Plain(
-            "the file is larger than 16,777,216 bytes, the largest size that gamefile reads",
-        ),
-        Why::Unterminated => Sentence::Plain("this quotation mark is never closed"),
-        Why::Expected(what) => Sentence::Naming(expectation(what), ""),
-        Why::BadIndex => Sentence::Naming(
-            "",
-            " is not a valid number here: expected a whole number from 1 to 4,294,967,295 (from 0 for \
-            an outcome)",
-        ),
         Why::UnknownPlayer => {
             if found == b"p".as_slice() {
                 Sentence::Plain("this game has no players, so it cannot have a player's node")
@@ -83,25 +74,40 @@ fn sentence_of(why: Why, found: &[u8]) -> Sentence {
             "this list is empty: a player needs at least one strategy, an information set at least \
             one action",
         ),
-        Why::UnknownOutcome => {
-            Sentence::Naming(
-                "there is no outcome ",
-                ": the file describes fewer outcomes",
-            )
-        }
+        Why::UnknownOutcome => Sentence::Naming(
+            "there is no outcome ",
+            ": the file describes fewer outcomes",
+        ),
+        why => about_number(why),
+    }
+}
+
+/// The sentence of a fault in a file.
+fn sentence_of(why: Why, found: &[u8]) -> Sentence {
+    match why {
+        Why::TooLong => Sentence::Plain(
+            "the file is larger than 16,777,216 bytes, the largest size that the program reads",
+        ),
+        Why::Unterminated => Sentence::Plain("this quotation mark is never closed"),
+        Why::Expected(what) => Sentence::Naming(expectation(what), ""),
+        Why::BadIndex => Sentence::Naming(
+            "",
+            " is not a valid number here: expected a whole number from 1 to 4,294,967,295 (from 0 for \
+            an outcome)",
+        ),
         Why::TooManyProfiles => {
             Sentence::Plain("the table would have more than 1,048,576 strategy profiles")
         }
         Why::Memory => Sentence::Plain("out of memory"),
-        why => about_number(why),
+        why => about_use(why, found),
     }
 }
 
 /// What a sentence shows of a token, between what stands before and after that. At the end of the
 /// file there is no token.
 fn named(token: &[u8]) -> [&[u8]; 3] {
-    let front = &token[..MOST.min(token.len())];
-    let is_cut = MOST < token.len();
+    let front = front_of(token, MOST);
+    let is_cut = front.len() < token.len();
     if token.is_empty() {
         [b"the end of the file", front, b""]
     } else if token.starts_with(b"\"") {
@@ -111,10 +117,15 @@ fn named(token: &[u8]) -> [&[u8]; 3] {
     }
 }
 
+/// Appends a line of these words.
+pub fn push_words(text: &mut ShownText, words: &str) -> Result<(), AllocError> {
+    push_line(text, &[Part::Shown(words.as_bytes())])
+}
+
 /// Appends what is wrong at the token that was found.
-pub fn push_sentence(text: &mut String, why: Why, found: &[u8]) -> Result<(), AllocError> {
+pub fn push_sentence(text: &mut ShownText, why: Why, found: &[u8]) -> Result<(), AllocError> {
     match sentence_of(why, found) {
-        Sentence::Plain(words) => push_line(text, &[Part::Shown(words.as_bytes())]),
+        Sentence::Plain(words) => push_words(text, words),
         Sentence::Naming(before, after) => {
             let [opening, token, closing] = named(found);
             push_line(
@@ -132,11 +143,12 @@ pub fn push_sentence(text: &mut String, why: Why, found: &[u8]) -> Result<(), Al
 }
 
 /// Appends why a game has no table.
-pub fn push_form(text: &mut String, fault: &FormFault) -> Result<(), AllocError> {
+pub fn push_form(text: &mut ShownText, fault: &FormFault) -> Result<(), AllocError> {
     match fault {
-        FormFault::TooManyProfiles => {
-            text.push_str("the strategic form has more than 1,048,576 strategy profiles\n")
-        }
+        FormFault::TooManyProfiles => push_words(
+            text,
+            "the strategic form has more than 1,048,576 strategy profiles",
+        ),
         FormFault::Overflow { profile } => {
             let mut buffer = Buffer::new();
             push_line(
@@ -144,56 +156,10 @@ pub fn push_form(text: &mut String, fault: &FormFault) -> Result<(), AllocError>
                 &[
                     Part::Shown(b"the expected payoffs at profile "),
                     Part::Shown(buffer.format(*profile).as_bytes()),
-                    Part::Shown(b" need numbers of more than 127 bits"),
+                    Part::Shown(b" cannot be worked out within 127 bits"),
                 ],
             )
         }
-        FormFault::Memory => text.push_str("out of memory\n"),
-    }
-}
-
-/// Whether a token looks like a number.
-fn is_numeric(token: &[u8]) -> bool {
-    match token.first() {
-        Some(byte) => byte.is_ascii_digit() || *byte == b'-' || *byte == b'+' || *byte == b'.',
-        None => false,
-    }
-}
-
-/// A hint about a token in the place of something else.
-fn hint_at(what: What, found: &[u8]) -> Option<&'static str> {
-    match what {
-        What::Format if found.starts_with(b"\xef\xbb\xbf") => {
-            Some("the file begins with a byte order mark; save it as UTF-8 without one")
-        }
-        What::Closing if is_numeric(found) => {
-            Some("a list of payoffs, or of numbers of strategies, has one for each player")
-        }
-        What::Number if found == b",".as_slice() => Some(
-            "commas may follow only payoffs in braces",
-        ),
-        What::Node if found.is_empty() => {
-            Some("the tree is incomplete: each action needs a subtree")
-        }
-        What::Node => Some("each action needs a subtree"),
-        What::End => Some("the game is already complete here"),
-        _ => None,
-    }
-}
-
-/// How to mend a file.
-pub fn hint(why: Why, found: &[u8]) -> Option<&'static str> {
-    match why {
-        Why::Unterminated => Some(
-            "a quotation mark inside a label is written \\\" ; a label cannot end in a backslash",
-        ),
-        Why::Expected(what) => hint_at(what, found),
-        Why::NotANumber => Some("write 3, -0.5, 1e-3 or 1/3"),
-        Why::NumberTooLarge => Some(
-            "numerators and denominators have at most 127 bits; at most 38 digits after the point",
-        ),
-        Why::Mismatch => Some("repeat it exactly, or leave it out"),
-        Why::SumBelowOne => Some("probabilities are exact: write 1/3 rather than 0.333"),
-        _ => None,
+        FormFault::Memory => push_words(text, "out of memory"),
     }
 }

@@ -4,10 +4,13 @@ ghost use Rattle.std.specs.Prelude.{◌≡◌, IfOk};
 ghost use Rattle.gf_run.specs.Explained.{IsExplained, IsHead, IsWhere, placed_text, unplaced_text};
 
 use crate::explain::cause::Cause;
+use crate::explain::context::context_of;
 use crate::explain::excerpt::push_excerpt;
+use crate::explain::hint::push_hint;
+use crate::explain::mistake::{Refusal, mistake_of};
 use crate::explain::place::{Place, place_after};
-use crate::explain::sentence::{hint, push_form, push_sentence};
-use crate::explain::shown::{Part, push_line};
+use crate::explain::sentence::{push_form, push_sentence, push_words};
+use crate::explain::shown::{Part, ShownText, push_line, shown_name};
 use crate::fault::RunFault;
 use crate::texts::joined::joined;
 use crate::texts::report::short_line_of;
@@ -64,7 +67,7 @@ fn head_of(alloc: Global, fault: &RunFault, name: &str, bytes: &[u8]) -> Result<
 }
 
 /// Appends what is wrong with a file, the line of the place, and a hint.
-fn push_refusal(text: &mut String, fault: &Fault, bytes: &[u8]) -> Result<(), AllocError> {
+fn push_refusal(text: &mut ShownText, fault: &Fault, bytes: &[u8]) -> Result<(), AllocError> {
     let start = fault.span.start.min(bytes.len());
     let end = fault.span.end.min(bytes.len()).max(start);
     let found = &bytes[start..end];
@@ -72,11 +75,15 @@ fn push_refusal(text: &mut String, fault: &Fault, bytes: &[u8]) -> Result<(), Al
     if fault.why != Why::TooLong {
         push_excerpt(text, bytes, fault.span, place_after(&bytes[..start]))?;
     }
-    match hint(fault.why, found) {
-        Some(words) => push_line(
-            text,
-            &[Part::Shown(b"  hint: "), Part::Shown(words.as_bytes())],
-        ),
+    let before = &bytes[..start];
+    let refusal = Refusal {
+        why: fault.why,
+        found,
+        before,
+        context: context_of(before),
+    };
+    match mistake_of(&refusal) {
+        Some(mistake) => push_hint(text, &mistake),
         None => Ok(()),
     }
 }
@@ -84,7 +91,7 @@ fn push_refusal(text: &mut String, fault: &Fault, bytes: &[u8]) -> Result<(), Al
 /// Appends what failed, and what the system says about that, if it says anything.
 fn push_failed(
     alloc: Global,
-    text: &mut String,
+    text: &mut ShownText,
     words: &str,
     name: &str,
     error: &Option<io::Error>,
@@ -110,7 +117,7 @@ fn push_failed(
 /// Appends what comes after the line of a fault.
 fn push_rest(
     alloc: Global,
-    text: &mut String,
+    text: &mut ShownText,
     fault: &RunFault,
     cause: &Cause,
     name: &str,
@@ -129,7 +136,7 @@ fn push_rest(
             push_failed(alloc, text, "cannot write the output", "", &cause.error())
         }
         RunFault::Form(fault) => push_form(text, fault),
-        RunFault::Memory => text.push_str("out of memory\n"),
+        RunFault::Memory => push_words(text, "out of memory"),
     }
 }
 
@@ -144,9 +151,10 @@ pub fn explanation(
 ) -> Result<Vec<u8>, AllocError>
     ensures { IfOk result (λ text. IsExplained fault.now name.now bytes.now text.items) }
 {
-    let mut rest = String::new(alloc);
-    push_rest(alloc, &mut rest, fault, cause, name, bytes)?;
-    let head = head_of(alloc, fault, name, bytes)?;
+    let called = shown_name(alloc, name)?;
+    let mut rest = ShownText::new(alloc);
+    push_rest(alloc, &mut rest, fault, cause, called.as_str(), bytes)?;
+    let head = head_of(alloc, fault, called.as_str(), bytes)?;
     let line = short_line_of(fault);
     joined(
         alloc,

@@ -1,4 +1,6 @@
-use Rattle.std.proofs.Common.{◌≡◌, ◌++◌, List, ℕ, [], append_assoc, codes}
+use Rattle.std.proofs.Common.{◌≡◌, ◌++◌, ◌∙◌, List, ℕ, [], append_assoc, append-nil, codes, subst, sym}
+use Rattle.gf_run.specs.Explained.{IsHead}
+use Rattle.gf_run.specs.Shown.{IsShown}
 use Rattle.gf_run.proofs.Errors.{IfOk-then}
 use Rattle.gf_run.proofs.explain.text.explanation.Goals as goal
 
@@ -13,7 +15,10 @@ pub returns : goal.returns
 returns c = IfOk-then c.joined.result _ _ c.joined.ensures (λ text is. record {
   head = c.in_ok-head.head.items;
   rest = c.as_bytes.result.now ++ [];
-  is_head = c.in_ok-head.ensures;
+  is_head = subst (λ (name : List ℕ). IsHead c.args.fault.now name c.args.bytes.now c.in_ok-head.head.items)
+      (c.as_str-2.ensures.value ∙ c.in_ok-called.ensures) c.in_ok-head.ensures;
+  is_shown = subst IsShown (sym (append-nil c.as_bytes.result.now ∙ c.as_bytes.ensures.value))
+      c.as_bytes.ensures.shown;
   is_text = in_order text.items _ c.as_slice-2.result.now _ _ _ c.as_slice.ensures.value
       (cc (c.as_slice-2.ensures, c.short_line_of-line.ensures.text)) is;
 })

@@ -1,0 +1,173 @@
+"""Says which hint is due for a refused file, by the calls of reference_reader.py that were under way.
+
+So where a mistake stands is known from the grammar, and not, as in the program, from the tokens around it.
+`tests/mutated` compares the program with it.
+"""
+import re
+
+import reference_reader as reader
+
+# Codes of tokens that are refused for what they are, and not for their values.
+OF_FORM = {2, 3, 4, 7, 9, 10}
+OF_CODES = {
+    2: 'a quotation mark inside a label is written \\" ; a label cannot end in a backslash',
+    4: "write 3, -0.5, 1e-3 or 1/3",
+    6: "numerators and denominators have at most 127 bits; at most 38 digits after the point",
+    10: "repeat it exactly, or leave it out",
+    13: "probabilities are exact: write 1/3 rather than 0.333",
+}
+NAME = 'a name comes before the braces, perhaps ""'
+COMMENT = "a file has one comment, and this would be a second one"
+EACH = "give one payoff (or number of strategies) for each player"
+LISTS = "give one list of strategies for each player"
+FORMATS = [
+    (rb"\xef\xbb\xbf", "the file begins with a byte order mark; save it as UTF-8 without one"),
+    (
+        rb"\xff\xfe|\xfe\xff|\0?[EN]\0F\0G",
+        "the file seems to be UTF-16; save it as UTF-8 without a byte order mark",
+    ),
+    (rb"<\?xml", "this is XML, perhaps a workbook of Gambit (.gbt); save its game as .efg or .nfg"),
+    (rb"#B?AGG\Z", "this is an action graph game (.agg, .bagg), which gamefile does not read"),
+]
+SPELLINGS = [
+    (
+        rb"//|/\*",
+        "a file has one comment, a text in double quotes after the players (EFG) or the strategies (NFG)",
+    ),
+    (rb"\xe2\x80[\x98-\x9f]|\xc2\xab", 'texts stand in straight quotation marks, as in "A"'),
+]
+
+
+def first_of(pairs, spelled):
+    """The hint of the first pattern that a token begins with."""
+    return next((hint for pattern, hint in pairs if re.match(pattern, spelled)), None)
+
+
+class Scene:
+    """A refusal, with the calls that were under way and the tokens before it."""
+
+    def __init__(self, data, refusal):
+        self.refusal, self.data, self.calls = refusal, data, {}
+        trace = refusal.__traceback__
+        while trace:
+            self.calls[trace.tb_frame.f_code.co_name] = trace.tb_frame.f_locals
+            trace = trace.tb_next
+        self.reader = self.calls["refuse"]["self"]
+        self.token = self.reader.token
+        found = reader.TOKEN.finditer(data[: refusal.start])
+        self.before = [(it.lastgroup, it[it.lastgroup], it.start(it.lastgroup)) for it in found if it.lastgroup]
+
+    def follows(self, kind):
+        return bool(self.before) and self.before[-1][0] == kind
+
+    def depth(self):
+        return sum({b"{": 1, b"}": -1}.get(spelled, 0) for _, spelled, _ in self.before)
+
+
+def of_text_before(scene):
+    """The hint about a text that a bare token, a text or a quote is joined to."""
+    if not scene.follows("text") or scene.token.kind not in ("text", "bare", "broken"):
+        return None
+    _, text, start = scene.before[-1]
+    if start + len(text) != scene.token.start:
+        return None
+    line, column = scene.data[:start].count(b"\n") + 1, start - scene.data.rfind(b"\n", 0, start)
+    begins = f"the text before this begins at line {line}, column {column}"
+    if re.search(rb'\\"[ \t\r\n{},]', text[1:-1]):
+        return f'{begins}; the \\" in it does not end it, since a label cannot end in a backslash'
+    if b"\n" in text:
+        return f"{begins} and runs over {text.count(10) + 1} lines; perhaps a quotation mark is missing"
+    return f"{begins}; perhaps a quotation mark is missing" if re.search(rb"[{}]", text) else None
+
+
+def of_outcome(scene, lines):
+    """The hint about what describes the outcome of the last node, whose number stands before it."""
+    if scene.token.kind not in ("text", "{") or not scene.follows("bare"):
+        return None
+    if lines[-1][-1] == b"0":
+        return "outcome 0 takes no description"
+    return NAME if scene.token.kind == "{" else None
+
+
+def of_node(scene):
+    lines = scene.calls["tree"]["lines"]
+    if len(lines) == 2:
+        root = "the tree begins here, after the players and at most one comment"
+        return COMMENT if scene.token.kind == "text" else root
+    subtree = "each action needs a subtree"
+    missing = f"the tree is incomplete: {subtree}" if scene.token.kind == "end" else subtree
+    return of_outcome(scene, lines) or missing
+
+
+def of_end(scene):
+    lines = scene.calls["game"]["lines"]
+    if scene.calls["game"]["kind"] == "tree":
+        hint = of_outcome(scene, lines)
+    else:
+        hint = COMMENT if scene.token.kind == "text" and scene.follows("text") else None
+    return hint or "the game is already complete here"
+
+
+def of_number(scene):
+    kind, calls = scene.token.kind, scene.calls
+    if "flat_row" in calls:
+        numbers = 0
+        while scene.before[-1 - numbers][0] == "bare":
+            numbers += 1
+        if kind == "end":
+            players, profiles = len(scene.reader.players), calls["table"]["profiles"]
+            needed = f"{players * profiles} payoffs (players times profiles, {players} x {profiles})"
+            return f"the body needs {needed}; it has {numbers}"
+        return COMMENT if kind == "text" and scene.follows("text") else None
+    if "payoffs" in calls:
+        return EACH if kind == "}" else None
+    return "each action of a chance move has a probability" if kind in ("text", "}") else None
+
+
+def of_index(scene):
+    if "strategies" in scene.calls and scene.token.kind == "}":
+        return EACH
+    if "outcome_rows" in scene.calls and scene.token.kind == "end":
+        rows = scene.calls["outcome_rows"]
+        needed = f"{rows['profiles']} numbers of outcomes (one for each profile)"
+        return f"the body needs {needed}; it has {len(rows['rows'])}"
+    return None
+
+
+def of_closing(scene):
+    if "known_actions" in scene.calls:
+        return None
+    if re.match(rb"[0-9.+-]", scene.token.spelled):
+        return EACH
+    return LISTS if scene.token.kind == "{" and "payoffs" not in scene.calls else None
+
+
+def of_expected(scene):
+    if scene.token.kind == ",":
+        if scene.follows("text") and scene.depth() > 0:
+            return "no comma stands after a label"
+        return "a comma may stand only after a payoff in braces; decimals have a point"
+    if scene.refusal.due == "Format":
+        return first_of(FORMATS, scene.token.spelled)
+    if scene.refusal.due == "Opening":
+        return LISTS if "strategies" in scene.calls and scene.token.kind == "}" else None
+    of = {"Node": of_node, "End": of_end, "Number": of_number, "Index": of_index, "Closing": of_closing}
+    return of.get(scene.refusal.due, lambda _: None)(scene)
+
+
+def hint_at(scene):
+    code, hint = scene.refusal.code, None
+    if code in OF_FORM:
+        hint = first_of(SPELLINGS, scene.token.spelled) or of_text_before(scene)
+    if hint or code != 9:
+        return hint or (of_expected(scene) if code == 3 else OF_CODES.get(code))
+    return NAME if scene.token.kind == "{" else None
+
+
+def due_hint(data):
+    """The hint that is due for a file that is refused, or None."""
+    try:
+        reader.read(data)
+    except reader.Refusal as refusal:
+        return hint_at(Scene(data, refusal))
+    raise ValueError("the file is accepted")
