@@ -6,6 +6,7 @@ use Rattle.gf_run.specs.Ending.{IsTold}
 use Rattle.gf_run.specs.Explained.{IsExplained}
 use Rattle.gf_run.specs.FaultLine.{fault_line}
 use Rattle.gf_run.specs.FaultStatus.{status_of}
+use Rattle.gf_run.specs.Shown.{shown_name}
 use Rattle.gf_run.specs.Streams.{Writer}
 use Rattle.gf_run.specs.declared.collections.file.CollectionFile.{CollectionFile}
 use Rattle.gf_run.specs.declared.collections.file.CollectionFile.TheVariants.{Input, NotText}
@@ -18,9 +19,9 @@ name_of (Input input.Standard) = codes "-"
 name_of (Input (input.File name)) = string_bytes name
 name_of (NotText name) = string_bytes name
 
--- a text after the name of its file
+-- a text after the name of its file, as it is shown
 abbrev pub after_name : List ℕ → List ℕ → List ℕ
-after_name name text = name ++ codes ": " ++ text
+after_name name text = shown_name name ++ codes ": " ++ text
 
 -- an explanation that begins with the name of its file, also if it names no place
 abbrev pub IsNamedExplanation : RunFault → List ℕ → List ℕ → List ℕ → Type 0

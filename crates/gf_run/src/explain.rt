@@ -10,4 +10,5 @@ mod sentence;
 mod shown;
 mod text;
 
+pub use shown::shown_name;
 pub use text::explanation;

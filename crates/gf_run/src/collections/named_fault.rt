@@ -6,7 +6,7 @@ ghost use Rattle.gf_run.specs.Kept.{kept_at_first};
 ghost use Rattle.gf_run.specs.NamedFault.{IsNamedExplanation, IsNamedText, IsToldOf, after_name};
 
 use crate::explain::cause::Cause;
-use crate::explain::explanation;
+use crate::explain::{explanation, shown_name};
 use crate::fault::{RunFault, Which, status};
 use crate::jobs::ending::tell;
 use crate::streams::sink::{Sink, push_all};
@@ -14,11 +14,12 @@ use crate::texts::joined::joined;
 use crate::texts::report::line_of;
 use std::alloc::{AllocError, Global};
 
-/// A text after the name of its file.
+/// A text after the name of its file, as it is shown.
 fn after_name(alloc: Global, name: &str, text: &[u8]) -> Result<Vec<u8>, AllocError>
     ensures { IfOk result (λ line. line.items ≡ after_name name.now text.now) }
 {
-    joined(alloc, &[name.as_bytes(), b": ", text])
+    let shown = shown_name(alloc, name)?;
+    joined(alloc, &[shown.as_bytes(), b": ", text])
 }
 
 /// A fault in words, after the name of its file.
