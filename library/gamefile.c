@@ -134,7 +134,7 @@ gamefile_status gamefile_renumbering(const uint8_t *a, size_t an, const uint8_t 
 static const char *const messages[] = {
     [1] = "the file is larger than 16,777,216 bytes, the largest size that the program reads",
     [2] = "this quotation mark is never closed",
-    [3] = "this is not what is expected here",
+    [3] = "something else is expected here",
     [4] = "this is not a number",
     [5] = "the denominator is zero",
     [6] = "this number is too large or has too many digits",
@@ -147,7 +147,7 @@ static const char *const messages[] = {
     [11] = "a probability cannot be negative",
     [12] = "the probabilities add up to more than 1",
     [13] = "the probabilities add up to less than 1",
-    [14] = "the sum of these probabilities needs more than 127 bits",
+    [14] = "the sum of these probabilities cannot be worked out within 127 bits",
     [15] = "this list is empty: a player needs at least one strategy, an information set at least one "
            "action",
     [16] = "there is no such outcome",
