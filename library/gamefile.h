@@ -2,9 +2,9 @@
  * text or as a table. See docs/LIBRARY.md.
  *
  * Bytes go in and bytes come out: a text is written into your buffer, without a zero byte at its
- * end. The library keeps no state, so you may make any call on any thread, and many at once. Inputs
- * are borrowed for the call; NULL with a length of 0 is an empty input. A buffer must not overlap
- * an input.
+ * end. The library keeps no state, so you may make any call on any thread, and many at once. An input
+ * is only read, and must not change during the call; NULL with a length of 0 is an empty input. A
+ * buffer must not overlap an input.
  *
  * Codes, statuses and the other numbers below never change; later versions may add some. */
 #ifndef GAMEFILE_H

@@ -7,7 +7,6 @@ the path of the package instead.
 import base64
 import hashlib
 import io
-import sysconfig
 import tarfile
 import zipfile
 from pathlib import Path
@@ -16,7 +15,8 @@ NAME = "gamefile"
 VERSION = "1.0.0"
 HERE = Path(__file__).resolve().parent
 SHARED_OBJECT = "libgamefile.so.1"
-TAG = f"py3-none-{sysconfig.get_platform().replace('-', '_').replace('.', '_')}"
+# The machines that the shared object runs on.
+TAG = "py3-none-linux_x86_64"
 METADATA = f"""\
 Metadata-Version: 2.1
 Name: {NAME}

@@ -1,8 +1,8 @@
 """Checks Gambit game files (.efg, .nfg), compares them, and writes canonical texts and tables.
 
 A file is given as its bytes, in any buffer, or as a path: a `pathlib.Path` or another `os.PathLike`.
-The library keeps nothing of it, so you may make any call on any thread. A call releases the
-interpreter's lock (GIL); do not change a buffer while a call reads it.
+The library keeps no state, so you may make any call on any thread. A call releases the interpreter's
+lock (GIL), so do not change a buffer on another thread meanwhile.
 
 >>> game = b'EFG 2 R "toss" { "A" } c "" 9 "coin" { "h" 0.5 "t" 2/4 } 0 t "" 7 "win" { 1e0 } t "" 7'
 >>> check(game)

@@ -133,6 +133,12 @@ def test_an_exception_keeps_no_buffer():
     assert [error.line for error in kept] == [2, 2]
 
 
+def test_a_view_stays_that_of_its_caller():
+    with memoryview(bytearray(TREE)) as view:
+        assert gamefile.check(view) == gamefile.check(view) == "tree"
+        assert view.tobytes() == TREE
+
+
 def test_a_path_that_cannot_be_read():
     for call in CALLS:
         assert raised(OSError, call, Path(FOLDER.name, "missing")).filename.endswith("missing")
