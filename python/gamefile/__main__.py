@@ -51,8 +51,8 @@ def described(failure: Exception) -> Tuple[str, int]:
         line, status = described(failure.failure)
         return f"{failure.name}: {line}", status
     if isinstance(failure, GameFileError):
-        of = {"a": "A: ", "b": "B: ", None: ""}[failure.which]
-        return f"{of}{failure.code} at {failure.start}..{failure.end}", 2
+        file = {"a": "A: ", "b": "B: ", None: ""}[failure.which]
+        return f"{file}{failure.code} at {failure.start}..{failure.end}", 2
     if isinstance(failure, TableError):
         return str(failure), 2
     if isinstance(failure, TooLong):

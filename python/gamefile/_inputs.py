@@ -1,14 +1,17 @@
 """What a call reads: bytes in memory, or the file at a path."""
 import ctypes
 import os
+from array import array
 from mmap import mmap
 from typing import TYPE_CHECKING, Any, Optional, Tuple, Union
 
 if TYPE_CHECKING:
-    from array import array
+    Array = array[Any]
+else:
+    Array = array
 
 #: Bytes in memory, or the path of a file.
-Source = Union[bytes, bytearray, memoryview, mmap, "array[Any]", "os.PathLike[str]"]
+Source = Union[bytes, bytearray, memoryview, mmap, Array, os.PathLike[str]]
 
 
 def _data(source: Source) -> Union[bytes, memoryview]:

@@ -1,14 +1,12 @@
 """The keys of all games in a folder."""
 import os
+from concurrent.futures import Executor
 from functools import partial
 from pathlib import Path
-from typing import TYPE_CHECKING, Iterator, List, NamedTuple, Optional, Tuple, Union
+from typing import Iterator, List, NamedTuple, Optional, Tuple, Union
 
 from .errors import GameFileError
 from .games import key
-
-if TYPE_CHECKING:
-    from concurrent.futures import Executor
 
 __all__ = ["Entry", "collect", "game_files"]
 
@@ -80,7 +78,7 @@ def _entries(paths: List[str], names: bool) -> List[Entry]:
 
 
 def collect(
-    folder: "os.PathLike[str]", *, names: bool = True, executor: "Optional[Executor]" = None
+    folder: os.PathLike[str], *, names: bool = True, executor: Optional[Executor] = None
 ) -> List[Entry]:
     """Returns the paths of all game files below a folder, each with its key or an error.
 

@@ -9,6 +9,7 @@ import pickle
 import sys
 import tempfile
 import tracemalloc
+import typing
 from array import array
 from functools import partial
 from pathlib import Path
@@ -160,6 +161,12 @@ def test_one_base_of_all_errors():
     assert issubclass(gamefile.TableError, gamefile.Error)
     assert issubclass(gamefile.TableError, ArithmeticError)
     assert str(pickle.loads(pickle.dumps(refusal))) == str(refusal)
+
+
+def test_types_can_be_looked_up():
+    for call in (gamefile.check, gamefile.same, gamefile.collect):
+        types = typing.get_type_hints(call).values()
+        assert any("PathLike" in str(it) for it in types), call
 
 
 def test_docstrings_say_what_is_raised():
