@@ -145,13 +145,15 @@ def seconds(threads, call, inputs):
         return time.perf_counter() - start
 
 
-def gain(call, inputs):
-    """Gives how many times as fast many threads are as one."""
-    alone, together = 0, 0
+def gains(calls, inputs):
+    """Gives how many times as fast many threads are as one, for each call. The calls take turns, since what
+    else a machine does comes and goes."""
+    alone, together = dict.fromkeys(calls, 0), dict.fromkeys(calls, 0)
     for _ in range(ROUNDS):
-        alone += seconds(1, call, inputs)
-        together += seconds(THREADS, call, inputs)
-    return alone / together
+        for call in calls:
+            alone[call] += seconds(1, call, inputs)
+            together[call] += seconds(THREADS, call, inputs)
+    return [alone[call] / together[call] for call in calls]
 
 
 def judge_threads():
@@ -160,9 +162,7 @@ def judge_threads():
     if len(os.sched_getaffinity(0)) < PROCESSORS:
         print(f"NOT RUN python, what threads gain: there are fewer than {PROCESSORS} processors")
         return []
-    games = [large_tree()] * 16
-    possible = gain(hashlib.sha256, games)
-    found = gain(gamefile.check, games)
+    possible, found = gains([hashlib.sha256, gamefile.check], [large_tree()] * 16)
     print(f"python: {THREADS} threads are {found:.1f} times as fast as one; sha256 gains {possible:.1f}")
     return [] if found >= min(GAIN, 0.7 * possible) else [f"{THREADS} threads gain {found:.1f}"]
 
