@@ -164,6 +164,9 @@ def judge_threads():
         return []
     possible, found = gains([hashlib.sha256, gamefile.check], [large_tree()] * 16)
     print(f"python: {THREADS} threads are {found:.1f} times as fast as one; sha256 gains {possible:.1f}")
+    if possible < GAIN:
+        print("NOT RUN python, what threads gain: the machine is busy")
+        return []
     return [] if found >= min(GAIN, 0.7 * possible) else [f"{THREADS} threads gain {found:.1f}"]
 
 
