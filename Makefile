@@ -1,8 +1,9 @@
 # `make` proves the crates and builds the proved program, ./gamefile, and `make run` shows what it
 # writes of an example; `make library` proves and builds the library for C and Python; `make install
-# PREFIX=..` puts the program, its page and, if it was built, the library in place; `make test` proves
-# and tests everything; `make bench` times the program and, if it was built, the library;
-# `make clean` removes what was built.
+# PREFIX=..` puts the program, its page and, if it was built, the library in place, `make
+# install-library PREFIX=..` the library alone, and `make uninstall PREFIX=..` removes all of these;
+# `make test` proves and tests everything; `make bench` times the program and, if it was built, the
+# library; `make clean` removes what was built.
 
 RT ?= rt
 export RT
@@ -11,7 +12,7 @@ PREFIX ?= /usr/local
 version = $(shell sed -n 's/^.define GAMEFILE_VERSION "\(.*\)"/\1/p' library/gamefile.h)
 sources := crates.txt $(shell find crates -name out -prune -o -type f -print)
 
-.PHONY: all run library install install-library test bench clean
+.PHONY: all run library install install-library uninstall test bench clean
 
 all: gamefile
 
@@ -45,6 +46,10 @@ install-library:
 	sed -e 's|@PREFIX@|$(PREFIX)|' -e 's|@VERSION@|$(version)|' library/gamefile.pc.in \
 	    > $(DESTDIR)$(PREFIX)/lib/pkgconfig/gamefile.pc
 
+uninstall:
+	rm -f $(addprefix $(DESTDIR)$(PREFIX)/,bin/gamefile share/man/man1/gamefile.1 include/gamefile.h \
+	    lib/libgamefile.a lib/libgamefile.so lib/libgamefile.so.1 lib/pkgconfig/gamefile.pc)
+
 test:
 	tests/gate
 
@@ -53,7 +58,8 @@ bench:
 	bench/run
 	if [ -e library/out/libgamefile.a ]; then \
 	    $${CC:-cc} -O2 -Ilibrary bench/calls.c library/out/libgamefile.a -o library/out/calls && \
-	    library/out/calls ./gamefile examples/*.?fg $(addprefix bench/inputs/,plain-tree.efg outcomes.nfg); \
+	    library/out/calls ./gamefile examples/*.?fg $(addprefix bench/inputs/,plain-tree.efg outcomes.nfg) && \
+	    python3 bench/calls.py examples/*.?fg; \
 	fi
 
 clean:

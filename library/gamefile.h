@@ -3,8 +3,8 @@
  *
  * Bytes go in and bytes come out: a text is written into your buffer, without a zero byte at its
  * end. The library keeps no state, so you may make any call on any thread, and many at once. Inputs
- * are borrowed for the call; NULL with a length of 0 is an empty input. A buffer must not overlap
- * an input.
+ * are only read, and must not change during a call; NULL with a length of 0 is an empty input. A
+ * buffer must not overlap an input.
  *
  * Codes, statuses and the other numbers below never change; later versions may add some. */
 #ifndef GAMEFILE_H
@@ -21,15 +21,15 @@ extern "C" {
 
 /* What a call returns. */
 typedef enum {
-    GAMEFILE_OK = 0,                /* done; for two files: they mean the same */
-    GAMEFILE_DIFFERENT = 1,         /* two files do not mean the same */
+    GAMEFILE_OK = 0,                /* done; for two files: they mean the same game */
+    GAMEFILE_DIFFERENT = 1,         /* two files do not mean the same game */
     GAMEFILE_REFUSED = 2,           /* a file is refused; the fault says why, and where */
-    GAMEFILE_MISUSE = 3,            /* flags that the call does not have, or NULL with a length
-                                       above 0; for a table also more than 4,294,967,295 players */
+    GAMEFILE_MISUSE = 3,            /* a flag that the call does not take; NULL with a length above
+                                       0; a NULL `hash`; a table of 4,294,967,296 players or more */
     GAMEFILE_NOMEM = 5,             /* out of memory */
     GAMEFILE_TOO_MANY_PROFILES = 6, /* a table would have more than 1,048,576 profiles */
-    GAMEFILE_OVERFLOW = 7,          /* a payoff of a table needs numbers of more than 127 bits */
-    GAMEFILE_TOO_SMALL = 8          /* the buffer is too small, and is as it was */
+    GAMEFILE_OVERFLOW = 7,          /* a payoff of a table cannot be worked out within 127 bits */
+    GAMEFILE_TOO_SMALL = 8          /* the buffer is too small; nothing was written */
 } gamefile_status;
 
 typedef enum { GAMEFILE_TREE = 1, GAMEFILE_TABLE = 2 } gamefile_kind;
@@ -56,10 +56,10 @@ enum {
     GAMEFILE_WHAT_END = 11
 };
 
-/* Why a file is refused: the number of a code E2 to E18, what was expected (0 unless the code is
- * 3), and the place in bytes from 0; `end` is one past the last byte. It is written if the status
- * is GAMEFILE_REFUSED, and with the code 19 if it is GAMEFILE_NOMEM and memory ran out while a file
- * was read. */
+/* Why a file is refused, and where: the number of the code (4 for E4), what was expected (0 unless
+ * the code is 3), and the range of bytes, counted from 0; `end` is one past the last byte. A call
+ * sets the fault if it returns GAMEFILE_REFUSED. It also sets it, with the code 19, if it returns
+ * GAMEFILE_NOMEM because memory ran out while it read a file. */
 typedef struct {
     uint32_t code;
     uint32_t expected;
@@ -67,7 +67,7 @@ typedef struct {
     size_t end;
 } gamefile_fault;
 
-/* What a pair of numbers belongs to. */
+/* What the numbers of a pair belong to. */
 enum { GAMEFILE_SET = 1u, GAMEFILE_OUTCOME = 2u };
 
 /* The numbers of an information set, or of an outcome, that correspond in two trees. */
@@ -78,30 +78,31 @@ typedef struct {
     uint32_t second; /* the number in the second tree */
 } gamefile_pair;
 
-/* In each call, `kind`, `needed`, `fault`, `profile` and `which` may be NULL. What a call has no
- * answer for is left as it was. */
+/* In each call, `kind`, `needed`, `fault`, `profile` and `which` may be NULL. Outputs that a call
+ * does not set are unchanged. */
 
 /* The version of the library. GAMEFILE_VERSION is the version of this header. */
 const char *gamefile_version(void);
 
-/* Whether the bytes are a game file, and of which kind. */
+/* Returns GAMEFILE_OK if the bytes are a valid game file; `kind` is then its kind. */
 gamefile_status gamefile_check(const uint8_t *in, size_t n, gamefile_kind *kind, gamefile_fault *fault);
 
-/* The canonical text, which is the same for two files exactly when they mean the same game. Flags: 0
- * or GAMEFILE_NO_NAMES. After GAMEFILE_OK and GAMEFILE_TOO_SMALL, `needed` is the length of the
- * text. A text is seldom longer than its file: a buffer of n + n / 8 + 4096 bytes nearly always
- * holds it. To get the length only, pass NULL with a `cap` of 0. */
+/* Writes the canonical text of a file. Two files have equal texts exactly when they mean the same
+ * game. Flags: 0 or GAMEFILE_NO_NAMES. After GAMEFILE_OK and GAMEFILE_TOO_SMALL, `needed` is the
+ * length of the text. A text is seldom longer than its file: a buffer of n + n / 8 + 4096 bytes
+ * nearly always holds it. To get the length alone, pass NULL with a `cap` of 0. */
 gamefile_status gamefile_canonical(const uint8_t *in, size_t n, unsigned flags, uint8_t *out,
                                    size_t cap, size_t *needed, gamefile_fault *fault);
 
-/* The SHA-256 digest of the canonical text, as 64 hexadecimal digits and a zero byte. It is the
- * same in all versions 1.x. Flags: 0 or GAMEFILE_NO_NAMES. */
+/* Writes the SHA-256 digest of the canonical text, as 64 hexadecimal digits and a zero byte. It is
+ * the same in all versions 1.x. If `hash` is NULL, the call returns GAMEFILE_MISUSE. Flags: 0 or
+ * GAMEFILE_NO_NAMES. */
 gamefile_status gamefile_hash(const uint8_t *in, size_t n, unsigned flags, char hash[65],
                               gamefile_fault *fault);
 
-/* The strategic form of a tree, with exact expected payoffs; for a strategic file, its canonical
- * text. Flags: 0 or GAMEFILE_REDUCED. After GAMEFILE_OVERFLOW, `profile` is the first profile that
- * overflows, counted from 1. The buffer and `needed` are as in gamefile_canonical. */
+/* Writes the strategic form of a tree, with exact expected payoffs; for a strategic file, its
+ * canonical text. Flags: 0 or GAMEFILE_REDUCED. After GAMEFILE_OVERFLOW, `profile` is the first
+ * profile that overflows, counted from 1. The buffer and `needed` are as in gamefile_canonical. */
 gamefile_status gamefile_table(const uint8_t *in, size_t n, unsigned flags, uint8_t *out, size_t cap,
                                size_t *needed, gamefile_fault *fault, uint64_t *profile);
 
@@ -110,17 +111,17 @@ gamefile_status gamefile_table(const uint8_t *in, size_t n, unsigned flags, uint
 gamefile_status gamefile_same(const uint8_t *a, size_t an, const uint8_t *b, size_t bn, unsigned flags,
                               gamefile_fault *fault, int *which);
 
-/* Which numbers of two files correspond, if these mean the same game: a pair for each information
- * set and each outcome of a tree, and none for a table. The sets of chance come first, then those
- * of each player in turn, and then the outcomes, all in order of first use. `cap` and `needed`
- * count pairs. If the files do not mean the same, the call returns GAMEFILE_DIFFERENT. `which` is
- * as in gamefile_same. */
+/* Writes which numbers of two files correspond, if these mean the same game: a pair for each
+ * information set and each outcome of a tree, and none for a table. The sets of chance come first,
+ * then those of each player in turn, and then the outcomes, all in order of first use. `cap` and
+ * `needed` count pairs. If the files do not mean the same game, the call returns
+ * GAMEFILE_DIFFERENT. `which` is as in gamefile_same. */
 gamefile_status gamefile_renumbering(const uint8_t *a, size_t an, const uint8_t *b, size_t bn,
                                      gamefile_pair *out, size_t cap, size_t *needed,
                                      gamefile_fault *fault, int *which);
 
-/* What a code means, and a hint on how to fix the file, or NULL if there is none. Both are static
- * English texts. */
+/* What a code means, in English; and how to fix the file, or NULL if there is no hint. Do not free
+ * these texts. */
 const char *gamefile_message(uint32_t code, uint32_t expected);
 const char *gamefile_hint(uint32_t code, uint32_t expected);
 

@@ -318,6 +318,9 @@ static void try_layer(score *s)
                   == GAMEFILE_TOO_SMALL && needed == 2 && pair.kind == 7, "renumbering", "too small");
     expect(s, strcmp(gamefile_message(17, 0), "no such code") == 0
                   && strcmp(gamefile_message(1000, 0), "no such code") == 0, "message", "no code");
+    expect(s, strcmp(gamefile_message(3, 0), "something else is expected here") == 0
+                  && strstr(gamefile_message(14, 0), "cannot be worked out within 127 bits") != NULL, "message",
+           "sentences");
     expect(s, gamefile_hint(5, 0) == NULL && gamefile_hint(13, 0) != NULL, "hint", "hints");
 }
 

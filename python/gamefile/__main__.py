@@ -1,0 +1,231 @@
+"""Runs commands of the program gamefile over the library: python -m gamefile COMMAND ..
+
+Output and exit statuses are those of the program; help and the messages about wrong usage are not.
+"""
+import argparse
+import os
+import sys
+from contextlib import contextmanager, suppress
+from typing import BinaryIO, Callable, Iterator, List, NoReturn, Tuple
+
+from . import Error, GameFileError, TableError, __version__
+from . import canonical, check, key, renumbering, same, table
+from .collection import game_files
+
+# The program reads no longer input; the library has no limit.
+LIMIT = 16_777_216
+
+Answer = Callable[[bytes, str], str]
+
+
+class TooLong(Exception):
+    """An input is longer than the limit."""
+
+
+class Unwritten(Exception):
+    """The output cannot be written."""
+
+
+class Named(Exception):
+    """A failure with the name of the file that it is about."""
+
+    def __init__(self, name: str, failure: Exception) -> None:
+        self.name, self.failure = name, failure
+
+
+FAILURES = (Error, TooLong, Unwritten, Named, OSError, MemoryError)
+
+
+@contextmanager
+def about(name: str) -> Iterator[None]:
+    """Puts a name before the line of a failure."""
+    try:
+        yield
+    except FAILURES as failure:
+        raise Named(name, failure) from failure
+
+
+def described(failure: Exception) -> Tuple[str, int]:
+    """The line of a failure, and its status."""
+    if isinstance(failure, Named):
+        line, status = described(failure.failure)
+        return f"{failure.name}: {line}", status
+    if isinstance(failure, GameFileError):
+        file = {"a": "A: ", "b": "B: ", None: ""}[failure.which]
+        return f"{file}{failure.code} at {failure.start}..{failure.end}", 2
+    if isinstance(failure, TableError):
+        return str(failure), 2
+    if isinstance(failure, TooLong):
+        return f"E1 at {LIMIT}..{LIMIT}", 2
+    if isinstance(failure, Unwritten):
+        return "E21", 4
+    return ("E20", 4) if isinstance(failure, OSError) else ("E19", 5)
+
+
+def write(data: bytes) -> None:
+    """Writes to standard output."""
+    left = memoryview(data)
+    try:
+        while left:
+            left = left[os.write(1, left) :]
+    except OSError:
+        raise Unwritten from None
+
+
+def tell(failure: Exception) -> int:
+    """Writes the line of a failure to standard error, and returns its status."""
+    line, status = described(failure)
+    with suppress(OSError):
+        os.write(2, os.fsencode(f"{line}\n"))
+    return status
+
+
+def opened(name: str) -> BinaryIO:
+    return open(0, "rb", closefd=False) if name == "-" else open(name, "rb")
+
+
+def read(file: BinaryIO) -> bytes:
+    with file:
+        data = file.read(LIMIT + 1)
+    if len(data) > LIMIT:
+        raise TooLong
+    return data
+
+
+def run_canon(options: argparse.Namespace) -> int:
+    write(canonical(read(opened(options.file)), names=options.names))
+    return 0
+
+
+def run_table(options: argparse.Namespace) -> int:
+    write(table(read(opened(options.file)), reduced=options.reduced))
+    return 0
+
+
+def files_of(name: str) -> Iterator[str]:
+    """A file itself, or the game files below a folder."""
+    if name == "-" or not os.path.isdir(name):
+        yield name
+        return
+    try:
+        yield from game_files(name)
+    except OSError:
+        yield name
+
+
+def run_each(names: List[str], answer: Answer) -> int:
+    """Writes the answer for each file, or tells why there is none; returns the worst status."""
+    worst = 0
+    for name in (file for given in names for file in files_of(given)):
+        try:
+            with about(name):
+                line = answer(read(opened(name)), name)
+        except Named as failure:
+            worst = max(worst, tell(failure))
+        else:
+            write(os.fsencode(line))
+    return worst
+
+
+def hash_line(digest: str, name: str) -> str:
+    """A line as sha256sum writes it, which escapes names that would not fit on a line."""
+    escaped = name.replace("\\", "\\\\").replace("\n", "\\n").replace("\r", "\\r")
+    mark = "" if escaped == name else "\\"
+    return f"{mark}{digest}  {escaped}\n"
+
+
+def run_hash(options: argparse.Namespace) -> int:
+    return run_each(
+        options.files or ["-"],
+        lambda data, name: hash_line(key(data, names=options.names), name),
+    )
+
+
+def run_check(options: argparse.Namespace) -> int:
+    files = options.files or ["-"]
+    if len(files) > 1 or os.path.isdir(files[0]):
+        return run_each(files, lambda data, name: f"{name}: {check(data)}\n")
+    write(f"{check(read(opened(files[0])))}\n".encode())
+    return 0
+
+
+def comparison(first: bytes, second: bytes, options: argparse.Namespace) -> Tuple[str, int]:
+    """What `same` writes, and its status."""
+    if not options.map:
+        is_same = same(first, second, names=options.names)
+        return ("same\n", 0) if is_same else ("different\n", 1)
+    pairs = renumbering(first, second)
+    if pairs is None:
+        return "different\n", 1
+    sets = [f"set {player} {old} {new}\n" for (player, old), new in pairs.sets.items()]
+    outcomes = [f"outcome {old} {new}\n" for old, new in pairs.outcomes.items()]
+    return "".join(["same\n", *sets, *outcomes]), 0
+
+
+def run_same(options: argparse.Namespace) -> int:
+    with about("A"):
+        first = opened(options.a)
+    with about("B"):
+        second = opened(options.b)
+    with about("A"):
+        a = read(first)
+    with about("B"):
+        b = read(second)
+    answer, status = comparison(a, b, options)
+    write(answer.encode())
+    return status
+
+
+class Parser(argparse.ArgumentParser):
+    """Reports wrong usage with the status that the program has for it."""
+
+    def error(self, message: str) -> NoReturn:
+        self.print_usage(sys.stderr)
+        self.exit(3, f"{self.prog}: {message}\n")
+
+
+def parser() -> Parser:
+    top = Parser(prog="python -m gamefile", description="Commands of the program gamefile.")
+    top.add_argument("-V", "--version", action="version", version=f"gamefile {__version__}")
+    commands = top.add_subparsers(title="commands", dest="command", required=True)
+
+    def command(name: str, run: Callable[[argparse.Namespace], int], help: str) -> Parser:
+        added = commands.add_parser(name, help=help, description=help, allow_abbrev=False)
+        added.set_defaults(run=run)
+        return added
+
+    canon = command("canon", run_canon, "Write the canonical text of a game file.")
+    checks = command("check", run_check, "Say whether game files are valid, and what they hold.")
+    tables = command("table", run_table, "Write the strategic form of a game.")
+    sames = command("same", run_same, "Say whether two game files mean the same game.")
+    hashes = command("hash", run_hash, "Write a hash of each game file.")
+    for of_one in (canon, tables):
+        of_one.add_argument("file", metavar="FILE", nargs="?", default="-")
+    for of_many in (checks, hashes):
+        of_many.add_argument("files", metavar="FILE|FOLDER", nargs="*")
+    tables.add_argument("--reduced", action="store_true", help="leave out choices that cannot matter")
+    sames.add_argument("a", metavar="A")
+    sames.add_argument("b", metavar="B")
+    names = sames.add_mutually_exclusive_group()
+    names.add_argument("--map", action="store_true", help="also list which numbers correspond")
+    for ignoring in (canon, hashes, names):
+        ignoring.add_argument(
+            "--no-names",
+            dest="names",
+            action="store_false",
+            help="ignore the title, the comment, and the names of nodes, sets and outcomes",
+        )
+    return top
+
+
+def main(words: List[str]) -> int:
+    options = parser().parse_args(words or ["canon"])
+    try:
+        status: int = options.run(options)
+        return status
+    except FAILURES as failure:
+        return tell(failure)
+
+
+if __name__ == "__main__":
+    sys.exit(main(sys.argv[1:]))
