@@ -77,7 +77,8 @@ pub enum Why {
     SumAboveOne,
     /// E13: the probabilities of an information set add up to less than one; at the closing brace.
     SumBelowOne,
-    /// E14: the sum of the probabilities so far needs more than 127 bits; at the number.
+    /// E14: the sum of the probabilities so far cannot be worked out within 127 bits; at the
+    /// number.
     SumOverflow,
     /// E15: an empty list of actions or of a player's strategies; at the closing brace.
     NoEntry,
