@@ -1,4 +1,6 @@
-"""Runs the Python examples of a document, one after another, and calls its fixture: test_document.py FILE
+"""Runs the Python examples of a document, one after another, and calls its fixture, if it has one:
+
+    test_document.py FILE
 
 A stand-in takes the place of pytest. The last line is 'document: N passed, M failed'.
 """
@@ -47,17 +49,20 @@ def judge_fixture(assert_same_game):
 def main():
     sys.modules["pytest"] = stand_in()
     names = {"__name__": "document"}
-    blocks = re.findall(r"^```python\n(.*?)^```$", Path(sys.argv[1]).read_text(), re.M | re.S)
+    document = Path(sys.argv[1]).read_text()
+    blocks = re.findall(r"^```python\n(.*?)^```$", document, re.M | re.S)
+    titles = TITLES if "pytest.fixture" in document else []
     faults = []
     for block in blocks:
         try:
             exec(block, names)
         except Exception as error:
             faults.append(f"{error!r} in\n{block}")
-    faults += judge_fixture(names["assert_same_game"]())
+    if titles:
+        faults += judge_fixture(names["assert_same_game"]())
     for fault in faults:
         print(f"FAILED {fault}")
-    print(f"document: {len(blocks) + len(TITLES) - len(faults)} passed, {len(faults)} failed")
+    print(f"document: {len(blocks) + len(titles) - len(faults)} passed, {len(faults)} failed")
     return 1 if faults or not blocks else 0
 
 
