@@ -411,7 +411,8 @@ END
     fi
 }
 
-# GNU parallel gives files to several processes. If there is none, this is not run.
+# GNU parallel gives files to several processes, and to two machines, which are this one by two names. If
+# there is none, or no server for ssh, this is not run.
 check_parallel() {
     if ! command -v parallel >/dev/null; then
         echo "NOT RUN docs/COLLECTIONS.md: there is no parallel"
@@ -419,9 +420,48 @@ check_parallel() {
     fi
     run hash "$root/examples"
     sort "$scratch/out" >"$scratch/lines"
-    find "$root/examples" -name '*.[en]fg' -print0 |
-        parallel -0 -X "$program" hash 2>"$scratch/err" | sort >"$scratch/out"
-    status=0
     echo "$root/examples/refused/three-doors.efg: E13 at 94..95" >"$scratch/expected"
-    judge "hash by parallel" "$scratch/lines" "$scratch/expected" 0
+    hash_by_parallel "hash by parallel"
+    if [[ ! -x /usr/sbin/sshd ]]; then
+        echo "NOT RUN docs/COLLECTIONS.md: there is no sshd"
+        return
+    fi
+    start_server
+    PARALLEL_SSH="ssh -F $scratch/ssh/config" hash_by_parallel "hash by parallel on two machines" -S one,two
+    kill "$(cat "$scratch/ssh/pid")"
+}
+
+# Compares what parallel writes of the examples with 'lines' and 'expected'.
+hash_by_parallel() { # NAME OPTION..
+    find "$root/examples" -name '*.[en]fg' -print0 |
+        timeout 60 parallel -0 -n 4 "${@:2}" "$program" hash 2>"$scratch/err" | sort >"$scratch/out"
+    status=${PIPESTATUS[1]}
+    judge "$1" "$scratch/lines" "$scratch/expected" 1
+}
+
+# A server for ssh at 127.0.0.1, which is called one and two.
+start_server() {
+    local ssh=$scratch/ssh
+    mkdir -p "$ssh" /run/sshd
+    ssh-keygen -q -t ed25519 -N '' -f "$ssh/host"
+    ssh-keygen -q -t ed25519 -N '' -f "$ssh/user"
+    cat >"$ssh/server" <<END
+Port 22122
+ListenAddress 127.0.0.1
+HostKey $ssh/host
+AuthorizedKeysFile $ssh/user.pub
+StrictModes no
+UsePAM no
+PidFile $ssh/pid
+END
+    cat >"$ssh/config" <<END
+Host one two
+    HostName 127.0.0.1
+    Port 22122
+    IdentityFile $ssh/user
+    StrictHostKeyChecking no
+    UserKnownHostsFile /dev/null
+    LogLevel ERROR
+END
+    /usr/sbin/sshd -f "$ssh/server" -E "$ssh/log"
 }
