@@ -67,9 +67,9 @@ check_hash_folders() {
         hash_of "$scratch/table.nfg" "$folder/.f.nfg"; } >"$scratch/expected"
     judge "hash of what is hidden, and named" "$scratch/expected" "$nothing" 0
     run hash "$folder/empty" "$folder/c.efg" "$folder/empty/"
-    hash_of "$scratch/table.nfg" "$folder/c.efg/d.nfg" >"$scratch/one"
+    hash_of "$scratch/table.nfg" "$folder/c.efg/d.nfg" >"$scratch/line"
     printf '%s: no game files\n' "$folder/empty" "$folder/empty/" >"$scratch/expected"
-    judge "hash of folders without game files" "$scratch/one" "$scratch/expected" 0
+    judge "hash of folders without game files" "$scratch/line" "$scratch/expected" 0
     cp "$scratch/five.efg" "$folder/"$'d-\xff.efg'
     run hash "$folder/"
     echo "$folder/"$'d-\ufffd.efg: E20' >"$scratch/expected"

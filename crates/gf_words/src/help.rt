@@ -158,7 +158,7 @@ Example:
 
 pub const MAP: &str = "Also list which numbers correspond";
 
-pub const NO_NAMES: &str = "Leave aside titles, comments and the names of nodes, sets, outcomes";
+pub const NO_NAMES: &str = "Leave aside texts, but for players and actions";
 
 pub const AFTER_SAME: &str = "\
 Writes same, with status 0, or different, with status 1. Two trees are the same

@@ -193,6 +193,17 @@ fn open_folder<R: Files + AllocGlobal>(
     Ok(is_whole)
 }
 
+/// What is to be done below a path.
+#[derive(Drop)]
+struct Search {
+    /// What still has to be looked at, the last one first.
+    waiting: Vec<CollectionFile>,
+    /// The folders that were opened.
+    folders: BTreeSet<Identity>,
+    /// Whether a game file was met, be it new or not.
+    has_games: bool,
+}
+
 /// Whether a file that waited is kept: it is a game file, was named itself, or has a name that is
 /// not UTF-8. A pipe, a socket or a device is kept only if it was named. The folder at its path is
 /// opened, unless it was visited already; one that cannot be read whole is kept as a file, which
@@ -201,21 +212,22 @@ fn is_kept<R: Files + AllocGlobal>(
     rt: &R,
     file: &CollectionFile,
     is_named: bool,
-    folders: &mut BTreeSet<Identity>,
-    waiting: &mut Vec<CollectionFile>,
+    search: &mut Search,
     found: &mut FoundFiles,
 ) -> Result<bool, AllocError> {
     let CollectionFile::Input(Input::File(path)) = file else {
         return Ok(true);
     };
-    match found_at(rt, path.as_str()) {
+    let path = path.as_str();
+    match found_at(rt, path) {
         Found::Folder(folder) => {
-            Ok(folders.insert(folder)? && !open_folder(rt, path.as_str(), waiting)?)
+            Ok(search.folders.insert(folder)? && !open_folder(rt, path, &mut search.waiting)?)
         }
-        Found::File(file) if is_named || is_game_file(path.as_str()) => {
+        Found::File(file) if is_named || is_game_file(path) => {
+            search.has_games = true;
             Ok(found.is_new(file)? || is_named)
         }
-        Found::Nothing => Ok(is_named || is_game_file(path.as_str())),
+        Found::Nothing => Ok(is_named || is_game_file(path)),
         Found::File(_) | Found::Other => Ok(is_named),
     }
 }
@@ -233,25 +245,29 @@ fn file_named(alloc: Global, path: &[u8]) -> Result<CollectionFile, AllocError> 
 /// `.efg` or `.nfg`, in upper or lower case, each folder ordered by the bytes of its names. What is
 /// hidden, by a name that begins with a full stop, is passed over, unless it is named. No folder is
 /// visited twice, so links may lead anywhere. A name that is not UTF-8 may be that of a game file or
-/// of a folder, so it is added too. A folder below which nothing is added is without games.
+/// of a folder, so it is added too. A folder below which there is
+/// nothing of this kind is without games.
 pub fn push_files<R: Files + AllocGlobal>(
     rt: &R,
     path: &[u8],
     found: &mut FoundFiles,
 ) -> Result<(), AllocError> {
     let alloc = rt.alloc();
-    let count = found.files.len();
-    let mut waiting = vec![in alloc; file_named(alloc, path)?]?;
-    let mut folders = BTreeSet::new(alloc);
+    let mut search = Search {
+        waiting: vec![in alloc; file_named(alloc, path)?]?,
+        folders: BTreeSet::new(alloc),
+        has_games: false,
+    };
     for turn in 0..u64::MAX {
-        let Some(file) = waiting.pop() else {
+        let Some(file) = search.waiting.pop() else {
             break;
         };
-        if is_kept(rt, &file, turn == 0, &mut folders, &mut waiting, found)? {
+        if is_kept(rt, &file, turn == 0, &mut search, found)? {
+            search.has_games = true;
             found.files.push(file)?;
         }
     }
-    if found.files.len() == count {
+    if !search.has_games {
         found.without_games.push(joined(alloc, &[path])?)?;
     }
     Ok(())
