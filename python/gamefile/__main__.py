@@ -7,6 +7,7 @@ import os
 import sys
 from contextlib import contextmanager, suppress
 from typing import BinaryIO, Callable, Iterator, List, NoReturn, Tuple
+from unicodedata import category
 
 from . import Error, GameFileError, TableError, __version__
 from . import canonical, check, key, renumbering, same, table
@@ -45,11 +46,16 @@ def about(name: str) -> Iterator[None]:
         raise Named(name, failure) from failure
 
 
+def shown(name: str) -> str:
+    """The name of a file as it may stand on a terminal: without control characters."""
+    return "".join("?" if category(character) == "Cc" else character for character in name)
+
+
 def described(failure: Exception) -> Tuple[str, int]:
     """The line of a failure, and its status."""
     if isinstance(failure, Named):
         line, status = described(failure.failure)
-        return f"{failure.name}: {line}", status
+        return f"{shown(failure.name)}: {line}", status
     if isinstance(failure, GameFileError):
         file = {"a": "A: ", "b": "B: ", None: ""}[failure.which]
         return f"{file}{failure.code} at {failure.start}..{failure.end}", 2
@@ -72,11 +78,16 @@ def write(data: bytes) -> None:
         raise Unwritten from None
 
 
+def say(line: str) -> None:
+    """Writes a line to standard error."""
+    with suppress(OSError):
+        os.write(2, os.fsencode(f"{line}\n"))
+
+
 def tell(failure: Exception) -> int:
     """Writes the line of a failure to standard error, and returns its status."""
     line, status = described(failure)
-    with suppress(OSError):
-        os.write(2, os.fsencode(f"{line}\n"))
+    say(line)
     return status
 
 
@@ -108,9 +119,12 @@ def files_of(name: str) -> Iterator[str]:
         yield name
         return
     try:
-        yield from game_files(name)
+        files = list(game_files(name))
     except OSError:
-        yield name
+        files = [name]
+    if not files:
+        say(f"{name}: no game files")
+    yield from files
 
 
 def run_each(names: List[str], answer: Answer) -> int:

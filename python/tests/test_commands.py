@@ -77,9 +77,9 @@ def test_standard_input():
 
 def test_a_minus_is_standard_input():
     for words in (["canon"], ["check"], ["table"], ["hash"]):
-        found = ran(PACKAGE, [*words, "-"], input=GAME)
-        assert found == ran(PACKAGE, words, input=GAME) and found[2] == 0
-    assert ran(PACKAGE, ["same", "-", "/dev/null"], input=GAME) == (b"", b"B: E3 at 0..0\n", 2)
+        found = judge([*words, "-"], input=GAME)
+        assert found == judge(words, input=GAME) and found[2] == 0
+    assert judge(["same", "-", "/dev/null"], input=GAME) == (b"", b"B: E3 at 0..0\n", 2)
 
 
 def test_what_cannot_be_read():
@@ -126,7 +126,10 @@ def test_check_of_several_files():
         good.write_bytes(GAME)
         bad.write_bytes(b"x")
         expected = f"{good}: table\n".encode(), f"{bad}: E3 at 0..1\n".encode(), 2
-        assert ran(PACKAGE, ["check", good, bad]) == ran(PACKAGE, ["check", name]) == expected
+        assert judge(["check", good, bad]) == judge(["check", name]) == expected
+        Path(name, "empty").mkdir()
+        for command in ("check", "hash"):
+            judge([command, Path(name, "empty"), good, Path(name, "mis\x1b[31msing\u0085")])
 
 
 def test_names_are_escaped_as_sha256sum_does():
@@ -137,6 +140,7 @@ def test_names_are_escaped_as_sha256sum_does():
             Path(folder, os.fsdecode(name)).write_bytes(text)
         for name in names:
             assert ran(PACKAGE, ["hash", name], cwd=folder) == ran(["sha256sum"], [name], cwd=folder), name
+        judge(["hash", *names[:4]], cwd=folder)
 
 
 sys.exit(cases.run("commands", vars()))
