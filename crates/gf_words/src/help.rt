@@ -103,7 +103,7 @@ pub const FIRST: &str = "The first game file";
 
 pub const SECOND: &str = "The second game file";
 
-pub const ZERO: &str = "End lines with a NUL byte, and write names as they are";
+pub const ZERO: &str = "End lines with NUL, and write names as they are";
 
 pub const FILES: &str = "Game files and folders; standard input if none is named";
 
@@ -118,12 +118,13 @@ pub const HASH: &str = "Write a hash of each game file";
 pub const AFTER_HASH: &str = "\
 Writes one line for each file, as sha256sum does: the SHA-256 digest of its
 canonical text, two spaces, and its name. So files of the same game have the
-same hash. As there, a name with a backslash or an end of line has it escaped,
-and its line begins with a backslash; with --zero nothing is escaped, and each
-line ends with NUL. Standard input has the name '-'. A folder stands for all files below
-it whose names end in .efg or .nfg, in upper or lower case, in the order of the
-bytes of their names, but for hidden ones. Links are followed, but no folder
-below it is visited twice.
+same hash. Standard input has the name '-'. As there, a name with a backslash or
+an end of line has it escaped, and its line begins with a backslash; with --zero
+nothing is escaped, and each line ends with NUL.
+
+A folder stands for all files below it whose names end in .efg or .nfg, in upper
+or lower case, in the order of the bytes of their names, but for hidden ones.
+Links are followed, but no folder below it is visited twice.
 
 A file that is refused or cannot be read gets no line here, but one on standard
 error, such as game.efg: E4 at 40..43, and the run goes on. The status is the
