@@ -47,8 +47,10 @@ install-library:
 	    > $(DESTDIR)$(PREFIX)/lib/pkgconfig/gamefile.pc
 
 uninstall:
-	rm -f $(addprefix $(DESTDIR)$(PREFIX)/,bin/gamefile share/man/man1/gamefile.1 include/gamefile.h \
-	    lib/libgamefile.a lib/libgamefile.so lib/libgamefile.so.1 lib/pkgconfig/gamefile.pc)
+	rm -f $(addprefix $(DESTDIR)$(PREFIX)/,bin/gamefile share/man/man1/gamefile.1 \
+	    share/bash-completion/completions/gamefile share/zsh/site-functions/_gamefile \
+	    include/gamefile.h lib/libgamefile.a lib/libgamefile.so lib/libgamefile.so.1 \
+	    lib/pkgconfig/gamefile.pc)
 
 test:
 	tests/gate
