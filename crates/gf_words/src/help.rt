@@ -159,7 +159,7 @@ Example:
 
 pub const MAP: &str = "Also list which numbers correspond";
 
-pub const NO_NAMES: &str = "Leave aside texts, but for players and actions";
+pub const NO_NAMES: &str = "Ignore all texts but names of players and actions";
 
 pub const AFTER_SAME: &str = "\
 Writes same, with status 0, or different, with status 1. Two trees are the same

@@ -57,7 +57,7 @@ fn hash_line(alloc: Global, name: &str, end: LineEnd, hash: [u8; 32]) -> Result<
 
 /// Writes the hash of the canonical text of the file that it reads, with names or without, and the
 /// name, as `sha256sum` does: `HEX  NAME` and a line feed. If the name has a line feed, a carriage
-/// return or a backslash, these are written `\\n`, `\\r` and `\\\\`, and the line begins with a
+/// return or a backslash, these are written `\n`, `\r` and `\\`, and the line begins with a
 /// backslash. With `LineEnd::Null` the line ends with NUL, and the name stands as it is.
 ///
 /// The input is read whole before it is judged. Before any fault except `Write`, nothing is asked

@@ -22,19 +22,19 @@ use std::rt::Files;
 /// - `Table`: `run_table`, or `run_table_reduced`.
 /// - `Same`: `run_same_map` if `map` is true, otherwise `run_same_by`. The first file is opened, and
 ///   then the second, before either is read.
-/// - `CheckAll`: `run_kind` for each file of the collection, as `run_lines` says.
-/// - `Hash`: `run_hash` for each file of the collection, likewise.
+/// - `CheckAll`: `run_kind` for each of the files, as `run_lines` says.
+/// - `Hash`: `run_hash` for each of the files, likewise.
 /// - `Duplicates`: `run_duplicates`.
 ///
-/// The status is 0, or 1 if two files are compared and differ, or if some files of a collection are
-/// the same game. A fault is reported on standard error, and has its own status (see `status`); it
+/// The status is 0, or 1 if two files are compared and differ, or if `Duplicates` finds some that are
+/// the same game; of several files it is the worst. A fault is reported on standard error, and has its own status (see `status`); it
 /// stays the same if the report cannot be written. An input that cannot be opened is `Read`.
 ///
-/// If the request says so, a fault of a job over one input or two is explained in words, by the
-/// bytes that were read of the file that it is about: the explanation begins with the name of the
-/// file, the line and the column, if the file is refused; then comes the line that would be written
-/// otherwise, without `A: ` or `B: `; and then what is wrong, the line of the file with marks under
-/// the place, and a hint. If memory for it runs out, only the line is written.
+/// If the request says so, a fault is explained in words, by the bytes that were read of the file
+/// that it is about: the explanation begins with the name of the file, the line and the column, if
+/// the file is refused; then comes the line that would be written otherwise, without `A: ` or `B: `;
+/// and then what is wrong, the line of the file with marks under the place, and a hint. Of several
+/// files, it begins with the name in any case. If memory for it runs out, only the line is written.
 pub fn perform<R: Files + AllocGlobal, I: Inputs, P: Progress, W: Sink + LastError, E: Sink>(
     rt: &R,
     inputs: &mut I,
