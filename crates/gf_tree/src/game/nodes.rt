@@ -51,7 +51,9 @@ impl<'g, 'a> Iterator for Nodes<'g, 'a> {
         Some(node)
     }
 
-    fn size_hint(&self) -> (usize, Option<usize>) {
+    fn size_hint(&self) -> (usize, Option<usize>)
+        ensures { result ≡ record { field-0 = length (nodes_left self.now); field-1 = Some (length (nodes_left self.now)) } }
+    {
         let left = self.len();
         (left, Some(left))
     }
