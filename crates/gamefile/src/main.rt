@@ -15,10 +15,8 @@ mod arguments;
 /// Whether standard error is a terminal on which it is shown how many files are done.
 fn shows_progress(rt: &HostRuntime, request: &Request) -> bool {
     match request.job {
-        Job::CheckAll(_) | Job::Hash { .. } | Job::Duplicates { .. } => {
-            !request.quiet && rt.stderr().is_terminal()
-        }
-        _ => false,
+        Job::Canon { .. } | Job::Check(_) | Job::Table { .. } | Job::Same { .. } => false,
+        _ => !request.quiet && rt.stderr().is_terminal(),
     }
 }
 

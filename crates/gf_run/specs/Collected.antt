@@ -1,5 +1,5 @@
 -- What the program does for the files of a collection.
-use Rattle.std.specs.Prelude.{◌≡◌, ◌⊎◌, ℕ, List, [], ◌∷◌, ◌++◌, codes, None}
+use Rattle.std.specs.Prelude.{◌≡◌, ◌⊎◌, ℕ, List, [], ◌∷◌, codes, map, None}
 use Rattle.std.specs.List.{flat_map}
 use Rattle.std.specs.String.{string_bytes}
 use Rattle.gf_words.specs.declared.job.Input.{Input}
@@ -10,7 +10,7 @@ use Rattle.gf_run.specs.Ending.{IsTold}
 use Rattle.gf_run.specs.FaultLine.{fault_line}
 use Rattle.gf_run.specs.FaultStatus.{status_of}
 use Rattle.gf_run.specs.CollectionRun.{Standing}
-use Rattle.gf_run.specs.NamedFault.{IsToldOf}
+use Rattle.gf_run.specs.NamedFault.{IsToldOf, after_name}
 use Rattle.gf_run.specs.Opening.{IsNotOpened, IsOpened, Opener}
 use Rattle.gf_run.specs.Streams.{Writer}
 use Rattle.gf_run.specs.declared.collections.file.CollectionFile.{CollectionFile}
@@ -36,14 +36,29 @@ IsToldOfPaths errors (paths.List list end) fault status old new =
 IsToldOfPaths errors paths fault status old new =
     (status ≡ status_of fault) × IsTold errors (fault_line fault) old new
 
--- what is said of folders that have no game files: a line for each
-abbrev pub without_games : List (List ℕ) → List ℕ
-without_games folders = flat_map (λ folder. folder ++ codes ": no game files\n") folders
+-- some of these, in their order
+abbrev pub AreSomeOf : {X : Type 0} → List X → List X → Type 0
+AreSomeOf [] some = some ≡ []
+AreSomeOf (x ∷ xs) some = AreSomeOf xs some
+    ⊎ ((rest : List X) × (some ≡ x ∷ rest) × AreSomeOf xs rest)
 
--- it was said of some folders, as far as memory and the writer allowed
-abbrev pub AreToldOf : {E : Type 0} → Writer E → E → E → Type 0
-AreToldOf errors old new = (new ≡ old)
-    ⊎ ((folders : List (List ℕ)) × IsTold errors (without_games folders) old new)
+-- folders that were named
+abbrev pub AreFoldersOf : Paths → List (List ℕ) → Type 0
+AreFoldersOf paths.Standard folders = folders ≡ []
+AreFoldersOf (paths.Named names) folders = AreSomeOf (map string_bytes names.items) folders
+AreFoldersOf (paths.List list end) folders = Unit {0}
+
+-- what is said of a folder that has no game files
+abbrev pub line_without_games : List ℕ → List ℕ
+line_without_games folder = after_name folder (codes "no game files\n")
+
+-- what is said of several: a line for each
+abbrev pub without_games : List (List ℕ) → List ℕ
+without_games folders = flat_map line_without_games folders
+
+-- it was said of these, as far as memory and the writer allowed
+abbrev pub AreToldOf : {E : Type 0} → Writer E → List (List ℕ) → E → E → Type 0
+AreToldOf errors folders old new = (new ≡ old) ⊎ IsTold errors (without_games folders) old new
 
 -- for what opens inputs
 module _ {I S : Type 0} (opener : Opener I S) where
@@ -60,10 +75,11 @@ module _ {I S : Type 0} (opener : Opener I S) where
   module _ {W E : Type 0} (errors : Writer E)
       (Does : List CollectionFile → Standing I W E → Standing I W E → Type 0) where
     pub data PerformsAll (paths : Paths) (a b : Standing I W E) : Type 0 where
-      -- the files are found, before any of them is opened; folders that have none may be
-      -- reported; and this was done for the files
-      found : (files : List CollectionFile) (mid : I) (e : E) → ArePathsOpened paths a.inputs mid
-          → IsOfPaths paths files → AreToldOf errors a.errors e
+      -- the files are found, before any of them is opened; some of the folders that were named may
+      -- be reported as having none; and this was done for the files
+      found : (files : List CollectionFile) (folders : List (List ℕ)) (mid : I) (e : E)
+          → ArePathsOpened paths a.inputs mid → IsOfPaths paths files
+          → AreFoldersOf paths folders → AreToldOf errors folders a.errors e
           → Does files
           (record { inputs = mid; output = a.output; errors = e; status = a.status }) b
           → PerformsAll paths a b

@@ -31,11 +31,18 @@ module _ {I S : Type 0} (opener : Opener I S) where
 
   -- a file was opened once, and the run over it had this result; or it could not be opened. This
   -- was kept of its bytes; `explain` says whether any are.
-  pub data Over (explain : Bool) {A : Type 0} (Run : Result A RunFault → Kept S → Kept S → Type 0)
+  pub data Over (explain : Bool) {A : Type 0}
+      (Run : Result A RunFault → Kept S → Kept S → I → I → Type 0)
       (file : CollectionFile) (result : Result A RunFault) (kept : Option (List ℕ)) (i i' : I)
       : Type 0 where
     unopened : IsFileNotOpened file i i' → result ≡ Err (Read Only)
         → kept ≡ kept_at_first explain → Over explain Run file result kept i i'
-    opened : (s s' : Kept S) → IsFileOpened file i (source_of s) i'
-        → bytes_kept s ≡ kept_at_first explain → Run result s s' → kept ≡ bytes_kept s'
+    opened : (s s' : Kept S) (mid : I) → IsFileOpened file i (source_of s) mid
+        → bytes_kept s ≡ kept_at_first explain → Run result s s' mid i' → kept ≡ bytes_kept s'
         → Over explain Run file result kept i i'
+
+  -- the run does not ask for another input
+  abbrev pub OverAlone : (explain : Bool) → {A : Type 0}
+      → (Result A RunFault → Kept S → Kept S → Type 0) → CollectionFile → Result A RunFault
+      → Option (List ℕ) → I → I → Type 0
+  OverAlone explain Run = Over explain (λ result s s' i i'. (i' ≡ i) × Run result s s')

@@ -4,7 +4,7 @@ use Rattle.std.specs.Cmp.Lexicographic.{pointwise}
 use Rattle.std.specs.List.{Contains, filter, flat_map, join_by}
 use Rattle.gf_tree.specs.FiniteMap.{first_uses}
 use Rattle.gf_words.specs.declared.job.LineEnd.{LineEnd}
-use Rattle.gf_run.specs.NameText.{end_text, mark, name_text}
+use Rattle.gf_run.specs.NameText.{end_text, name_line}
 
 -- a file that was read: its name, and the hash of its canonical text
 pub record HashedFile : Type 0 where
@@ -45,10 +45,6 @@ has_two names = nat_lt 1 (length names)
 -- the names of the groups of two files or more
 abbrev pub duplicates : List HashedFile → List (List (List ℕ))
 duplicates files = filter has_two (map names_of (groups_of files))
-
--- the line of a name
-abbrev pub name_line : LineEnd → List ℕ → List ℕ
-name_line end name = mark end name ++ name_text end name ++ end_text end
 
 -- a line for each name
 abbrev pub name_lines : LineEnd → List (List ℕ) → List ℕ

@@ -1,7 +1,7 @@
 -- What a run that looks for duplicates does, file by file and then with their groups.
 use Rattle.std.specs.Prelude.{◌≡◌, ◌⊎◌, ℕ, Bool, max, List, [], ◌∷◌, ◌++◌, Option, Ok, Err}
 use Rattle.gf_canon.specs.declared.sameness.Names.{Names}
-use Rattle.gf_run.specs.CollectionRun.{Over, Standing}
+use Rattle.gf_run.specs.CollectionRun.{OverAlone, Standing}
 use Rattle.gf_run.specs.Duplicates.{HashedFile, duplicates, groups_status, groups_text}
 use Rattle.gf_run.specs.Ending.{IsTold}
 use Rattle.gf_run.specs.FaultLine.{fault_line}
@@ -31,12 +31,12 @@ module _ {I S E : Type 0} (opener : Opener I S) (reader : Reader S) (errors : Wr
   -- one file: it has a hash; or it has none, and its fault was reported
   pub data Reads (file : CollectionFile) (a b : Reading I E) : Type 0 where
     hashed : (hash : List ℕ) (kept : Option (List ℕ))
-        → Over opener explain (ReadsHash (kept_reader reader) names) file (Ok hash) kept
+        → OverAlone opener explain (ReadsHash (kept_reader reader) names) file (Ok hash) kept
         a.inputs b.inputs
         → b.files ≡ a.files ++ record { name = name_of file; hash = hash } ∷ []
         → b.errors ≡ a.errors → b.status ≡ a.status → Reads file a b
     failed : (fault : RunFault) (kept : Option (List ℕ)) (status : ℕ)
-        → Over opener explain (ReadsHash (kept_reader reader) names) file (Err fault) kept
+        → OverAlone opener explain (ReadsHash (kept_reader reader) names) file (Err fault) kept
         a.inputs b.inputs
         → b.files ≡ a.files → IsToldOf errors (name_of file) kept fault status a.errors b.errors
         → b.status ≡ max a.status status → Reads file a b
@@ -69,7 +69,7 @@ module _ {I S W E : Type 0} (opener : Opener I S) (reader : Reader S) (writer : 
   Finds output [] a b = (b.inputs ≡ a.inputs)
       × Closes writer errors output b.output a.errors b.errors a.status b.status end a.files
   Finds output (file ∷ files) a b = ((hash : List ℕ) × (kept : Option (List ℕ))
-      × Over opener explain (ReadsHash (kept_reader reader) names) file (Ok hash) kept
+      × OverAlone opener explain (ReadsHash (kept_reader reader) names) file (Ok hash) kept
       a.inputs b.inputs
       × IsOutOfMemory writer errors output b.output a.errors b.errors a.status b.status)
       ⊎ ((mid : Reading I E) × Reads opener reader errors explain names file a mid

@@ -1,9 +1,9 @@
 -- What a run over the files of a collection does, file by file, that writes a line for each.
-use Rattle.std.specs.Prelude.{◌≡◌, ◌≢◌, ◌⊎◌, ℕ, Bool, max, List, [], ◌∷◌, Option, Result, Ok, Err, ⊤}
-use Rattle.gf_run.specs.CollectionRun.{Over, Standing}
+use Rattle.std.specs.Prelude.{◌≡◌, ◌≢◌, ◌⊎◌, ℕ, Bool, max, List, [], ◌∷◌, Option, Result, Ok, Err}
+use Rattle.gf_run.specs.CollectionRun.{OverAlone, Standing}
 use Rattle.gf_run.specs.Ending.{IsTold}
 use Rattle.gf_run.specs.Explained.{IsToldBy}
-use Rattle.gf_run.specs.FaultStatus.{status_of}
+use Rattle.gf_run.specs.FaultStatus.{answer_status, status_of}
 use Rattle.gf_run.specs.Kept.{kept_reader}
 use Rattle.gf_run.specs.NamedFault.{IsToldOf, name_of}
 use Rattle.gf_run.specs.Opening.{Opener}
@@ -19,17 +19,18 @@ use Rattle.gf_run.specs.declared.fault.RunFault.TheVariants.{Write}
 module _ {I S W E : Type 0} (opener : Opener I S) (reader : Reader S) (writer : Writer W)
     (errors : Writer E) (explain : Bool) (line : FileLine) where
   -- the line of a file is written, with this result, and this was kept of the file
-  abbrev pub Writes : CollectionFile → Result ⊤ RunFault → Option (List ℕ) → Standing I W E
+  abbrev pub Writes : CollectionFile → Result Bool RunFault → Option (List ℕ) → Standing I W E
       → Standing I W E → Type 0
-  Writes file result kept a b = Over opener explain
+  Writes file result kept a b = OverAlone opener explain
       (λ result s s'.
       RunsLine (kept_reader reader) writer line (name_of file) result s s' a.output b.output)
       file result kept a.inputs b.inputs
 
-  -- one file: its line was written; or its fault was reported, and nothing was asked of the output
+  -- one file: its line was written, which gives the status 1 if something is against the file; or
+  -- its fault was reported, and nothing was asked of the output
   pub data Step (file : CollectionFile) (a b : Standing I W E) : Type 0 where
-    written : (done : ⊤) (kept : Option (List ℕ)) → Writes file (Ok done) kept a b
-        → b.errors ≡ a.errors → b.status ≡ a.status → Step file a b
+    written : (good : Bool) (kept : Option (List ℕ)) → Writes file (Ok good) kept a b
+        → b.errors ≡ a.errors → b.status ≡ max a.status (answer_status good) → Step file a b
     failed : (fault : RunFault) (kept : Option (List ℕ)) (status : ℕ) → fault ≢ Write
         → Writes file (Err fault) kept a b → b.output ≡ a.output
         → IsToldOf errors (name_of file) kept fault status a.errors b.errors

@@ -17,6 +17,7 @@ pub mod FormText
 pub mod HashText
 pub mod Input
 pub mod Kept
+pub mod LineText
 pub mod NameText
 pub mod NamedFault
 pub mod Opened
@@ -25,10 +26,12 @@ pub mod Output
 pub mod Performed
 pub mod Performs
 pub mod Place
+pub mod Rewritten
 pub mod Run
 pub mod RunOfTwo
 pub mod SameFaults
 pub mod SameText
 pub mod Shown
 pub mod Streams
+pub mod Task
 pub mod Turns

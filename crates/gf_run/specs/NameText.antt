@@ -1,5 +1,5 @@
 -- How the name of a file stands in a line.
-use Rattle.std.specs.Prelude.{ℕ, Bool, nat_eq, ◌||◌, List, [], ◌∷◌, codes}
+use Rattle.std.specs.Prelude.{ℕ, Bool, nat_eq, ◌||◌, List, [], ◌∷◌, ◌++◌, codes}
 use Rattle.std.specs.Prelude.{if◌then◌else◌}
 use Rattle.std.specs.List.{flat_map, list_any}
 use Rattle.gf_words.specs.declared.job.LineEnd.{LineEnd}
@@ -28,3 +28,7 @@ name_text Null name = name
 abbrev pub mark : LineEnd → List ℕ → List ℕ
 mark LineFeed name = if list_any is_escaped name then codes "\\" else []
 mark Null name = []
+
+-- the line of a name
+abbrev pub name_line : LineEnd → List ℕ → List ℕ
+name_line end name = mark end name ++ name_text end name ++ end_text end

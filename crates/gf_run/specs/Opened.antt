@@ -20,9 +20,10 @@ abbrev pub IsFile : {S F : Type 0} → Opened S F → Type 0
 IsFile (Standard input) = ⊥
 IsFile (File input) = Unit {0}
 
--- standard input is opened as such, and a file as a file
+-- standard input is opened as such, and a file as a file; of what becomes of files, nothing is said
 abbrev pub host_opener : {I S F : Type 0} → Opener I (Counted (Opened S F))
 host_opener = record {
   standard = λ _ input _. IsStandard (inner_of input);
   file = λ _ _ answer _. IfOk answer (λ input. IsFile (inner_of input));
+  replaced = λ _ _ _ _ _. Unit {0};
 }

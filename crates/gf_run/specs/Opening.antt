@@ -1,16 +1,18 @@
 -- What is opened for a job.
-use Rattle.std.specs.Prelude.{◌≡◌, ℕ, Bool, true, false, List, codes, Result, Ok, Err}
+use Rattle.std.specs.Prelude.{◌≡◌, ℕ, Bool, true, false, List, codes, Result, Ok, Err, ⊤}
 use Rattle.std.specs.Str.{bytes_eq}
 use Rattle.std.specs.String.{string_bytes}
 use Rattle.std.specs.declared.io.Error.{Error}
 use Rattle.gf_words.specs.declared.job.Input.{Input}
 use Rattle.gf_words.specs.declared.job.Input.TheVariants.{Standard, File}
+use Rattle.gf_run.specs.declared.opening.inputs.Unreplaced.{Unreplaced}
 
--- what opens inputs: each holds for its state, what it gives, and the state after it; for a file
--- its name comes first
+-- what opens inputs, and puts texts in the place of files: each holds for its state, what it gives,
+-- and the state after it; for a file its name comes first, and for a text the text after that
 pub record Opener (I S : Type 0) : Type 1 where
   pub standard : I → S → I → Type 0
   pub file : I → List ℕ → Result S Error → I → Type 0
+  pub replaced : I → List ℕ → List ℕ → Result ⊤ Unreplaced → I → Type 0
 
 module _ {I S : Type 0} (opener : Opener I S) where
   -- an input was opened

@@ -2,19 +2,18 @@
 use Rattle.std.specs.Prelude.{Bool}
 use Rattle.std.specs.String.{string_bytes}
 use Rattle.gf_words.specs.declared.job.Job.{Job}
-use Rattle.gf_words.specs.declared.job.Job.TheVariants.{Canon, Check, CheckAll, Duplicates}
-use Rattle.gf_words.specs.declared.job.Job.TheVariants.{Hash, Same, Table}
+use Rattle.gf_words.specs.declared.job.Job.TheVariants.{Canon, Check, CheckAll, CheckCanon}
+use Rattle.gf_words.specs.declared.job.Job.TheVariants.{Duplicates, Hash, Same, Table, WriteCanon}
 use Rattle.gf_run.specs.Collected.{PerformsAll}
 use Rattle.gf_run.specs.CollectionRun.{Standing}
-use Rattle.gf_run.specs.DuplicatesRun.{FindsAll}
-use Rattle.gf_run.specs.FileLines.{WritesAll}
 use Rattle.gf_run.specs.Kept.{kept_reader}
 use Rattle.gf_run.specs.Opening.{Opener}
 use Rattle.gf_run.specs.Performed.{PerformsOne, PerformsTwo, RunsComparison, strategies_of}
 use Rattle.gf_run.specs.Run.{RunsCanonBy, RunsCheck, RunsTable}
 use Rattle.gf_run.specs.Streams.{Reader, Writer}
-use Rattle.gf_run.specs.declared.collections.line.FileLine.TheVariants.{Kind}
-use Rattle.gf_run.specs.declared.collections.line.FileLine.TheVariants.{Hash as HashLine}
+use Rattle.gf_run.specs.Task.{Does}
+use Rattle.gf_run.specs.declared.collections.line.FileLine.TheVariants as line
+use Rattle.gf_run.specs.declared.collections.task.Task.TheVariants as task
 
 -- for what opens inputs, for the inputs, for standard output and for standard error; `explain` says
 -- whether a fault is explained
@@ -34,9 +33,13 @@ module _ {I S W E : Type 0} (opener : Opener I S) (reader : Reader S) (writer : 
       (RunsComparison (kept_reader reader) writer map names)
       (string_bytes first) (string_bytes second)
       b.status a.inputs b.inputs a.output b.output a.errors b.errors
+  Performs (CheckCanon files names) a b = PerformsAll opener errors
+      (Does opener reader writer errors explain (task.Lines (line.NotCanonical names))) files a b
+  Performs (WriteCanon files names) a b = PerformsAll opener errors
+      (Does opener reader writer errors explain (task.Rewrites names)) files a b
   Performs (CheckAll files) a b = PerformsAll opener errors
-      (WritesAll opener reader writer errors explain Kind) files a b
+      (Does opener reader writer errors explain (task.Lines line.Kind)) files a b
   Performs (Hash files names end) a b = PerformsAll opener errors
-      (WritesAll opener reader writer errors explain (HashLine names end)) files a b
+      (Does opener reader writer errors explain (task.Lines (line.Hash names end))) files a b
   Performs (Duplicates files names end) a b = PerformsAll opener errors
-      (FindsAll opener reader writer errors explain names end) files a b
+      (Does opener reader writer errors explain (task.Duplicates names end)) files a b

@@ -1,19 +1,18 @@
 -- What a run over one input does.
-use Rattle.std.specs.Prelude.{◌≡◌, ℕ, List, Result, Ok, Err, ⊤}
+use Rattle.std.specs.Prelude.{◌≡◌, ℕ, Bool, List, Result, Ok, Err, ⊤}
 use Rattle.gf_canon.specs.Judgement.{IsRefusedWith}
 use Rattle.gf_canon.specs.NamesAside.{IsTextBy}
 use Rattle.gf_canon.specs.declared.kind.FileKind.{FileKind}
 use Rattle.gf_canon.specs.declared.sameness.Names.{Names}
 use Rattle.gf_form.specs.declared.forms.Strategies.{Strategies}
-use Rattle.gf_words.specs.declared.job.LineEnd.{LineEnd}
-use Rattle.gf_run.specs.FileKinds.{IsKindLine, IsNamedKind}
+use Rattle.gf_run.specs.FileKinds.{IsKindLine}
 use Rattle.gf_run.specs.FormText.{IsFaultOfBytes, IsFormText}
-use Rattle.gf_run.specs.HashText.{IsFaultOfFile, IsHashLine}
+use Rattle.gf_run.specs.HashText.{IsFaultOfFile}
 use Rattle.gf_run.specs.Input.{IsNotRead, IsReadWhole}
+use Rattle.gf_run.specs.LineText.{IsLineOf}
 use Rattle.gf_run.specs.Output.{IsWriteFault, IsWritten}
 use Rattle.gf_run.specs.Streams.{Reader, Writer}
 use Rattle.gf_run.specs.declared.collections.line.FileLine.{FileLine}
-use Rattle.gf_run.specs.declared.collections.line.FileLine.TheVariants.{Hash, Kind}
 use Rattle.gf_run.specs.declared.fault.RunFault.{RunFault}
 use Rattle.gf_run.specs.declared.fault.RunFault.TheVariants.{Refused, Write}
 use Rattle.gf_run.specs.declared.fault.Which.TheVariants.{Only}
@@ -57,15 +56,6 @@ module _ {R W : Type 0} (reader : Reader R) (writer : Writer W) where
   RunsTable strategies =
       Runs reader writer (λ answer. IsFormText strategies) (IsFaultOfBytes strategies)
 
-  -- `run_hash`
-  abbrev pub RunsHash : Names → LineEnd → List ℕ → Result ⊤ RunFault → R → R → W → W → Type 0
-  RunsHash names end name = Runs reader writer (λ answer. IsHashLine names end name) IsFaultOfFile
-
-  -- `run_kind`
-  abbrev pub RunsKind : List ℕ → Result ⊤ RunFault → R → R → W → W → Type 0
-  RunsKind name = Runs reader writer (λ answer. IsNamedKind name) IsFaultOfFile
-
   -- `run_line`
-  abbrev pub RunsLine : FileLine → List ℕ → Result ⊤ RunFault → R → R → W → W → Type 0
-  RunsLine Kind name = RunsKind name
-  RunsLine (Hash names end) name = RunsHash names end name
+  abbrev pub RunsLine : FileLine → List ℕ → Result Bool RunFault → R → R → W → W → Type 0
+  RunsLine line name = Runs reader writer (IsLineOf line name) IsFaultOfFile

@@ -1,4 +1,4 @@
-//! The runs over many files: which files, their hashes, and which of them are one game.
+//! The runs over many files: which files they are, and what is done with them.
 
 pub mod collection;
 pub mod duplicates;
@@ -11,3 +11,5 @@ pub mod lines;
 pub mod named_fault;
 pub mod paths;
 pub mod progress;
+pub mod rewrite;
+pub mod task;

@@ -2,3 +2,4 @@
 
 pub mod inputs;
 pub mod opened;
+pub mod replaced;

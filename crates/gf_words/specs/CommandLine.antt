@@ -1,12 +1,12 @@
 -- The command line, as `clap` reads it: the commands, and the options and arguments of each, in
 -- order.
-use Rattle.std.specs.Prelude.{◌≡◌, ℕ, Bool, List, [], ◌∷◌, Some, codes, true, false}
+use Rattle.std.specs.Prelude.{◌≡◌, ◌&&◌, ℕ, Bool, List, [], ◌∷◌, Some, codes, true, false}
 use Rattle.clap.specs.Lexer.{usize_max}
 use Rattle.clap.specs.Simple.{App, Shape, matches_of, new_rule, new_shape, subcommand_of}
 use Rattle.clap.specs.Takes.{takes}
 use Rattle.clap.specs.Walk.{Rule, Text}
 use Rattle.clap.specs.declared.builder.action.ArgAction.TheVariants.{SetTrue}
-use Rattle.gf_words.specs.Request.{IsRequestOf}
+use Rattle.gf_words.specs.Request.{IsRequestOf, request_fits}
 use Rattle.gf_words.specs.declared.job.Job.{Job}
 use Rattle.gf_words.specs.declared.job.Request.{Request}
 
@@ -50,16 +50,23 @@ explain = flag (codes "explain")
 abbrev pub file : Rule
 file = new_rule (codes "FILE")
 
+abbrev pub quiet : Rule
+quiet = flag (codes "quiet")
+
+abbrev pub files : Rule
+files = many (codes "FILES")
+
 abbrev pub of_files : List Rule
 of_files = no_names ∷ tied (option (codes "files-from")) ∷ tied (flag_or_letter (codes "null") 48)
-    ∷ flag_or_letter (codes "zero") 122 ∷ explain ∷ flag (codes "quiet") ∷ many (codes "FILES") ∷ []
+    ∷ flag_or_letter (codes "zero") 122 ∷ explain ∷ quiet ∷ files ∷ []
 
 abbrev pub command : Text → List Rule → Shape
 command name rules = record (new_shape name) { rules = rules }
 
 abbrev pub commands : List Shape
-commands = command (codes "canon") (no_names ∷ explain ∷ file ∷ [])
-    ∷ command (codes "check") (explain ∷ flag (codes "quiet") ∷ many (codes "FILES") ∷ [])
+commands = command (codes "canon") (flag (codes "check") ∷ flag (codes "write") ∷ no_names
+    ∷ explain ∷ quiet ∷ files ∷ [])
+    ∷ command (codes "check") (explain ∷ quiet ∷ files ∷ [])
     ∷ command (codes "table") (flag (codes "reduced") ∷ explain ∷ file ∷ [])
     ∷ command (codes "same") (flag (codes "map") ∷ tied no_names ∷ explain ∷ required (codes "A")
     ∷ required (codes "B") ∷ [])
@@ -82,9 +89,11 @@ program = record {
 abbrev pub IsRequestIn : List Text → Request → Type 0
 IsRequestIn words = IsRequestOf (matches_of program words) (subcommand_of program words)
 
--- words that are not refused: these make a request of a command that has no tied argument
+-- words that are not refused: these make a request of a command that has no tied argument, and
+-- what they ask of it fits together
 abbrev pub are_taken : List Text → Bool
-are_taken = takes program
+are_taken words = takes program words
+    && request_fits (matches_of program words) (subcommand_of program words)
 
 -- the job of the request that words make
 abbrev pub IsJobIn : List Text → Job → Type 0

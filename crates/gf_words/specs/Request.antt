@@ -1,7 +1,7 @@
 -- What words ask for, by what `clap` finds in them: a row for each option and argument of a
 -- command, with its texts. That of a flag is `true` if it is given.
 use Rattle.std.specs.Prelude.{◌≡◌, ℕ, Bool, true, false, List, [], ◌∷◌, Option, Some, None, map}
-use Rattle.std.specs.Prelude.{codes, if◌then◌else◌, option_map, unwrap_or}
+use Rattle.std.specs.Prelude.{codes, if◌then◌else◌, not, ◌&&◌, ◌||◌, option_map, unwrap_or}
 use Rattle.std.specs.List.{list_any}
 use Rattle.std.specs.Option.{option_map_or}
 use Rattle.std.specs.Str.{bytes_eq}
@@ -84,6 +84,35 @@ IsCheckOf rows (job.CheckAll files) =
     AreSeveral (all_of (codes "FILES") rows) × ArePathsOf rows files
 IsCheckOf rows _ = ⊥
 
+-- files are named, and none of them is standard input
+abbrev pub are_files : Option (List Text) → Bool
+are_files None = false
+are_files (Some words) = not (list_any (λ word. bytes_eq word (codes "-")) words)
+
+-- no file is named, or one
+abbrev pub is_one_at_most : Option (List Text) → Bool
+is_one_at_most None = true
+is_one_at_most (Some (word ∷ [])) = true
+is_one_at_most (Some words) = false
+
+-- what `canon` is asked for fits together: not both to check and to write; files that can be
+-- written; and one file at most for its text, without `--quiet`
+abbrev pub canon_fits : List Row → Bool
+canon_fits rows = if has_flag (codes "check") rows then not (has_flag (codes "write") rows)
+    else if has_flag (codes "write") rows then are_files (all_of (codes "FILES") rows)
+    else (not (has_flag (codes "quiet") rows) && is_one_at_most (all_of (codes "FILES") rows))
+
+abbrev pub IsCanonOf : List Row → Job → Type 0
+IsCanonOf rows (job.Canon read names) = (has_flag (codes "check") rows ≡ false)
+    × (has_flag (codes "write") rows ≡ false) × (has_flag (codes "quiet") rows ≡ false)
+    × IsAlone (all_of (codes "FILES") rows) read × (names ≡ names_of rows)
+IsCanonOf rows (job.CheckCanon files names) = (has_flag (codes "check") rows ≡ true)
+    × (has_flag (codes "write") rows ≡ false) × ArePathsOf rows files × (names ≡ names_of rows)
+IsCanonOf rows (job.WriteCanon files names) = (has_flag (codes "check") rows ≡ false)
+    × (has_flag (codes "write") rows ≡ true) × (are_files (all_of (codes "FILES") rows) ≡ true)
+    × ArePathsOf rows files × (names ≡ names_of rows)
+IsCanonOf rows _ = ⊥
+
 -- the commands but for `canon`
 abbrev pub other_commands : List Text
 other_commands = codes "check" ∷ codes "table" ∷ codes "same" ∷ codes "hash"
@@ -94,8 +123,12 @@ IsNamed name word = bytes_eq name word ≡ true
 
 -- the job of the command of this name
 abbrev pub IsJobOf : Text → List Row → Job → Type 0
-IsJobOf name rows (job.Canon read names) = (list_any (bytes_eq name) other_commands ≡ false)
-    × IsInputOf (first_of (codes "FILE") rows) read × (names ≡ names_of rows)
+IsJobOf name rows (job.Canon read names) =
+    (list_any (bytes_eq name) other_commands ≡ false) × IsCanonOf rows (job.Canon read names)
+IsJobOf name rows (job.CheckCanon files names) =
+    (list_any (bytes_eq name) other_commands ≡ false) × IsCanonOf rows (job.CheckCanon files names)
+IsJobOf name rows (job.WriteCanon files names) =
+    (list_any (bytes_eq name) other_commands ≡ false) × IsCanonOf rows (job.WriteCanon files names)
 IsJobOf name rows (job.Check read) =
     IsNamed name (codes "check") × IsCheckOf rows (job.Check read)
 IsJobOf name rows (job.CheckAll files) =
@@ -118,3 +151,11 @@ IsRequestBy name rows request =
 abbrev pub IsRequestOf : List Row → Option (Text × List Row) → Request → Type 0
 IsRequestOf rows None request = IsRequestBy (codes "canon") rows request
 IsRequestOf rows (Some command) request = IsRequestBy command.0 command.1 request
+
+-- what a command is asked for fits together
+abbrev pub command_fits : Text → List Row → Bool
+command_fits name rows = list_any (bytes_eq name) other_commands || canon_fits rows
+
+abbrev pub request_fits : List Row → Option (Text × List Row) → Bool
+request_fits rows None = command_fits (codes "canon") rows
+request_fits rows (Some command) = command_fits command.0 command.1

@@ -72,6 +72,22 @@ const NO_NAMES_OR_MAP: Argument = Argument {
     needs: &[],
 };
 
+const CHECK: Argument = Argument {
+    name: "check",
+    form: Form::Flag,
+    about: help::CANON_CHECK,
+    excludes: &[],
+    needs: &[],
+};
+
+const WRITE: Argument = Argument {
+    name: "write",
+    form: Form::Flag,
+    about: help::CANON_WRITE,
+    excludes: &[],
+    needs: &[],
+};
+
 const REDUCED: Argument = Argument {
     name: "reduced",
     form: Form::Flag,
@@ -150,7 +166,7 @@ pub static COMMANDS: [Entry; 6] = [
         name: "canon",
         about: help::CANON,
         after: help::AFTER_CANON,
-        arguments: &[NO_NAMES, EXPLAIN, FILE],
+        arguments: &[CHECK, WRITE, NO_NAMES, EXPLAIN, QUIET, FILES],
     },
     Entry {
         name: "check",

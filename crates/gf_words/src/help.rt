@@ -18,7 +18,8 @@ input, and './-' is a file of that name.
 
 Exit status:
   0  done; for same: the files are the same
-  1  for same: the files are different; for duplicates: some are the same
+  1  for same: the files are different; for duplicates: some are the same; for
+     canon --check: some are not in canonical form
   2  a file is refused, and standard error has a code and a place, such as
      E4 at 40..43; or a tree has no table, and standard error says why
   3  wrong usage
@@ -35,6 +36,10 @@ pub const EXPLAIN: &str = "If it fails, explain what is wrong, and where";
 
 pub const CANON: &str = "Write the canonical text of a game file";
 
+pub const CANON_CHECK: &str = "Write the names of files that are not in canonical form";
+
+pub const CANON_WRITE: &str = "Replace each file by its canonical text";
+
 pub const AFTER_CANON: &str = "\
 Writes the game as a game file in canonical form, so that two files of the same
 game become the same bytes. The layout is fixed, numbers are exact and in lowest
@@ -45,12 +50,47 @@ With --no-names, the title, the comment, and the names of nodes, information
 sets and outcomes are written empty. So two files that 'same --no-names' finds
 the same become the same bytes.
 
-A file that breaks the format is refused: nothing is written, and standard error
-has one line, such as E4 at 40..43, with a code and the place in bytes from 0.
-The status is 0, or 2 if the file is refused.
+With --check, nothing is written but the names of files that differ from their
+canonical texts, and the status is 1 if there are any. With --write, each of
+these files is replaced by its canonical text, and a file that is refused stays
+as it is. A folder stands for the game files below it, as for hash.
 
-Example:
-  gamefile canon game.efg > canonical.efg";
+A file that breaks the format is refused: nothing is written, and standard error
+has one line, such as E4 at 40..43, with a code and the place in bytes from 0;
+with --check or --write, the line begins with the name of the file, and the run
+goes on. The status is 0, or 2 if a file is refused.
+
+Examples:
+  gamefile canon game.efg > canonical.efg
+  gamefile canon --check games";
+
+/// What is said of `canon` with `--check` and `--write`.
+pub const CHECK_AND_WRITE: &str = "\
+error: '--check' cannot stand beside '--write'
+
+For more information, try 'gamefile help canon'.
+";
+
+/// What is said of `canon --write` without the names of files.
+pub const WRITE_TO_NOTHING: &str = "\
+error: '--write' needs the names of files, and standard input is none
+
+For more information, try 'gamefile help canon'.
+";
+
+/// What is said of `canon --quiet` alone.
+pub const QUIET_ALONE: &str = "\
+error: '--quiet' needs '--check' or '--write'
+
+For more information, try 'gamefile help canon'.
+";
+
+/// What is said of `canon` with several files.
+pub const SEVERAL_TEXTS: &str = "\
+error: the texts of several files cannot be one: '--check' or '--write' is missing
+
+For more information, try 'gamefile help canon'.
+";
 
 pub const CHECK: &str = "Say whether game files are valid, and what they hold";
 

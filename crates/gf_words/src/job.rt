@@ -19,6 +19,17 @@ pub enum Job {
         input: Input,
         names: Names,
     },
+    /// To say which of these files are not their own canonical texts, with their names or with
+    /// these left aside.
+    CheckCanon {
+        files: Paths,
+        names: Names,
+    },
+    /// To put the canonical text of each of these files in its place.
+    WriteCanon {
+        files: Paths,
+        names: Names,
+    },
     /// To say what a file holds.
     Check(Input),
     /// To say what each of these files holds.

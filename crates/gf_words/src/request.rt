@@ -1,15 +1,19 @@
 //! The request that `clap`'s matches of the words make.
 
-ghost use Rattle.std.specs.Prelude.{◌≡◌, IfOk, codes, map, option_map};
+ghost use Rattle.std.specs.Prelude.{◌≡◌, IfOk, MatchResult, codes, map, option_map, true};
 ghost use Rattle.std.specs.String.{string_bytes};
 ghost use Rattle.clap.specs.Matches.{found_of};
 ghost use Rattle.clap.specs.Simple.{subcommand_rows_of};
 ghost use Rattle.clap.specs.Walk.{all_of, first_of, rows_of};
-ghost use Rattle.gf_words.specs.Request.{ArePathsOf, IsCheckOf, IsInputOf};
-ghost use Rattle.gf_words.specs.Request.{IsJobOf, IsRequestBy, IsRequestOf, IsSameOf, end_by};
-ghost use Rattle.gf_words.specs.Request.{file_named, has_flag, input_name, named, names_of};
+ghost use Rattle.gf_words.specs.Request.{ArePathsOf, IsCanonOf, IsCheckOf, IsInputOf};
+ghost use Rattle.gf_words.specs.Request.{IsJobOf, IsRequestBy, IsRequestOf, IsSameOf, are_files};
+ghost use Rattle.gf_words.specs.Request.{canon_fits, command_fits, end_by, file_named, has_flag};
+ghost use Rattle.gf_words.specs.Request.{input_name, named, names_of, request_fits};
+ghost use Rattle.gf_words.specs.declared.fault.WordsFault.TheVariants.{Memory};
 
+use crate::fault::WordsFault;
 use crate::job::{Input, Job, LineEnd, Paths, Request};
+use crate::help;
 use clap::ArgMatches;
 use gf_canon::Names;
 use std::alloc::{AllocError, Global};
@@ -144,9 +148,59 @@ fn check_of(alloc: Global, given: &ArgMatches<'_>) -> Result<Job, AllocError>
     }
 }
 
+/// Whether files are named, and none of them is standard input.
+fn are_files(words: Option<&[&str]>) -> bool
+    ensures { result ≡ are_files (option_map (λ words. map (λ word. word.now) words.now) words) }
+{
+    match words {
+        Some(words) => !words.iter().any(|word| *word == "-"),
+        None => false,
+    }
+}
+
+/// What is said if options and files do not fit together.
+fn wrong(alloc: Global, error: &str) -> WordsFault {
+    match String::from_str(alloc, error) {
+        Ok(text) => WordsFault::Usage(text),
+        Err(_) => WordsFault::Memory,
+    }
+}
+
+/// The canonical text of one file; or several files, which are checked or replaced.
+fn canon_of(alloc: Global, given: &ArgMatches<'_>) -> Result<Job, WordsFault>
+    ensures { MatchResult result (IsCanonOf (rows_of (found_of given.now)))
+        (λ fault. canon_fits (rows_of (found_of given.now)) ≡ true → fault ≡ Memory) }
+{
+    let names = names_of(given);
+    if is_given(given, "check") {
+        if is_given(given, "write") {
+            return Err(wrong(alloc, help::CHECK_AND_WRITE));
+        }
+        let files = paths_of(alloc, given)?;
+        return Ok(Job::CheckCanon { files, names });
+    }
+    if is_given(given, "write") {
+        if !are_files(texts_of(given, "FILES")) {
+            return Err(wrong(alloc, help::WRITE_TO_NOTHING));
+        }
+        let files = paths_of(alloc, given)?;
+        return Ok(Job::WriteCanon { files, names });
+    }
+    if is_given(given, "quiet") {
+        return Err(wrong(alloc, help::QUIET_ALONE));
+    }
+    let input = match texts_of(given, "FILES") {
+        None => Input::Standard,
+        Some([word]) => input_named(alloc, word)?,
+        Some(_) => return Err(wrong(alloc, help::SEVERAL_TEXTS)),
+    };
+    Ok(Job::Canon { input, names })
+}
+
 /// What a command asks for. The one that is not named here is `canon`.
-fn job_of(alloc: Global, name: &str, given: &ArgMatches<'_>) -> Result<Job, AllocError>
-    ensures { IfOk result (IsJobOf name.now (rows_of (found_of given.now))) }
+fn job_of(alloc: Global, name: &str, given: &ArgMatches<'_>) -> Result<Job, WordsFault>
+    ensures { MatchResult result (IsJobOf name.now (rows_of (found_of given.now)))
+        (λ fault. command_fits name.now (rows_of (found_of given.now)) ≡ true → fault ≡ Memory) }
 {
     Ok(if name == "check" {
         check_of(alloc, given)?
@@ -170,15 +224,13 @@ fn job_of(alloc: Global, name: &str, given: &ArgMatches<'_>) -> Result<Job, Allo
             end: end_by(given, "zero"),
         }
     } else {
-        Job::Canon {
-            input: input_of(alloc, given)?,
-            names: names_of(given),
-        }
+        canon_of(alloc, given)?
     })
 }
 
-fn request_by(alloc: Global, name: &str, given: &ArgMatches<'_>) -> Result<Request, AllocError>
-    ensures { IfOk result (IsRequestBy name.now (rows_of (found_of given.now))) }
+fn request_by(alloc: Global, name: &str, given: &ArgMatches<'_>) -> Result<Request, WordsFault>
+    ensures { MatchResult result (IsRequestBy name.now (rows_of (found_of given.now)))
+        (λ fault. command_fits name.now (rows_of (found_of given.now)) ≡ true → fault ≡ Memory) }
 {
     Ok(Request {
         job: job_of(alloc, name, given)?,
@@ -188,9 +240,11 @@ fn request_by(alloc: Global, name: &str, given: &ArgMatches<'_>) -> Result<Reque
 }
 
 /// What matches ask for. With no command it is `canon`, which has no options then.
-pub(crate) fn request_of(alloc: Global, matches: &ArgMatches<'_>) -> Result<Request, AllocError>
-    ensures { IfOk result (IsRequestOf (rows_of (found_of matches.now))
-        (subcommand_rows_of matches.now)) }
+pub(crate) fn request_of(alloc: Global, matches: &ArgMatches<'_>) -> Result<Request, WordsFault>
+    ensures { MatchResult result
+        (IsRequestOf (rows_of (found_of matches.now)) (subcommand_rows_of matches.now))
+        (λ fault. request_fits (rows_of (found_of matches.now)) (subcommand_rows_of matches.now)
+        ≡ true → fault ≡ Memory) }
 {
     match matches.subcommand() {
         Some(command) => request_by(alloc, command.0, command.1),

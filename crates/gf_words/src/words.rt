@@ -71,17 +71,18 @@ pub fn parse_request(alloc: Global, words: &[&str]) -> Result<Request, WordsFaul
 {
     let program = gamefile(alloc)?;
     match program.try_get_matches_from(words) {
-        Ok(matches) => Ok(request_of(alloc, &matches)?),
+        Ok(matches) => request_of(alloc, &matches),
         Err(error) => Err(fault_of(alloc, &error, words)),
     }
 }
 
-/// The job that the words after the program's name ask for: `canon [--no-names] [FILE]`, `table
-/// [--reduced] [FILE]`, `same [--map | --no-names] A B` or `check [--quiet] [FILE|FOLDER]..`; `hash`
-/// or `duplicates` with `[--no-names] [--zero] [--quiet]`, and with `[FILE|FOLDER]..` or
-/// `--files-from FILE [--null]`; each with `--explain` or without; or no words, which mean `canon`
-/// of standard input. Options may stand anywhere after the command, but not after `--`. The file `-`
-/// is standard input.
+/// The job that the words after the program's name ask for: `canon [--no-names] [FILE]`, `canon
+/// --check [--no-names] [--quiet] [FILE|FOLDER]..`, `canon --write [--no-names] [--quiet]
+/// FILE|FOLDER..`, `table [--reduced] [FILE]`, `same [--map | --no-names] A B` or `check [--quiet]
+/// [FILE|FOLDER]..`; `hash` or `duplicates` with `[--no-names] [--zero] [--quiet]`, and with
+/// `[FILE|FOLDER]..` or `--files-from FILE [--null]`; each with `--explain` or without; or no words,
+/// which mean `canon` of standard input. Options may stand anywhere after the command, but not after
+/// `--`. The file `-` is standard input, which `--write` cannot replace.
 ///
 /// # Errors
 ///

@@ -56,25 +56,22 @@ fn found_at<R: Files>(rt: &R, path: &str) -> Found {
     }
 }
 
-/// The files of a collection, as far as they are found.
+/// The files of a collection that are kept, as far as they are found.
 #[derive(Drop)]
-pub struct FoundFiles {
+pub struct KeptFiles {
     pub files: Vec<CollectionFile>,
-    /// The folders that were named and have no game files.
-    pub without_games: Vec<Vec<u8>>,
     /// Those of the files that are known, if a folder's files are passed over that come again, as by
     /// a link.
     seen: Option<BTreeSet<Identity>>,
 }
 
-impl FoundFiles {
+impl KeptFiles {
     /// None yet.
-    pub fn new(alloc: Global, repeats: Repeats) -> FoundFiles
+    pub fn new(alloc: Global, repeats: Repeats) -> KeptFiles
         ensures { result.files.items ≡ [] }
     {
-        FoundFiles {
+        KeptFiles {
             files: Vec::new(alloc),
-            without_games: Vec::new(alloc),
             seen: match repeats {
                 Repeats::Kept => None,
                 Repeats::PassedOver => Some(BTreeSet::new(alloc)),
@@ -213,7 +210,7 @@ fn is_kept<R: Files + AllocGlobal>(
     file: &CollectionFile,
     is_named: bool,
     search: &mut Search,
-    found: &mut FoundFiles,
+    kept: &mut KeptFiles,
 ) -> Result<bool, AllocError> {
     let CollectionFile::Input(Input::File(path)) = file else {
         return Ok(true);
@@ -225,7 +222,7 @@ fn is_kept<R: Files + AllocGlobal>(
         }
         Found::File(file) if is_named || is_game_file(path) => {
             search.has_games = true;
-            Ok(found.is_new(file)? || is_named)
+            Ok(kept.is_new(file)? || is_named)
         }
         Found::Nothing => Ok(is_named || is_game_file(path)),
         Found::File(_) | Found::Other => Ok(is_named),
@@ -245,13 +242,12 @@ fn file_named(alloc: Global, path: &[u8]) -> Result<CollectionFile, AllocError> 
 /// `.efg` or `.nfg`, in upper or lower case, each folder ordered by the bytes of its names. What is
 /// hidden, by a name that begins with a full stop, is passed over, unless it is named. No folder is
 /// visited twice, so links may lead anywhere. A name that is not UTF-8 may be that of a game file or
-/// of a folder, so it is added too. A folder below which there is
-/// nothing of this kind is without games.
+/// of a folder, so it is added too. Returns whether there was any, be it new or not.
 pub fn push_files<R: Files + AllocGlobal>(
     rt: &R,
     path: &[u8],
-    found: &mut FoundFiles,
-) -> Result<(), AllocError> {
+    kept: &mut KeptFiles,
+) -> Result<bool, AllocError> {
     let alloc = rt.alloc();
     let mut search = Search {
         waiting: vec![in alloc; file_named(alloc, path)?]?,
@@ -262,13 +258,10 @@ pub fn push_files<R: Files + AllocGlobal>(
         let Some(file) = search.waiting.pop() else {
             break;
         };
-        if is_kept(rt, &file, turn == 0, &mut search, found)? {
+        if is_kept(rt, &file, turn == 0, &mut search, kept)? {
             search.has_games = true;
-            found.files.push(file)?;
+            kept.files.push(file)?;
         }
     }
-    if !search.has_games {
-        found.without_games.push(joined(alloc, &[path])?)?;
-    }
-    Ok(())
+    Ok(search.has_games)
 }

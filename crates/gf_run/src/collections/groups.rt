@@ -2,10 +2,9 @@
 
 ghost use Rattle.std.specs.Prelude.{◌≡◌, List, [], ◌∷◌, ◌++◌, map, IfOk, OnOk};
 ghost use Rattle.gf_run.specs.Duplicates.{HashedFile, IsKeptOf, KeptNames};
-ghost use Rattle.gf_run.specs.Duplicates.{duplicates, empty_line, groups_text, name_line};
-ghost use Rattle.gf_run.specs.Duplicates.{name_lines};
+ghost use Rattle.gf_run.specs.Duplicates.{duplicates, empty_line, groups_text, name_lines};
 
-use crate::texts::name::{end_text, mark, push_name};
+use crate::texts::name::{end_text, push_name_line};
 use gf_words::LineEnd;
 use indexmap::IndexSet;
 use std::alloc::{AllocError, Global};
@@ -30,22 +29,13 @@ impl<'a> Model for Groups<'a> {
     } };
 }
 
-/// Appends the line of a name.
-fn push_line(text: &mut Vec<u8>, name: &str, end: LineEnd) -> Result<(), AllocError>
-    ensures { OnOk result (text.new.items ≡ text.old.items ++ name_line end name.now) }
-{
-    text.extend_from_slice(mark(name, end))?;
-    push_name(text, name, end)?;
-    text.extend_from_slice(end_text(end))
-}
-
 /// Appends a line for each name.
 fn push_names(text: &mut Vec<u8>, names: &[&str], end: LineEnd) -> Result<(), AllocError>
     ensures { OnOk result (text.new.items ≡ text.old.items
         ++ name_lines end (map (λ name. name.now) names.now)) }
 {
     for name in names {
-        push_line(text, name, end)?;
+        push_name_line(text, name, end)?;
     }
     Ok(())
 }

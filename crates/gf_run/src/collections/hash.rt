@@ -1,11 +1,9 @@
-//! The hash of a file's canonical text, and the run that writes it.
+//! The hash of a file's canonical text, and its line.
 
 ghost use Rattle.std.specs.Prelude.{◌≡◌, IfErr, IfOk};
 ghost use Rattle.gf_run.specs.HashText.{IsFaultOfFile, IsHashOf, ReadsHash, hash_line};
-ghost use Rattle.gf_run.specs.Run.{RunsHash};
 
 use crate::fault::{RunFault, Which, refused};
-use crate::streams::sink::{Sink, push_all};
 use crate::streams::source::{Source, load};
 use crate::texts::name::{end_text, mark, push_name};
 use gf_canon::{Names, canonical_text, sha256_of};
@@ -13,7 +11,7 @@ use gf_words::LineEnd;
 use std::alloc::{AllocError, Global};
 
 /// The hash of these bytes' canonical text: SHA-256 (FIPS 180-4).
-fn hash_of(alloc: Global, bytes: &[u8], names: Names) -> Result<[u8; 32], RunFault>
+pub(crate) fn hash_of(alloc: Global, bytes: &[u8], names: Names) -> Result<[u8; 32], RunFault>
     ensures hash { IfOk result (λ hash. IsHashOf names bytes.now hash) }
     ensures refused { IfErr result (IsFaultOfFile bytes.now) }
 {
@@ -42,7 +40,12 @@ pub fn read_hash<R: Source>(
 
 /// The line of a hash: in hexadecimal, two spaces and the name of the file, as `sha256sum` writes
 /// it.
-fn hash_line(alloc: Global, name: &str, end: LineEnd, hash: [u8; 32]) -> Result<Vec<u8>, AllocError>
+pub(crate) fn hash_line(
+    alloc: Global,
+    name: &str,
+    end: LineEnd,
+    hash: [u8; 32],
+) -> Result<Vec<u8>, AllocError>
     ensures { IfOk result (λ line. line.items ≡ hash_line end name.now hash) }
 {
     let digits = hex::encode(alloc, hash)?;
@@ -53,33 +56,4 @@ fn hash_line(alloc: Global, name: &str, end: LineEnd, hash: [u8; 32]) -> Result<
     push_name(&mut line, name, end)?;
     line.extend_from_slice(end_text(end))?;
     Ok(line)
-}
-
-/// Writes the hash of the canonical text of the file that it reads, with names or without, and the
-/// name, as `sha256sum` does: `HEX  NAME` and a line feed. If the name has a line feed, a carriage
-/// return or a backslash, these are written `\n`, `\r` and `\\`, and the line begins with a
-/// backslash. With `LineEnd::Null` the line ends with NUL, and the name stands as it is.
-///
-/// The input is read whole before it is judged. Before any fault except `Write`, nothing is asked
-/// of the output.
-///
-/// # Errors
-///
-/// - `Refused`, `Read`, `Write`: as `run_canon_by` has them.
-/// - `Memory`: memory ran out while the input was read, or for the line of a valid file.
-pub fn run_hash<R: Source, W: Sink>(
-    alloc: Global,
-    input: &mut R,
-    name: &str,
-    names: Names,
-    end: LineEnd,
-    output: &mut W,
-) -> Result<(), RunFault>
-    ensures { RunsHash R.reader W.writer names end name.now result input.old input.new
-        output.old output.new }
-{
-    let hash = read_hash(alloc, input, names)?;
-    let line = hash_line(alloc, name, end, hash)?;
-    push_all(output, line.as_slice())?;
-    Ok(())
 }

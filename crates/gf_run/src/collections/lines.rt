@@ -8,7 +8,7 @@ use crate::collections::line::{FileLine, run_line};
 use crate::collections::named_fault::{tell_of, tell_unopened_of};
 use crate::collections::progress::Progress;
 use crate::explain::cause::cause_of;
-use crate::fault::RunFault;
+use crate::fault::{RunFault, answer_status};
 use crate::jobs::ending::tell_of_file;
 use crate::opening::inputs::Inputs;
 use crate::streams::kept::Kept;
@@ -52,8 +52,9 @@ fn write_next<I: Inputs, W: Sink + LastError, E: Sink>(
         Err(cause) => return Ok(worst.max(tell_unopened_of(alloc, &cause, name, explain, errors))),
     };
     let mut source = Kept::new(alloc, opened, explain);
-    let Err(fault) = run_line(alloc, &mut source, name, line, output) else {
-        return Ok(worst);
+    let fault = match run_line(alloc, &mut source, name, line, output) {
+        Ok(good) => return Ok(worst.max(answer_status(good))),
+        Err(fault) => fault,
     };
     let cause = cause_of(&fault, &source, output);
     let kept = source.bytes();
@@ -64,7 +65,8 @@ fn write_next<I: Inputs, W: Sink + LastError, E: Sink>(
 }
 
 /// Writes a line about each file, in their order, and returns the exit status: the worst of all
-/// files, or 0 if each has its line.
+/// files, where a file has 1 if something is against it, as `run_line` says, or the status of its
+/// fault.
 ///
 /// Each file is opened, read and freed before the next one. A file that is refused, or cannot be
 /// opened or read, has no line; its fault is written to standard error after its name, and

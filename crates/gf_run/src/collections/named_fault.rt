@@ -15,7 +15,7 @@ use crate::texts::report::line_of;
 use std::alloc::{AllocError, Global};
 
 /// A text after the name of its file, as it is shown.
-fn after_name(alloc: Global, name: &str, text: &[u8]) -> Result<Vec<u8>, AllocError>
+pub(crate) fn after_name(alloc: Global, name: &str, text: &[u8]) -> Result<Vec<u8>, AllocError>
     ensures { IfOk result (λ line. line.items ≡ after_name name.now text.now) }
 {
     let shown = shown_name(alloc, name)?;

@@ -1,14 +1,24 @@
 //! The files of a collection: those that words or a list of names lead to.
 
-ghost use Rattle.std.specs.Prelude.{◌≡◌, ◌∷◌, [], IfOk};
-ghost use Rattle.gf_run.specs.Collected.{ArePathsOpened, IsListOpened, IsOfPaths};
+ghost use Rattle.std.specs.Prelude.{◌≡◌, ◌∷◌, [], IfOk, map};
+ghost use Rattle.std.specs.String.{string_bytes};
+ghost use Rattle.gf_run.specs.Collected.{AreFoldersOf, ArePathsOpened, AreSomeOf, IsListOpened};
+ghost use Rattle.gf_run.specs.Collected.{IsOfPaths};
 
 use crate::collections::file::CollectionFile;
-use crate::collections::folders::{FoundFiles, Repeats, is_whole, push_files, push_listed};
+use crate::collections::folders::{KeptFiles, Repeats, is_whole, push_files, push_listed};
 use crate::fault::{RunFault, Which};
 use crate::opening::inputs::{Inputs, open_input};
 use gf_words::{Input, LineEnd, Paths};
+use std::alloc::AllocError;
 use std::rt::Files;
+
+/// The files of a collection, and the folders that were named and have no game files.
+#[derive(Drop)]
+pub struct FoundFiles {
+    pub files: Vec<CollectionFile>,
+    pub without_games: Vec<String>,
+}
 
 /// The names in a list, each of which has this end; the last one may end with the list.
 fn names_in<R: AllocGlobal, I: Inputs>(
@@ -32,16 +42,22 @@ fn names_in<R: AllocGlobal, I: Inputs>(
 }
 
 /// The files that the paths in a list lead to, in their order.
-fn files_below<R: Files + AllocGlobal>(
+fn files_listed<R: Files + AllocGlobal>(
     rt: &R,
     paths: &[Vec<u8>],
     repeats: Repeats,
-) -> Result<FoundFiles, RunFault> {
-    let mut found = FoundFiles::new(rt.alloc(), repeats);
+) -> Result<FoundFiles, AllocError> {
+    let mut kept = KeptFiles::new(rt.alloc(), repeats);
+    let mut without_games = Vec::new(rt.alloc());
     for path in paths {
-        push_files(rt, path.as_slice(), &mut found)?;
+        if !push_files(rt, path.as_slice(), &mut kept)? {
+            without_games.push(String::from_utf8_lossy(rt.alloc(), path.as_slice())?)?;
+        }
     }
-    Ok(found)
+    Ok(FoundFiles {
+        files: kept.files,
+        without_games,
+    })
 }
 
 /// The files that paths in words lead to, in their order.
@@ -49,23 +65,34 @@ fn files_named<R: Files + AllocGlobal>(
     rt: &R,
     paths: &[String],
     repeats: Repeats,
-) -> Result<FoundFiles, RunFault> {
-    let mut found = FoundFiles::new(rt.alloc(), repeats);
+) -> Result<FoundFiles, AllocError>
+    ensures { IfOk result (λ found.
+        AreSomeOf (map string_bytes paths.now) (map string_bytes found.without_games.items)) }
+{
+    let mut kept = KeptFiles::new(rt.alloc(), repeats);
+    let mut without_games = Vec::new(rt.alloc());
     for path in paths {
-        push_files(rt, path.as_bytes(), &mut found)?;
+        if !push_files(rt, path.as_bytes(), &mut kept)? {
+            without_games.push(String::from_str(rt.alloc(), path.as_str())?)?;
+        }
     }
-    Ok(found)
+    Ok(FoundFiles {
+        files: kept.files,
+        without_games,
+    })
 }
 
 /// Standard input alone.
-fn standard_input<R: AllocGlobal>(rt: &R) -> Result<FoundFiles, RunFault>
-    ensures { IfOk result (λ found. found.files.items ≡ CollectionFile.Input Input.Standard ∷ []) }
+fn standard_input<R: AllocGlobal>(rt: &R) -> Result<FoundFiles, AllocError>
+    ensures files { IfOk result (λ found.
+        found.files.items ≡ CollectionFile.Input Input.Standard ∷ []) }
+    ensures folders { IfOk result (λ found. found.without_games.items ≡ []) }
 {
-    let mut found = FoundFiles::new(rt.alloc(), Repeats::Kept);
-    match found.files.push(CollectionFile::Input(Input::Standard)) {
-        Ok(()) => Ok(found),
-        Err(_) => Err(RunFault::Memory),
-    }
+    let input = CollectionFile::Input(Input::Standard);
+    Ok(FoundFiles {
+        files: vec![in rt.alloc(); input]?,
+        without_games: Vec::new(rt.alloc()),
+    })
 }
 
 /// The files of a collection, in the order of their paths. For a folder these are the game files
@@ -84,13 +111,15 @@ pub fn files_at<R: Files + AllocGlobal, I: Inputs>(
 ) -> Result<FoundFiles, RunFault>
     ensures opened { ArePathsOpened I.opener paths.now inputs.old inputs.new }
     ensures files { IfOk result (λ found. IsOfPaths paths.now found.files.items) }
+    ensures folders { IfOk result (λ found.
+        AreFoldersOf paths.now (map string_bytes found.without_games.items)) }
 {
     match paths {
-        Paths::Standard => standard_input(rt),
-        Paths::Named(names) => files_named(rt, names.as_slice(), repeats),
+        Paths::Standard => Ok(standard_input(rt)?),
+        Paths::Named(names) => Ok(files_named(rt, names.as_slice(), repeats)?),
         Paths::List { list, end } => {
             let names = names_in(rt, inputs, list, *end)?;
-            files_below(rt, names.as_slice(), repeats)
+            Ok(files_listed(rt, names.as_slice(), repeats)?)
         }
     }
 }

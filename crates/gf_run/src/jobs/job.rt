@@ -2,9 +2,10 @@
 
 ghost use Rattle.gf_run.specs.Performs.{Performs};
 
-use crate::collections::collection::{perform_duplicates, perform_lines};
+use crate::collections::collection::perform_all;
 use crate::collections::line::FileLine;
 use crate::collections::progress::Progress;
+use crate::collections::task::Task;
 use crate::jobs::one_file::{perform_canon, perform_check, perform_table};
 use crate::jobs::two_files::perform_same;
 use crate::opening::inputs::Inputs;
@@ -22,13 +23,15 @@ use std::rt::Files;
 /// - `Table`: `run_table`, or `run_table_reduced`.
 /// - `Same`: `run_same_map` if `map` is true, otherwise `run_same_by`. The first file is opened, and
 ///   then the second, before either is read.
-/// - `CheckAll`: `run_kind` for each of the files, as `run_lines` says.
-/// - `Hash`: `run_hash` for each of the files, likewise.
+/// - `CheckCanon`, `CheckAll`, `Hash`: `run_line` for each of the files, as `run_lines` says.
+/// - `WriteCanon`: `run_rewrites`.
 /// - `Duplicates`: `run_duplicates`.
 ///
-/// The status is 0, or 1 if two files are compared and differ, or if `Duplicates` finds some that are
-/// the same game; of several files it is the worst. A fault is reported on standard error, and has its own status (see `status`); it
-/// stays the same if the report cannot be written. An input that cannot be opened is `Read`.
+/// The status is 0; or 1 if two files are compared and differ, if `CheckCanon` finds a file that is
+/// not its own canonical text, or if `Duplicates` finds some that are the same game. Of several
+/// files it is the worst. A fault is reported on standard error, and has its own status (see
+/// `status`); it stays the same if the report cannot be written. An input that cannot be opened is
+/// `Read`.
 ///
 /// If the request says so, a fault is explained in words, by the bytes that were read of the file
 /// that it is about: the explanation begins with the name of the file, the line and the column, if
@@ -66,19 +69,25 @@ pub fn perform<R: Files + AllocGlobal, I: Inputs, P: Progress, W: Sink + LastErr
             let (a, b) = (a.as_str(), b.as_str());
             perform_same(alloc, inputs, a, b, *map, *names, explain, output, errors)
         }
+        Job::CheckCanon { files, names } => {
+            let task = Task::Lines(FileLine::NotCanonical(*names));
+            perform_all(rt, inputs, files, task, explain, progress, output, errors)
+        }
+        Job::WriteCanon { files, names } => {
+            let task = Task::Rewrites(*names);
+            perform_all(rt, inputs, files, task, explain, progress, output, errors)
+        }
         Job::CheckAll(files) => {
-            let line = FileLine::Kind;
-            perform_lines(rt, inputs, files, line, explain, progress, output, errors)
+            let task = Task::Lines(FileLine::Kind);
+            perform_all(rt, inputs, files, task, explain, progress, output, errors)
         }
         Job::Hash { files, names, end } => {
-            let line = FileLine::Hash(*names, *end);
-            perform_lines(rt, inputs, files, line, explain, progress, output, errors)
+            let task = Task::Lines(FileLine::Hash(*names, *end));
+            perform_all(rt, inputs, files, task, explain, progress, output, errors)
         }
         Job::Duplicates { files, names, end } => {
-            let (names, end) = (*names, *end);
-            perform_duplicates(
-                rt, inputs, files, names, end, explain, progress, output, errors,
-            )
+            let task = Task::Duplicates(*names, *end);
+            perform_all(rt, inputs, files, task, explain, progress, output, errors)
         }
     }
 }

@@ -1,19 +1,29 @@
-//! How the inputs of a job are opened.
+//! How the inputs of a job are opened, and how a text takes the place of one.
 
 ghost use Rattle.gf_run.specs.Opening.{IsNotOpened, IsOpened, Opener, Opens};
 ghost use Rattle.std.specs.Prelude.{◌≡◌, MatchResult};
 
 use crate::streams::last_error::LastError;
 use crate::streams::source::Source;
+use gf_nfg::TextAndPayoffs;
 use gf_words::Input;
 use std::io;
 
-/// What opens inputs.
+/// Why a text was not put in the place of a file.
+#[derive(Clone, Copy)]
+pub enum Unreplaced {
+    /// Memory ran out.
+    Memory,
+    /// The system says why.
+    System(io::Error),
+}
+
+/// What opens inputs, and puts texts in the place of files.
 pub trait Inputs {
     /// An input that is open.
     type Opened: Source + LastError + Drop;
 
-    /// What opening gives.
+    /// What opening and replacing give.
     ghost opener: { Opener Self Self.Opened };
 
     /// Standard input.
@@ -23,6 +33,10 @@ pub trait Inputs {
     /// Opens the file of this name. A folder can be opened, and its first read fails.
     fn open(&mut self, name: &str) -> Result<Self::Opened, io::Error>
         ensures { opener.file self.old name.now result self.new };
+
+    /// Puts a text in the place of the file of this name. After an error the file is as it was.
+    fn replace(&mut self, name: &str, text: TextAndPayoffs) -> Result<(), Unreplaced>
+        ensures { opener.replaced self.old name.now text.rest result self.new };
 }
 
 /// Opens what a word names; `-` is standard input.

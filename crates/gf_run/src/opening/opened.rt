@@ -2,8 +2,10 @@
 
 ghost use Rattle.gf_run.specs.Opened.{host_opener, remaining_of};
 
-use crate::opening::inputs::Inputs;
+use crate::opening::inputs::{Inputs, Unreplaced};
+use crate::opening::replaced::replace;
 use crate::streams::counted::Counted;
+use gf_nfg::TextAndPayoffs;
 use std::fs::File;
 use std::io::{Read, Stdin};
 use std::{fs, io};
@@ -49,5 +51,9 @@ impl Inputs for HostInputs<'_> {
 
     fn open(&mut self, name: &str) -> Result<Counted<Opened<Stdin, File>>, io::Error> {
         Ok(Counted::new(Opened::File(fs::open(self.rt, name)?)))
+    }
+
+    fn replace(&mut self, name: &str, text: TextAndPayoffs) -> Result<(), Unreplaced> {
+        replace(self.rt, name, text)
     }
 }

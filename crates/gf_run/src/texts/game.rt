@@ -1,9 +1,11 @@
-//! The answers about the game in a file: its canonical text, and its kind.
+//! The answers about the game in a file: its canonical text, whether it is that already, and its
+//! kind.
 
-ghost use Rattle.std.specs.Prelude.{◌≡◌, IfErr, IfOk};
+ghost use Rattle.std.specs.Prelude.{◌≡◌, ◌↔◌, IfErr, IfOk, IsTrue};
 ghost use Rattle.gf_canon.specs.KindOfFile.{MeansFileOf};
 ghost use Rattle.gf_canon.specs.NamesAside.{IsTextBy};
 ghost use Rattle.gf_run.specs.FileKinds.{kind_line};
+ghost use Rattle.gf_run.specs.LineText.{AreCanonical};
 ghost use Rattle.gf_run.specs.Run.{IsRefusal};
 
 use crate::fault::{RunFault, refused};
@@ -20,6 +22,29 @@ pub fn canon(alloc: Global, bytes: &[u8], names: Names) -> Result<TextAndPayoffs
         Ok(text) => Ok(TextAndPayoffs::of(alloc, text)),
         Err(fault) => Err(refused(fault)),
     }
+}
+
+/// Whether these bytes are a text, which is made piece by piece up to the first that differs.
+fn are_text(bytes: &[u8], mut text: TextAndPayoffs) -> bool
+    ensures { IsTrue result ↔ (bytes.now ≡ text.rest) }
+{
+    let mut rest = bytes;
+    while text.advance() {
+        match rest.strip_prefix(text.piece()) {
+            Some(after) => rest = after,
+            None => return false,
+        }
+    }
+    rest.is_empty()
+}
+
+/// Whether the bytes of a file are its canonical text, with names or without.
+pub fn are_canonical(alloc: Global, bytes: &[u8], names: Names) -> Result<bool, RunFault>
+    ensures answer { IfOk result (AreCanonical names bytes.now) }
+    ensures refused { IfErr result (IsRefusal bytes.now) }
+{
+    let text = canon(alloc, bytes, names)?;
+    Ok(are_text(bytes, text))
 }
 
 /// The kind of a file. No node of a tree is kept, and no text of a game is made.

@@ -2,7 +2,8 @@
 
 ghost use Rattle.std.specs.Prelude.{◌≡◌, ◌++◌, OnOk};
 ghost use Rattle.std.specs.List.{flat_map, list_any};
-ghost use Rattle.gf_run.specs.NameText.{byte_text, end_text, is_escaped, mark, name_text};
+ghost use Rattle.gf_run.specs.NameText.{byte_text, end_text, is_escaped, mark, name_line};
+ghost use Rattle.gf_run.specs.NameText.{name_text};
 
 use gf_words::LineEnd;
 use std::alloc::AllocError;
@@ -70,4 +71,13 @@ pub(crate) fn push_name(text: &mut Vec<u8>, name: &str, end: LineEnd) -> Result<
         LineEnd::LineFeed => push_escaped(text, name.as_bytes()),
         LineEnd::Null => text.extend_from_slice(name.as_bytes()),
     }
+}
+
+/// Appends the line of a name.
+pub(crate) fn push_name_line(text: &mut Vec<u8>, name: &str, end: LineEnd) -> Result<(), AllocError>
+    ensures { OnOk result (text.new.items ≡ text.old.items ++ name_line end name.now) }
+{
+    text.extend_from_slice(mark(name, end))?;
+    push_name(text, name, end)?;
+    text.extend_from_slice(end_text(end))
 }

@@ -1,0 +1,88 @@
+//! How a text takes the place of a file: it is written to a new file beside it, which is then given
+//! its name.
+
+use crate::opening::inputs::Unreplaced;
+use crate::streams::counted::Counted;
+use crate::streams::last_error::LastError;
+use crate::texts::text::push_text;
+use gf_nfg::TextAndPayoffs;
+use std::alloc::AllocError;
+use std::fs::File;
+use std::io::ErrorKind;
+use std::{fs, io};
+
+/// How many names are tried for the new file.
+const TRIES: u32 = 100;
+
+impl From<AllocError> for Unreplaced {
+    fn from(_: AllocError) -> Unreplaced {
+        Unreplaced::Memory
+    }
+}
+
+impl From<io::Error> for Unreplaced {
+    fn from(error: io::Error) -> Unreplaced {
+        match error.kind() {
+            ErrorKind::OutOfMemory => Unreplaced::Memory,
+            _ => Unreplaced::System(error),
+        }
+    }
+}
+
+/// A file that is not there yet.
+#[derive(Drop)]
+struct NewFile {
+    path: String,
+    file: File,
+}
+
+/// Makes a new file beside the one at this path. Its name ends with the number of the try.
+fn new_file_beside(rt: &HostRuntime, path: &str) -> Result<NewFile, Unreplaced> {
+    for turn in 0..TRIES {
+        let number = turn.to_string(rt.alloc())?;
+        let path = [path, ".gamefile-", number.as_str()].concat(rt.alloc())?;
+        match File::create_new(rt, path.as_str()) {
+            Ok(file) => return Ok(NewFile { path, file }),
+            Err(error) if error.kind() == ErrorKind::AlreadyExists => {}
+            Err(error) => return Err(Unreplaced::from(error)),
+        }
+    }
+    Err(Unreplaced::System(io::Error::from(ErrorKind::AlreadyExists)))
+}
+
+/// Writes a text to a file.
+fn write_to(file: File, text: TextAndPayoffs) -> Result<(), io::Error> {
+    let mut output = Counted::new(file);
+    match push_text(&mut output, text) {
+        Ok(()) => Ok(()),
+        Err(_) => match output.last_error() {
+            Some(error) => Err(error),
+            None => Err(io::Error::from(ErrorKind::WriteZero)),
+        },
+    }
+}
+
+/// Puts a text in the place of the file of this name, through links, and with its permissions.
+/// Only a file can be replaced, no pipe or device.
+pub fn replace(rt: &HostRuntime, name: &str, text: TextAndPayoffs) -> Result<(), Unreplaced> {
+    let path = fs::canonicalize(rt, name)?.into_string();
+    let path = path.as_str();
+    let found = fs::metadata(rt, path)?;
+    if !found.is_file() {
+        return Err(Unreplaced::System(io::Error::from(ErrorKind::InvalidInput)));
+    }
+    let NewFile { path: new, file } = new_file_beside(rt, path)?;
+    let is_done = match file.set_permissions(found.permissions()) {
+        Ok(()) => write_to(file, text),
+        Err(error) => Err(error),
+    };
+    let is_done = match is_done {
+        Ok(()) => fs::rename(rt, new.as_str(), path),
+        Err(error) => Err(error),
+    };
+    if let Err(error) = is_done {
+        let _ = fs::remove_file(rt, new.as_str());
+        return Err(Unreplaced::from(error));
+    }
+    Ok(())
+}
