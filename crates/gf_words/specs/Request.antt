@@ -1,6 +1,6 @@
 -- What words ask for, by what `clap` finds in them: a row for each option and argument of a
 -- command, with its texts. That of a flag is `true` if it is given.
-use Rattle.std.specs.Prelude.{◌≡◌, ℕ, Bool, true, false, List, [], ◌∷◌, Option, Some, None, map}
+use Rattle.std.specs.Prelude.{◌≡◌, Bool, true, false, List, [], ◌∷◌, Option, Some, None, map}
 use Rattle.std.specs.Prelude.{codes, if◌then◌else◌, not, ◌&&◌, ◌||◌, option_map, unwrap_or}
 use Rattle.std.specs.List.{list_any}
 use Rattle.std.specs.Option.{option_map_or}
@@ -32,9 +32,13 @@ abbrev pub input_name : Input → Option Text
 input_name input.Standard = None
 input_name (input.File name) = Some (string_bytes name)
 
--- the name of the file that a word names; `-` is standard input
+-- a word for standard input
+abbrev pub is_dash : Text → Bool
+is_dash word = bytes_eq word (codes "-")
+
+-- the name of the file that a word names
 abbrev pub named : Text → Option Text
-named word = if bytes_eq word (codes "-") then None else Some word
+named word = if is_dash word then None else Some word
 
 -- NUL if a flag is given, otherwise a line feed
 abbrev pub end_by : Text → List Row → LineEnd
@@ -72,28 +76,22 @@ IsAlone None read = IsInputOf None read
 IsAlone (Some (word ∷ [])) read = IsInputOf (Some word) read
 IsAlone (Some words) read = ⊥
 
--- there are several
-abbrev pub AreSeveral : Option (List Text) → Type 0
-AreSeveral None = ⊥
-AreSeveral (Some (word ∷ [])) = ⊥
-AreSeveral (Some words) = Unit {0}
-
-abbrev pub IsCheckOf : List Row → Job → Type 0
-IsCheckOf rows (job.Check read) = IsAlone (all_of (codes "FILES") rows) read
-IsCheckOf rows (job.CheckAll files) =
-    AreSeveral (all_of (codes "FILES") rows) × ArePathsOf rows files
-IsCheckOf rows _ = ⊥
-
--- files are named, and none of them is standard input
-abbrev pub are_files : Option (List Text) → Bool
-are_files None = false
-are_files (Some words) = not (list_any (λ word. bytes_eq word (codes "-")) words)
-
 -- no file is named, or one
 abbrev pub is_one_at_most : Option (List Text) → Bool
 is_one_at_most None = true
 is_one_at_most (Some (word ∷ [])) = true
 is_one_at_most (Some words) = false
+
+abbrev pub IsCheckOf : List Row → Job → Type 0
+IsCheckOf rows (job.Check read) = IsAlone (all_of (codes "FILES") rows) read
+IsCheckOf rows (job.CheckAll files) =
+    (is_one_at_most (all_of (codes "FILES") rows) ≡ false) × ArePathsOf rows files
+IsCheckOf rows _ = ⊥
+
+-- files are named, and none of them is standard input
+abbrev pub are_files : Option (List Text) → Bool
+are_files None = false
+are_files (Some words) = not (list_any is_dash words)
 
 -- what `canon` is asked for fits together: not both to check and to write; files that can be
 -- written; and one file at most for its text, without `--quiet`

@@ -1,19 +1,22 @@
 //! The request that `clap`'s matches of the words make.
 
-ghost use Rattle.std.specs.Prelude.{◌≡◌, IfOk, MatchResult, codes, map, option_map, true};
+ghost use Rattle.std.specs.Prelude.{◌≡◌, IfOk, MatchOption, MatchResult, codes, false, map};
+ghost use Rattle.std.specs.Prelude.{option_map, true};
+ghost use Rattle.std.specs.List.{list_any};
 ghost use Rattle.std.specs.String.{string_bytes};
 ghost use Rattle.clap.specs.Matches.{found_of};
 ghost use Rattle.clap.specs.Simple.{subcommand_rows_of};
 ghost use Rattle.clap.specs.Walk.{all_of, first_of, rows_of};
-ghost use Rattle.gf_words.specs.Request.{ArePathsOf, IsCanonOf, IsCheckOf, IsInputOf};
+ghost use Rattle.gf_words.specs.Request.{ArePathsOf, IsAlone, IsCanonOf, IsCheckOf, IsInputOf};
 ghost use Rattle.gf_words.specs.Request.{IsJobOf, IsRequestBy, IsRequestOf, IsSameOf, are_files};
 ghost use Rattle.gf_words.specs.Request.{canon_fits, command_fits, end_by, file_named, has_flag};
-ghost use Rattle.gf_words.specs.Request.{input_name, named, names_of, request_fits};
+ghost use Rattle.gf_words.specs.Request.{input_name, is_dash, is_one_at_most, named, names_of};
+ghost use Rattle.gf_words.specs.Request.{request_fits};
 ghost use Rattle.gf_words.specs.declared.fault.WordsFault.TheVariants.{Memory};
 
 use crate::fault::WordsFault;
-use crate::job::{Input, Job, LineEnd, Paths, Request};
 use crate::help;
+use crate::job::{Input, Job, LineEnd, Paths, Request};
 use clap::ArgMatches;
 use gf_canon::Names;
 use std::alloc::{AllocError, Global};
@@ -137,23 +140,47 @@ fn paths_of(alloc: Global, given: &ArgMatches<'_>) -> Result<Paths, AllocError>
     }
 }
 
+/// The one file that is named, or standard input if none is; none if there are several.
+fn input_alone(alloc: Global, given: &ArgMatches<'_>) -> Result<Option<Input>, AllocError>
+    ensures { IfOk result (λ input. MatchOption input
+        (is_one_at_most (all_of (codes "FILES") (rows_of (found_of given.now))) ≡ false)
+        (IsAlone (all_of (codes "FILES") (rows_of (found_of given.now))))) }
+{
+    match texts_of(given, "FILES") {
+        None => Ok(Some(Input::Standard)),
+        Some([word]) => Ok(Some(input_named(alloc, word)?)),
+        Some(_) => Ok(None),
+    }
+}
+
 /// One file that is named, or standard input if none is, or several files.
 fn check_of(alloc: Global, given: &ArgMatches<'_>) -> Result<Job, AllocError>
     ensures { IfOk result (IsCheckOf (rows_of (found_of given.now))) }
 {
-    match texts_of(given, "FILES") {
-        None => Ok(Job::Check(Input::Standard)),
-        Some([word]) => Ok(Job::Check(input_named(alloc, word)?)),
-        Some(_) => Ok(Job::CheckAll(paths_of(alloc, given)?)),
+    match input_alone(alloc, given)? {
+        Some(input) => Ok(Job::Check(input)),
+        None => Ok(Job::CheckAll(paths_of(alloc, given)?)),
     }
+}
+
+/// Whether one of these words names standard input.
+fn have_standard(words: &[&str]) -> bool
+    ensures { result ≡ list_any is_dash (map (λ word. word.now) words.now) }
+{
+    for word in words {
+        if *word == "-" {
+            return true;
+        }
+    }
+    false
 }
 
 /// Whether files are named, and none of them is standard input.
 fn are_files(words: Option<&[&str]>) -> bool
-    ensures { result ≡ are_files (option_map (λ words. map (λ word. word.now) words.now) words) }
+    ensures { result ≡ are_files (option_map (λ words. map (λ word. word.now) words.now) words.entry) }
 {
     match words {
-        Some(words) => !words.iter().any(|word| *word == "-"),
+        Some(words) => !have_standard(words),
         None => false,
     }
 }
@@ -189,12 +216,10 @@ fn canon_of(alloc: Global, given: &ArgMatches<'_>) -> Result<Job, WordsFault>
     if is_given(given, "quiet") {
         return Err(wrong(alloc, help::QUIET_ALONE));
     }
-    let input = match texts_of(given, "FILES") {
-        None => Input::Standard,
-        Some([word]) => input_named(alloc, word)?,
-        Some(_) => return Err(wrong(alloc, help::SEVERAL_TEXTS)),
-    };
-    Ok(Job::Canon { input, names })
+    match input_alone(alloc, given)? {
+        Some(input) => Ok(Job::Canon { input, names }),
+        None => Err(wrong(alloc, help::SEVERAL_TEXTS)),
+    }
 }
 
 /// What a command asks for. The one that is not named here is `canon`.
