@@ -5,7 +5,7 @@
 _gamefile() {
     local word=${COMP_WORDS[COMP_CWORD]} options
     case ${COMP_WORDS[1]} in
-        canon) options="--explain --help --no-names" ;;
+        canon) options="--check --explain --help --no-names --quiet --write" ;;
         check) options="--explain --help --quiet" ;;
         table) options="--explain --help --reduced" ;;
         same) options="--explain --help --map --no-names" ;;

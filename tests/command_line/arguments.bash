@@ -32,7 +32,8 @@ check_words() {
         "same --map a" "canon a b" "canon --no-names --no-names" "canon --map a" "canon --reduced a" \
         "hash --map a" "hash --no-names --no-names" "duplicates --map a" "check -x" "check --no-names" \
         "check --zero a" "hash -0 a" "hash --files-from" "hash --files-from a b" "check --files-from a" \
-        "canon --quiet a" "check --explain --explain" --explain \
+        "canon --quiet a" "canon --check --write a" "canon --write" "canon --write -" "canon --write a -" \
+        "canon --check --check a" "canon --check -0 a" "canon a b --no-names" "check --explain --explain" --explain \
         "check --reduced" "table a b" "table --reduced --reduced" tree Canon can - "-- canon" --canon \
         a.efg "canon --version" "same -V a b"; do
         # shellcheck disable=SC2086

@@ -9,6 +9,8 @@ use std::alloc::Global;
 #[derive(Clone, Copy)]
 enum Asked {
     Canon(Option<&'static str>, Names),
+    CheckCanon(&'static [&'static str], Names),
+    WriteCanon(&'static [&'static str], Names),
     Check(Option<&'static str>),
     CheckAll(&'static [&'static str]),
     Table(Option<&'static str>, bool),
@@ -17,7 +19,7 @@ enum Asked {
     Usage,
 }
 
-static WORDS: [(&[&str], Asked); 23] = [
+static WORDS: [(&[&str], Asked); 28] = [
     (&[], Asked::Canon(None, Names::Kept)),
     (&["canon"], Asked::Canon(None, Names::Kept)),
     (
@@ -25,6 +27,17 @@ static WORDS: [(&[&str], Asked); 23] = [
         Asked::Canon(Some("a.nfg"), Names::Kept),
     ),
     (&["canon", "--no-names"], Asked::Canon(None, Names::Aside)),
+    (
+        &["canon", "--check", "a", "b"],
+        Asked::CheckCanon(&["a", "b"], Names::Kept),
+    ),
+    (
+        &["canon", "--write", "--no-names", "a"],
+        Asked::WriteCanon(&["a"], Names::Aside),
+    ),
+    (&["canon", "--check", "--write", "a"], Asked::Usage),
+    (&["canon", "--write"], Asked::Usage),
+    (&["canon", "--quiet"], Asked::Usage),
     (&["check", "a.efg"], Asked::Check(Some("a.efg"))),
     (&["check"], Asked::Check(None)),
     (&["check", "a", "b"], Asked::CheckAll(&["a", "b"])),
@@ -76,6 +89,12 @@ fn is_job(job: &Job, asked: Asked) -> bool {
     match (job, asked) {
         (Job::Canon { input, names }, Asked::Canon(name, other)) => {
             is_input(input, name) && *names == other
+        }
+        (Job::CheckCanon { files, names }, Asked::CheckCanon(paths, other)) => {
+            are_named(files, paths) && *names == other
+        }
+        (Job::WriteCanon { files, names }, Asked::WriteCanon(paths, other)) => {
+            are_named(files, paths) && *names == other
         }
         (Job::Check(input), Asked::Check(name)) => is_input(input, name),
         (Job::CheckAll(paths), Asked::CheckAll(names)) => are_named(paths, names),

@@ -1,5 +1,9 @@
 -- What holds for the value or for the error of a result.
-use Rattle.std.proofs.Common.{◌≡◌, Result, Ok, Err, IfErr, IfOk, IsErrAnd, OnErr, sym, subst}
+use Rattle.std.proofs.Common.{◌≡◌, Result, Ok, Err, IfErr, IfOk, IsErrAnd, OnErr, ap, sym, subst}
+use Rattle.std.specs.Prelude.{⊤}
+use Rattle.gf_run.specs.Rewritten.{without_cause}
+use Rattle.gf_run.specs.declared.collections.rewrite.Failed.{Failed}
+use Rattle.gf_run.specs.declared.fault.RunFault.{RunFault}
 
 -- an error, and what holds whether there is one or not
 pub OnErr-always : {T E : Type 0} (r : Result T E) (P : Type 0) → P → OnErr r P
@@ -22,3 +26,9 @@ pub IfOk-then : {T E : Type 0} (r : Result T E) (P Q : T → Type 0) → IfOk r 
     → ((x : T) → P x → Q x) → IfOk r Q
 IfOk-then (Ok x) P Q holds then = then x holds
 IfOk-then (Err e) P Q holds then = tt
+
+-- a failure has this fault
+pub is_failed : (r : Result ⊤ Failed) (fault : RunFault)
+    → IsErrAnd r (λ failed. failed.fault ≡ fault) → without_cause r ≡ Err fault
+is_failed (Ok x) fault is = absurd is
+is_failed (Err failed) fault is = ap Err is

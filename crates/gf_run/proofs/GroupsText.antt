@@ -10,8 +10,8 @@ use Rattle.std.specs.List.{flat_map}
 use Rattle.std.specs.Prelude.{◌⊎◌}
 use Rattle.gf_words.specs.declared.job.LineEnd.{LineEnd}
 use Rattle.gf_words.specs.declared.job.LineEnd.TheVariants.{LineFeed, Null}
-use Rattle.gf_run.specs.Duplicates.{empty_line, groups_status, groups_text, has_two, name_line}
-use Rattle.gf_run.specs.Duplicates.{name_lines}
+use Rattle.gf_run.specs.Duplicates.{empty_line, groups_status, groups_text, has_two, name_lines}
+use Rattle.gf_run.specs.NameText.{name_line}
 use Rattle.gf_run.specs.NameText.{end_text, mark, name_text}
 
 -- there are none, or the first of them begins with a name

@@ -1,3 +1,4 @@
+pub mod ComparedTexts
 pub mod Errors
 pub mod FewPlayers
 pub mod FormTexts
@@ -10,6 +11,7 @@ pub mod KindLines
 pub mod MapLines
 pub mod MoreRead
 pub mod MoreWritten
+pub mod NamedFolders
 pub mod OneGroup
 pub mod Places
 pub mod Runs

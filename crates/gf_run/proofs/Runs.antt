@@ -1,13 +1,8 @@
 -- What follows from what a run does.
 use Rattle.std.proofs.Common.{◌≡◌, ℕ, List, Result, Ok, Err, IfErr}
 use Rattle.std.specs.Prelude.{◌≢◌}
-use Rattle.std.specs.Prelude.{⊤}
-use Rattle.gf_run.specs.FileKinds.{IsNamedKind}
-use Rattle.gf_run.specs.HashText.{IsFaultOfFile, IsHashLine}
-use Rattle.gf_run.specs.Run.{Runs, RunsLine, answered, cut_off, refused, unread}
+use Rattle.gf_run.specs.Run.{Runs, answered, cut_off, refused, unread}
 use Rattle.gf_run.specs.Streams.{Reader, Writer}
-use Rattle.gf_run.specs.declared.collections.line.FileLine.{FileLine}
-use Rattle.gf_run.specs.declared.collections.line.FileLine.TheVariants.{Hash, Kind}
 use Rattle.gf_run.specs.declared.fault.RunFault.{RunFault}
 use Rattle.gf_run.specs.declared.fault.RunFault.TheVariants.{Read, Write}
 use Rattle.gf_run.specs.declared.fault.Which.{Which}
@@ -24,14 +19,6 @@ module _ {A R W : Type 0} (reader : Reader R) (writer : Writer W)
       let same : fault ≡ Write = cc in absurd (other same)
   untouched (Err fault) i i' o o' (unread other e part same) = λ _. same
   untouched (Err fault) i i' o o' (refused other bytes e whole why same) = λ _. same
-
-pub untouched_line : {R W : Type 0} (reader : Reader R) (writer : Writer W) (line : FileLine)
-    (name : List ℕ) (r : Result ⊤ RunFault) (i i' : R) (o o' : W)
-    → RunsLine reader writer line name r i i' o o' → IfErr r (λ fault. fault ≢ Write → o' ≡ o)
-untouched_line reader writer Kind name r i i' o o' h =
-    untouched reader writer (λ answer. IsNamedKind name) IsFaultOfFile r i i' o o' h
-untouched_line reader writer (Hash names end) name r i i' o o' h =
-    untouched reader writer (λ answer. IsHashLine names end name) IsFaultOfFile r i i' o o' h
 
 pub read_is_no_write : (which : Which) → Read which ≢ Write
 read_is_no_write which = λ same. absurd (cc)

@@ -38,8 +38,8 @@ IsToldOfPaths errors paths fault status old new =
 
 -- some of these, in their order
 abbrev pub AreSomeOf : {X : Type 0} → List X → List X → Type 0
-AreSomeOf [] some = some ≡ []
-AreSomeOf (x ∷ xs) some = AreSomeOf xs some
+AreSomeOf {X = X} [] some = some ≡ []
+AreSomeOf {X = X} (x ∷ xs) some = AreSomeOf xs some
     ⊎ ((rest : List X) × (some ≡ x ∷ rest) × AreSomeOf xs rest)
 
 -- folders that were named

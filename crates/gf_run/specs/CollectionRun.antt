@@ -1,5 +1,5 @@
 -- How the files of a collection are opened, one after another.
-use Rattle.std.specs.Prelude.{◌≡◌, ℕ, Bool, List, Option, Result, Err}
+use Rattle.std.specs.Prelude.{◌≡◌, ℕ, Bool, List, Option, Result, Err, ⊤}
 use Rattle.gf_run.specs.Kept.{bytes_kept, kept_at_first, source_of}
 use Rattle.gf_run.specs.Opening.{IsNotOpened, IsOpened, Opener}
 use Rattle.gf_run.specs.declared.collections.file.CollectionFile.{CollectionFile}
@@ -16,6 +16,10 @@ pub record Standing (I W E : Type 0) : Type 0 where
   pub output : W
   pub errors : E
   pub status : ℕ
+
+-- the same for a run that asks nothing of standard output
+abbrev pub without_output : {I W E : Type 0} → Standing I W E → Standing I ⊤ E
+without_output a = record { inputs = a.inputs; output = tt; errors = a.errors; status = a.status }
 
 -- for what opens inputs
 module _ {I S : Type 0} (opener : Opener I S) where

@@ -13,7 +13,8 @@ use Rattle.gf_run.specs.Opening.{Opener}
 use Rattle.gf_run.specs.Run.{IsRefusal}
 use Rattle.gf_run.specs.Streams.{Reader, Writer}
 use Rattle.gf_run.specs.declared.collections.file.CollectionFile.{CollectionFile}
-use Rattle.gf_run.specs.declared.collections.file.CollectionFile.TheVariants.{Input, NotText}
+use Rattle.gf_run.specs.declared.collections.file.CollectionFile.TheVariants.{Input}
+use Rattle.gf_run.specs.declared.collections.rewrite.Failed.{Failed}
 use Rattle.gf_run.specs.declared.fault.RunFault.{RunFault}
 use Rattle.gf_run.specs.declared.fault.RunFault.TheVariants as fault
 use Rattle.gf_run.specs.declared.fault.Which.TheVariants.{Only}
@@ -30,6 +31,11 @@ fault_of (System error) = fault.Write
 abbrev pub result_of : Result ⊤ Unreplaced → Result ⊤ RunFault
 result_of (Ok done) = Ok done
 result_of (Err why) = Err (fault_of why)
+
+-- the result of a run, without what the system says about a fault
+abbrev pub without_cause : Result ⊤ Failed → Result ⊤ RunFault
+without_cause (Ok done) = Ok done
+without_cause (Err failed) = Err failed.fault
 
 -- for what opens inputs and replaces files
 module _ {I S : Type 0} (opener : Opener I S) where
@@ -64,22 +70,22 @@ module _ {I S : Type 0} (opener : Opener I S) where
           → IsNotRead (kept_reader reader) Only why s s' → i' ≡ i → Rewrites result s s' i i'
 
 -- and for standard error; `explain` says whether a fault is explained
-module _ {I S W E : Type 0} (opener : Opener I S) (reader : Reader S) (errors : Writer E)
+module _ {I S E : Type 0} (opener : Opener I S) (reader : Reader S) (errors : Writer E)
     (explain : Bool) (names : Names) where
   -- one file: it has its canonical text; or its fault was reported
-  pub data Step (file : CollectionFile) (a b : Standing I W E) : Type 0 where
+  pub data Step (file : CollectionFile) (a b : Standing I ⊤ E) : Type 0 where
     done : (done : ⊤) (kept : Option (List ℕ))
         → Over opener explain (Rewrites opener reader names file) file (Ok done) kept
         a.inputs b.inputs
-        → b.output ≡ a.output → b.errors ≡ a.errors → b.status ≡ a.status → Step file a b
+        → b.errors ≡ a.errors → b.status ≡ a.status → Step file a b
     failed : (why : RunFault) (kept : Option (List ℕ)) (status : ℕ)
         → Over opener explain (Rewrites opener reader names file) file (Err why) kept
         a.inputs b.inputs
-        → b.output ≡ a.output → IsToldOf errors (name_of file) kept why status a.errors b.errors
+        → IsToldOf errors (name_of file) kept why status a.errors b.errors
         → b.status ≡ max a.status status → Step file a b
 
   -- the files, one after another
-  abbrev pub RewritesAll : List CollectionFile → Standing I W E → Standing I W E → Type 0
+  abbrev pub RewritesAll : List CollectionFile → Standing I ⊤ E → Standing I ⊤ E → Type 0
   RewritesAll [] a b = b ≡ a
   RewritesAll (file ∷ files) a b =
-      (mid : Standing I W E) × Step file a mid × RewritesAll files mid b
+      (mid : Standing I ⊤ E) × Step file a mid × RewritesAll files mid b

@@ -113,7 +113,16 @@ where
         Ok(found) => {
             tell_without_games(rt.alloc(), found.without_games.as_slice(), errors);
             let files = found.files.as_slice();
-            run_task(rt.alloc(), inputs, files, task, explain, progress, output, errors)
+            run_task(
+                rt.alloc(),
+                inputs,
+                files,
+                task,
+                explain,
+                progress,
+                output,
+                errors,
+            )
         }
         Err(fault) => tell_unlisted(rt.alloc(), paths, &fault, errors),
     }

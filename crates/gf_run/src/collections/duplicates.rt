@@ -1,7 +1,7 @@
 //! The run that says which files are the same game.
 
 ghost use Rattle.std.specs.Prelude.{◌≡◌, ℕ, List, Option, IfOk, Ok, OnErr};
-ghost use Rattle.gf_run.specs.CollectionRun.{Over};
+ghost use Rattle.gf_run.specs.CollectionRun.{OverAlone};
 ghost use Rattle.gf_run.specs.Duplicates.{HashedFile, IsKeptOf};
 ghost use Rattle.gf_run.specs.DuplicatesRun.{Closes, FindsAll, Reads};
 ghost use Rattle.gf_run.specs.HashText.{ReadsHash};
@@ -41,7 +41,7 @@ fn read_next<'a, I: Inputs, E: Sink>(
         (record { inputs = inputs.new; files = after; errors = errors.new; status = status })) }
     ensures out_of_memory { OnErr result ((errors.new ≡ errors.old)
         × ((hash : List ℕ) × (kept : Option (List ℕ))
-        × Over I.opener explain (ReadsHash (kept_reader I.Opened.reader) names) file.now (Ok hash)
+        × OverAlone I.opener explain (ReadsHash (kept_reader I.Opened.reader) names) file.now (Ok hash)
         kept inputs.old inputs.new)) }
 {
     let name = name_of(file);

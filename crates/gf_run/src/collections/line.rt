@@ -79,12 +79,7 @@ fn said_of_hash(
 }
 
 /// What is said of a file that should be its own canonical text.
-fn said_of_canon(
-    alloc: Global,
-    bytes: &[u8],
-    name: &str,
-    names: Names,
-) -> Result<Said, RunFault>
+fn said_of_canon(alloc: Global, bytes: &[u8], name: &str, names: Names) -> Result<Said, RunFault>
     ensures said { IfOk result (λ said.
         IsLineOf (FileLine.NotCanonical names) name.now said.good bytes.now said.text.items) }
     ensures fault { IfErr result (IsFaultOfFile bytes.now) }

@@ -72,9 +72,10 @@ fn files_named<R: Files + AllocGlobal>(
     let mut kept = KeptFiles::new(rt.alloc(), repeats);
     let mut without_games = Vec::new(rt.alloc());
     for path in paths {
-        if !push_files(rt, path.as_bytes(), &mut kept)? {
-            without_games.push(String::from_str(rt.alloc(), path.as_str())?)?;
+        if push_files(rt, path.as_bytes(), &mut kept)? {
+            continue;
         }
+        without_games.push(String::from_str(rt.alloc(), path.as_str())?)?;
     }
     Ok(FoundFiles {
         files: kept.files,

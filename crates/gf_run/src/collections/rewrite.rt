@@ -1,8 +1,8 @@
 //! The run that puts the canonical texts of files in their place.
 
-ghost use Rattle.std.specs.Prelude.{◌≡◌, MatchResult, Ok, Err};
+ghost use Rattle.std.specs.Prelude.{◌≡◌};
 ghost use Rattle.gf_run.specs.Rewritten.{IsReplacedBy, IsRewritten, Rewrites, RewritesAll, Step};
-ghost use Rattle.gf_run.specs.Rewritten.{fault_of};
+ghost use Rattle.gf_run.specs.Rewritten.{fault_of, without_cause};
 
 use crate::collections::file::{CollectionFile, name_of, open_file};
 use crate::collections::named_fault::{tell_of, tell_unopened_of};
@@ -57,10 +57,8 @@ fn replace<I: Inputs>(
     file: &CollectionFile,
     text: TextAndPayoffs,
 ) -> Result<(), Failed>
-    ensures { MatchResult result
-        (λ done. IsReplacedBy I.opener file.now text.rest (Ok done) inputs.old inputs.new)
-        (λ failed. IsReplacedBy I.opener file.now text.rest (Err failed.fault)
-        inputs.old inputs.new) }
+    ensures { IsReplacedBy I.opener file.now text.rest (without_cause result)
+        inputs.old inputs.new }
 {
     match file {
         CollectionFile::Input(Input::File(name)) => match inputs.replace(name.as_str(), text) {
@@ -79,10 +77,8 @@ fn put_text<I: Inputs>(
     bytes: &[u8],
     names: Names,
 ) -> Result<(), Failed>
-    ensures { MatchResult result
-        (λ done. IsRewritten I.opener names file.now bytes.now (Ok done) inputs.old inputs.new)
-        (λ failed. IsRewritten I.opener names file.now bytes.now (Err failed.fault)
-        inputs.old inputs.new) }
+    ensures { IsRewritten I.opener names file.now bytes.now (without_cause result)
+        inputs.old inputs.new }
 {
     if are_canonical(alloc, bytes, names)? {
         return Ok(());
@@ -99,11 +95,8 @@ fn rewrite<I: Inputs>(
     file: &CollectionFile,
     names: Names,
 ) -> Result<(), Failed>
-    ensures { MatchResult result
-        (λ done. Rewrites I.opener I.Opened.reader names file.now (Ok done)
-        source.old source.new inputs.old inputs.new)
-        (λ failed. Rewrites I.opener I.Opened.reader names file.now (Err failed.fault)
-        source.old source.new inputs.old inputs.new) }
+    ensures { Rewrites I.opener I.Opened.reader names file.now (without_cause result)
+        source.old source.new inputs.old inputs.new }
 {
     match load(alloc, source, Which::Only) {
         Ok(bytes) => put_text(alloc, inputs, file, bytes.as_slice(), names),
@@ -125,10 +118,9 @@ fn rewrite_next<I: Inputs, E: Sink>(
     worst: u8,
     errors: &mut E,
 ) -> u8
-    ensures { (W : Type 0) → (output : W)
-        → Step I.opener I.Opened.reader E.writer explain names file.now
-        (record { inputs = inputs.old; output = output; errors = errors.old; status = worst })
-        (record { inputs = inputs.new; output = output; errors = errors.new; status = result }) }
+    ensures { Step I.opener I.Opened.reader E.writer explain names file.now
+        (record { inputs = inputs.old; output = tt; errors = errors.old; status = worst })
+        (record { inputs = inputs.new; output = tt; errors = errors.new; status = result }) }
 {
     let name = name_of(file);
     let opened = match open_file(inputs, file) {
@@ -160,10 +152,9 @@ pub fn run_rewrites<I: Inputs, P: Progress, E: Sink>(
     progress: &mut P,
     errors: &mut E,
 ) -> u8
-    ensures { (W : Type 0) → (output : W)
-        → RewritesAll I.opener I.Opened.reader E.writer explain names files.now
-        (record { inputs = inputs.old; output = output; errors = errors.old; status = 0 })
-        (record { inputs = inputs.new; output = output; errors = errors.new; status = result }) }
+    ensures { RewritesAll I.opener I.Opened.reader E.writer explain names files.now
+        (record { inputs = inputs.old; output = tt; errors = errors.old; status = 0 })
+        (record { inputs = inputs.new; output = tt; errors = errors.new; status = result }) }
 {
     let mut worst = 0;
     for file in files {

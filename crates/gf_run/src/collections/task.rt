@@ -59,7 +59,9 @@ pub(crate) fn run_task<I: Inputs, P: Progress, W: Sink + LastError, E: Sink>(
 {
     match task {
         Task::Lines(line) => {
-            run_lines(alloc, inputs, files, line, explain, progress, output, errors)
+            run_lines(
+                alloc, inputs, files, line, explain, progress, output, errors,
+            )
         }
         Task::Duplicates(names, end) => run_duplicates(
             alloc, inputs, files, names, end, explain, progress, output, errors,

@@ -1,8 +1,9 @@
 use Rattle.std.proofs.Common.{◌≡◌, ◌++◌, drop, map}
+use Rattle.std.specs.String.{string_bytes}
 use Rattle.gf_run.specs.Collected.{without_games}
 use Rattle.gf_run.proofs.collections.collection.without_games.Given as goal
 
 abbrev pub invariant-loop-folder : goal.invariant-loop-folder
 invariant-loop-folder l =
-    l.text.items ++ without_games (map (λ folder. folder.items) (drop l.folder-index l.folders))
-    ≡ without_games (map (λ folder. folder.items) l.folders)
+    l.text.items ++ without_games (map string_bytes (drop l.folder-index l.folders))
+    ≡ without_games (map string_bytes l.folders)

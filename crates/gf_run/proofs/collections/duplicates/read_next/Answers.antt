@@ -1,5 +1,5 @@
 use Rattle.std.proofs.Common.{◌≡◌, ℕ, List, Option, Ok, [], ◌∷◌, ◌++◌, ap, option_map, refl, subst, sym}
-use Rattle.gf_run.specs.CollectionRun.{IsFileOpened, Over, opened, unopened}
+use Rattle.gf_run.specs.CollectionRun.{IsFileOpened, OverAlone, opened, unopened}
 use Rattle.gf_run.specs.DuplicatesRun.{failed, hashed}
 use Rattle.gf_run.specs.HashText.{ReadsHash}
 use Rattle.gf_run.specs.Kept.{bytes_kept, kept_at_first, kept_reader}
@@ -24,17 +24,17 @@ pub returns-in_err-push-in-Ok-read_hash-clause-out_of_memory :
     goal.returns-in_err-push-in-Ok-read_hash-clause-out_of_memory
 returns-in_err-push-in-Ok-read_hash-clause-out_of_memory g c =
     OnErr-always c.from_residual.result ((c.args.errors.now ≡ c.args.errors.now)
-    × ((hash : List ℕ) × (kept : Option (List ℕ)) × Over g.I.Inputs.opener c.args.explain
+    × ((hash : List ℕ) × (kept : Option (List ℕ)) × OverAlone g.I.Inputs.opener c.args.explain
     (ReadsHash (kept_reader g.I.Opened.Source.reader) c.args.names) c.args.file.now (Ok hash) kept
     c.args.inputs.now c.open_file.new.inputs)) (
       refl,
       (
         c.in-Ok-read_hash.hash,
         bytes_kept c.read_hash.new.input,
-        opened c.new-source.result c.read_hash.new.input
+        opened c.new-source.result c.read_hash.new.input c.open_file.new.inputs
             (subst (λ s. IsFileOpened g.I.Inputs.opener c.args.file.now c.args.inputs.now s
             c.open_file.new.inputs) (sym c.new-source.ensures.source) c.in-Ok.ensures)
-            c.new-source.ensures.bytes c.in-Ok-read_hash.ensures refl,
+            c.new-source.ensures.bytes (refl, c.in-Ok-read_hash.ensures) refl,
       ),
     )
 
@@ -43,10 +43,10 @@ returns-in-Ok-read_hash-clause-read g c = λ files is. (
   files ++ record { name = c.name_of-name.result.now; hash = c.in-Ok-read_hash.hash } ∷ [],
   c.in_ok-push-in-Ok-read_hash.ensures files is,
   hashed c.in-Ok-read_hash.hash (bytes_kept c.read_hash.new.input)
-      (opened c.new-source.result c.read_hash.new.input
+      (opened c.new-source.result c.read_hash.new.input c.open_file.new.inputs
       (subst (λ s. IsFileOpened g.I.Inputs.opener c.args.file.now c.args.inputs.now s
       c.open_file.new.inputs) (sym c.new-source.ensures.source) c.in-Ok.ensures)
-      c.new-source.ensures.bytes c.in-Ok-read_hash.ensures refl)
+      c.new-source.ensures.bytes (refl, c.in-Ok-read_hash.ensures) refl)
       (ap (λ (name : List ℕ).
       files ++ record { name = name; hash = c.in-Ok-read_hash.hash } ∷ []) c.name_of-name.ensures)
       refl refl,
@@ -58,10 +58,10 @@ returns-clause-read g c = λ files is. (
   is,
   failed c.in-Err-read_hash.fault (option_map (λ bytes. bytes.now) c.bytes.result)
       c.tell_of.result
-      (opened c.new-source.result c.read_hash.new.input
+      (opened c.new-source.result c.read_hash.new.input c.open_file.new.inputs
       (subst (λ s. IsFileOpened g.I.Inputs.opener c.args.file.now c.args.inputs.now s
       c.open_file.new.inputs) (sym c.new-source.ensures.source) c.in-Ok.ensures)
-      c.new-source.ensures.bytes c.in-Err-read_hash.ensures c.bytes.ensures) refl
+      c.new-source.ensures.bytes (refl, c.in-Err-read_hash.ensures) c.bytes.ensures) refl
       (subst (λ (name : List ℕ). IsToldOf g.E.Sink.writer name
       (option_map (λ bytes. bytes.now) c.bytes.result) c.in-Err-read_hash.fault
       c.tell_of.result c.args.errors.now c.tell_of.new.errors)

@@ -13,11 +13,17 @@ pub returns-in-Same : goal.returns-in-Same
 returns-in-Same g c = rw c.in-Same.is
     (rw (c.as_str-a.ensures.value, c.as_str-b.ensures.value) at c.perform_same.ensures)
 
+pub returns-in-CheckCanon : goal.returns-in-CheckCanon
+returns-in-CheckCanon g c = rw c.in-CheckCanon.is c.perform_all.ensures
+
+pub returns-in-WriteCanon : goal.returns-in-WriteCanon
+returns-in-WriteCanon g c = rw c.in-WriteCanon.is c.perform_all-in-WriteCanon.ensures
+
 pub returns-in-CheckAll : goal.returns-in-CheckAll
-returns-in-CheckAll g c = rw c.in-CheckAll.is c.perform_lines.ensures
+returns-in-CheckAll g c = rw c.in-CheckAll.is c.perform_all-in-CheckAll.ensures
 
 pub returns-in-Hash : goal.returns-in-Hash
-returns-in-Hash g c = rw c.in-Hash.is c.perform_lines-in-Hash.ensures
+returns-in-Hash g c = rw c.in-Hash.is c.perform_all-in-Hash.ensures
 
 pub returns-in-Duplicates : goal.returns-in-Duplicates
-returns-in-Duplicates g c = rw c.in-Duplicates.is c.perform_duplicates.ensures
+returns-in-Duplicates g c = rw c.in-Duplicates.is c.perform_all-in-Duplicates.ensures
