@@ -11,8 +11,6 @@ pub mod MapLines
 pub mod MoreRead
 pub mod MoreWritten
 pub mod OneGroup
-pub mod Places
 pub mod Runs
-pub mod ShownTexts
 pub mod TwoFiles
 pub mod WeakerRequests

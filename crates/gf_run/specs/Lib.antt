@@ -24,11 +24,9 @@ pub mod Opening
 pub mod Output
 pub mod Performed
 pub mod Performs
-pub mod Place
 pub mod Run
 pub mod RunOfTwo
 pub mod SameFaults
 pub mod SameText
-pub mod Shown
 pub mod Streams
 pub mod Turns
