@@ -8,6 +8,8 @@
 
 /* The proved calls. */
 uint32_t gamefile_c_check(const uint8_t *in, size_t n, uint32_t *kind, gamefile_fault *fault);
+uint32_t gamefile_c_explain(const uint8_t *in, size_t n, const uint8_t *name, size_t name_length,
+                            uint8_t *out, size_t cap, size_t *needed, gamefile_fault *fault);
 uint32_t gamefile_c_canonical(const uint8_t *in, size_t n, uint32_t flags, uint8_t *out, size_t cap,
                               size_t *needed, gamefile_fault *fault);
 uint32_t gamefile_c_hash(const uint8_t *in, size_t n, uint32_t flags, uint8_t *out, size_t cap,
@@ -49,6 +51,21 @@ gamefile_status gamefile_check(const uint8_t *in, size_t n, gamefile_kind *kind,
     if (status == GAMEFILE_OK && kind != NULL)
         *kind = (gamefile_kind)number;
     return status;
+}
+
+gamefile_status gamefile_explain(const uint8_t *in, size_t n, const char *name, uint8_t *out, size_t cap,
+                                 size_t *needed, gamefile_fault *fault)
+{
+    gamefile_fault unasked_fault;
+    size_t unasked_needed;
+    uint8_t nowhere;
+    if (!is_bytes(in, n) || !is_bytes(out, cap))
+        return GAMEFILE_MISUSE;
+    if (name == NULL)
+        name = "<input>";
+    return (gamefile_status)gamefile_c_explain(
+        bytes_at(in), n, (const uint8_t *)name, strlen(name), out != NULL ? out : &nowhere, cap,
+        needed != NULL ? needed : &unasked_needed, fault != NULL ? fault : &unasked_fault);
 }
 
 gamefile_status gamefile_canonical(const uint8_t *in, size_t n, unsigned flags, uint8_t *out,

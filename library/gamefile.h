@@ -59,7 +59,8 @@ enum {
 /* Why a file is refused, and where: the number of the code (4 for E4), what was expected (0 unless
  * the code is 3), and the range of bytes, counted from 0; `end` is one past the last byte. A call
  * sets the fault if it returns GAMEFILE_REFUSED. It also sets it, with the code 19, if it returns
- * GAMEFILE_NOMEM because memory ran out while it read a file. */
+ * GAMEFILE_NOMEM because memory ran out while it read a file. gamefile_explain sets it whenever a
+ * file is refused. */
 typedef struct {
     uint32_t code;
     uint32_t expected;
@@ -86,6 +87,18 @@ const char *gamefile_version(void);
 
 /* Returns GAMEFILE_OK if the bytes are a valid game file; `kind` is then its kind. */
 gamefile_status gamefile_check(const uint8_t *in, size_t n, gamefile_kind *kind, gamefile_fault *fault);
+
+/* Explains in words why a file is refused, as the program does with --explain: the text has the line
+ * and the column, the code and the place, what is wrong, the line of the file with marks under the
+ * place, and often a hint. Each line ends with a line feed, and there are no other control
+ * characters.
+ *
+ * The text begins with `name`, a string in UTF-8; NULL stands for "<input>". After GAMEFILE_REFUSED
+ * it is in the buffer, and `needed` is its length; after GAMEFILE_TOO_SMALL `needed` is the length
+ * too. A buffer of strlen(name) + 1024 bytes is long enough for it. If the bytes are a valid game
+ * file, the call returns GAMEFILE_OK and writes nothing. */
+gamefile_status gamefile_explain(const uint8_t *in, size_t n, const char *name, uint8_t *out, size_t cap,
+                                 size_t *needed, gamefile_fault *fault);
 
 /* Writes the canonical text of a file. Two files have equal texts exactly when they mean the same
  * game. Flags: 0 or GAMEFILE_NO_NAMES. After GAMEFILE_OK and GAMEFILE_TOO_SMALL, `needed` is the

@@ -185,6 +185,8 @@ static void try_right(score *s, const file *f)
     size_t i;
     int is_tree = f->expected.at[0] == 'E';
 
+    expect(s, gamefile_explain(f->game.at, f->game.n, f->path, NULL, 0, NULL, NULL) == GAMEFILE_OK, f->path,
+           "nothing to explain");
     expect(s, gamefile_check(f->game.at, f->game.n, &kind, &fault) == GAMEFILE_OK, f->path, "check");
     expect(s, kind == (is_tree ? GAMEFILE_TREE : GAMEFILE_TABLE), f->path, "kind");
     text = text_of(s, f, 0, 0, &status);
@@ -209,6 +211,31 @@ static void try_right(score *s, const file *f)
         }
         free(text.at);
     }
+}
+
+/* The explanation of a refusal has the place and the line of the program, and fits its exact length. */
+static void try_explanation(score *s, const file *f)
+{
+    gamefile_fault fault = {0, 0, 0, 0}, again_fault = {0, 0, 0, 0};
+    char expected[128];
+    size_t needed = 0, again = 0;
+    char *text;
+    expect(s, gamefile_explain(f->game.at, f->game.n, f->path, NULL, 0, &needed, &fault) == GAMEFILE_TOO_SMALL
+                  && is_fault(&fault, f->expected), f->path, "how long an explanation is");
+    expect(s, needed <= strlen(f->path) + 1024, f->path, "an explanation is short");
+    text = (char *)malloc(needed + 1);
+    if (text == NULL)
+        abort();
+    text[needed] = '#';
+    expect(s, gamefile_explain(f->game.at, f->game.n, f->path, (uint8_t *)text, needed, &again, &again_fault)
+                  == GAMEFILE_REFUSED && again == needed && is_fault(&again_fault, f->expected), f->path,
+           "refused by explain");
+    expect(s, text[needed] == '#', f->path, "the end of the buffer");
+    text[needed] = '\0';
+    snprintf(expected, sizeof expected, ": %.*s: ", (int)f->expected.n - 1, (const char *)f->expected.at);
+    expect(s, strlen(text) == needed && strncmp(text, f->path, strlen(f->path)) == 0
+                  && strstr(text, expected) != NULL && text[needed - 1] == '\n', f->path, "explanation");
+    free(text);
 }
 
 static void try_refused(score *s, const file *f)
@@ -255,6 +282,30 @@ static void try_refused(score *s, const file *f)
     expect(s, needed == 7 && pair.kind == 7, f->path, "the pairs stay");
 }
 
+/* What no file shows of explanations: null pointers, names, and a valid file. */
+static void try_explain_layer(score *s)
+{
+    static const uint8_t game[] = "NFG 1 R \"a\" { \"A\" } { 1 } 2";
+    static const char unnamed[] = "<input>:1:1: E3 at 0..0: expected `NFG` or `EFG` at the start of the file, "
+                                  "found the end of the file\n  1 | \n    | ^\n";
+    static const char shown[] = "a?[31m\xef\xbf\xbd:1:1: ";
+    gamefile_fault fault = {7, 7, 7, 7};
+    uint8_t out[512] = "as it was";
+    size_t n = sizeof game - 1, needed = 7;
+
+    expect(s, gamefile_explain(game, n, "x", out, sizeof out, &needed, &fault) == GAMEFILE_OK && needed == 7
+                  && fault.code == 7 && strcmp((char *)out, "as it was") == 0, "explain", "a valid file");
+    expect(s, gamefile_explain(game, n - 1, "x", out, 4, &needed, NULL) == GAMEFILE_TOO_SMALL && needed > 4
+                  && strcmp((char *)out, "as it was") == 0, "explain", "too small");
+    expect(s, gamefile_explain(NULL, 0, NULL, out, sizeof out, &needed, NULL) == GAMEFILE_REFUSED
+                  && needed == sizeof unnamed - 1 && memcmp(out, unnamed, needed) == 0, "NULL", "explain");
+    expect(s, gamefile_explain(NULL, 0, "a\033[31m\xff", out, sizeof out, NULL, NULL) == GAMEFILE_REFUSED
+                  && memcmp(out, shown, sizeof shown - 1) == 0, "explain", "names");
+    expect(s, gamefile_explain(NULL, 1, "x", NULL, 0, NULL, NULL) == GAMEFILE_MISUSE
+                  && gamefile_explain(game, n, "x", NULL, 1, NULL, NULL) == GAMEFILE_MISUSE, "NULL",
+           "explain, not empty");
+}
+
 /* What no file shows: null pointers, flags, and numbers that are never changed. */
 static void try_layer(score *s)
 {
@@ -284,6 +335,7 @@ static void try_layer(score *s)
                   && fault.expected == GAMEFILE_WHAT_FORMAT && fault.end == 0, "NULL", "empty");
     expect(s, gamefile_check(NULL, 1, &kind, &fault) == GAMEFILE_MISUSE, "NULL", "not empty");
     expect(s, gamefile_check(game, n, NULL, NULL) == GAMEFILE_OK, "NULL", "no answer expected");
+    try_explain_layer(s);
     expect(s, gamefile_canonical(NULL, 0, 0, NULL, 0, NULL, NULL) == GAMEFILE_REFUSED, "NULL",
            "canonical");
     expect(s, gamefile_canonical(game, n, 0, NULL, 1, NULL, NULL) == GAMEFILE_MISUSE, "NULL", "buffer");
@@ -330,10 +382,12 @@ static void *try_all(void *to)
     size_t i;
     try_layer(s);
     for (i = 0; i < file_count; i++) {
-        if (files[i].is_right)
+        if (files[i].is_right) {
             try_right(s, &files[i]);
-        else
+        } else {
             try_refused(s, &files[i]);
+            try_explanation(s, &files[i]);
+        }
     }
     return NULL;
 }

@@ -11,7 +11,7 @@
 #include <stdlib.h>
 #include <string.h>
 
-enum { CALLS = 11, ROOM = 1 << 16 };
+enum { CALLS = 12, EXPLAIN = 11, ROOM = 1 << 16 };
 
 void *__real_malloc(size_t n);
 void *__real_realloc(void *at, size_t n);
@@ -89,6 +89,9 @@ static void make(int call, const uint8_t *game, size_t n, answer *to)
     case 9:
         to->status = gamefile_same(game, n, game, n - 1, GAMEFILE_NO_NAMES, fault, NULL);
         break;
+    case EXPLAIN:
+        to->status = gamefile_explain(game, n, "game", out, ROOM, NULL, fault);
+        break;
     default:
         to->status = gamefile_renumbering(game, n, game, n - 1, (gamefile_pair *)(void *)out,
                                           ROOM / sizeof(gamefile_pair), NULL, fault, NULL);
@@ -102,12 +105,17 @@ static int is_same(const answer *a, const answer *b)
            && memcmp(a->out, b->out, ROOM) == 0;
 }
 
-/* Whether memory ran out, and nothing was written; in a file that is refused, before its refusal. */
-static int is_out_of_memory(const answer *a, const answer *expected)
+/* Whether memory ran out, and nothing was written; in a file that is refused, before its refusal, or for
+ * its explanation. */
+static int is_out_of_memory(int call, const answer *a, const answer *expected)
 {
     static const uint8_t zeros[ROOM];
-    return a->status == GAMEFILE_NOMEM && memcmp(a->out, zeros, ROOM) == 0
-           && (a->fault.code == 0 || a->fault.code == 19)
+    int is_refusal = memcmp(&a->fault, &expected->fault, sizeof a->fault) == 0;
+    if (a->status != GAMEFILE_NOMEM || memcmp(a->out, zeros, ROOM) != 0)
+        return 0;
+    if (call == EXPLAIN && expected->status == GAMEFILE_REFUSED && is_refusal)
+        return 1;
+    return (a->fault.code == 0 || a->fault.code == 19)
            && (expected->status != GAMEFILE_REFUSED || a->fault.end <= expected->fault.start);
 }
 
@@ -127,7 +135,7 @@ static int is_well(int call, const uint8_t *game, size_t n, unsigned long count)
         /* Each call needs some memory, of each file. */
         if (refusals == count)
             return number > 0 && is_same(&found, &expected);
-        if (!is_out_of_memory(&found, &expected) && !is_same(&found, &expected))
+        if (!is_out_of_memory(call, &found, &expected) && !is_same(&found, &expected))
             return 0;
         left = ALL;
         make(call, game, n, &found);

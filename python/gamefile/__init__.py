@@ -23,7 +23,7 @@ program gamefile.
 from ._library import version as _version
 from .collection import Entry, collect
 from .errors import Error, GameFileError, TableError
-from .games import Renumbering, canonical, check, key, renumbering, same, table
+from .games import Renumbering, canonical, check, explain, key, renumbering, same, table
 
 __all__ = [
     "Entry",
@@ -35,6 +35,7 @@ __all__ = [
     "canonical",
     "check",
     "collect",
+    "explain",
     "key",
     "renumbering",
     "same",

@@ -9,14 +9,14 @@ from contextlib import contextmanager, suppress
 from typing import BinaryIO, Callable, Iterator, List, NoReturn, Tuple
 from unicodedata import category
 
-from . import Error, GameFileError, TableError, __version__
-from . import canonical, check, key, renumbering, same, table
+from . import Error, GameFileError, TableError, __version__, _library
+from . import canonical, check, explain, key, renumbering, same, table
 from .collection import game_files
 
 # The program reads no longer input; the library has no limit.
 LIMIT = 16_777_216
 
-Answer = Callable[[bytes, str], str]
+Answer = Callable[[str], str]
 
 
 class TooLong(Exception):
@@ -26,6 +26,17 @@ class TooLong(Exception):
 class Unwritten(Exception):
     """The output cannot be written."""
 
+    def __init__(self, cause: OSError) -> None:
+        self.cause = cause
+
+
+class Explained(Exception):
+    """A failure in words, which begin with the name of its file if that is refused."""
+
+    def __init__(self, words: str, failure: Exception) -> None:
+        self.words, self.failure = words, failure
+        self.is_named = isinstance(failure, (GameFileError, TooLong))
+
 
 class Named(Exception):
     """A failure with the name of the file that it is about."""
@@ -34,7 +45,8 @@ class Named(Exception):
         self.name, self.failure = name, failure
 
 
-FAILURES = (Error, TooLong, Unwritten, Named, OSError, MemoryError)
+CAUSES = (Error, TooLong, Unwritten, OSError, MemoryError)
+FAILURES = (*CAUSES, Explained, Named)
 
 
 @contextmanager
@@ -46,16 +58,49 @@ def about(name: str) -> Iterator[None]:
         raise Named(name, failure) from failure
 
 
+@contextmanager
+def explained(asked: bool, name: str = "", data: bytes = b"") -> Iterator[None]:
+    """Puts a failure into words if that is asked for, by the name and the bytes of its file."""
+    try:
+        yield
+    except CAUSES as failure:
+        if not asked:
+            raise
+        raise Explained(in_words(failure, name, data), failure) from failure
+
+
 def shown(name: str) -> str:
     """The name of a file as it may stand on a terminal: without control characters."""
     return "".join("?" if category(character) == "Cc" else character for character in name)
 
 
+def reason(failure: OSError) -> str:
+    return f"{failure.strerror} (os error {failure.errno})"
+
+
+def in_words(failure: Exception, name: str, data: bytes) -> str:
+    """What the program says about a failure with --explain, without its last line feed."""
+    line, _ = described(failure)
+    if isinstance(failure, GameFileError):
+        return (explain(data, name=name) or line).removesuffix("\n")
+    if isinstance(failure, TooLong):
+        return f"{shown(name)}: {line}: {_library.message(1, 0).decode()}"
+    if isinstance(failure, Unwritten):
+        return f"{line}: cannot write the output: {reason(failure.cause)}"
+    if isinstance(failure, OSError):
+        verb = "read" if isinstance(failure, IsADirectoryError) else "open"
+        return f"{line}: cannot {verb} {shown(name)}: {reason(failure)}"
+    return f"{line}: out of memory"
+
+
 def described(failure: Exception) -> Tuple[str, int]:
     """The line of a failure, and its status."""
+    if isinstance(failure, Explained):
+        return failure.words, described(failure.failure)[1]
     if isinstance(failure, Named):
         line, status = described(failure.failure)
-        return f"{shown(failure.name)}: {line}", status
+        is_named = isinstance(failure.failure, Explained) and failure.failure.is_named
+        return line if is_named else f"{shown(failure.name)}: {line}", status
     if isinstance(failure, GameFileError):
         file = {"a": "A: ", "b": "B: ", None: ""}[failure.which]
         return f"{file}{failure.code} at {failure.start}..{failure.end}", 2
@@ -74,8 +119,8 @@ def write(data: bytes) -> None:
     try:
         while left:
             left = left[os.write(1, left) :]
-    except OSError:
-        raise Unwritten from None
+    except OSError as cause:
+        raise Unwritten(cause) from None
 
 
 def say(line: str) -> None:
@@ -133,7 +178,7 @@ def run_each(names: List[str], answer: Answer) -> int:
     for name in (file for given in names for file in files_of(given)):
         try:
             with about(name):
-                line = answer(read(opened(name)), name)
+                line = answer(name)
         except Named as failure:
             worst = max(worst, tell(failure))
         else:
@@ -151,15 +196,25 @@ def hash_line(digest: str, name: str) -> str:
 def run_hash(options: argparse.Namespace) -> int:
     return run_each(
         options.files or ["-"],
-        lambda data, name: hash_line(key(data, names=options.names), name),
+        lambda name: hash_line(key(read(opened(name)), names=options.names), name),
     )
+
+
+def kind(file: str, name: str, explains: bool) -> str:
+    """What a file holds."""
+    with explained(explains, name):
+        data = read(opened(file))
+    with explained(explains, name, data):
+        return check(data)
 
 
 def run_check(options: argparse.Namespace) -> int:
     files = options.files or ["-"]
-    if len(files) > 1 or os.path.isdir(files[0]):
-        return run_each(files, lambda data, name: f"{name}: {check(data)}\n")
-    write(f"{check(read(opened(files[0])))}\n".encode())
+    with explained(options.explain):
+        if len(files) > 1 or os.path.isdir(files[0]):
+            return run_each(files, lambda name: f"{name}: {kind(name, name, options.explain)}\n")
+        name = "<stdin>" if files[0] == "-" else files[0]
+        write(f"{kind(files[0], name, options.explain)}\n".encode())
     return 0
 
 
@@ -217,6 +272,7 @@ def parser() -> Parser:
         of_one.add_argument("file", metavar="FILE", nargs="?", default="-")
     for of_many in (checks, hashes):
         of_many.add_argument("files", metavar="FILE|FOLDER", nargs="*")
+    checks.add_argument("--explain", action="store_true", help="say what is wrong, and where")
     tables.add_argument("--reduced", action="store_true", help="leave out choices that cannot matter")
     sames.add_argument("a", metavar="A")
     sames.add_argument("b", metavar="B")

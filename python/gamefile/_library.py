@@ -46,6 +46,7 @@ _code = (ctypes.c_uint32, ctypes.c_uint32)
 
 version = _call("gamefile_version", result=ctypes.c_char_p)
 check = _call("gamefile_check", *_input, ctypes.POINTER(ctypes.c_int), _fault)
+explain = _call("gamefile_explain", *_input, ctypes.c_char_p, *_output, _fault)
 canonical = _call("gamefile_canonical", *_input, _flags, *_output, _fault)
 hash = _call("gamefile_hash", *_input, _flags, ctypes.c_char_p, _fault)
 table = _call("gamefile_table", *_input, _flags, *_output, _fault, _profile)

@@ -1,15 +1,18 @@
 """Questions about one game file, or about two."""
 import ctypes
+import os
 from typing import Dict, Literal, NamedTuple, Optional, Tuple
 
 from . import _library
 from ._inputs import Input, Source
 from .errors import GameFileError, TableError
 
-__all__ = ["Renumbering", "canonical", "check", "key", "renumbering", "same", "table"]
+__all__ = ["Renumbering", "canonical", "check", "explain", "key", "renumbering", "same", "table"]
 
 # An answer that does not fit is computed twice, and a table may be much longer than its tree.
 _LEAST_ROOM = 1 << 14
+# An explanation is seldom longer, but for the name of its file.
+_ROOM_OF_WORDS = 1 << 10
 # No set or outcome is described in fewer bytes.
 _BYTES_OF_A_PAIR = 8
 
@@ -70,6 +73,36 @@ def check(data: Source) -> Literal["tree", "table"]:
     with Input(data) as game:
         _judge(_library.check(*game.given, kind, fault), game, fault)
     return "tree" if kind.value == _library.TREE else "table"
+
+
+def explain(data: Source, *, name: Optional[str] = None) -> Optional[str]:
+    """Returns why a file is refused, in the words of the program's ``--explain``.
+
+    The text begins with the name: by default that is the path, or ``<input>`` for bytes. Returns None
+    if the file is valid.
+
+    Raises OSError if the file cannot be read, and MemoryError.
+
+    >>> print(explain(b'NFG 1 R "" { "A" } { 2 } 1 two', name="game.nfg"), end="")
+    game.nfg:1:28: E4 at 27..30: `two` is not a number
+      1 | NFG 1 R "" { "A" } { 2 } 1 two
+        |                            ^^^
+      hint: write 3, -0.5, 1e-3 or 1/3
+    """
+    if name is None:
+        name = os.fspath(data) if isinstance(data, os.PathLike) else "<input>"
+    called = os.fsencode(name)
+    fault = _library.Fault()
+    with Input(data) as game:
+        needed = ctypes.c_size_t(len(called) + _ROOM_OF_WORDS)
+        while True:
+            room = ctypes.create_string_buffer(needed.value)
+            status = _library.explain(*game.given, called, room, len(room), needed, fault)
+            if status == _library.REFUSED:
+                return memoryview(room)[: needed.value].tobytes().decode()
+            if status != _library.TOO_SMALL:
+                _judge(status, game, fault)
+                return None
 
 
 def canonical(data: Source, *, names: bool = True) -> bytes:

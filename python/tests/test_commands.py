@@ -82,6 +82,19 @@ def test_a_minus_is_standard_input():
     assert judge(["same", "-", "/dev/null"], input=GAME) == (b"", b"B: E3 at 0..0\n", 2)
 
 
+def test_check_explains():
+    refused = [file for file in some_files() if not file.with_suffix(".out").exists()]
+    found = judge_all([["check", "--explain", file] for file in [*refused, "missing", *some_files()[:2]]])
+    assert {status for _, _, status in found} == {0, 2, 4} and any(b"  hint: " in it[1] for it in found)
+    judge(["check", "--explain", *refused, "missing", "mis\x1b[31msing"])
+    judge(["check", "--explain", TESTS / "corpus"])
+    for words in ([], ["-"], ["-", "-"]):
+        judge(["check", "--explain", *words], input=GAME[:-3])
+    with tempfile.NamedTemporaryFile() as file:
+        file.truncate(LIMIT + 1)
+        judge_all([["check", "--explain", *[file.name] * count] for count in (1, 2)])
+
+
 def test_what_cannot_be_read():
     for name in ("missing", "."):
         for words in (["canon"], ["table"]):
@@ -99,7 +112,8 @@ def test_the_limit_of_the_program():
 
 
 def test_output_that_cannot_be_written():
-    for words in (["canon"], ["check"], ["hash"], ["same", "/dev/stdin", "/dev/null"]):
+    explained = ["check", "--explain"], ["check", "--explain", "-", "-"]
+    for words in (["canon"], ["check"], *explained, ["hash"], ["same", "/dev/stdin", "/dev/null"]):
         with open("/dev/full", "wb") as full:
             options = {"input": GAME, "stdout": full, "stderr": subprocess.PIPE, "check": False}
             runs = [subprocess.run([*start, *words], **options) for start in ([PROGRAM], PACKAGE)]

@@ -11,6 +11,7 @@ import pickle
 import re
 import subprocess
 import sys
+import tempfile
 import threading
 import time
 from concurrent.futures import ThreadPoolExecutor
@@ -62,12 +63,19 @@ def by_package(call, data, **options):
         return f"{error}\n"
 
 
+def told(data):
+    """Gives what the program writes with --explain about a file that it refuses, or None."""
+    text = by_program(["check", "--explain"], data)
+    return text if isinstance(text, str) else None
+
+
 def judge_file(data):
     """Gives the names of the calls that do not answer as the program."""
     text = by_program(["canon"], data)
     kind = by_package(gamefile.check, data)
     expected = {
         "check": (f"{kind}\n".encode() if kind in ("tree", "table") else kind, by_program(["check"], data)),
+        "explain": (gamefile.explain(data, name="<stdin>"), told(data)),
         "canonical": (by_package(gamefile.canonical, data), text),
         "table": (by_package(gamefile.table, data), by_program(["table"], data)),
         "reduced": (
@@ -105,6 +113,21 @@ def judge_pair(pair):
             expected = texts[0] == texts[1]
         if answer != expected:
             failed.append(f"same, names={names}: {answer} and not {expected}")
+    return failed
+
+
+def judge_names():
+    """Gives what is wrong with the names that explanations begin with, and with buffers that are too small."""
+    failed = []
+    with tempfile.TemporaryDirectory() as folder:
+        for name in ("game.efg", "\x1b[31m\u0085", "ü\u4e2d" * 30):
+            path = Path(folder, name)
+            path.write_bytes(b'EFG 2 R "" { "A" } t "" 1')
+            ran = subprocess.run([PROGRAM, "check", "--explain", path], capture_output=True, timeout=60)
+            failed += [] if gamefile.explain(path) == ran.stderr.decode() else [f"explain of {name!r}"]
+    for name, shown in ((None, "<input>"), ("a\udcffb", "a\ufffdb"), ("\udcff" * 2000, "\ufffd" * 2000)):
+        found = gamefile.explain(b"", name=name)
+        failed += [] if found.startswith(f"{shown}:1:1: E3 at 0..0: ") else [f"explain by the name {name!r}"]
     return failed
 
 
@@ -217,7 +240,7 @@ def main():
     with ThreadPoolExecutor() as pool:
         results = [*pool.map(judge_file, files), *pool.map(judge_pair, pairs)]
         results += pool.map(judge_renumbering, renumbered)
-    results += [judge_no_renumbering(), judge_lock(), judge_threads(), judge_examples()]
+    results += [judge_names(), judge_no_renumbering(), judge_lock(), judge_threads(), judge_examples()]
     failed = [line for lines in results for line in lines]
     for line in failed:
         print(f"FAILED {line[:400]}")

@@ -29,6 +29,7 @@ CALLS = [
     gamefile.key,
     gamefile.table,
     partial(gamefile.table, reduced=True),
+    partial(gamefile.explain, name="game"),
 ]
 CALLS_OF_TWO = [gamefile.same, partial(gamefile.same, names=False), gamefile.renumbering]
 
@@ -175,8 +176,8 @@ def test_docstrings_say_what_is_raised():
         if inspect.isfunction(value):
             text = inspect.getdoc(value)
             assert "Raises " in text and "OSError" in text, name
-            # Of these, collect alone takes no file.
-            assert ("GameFileError" in text) == (name != "collect"), name
+            # Of these, collect takes no file, and explain returns what the others raise.
+            assert ("GameFileError" in text) == (name not in ("collect", "explain")), name
             assert ("TableError" in text) == (name == "table"), name
     assert "two files have equal texts exactly when they mean the same game" in gamefile.canonical.__doc__
 

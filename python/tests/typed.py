@@ -15,7 +15,8 @@ def take_every_source(
         gamefile.check(text)
     key: str = gamefile.key(b) + gamefile.key(f)
     is_same: bool = gamefile.same(c, d) or gamefile.same(a, key.encode())
-    return "tree" if is_same else gamefile.check(a)
+    words: Optional[str] = gamefile.explain(d, name="game.efg") or gamefile.explain(c)
+    return "tree" if is_same or words else gamefile.check(a)
 
 
 def take_answers(game: bytes) -> Optional[Dict[Tuple[int, int], int]]:

@@ -1,5 +1,6 @@
 pub mod Checked
 pub mod Compared
+pub mod Explained
 pub mod Handed
 pub mod Numbers
 pub mod Paired

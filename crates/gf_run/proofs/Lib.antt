@@ -13,8 +13,6 @@ pub mod MoreRead
 pub mod MoreWritten
 pub mod NamedFolders
 pub mod OneGroup
-pub mod Places
 pub mod Runs
-pub mod ShownTexts
 pub mod TwoFiles
 pub mod WeakerRequests

@@ -1,9 +1,6 @@
 -- The line on standard error of each fault of a run.
-use Rattle.std.specs.Prelude.{ℕ, List, [], ◌++◌, codes, decimal}
-use Rattle.gf_token.specs.Code.{code_of}
-use Rattle.gf_token.specs.declared.fault.Fault.{Fault}
-use Rattle.gf_form.specs.declared.fault.FormFault.{FormFault}
-use Rattle.gf_form.specs.declared.fault.FormFault.TheVariants as form
+use Rattle.std.specs.Prelude.{ℕ, List, [], ◌++◌, codes}
+use Rattle.gf_explain.specs.FaultLine.{form_text, place_text}
 use Rattle.gf_run.specs.declared.fault.RunFault.{RunFault}
 use Rattle.gf_run.specs.declared.fault.RunFault.TheVariants.{Refused, Read, Write, Form, Memory}
 use Rattle.gf_run.specs.declared.fault.Which.{Which}
@@ -14,17 +11,6 @@ abbrev pub prefix_of : Which → List ℕ
 prefix_of Only = []
 prefix_of First = codes "A: "
 prefix_of Second = codes "B: "
-
--- a refusal's code and place
-abbrev pub place_text : Fault → List ℕ
-place_text fault = codes "E" ++ decimal (code_of fault.why)
-    ++ codes " at " ++ decimal fault.span.start ++ codes ".." ++ decimal fault.span.end
-
--- why a game has no table
-abbrev pub form_text : FormFault → List ℕ
-form_text form.TooManyProfiles = codes "too many profiles"
-form_text (form.Overflow profile) = codes "overflow at profile " ++ decimal profile
-form_text form.Memory = codes "E19"
 
 -- the input that the line of a fault begins with
 abbrev pub fault_prefix : RunFault → List ℕ

@@ -25,13 +25,11 @@ pub mod Opening
 pub mod Output
 pub mod Performed
 pub mod Performs
-pub mod Place
 pub mod Rewritten
 pub mod Run
 pub mod RunOfTwo
 pub mod SameFaults
 pub mod SameText
-pub mod Shown
 pub mod Streams
 pub mod Task
 pub mod Turns

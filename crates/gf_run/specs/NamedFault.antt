@@ -6,7 +6,7 @@ use Rattle.gf_run.specs.Ending.{IsTold}
 use Rattle.gf_run.specs.Explained.{IsExplained}
 use Rattle.gf_run.specs.FaultLine.{fault_line}
 use Rattle.gf_run.specs.FaultStatus.{status_of}
-use Rattle.gf_run.specs.Shown.{shown_name}
+use Rattle.gf_explain.specs.Shown.{shown_name}
 use Rattle.gf_run.specs.Streams.{Writer}
 use Rattle.gf_run.specs.declared.collections.file.CollectionFile.{CollectionFile}
 use Rattle.gf_run.specs.declared.collections.file.CollectionFile.TheVariants.{Input, NotText}

@@ -1,14 +1,6 @@
-//! A fault in words: where it is, what is wrong, the line with marks under the place, and a hint.
+//! A fault of a run in words, and what the system says about it.
 
 pub mod cause;
-mod context;
-mod excerpt;
-mod hint;
-mod mistake;
-mod place;
-mod sentence;
-mod shown;
 mod text;
 
-pub use shown::shown_name;
 pub use text::explanation;

@@ -3,7 +3,6 @@
 pub mod comparison;
 pub mod game;
 pub mod joined;
-pub mod line;
 pub mod name;
 pub mod renumbering;
 pub mod report;

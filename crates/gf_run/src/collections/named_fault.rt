@@ -6,12 +6,13 @@ ghost use Rattle.gf_run.specs.Kept.{kept_at_first};
 ghost use Rattle.gf_run.specs.NamedFault.{IsNamedExplanation, IsNamedText, IsToldOf, after_name};
 
 use crate::explain::cause::Cause;
-use crate::explain::{explanation, shown_name};
+use crate::explain::explanation;
 use crate::fault::{RunFault, Which, status};
 use crate::jobs::ending::tell;
 use crate::streams::sink::{Sink, push_all};
 use crate::texts::joined::joined;
 use crate::texts::report::line_of;
+use gf_explain::shown_name;
 use std::alloc::{AllocError, Global};
 
 /// A text after the name of its file, as it is shown.

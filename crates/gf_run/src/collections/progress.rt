@@ -3,7 +3,7 @@
 ghost use Rattle.std.specs.Prelude.{◌≡◌, None, if◌then◌else◌};
 ghost use Rattle.gf_run.specs.Erasing.{held_by};
 
-use crate::texts::line::Line;
+use gf_explain::Line;
 use std::io;
 use std::io::Write;
 use std::time::{Clock, Instant};

@@ -3,8 +3,8 @@
 ghost use Rattle.std.specs.Prelude.{◌≡◌};
 ghost use Rattle.gf_run.specs.SameText.{outcome_line, pair_line, set_line};
 
-use crate::texts::line::Line;
 use gf_canon::NumberPair;
+use gf_explain::Line;
 
 fn set_line(player: u32, number: u32, new_number: u32) -> Line
     ensures { result ≡ set_line player number new_number }

@@ -6,8 +6,7 @@ ghost use Rattle.gf_run.specs.Output.{IsWriteFault, IsWritten};
 
 use crate::fault::{RunFault, Which, WriteFault};
 use crate::streams::sink::{Sink, push_all};
-use crate::texts::line::Line;
-use gf_form::FormFault;
+use gf_explain::{Line, form_line, refusal_line};
 
 /// What a line about an input begins with.
 fn label(which: Which) -> &'static [u8]
@@ -37,25 +36,15 @@ pub(crate) fn short_line_of(fault: &RunFault) -> Line
     ensures text { result ≡ short_line fault.now }
     ensures short { length result ≤ 70 }
 {
+    let code: &[u8] = match fault {
+        RunFault::Refused { fault, .. } => return refusal_line(fault),
+        RunFault::Form(fault) => return form_line(fault),
+        RunFault::Read(_) => b"E20",
+        RunFault::Write => b"E21",
+        RunFault::Memory => b"E19",
+    };
     let mut line = Line::new();
-    match fault {
-        RunFault::Refused { fault, .. } => {
-            line.push(b"E");
-            line.push_number(usize::from(fault.why.code()));
-            line.push(b" at ");
-            line.push_number(fault.span.start);
-            line.push(b"..");
-            line.push_number(fault.span.end);
-        }
-        RunFault::Read(_) => line.push(b"E20"),
-        RunFault::Write => line.push(b"E21"),
-        RunFault::Form(FormFault::TooManyProfiles) => line.push(b"too many profiles"),
-        RunFault::Form(FormFault::Overflow { profile }) => {
-            line.push(b"overflow at profile ");
-            line.push_number(*profile as usize);
-        }
-        RunFault::Form(FormFault::Memory) | RunFault::Memory => line.push(b"E19"),
-    }
+    line.push(code);
     line
 }
 

@@ -1,0 +1,4 @@
+pub mod Explained
+pub mod FaultLine
+pub mod Place
+pub mod Shown
