@@ -76,8 +76,11 @@ gamefile.Engine = class Engine {
         return this.#ask("renumbering", [first, second]);
     }
 
-    // What the program's --explain writes about a refusal of a file with this name.
+    // What the program's --explain tells of a file with this name, for which a call has thrown this refusal.
+    // A library that cannot explain has the sentence and the hint alone.
     async explain(bytes, refusal, name) {
+        const text = await this.#ask("explain", [bytes], { name });
+        if (text !== null) return text;
         const { code, start, end, message, explanation } = refusal;
         const hint = explanation === null ? "" : `  hint: ${explanation}\n`;
         return `${name}: ${code} at ${start}..${end}: ${message}\n${hint}`;
