@@ -78,13 +78,8 @@ gamefile.Engine = class Engine {
     }
 
     // What the program's --explain tells of a file with this name, for which a call has thrown this refusal.
-    // A library that cannot explain has the sentence and the hint alone.
-    async explain(bytes, refusal, name) {
-        const text = await this.#ask("explain", [bytes], { name });
-        if (text !== null) return text;
-        const { code, start, end, message, explanation } = refusal;
-        const hint = explanation === null ? "" : `  hint: ${explanation}\n`;
-        return `${name}: ${code} at ${start}..${end}: ${message}\n${hint}`;
+    explain(bytes, _refusal, name) {
+        return this.#ask("explain", [bytes], { name });
     }
 
     // Ends what is running and what waits for it. The next call starts another worker.

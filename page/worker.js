@@ -139,10 +139,8 @@ class Calls {
         return { kind: this.u32(kind) === 1 ? "tree" : "table" };
     }
 
-    // What --explain tells of a file with this name that is refused; null if it is not refused, or if the
-    // module has no such call.
+    // What --explain tells of a file with this name that is refused; null if it is not refused.
     explain(input, { name }) {
-        if (this.exports.gamefile_c_explain === undefined) return null;
         const named = new TextEncoder().encode(name), file = this.put(input), called = this.put(named);
         let isRefused = false;
         const text = this.filled(1, named.length + 1024, (...out) => {
