@@ -5,8 +5,6 @@
     docs/reference.py --believe NAME..  prints the definitions that names rest on, and their lines
     docs/reference.py --gaps            lists public functions without a clause, and those without an edit
     docs/reference.py --write           brings docs/clauses.txt and the made parts of documents up to date
-    docs/reference.py --check [--marks] compares these, and with --marks asks for an edit or a mark of each
-                                        function; the last line is 'reference: N passed, M failed'
 
 A NAME is that of a law, a function or a definition, if need be after its crate, as in gf_canon::headline;
 headline.equal_exactly is one clause. A part of a document between `<!--made: ..-->` and `<!---->` is made
@@ -21,6 +19,8 @@ import json
 import re
 import sys
 from collections import defaultdict
+from functools import cache
+from itertools import groupby
 from pathlib import Path
 
 NAME = re.compile(r"(?<![\w.'])[A-Za-z_][\w']*(?:\.[A-Za-z_0-9][\w']*)*")
@@ -28,14 +28,13 @@ STRING = re.compile(r'"(?:\\.|[^"\\])*"')
 TOKEN = re.compile(rf'--.*|{STRING.pattern}|{NAME.pattern}')
 DECLARED = re.compile(r"( *)(?:((?:(?:abbrev|unfoldable|pub|data|record) )+)([^\s:(]\S*)|([A-Za-z_][\w'-]*) : )")
 MODULE = re.compile(r" *(?:abbrev )?(module _|mutual)\b")
-MEMBER = re.compile(r"\s+(?:pub )?([\w']+) : ")
+SKIPPED = re.compile(r"\s*$| *(?:-- ----|(?:pub )?use Rattle|pub mod|infix)")
 IMPORT = re.compile(r"^ *(?:ghost |pub )?use (Rattle\.[\w.]+?)(?:\.\{(.*?)\}| as (\w+));?$", re.M)
 FUNCTION = re.compile(r"( *)(pub(?:\([^)]*\))? )?(?:const |unsafe |extern \"C\" )*fn (\w+)")
 TYPE = re.compile(r"(pub(?:\([^)]*\))? )?(struct|enum|trait|const|static|type) (\w+)")
 IMPL = re.compile(r"impl(?:<.*?>)? (?:([\w:<>', ]+?) for )?&?([A-Z]\w*)")
 CLAUSE = re.compile(r" *(requires|ensures|ghost)\*? ?(\w*) ?[:=]? ?\{")
 EXPORT = re.compile(r"^pub use (?:crate::)?((?:\w+::)*)(?:\{([^}]*)\}|(\w+));", re.M)
-MARK = re.compile(r" *// No edit: (.+)\.$")
 MADE = re.compile(r"(<!--made: (.*?)-->)(.*?)(<!---->)", re.DOTALL)
 CODE = ("function", "law", "impl")
 
@@ -46,7 +45,7 @@ class Item:
     def __init__(self, key, kind, file, line, comment, text, owner="", public=False):
         self.key, self.kind, self.file, self.line = key, kind, file, line
         self.comment, self.text, self.owner, self.public = comment, text, owner, public
-        self.crate, *_, self.name = key.split("::")
+        self.crate, self.name = key.split("::")[0], text[0] if kind == "impl" else key.split("::")[-1].rstrip("'")
         self.title = f"{owner}::{self.name}" if owner and kind == "function" else self.name
         self.end, self.body, self.mark = 0, "", ""
         self.members, self.clauses = set(), []  # constructors and variants; word, name and text
@@ -74,7 +73,7 @@ def braced(lines, start):
             inside += shown if depth else ""
             depth += mark == "{"
         inside += " "
-    raise SystemExit(f"no brace closes {lines[start]}")
+    return sys.exit(f"no brace closes {lines[start]}")
 
 
 class Sources:
@@ -91,26 +90,23 @@ class Sources:
             for path in sorted(folder.glob("src/**/*.rt")):
                 parts = path.relative_to(folder / "src").with_suffix("").parts
                 self.read_code(path, "::".join((crate, *parts)).removesuffix("::lib").removesuffix("::main"))
-            library = folder / "src/lib.rt"
-            self.export(crate, library.read_text() if library.exists() else "")
+            self.export(crate, "".join(path.read_text() for path in folder.glob("src/lib.rt")))
         self.modules = {module: path for path, (module, _) in self.files.items()}
-        self.by_name, self.cited, self.scopes = defaultdict(list), defaultdict(list), {}
-        for item in self.items.values():
-            for name in {item.name, item.title}:
-                self.by_name[name].append(item)
-        for item in self.items.values():
-            for key in self.find_uses(item):
-                self.cited[key].append(item)
+        self.by_name, self.cited = defaultdict(list), defaultdict(list)
+        items = list(self.items.values())
+        for name, item in dict.fromkeys((name, item) for item in items for name in (item.name, item.title)):
+            self.by_name[name].append(item)
+        for key, item in [(key, item) for item in items for key in self.find_uses(item)]:
+            self.cited[key].append(item)
         for crate in self.crates:
             self.find_edits(crate)
 
     def add(self, module, name, *rest):
-        """Keeps an item; a second one with its name, such as of another impl, has a number."""
-        key = next(key for n in range(1, 99) if (key := f"{module}::{name}" + f" ({n})" * (n > 1)) not in self.items)
-        self.items[key] = Item(key, *rest)
-        return self.items[key]
-
-    # ---- definitions
+        """Keeps an item; a second one of its name, such as of another impl, has a mark at its end."""
+        key = f"{module}::{name}"
+        while key in self.items:
+            key += "'"
+        return self.items.setdefault(key, Item(key, *rest))
 
     def read_definitions(self, path, module):
         """Reads a file of specs/: each declaration, with the lines up to the next one."""
@@ -121,12 +117,9 @@ class Sources:
                 levels.pop()
             at_level = indent_of(line) == levels[-1][0]
             declared = at_level and (MODULE.match(line) or DECLARED.match(line))
-            if not line.strip() or "-- ----" in line or re.match(r" *((pub )?use Rattle|pub mod|infix\w?)\b", line):
-                comment = []
-            elif line.lstrip().startswith("--"):
-                comment.append(line.strip()[2:].strip())
-                if current and not at_level:
-                    current.text.append(line)
+            is_comment = line.lstrip().startswith("--")
+            if SKIPPED.match(line) or is_comment and (at_level or not current):
+                pass
             elif declared:
                 is_module = declared.re is MODULE
                 name = f"{declared[1].split()[0]} {number}" if is_module else declared[3] or declared[4]
@@ -135,14 +128,11 @@ class Sources:
                 current.uses |= {outer for _, outer in levels if outer}
                 if is_module:
                     levels.append((indent_of(line) + 2, current.key))
-                comment = []
             elif current:
                 current.text.append(line)
-                if current.kind == "data" and MEMBER.match(line):
-                    current.members.add(MEMBER.match(line)[1])
-                comment = []
-
-    # ---- code
+                if current.kind == "data":
+                    current.members |= set(re.findall(r"^\s+([\w']+) : ", line))
+            comment = [*comment, line.strip()[2:].strip()] if is_comment and not SKIPPED.match(line) else []
 
     def read_code(self, path, module):
         """Reads a file of src/: types, traits, constants, functions with their clauses, and impls."""
@@ -153,7 +143,7 @@ class Sources:
                 owner = None
             if line.lstrip().startswith("///"):
                 docs.append(line.strip()[3:].strip())
-            elif found := MARK.match(line):
+            elif found := re.match(r" *// No edit: (.+)\.$", line):
                 mark = found[1]
             elif not line.lstrip().startswith(("#[", "//")):
                 if item := self.read_item(lines, number, docs, owner, path, module):
@@ -173,9 +163,7 @@ class Sources:
             name = f"impl {found[1]} for {found[2]}" if found[1] else f"impl {found[2]}"
             return self.read_ghosts(self.add(module, name, "impl", *place, [name], found[2]), lines, number)
         if found := TYPE.match(line):
-            end = number
-            while not re.match(r"(\S.*)?[;}]$|.*\";$", lines[end]):
-                end += 1
+            end = next(n for n in range(number, len(lines)) if re.match(r"(\S.*)?[;}]$|.*\";$", lines[n]))
             text = [line] if found[2] == "trait" else lines[number:end + 1]
             item = self.add(module, found[3], found[2], *place, text, found[3], found[1] == "pub ")
             if found[2] == "enum":
@@ -228,19 +216,16 @@ class Sources:
         for item in [i for i in items if i.owner and i.kind in CODE]:
             item.public = item.owner in types and (bool(item.clauses) if item.kind == "impl" else item.public)
 
-    # ---- names
-
+    @cache
     def scope_of(self, path):
         """Gives what the names stand for that a file imports or defines: an item, or 'file' and a module."""
-        if path not in self.scopes:
-            names = {}
-            for path_of, many, other in IMPORT.findall(self.files[path][1]):
-                for name, _, short in [n.partition(" as ") for n in re.split(r",\s*", many)]:
-                    names[other or short or name] = self.imported(path_of, name)
-            for item in [i for i in self.items.values() if i.file == path and path.suffix == ".antt"]:
-                names |= {item.name: item.key} | {name: item.key for name in item.members if name not in names}
-            self.scopes[path] = {name: key for name, key in names.items() if key}
-        return self.scopes[path]
+        names = {}
+        for path_of, many, other in IMPORT.findall(self.files[path][1]):
+            for name, _, short in [n.partition(" as ") for n in re.split(r",\s*", many)]:
+                names[other or short or name] = self.imported(path_of, name)
+        for item in [i for i in self.items.values() if i.file == path and path.suffix == ".antt"]:
+            names = {name: item.key for name in item.members} | names | {item.name: item.key}
+        return {name: key for name, key in names.items() if key}
 
     def imported(self, path, name):
         """Gives the key of what an import names, or 'file' and a module, or nothing if it is not ours."""
@@ -284,11 +269,11 @@ class Sources:
 
     def types_in(self, text, item):
         """Gives the keys of the types and traits of a signature."""
-        found = set()
+        kinds, text_of_file, found = ("struct", "enum", "trait"), self.files[item.file][1], set()
         for name in set(re.findall(r"\b[A-Z]\w+", text)):
-            known = [i for i in self.by_name[name] if i.kind in ("struct", "enum", "trait") and i.key != item.key
-                     and (i.crate == item.crate or f"{i.crate}::" in self.files[item.file][1])]
-            found |= {i.key for i in sorted(known, key=lambda i: (i.file != item.file, i.crate != item.crate))[:1]}
+            known = [i for i in self.by_name[name] if i.kind in kinds and i.key != item.key
+                     and (i.crate == item.crate or f"{i.crate}::" in text_of_file)]
+            found |= {min(known, key=lambda i: (i.file != item.file, i.crate != item.crate)).key} if known else set()
         return found
 
     def find_uses(self, item):
@@ -307,21 +292,18 @@ class Sources:
             item.uses |= set().union(*item.by_clause.values())
         return item.uses
 
-    def find(self, name):
-        """Gives the item that a name of the command line or of a document stands for, and its clause."""
+    def keys_of(self, name):
+        """Gives the keys that a name of the command line or of a document asks for."""
         crate, _, rest = name.partition("::") if name.split("::")[0] in self.crates else ("", "", name)
         base, _, clause = rest.partition(".")
         found = [i for i in self.by_name[base] if crate in ("", i.crate) and (i.public or "::specs::" in i.key)]
         found = [i for i in found if "::inner::" not in i.key] or found
         if len(found) != 1 or clause and clause not in found[0].by_clause:
             raise LookupError(f"{len(found)} items have the name {name}")
-        return found[0], clause
-
-    # ---- what must be believed
+        return found[0].by_clause[clause] if clause else found[0].uses if found[0].kind in CODE else {found[0].key}
 
     def believed(self, keys):
-        """Gives the definitions and types with these keys, and all that they rest on, in reading order:
-        crate by crate, each file after those that it rests on."""
+        """Gives definitions, and all that they rest on, in reading order: each file after those it rests on."""
         reached, due = {}, list(keys)
         while due:
             item = self.items[due.pop()]
@@ -333,7 +315,8 @@ class Sources:
         def visit(file):
             if file in files - seen:
                 seen.add(file)
-                for other in sorted({self.items[key].file for i in reached.values() if i.file == file for key in i.uses}):
+                below = {self.items[key].file for item in reached.values() if item.file == file for key in item.uses}
+                for other in sorted(below):
                     visit(other)
                 order.append(file)
         for file in sorted(files, key=lambda f: (self.crates.index(self.files[f][0].split("::")[0]), f)):
@@ -342,20 +325,12 @@ class Sources:
 
     def believed_by_names(self, words):
         """Gives what the names before a '-' rest on, and those after it do not."""
-        sides = []
-        for side in " ".join(words).split(" - "):
-            keys = set()
-            for item, clause in map(self.find, side.split()):
-                keys |= item.by_clause[clause] if clause else item.uses if item.kind in CODE else {item.key}
-            sides.append(self.believed(keys))
-        others = {item.key for side in sides[1:] for item in side}
-        return [item for item in sides[0] if item.key not in others]
-
-    # ---- edits and gaps
+        first, *others = [self.believed(set().union(*map(self.keys_of, side.split())))
+                          for side in " ".join(words).split(" - ")]
+        return [item for item in first if not any(item in other for other in others)]
 
     def find_edits(self, crate):
-        """Finds the functions that the must-fail edits of a crate turn, and the public ones they are part
-        of: those that call them, if need be through private ones."""
+        """Gives the edits of a crate to the public functions that they turn, at once or through private ones."""
         folder = self.root / "crates" / crate
         functions = [i for i in self.items.values() if i.crate == crate and i.end]
         calls = {item.key: set(re.findall(r"\w+(?=\()", item.body)) for item in functions}
@@ -376,29 +351,21 @@ class Sources:
 
     def clauses(self):
         """Gives a line for each public clause: its crate, its item, its word and name, and its text."""
-        return [f"{item.crate} {item.title}{f' ({item.file.stem})' if item.kind == 'law' else ''} "
-                f"{word} {name}".rstrip() + f": {text}\n"
+        return [f"{item.crate} {item.title} {word} {name}".rstrip() + f": {text}\n"
                 for item in self.items.values() if item.public and item.kind not in ("struct", "enum")
                 for word, name, text in item.clauses]
 
 
-# ---- pages
-
-STYLE = """body{font:16px/1.5 sans-serif;max-width:60em;margin:1em auto;padding:0 1em}
-pre{background:#f4f4f4;padding:.6em;overflow-x:auto}.c{color:#666}small{color:#666;font-weight:normal}
-section{border-top:1px solid #ddd;margin-top:1.5em}a{text-decoration:none}input{font:inherit;width:100%}"""
+STYLE = """body{font:16px/1.5 sans-serif;max-width:60em;margin:1em auto;padding:0 1em}input{width:100%}
+pre{background:#f4f4f4;padding:.6em;overflow-x:auto}.c,small{color:#666}section{border-top:1px solid #ddd}"""
 SEARCH = """<input id=q placeholder="search a name" autofocus><ul id=r></ul><script>const names=NAMES;
 q.oninput=()=>{r.replaceChildren(...names.filter(n=>q.value&&n[0].toLowerCase().includes(
 q.value.toLowerCase())).slice(0,60).map(n=>{const l=document.createElement('li'),
 a=document.createElement('a');a.href=n[1];a.textContent=n[0]+' ('+n[2]+')';l.append(a);return l}))}</script>"""
 
 
-class Pages:
-    """The pages of a reference, and the parts of documents that are made from the same sources."""
-
-    def __init__(self, sources):
-        self.sources = sources
-        self.laws = [item for item in sources.items.values() if item.kind == "law"]
+class Reference(Sources):
+    """The pages of a reference, and the parts of documents that are made of the same sources."""
 
     @staticmethod
     def address(item):
@@ -410,13 +377,13 @@ class Pages:
 
     def linked(self, text, item):
         """Gives a source text in which each name is a link to its definition."""
-        scope, items = self.sources.scope_of(item.file), self.sources.items
-        bound = self.sources.bound_in(STRING.sub('""', text), item, scope)
+        scope, items = self.scope_of(item.file), self.items
+        bound = self.bound_in(STRING.sub('""', text), item, scope)
         types = {items[key].name: key for key in item.uses if items[key].kind not in CODE}
 
         def shown(found):
             word = found[0]
-            key = self.sources.resolve(word, scope, bound) or (item.kind in CODE and types.get(word))
+            key = self.resolve(word, scope, bound) or (item.kind in CODE and types.get(word))
             if word.startswith("--"):
                 return f"<span class=c>{word}</span>"
             return f'<a href="{self.address(items[key])}">{word}</a>' if key and key != item.key else word
@@ -426,29 +393,35 @@ class Pages:
         """Gives the laws that cite a definition, or else the nearest of those that rest on it."""
         due, seen, laws = {item.key}, set(), []
         while due and not laws:
-            citing = {i.key: i for key in due for i in self.sources.cited[key]}
+            citing = {i.key: i for key in due for i in self.cited[key]}
             laws, seen = [i for i in citing.values() if i.kind == "law"], seen | due
             due = {key for key in citing if "::specs::" in key} - seen
         return laws
 
     def section(self, item):
         """Gives what a page says of one item."""
-        place, items = item.file.relative_to(self.sources.root), self.sources.items
-        parts = [f'<section id="{self.address(item).split("#")[1]}"><h3>{html.escape(item.title)} <small>{item.kind}, '
-                 f'<a href="../../{place}">{place}</a>:{item.line}</small></h3>']
+        place, items = item.file.relative_to(self.root), self.items
+        parts = [f'<section id="{self.address(item).split("#")[1]}"><h3>{html.escape(item.title)} '
+                 f'<small>{item.kind}, <a href="../../{place}">{place}</a>:{item.line}</small></h3>']
         parts += [f"<p>{html.escape(part)}" for part in "\n".join(item.comment).split("\n\n")]
         parts += [f"<pre>{self.linked(chr(10).join(item.text), item)}</pre>"]
-        parts += [f"<pre>{word} <b>{name}</b> {{ {self.linked(text, item)} }}</pre>" for word, name, text in item.clauses]
-        cited = {i.key: i for i in self.sources.cited[item.key] if i.public or i.kind not in CODE}.values()
+        parts += [f"<pre>{word} <b>{name}</b> {{ {self.linked(text, item)} }}</pre>"
+                  for word, name, text in item.clauses]
+        cited = {i.key: i for i in self.cited[item.key] if i.public or i.kind not in CODE}.values()
         for words, others in (("Rests on", [items[key] for key in sorted(item.uses)]), ("Cited by", cited),
                               ("Checked by", self.checks(item) if item.kind not in CODE else [])):
             links = [self.link(other) for other in others if other.kind != "module"]
             parts += [f"<p><small>{words}</small> " + ", ".join(links)] if links else []
         if item.kind in CODE:
-            below = self.sources.believed(item.uses)
+            below = self.believed(item.uses)
             parts += [f"<p><small>To believe: {len(below)} definitions, {sum(i.lines for i in below)} lines</small>"]
-        parts += [f"<p><small>Must fail:</small> {edit} <small>in {turned.title}</small>" for edit, turned in item.edits]
+        parts += [f"<p><small>Must fail:</small> {edit} <small>in {turned.title}" for edit, turned in item.edits]
         return "\n".join([*parts, f"<p><small>No edit: {item.mark}</small>" if item.mark else "", "</section>"])
+
+    def opening(self, file):
+        """Gives the first sentence of the comment that begins a file."""
+        lines = re.match(r"(?:(?:--|//!) .*\n)*", self.files[file][1])[0].splitlines()
+        return first_sentence(line[3:].strip() for line in lines)
 
     def page(self, title, parts):
         return (f"<!doctype html><meta charset=utf-8><title>{title}</title><style>{STYLE}</style>"
@@ -457,79 +430,65 @@ class Pages:
     def write(self, folder):
         """Writes a page for each crate, one for its definitions, the headline's, and the first page."""
         folder.mkdir(exist_ok=True)
-        sources, names, index = self.sources, [], []
-        for crate in sources.crates:
-            items = [i for i in sources.items.values() if i.crate == crate and i.kind != "module"]
+        names, index = [], []
+        for crate in self.crates:
+            items = [i for i in self.items.values() if i.crate == crate and i.kind != "module"]
             public = [i for i in items if i.public and i.kind in CODE]
-            others = [i for i in items if not (i.public and i.kind in CODE) and (
-                "::specs::" in i.key or i.public or i.kind in ("struct", "enum", "trait", "const"))]
+            others = [i for i in items if i.kind not in (*CODE, "static", "type") and (i.public or i.kind != "const")]
             for name, kept in ((crate, public), (f"{crate}-definitions", others)):
-                groups = defaultdict(list)
-                for item in kept:
-                    groups[item.file].append(item)
-                parts = [part for file, group in groups.items() for part in (
-                    f"<h2>{file.stem}</h2><p>" + html.escape(first_comment(sources.files[file][1])),
-                    *map(self.section, group))]
+                parts = []
+                for file, group in groupby(kept, key=lambda item: item.file):
+                    parts += [f"<h2>{file.stem}</h2><p>{html.escape(self.opening(file))}", *map(self.section, group)]
                 (folder / f"{name}.html").write_text(self.page(name.replace("-", ": "), parts))
                 names += [(i.title, self.address(i), f"{i.kind}, {crate}") for i in kept if i.kind != "impl"]
-            index.append(f'<li><a href="{crate}.html">{crate}</a>: ' + ", ".join(map(self.link, public))
-                         + f'; <a href="{crate}-definitions.html">definitions</a>')
-        law, _ = sources.find("headline")
-        parts = [self.section(i) for i in [law, *sources.believed(law.uses)] if i.kind != "module"]
+            index.append(f'<li><a href="{crate}.html">{crate}</a>: {", ".join(map(self.link, public))}; '
+                         f'<a href="{crate}-definitions.html">definitions</a>')
+        items = [i for law in self.by_name["headline"] for i in (law, *self.believed(law.uses))]
+        parts = [self.section(item) for item in items if item.kind != "module"]
         (folder / "headline.html").write_text(self.page("The headline, and all that it rests on", parts))
-        search = SEARCH.replace("NAMES", json.dumps(names).replace("</", "<\\/"))
         (folder / "index.html").write_text(self.page("Reference", [
-            search, '<p><a href="headline.html">The headline, and all that it rests on</a><ul>', *index]))
-
-    # ---- parts of documents
+            SEARCH.replace("NAMES", json.dumps(names)), '<p><a href="headline.html">The headline</a><ul>', *index]))
 
     def made(self, words):
         """Gives the part of a document that these words ask for."""
         kind, *names = words.split()
+        root, items = self.root, self.items.values()
         if kind == "laws":
-            rows = [f"| [`{law.name}`](../{law.file.relative_to(self.sources.root)}) | "
-                    + re.split(r"(?<=\.) ", " ".join(law.comment))[0] + " |"
-                    for law in self.laws if law.crate in names]
-            return "\n".join(["", "| Law | It says |", "|---|---|", *rows, ""])
-        items = self.sources.believed_by_names(names)
-        if kind == "lines":
-            return str(sum(item.lines for item in items))
-        groups = defaultdict(int)
-        for item in items:
-            groups[item.file] += item.lines
-        rows = [f"| [{file.parent.parent.name}: {file.stem}](../{file.relative_to(self.sources.root)}) | "
-                f"{first_comment(self.sources.files[file][1])} | {lines} |" for file, lines in groups.items()]
-        return "\n".join(["", "| File | It holds | Lines |", "|---|---|---|", *rows, ""])
+            head, rows = "| Law | It says |\n|---|---|\n", [
+                f"| [`{law.name}`](../{law.file.relative_to(root)}) | {first_sentence(law.comment)} |\n"
+                for law in items if law.kind == "law" and law.crate in names]
+        else:
+            items = self.believed_by_names(names)
+            head, rows = "| File | It holds | Lines |\n|---|---|---|\n", [
+                f"| {self.files[file][0].split('::')[0]}: [{file.stem}](../{file.relative_to(root)}) "
+                f"| {self.opening(file)} | {sum(item.lines for item in group)} |\n"
+                for file, group in groupby(items, key=lambda item: item.file)]
+        return str(sum(item.lines for item in items)) if kind == "lines" else "\n" + head + "".join(rows)
 
     def remade(self, text):
         """Gives a document with its made parts as they should be."""
         return MADE.sub(lambda found: found[1] + self.made(found[2]) + found[4], text)
 
 
-def first_comment(text):
-    """Gives the first sentence of the comment that begins a file."""
-    lines = re.match(r"((?:(?:--|//!) .*\n)*)", text)[1]
-    return re.split(r"(?<=\.) ", " ".join(re.sub(r"(?m)^(--|//!) ", "", lines).split()))[0]
+def first_sentence(lines):
+    return re.split(r"(?<=\.) ", " ".join(lines))[0]
 
 
 def main(words):
     root = Path(__file__).resolve().parent.parent
-    sources = Sources(root)
-    pages = Pages(sources)
+    reference = Reference(root)
     if not words:
-        pages.write(root / "docs/out")
+        reference.write(root / "docs/out")
     elif words[0] == "--believe":
-        for item in (items := sources.believed_by_names(words[1:])):
-            print(f"{item.lines:4} {item.key}")
-        print(f"{sum(item.lines for item in items):4} lines")
+        items = reference.believed_by_names(words[1:])
+        print("".join(f"{i.lines:4} {i.key}\n" for i in items) + f"{sum(i.lines for i in items):4} lines")
     elif words == ["--gaps"]:
-        for title, items in zip(("no clause", "neither an edit nor a mark"), sources.gaps()):
+        for title, items in zip(("no clause", "neither an edit nor a mark"), reference.gaps()):
             print("".join(f"{title}: {item.crate} {item.title}\n" for item in items), end="")
     elif words == ["--write"]:
-        (root / "docs/clauses.txt").write_text("".join(sources.clauses()))
+        (root / "docs/clauses.txt").write_text("".join(reference.clauses()))
         for document in [*root.glob("*.md"), *root.glob("docs/*.md")]:
-            if (text := document.read_text()) != (made := pages.remade(text)):
-                document.write_text(made)
+            document.write_text(reference.remade(document.read_text()))
     else:
         sys.exit(__doc__)
 
