@@ -2,8 +2,8 @@
 # writes of an example; `make library` proves and builds the library for C and Python; `make install
 # PREFIX=..` puts the program, its page and, if it was built, the library in place, `make
 # install-library PREFIX=..` the library alone, and `make uninstall PREFIX=..` removes all of these;
-# `make test` proves and tests everything; `make bench` times the program and, if it was built, the
-# library; `make clean` removes what was built.
+# `make doc` writes docs/out, pages about the sources; `make test` proves and tests everything; `make
+# bench` times the program and, if it was built, the library; `make clean` removes what was built.
 
 RT ?= rt
 export RT
@@ -12,7 +12,7 @@ PREFIX ?= /usr/local
 version = $(shell sed -n 's/^.define GAMEFILE_VERSION "\(.*\)"/\1/p' library/gamefile.h)
 sources := crates.txt $(shell find crates -name out -prune -o -type f -print)
 
-.PHONY: all run library install install-library uninstall test bench clean
+.PHONY: all run library install install-library uninstall doc test bench clean
 
 all: gamefile
 
@@ -52,6 +52,9 @@ uninstall:
 	    include/gamefile.h lib/libgamefile.a lib/libgamefile.so lib/libgamefile.so.1 \
 	    lib/pkgconfig/gamefile.pc)
 
+doc:
+	docs/reference.py
+
 test:
 	tests/gate
 
@@ -65,4 +68,4 @@ bench:
 	fi
 
 clean:
-	rm -rf gamefile bench/inputs crates/*/out library/out python/gamefile/libgamefile.so.1
+	rm -rf gamefile bench/inputs crates/*/out docs/out library/out python/gamefile/libgamefile.so.1

@@ -9,7 +9,7 @@
 A NAME is that of a law, a function or a definition, if need be after its crate, as in gf_canon::headline;
 headline.equal_exactly is one clause. A part of a document between `<!--made: ..-->` and `<!---->` is made
 here: `lines NAMES - OTHERS` is how many lines the definitions have that NAMES rest on and OTHERS do not,
-`files NAMES - OTHERS` is the table of their files, and `laws CRATE` that of the laws of a crate.
+and `files NAMES - OTHERS` is the table of their files.
 
 Names are resolved by the imports at the top of a file. What the kit defines (Rattle.std) is not followed,
 nor is how a value is kept in memory (`ghost view`): a type with a model stands for its `ghost Value`.
@@ -143,7 +143,7 @@ class Sources:
                 owner = None
             if line.lstrip().startswith("///"):
                 docs.append(line.strip()[3:].strip())
-            elif found := re.match(r" *// No edit: (.+)\.$", line):
+            elif found := re.match(r" *// (No (?:clause|edit): .+\.)$", line):
                 mark = found[1]
             elif not line.lstrip().startswith(("#[", "//")):
                 if item := self.read_item(lines, number, docs, owner, path, module):
@@ -296,8 +296,9 @@ class Sources:
         """Gives the keys that a name of the command line or of a document asks for."""
         crate, _, rest = name.partition("::") if name.split("::")[0] in self.crates else ("", "", name)
         base, _, clause = rest.partition(".")
-        found = [i for i in self.by_name[base] if crate in ("", i.crate) and (i.public or "::specs::" in i.key)]
-        found = [i for i in found if "::inner::" not in i.key] or found
+        named = [i for i in self.by_name[base] if crate in ("", i.crate)]
+        definitions = [i for i in named if "::specs::" in i.key and "::inner::" not in i.key]
+        found = [i for i in named if i.public and i.kind != "impl"] or definitions or named
         if len(found) != 1 or clause and clause not in found[0].by_clause:
             raise LookupError(f"{len(found)} items have the name {name}")
         return found[0].by_clause[clause] if clause else found[0].uses if found[0].kind in CODE else {found[0].key}
@@ -345,9 +346,10 @@ class Sources:
                         due += [i for i in functions if item.name in calls[i.key] and i not in due]
 
     def gaps(self):
-        """Gives the public functions without a clause, and those with neither an edit nor a mark."""
+        """Gives the public functions without a clause, and those without an edit, but for those with a mark."""
         public = [i for i in self.items.values() if i.kind == "function" and i.public]
-        return [i for i in public if not i.clauses], [i for i in public if i.body and not i.edits and not i.mark]
+        return ([i for i in public if not i.clauses and "No clause" not in i.mark],
+                [i for i in public if i.body and not i.edits and not i.mark])
 
     def clauses(self):
         """Gives a line for each public clause: its crate, its item, its word and name, and its text."""
@@ -416,12 +418,12 @@ class Reference(Sources):
             below = self.believed(item.uses)
             parts += [f"<p><small>To believe: {len(below)} definitions, {sum(i.lines for i in below)} lines</small>"]
         parts += [f"<p><small>Must fail:</small> {edit} <small>in {turned.title}" for edit, turned in item.edits]
-        return "\n".join([*parts, f"<p><small>No edit: {item.mark}</small>" if item.mark else "", "</section>"])
+        return "\n".join([*parts, f"<p><small>{item.mark}</small>", "</section>"])
 
     def opening(self, file):
         """Gives the first sentence of the comment that begins a file."""
         lines = re.match(r"(?:(?:--|//!) .*\n)*", self.files[file][1])[0].splitlines()
-        return first_sentence(line[3:].strip() for line in lines)
+        return re.split(r"(?<=\.) ", " ".join(line[3:].strip() for line in lines))[0]
 
     def page(self, title, parts):
         return (f"<!doctype html><meta charset=utf-8><title>{title}</title><style>{STYLE}</style>"
@@ -434,7 +436,7 @@ class Reference(Sources):
         for crate in self.crates:
             items = [i for i in self.items.values() if i.crate == crate and i.kind != "module"]
             public = [i for i in items if i.public and i.kind in CODE]
-            others = [i for i in items if i.kind not in (*CODE, "static", "type") and (i.public or i.kind != "const")]
+            others = [i for i in items if i.kind not in CODE]
             for name, kept in ((crate, public), (f"{crate}-definitions", others)):
                 parts = []
                 for file, group in groupby(kept, key=lambda item: item.file):
@@ -452,26 +454,17 @@ class Reference(Sources):
     def made(self, words):
         """Gives the part of a document that these words ask for."""
         kind, *names = words.split()
-        root, items = self.root, self.items.values()
-        if kind == "laws":
-            head, rows = "| Law | It says |\n|---|---|\n", [
-                f"| [`{law.name}`](../{law.file.relative_to(root)}) | {first_sentence(law.comment)} |\n"
-                for law in items if law.kind == "law" and law.crate in names]
-        else:
-            items = self.believed_by_names(names)
-            head, rows = "| File | It holds | Lines |\n|---|---|---|\n", [
-                f"| {self.files[file][0].split('::')[0]}: [{file.stem}](../{file.relative_to(root)}) "
+        items = self.believed_by_names(names)
+        if kind == "lines":
+            return str(sum(item.lines for item in items))
+        rows = [f"| {self.files[file][0].split('::')[0]}: [{file.stem}](../{file.relative_to(self.root)}) "
                 f"| {self.opening(file)} | {sum(item.lines for item in group)} |\n"
                 for file, group in groupby(items, key=lambda item: item.file)]
-        return str(sum(item.lines for item in items)) if kind == "lines" else "\n" + head + "".join(rows)
+        return "\n| File | It holds | Lines |\n|---|---|---|\n" + "".join(rows)
 
     def remade(self, text):
         """Gives a document with its made parts as they should be."""
         return MADE.sub(lambda found: found[1] + self.made(found[2]) + found[4], text)
-
-
-def first_sentence(lines):
-    return re.split(r"(?<=\.) ", " ".join(lines))[0]
 
 
 def main(words):
@@ -483,7 +476,7 @@ def main(words):
         items = reference.believed_by_names(words[1:])
         print("".join(f"{i.lines:4} {i.key}\n" for i in items) + f"{sum(i.lines for i in items):4} lines")
     elif words == ["--gaps"]:
-        for title, items in zip(("no clause", "neither an edit nor a mark"), reference.gaps()):
+        for title, items in zip(("no clause", "no edit"), reference.gaps()):
             print("".join(f"{title}: {item.crate} {item.title}\n" for item in items), end="")
     elif words == ["--write"]:
         (root / "docs/clauses.txt").write_text("".join(reference.clauses()))
