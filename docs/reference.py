@@ -171,8 +171,7 @@ class Sources:
             return self.read_ghosts(item, lines, number) if found[2] == "trait" else item
         return None
 
-    @staticmethod
-    def read_function(item, lines, number, margin):
+    def read_function(self, item, lines, number, margin):
         """Reads a signature, the clauses below it, and the body."""
         start, ends = number, (margin + "}", margin + "{}")
         while lines[number] not in (margin + "{", *ends):
@@ -212,7 +211,7 @@ class Sources:
         for item in [i for i in items if i.public and (not i.owner or i.kind not in CODE)]:
             module = item.key.split("::")[1:-1]
             item.public = not module or any(module[:len(p)] == p and n in ("", item.name) for p, n in passed)
-        types = {item.owner for item in items if item.public and item.owner and item.kind not in CODE}
+        types = {item.owner for item in items if item.public and item.kind not in CODE}
         for item in [i for i in items if i.owner and i.kind in CODE]:
             item.public = item.owner in types and (bool(item.clauses) if item.kind == "impl" else item.public)
 
@@ -326,8 +325,8 @@ class Sources:
 
     def believed_by_names(self, words):
         """Gives what the names before a '-' rest on, and those after it do not."""
-        first, *others = [self.believed(set().union(*map(self.keys_of, side.split())))
-                          for side in " ".join(words).split(" - ")]
+        sides = [set().union(*map(self.keys_of, side.split())) for side in " ".join(words).split(" - ")]
+        first, *others = map(self.believed, sides)
         return [item for item in first if not any(item in other for other in others)]
 
     def find_edits(self, crate):
@@ -359,7 +358,7 @@ class Sources:
 
 
 STYLE = """body{font:16px/1.5 sans-serif;max-width:60em;margin:1em auto;padding:0 1em}input{width:100%}
-pre{background:#f4f4f4;padding:.6em;overflow-x:auto}.c,small{color:#666}section{border-top:1px solid #ddd}"""
+pre{background:#f4f4f4;padding:.6em;white-space:pre-wrap}.c,small{color:#666}section{border-top:1px solid #ddd}"""
 SEARCH = """<input id=q placeholder="search a name" autofocus><ul id=r></ul><script>const names=NAMES;
 q.oninput=()=>{r.replaceChildren(...names.filter(n=>q.value&&n[0].toLowerCase().includes(
 q.value.toLowerCase())).slice(0,60).map(n=>{const l=document.createElement('li'),
@@ -369,8 +368,7 @@ a=document.createElement('a');a.href=n[1];a.textContent=n[0]+' ('+n[2]+')';l.app
 class Reference(Sources):
     """The pages of a reference, and the parts of documents that are made of the same sources."""
 
-    @staticmethod
-    def address(item):
+    def address(self, item):
         page = item.crate + ("" if item.public and item.kind in CODE else "-definitions")
         return f"{page}.html#" + re.sub(r"[^\w.]", "_", item.key.replace("::", "."))
 
@@ -409,7 +407,8 @@ class Reference(Sources):
         parts += [f"<pre>{self.linked(chr(10).join(item.text), item)}</pre>"]
         parts += [f"<pre>{word} <b>{name}</b> {{ {self.linked(text, item)} }}</pre>"
                   for word, name, text in item.clauses]
-        cited = {i.key: i for i in self.cited[item.key] if i.public or i.kind not in CODE}.values()
+        cited = {i.key: i for i in self.cited[item.key] if "::inner::" not in i.key and i.kind != "law"
+                 and (i.public or i.kind not in CODE)}.values()
         for words, others in (("Rests on", [items[key] for key in sorted(item.uses)]), ("Cited by", cited),
                               ("Checked by", self.checks(item) if item.kind not in CODE else [])):
             links = [self.link(other) for other in others if other.kind != "module"]
@@ -429,6 +428,17 @@ class Reference(Sources):
         return (f"<!doctype html><meta charset=utf-8><title>{title}</title><style>{STYLE}</style>"
                 f'<p><a href="index.html">All names</a><h1>{title}</h1>' + "\n".join(parts))
 
+    def headline(self):
+        """Gives the page of the law `headline` and what it rests on, in the order of docs/DEFINITIONS.md."""
+        document = "".join(path.read_text() for path in self.root.glob("docs/DEFINITIONS.md"))
+        items = {law.key: law for law in self.by_name["headline"]}
+        for words in re.findall(r"<!--made: files (.*?)-->", document):
+            items |= {item.key: item for item in self.believed_by_names(words.split())}
+        items |= {item.key: item for law in self.by_name["headline"] for item in self.believed(law.uses)}
+        parts = [self.section(item) for item in items.values() if item.kind != "module"]
+        page, here = self.page("The headline, and all that it rests on", parts), set(map(self.address, items.values()))
+        return re.sub(r'(href=")([^"#]+)(#[^"]+)', lambda f: f[1] + f[2] * (f[2] + f[3] not in here) + f[3], page)
+
     def write(self, folder):
         """Writes a page for each crate, one for its definitions, the headline's, and the first page."""
         folder.mkdir(exist_ok=True)
@@ -445,9 +455,7 @@ class Reference(Sources):
                 names += [(i.title, self.address(i), f"{i.kind}, {crate}") for i in kept if i.kind != "impl"]
             index.append(f'<li><a href="{crate}.html">{crate}</a>: {", ".join(map(self.link, public))}; '
                          f'<a href="{crate}-definitions.html">definitions</a>')
-        items = [i for law in self.by_name["headline"] for i in (law, *self.believed(law.uses))]
-        parts = [self.section(item) for item in items if item.kind != "module"]
-        (folder / "headline.html").write_text(self.page("The headline, and all that it rests on", parts))
+        (folder / "headline.html").write_text(self.headline())
         (folder / "index.html").write_text(self.page("Reference", [
             SEARCH.replace("NAMES", json.dumps(names)), '<p><a href="headline.html">The headline</a><ul>', *index]))
 
