@@ -376,14 +376,15 @@ class Reference(Sources):
         return f'<a href="{self.address(item)}">{html.escape(item.title)}</a>'
 
     def linked(self, text, item):
-        """Gives a source text in which each name is a link to its definition."""
-        scope, items = self.scope_of(item.file), self.items
+        """Gives a source text in which each name is a link; the text of an item of the code names types alone."""
+        items, is_code = self.items, item.file.suffix == ".rt" and text == "\n".join(item.text)
+        scope = {} if is_code else self.scope_of(item.file)
         bound = self.bound_in(STRING.sub('""', text), item, scope)
-        types = {items[key].name: key for key in item.uses if items[key].kind not in CODE}
+        types = {items[key].name: key for key in item.uses if "::specs::" not in key or item.kind not in CODE}
 
         def shown(found):
             word = found[0]
-            key = self.resolve(word, scope, bound) or (item.kind in CODE and types.get(word))
+            key = types.get(word) if is_code else self.resolve(word, scope, bound)
             if word.startswith("--"):
                 return f"<span class=c>{word}</span>"
             return f'<a href="{self.address(items[key])}">{word}</a>' if key and key != item.key else word
@@ -403,7 +404,7 @@ class Reference(Sources):
         place, items = item.file.relative_to(self.root), self.items
         parts = [f'<section id="{self.address(item).split("#")[1]}"><h3>{html.escape(item.title)} '
                  f'<small>{item.kind}, <a href="../../{place}">{place}</a>:{item.line}</small></h3>']
-        parts += [f"<p>{html.escape(part)}" for part in "\n".join(item.comment).split("\n\n")]
+        parts += ["<p>" + html.escape(part).replace("\n- ", "<br>- ") for part in "\n".join(item.comment).split("\n\n")]
         parts += [f"<pre>{self.linked(chr(10).join(item.text), item)}</pre>"]
         parts += [f"<pre>{word} <b>{name}</b> {{ {self.linked(text, item)} }}</pre>"
                   for word, name, text in item.clauses]
@@ -416,7 +417,7 @@ class Reference(Sources):
         if item.kind in CODE:
             below = self.believed(item.uses)
             parts += [f"<p><small>To believe: {len(below)} definitions, {sum(i.lines for i in below)} lines</small>"]
-        parts += [f"<p><small>Must fail:</small> {edit} <small>in {turned.title}" for edit, turned in item.edits]
+        parts += [f"<p><small>Must fail:</small> {edit} <small>in {turned.title}</small>" for edit, turned in item.edits]
         return "\n".join([*parts, f"<p><small>{item.mark}</small>", "</section>"])
 
     def opening(self, file):
