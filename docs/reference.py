@@ -6,13 +6,11 @@
     docs/reference.py --gaps            lists public functions without a clause, and those without an edit
     docs/reference.py --write           brings docs/clauses.txt and the made parts of documents up to date
 
-A NAME is that of a law, a function or a definition, if need be after its crate, as in gf_canon::headline;
-headline.equal_exactly is one clause. A part of a document between `<!--made: ..-->` and `<!---->` is made
-here: `lines NAMES - OTHERS` is how many lines the definitions have that NAMES rest on and OTHERS do not,
-and `files NAMES - OTHERS` is the table of their files.
-
-Names are resolved by the imports at the top of a file. What the kit defines (Rattle.std) is not followed,
-nor is how a value is kept in memory (`ghost view`): a type with a model stands for its `ghost Value`.
+A NAME is of a law, a function or a definition, if need be after its crate, as gf_canon::headline, or of a
+clause, as headline.placed. A part of a document between `<!--made: ..-->` and `<!---->` is made here: `lines
+NAMES - OTHERS` is how many lines the definitions have that NAMES rest on and OTHERS do not, and `files NAMES
+- OTHERS` the table of their files. What the kit defines (Rattle.std) is not followed, nor how a value is kept
+in memory (`ghost view`): a type with a model stands for its `ghost Value`.
 """
 import html
 import json
@@ -47,7 +45,7 @@ class Item:
         self.comment, self.text, self.owner, self.public = comment, text, owner, public
         self.crate, self.name = key.split("::")[0], text[0] if kind == "impl" else key.split("::")[-1].rstrip("'")
         self.title = f"{owner}::{self.name}" if owner and kind == "function" else self.name
-        self.end, self.body, self.mark = 0, "", ""
+        self.end, self.body, self.mark, self.impl = 0, "", "", None  # impl: the impl or trait that it is in
         self.members, self.clauses = set(), []  # constructors and variants; word, name and text
         self.uses, self.by_clause, self.edits = set(), {}, []  # keys; edits with the functions that they turn
 
@@ -55,10 +53,6 @@ class Item:
     def lines(self):
         """Counts the lines that are not empty and hold more than a comment or an attribute."""
         return sum(1 for line in self.text if line.strip() and not re.match(r"\s*(--|//|#\[)", line))
-
-
-def indent_of(line):
-    return len(line) - len(line.lstrip())
 
 
 def braced(lines, start):
@@ -113,9 +107,10 @@ class Sources:
         self.files[path] = (module, text := path.read_text())
         current, comment, levels = None, [], [(0, None)]
         for number, line in enumerate(text.split("\n"), 1):
-            while line.strip() and indent_of(line) < levels[-1][0]:
+            margin = len(line) - len(line.lstrip())
+            while line.strip() and margin < levels[-1][0]:
                 levels.pop()
-            at_level = indent_of(line) == levels[-1][0]
+            at_level = margin == levels[-1][0]
             declared = at_level and (MODULE.match(line) or DECLARED.match(line))
             is_comment = line.lstrip().startswith("--")
             if SKIPPED.match(line) or is_comment and (at_level or not current):
@@ -127,7 +122,7 @@ class Sources:
                 current = self.add(module, name, "module" if is_module else kind, path, number, comment, [line])
                 current.uses |= {outer for _, outer in levels if outer}
                 if is_module:
-                    levels.append((indent_of(line) + 2, current.key))
+                    levels.append((margin + 2, current.key))
             elif current:
                 current.text.append(line)
                 if current.kind == "data":
@@ -139,8 +134,7 @@ class Sources:
         self.files[path] = (module, text := path.read_text())
         lines, docs, owner, mark = text.split("\n"), [], None, ""
         for number, line in enumerate(lines):
-            if line.startswith("}"):
-                owner = None
+            owner = None if line.startswith("}") else owner
             if line.lstrip().startswith("///"):
                 docs.append(line.strip()[3:].strip())
             elif found := re.match(r" *// (No (?:clause|edit): .+\.)$", line):
@@ -157,7 +151,7 @@ class Sources:
         if (found := FUNCTION.match(line)) and len(found[1]) <= (4 if owner else 0):
             kind, name = "law" if module.endswith("::laws") else "function", owner.owner if owner else ""
             item = self.add(module + f"::{name}" * bool(owner), found[3], kind, *place, [], name)
-            item.public = found[2] == "pub " or bool(owner) and owner.kind == "trait"
+            item.public, item.impl = found[2] == "pub " or bool(owner) and owner.kind == "trait", owner
             return self.read_function(item, lines, number, found[1])
         if line.startswith("impl") and (found := IMPL.match(" ".join(lines[number:number + 4]).split(" {")[0])):
             name = f"impl {found[1]} for {found[2]}" if found[1] else f"impl {found[2]}"
@@ -252,7 +246,7 @@ class Sources:
         """Gives the variables of a text: of lambdas, of types, and of the equations of a definition."""
         groups = re.findall(r"[({]([\w' ]+) : |λ ([\w' ()×.]+?)\.(?=\s|$)", text)
         bound = set(re.findall(r"[\w']+", " ".join(name for pair in groups for name in pair)))
-        margin = " " * indent_of(item.text[0]) if item.text else ""
+        margin = re.match(" *", "".join(item.text))[0]
         for line in re.findall(rf"^{margin}{re.escape(item.name)}\b(?!.* : )(.*?)(?: =\s|$)", text, re.M):
             bound |= {name for name in NAME.findall(line) if "." not in name
                       and (name not in scope or name not in self.items.get(scope[name], item).members)}
@@ -333,16 +327,23 @@ class Sources:
         """Gives the edits of a crate to the public functions that they turn, at once or through private ones."""
         folder = self.root / "crates" / crate
         functions = [i for i in self.items.values() if i.crate == crate and i.end]
-        calls = {item.key: set(re.findall(r"\w+(?=\()", item.body)) for item in functions}
+        calls = {i.key: set(re.findall(r"(?:\w+::|\.)?\w+(?=\()", i.body) + re.findall(r"[A-Z]\w+", i.body))
+                 for i in functions}
+
+        def may_call(caller, item):
+            if item.impl and " for " in item.impl.name:
+                return item.owner in calls[caller.key]
+            of = (item.owner + "::", "Self::", ".") if item.owner else ("", item.file.stem + "::")
+            return item.owner in self.files[caller.file][1] and calls[caller.key] & {word + item.name for word in of}
         for edit in sorted(folder.glob("must-fail/*.edit")):
             for file, old in re.findall(r"^file: (.*)\nold: (.*)$", edit.read_text(), re.M):
                 line = self.files[folder / file][1].split(old)[0].count("\n") + 1
                 due = [i for i in functions if i.file == folder / file and i.line <= line <= i.end]
                 for item in due:
-                    if item.public:
-                        item.edits.append((edit.stem, due[0]))
+                    if item.public or item.impl and " for " in item.impl.name and item.impl.public:
+                        (item if item.public else item.impl).edits.append((edit.stem, due[0]))
                     else:
-                        due += [i for i in functions if item.name in calls[i.key] and i not in due]
+                        due += [i for i in functions if i not in due and may_call(i, item)]
 
     def gaps(self):
         """Gives the public functions without a clause, and those without an edit, but for those with a mark."""
@@ -360,9 +361,8 @@ class Sources:
 STYLE = """body{font:16px/1.5 sans-serif;max-width:60em;margin:1em auto;padding:0 1em}input{width:100%}
 pre{background:#f4f4f4;padding:.6em;white-space:pre-wrap}.c,small{color:#666}section{border-top:1px solid #ddd}"""
 SEARCH = """<input id=q placeholder="search a name" autofocus><ul id=r></ul><script>const names=NAMES;
-q.oninput=()=>{r.replaceChildren(...names.filter(n=>q.value&&n[0].toLowerCase().includes(
-q.value.toLowerCase())).slice(0,60).map(n=>{const l=document.createElement('li'),
-a=document.createElement('a');a.href=n[1];a.textContent=n[0]+' ('+n[2]+')';l.append(a);return l}))}</script>"""
+q.oninput=()=>{r.innerHTML=names.filter(n=>q.value&&n[0].toLowerCase().includes(q.value.toLowerCase()))
+.slice(0,60).map(n=>`<li><a href="${n[1]}">${n[0]} (${n[2]})</a>`).join("")}</script>"""
 
 
 class Reference(Sources):
