@@ -47,7 +47,7 @@ class Item:
         self.title = f"{owner}::{self.name}" if owner and kind == "function" else self.name
         self.end, self.body, self.mark, self.impl = 0, "", "", None  # impl: the impl or trait that it is in
         self.members, self.clauses = set(), []  # constructors and variants; word, name and text
-        self.uses, self.by_clause, self.edits = set(), {}, []  # keys; edits with the functions that they turn
+        self.uses, self.by_clause, self.edits = set(), {}, []  # keys; edits that turn it, and where
 
     @property
     def lines(self):
@@ -162,6 +162,7 @@ class Sources:
             item = self.add(module, found[3], found[2], *place, text, found[3], found[1] == "pub ")
             if found[2] == "enum":
                 item.members = set(re.findall(r"^    (\w+)", "\n".join(text), re.M))
+            item.end, item.body = (end + 1, "\n".join(text)) if found[2] in ("const", "static") else (0, "")
             return self.read_ghosts(item, lines, number) if found[2] == "trait" else item
         return None
 
@@ -331,25 +332,26 @@ class Sources:
                  for i in functions}
 
         def may_call(caller, item):
-            if item.impl and " for " in item.impl.name:
+            if item.kind not in CODE or item.impl and " for " in item.impl.name:
                 return item.owner in calls[caller.key]
             of = (item.owner + "::", "Self::", ".") if item.owner else ("", item.file.stem + "::")
             return item.owner in self.files[caller.file][1] and calls[caller.key] & {word + item.name for word in of}
         for edit in sorted(folder.glob("must-fail/*.edit")):
-            for file, old in re.findall(r"^file: (.*)\nold: (.*)$", edit.read_text(), re.M):
-                line = self.files[folder / file][1].split(old)[0].count("\n") + 1
-                due = [i for i in functions if i.file == folder / file and i.line <= line <= i.end]
+            parts = re.findall(r"^file: (.*)\n((?:(?!file: ).*\n?)*)", edit.read_text(), re.M)
+            for file, old in [(folder / name, old) for name, changes in parts
+                              for old in re.findall(r"^old: (?!///|use )(.*)$", changes, re.M)]:
+                line = self.files[file][1].split(old)[0].count("\n") + 1
+                due = [i for i in functions if i.file == file and i.line <= line <= i.end]
                 for item in due:
                     if item.public or item.impl and " for " in item.impl.name and item.impl.public:
-                        (item if item.public else item.impl).edits.append((edit.stem, due[0]))
+                        (item if item.public else item.impl).edits.append(f"{edit.stem} in {due[0].title}")
                     else:
                         due += [i for i in functions if i not in due and may_call(i, item)]
 
     def gaps(self):
         """Gives the public functions without a clause, and those without an edit, but for those with a mark."""
-        public = [i for i in self.items.values() if i.kind == "function" and i.public]
-        return ([i for i in public if not i.clauses and "No clause" not in i.mark],
-                [i for i in public if i.body and not i.edits and not i.mark])
+        public = [i for i in self.items.values() if i.kind == "function" and i.public and not i.mark]
+        return [i for i in public if not i.clauses], [i for i in public if i.body and not i.edits]
 
     def clauses(self):
         """Gives a line for each public clause: its crate, its item, its word and name, and its text."""
@@ -404,7 +406,8 @@ class Reference(Sources):
         place, items = item.file.relative_to(self.root), self.items
         parts = [f'<section id="{self.address(item).split("#")[1]}"><h3>{html.escape(item.title)} '
                  f'<small>{item.kind}, <a href="../../{place}">{place}</a>:{item.line}</small></h3>']
-        parts += ["<p>" + html.escape(part).replace("\n- ", "<br>- ") for part in "\n".join(item.comment).split("\n\n")]
+        parts += ["<p>" + html.escape(part).replace("\n- ", "<br>- ")
+                  for part in "\n".join(item.comment).split("\n\n")]
         parts += [f"<pre>{self.linked(chr(10).join(item.text), item)}</pre>"]
         parts += [f"<pre>{word} <b>{name}</b> {{ {self.linked(text, item)} }}</pre>"
                   for word, name, text in item.clauses]
@@ -417,7 +420,7 @@ class Reference(Sources):
         if item.kind in CODE:
             below = self.believed(item.uses)
             parts += [f"<p><small>To believe: {len(below)} definitions, {sum(i.lines for i in below)} lines</small>"]
-        parts += [f"<p><small>Must fail:</small> {edit} <small>in {turned.title}</small>" for edit, turned in item.edits]
+        parts += [f"<p><small>Must fail:</small> {edit}" for edit in dict.fromkeys(item.edits)]
         return "\n".join([*parts, f"<p><small>{item.mark}</small>", "</section>"])
 
     def opening(self, file):
@@ -433,11 +436,10 @@ class Reference(Sources):
         """Gives the page of the law `headline` and what it rests on, in the order of docs/DEFINITIONS.md."""
         document = "".join(path.read_text() for path in self.root.glob("docs/DEFINITIONS.md"))
         items = {law.key: law for law in self.by_name["headline"]}
-        for words in re.findall(r"<!--made: files (.*?)-->", document):
+        for words in [*re.findall(r"<!--made: files (.*?)-->", document), "headline"]:
             items |= {item.key: item for item in self.believed_by_names(words.split())}
-        items |= {item.key: item for law in self.by_name["headline"] for item in self.believed(law.uses)}
         parts = [self.section(item) for item in items.values() if item.kind != "module"]
-        page, here = self.page("The headline, and all that it rests on", parts), set(map(self.address, items.values()))
+        page, here = self.page("What the headline rests on", parts), set(map(self.address, items.values()))
         return re.sub(r'(href=")([^"#]+)(#[^"]+)', lambda f: f[1] + f[2] * (f[2] + f[3] not in here) + f[3], page)
 
     def write(self, folder):
@@ -447,8 +449,7 @@ class Reference(Sources):
         for crate in self.crates:
             items = [i for i in self.items.values() if i.crate == crate and i.kind != "module"]
             public = [i for i in items if i.public and i.kind in CODE]
-            others = [i for i in items if i.kind not in CODE]
-            for name, kept in ((crate, public), (f"{crate}-definitions", others)):
+            for name, kept in ((crate, public), (f"{crate}-definitions", [i for i in items if i.kind not in CODE])):
                 parts = []
                 for file, group in groupby(kept, key=lambda item: item.file):
                     parts += [f"<h2>{file.stem}</h2><p>{html.escape(self.opening(file))}", *map(self.section, group)]
@@ -486,7 +487,7 @@ def main(words):
         print("".join(f"{i.lines:4} {i.key}\n" for i in items) + f"{sum(i.lines for i in items):4} lines")
     elif words == ["--gaps"]:
         for title, items in zip(("no clause", "no edit"), reference.gaps()):
-            print("".join(f"{title}: {item.crate} {item.title}\n" for item in items), end="")
+            print(*(f"{title}: {item.crate} {item.title}\n" for item in items), sep="", end="")
     elif words == ["--write"]:
         (root / "docs/clauses.txt").write_text("".join(reference.clauses()))
         for document in [*root.glob("*.md"), *root.glob("docs/*.md")]:
