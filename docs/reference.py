@@ -478,8 +478,7 @@ class Reference(Sources):
 
 
 def main(words):
-    root = Path(__file__).resolve().parent.parent
-    reference = Reference(root)
+    reference = Reference(root := Path(__file__).resolve().parent.parent)
     if not words:
         reference.write(root / "docs/out")
     elif words[0] == "--believe":
