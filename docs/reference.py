@@ -9,7 +9,7 @@
 A NAME is of a law, a function or a definition, if need be after its crate, as gf_canon::headline, or of a
 clause, as headline.placed. A part of a document between `<!--made: ..-->` and `<!---->` is made here: `lines
 NAMES - OTHERS` is how many lines the definitions have that NAMES rest on and OTHERS do not, and `files NAMES
-- OTHERS` the table of their files. What the kit defines (Rattle.std) is not followed, nor how a value is kept
+- OTHERS` lists their files. What the kit defines (Rattle.std) is not followed, nor how a value is kept
 in memory (`ghost view`): a type with a model stands for its `ghost Value`.
 """
 import html
@@ -67,7 +67,7 @@ def braced(lines, start):
             inside += shown if depth else ""
             depth += mark == "{"
         inside += " "
-    return sys.exit(f"no brace closes {lines[start]}")
+    raise ValueError(lines[start])
 
 
 class Sources:
@@ -411,11 +411,10 @@ class Reference(Sources):
         parts += [f"<pre>{self.linked(chr(10).join(item.text), item)}</pre>"]
         parts += [f"<pre>{word} <b>{name}</b> {{ {self.linked(text, item)} }}</pre>"
                   for word, name, text in item.clauses]
-        cited = {i.key: i for i in self.cited[item.key] if "::inner::" not in i.key and i.kind != "law"
-                 and (i.public or i.kind not in CODE)}.values()
+        cited = [i for i in self.cited[item.key] if i.kind not in CODE or i.public and i.kind != "law"]
         for words, others in (("Rests on", [items[key] for key in sorted(item.uses)]), ("Cited by", cited),
                               ("Checked by", self.checks(item) if item.kind not in CODE else [])):
-            links = [self.link(other) for other in others if other.kind != "module"]
+            links = [self.link(other) for other in others if other.kind != "module" and "::inner::" not in other.key]
             parts += [f"<p><small>{words}</small> " + ", ".join(links)] if links else []
         if item.kind in CODE:
             below = self.believed(item.uses)
@@ -425,7 +424,7 @@ class Reference(Sources):
 
     def opening(self, file):
         """Gives the first sentence of the comment that begins a file."""
-        lines = re.match(r"(?:(?:--|//!) .*\n)*", self.files[file][1])[0].splitlines()
+        lines = re.findall(r"\A(?:(?:--|//!) .*\n)*", self.files[file][1])[0].splitlines()
         return re.split(r"(?<=\.) ", " ".join(line[3:].strip() for line in lines))[0]
 
     def page(self, title, parts):
@@ -463,14 +462,15 @@ class Reference(Sources):
 
     def made(self, words):
         """Gives the part of a document that these words ask for."""
-        kind, *names = words.split()
-        items = self.believed_by_names(names)
-        if kind == "lines":
+        items = self.believed_by_names(words.split()[1:])
+        if words.startswith("lines "):
             return str(sum(item.lines for item in items))
-        rows = [f"| {self.files[file][0].split('::')[0]}: [{file.stem}](../{file.relative_to(self.root)}) "
-                f"| {self.opening(file)} | {sum(item.lines for item in group)} |\n"
-                for file, group in groupby(items, key=lambda item: item.file)]
-        return "\n| File | It holds | Lines |\n|---|---|---|\n" + "".join(rows)
+        rows = "\n"
+        for crate, kept in groupby(items, key=lambda item: item.crate):
+            rows += f"- {crate}: " + ", ".join(
+                f"[{file.stem}](../{file.relative_to(self.root)}) {sum(item.lines for item in group)}"
+                for file, group in groupby(kept, key=lambda item: item.file)) + ".\n"
+        return rows
 
     def remade(self, text):
         """Gives a document with its made parts as they should be."""
