@@ -69,6 +69,7 @@ pub struct FoundFiles {
 
 impl FoundFiles {
     /// None yet.
+    // No edit: it puts parts together.
     pub fn new(alloc: Global, repeats: Repeats) -> FoundFiles
         ensures { result.files.items ≡ [] }
     {
