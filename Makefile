@@ -2,8 +2,9 @@
 # writes of an example; `make library` proves and builds the library for C and Python, and `make page`
 # makes of it a page that any browser opens; `make install PREFIX=..` puts the program, its man page
 # and, if it was built, the library in place, `make install-library PREFIX=..` the library alone, and
-# `make uninstall PREFIX=..` removes all of these; `make test` proves and tests everything; `make bench`
-# times the program and, if it was built, the library; `make clean` removes what was built.
+# `make uninstall PREFIX=..` removes all of these; `make doc` writes docs/out, pages about the sources;
+# `make test` proves and tests everything; `make bench` times the program and, if it was built, the
+# library; `make clean` removes what was built.
 
 RT ?= rt
 export RT
@@ -12,7 +13,7 @@ PREFIX ?= /usr/local
 version = $(shell sed -n 's/^.define GAMEFILE_VERSION "\(.*\)"/\1/p' library/gamefile.h)
 sources := crates.txt $(shell find crates -name out -prune -o -type f -print)
 
-.PHONY: all run library page install install-library uninstall test bench clean
+.PHONY: all run library page install install-library uninstall doc test bench clean
 
 all: gamefile
 
@@ -56,6 +57,9 @@ uninstall:
 	    include/gamefile.h lib/libgamefile.a lib/libgamefile.so lib/libgamefile.so.1 \
 	    lib/pkgconfig/gamefile.pc)
 
+doc:
+	docs/reference.py
+
 test:
 	tests/gate
 
@@ -69,4 +73,4 @@ bench:
 	fi
 
 clean:
-	rm -rf gamefile bench/inputs crates/*/out library/out page/out python/gamefile/libgamefile.so.1
+	rm -rf gamefile bench/inputs crates/*/out docs/out library/out page/out python/gamefile/libgamefile.so.1

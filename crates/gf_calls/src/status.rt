@@ -26,6 +26,7 @@ pub enum Status {
 
 impl Status {
     /// The number of the status, which is never changed.
+    // No edit: `Why::code` has one, and proofs of gamefile_c rely on this.
     pub fn number(self) -> u32
         ensures { result ≡ status_number self }
     {

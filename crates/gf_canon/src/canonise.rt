@@ -76,6 +76,7 @@ pub fn canonical_text(alloc: Global, input: &[u8], names: Names) -> Result<TextP
 /// # Errors
 ///
 /// Those of `canonical_text`.
+// No edit: it passes on `canonical_text`.
 pub fn canonical_by(alloc: Global, input: &[u8], names: Names) -> Result<Vec<u8>, Fault>
     ensures text { IfOk result (λ text. IsTextBy names input.now text.items) }
     ensures only { (x : GameFile) → SpellsWithin input.now x → MatchResult result
@@ -91,6 +92,7 @@ pub fn canonical_by(alloc: Global, input: &[u8], names: Names) -> Result<Vec<u8>
 /// # Errors
 ///
 /// Those of `canonical_by`.
+// No edit: it passes on `canonical_by`.
 pub fn canonical(alloc: Global, input: &[u8]) -> Result<Vec<u8>, Fault>
     ensures text { IfOk result (λ text. IsCanonicalText input.now text.items) }
     ensures only { (x : GameFile) → SpellsWithin input.now x → MatchResult result

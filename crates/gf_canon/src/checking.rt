@@ -66,6 +66,7 @@ pub(crate) fn tell_file<'a, R: Receive<'a>>(
 ///
 /// Those of `canonical`; E19 if memory is refused for the descriptions of sets and outcomes, or for
 /// the labels of a table.
+// No edit: it passes on `tell_file`.
 pub fn check(alloc: Global, input: &[u8]) -> Result<FileKind, Fault>
     ensures kind { IfOk result (MeansFileOf input.now) }
     ensures refused { IfErr result (IsRefusedWith input.now) }

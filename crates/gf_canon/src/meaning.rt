@@ -46,6 +46,7 @@ pub(crate) fn list_file<'a>(alloc: Global, input: &'a [u8]) -> Result<Listed<'a>
 /// # Errors
 ///
 /// Those of `canonical`; E19 if memory for the game or the table is refused.
+// No edit: it passes on `read_efg`.
 #[tactic(auto, using(crate::proofs::lemmas::files::Refused::refusals))]
 pub fn read_file<'a>(alloc: Global, input: &'a [u8]) -> Result<Meaning<'a>, Fault>
     ensures spelled { IfOk result (λ meaning. SpellsWithin input.entry.now (file_of meaning)) }

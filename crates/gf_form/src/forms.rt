@@ -20,6 +20,7 @@ pub enum Strategies {
 }
 
 /// The form of a game by these strategies, as `table` and `table_reduced` make it.
+// No edit: it passes on `table`.
 pub fn form_by(alloc: Global, game: &Game<'_>, strategies: Strategies) -> Result<Table, FormFault>
     requires { HasFewPlayers game.now }
     ensures form { IfOk result (IsFormOf strategies game.now) }

@@ -131,6 +131,7 @@ impl Fraction {
     }
 
     /// One, which is `1 / 1`.
+    // No edit: it puts parts together.
     pub fn one() -> Fraction
         ensures value { result ≡ whole (pos 1) }
         ensures fraction { IsFraction result }
@@ -139,6 +140,7 @@ impl Fraction {
     }
 
     /// The numerator in lowest terms, with the sign.
+    // No edit: it returns a part.
     pub fn num(self) -> i128
         ensures value { result ≡ self.num }
         ensures fraction { IsFraction self }
@@ -147,6 +149,7 @@ impl Fraction {
     }
 
     /// The denominator in lowest terms.
+    // No edit: it returns a part.
     pub fn den(self) -> u128
         ensures value { result ≡ self.den }
         ensures fraction { IsFraction self }
@@ -155,6 +158,7 @@ impl Fraction {
     }
 
     /// Whether the value is below zero.
+    // No edit: `Fraction::exceeds_one` has one, and proofs of gf_tree rely on this.
     pub fn is_negative(self) -> bool
         ensures { IsTrue result ↔ (self.num <ℤ pos 0) }
     {

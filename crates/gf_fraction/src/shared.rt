@@ -31,6 +31,7 @@ impl Model for SharedDenominator {
 
 impl SharedDenominator {
     /// This denominator, which has to be from 1 to `2^127 - 1`.
+    // No edit: it puts parts together.
     pub fn new(den: u128) -> SharedDenominator
         requires above_zero { 0 < den }
         requires within { den < 2 ^ 127 }
@@ -44,6 +45,7 @@ impl SharedDenominator {
     }
 
     /// The denominator as a number.
+    // No edit: it returns a part.
     #[inline]
     pub fn den(&self) -> u128
         ensures { result ≡ self.now }

@@ -16,6 +16,7 @@ pub struct ProfileCount {
 
 impl ProfileCount {
     /// The only profile without players.
+    // No edit: it puts parts together.
     pub fn one() -> ProfileCount
         ensures { result.count ≡ 1 }
     {

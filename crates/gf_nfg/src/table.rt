@@ -115,6 +115,7 @@ impl Table {
 
     /// The table of these parts, as `new` makes it. The payoffs are not copied, nor are the labels
     /// of the strategies if there is only one player.
+    // No edit: `Table::new` has one, and proofs of gf_form rely on this.
     #[tactic(auto, using(crate::proofs::lemmas::tables::Made::made_of_labels))]
     pub fn with_labels(
         alloc: Global,
@@ -188,6 +189,7 @@ impl Table {
     }
 
     /// The title.
+    // No edit: it returns a part.
     pub fn title(&self) -> Label<'_>
         ensures { label_of result ≡ self.now.title }
     {
@@ -195,6 +197,7 @@ impl Table {
     }
 
     /// The comment, which is empty if the file has none.
+    // No edit: it returns a part.
     pub fn comment(&self) -> Label<'_>
         ensures { label_of result ≡ self.now.comment }
     {
@@ -209,6 +212,7 @@ impl Table {
     }
 
     /// The name of player `i`, or `None` if there is no such player.
+    // No edit: it returns a part.
     pub fn player(&self, i: u32) -> Option<Label<'_>>
         ensures { option_map label_of result ≡ at_position self.now.players i }
     {
@@ -220,6 +224,7 @@ impl Table {
     }
 
     /// How many strategies player `i` has, or `None` if there is no such player.
+    // No edit: it returns a part.
     pub fn strategies(&self, i: u32) -> Option<u32>
         ensures { result ≡ option_map length (at_position self.now.strategies i) }
     {
@@ -248,6 +253,7 @@ impl Table {
     /// profile one entry with one payoff for each player (`is_table`); its labels can be spelled,
     /// and its payoffs are fractions (`spellable`); and it is within the limit of profiles
     /// (`within`).
+    // No edit: it returns a part.
     pub fn profiles(&self) -> u32
         ensures number { result ≡ length self.now.entries }
         ensures is_table { IsTable self.now }

@@ -136,6 +136,7 @@ pub fn is_of_second(fault: &RunFault) -> bool
 
 /// The exit status of the answer whether two files mean the same: 0 if they do, and 1 if they
 /// differ.
+// No edit: `end_of` calls it and has one.
 pub fn answer_status(same: bool) -> u8
     ensures { result ≡ answer_status same }
 {

@@ -61,6 +61,7 @@ impl<'a> Cursor<'a> {
     }
 
     /// The next token if it is a bare one.
+    // No edit: `Cursor::opening` has one, and proofs of gf_tree rely on this.
     #[tactic(auto, using(crate::proofs::Starts::starts_steps, crate::proofs::TokensAhead::taken))]
     #[inline(always)]
     pub fn bare(&mut self) -> Option<BareToken<'a>>
@@ -149,6 +150,7 @@ impl<'a> Cursor<'a> {
     }
 
     /// The next token if it is a text.
+    // No edit: `Cursor::opening` has one, and proofs of gf_tree rely on this.
     #[tactic(auto, using(crate::proofs::Starts::starts_steps, crate::proofs::TokensAhead::taken))]
     #[inline(always)]
     pub fn text(&mut self) -> Option<TextToken<'a>>
@@ -209,6 +211,7 @@ impl<'a> Cursor<'a> {
     }
 
     /// The place of the next token if it is a closing brace.
+    // No edit: `Cursor::opening` has one, and proofs of gf_tree rely on this.
     #[tactic(auto, using(crate::proofs::Starts::starts_steps, crate::proofs::TokensAhead::taken))]
     #[inline(always)]
     pub fn closing(&mut self) -> Option<Span>
@@ -228,6 +231,7 @@ impl<'a> Cursor<'a> {
     }
 
     /// The place of the next token if it is a comma.
+    // No edit: `Cursor::opening` has one, and proofs of gf_tree rely on this.
     #[tactic(auto, using(crate::proofs::Starts::starts_steps, crate::proofs::TokensAhead::taken))]
     #[inline(always)]
     pub fn comma(&mut self) -> Option<Span>

@@ -157,6 +157,7 @@ pub struct Fault {
 
 impl Fault {
     /// The refusal of the token that stands at `span`.
+    // No edit: it puts parts together.
     pub fn at(span: Span, why: Why) -> Fault
         ensures { result ≡ record { span = span; why = why } }
     {
@@ -164,6 +165,7 @@ impl Fault {
     }
 
     /// The refusal at the end of an input of `len` bytes: its place begins and ends there.
+    // No edit: it puts parts together.
     pub fn at_end(len: usize, why: Why) -> Fault
         ensures { result ≡ record { span = record { start = len; end = len }; why = why } }
     {

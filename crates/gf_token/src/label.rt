@@ -48,6 +48,7 @@ impl<'a> Label<'a> {
     ///
     /// The caller has to ensure that `raw` does not end in a backslash, and that each `"` in it
     /// directly follows one. `Label::new` checks any bytes.
+    // No edit: it puts parts together.
     #[inline(always)]
     pub fn of_spelling(raw: &'a [u8]) -> Label<'a>
         requires { IsTrue (is_spelling raw.now) }
@@ -57,6 +58,7 @@ impl<'a> Label<'a> {
     }
 
     /// The bytes between the label's quotes.
+    // No edit: it returns a part.
     #[inline(always)]
     pub fn raw(self) -> &'a [u8]
         ensures same { result.now ≡ label_of self.entry }

@@ -87,6 +87,7 @@ impl<'a> Game<'a> {
     }
 
     /// The title.
+    // No edit: it returns a part.
     pub fn title(&self) -> Label<'a>
         ensures { label_of result ≡ self.now.title }
     {
@@ -94,6 +95,7 @@ impl<'a> Game<'a> {
     }
 
     /// The comment, which is empty if the file has none.
+    // No edit: it returns a part.
     pub fn comment(&self) -> Label<'a>
         ensures { label_of result ≡ self.now.comment }
     {
@@ -105,6 +107,7 @@ impl<'a> Game<'a> {
     /// The other clauses hold for each game: each key in its tree has its description, and each
     /// node has as many children as its set has actions; and a file can hold its labels and
     /// numbers.
+    // No edit: it returns a part.
     pub fn players(&self) -> &[Label<'a>]
         ensures names { map label_of result.now ≡ self.now.players }
         ensures is_game { IsGame self.now }
@@ -116,6 +119,7 @@ impl<'a> Game<'a> {
     /// The title, the comment and the players.
     ///
     /// The other clauses hold for each game, as those of `players` do.
+    // No edit: it puts parts together.
     pub fn heading(&self) -> ToldHeading<'_, 'a>
         ensures heading { heading_of result ≡ heading_in self.now }
         ensures is_game { IsGame self.now }
@@ -143,6 +147,7 @@ impl<'a> Game<'a> {
 
     /// The name of an outcome and its payoffs, one for each player. `None` if there is no such
     /// outcome, and for 0.
+    // No edit: `Game::infoset` has one, and proofs of gf_form rely on this.
     #[tactic(auto, using(crate::proofs::lemmas::stores::FoundKeys::outcomes_found))]
     pub fn outcome(&self, number: u32) -> Option<(Label<'a>, &[Fraction])>
         ensures { option_map (λ p. outcome_with (label_of p.0) p.1.now) result
@@ -156,6 +161,7 @@ impl<'a> Game<'a> {
     }
 
     /// How many sets a player has, where chance is player 0; 0 if there is no such player.
+    // No edit: it returns a part.
     pub fn set_count(&self, player: u32) -> usize
         ensures count { result ≡ length (player_keys self.now player) }
         ensures few { result < 2 ^ 32 }
@@ -175,6 +181,7 @@ impl<'a> Game<'a> {
     }
 
     /// How many outcomes there are. Outcome 0 does not count.
+    // No edit: it returns a part.
     pub fn outcome_count(&self) -> usize
         ensures count { result ≡ length (outcome_numbers self.now) }
         ensures few { result < 2 ^ 32 }
@@ -191,6 +198,7 @@ impl<'a> Game<'a> {
     }
 
     /// The whole tree.
+    // No edit: it passes on `Branch::whole`.
     pub fn root(&self) -> Branch<'_, 'a>
         ensures game { game_of result ≡ self.now }
         ensures tree { tree_of result ≡ self.now.tree }
@@ -200,6 +208,7 @@ impl<'a> Game<'a> {
 
     /// The nodes in prefix order: a node, then the subtrees of its children from the first to the
     /// last.
+    // No edit: it passes on `Nodes::all`.
     pub fn nodes(&self) -> Nodes<'_, 'a>
         ensures { nodes_left result ≡ map (λ e. e.node) (flatten self.now.tree) }
     {
@@ -207,6 +216,7 @@ impl<'a> Game<'a> {
     }
 
     /// How many nodes there are.
+    // No edit: it returns a part.
     pub fn len(&self) -> usize
         ensures { result ≡ length (subtrees self.now.tree) }
     {

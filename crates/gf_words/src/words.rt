@@ -91,6 +91,7 @@ pub fn parse_request(alloc: Global, words: &[&str]) -> Result<Request, WordsFaul
 /// - `Usage`: they ask for nothing of this kind.
 /// - `Memory`: memory ran out. If it ran out while the words were judged, `Usage` may come in its
 ///   place.
+// No edit: it passes on `parse_request`.
 pub fn parse_words(alloc: Global, words: &[&str]) -> Result<Job, WordsFault>
     ensures job { IfOk result (IsJobIn (map (λ word. word.now) words.now)) }
     ensures taken { are_taken (map (λ word. word.now) words.now) ≡ true

@@ -118,6 +118,7 @@ impl Table {
     /// # Errors
     ///
     /// `AllocError` if memory is refused.
+    // No edit: `Table::play_agrees` has one, and proofs of gf_canon rely on this.
     pub fn plays_alike(&self, alloc: Global, o: &Table) -> Result<bool, AllocError>
         ensures { IfOk result (λ answer. IsTrue answer ↔ SamePlay self.now o.now) }
     {

@@ -65,6 +65,7 @@ fn write_joined(parts: &[Label<'_>], bytes: &mut Vec<u8>) -> Result<(), AllocErr
 
 impl Labels {
     /// No labels.
+    // No edit: it puts parts together.
     pub fn new(alloc: Global) -> Labels
         ensures { result ≡ [] }
     {
@@ -75,6 +76,7 @@ impl Labels {
     }
 
     /// How many labels there are.
+    // No edit: it returns a part.
     #[tactic(auto, using(crate::proofs::lemmas::tables::Pieces::as_many_pieces))]
     pub fn len(&self) -> usize
         ensures len { result ≡ length self.now }
@@ -92,6 +94,7 @@ impl Labels {
     }
 
     /// How many bytes the labels have, all together.
+    // No edit: it returns a part.
     #[tactic(auto, using(crate::proofs::lemmas::tables::LabelsJoined::labels_size))]
     pub fn size(&self) -> usize
         ensures { result ≡ sum (map length self.now) }
@@ -104,6 +107,7 @@ impl Labels {
     /// # Errors
     ///
     /// `AllocError` if memory is refused.
+    // No edit: it passes on `Vec::reserve`.
     pub fn reserve(&mut self, labels: usize, bytes: usize) -> Result<(), AllocError>
         ensures { self.new ≡ self.old }
     {
@@ -117,6 +121,7 @@ impl Labels {
     /// # Errors
     ///
     /// `AllocError` if memory is refused; nothing is then added.
+    // No edit: `Labels::push_joined` has one, and proofs of gf_form rely on this.
     #[tactic(auto, using(crate::proofs::lemmas::tables::Pieces::one_piece_more))]
     pub fn push(&mut self, label: Label<'_>) -> Result<(), AllocError>
         ensures ok { OnOk result (self.new ≡ self.old ++ label_of label.entry ∷ []) }
@@ -155,6 +160,7 @@ impl Labels {
     /// # Errors
     ///
     /// `AllocError` if memory is refused.
+    // No edit: it passes on `Labels::extend_by`.
     pub fn followed_by(self, others: Labels) -> Result<Labels, AllocError>
         ensures labels { IfOk result (λ all. all ≡ self ++ others) }
         ensures spelled { IfOk result (λ all. AreSpellings all) }
@@ -206,6 +212,7 @@ impl Labels {
     }
 
     /// The label at this place, from 0.
+    // No edit: it returns a part.
     #[tactic(auto, using(crate::proofs::lemmas::tables::Pieces::one_piece))]
     pub fn label(&self, at: usize) -> Label<'_>
         requires { at < length self.now }

@@ -47,6 +47,7 @@ impl Model for TextPieces {
 
 impl TextPieces {
     /// A text in one piece, which is not given yet.
+    // No edit: it puts parts together.
     pub fn of(text: Vec<u8>) -> TextPieces
         ensures rest { result.rest ≡ text.items }
         ensures none { result.piece ≡ [] }
@@ -103,6 +104,7 @@ impl TextPieces {
     }
 
     /// Goes on to the next piece, and returns whether there is one.
+    // No edit: `TextAndPayoffs::advance` has one, and proofs of gf_run rely on this.
     pub fn advance(&mut self) -> bool
         ensures given { self.old.rest ≡ self.new.piece ++ self.new.rest }
         ensures some { result ≡ true → 0 < length self.new.piece }
@@ -118,6 +120,7 @@ impl TextPieces {
     }
 
     /// The piece that `advance` came to last; none before.
+    // No edit: it returns a part.
     pub fn piece(&self) -> &[u8]
         ensures { result.now ≡ self.now.piece }
     {
@@ -125,6 +128,7 @@ impl TextPieces {
     }
 
     /// All that is still to come, as one vector.
+    // No edit: it passes on `Lines::append`.
     pub fn into_vec(self) -> Vec<u8>
         ensures { result.items ≡ self.rest }
     {

@@ -51,6 +51,7 @@ impl Model for TextAndPayoffs {
 
 impl TextAndPayoffs {
     /// A text, as far as it was given, and nothing after it.
+    // No edit: it puts parts together.
     pub fn of(alloc: Global, text: TextPieces) -> TextAndPayoffs
         ensures { result ≡ text }
     {
@@ -87,6 +88,7 @@ impl TextAndPayoffs {
     }
 
     /// The piece that `advance` came to last; none before.
+    // No edit: it returns a part.
     pub fn piece(&self) -> &[u8]
         ensures { result.now ≡ self.now.piece }
     {

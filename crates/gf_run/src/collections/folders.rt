@@ -67,6 +67,7 @@ pub struct KeptFiles {
 
 impl KeptFiles {
     /// None yet.
+    // No edit: it puts parts together.
     pub fn new(alloc: Global, repeats: Repeats) -> KeptFiles
         ensures { result.files.items ≡ [] }
     {

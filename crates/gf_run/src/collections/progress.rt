@@ -17,9 +17,11 @@ const PAUSE: u128 = 200;
 /// What is told of each file that is done.
 pub trait Progress {
     /// One more file is done, of this many.
+    // No clause: nothing is said of what is shown.
     fn step(&mut self, all: usize);
 
     /// The run over them is at its end.
+    // No clause: nothing is said of what is shown.
     fn end(&mut self);
 }
 
@@ -35,6 +37,7 @@ pub struct Shown<'a, R, W> {
 
 impl<'a, R: Clock, W: Write> Shown<'a, R, W> {
     /// Shows nothing unless `shows` is true.
+    // No clause: nothing is said of what is shown.
     pub fn new(rt: &'a R, terminal: W, shows: bool) -> Shown<'a, R, W> {
         let last = if shows { Instant::now(rt).ok() } else { None };
         Shown {
@@ -91,6 +94,7 @@ pub struct Erasing<W> {
 
 impl<W: Write> Erasing<W> {
     /// Erases nothing unless `erases` is true.
+    // No edit: it puts parts together.
     pub fn new(terminal: W, erases: bool) -> Erasing<W>
         ensures { held_by W.contents result ≡ (if erases then None else W.contents terminal) }
     {

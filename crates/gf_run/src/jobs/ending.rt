@@ -20,6 +20,7 @@ use std::io;
 /// Writes the line of a fault to standard error, and returns its exit status.
 ///
 /// The status stays the same if the line cannot be written.
+// No edit: it passes on `write_fault`.
 pub fn tell<E: Sink>(fault: &RunFault, errors: &mut E) -> u8
     ensures status { result ≡ status_of fault.now }
     ensures told { IsTold E.writer (fault_line fault.now) errors.old errors.new }

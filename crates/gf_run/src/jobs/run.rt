@@ -49,6 +49,7 @@ pub fn run_canon_by<R: Source, W: Sink>(
 /// # Errors
 ///
 /// Those of `run_canon_by`.
+// No edit: it passes on `run_canon_by`.
 pub fn run_canon<R: Source, W: Sink>(
     alloc: Global,
     input: &mut R,

@@ -51,6 +51,7 @@ pub fn run_same_by<R: Source, S: Source, W: Sink>(
 /// # Errors
 ///
 /// Those of `run_same_by`.
+// No edit: it passes on `run_same_by`.
 pub fn run_same<R: Source, S: Source, W: Sink>(
     alloc: Global,
     a: &mut R,

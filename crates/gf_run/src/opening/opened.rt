@@ -35,6 +35,7 @@ pub struct HostInputs<'a> {
 }
 
 impl<'a> HostInputs<'a> {
+    // No clause: it only lends the runtime.
     pub fn new(rt: &'a HostRuntime) -> HostInputs<'a> {
         HostInputs { rt }
     }

@@ -20,6 +20,7 @@ pub struct Counted<T> {
 }
 
 impl<T> Counted<T> {
+    // No edit: it puts parts together.
     pub fn new(inner: T) -> Counted<T>
         ensures inner { inner_of result ≡ inner }
         ensures failures { failures_of result ≡ 0 }

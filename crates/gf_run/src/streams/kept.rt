@@ -19,6 +19,7 @@ pub struct Kept<S> {
 
 impl<S> Kept<S> {
     /// Keeps nothing unless `keeps` is true.
+    // No edit: it puts parts together.
     pub fn new(alloc: Global, source: S, keeps: bool) -> Kept<S>
         ensures source { source_of result ≡ source }
         ensures bytes { bytes_kept result ≡ kept_at_first keeps }
@@ -28,6 +29,7 @@ impl<S> Kept<S> {
     }
 
     /// The bytes that have passed, if they are kept.
+    // No edit: it returns a part.
     pub fn bytes(&self) -> Option<&[u8]>
         ensures { option_map (λ bytes. bytes.now) result ≡ bytes_kept self.now }
     {

@@ -57,6 +57,7 @@ impl<'g, 'a> Branch<'g, 'a> {
     }
 
     /// How many children that node has.
+    // No edit: it passes on `Game::child_count`.
     pub fn children(&self) -> usize
         ensures { result ≡ length (child_trees (tree_of self.now)) }
     {
@@ -80,6 +81,7 @@ impl<'g, 'a> Branch<'g, 'a> {
     }
 
     /// The branches of its children, from the first to the last.
+    // No edit: it passes on `Branches::below`.
     pub fn child_branches(&self) -> Branches<'g, 'a>
         ensures game { game_of_branches result ≡ game_of self.now }
         ensures trees { branches_left result ≡ child_trees (tree_of self.now) }
@@ -100,6 +102,7 @@ impl<'g, 'a> Branch<'g, 'a> {
     }
 
     /// The actions at its root, from the first to the last; none if the game ends here.
+    // No edit: it passes on `Game::actions`.
     pub fn actions(&self) -> &'g [Action<'a>]
         ensures { MatchOption (root_node (tree_of self.now)).set (actions_of result.now ≡ [])
             (λ key. option_map (λ set. set.actions) (set_at (game_of self.now) key)
@@ -111,6 +114,7 @@ impl<'g, 'a> Branch<'g, 'a> {
 
     /// The position of its root's outcome, from 1, among the outcomes in order of first use, or 0
     /// if it has none.
+    // No edit: it passes on `Game::outcome_position`.
     pub fn outcome_position(&self) -> u32
         ensures { result ≡ position_among (outcome_numbers (game_of self.now))
             (root_node (tree_of self.now)).outcome }

@@ -40,6 +40,7 @@ impl<'g, 'a> Branches<'g, 'a> {
     }
 
     /// How many branches it has given.
+    // No edit: it returns a part.
     pub fn given(&self) -> usize
         ensures { result ≡ branches_given self.now }
     {

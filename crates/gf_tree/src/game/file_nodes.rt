@@ -20,6 +20,7 @@ use std::slice;
 impl<'a> Game<'a> {
     /// The nodes in prefix order, as a file gives them: each set and each outcome is described at
     /// its first use, and nowhere else. This takes no memory.
+    // No edit: it passes on `FileNodes::new`.
     pub fn file_nodes(&self) -> FileNodes<'_, 'a>
         ensures { result ≡ file_nodes self.now }
     {
@@ -28,6 +29,7 @@ impl<'a> Game<'a> {
 
     /// The same, but by first-use numbers: the number of a set is its position among the sets of
     /// its player, and the number of an outcome its position among the outcomes.
+    // No edit: it passes on `FileNodes::new`.
     pub fn nodes_by_first_use(&self) -> FileNodes<'_, 'a>
         ensures { result ≡ file_nodes (renumbered (first_use_numbers self.now) self.now) }
     {

@@ -50,6 +50,7 @@ impl<'a> ListedGame<'a> {
     /// The title, the comment and the players.
     ///
     /// The other clauses hold for each game, as those of `Game::players` do.
+    // No edit: it puts parts together.
     pub fn heading(&self) -> ToldHeading<'_, 'a>
         ensures heading { heading_of result ≡ heading_in self.now }
         ensures is_game { IsGame self.now }
@@ -63,6 +64,7 @@ impl<'a> ListedGame<'a> {
     }
 
     /// The nodes in prefix order by first-use numbers, as `Game::nodes_by_first_use` gives them.
+    // No edit: it passes on `FileNodes::new`.
     pub fn nodes_by_first_use(&self) -> FileNodes<'_, 'a>
         ensures { result ≡ file_nodes (renumbered (first_use_numbers self.now) self.now) }
     {
@@ -70,6 +72,7 @@ impl<'a> ListedGame<'a> {
     }
 
     /// The game, with the subtrees of its nodes.
+    // No edit: it passes on `Game::new`.
     pub fn into_game(self) -> Game<'a>
         ensures { result ≡ self.entry }
     {

@@ -123,6 +123,7 @@ impl<'n, 'a> NumberedNode<'n, 'a> {
     }
 
     /// Whether it describes neither a set nor an outcome.
+    // No edit: `NumberedNode::undescribed` has one, and proofs of gf_canon rely on this.
     #[inline(always)]
     pub fn describes_nothing(&self) -> bool
         ensures { IsTrue result ↔ ((told_of self.now).node ≡ undescribed (told_of self.now).node) }
