@@ -2,17 +2,19 @@
 # writes of an example; `make library` proves and builds the library for C and Python; `make install
 # PREFIX=..` puts the program, its page and, if it was built, the library in place, `make
 # install-library PREFIX=..` the library alone, and `make uninstall PREFIX=..` removes all of these;
-# `make test` proves and tests everything; `make bench` times the program and, if it was built, the
-# library; `make clean` removes what was built.
+# `make dist` makes a release of both, in dist; `make test` proves and tests everything; `make bench`
+# times the program and, if it was built, the library; `make clean` removes what was built.
 
 RT ?= rt
 export RT
 PREFIX ?= /usr/local
+LIBDIR ?= $(PREFIX)/lib
+ZSHDIR ?= $(PREFIX)/share/zsh/site-functions
 
 version = $(shell sed -n 's/^.define GAMEFILE_VERSION "\(.*\)"/\1/p' library/gamefile.h)
 sources := crates.txt $(shell find crates -name out -prune -o -type f -print)
 
-.PHONY: all run library install install-library uninstall test bench clean
+.PHONY: all run library install install-program install-library uninstall dist test bench clean
 
 all: gamefile
 
@@ -30,27 +32,38 @@ library/out/libgamefile.so.1: $(sources) $(wildcard library/gamefile.*) library/
 	./prove gamefile_c
 	library/build
 
-install: gamefile $(if $(wildcard library/out/libgamefile.so.1),install-library)
-	install -D -m 755 gamefile $(DESTDIR)$(PREFIX)/bin/gamefile
+# The program that is installed runs without a C library, if `cc` can link it so.
+release/out/gamefile: gamefile release/link
+	release/link
+
+install: install-program $(if $(wildcard library/out/libgamefile.so.1),install-library)
+
+install-program: release/out/gamefile
+	install -D -m 755 release/out/gamefile $(DESTDIR)$(PREFIX)/bin/gamefile
 	install -D -m 644 docs/gamefile.1 $(DESTDIR)$(PREFIX)/share/man/man1/gamefile.1
 	install -D -m 644 completions/gamefile.bash \
 	    $(DESTDIR)$(PREFIX)/share/bash-completion/completions/gamefile
-	install -D -m 644 completions/_gamefile $(DESTDIR)$(PREFIX)/share/zsh/site-functions/_gamefile
+	install -D -m 644 completions/_gamefile $(DESTDIR)$(ZSHDIR)/_gamefile
 
 install-library:
 	install -D -m 644 library/gamefile.h $(DESTDIR)$(PREFIX)/include/gamefile.h
-	install -D -m 644 library/out/libgamefile.a $(DESTDIR)$(PREFIX)/lib/libgamefile.a
-	install -D -m 755 library/out/libgamefile.so.1 $(DESTDIR)$(PREFIX)/lib/libgamefile.so.1
-	ln -sf libgamefile.so.1 $(DESTDIR)$(PREFIX)/lib/libgamefile.so
-	install -d $(DESTDIR)$(PREFIX)/lib/pkgconfig
-	sed -e 's|@PREFIX@|$(PREFIX)|' -e 's|@VERSION@|$(version)|' library/gamefile.pc.in \
-	    > $(DESTDIR)$(PREFIX)/lib/pkgconfig/gamefile.pc
+	install -D -m 644 library/out/libgamefile.a $(DESTDIR)$(LIBDIR)/libgamefile.a
+	install -D -m 755 library/out/libgamefile.so.1 $(DESTDIR)$(LIBDIR)/libgamefile.so.1
+	ln -sf libgamefile.so.1 $(DESTDIR)$(LIBDIR)/libgamefile.so
+	install -d $(DESTDIR)$(LIBDIR)/pkgconfig
+	sed -e 's|@PREFIX@|$(PREFIX)|' -e 's|@LIBDIR@|$(LIBDIR:$(PREFIX)/%=$${prefix}/%)|' \
+	    -e 's|@VERSION@|$(version)|' library/gamefile.pc.in \
+	    > $(DESTDIR)$(LIBDIR)/pkgconfig/gamefile.pc
 
 uninstall:
 	rm -f $(addprefix $(DESTDIR)$(PREFIX)/,bin/gamefile share/man/man1/gamefile.1 \
-	    share/bash-completion/completions/gamefile share/zsh/site-functions/_gamefile \
-	    include/gamefile.h lib/libgamefile.a lib/libgamefile.so lib/libgamefile.so.1 \
-	    lib/pkgconfig/gamefile.pc)
+	    share/bash-completion/completions/gamefile include/gamefile.h) \
+	    $(DESTDIR)$(ZSHDIR)/_gamefile \
+	    $(addprefix $(DESTDIR)$(LIBDIR)/,libgamefile.a libgamefile.so libgamefile.so.1 \
+	    pkgconfig/gamefile.pc)
+
+dist: release/out/gamefile library/out/libgamefile.so.1
+	release/build dist
 
 test:
 	tests/gate
@@ -65,4 +78,4 @@ bench:
 	fi
 
 clean:
-	rm -rf gamefile bench/inputs crates/*/out library/out python/gamefile/libgamefile.so.1
+	rm -rf gamefile bench/inputs crates/*/out dist library/out python/gamefile/libgamefile.so.1 release/out
