@@ -16,13 +16,17 @@ sources := crates.txt $(shell find crates -name out -prune -o -type f -print)
 
 .PHONY: all run library install install-program install-library uninstall dist test bench clean
 
-all: gamefile
+all: gamefile release/out/gamefile
 
 gamefile: $(sources)
 	./prove gamefile
 	cp crates/gamefile/out/gamefile .
 
-run: gamefile
+# The program that is installed runs without a C library, if `cc` can link it so.
+release/out/gamefile: gamefile release/link
+	release/link
+
+run: all
 	./gamefile canon examples/battle-of-the-sexes.nfg
 
 # library/out, and the Python package, which takes the shared object along.
@@ -31,10 +35,6 @@ library: library/out/libgamefile.so.1
 library/out/libgamefile.so.1: $(sources) $(wildcard library/gamefile.*) library/build
 	./prove gamefile_c
 	library/build
-
-# The program that is installed runs without a C library, if `cc` can link it so.
-release/out/gamefile: gamefile release/link
-	release/link
 
 install: install-program $(if $(wildcard library/out/libgamefile.so.1),install-library)
 
