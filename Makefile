@@ -63,6 +63,7 @@ uninstall:
 	    pkgconfig/gamefile.pc)
 
 dist: release/out/gamefile library/out/libgamefile.so.1
+	rm -rf dist
 	release/build dist
 
 test:
