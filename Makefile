@@ -2,26 +2,33 @@
 # writes of an example; `make library` proves and builds the library for C and Python, and `make page`
 # makes of it a page that any browser opens; `make install PREFIX=..` puts the program, its man page
 # and, if it was built, the library in place, `make install-library PREFIX=..` the library alone, and
-# `make uninstall PREFIX=..` removes all of these; `make doc` writes docs/out, pages about the sources;
-# `make test` proves and tests everything; `make bench` times the program and, if it was built, the
-# library; `make clean` removes what was built.
+# `make uninstall PREFIX=..` removes all of these; `make dist` makes a release, in dist; `make doc`
+# writes docs/out, pages about the sources; `make test` proves and tests everything; `make bench` times
+# the program and, if it was built, the library; `make clean` removes what was built.
 
 RT ?= rt
 export RT
 PREFIX ?= /usr/local
+LIBDIR ?= $(PREFIX)/lib
+ZSHDIR ?= $(PREFIX)/share/zsh/site-functions
 
 version = $(shell sed -n 's/^.define GAMEFILE_VERSION "\(.*\)"/\1/p' library/gamefile.h)
 sources := crates.txt $(shell find crates -name out -prune -o -type f -print)
 
-.PHONY: all run library page install install-library uninstall doc test bench clean
+.PHONY: all run library page install install-program install-library uninstall dist doc test bench \
+    clean
 
-all: gamefile
+all: gamefile release/out/gamefile
 
 gamefile: $(sources)
 	./prove gamefile
 	cp crates/gamefile/out/gamefile .
 
-run: gamefile
+# The program that is installed runs without a C library, if `cc` can link it so.
+release/out/gamefile: gamefile release/link
+	release/link
+
+run: all
 	./gamefile canon examples/battle-of-the-sexes.nfg
 
 # library/out, and the Python package, which takes the shared object along.
@@ -35,27 +42,35 @@ library/out/libgamefile.so.1: $(sources) $(wildcard library/gamefile.*) library/
 page: library/out/libgamefile.so.1
 	page/build
 
-install: gamefile $(if $(wildcard library/out/libgamefile.so.1),install-library)
-	install -D -m 755 gamefile $(DESTDIR)$(PREFIX)/bin/gamefile
+install: install-program $(if $(wildcard library/out/libgamefile.so.1),install-library)
+
+install-program: release/out/gamefile
+	install -D -m 755 release/out/gamefile $(DESTDIR)$(PREFIX)/bin/gamefile
 	install -D -m 644 docs/gamefile.1 $(DESTDIR)$(PREFIX)/share/man/man1/gamefile.1
 	install -D -m 644 completions/gamefile.bash \
 	    $(DESTDIR)$(PREFIX)/share/bash-completion/completions/gamefile
-	install -D -m 644 completions/_gamefile $(DESTDIR)$(PREFIX)/share/zsh/site-functions/_gamefile
+	install -D -m 644 completions/_gamefile $(DESTDIR)$(ZSHDIR)/_gamefile
 
 install-library:
 	install -D -m 644 library/gamefile.h $(DESTDIR)$(PREFIX)/include/gamefile.h
-	install -D -m 644 library/out/libgamefile.a $(DESTDIR)$(PREFIX)/lib/libgamefile.a
-	install -D -m 755 library/out/libgamefile.so.1 $(DESTDIR)$(PREFIX)/lib/libgamefile.so.1
-	ln -sf libgamefile.so.1 $(DESTDIR)$(PREFIX)/lib/libgamefile.so
-	install -d $(DESTDIR)$(PREFIX)/lib/pkgconfig
-	sed -e 's|@PREFIX@|$(PREFIX)|' -e 's|@VERSION@|$(version)|' library/gamefile.pc.in \
-	    > $(DESTDIR)$(PREFIX)/lib/pkgconfig/gamefile.pc
+	install -D -m 644 library/out/libgamefile.a $(DESTDIR)$(LIBDIR)/libgamefile.a
+	install -D -m 755 library/out/libgamefile.so.1 $(DESTDIR)$(LIBDIR)/libgamefile.so.1
+	ln -sf libgamefile.so.1 $(DESTDIR)$(LIBDIR)/libgamefile.so
+	install -d $(DESTDIR)$(LIBDIR)/pkgconfig
+	sed -e 's|@PREFIX@|$(PREFIX)|' -e 's|@LIBDIR@|$(LIBDIR:$(PREFIX)/%=$${prefix}/%)|' \
+	    -e 's|@VERSION@|$(version)|' library/gamefile.pc.in \
+	    > $(DESTDIR)$(LIBDIR)/pkgconfig/gamefile.pc
 
 uninstall:
 	rm -f $(addprefix $(DESTDIR)$(PREFIX)/,bin/gamefile share/man/man1/gamefile.1 \
-	    share/bash-completion/completions/gamefile share/zsh/site-functions/_gamefile \
-	    include/gamefile.h lib/libgamefile.a lib/libgamefile.so lib/libgamefile.so.1 \
-	    lib/pkgconfig/gamefile.pc)
+	    share/bash-completion/completions/gamefile include/gamefile.h) \
+	    $(DESTDIR)$(ZSHDIR)/_gamefile \
+	    $(addprefix $(DESTDIR)$(LIBDIR)/,libgamefile.a libgamefile.so libgamefile.so.1 \
+	    pkgconfig/gamefile.pc)
+
+dist: release/out/gamefile library/out/libgamefile.so.1
+	rm -rf dist
+	release/build dist
 
 doc:
 	docs/reference.py
@@ -73,4 +88,5 @@ bench:
 	fi
 
 clean:
-	rm -rf gamefile bench/inputs crates/*/out docs/out library/out page/out python/gamefile/libgamefile.so.1
+	rm -rf gamefile bench/inputs crates/*/out dist docs/out library/out page/out python/gamefile/libgamefile.so.1 \
+	    release/out

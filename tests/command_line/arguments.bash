@@ -48,7 +48,7 @@ check_words() {
     done
     for words in --version -V; do
         run $words <"$nothing"
-        judge_lines "words '$words'" 0 "gamefile 1.0.0"
+        judge_lines "words '$words'" 0 "gamefile $version"
     done
     check_hint
     check_own_name

@@ -34,7 +34,7 @@ check_layout() {
     fi
 }
 
-# `make install` puts the program and its page in place, and the page names what help names.
+# `make install` puts the program, linked for that, and its page in place, and the page names what help names.
 check_page() {
     if diff <(named_by_help | sort -u) <(named_by_page | sort -u) >"$scratch/differs"; then
         passed=$((passed + 1))
@@ -43,7 +43,7 @@ check_page() {
     fi
     check_layout
     if make -s -o gamefile -C "$root" install PREFIX="$scratch/usr" &&
-        cmp -s "$program" "$scratch/usr/bin/gamefile" &&
+        cmp -s "$root/release/out/gamefile" "$scratch/usr/bin/gamefile" &&
         cmp -s "$root/docs/gamefile.1" "$scratch/usr/share/man/man1/gamefile.1"; then
         passed=$((passed + 1))
     else
