@@ -1,0 +1,236 @@
+"use strict";
+// Where the parts of a picture of a tree stand. A level is a column if the picture runs from left to right, and a row
+// if it runs down. What it gives is drawn by picture.js: the items have `x` and `y`, and there are lines and words.
+
+// The space between lanes, from a node to what is written at it, and around the picture.
+const LANE = { across: 14, down: 22 }, BESIDE = 10, MARGIN = 16;
+const SLOPES = { across: { least: 26, share: 0.24, most: 90 }, down: { least: 62, share: 0.2, most: 120 } };
+
+const within = (value, { least, share, most }) => Math.min(most, Math.max(least, value * share));
+
+// The room that each item takes on both sides of its place across.
+function roomAcross(item) {
+    item.before = item.action && item.action.width > 0 ? 18 : 10;
+    item.after = item.under.length > 0 && item.parent ? 5 + 15 * item.under.length : 10;
+    item.further = item.children.length > 0 || item.right === null ? 0 : 1;
+    item.apart = 0;
+}
+
+// Which way the line to an item goes, in a picture that runs down: -1 to the left, 0 straight, 1 to the right.
+function side(item) {
+    if (!item.parent) return 0;
+    const siblings = item.parent.children;
+    return Math.sign(2 * siblings.indexOf(item) - (siblings.length - 1));
+}
+
+function roomDown(item) {
+    const wide = item.right ? item.right.width / 2 + 8 : 12, under = Math.max(0, ...item.under.map(it => it.width));
+    const label = item.action ? item.action.width : 0, toLeft = item.side < 0;
+    item.before = Math.max(wide, toLeft ? label - 8 : 0, toLeft && under > 0 ? under + 14 : 0);
+    item.after = Math.max(wide, toLeft ? 0 : label - 8, !toLeft && under > 0 ? under + 14 : 0);
+    item.further = item.children.length > 0 || item.right === null ? 0 : 1;
+    item.apart = 0;
+}
+
+// In a picture that runs down, the label of a line between two others stands between the lines.
+function roomBetween(item) {
+    const { children } = item;
+    for (let i = 0; i + 1 < children.length; i++) {
+        const label = children[i].side < 0 ? (children[i + 1].side < 0 ? children[i + 1].action : null) : children[i].action;
+        children[i].apart = label ? 2 * (label.width + 12) : 0;
+    }
+}
+
+// Gives each set with members at one level a lane there, so that no line runs over another or over another node:
+// the lane of an item is how far it is moved along. Terminal nodes stand beyond all lanes that pass them.
+function placeLanes(items, sets) {
+    const byLevel = [];
+    for (const item of items) (byLevel[item.level] ??= []).push(item);
+    const spanOf = new Map();
+    for (const { members } of sets)
+        for (const level of new Set(members.map(it => it.level))) {
+            const here = members.filter(it => it.level === level);
+            if (here.length > 1) for (const it of here) spanOf.set(it, here);
+        }
+    return byLevel.map(all => {
+        const spans = [...new Set(all.map(it => spanOf.get(it) ?? [it]))].map(members => ({
+            members, from: Math.min(...members.map(it => it.across)), to: Math.max(...members.map(it => it.across)),
+        }));
+        return lanesOf(spans.sort((a, b) => a.from - b.from || b.to - a.to));
+    });
+}
+
+function lanesOf(spans) {
+    const ends = [], isAlone = span => span.members.length === 1 && span.members[0].right !== null;
+    for (const span of spans.filter(it => !isAlone(it))) {
+        let lane = ends.findIndex(end => end < span.from);
+        if (lane < 0) lane = ends.length;
+        ends[lane] = span.to;
+        for (const it of span.members) it.lane = lane;
+    }
+    const wide = spans.filter(it => it.members.length > 1);
+    for (const { members: [item], from } of spans.filter(isAlone))
+        item.lane = Math.max(-1, ...wide.filter(it => it.from < from && it.to > from).map(it => it.members[0].lane)) + 1;
+    return Math.max(1, ends.length);
+}
+
+// What the layout of each level needs: how much its lines slope, and how wide what is written there is.
+function levelsAlong(items, slopes) {
+    const levels = [];
+    for (const item of items) {
+        const at = (levels[item.level] ??= { rise: 0, label: 0, under: 0, right: 0 });
+        at.under = Math.max(at.under, 0, ...item.under.map(it => it.width));
+        if (item.right && item.children.length === 0) at.right = Math.max(at.right, item.right.width + BESIDE);
+    }
+    for (const item of items.filter(it => it.parent)) {
+        const at = levels[item.parent.level + 1];
+        at.rise = Math.max(at.rise, Math.abs(item.across - item.parent.across));
+        if (item.action) at.label = Math.max(at.label, item.action.width);
+    }
+    for (const at of levels) at.slope = within(at.rise, slopes);
+    return levels;
+}
+
+// From left to right: a line slopes, and then runs straight to its node; above that part stands the action, and below
+// it who moves at the node.
+function alongAcross(items, lanes, isRow) {
+    const levels = levelsAlong(items, SLOPES.across);
+    levels.forEach((at, i) => {
+        const before = levels[i - 1];
+        if (!before) at.start = MARGIN + (at.under > 0 ? at.under + BESIDE + 2 : 8);
+        else {
+            const fan = before.fan + (isRow && before.right > 0 ? before.right + 6 : 0);
+            before.stub = fan;
+            at.bend = fan + at.slope;
+            at.start = at.bend + Math.max(at.label + 8, at.under + 6) + BESIDE;
+            if (!isRow) at.start = Math.max(at.start, before.start + before.right + 24);
+        }
+        at.fan = at.start + (lanes[i] - 1) * LANE.across;
+        at.stub = at.fan;
+    });
+    for (const item of items) {
+        item.x = levels[item.level].start + item.lane * LANE.across;
+        item.y = MARGIN + item.across;
+    }
+    return levels;
+}
+
+// Down: lines are straight from node to node, and the action stands beside the middle of its line.
+function alongDown(items, lanes) {
+    const levels = levelsAlong(items, SLOPES.down);
+    levels.forEach((at, i) => {
+        const before = levels[i - 1];
+        at.start = before ? before.fan + at.slope : MARGIN + 26;
+        at.fan = at.start + (lanes[i] - 1) * LANE.down;
+    });
+    for (const item of items) {
+        item.x = MARGIN + item.across;
+        item.y = levels[item.level].start + item.lane * LANE.down;
+    }
+    return levels;
+}
+
+// The line to an item, as points.
+function lineTo(item, levels, down) {
+    const { parent } = item, first = levels[parent.level + 1];
+    if (down) {
+        const knee = item.level > parent.level + 1 ? [[item.x, first.start]] : [];
+        return [[parent.x, parent.y], ...knee, [item.x, item.y]];
+    }
+    const stub = levels[parent.level].stub, points = [[parent.x, parent.y]];
+    if (stub > parent.x) points.push([stub, parent.y]);
+    return [...points, [first.bend, item.y], [item.x, item.y]];
+}
+
+// The dashed lines of a set: straight between members at one level, and bent between others.
+function setLines(members, down) {
+    const lines = [], order = [...members].sort((a, b) => a.level - b.level || a.across - b.across);
+    for (let i = 1; i < order.length; i++) {
+        const a = order[i - 1], b = order[i];
+        if (a.level === b.level) lines.push(`M${a.x} ${a.y}L${b.x} ${b.y}`);
+        else if (down) lines.push(`M${a.x} ${a.y}C${a.x - 60} ${a.y + 30} ${b.x - 60} ${b.y - 30} ${b.x} ${b.y}`);
+        else lines.push(`M${a.x} ${a.y}C${a.x + 24} ${a.y + 48} ${b.x - 24} ${b.y + 48} ${b.x} ${b.y}`);
+    }
+    return lines.join("");
+}
+
+const wordsAt = (item, line, x, y, anchor) => ({ item, line, x, y, anchor });
+
+function wordsAcross(item, levels) {
+    const words = [], { x, y, parent } = item;
+    if (item.action) words.push(wordsAt(item, item.action, levels[parent.level + 1].bend + 3, y - 5, "start"));
+    const left = levels[item.level].start - BESIDE;
+    item.under.forEach((line, i) => words.push(wordsAt(item, line, left, parent ? y + 15 + 15 * i : y + 4 + 15 * i, "end")));
+    if (item.right) words.push(wordsAt(item, item.right, x + BESIDE, y + 4.5, "start"));
+    return words;
+}
+
+function wordsDown(item, levels, spot) {
+    const words = [], { x, y, parent } = item;
+    if (item.action) {
+        const end = levels[parent.level + 1].start, to = item.level === parent.level + 1 ? y : end;
+        const middle = [(parent.x + x) / 2, (parent.y + to) / 2];
+        if (item.side < 0) words.push(wordsAt(item, item.action, middle[0] - 5, middle[1] - 1, "end"));
+        else words.push(wordsAt(item, item.action, middle[0] + 5, middle[1] + (item.side > 0 ? -1 : 4), "start"));
+    }
+    const last = item.under.length - 1;
+    item.under.forEach((line, i) => {
+        const up = y - 5 - 15 * (last - i);
+        if (spot && line === item.who) words.push(wordsAt(item, line, spot, y - 6, "middle"));
+        else if (!parent) words.push(wordsAt(item, line, x, up - 8, "middle"));
+        else words.push(wordsAt(item, line, x + (item.side < 0 ? -11 : 11), up, item.side < 0 ? "end" : "start"));
+    });
+    if (item.right) words.push(wordsAt(item, item.right, x, y + 20, "middle"));
+    return words;
+}
+
+// In a picture that runs down, who moves at a set of several nodes stands above the middle of its widest gap.
+function spotsOf(sets, lanes) {
+    const spots = new Map();
+    for (const { members } of sets) {
+        const named = members.find(it => it.who), level = members[0].level;
+        if (!named || lanes[level] > 1 || members.some(it => it.level !== level)) continue;
+        let widest = 1;
+        for (let i = 2; i < members.length; i++)
+            if (members[i].x - members[i - 1].x > members[widest].x - members[widest - 1].x) widest = i;
+        const a = members[widest - 1], b = members[widest];
+        if (b.x - a.x > named.who.width + 24) spots.set(named, (a.x + b.x) / 2);
+    }
+    return spots;
+}
+
+// What the picture takes, with all words and nodes.
+function boxOf(items, words) {
+    let left = Infinity, top = Infinity, right = 0, bottom = 0;
+    for (const { x, y } of items) {
+        left = Math.min(left, x - 10);
+        top = Math.min(top, y - 12);
+        right = Math.max(right, x + 10);
+        bottom = Math.max(bottom, y + 12);
+    }
+    for (const { line, x, y, anchor } of words) {
+        const from = anchor === "start" ? x : anchor === "end" ? x - line.width : x - line.width / 2;
+        left = Math.min(left, from);
+        right = Math.max(right, from + line.width);
+        top = Math.min(top, y - 13);
+        bottom = Math.max(bottom, y + 6);
+    }
+    return { left: left - MARGIN, top: top - MARGIN, width: right - left + 2 * MARGIN, height: bottom - top + 2 * MARGIN };
+}
+
+function layOut(tree, items, down) {
+    const sets = membersOfSets(items, tree), isRow = !down && isRowOfMoves(items);
+    for (const item of items) item.lane = 0;
+    placeLevels(items, sets);
+    for (const item of items) item.side = down ? side(item) : 0;
+    for (const item of items) if (down) roomDown(item); else roomAcross(item);
+    if (down) items.forEach(roomBetween);
+    if (isRow) for (const item of items) item.further = 0;
+    pack(items, isRow);
+    const lanes = placeLanes(items, sets), levels = down ? alongDown(items, lanes) : alongAcross(items, lanes, isRow);
+    const spots = down ? spotsOf(sets, lanes) : new Map();
+    const words = items.flatMap(item => down ? wordsDown(item, levels, spots.get(item)) : wordsAcross(item, levels));
+    const lines = items.filter(it => it.parent).map(item => ({ item, points: lineTo(item, levels, down) }));
+    const dashes = sets.map(({ set, members }) => ({ set, path: setLines(members, down) }));
+    return { items, words, lines, dashes, down, lanes: Math.max(...lanes), ...boxOf(items, words) };
+}

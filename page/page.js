@@ -1,0 +1,227 @@
+"use strict";
+// The page: which files are open and which is current, what is found about each, and which view of it is shown.
+
+// Milliseconds: after which a change of the text is judged, and after which it is told that a call takes longer.
+const PAUSE = 150, PATIENCE = 250;
+
+class Page {
+    constructor(engine) {
+        this.calls = new Calls(engine);
+        this.views = new Views(this);
+        this.source = new SourceView(bytes => this.onEdit(bytes));
+        Object.assign(this, { files: [], current: null, other: null, tab: "picture", showing: new AbortController() });
+        byId("version").textContent = `gamefile ${engine.version}`;
+    }
+
+    // Inputs ----------------------------------------------------------------------------------------------
+
+    listen() {
+        const menu = byId("examples");
+        for (const { name } of gamefile.examples) menu.append(el("option", {}, name));
+        menu.addEventListener("change", () => {
+            if (menu.value) this.choose(this.example(menu.value));
+            menu.value = "";
+        });
+        listen(files => this.take(files));
+        byId("new").addEventListener("click", () => {
+            this.take([new GameFile(`untitled-${this.files.length + 1}.efg`, new Uint8Array())]);
+            byId("source").focus();
+        });
+        byId("stop").addEventListener("click", () => this.showing.abort("by hand"));
+        byId("tabs").addEventListener("keydown", event => this.onTabKey(event));
+        window.addEventListener("hashchange", () => this.takeLink());
+    }
+
+    async takeLink() {
+        try {
+            const linked = await linkedFile();
+            if (linked) this.take([linked]);
+            return linked !== null;
+        } catch (error) {
+            this.say(`The game in this link cannot be read: ${error.message}`);
+            return false;
+        }
+    }
+
+    // An example as an open file.
+    example(name) {
+        const open = this.files.find(it => it.name === name && it.isExample);
+        if (open) return open;
+        const file = new GameFile(name, new TextEncoder().encode(gamefile.examples.find(it => it.name === name).text));
+        file.isExample = true;
+        this.files.push(file);
+        this.judge(file);
+        return file;
+    }
+
+    take(files) {
+        this.files.push(...files);
+        for (const file of files) if (file.state === "waiting") this.judge(file);
+        if (files.length > 0) this.choose(files[0]);
+    }
+
+    close(file) {
+        const at = this.files.indexOf(file);
+        this.files.splice(at, 1);
+        if (this.other === file) this.other = null;
+        if (this.current !== file) return this.showFiles();
+        if (this.files.length === 0) this.files.push(new GameFile("untitled.efg", new Uint8Array()));
+        const next = this.files[Math.min(at, this.files.length - 1)];
+        if (next.state === "waiting") this.judge(next);
+        this.choose(next);
+        byId("files").querySelector("[aria-current=true]").focus();
+    }
+
+    onEdit(bytes) {
+        const file = this.current;
+        file.setBytes(bytes);
+        file.isExample = false;
+        clearTimeout(this.pause);
+        this.pause = setTimeout(() => this.judge(file), PAUSE);
+    }
+
+    // Judging ---------------------------------------------------------------------------------------------
+
+    // Has a file checked, and shows what is found if it is still the current one, with these bytes.
+    judge(file) {
+        const { bytes, answers } = file;
+        const judged = this.check(file, bytes).then(found => {
+            if (file.bytes !== bytes || file.answers !== answers) return;
+            Object.assign(file, found);
+            this.showFiles();
+            if (file === this.current) this.show();
+        });
+        file.judged = judged;
+        return judged;
+    }
+
+    async check(file, bytes) {
+        try {
+            return { state: "valid", kind: (await this.calls.run(null, "check", bytes)).kind };
+        } catch (error) {
+            if (!(error instanceof gamefile.Refusal)) return { state: "failed", failure: error };
+            return { state: "refused", refusal: error, explanation: await this.calls.run(null, "explain", bytes, error, file.name) };
+        }
+    }
+
+    async judged(file) { await file.judged; }
+
+    // Showing ---------------------------------------------------------------------------------------------
+
+    choose(file) {
+        this.current = file;
+        byId("source").value = "";
+        this.show();
+        this.showFiles();
+        if (file.refusal) this.source.scrollToPlace();
+    }
+
+    compareWith(file) {
+        this.other = file;
+        this.showFiles();
+        this.show().then(() => byId("other").focus());
+    }
+
+    say(words) {
+        byId("said").textContent = words;
+        byId("view").prepend(el("p", { class: "bad" }, words));
+    }
+
+    showFiles() {
+        const list = byId("files"), had = document.activeElement?.closest?.("#files") ? document.activeElement.textContent : null;
+        list.replaceChildren(...this.files.map(file => {
+            const what = file.state === "refused" ? file.refusal.code : file.state === "valid" ? file.kind : file.state === "failed" ? "not read" : "…";
+            return el("li", { class: file.state }, el("button", { type: "button", class: "name", "aria-current": file === this.current ? "true" : null, click: () => this.choose(file) },
+                el("span", {}, file.name), " ", el("small", {}, what)), el("button", { type: "button", class: "close", "aria-label": `Close ${file.name}`, click: () => this.close(file) }, "×"));
+        }));
+        if (had !== null) [...list.querySelectorAll("button")].find(it => it.textContent === had)?.focus();
+    }
+
+    showVerdict(file) {
+        const verdict = byId("verdict"), { state, refusal, failure } = file;
+        byId("name").textContent = file.name;
+        document.title = `${file.name}: gamefile`;
+        verdict.className = state;
+        verdict.textContent = state === "valid" ? `Valid: ${file.kind === "tree" ? "an extensive file, a tree" : "a strategic file, a table"}.`
+            : state === "refused" ? (file.bytes.length === 0 ? "There is no text yet." : `Refused with ${refusal.code}: ${refusal.message}.`)
+            : state === "failed" ? `${failure.message.replace(/^./, it => it.toUpperCase())}.` : "…";
+        if (state === "refused" && file.bytes.length === 0) verdict.className = "waiting";
+        byId("wrong").hidden = state !== "refused" || file.bytes.length === 0;
+        byId("explanation").textContent = file.explanation;
+    }
+
+    showTabs(file) {
+        const tabs = file.state === "valid" ? TABS[file.kind] : [], list = byId("tabs"), hadFocus = list.contains(document.activeElement);
+        const chosen = tabs.some(([id]) => id === this.tab) ? this.tab : tabs[0]?.[0];
+        list.hidden = tabs.length === 0;
+        list.replaceChildren(...tabs.map(([id, words]) => el("button", { type: "button", role: "tab", id: `tab-${id}`, "aria-controls": "view",
+            "aria-selected": String(id === chosen), tabindex: id === chosen ? 0 : -1, click: () => this.chooseTab(id) }, words)));
+        if (chosen) byId("view").setAttribute("aria-labelledby", `tab-${chosen}`);
+        if (hadFocus) list.querySelector("[aria-selected=true]")?.focus();
+        return chosen;
+    }
+
+    chooseTab(id) {
+        this.tab = id;
+        return this.show();
+    }
+
+    onTabKey(event) {
+        const tabs = [...byId("tabs").children], at = tabs.findIndex(it => it.getAttribute("aria-selected") === "true");
+        const to = { ArrowRight: at + 1, ArrowLeft: at - 1, Home: 0, End: tabs.length - 1 }[event.key];
+        if (to === undefined) return;
+        event.preventDefault();
+        this.chooseTab(tabs[(to + tabs.length) % tabs.length].id.slice(4));
+    }
+
+    // Shows the current file. What was still being worked out for another view is stopped.
+    async show() {
+        this.showing.abort();
+        const showing = this.showing = new AbortController(), { signal } = showing, file = this.current, view = byId("view");
+        this.source.show(file);
+        this.showVerdict(file);
+        const tab = this.showTabs(file);
+        if (!tab) {
+            view.replaceChildren();
+            view.removeAttribute("aria-busy");
+            byId("working").hidden = true;
+            return;
+        }
+        view.setAttribute("aria-busy", "true");
+        const slow = setTimeout(() => { byId("working").hidden = false; view.replaceChildren(); }, PATIENCE);
+        const made = await this.views[tab](file, signal).catch(error => this.failed(error));
+        clearTimeout(slow);
+        if (showing !== this.showing) return;
+        byId("working").hidden = true;
+        view.replaceChildren(made.element);
+        view.removeAttribute("aria-busy");
+        view.dataset.shows = tab;
+        made.attached?.();
+    }
+
+    // What is shown in place of a view that could not be made.
+    failed(error) {
+        const isOwn = Object.values(gamefile).some(it => typeof it === "function" && error instanceof it);
+        if (!isOwn) console.error(error);
+        const words = error instanceof gamefile.Stopped ? "Stopped" : error.message;
+        return { element: el("div", {}, el("p", { class: "bad" }, `${words.replace(/^./, it => it.toUpperCase())}.`),
+            el("button", { type: "button", click: () => this.show() }, "Try again")) };
+    }
+}
+
+async function start() {
+    let engine;
+    try {
+        engine = await gamefile.startEngine();
+    } catch (error) {
+        byId("verdict").className = "failed";
+        byId("verdict").textContent = `This browser cannot run the page: it needs WebAssembly with 64-bit memory, as Chromium has from version 133 and Firefox from 134 on (${error.message}).`;
+        return;
+    }
+    const page = new Page(engine);
+    page.listen();
+    if (!await page.takeLink()) page.choose(page.example("selten-horse.efg"));
+    document.body.dataset.ready = "yes";
+}
+
+start();
