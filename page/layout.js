@@ -4,6 +4,8 @@
 
 // The space between lanes, from a node to what is written at it, and around the picture.
 const LANE = { across: 14, down: 22 }, BESIDE = 10, MARGIN = 16;
+// How far the line of a set bends between members at different levels, as a part of its length.
+const BEND = 0.2;
 const SLOPES = { across: { least: 26, share: 0.24, most: 90 }, down: { least: 62, share: 0.2, most: 120 } };
 
 const within = (value, { least, share, most }) => Math.min(most, Math.max(least, value * share));
@@ -24,10 +26,10 @@ function side(item) {
 }
 
 function roomDown(item) {
-    const wide = item.right ? item.right.width / 2 + 8 : 12, under = Math.max(0, ...item.under.map(it => it.width));
+    const wide = Math.max(item.right ? item.right.width / 2 + 8 : 12, item.outcome ? item.outcome.width / 2 + 7 : 0), under = Math.max(0, ...item.under.map(it => it.width));
     const label = item.action ? item.action.width : 0, toLeft = item.side < 0;
-    item.before = Math.max(wide, toLeft ? label - 8 : 0, toLeft && under > 0 ? under + 14 : 0);
-    item.after = Math.max(wide, toLeft ? 0 : label - 8, !toLeft && under > 0 ? under + 14 : 0);
+    item.before = Math.max(wide, toLeft ? label - 2 : 0, toLeft && under > 0 ? under + 14 : 0);
+    item.after = Math.max(wide, toLeft ? 0 : label - 2, !toLeft && under > 0 ? under + 14 : 0);
     item.further = item.children.length > 0 || item.right === null ? 0 : 1;
     item.apart = 0;
 }
@@ -74,13 +76,14 @@ function lanesOf(spans) {
     return Math.max(1, ends.length);
 }
 
-// What the layout of each level needs: how much its lines slope, and how wide what is written there is.
+// What the layout of each level needs: how much its lines slope, and how wide and high what is written there is.
 function levelsAlong(items, slopes) {
     const levels = [];
     for (const item of items) {
-        const at = (levels[item.level] ??= { rise: 0, label: 0, under: 0, right: 0 });
+        const at = (levels[item.level] ??= { rise: 0, label: 0, under: 0, lines: 0, right: 0 });
+        at.lines = Math.max(at.lines, item.under.length);
         at.under = Math.max(at.under, 0, ...item.under.map(it => it.width));
-        if (item.right && item.children.length === 0) at.right = Math.max(at.right, item.right.width + BESIDE);
+        if (item.right) at.right = Math.max(at.right, beside(item.right, item.outcome).width + BESIDE);
     }
     for (const item of items.filter(it => it.parent)) {
         const at = levels[item.parent.level + 1];
@@ -93,20 +96,16 @@ function levelsAlong(items, slopes) {
 
 // From left to right: a line slopes, and then runs straight to its node; above that part stands the action, and below
 // it who moves at the node.
-function alongAcross(items, lanes, isRow) {
+function alongAcross(items, lanes) {
     const levels = levelsAlong(items, SLOPES.across);
     levels.forEach((at, i) => {
         const before = levels[i - 1];
         if (!before) at.start = MARGIN + (at.under > 0 ? at.under + BESIDE + 2 : 8);
         else {
-            const fan = before.fan + (isRow && before.right > 0 ? before.right + 6 : 0);
-            before.stub = fan;
-            at.bend = fan + at.slope;
-            at.start = at.bend + Math.max(at.label + 8, at.under + 6) + BESIDE;
-            if (!isRow) at.start = Math.max(at.start, before.start + before.right + 24);
+            at.bend = before.fan + at.slope;
+            at.start = Math.max(at.bend + Math.max(at.label + 8, at.under + 6) + BESIDE, before.start + before.right + 24);
         }
         at.fan = at.start + (lanes[i] - 1) * LANE.across;
-        at.stub = at.fan;
     });
     for (const item of items) {
         item.x = levels[item.level].start + item.lane * LANE.across;
@@ -120,7 +119,7 @@ function alongDown(items, lanes) {
     const levels = levelsAlong(items, SLOPES.down);
     levels.forEach((at, i) => {
         const before = levels[i - 1];
-        at.start = before ? before.fan + at.slope : MARGIN + 26;
+        at.start = before ? before.fan + at.slope + 32 * Math.max(0, at.lines - 1) : MARGIN + 26;
         at.fan = at.start + (lanes[i] - 1) * LANE.down;
     });
     for (const item of items) {
@@ -137,21 +136,21 @@ function lineTo(item, levels, down) {
         const knee = item.level > parent.level + 1 ? [[item.x, first.start]] : [];
         return [[parent.x, parent.y], ...knee, [item.x, item.y]];
     }
-    const stub = levels[parent.level].stub, points = [[parent.x, parent.y]];
-    if (stub > parent.x) points.push([stub, parent.y]);
+    const { fan } = levels[parent.level], points = [[parent.x, parent.y]];
+    if (fan > parent.x) points.push([fan, parent.y]);
     return [...points, [first.bend, item.y], [item.x, item.y]];
 }
 
 // The dashed lines of a set: straight between members at one level, and bent between others.
-function setLines(members, down) {
-    const lines = [], order = [...members].sort((a, b) => a.level - b.level || a.across - b.across);
-    for (let i = 1; i < order.length; i++) {
-        const a = order[i - 1], b = order[i];
-        if (a.level === b.level) lines.push(`M${a.x} ${a.y}L${b.x} ${b.y}`);
-        else if (down) lines.push(`M${a.x} ${a.y}C${a.x - 60} ${a.y + 30} ${b.x - 60} ${b.y - 30} ${b.x} ${b.y}`);
-        else lines.push(`M${a.x} ${a.y}C${a.x + 24} ${a.y + 48} ${b.x - 24} ${b.y + 48} ${b.x} ${b.y}`);
-    }
-    return lines.join("");
+function setLines(members) {
+    const order = [...members].sort((a, b) => a.level - b.level || a.across - b.across);
+    return order.slice(1).map((b, i) => {
+        const a = order[i];
+        if (a.level === b.level) return `M${a.x} ${a.y}L${b.x} ${b.y}`;
+        // It bends to the lower side of the straight line between the two.
+        const right = b.x >= a.x ? 1 : -1, dx = b.x - a.x, dy = b.y - a.y;
+        return `M${a.x} ${a.y}Q${(a.x + b.x) / 2 - right * dy * BEND} ${(a.y + b.y) / 2 + right * dx * BEND} ${b.x} ${b.y}`;
+    }).join("");
 }
 
 const wordsAt = (item, line, x, y, anchor) => ({ item, line, x, y, anchor });
@@ -161,7 +160,7 @@ function wordsAcross(item, levels) {
     if (item.action) words.push(wordsAt(item, item.action, levels[parent.level + 1].bend + 3, y - 5, "start"));
     const left = levels[item.level].start - BESIDE;
     item.under.forEach((line, i) => words.push(wordsAt(item, line, left, parent ? y + 15 + 15 * i : y + 4 + 15 * i, "end")));
-    if (item.right) words.push(wordsAt(item, item.right, x + BESIDE, y + 4.5, "start"));
+    if (item.right) words.push(wordsAt(item, beside(item.right, item.outcome), x + BESIDE, y + 4.5, "start"));
     return words;
 }
 
@@ -181,20 +180,48 @@ function wordsDown(item, levels, spot) {
         else words.push(wordsAt(item, line, x + (item.side < 0 ? -11 : 11), up, item.side < 0 ? "end" : "start"));
     });
     if (item.right) words.push(wordsAt(item, item.right, x, y + 20, "middle"));
+    if (item.outcome) words.push(wordsAt(item, item.outcome, x, y + 36, "middle"));
     return words;
 }
 
-// In a picture that runs down, who moves at a set of several nodes stands above the middle of its widest gap.
-function spotsOf(sets, lanes) {
-    const spots = new Map();
+// Whether a line from point to point meets a box.
+function meets([[x1, y1], [x2, y2]], { left, right, top, bottom }) {
+    // The part of the line, from 0 to 1, that is between left and right, and between top and bottom.
+    let from = 0, to = 1;
+    for (const [start, end, low, high] of [[x1, x2, left, right], [y1, y2, top, bottom]]) {
+        if (start === end) {
+            if (start < low || start > high) return false;
+            continue;
+        }
+        const a = (low - start) / (end - start), b = (high - start) / (end - start);
+        from = Math.max(from, Math.min(a, b));
+        to = Math.min(to, Math.max(a, b));
+    }
+    return from <= to;
+}
+
+const boxOfWords = ({ line, x, y, anchor }) => {
+    const left = anchor === "start" ? x : anchor === "end" ? x - line.width : x - line.width / 2;
+    return { left, right: left + line.width, top: y - 13, bottom: y + 5 };
+};
+
+// In a picture that runs down, who moves at a set of several nodes stands above its dashed line, where nothing else is:
+// in the middle of the widest free part, if there is one that is wide enough.
+function spotsOf(sets, lines, words) {
+    const spots = new Map(), segments = lines.flatMap(({ points }) => points.slice(1).map((point, i) => [points[i], point]));
+    const boxes = words.filter(it => it.line !== it.item.who).map(boxOfWords);
+    for (const { left, right, top, bottom } of boxes) segments.push([[left, top], [right, top]], [[left, bottom], [right, bottom]]);
     for (const { members } of sets) {
-        const named = members.find(it => it.who), level = members[0].level;
-        if (!named || lanes[level] > 1 || members.some(it => it.level !== level)) continue;
-        let widest = 1;
-        for (let i = 2; i < members.length; i++)
-            if (members[i].x - members[i - 1].x > members[widest].x - members[widest - 1].x) widest = i;
-        const a = members[widest - 1], b = members[widest];
-        if (b.x - a.x > named.who.width + 24) spots.set(named, (a.x + b.x) / 2);
+        const named = members.find(it => it.who), order = [...members].sort((a, b) => a.x - b.x);
+        if (!named || members.some(it => it.level !== named.level)) continue;
+        const { y } = named, { width } = named.who, isFree = x =>
+            !segments.some(it => meets(it, { left: x - 5, right: x + width + 5, top: y - 24, bottom: y + 1 }));
+        let best = null, run = null;
+        for (let x = order[0].x + 10; x + width + 10 <= order.at(-1).x; x += 4) {
+            run = isFree(x) ? { from: run ? run.from : x, to: x } : null;
+            if (run && (!best || run.to - run.from > best.to - best.from)) best = run;
+        }
+        if (best) spots.set(named, (best.from + best.to + width) / 2);
     }
     return spots;
 }
@@ -208,29 +235,32 @@ function boxOf(items, words) {
         right = Math.max(right, x + 10);
         bottom = Math.max(bottom, y + 12);
     }
-    for (const { line, x, y, anchor } of words) {
-        const from = anchor === "start" ? x : anchor === "end" ? x - line.width : x - line.width / 2;
-        left = Math.min(left, from);
-        right = Math.max(right, from + line.width);
-        top = Math.min(top, y - 13);
-        bottom = Math.max(bottom, y + 6);
+    for (const it of words.map(boxOfWords)) {
+        left = Math.min(left, it.left);
+        right = Math.max(right, it.right);
+        top = Math.min(top, it.top);
+        bottom = Math.max(bottom, it.bottom);
     }
     return { left: left - MARGIN, top: top - MARGIN, width: right - left + 2 * MARGIN, height: bottom - top + 2 * MARGIN };
 }
 
 function layOut(tree, items, down) {
-    const sets = membersOfSets(items, tree), isRow = !down && isRowOfMoves(items);
+    const sets = membersOfSets(items, tree);
     for (const item of items) item.lane = 0;
     placeLevels(items, sets);
     for (const item of items) item.side = down ? side(item) : 0;
     for (const item of items) if (down) roomDown(item); else roomAcross(item);
     if (down) items.forEach(roomBetween);
-    if (isRow) for (const item of items) item.further = 0;
-    pack(items, isRow);
-    const lanes = placeLanes(items, sets), levels = down ? alongDown(items, lanes) : alongAcross(items, lanes, isRow);
-    const spots = down ? spotsOf(sets, lanes) : new Map();
-    const words = items.flatMap(item => down ? wordsDown(item, levels, spots.get(item)) : wordsAcross(item, levels));
+    pack(items);
+    const lanes = placeLanes(items, sets), levels = down ? alongDown(items, lanes) : alongAcross(items, lanes);
     const lines = items.filter(it => it.parent).map(item => ({ item, points: lineTo(item, levels, down) }));
-    const dashes = sets.map(({ set, members }) => ({ set, path: setLines(members, down) }));
-    return { items, words, lines, dashes, down, lanes: Math.max(...lanes), ...boxOf(items, words) };
+    let words = items.flatMap(item => down ? wordsDown(item, levels, null) : wordsAcross(item, levels));
+    if (down) {
+        const spots = spotsOf(sets, lines, words);
+        words = items.flatMap(item => wordsDown(item, levels, spots.get(item)));
+    }
+    const dashes = sets.map(({ set, members }) => ({ set, path: setLines(members) }));
+    // Sets between levels, in more than a few nodes, are clearer from left to right.
+    const isBent = items.length > 9 && sets.some(({ members }) => members.some(it => it.level !== members[0].level));
+    return { items, words, lines, dashes, down, isBent, lanes: Math.max(...lanes), ...boxOf(items, words) };
 }

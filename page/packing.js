@@ -49,16 +49,17 @@ function placesOf(children) {
     return near.map((place, i) => (place + far[i]) / 2);
 }
 
-// The child that a parent stands straight before: in a long row of moves (a centipede) the one that goes on; otherwise
-// there is none, and the parent stands in the middle.
-const goesOn = child => child.children.length > 0;
+// The middle of places; that of an odd number is the one in the middle, if it is near.
+function middleOf(places) {
+    const middle = (places[0] + places.at(-1)) / 2, inner = places[(places.length - 1) / 2];
+    return inner !== undefined && Math.abs(inner - middle) < (places.at(-1) - places[0]) * 0.2 ? inner : middle;
+}
 
-function pack(items, isRow) {
+function pack(items) {
     for (const item of [...items].reverse()) {
         item.outline = outlineOf(item);
         if (item.children.length === 0) continue;
-        const places = placesOf(item.children), straight = isRow ? item.children.findIndex(goesOn) : -1;
-        const middle = straight >= 0 ? places[straight] : (places[0] + places.at(-1)) / 2;
+        const places = placesOf(item.children), middle = middleOf(places);
         item.children.forEach((child, i) => {
             child.offset = places[i] - middle;
             join(item.outline, child.outline, child.offset);
@@ -68,10 +69,4 @@ function pack(items, isRow) {
     for (const item of items) item.across = item.parent ? item.parent.across + item.offset : 0;
     const least = Math.min(...items.map(it => it.across - it.before));
     for (const item of items) item.across -= least;
-}
-
-// Whether at most one child of each item goes on, over at least four moves.
-function isRowOfMoves(items) {
-    const inner = items.filter(goesOn);
-    return inner.length >= 4 && inner.every(it => it.children.filter(goesOn).length <= 1);
 }

@@ -54,8 +54,14 @@ class Page {
         return file;
     }
 
+    // Takes further files. The example that was shown at first makes room for them, and a name that is taken gets a number.
     take(files) {
-        this.files.push(...files);
+        if (this.files.length === 1 && this.files[0].isFirst) this.files = [];
+        for (const file of files) {
+            const { name } = file;
+            for (let i = 2; this.files.some(it => it.name === file.name); i++) file.name = name.replace(/(\.[en]fg)?$/i, ` (${i})$1`);
+            this.files.push(file);
+        }
         for (const file of files) if (file.state === "waiting") this.judge(file);
         if (files.length > 0) this.choose(files[0]);
     }
@@ -75,7 +81,7 @@ class Page {
     onEdit(bytes) {
         const file = this.current;
         file.setBytes(bytes);
-        file.isExample = false;
+        file.isExample = file.isFirst = false;
         clearTimeout(this.pause);
         this.pause = setTimeout(() => this.judge(file), PAUSE);
     }
@@ -220,7 +226,11 @@ async function start() {
     }
     const page = new Page(engine);
     page.listen();
-    if (!await page.takeLink()) page.choose(page.example("selten-horse.efg"));
+    if (!await page.takeLink()) {
+        const first = page.example("selten-horse.efg");
+        first.isFirst = true;
+        page.choose(first);
+    }
     document.body.dataset.ready = "yes";
 }
 

@@ -37,11 +37,13 @@ class TreeViewer {
             for (const item of all) words.describe(item);
             return all;
         };
-        if (this.direction !== "") return layOut(this.tree, items(), this.direction === "down");
-        const across = layOut(this.tree, items(), false);
-        if (across.items.length > 60 || isRowOfMoves(across.items)) return across;
+        if (this.direction === "down") return layOut(this.tree, items(), true);
+        const shown = items();
+        if (isRowOfMoves(shown)) return layOutRow(this.tree, shown);
+        const across = layOut(this.tree, shown, false);
+        if (this.direction === "across" || shown.length > 60) return across;
         const down = layOut(this.tree, items(), true);
-        return down.lanes <= 2 && this.fitting(down) >= Math.min(1, this.fitting(across)) ? down : across;
+        return down.lanes <= 2 && !down.isBent && this.fitting(down) >= Math.min(1, this.fitting(across)) ? down : across;
     }
 
     fitting({ width, height }) {

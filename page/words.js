@@ -58,6 +58,13 @@ function lineOf(pieces, gap, most = Infinity) {
     return line;
 }
 
+// One line with another after it, if there is one.
+function beside(line, after, gap = 12) {
+    if (!after) return line;
+    const pieces = [...line.pieces, ...after.pieces.map((it, i) => i === 0 ? { ...it, dx: gap } : it)];
+    return { pieces, width: line.width + gap + after.width, whole: `${line.whole} ${after.whole}`, isCut: line.isCut || after.isCut };
+}
+
 // Payoffs as they are written in a picture: with a minus sign in place of a hyphen.
 const signed = number => number.replace("-", "\u2212");
 
@@ -73,18 +80,23 @@ class PictureWords {
         const { tree } = this, { node } = item, set = tree.setOf(node);
         item.action = item.parent && item.more === 0 ? this.actionTo(node) : null;
         item.under = [];
+        item.outcome = null;
         if (item.more > 0) item.right = lineOf([piece(`${item.more.toLocaleString("en")} more`, "note", 160)], WORD_GAP);
         else if (item.closed) item.right = lineOf([piece(counted(item.below, "node", "nodes"), "note", 160)], WORD_GAP);
-        else item.right = set ? null : this.paid(node);
+        else if (set) item.right = null;
+        else {
+            item.right = this.paid(node);
+            item.outcome = this.outcomeOf(node);
+        }
         if (item.more > 0) return;
         if (set && !this.labelled.has(set)) {
             this.labelled.add(set);
             item.who = this.mover(set);
             item.under.push(item.who);
         }
-        const name = this.names ? tree.nameOf(node) : "";
-        if (name !== "") item.under.push(lineOf([piece(name, "name", 150)], WORD_GAP));
-        if (set && tree.outcomeOf(node)) item.under.push(this.paid(node));
+        const name = this.names ? tree.nameOf(node) : "", isSaid = set?.name === name || (item.action && tree.actionTo(node).label === name);
+        if (name !== "" && !isSaid) item.under.push(lineOf([piece(name, "name", 150)], WORD_GAP));
+        if (set && tree.outcomeOf(node)) item.under.push(beside(this.paid(node), this.outcomeOf(node)));
     }
 
     actionTo(node) {
@@ -103,17 +115,14 @@ class PictureWords {
     }
 
     paid(node) {
-        const { tree } = this, outcome = tree.outcomeOf(node);
-        const pays = lineOf(tree.paysAt(node).map((it, i) => piece(signed(it), "pays", 110, i + 1)), PAYS_GAP, 200);
-        const after = [];
-        if (outcome && this.numbers) after.push(piece(`outcome ${this.numbers.outcome(outcome)}`, "name", 120));
-        if (outcome && this.names && outcome.name !== "") after.push(piece(outcome.name, "outcome", 150));
-        for (const it of after) {
-            pays.pieces.push({ ...it, dx: 12 });
-            pays.width += 12 + it.width;
-            pays.isCut ||= it.whole !== null;
-            pays.whole += ` ${it.whole ?? it.text}`;
-        }
-        return pays;
+        return lineOf(this.tree.paysAt(node).map((it, i) => piece(signed(it), "pays", 110, i + 1)), PAYS_GAP, 420);
+    }
+
+    // The number and the name of the outcome at a node; null if neither is written.
+    outcomeOf(node) {
+        const outcome = this.tree.outcomeOf(node), pieces = [];
+        if (outcome && this.numbers) pieces.push(piece(`outcome ${this.numbers.outcome(outcome)}`, "name", 120));
+        if (outcome && this.names && outcome.name !== "") pieces.push(piece(outcome.name, "outcome", 150));
+        return pieces.length > 0 ? lineOf(pieces, WORD_GAP) : null;
     }
 }
