@@ -81,7 +81,7 @@ class Page {
     onEdit(bytes) {
         const file = this.current;
         file.setBytes(bytes);
-        file.isExample = file.isFirst = false;
+        file.isExample = file.isFirst = this.bringsPlace = false;
         clearTimeout(this.pause);
         this.pause = setTimeout(() => this.judge(file), PAUSE);
     }
@@ -105,8 +105,15 @@ class Page {
         try {
             return { state: "valid", kind: (await this.calls.run(null, "check", bytes)).kind };
         } catch (error) {
-            if (!(error instanceof gamefile.Refusal)) return { state: "failed", failure: error };
-            return { state: "refused", refusal: error, explanation: await this.calls.run(null, "explain", bytes, error, file.name) };
+            return error instanceof gamefile.Refusal ? this.explained(file, bytes, error) : { state: "failed", failure: error };
+        }
+    }
+
+    async explained(file, bytes, refusal) {
+        try {
+            return { state: "refused", refusal, explanation: await this.calls.run(null, "explain", bytes, refusal, file.name) };
+        } catch (error) {
+            return { state: "failed", failure: error };
         }
     }
 
@@ -117,9 +124,10 @@ class Page {
     choose(file) {
         this.current = file;
         byId("source").value = "";
+        this.bringsPlace = true; // the refused place is brought into sight; not while one types
         this.show();
         this.showFiles();
-        if (file.refusal) this.source.scrollToPlace();
+        byId("files").querySelector("[aria-current]").scrollIntoView({ block: "nearest" });
     }
 
     compareWith(file) {
@@ -185,6 +193,7 @@ class Page {
         this.showing.abort();
         const showing = this.showing = new AbortController(), { signal } = showing, file = this.current, view = byId("view");
         this.source.show(file);
+        if (file.refusal && this.bringsPlace) this.source.scrollToPlace();
         this.showVerdict(file);
         const tab = this.showTabs(file);
         if (!tab) {

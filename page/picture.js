@@ -56,7 +56,7 @@ function drawItem(item, tree, words, down) {
         "data-set": item.more === 0 && tree.set[node] >= 0 ? tree.set[node] : null,
         "data-outcome": item.more === 0 && tree.outcome[node] >= 0 ? tree.outcome[node] : null,
     });
-    group.append(svgEl("circle", { cx: item.x, cy: item.y, r: 12, class: "ring" }), drawMark(item, tree, down));
+    group.append(svgEl("circle", { cx: item.x, cy: item.y, r: tree.set[node] < 0 ? 9 : 12, class: "ring" }), drawMark(item, tree, down));
     for (const it of words) group.append(drawWords(it));
     return group;
 }

@@ -7,6 +7,26 @@ const MOST_ROWS = 50, MOST_COLUMNS = 24, MOST_GRIDS = 12;
 
 const strategyOf = (table, player, strategy) => shown(table.strategies[player - 1][strategy]) || "(no label)";
 
+// The actions that a strategy of a tree's table has, such as "Raise, *" for "1-*"; null for other tables.
+function actionsOf(table, player, strategy) {
+    const sets = table.tree?.sets.filter(it => it.player === player) ?? [];
+    if (sets.length === 0) return null;
+    const digits = table.strategies[player - 1][strategy].split("-");
+    return digits.map((digit, i) => digit === "*" ? "*" : shown(sets[i].actions[Number(digit) - 1].label) || digit).join(", ");
+}
+
+// The head of a row or a column: the strategy, and under it its actions.
+function strategyHead(table, player, strategy, scope) {
+    const actions = actionsOf(table, player, strategy), head = el("th", { scope, class: `player-${player}` }, el("span", {}, strategyOf(table, player, strategy)));
+    if (actions) head.append(el("small", { title: actions }, actions));
+    return head;
+}
+
+function actionNote(table, player, strategy) {
+    const actions = actionsOf(table, player, strategy);
+    return actions ? [" ", el("small", { title: actions }, actions)] : [];
+}
+
 // The payoffs of a profile, each in its player's colour.
 function payoffCell(table, profile, marked) {
     const place = table.placeOf(profile), cell = el("td", { class: marked === place ? "marked" : null });
@@ -20,13 +40,13 @@ function grid(table, others, { row, column }, marked) {
     const lastRow = Math.min(rows, row + MOST_ROWS), lastColumn = Math.min(columns, column + MOST_COLUMNS), element = el("table", { class: "game" });
     if (others.length > 0)
         element.append(el("caption", {}, ...others.flatMap((strategy, i) => [i > 0 ? ", " : "",
-            el("span", { class: colourOf(i + 3) }, `${table.playerName(i + 3)}: ${strategyOf(table, i + 3, strategy)}`)])));
+            el("span", { class: colourOf(i + 3) }, `${table.playerName(i + 3)}: ${strategyOf(table, i + 3, strategy)}`, ...actionNote(table, i + 3, strategy))])));
     const head = el("thead");
     if (players > 1) {
         head.append(el("tr", {}, el("td", { class: "corner" }), el("td", { class: "corner" }),
             el("th", { scope: "colgroup", colspan: lastColumn - column, class: "player player-2" }, table.playerName(2))));
         const labels = el("tr", {}, el("td", { class: "corner" }), el("td", { class: "corner" }));
-        for (let c = column; c < lastColumn; c++) labels.append(el("th", { scope: "col", class: "player-2" }, strategyOf(table, 2, c)));
+        for (let c = column; c < lastColumn; c++) labels.append(strategyHead(table, 2, c, "col"));
         head.append(labels);
     }
     const body = el("tbody");
@@ -34,7 +54,7 @@ function grid(table, others, { row, column }, marked) {
         const line = el("tr");
         if (r === row && players > 0)
             line.append(el("th", { scope: "rowgroup", rowspan: lastRow - row, class: "player player-1" }, el("span", {}, table.playerName(1))));
-        if (players > 0) line.append(el("th", { scope: "row", class: "player-1" }, strategyOf(table, 1, r)));
+        if (players > 0) line.append(strategyHead(table, 1, r, "row"));
         for (let c = column; c < lastColumn; c++) line.append(payoffCell(table, [r, c, ...others].slice(0, players), marked));
         body.append(line);
     }

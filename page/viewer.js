@@ -7,7 +7,7 @@ const ZOOM = 1.25, LARGEST_FIT = 1.4, LEAST_FIT = 0.55, ZOOMS = [0.1, 5];
 class TreeViewer {
     // `numbers` as PictureWords has them; `save` takes the bytes of an SVG file.
     constructor(tree, { numbers = null, save = null } = {}) {
-        Object.assign(this, { tree, numbers, save, names: true, direction: "", zoom: 0, marks: [] });
+        Object.assign(this, { tree, numbers, save, names: numbers === null, direction: "", zoom: 0, marks: [] });
         this.folding = new Folding(tree);
         this.frame = el("div", { class: "frame", wheel: event => this.onWheel(event) });
         this.note = el("p", { class: "note", role: "status" });
@@ -20,7 +20,7 @@ class TreeViewer {
         const button = (label, words, click) => el("button", { type: "button", "aria-label": label, title: label, click }, words);
         this.way = el("select", { "aria-label": "Direction of the picture", change: () => { this.direction = this.way.value; this.draw(); } },
             el("option", { value: "" }, "Direction: as it fits"), el("option", { value: "across" }, "From left to right"), el("option", { value: "down" }, "Down"));
-        const names = el("input", { type: "checkbox", checked: true, change: () => { this.names = names.checked; this.draw(); } });
+        const names = el("input", { type: "checkbox", checked: this.names, change: () => { this.names = names.checked; this.draw(); } });
         const bar = el("div", { class: "tools", role: "group", "aria-label": "Picture" },
             button("Smaller", "−", () => this.scale(this.zoom / ZOOM)), button("As large as fits", "Fit", () => this.fit()),
             button("Larger", "+", () => this.scale(this.zoom * ZOOM)), this.way, el("label", {}, names, " Names"),
@@ -43,12 +43,13 @@ class TreeViewer {
         const across = layOut(this.tree, shown, false);
         if (this.direction === "across" || shown.length > 60) return across;
         const down = layOut(this.tree, items(), true);
-        return down.lanes <= 2 && !down.isBent && this.fitting(down) >= Math.min(1, this.fitting(across)) ? down : across;
+        return down.lanes <= 2 && !down.isBent && this.room(down) >= Math.min(1, this.room(across)) ? down : across;
     }
 
-    fitting({ width, height }) {
-        const room = this.frame.clientWidth - 4, most = Math.max(window.innerHeight * 0.62, 260);
-        return Math.max(LEAST_FIT, Math.min(LARGEST_FIT, room / width, Math.max(most / (height + LEGEND), 0.8)));
+    // How many times as large as a drawing the room for it is. A drawing may be somewhat higher than the room.
+    room({ width, height }) {
+        const most = Math.max(window.innerHeight * 0.62, 260);
+        return Math.min((this.frame.clientWidth - 4) / width, Math.max(most / (height + LEGEND), 0.8));
     }
 
     draw(focused = null) {
@@ -70,7 +71,10 @@ class TreeViewer {
         });
     }
 
-    fit() { this.scale(this.fitting({ width: this.svg.viewBox.baseVal.width, height: this.svg.viewBox.baseVal.height - LEGEND }), true); }
+    fit() {
+        const { width, height } = this.svg.viewBox.baseVal;
+        this.scale(Math.max(LEAST_FIT, Math.min(LARGEST_FIT, this.room({ width, height: height - LEGEND }))), true);
+    }
 
     scale(to, isFit = false) {
         const { width, height } = this.svg.viewBox.baseVal;

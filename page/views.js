@@ -1,6 +1,9 @@
 "use strict";
 // What each tab shows of a file. A view gives an element, and perhaps what is to be done once that is on the page.
 
+// No more information sets are listed beside a table.
+const MOST_KEYS = 60;
+
 const saveButton = (words, save) => el("button", { type: "button", class: "save", click: save }, words);
 
 // The tabs of a file: of a tree, and of a table.
@@ -28,13 +31,25 @@ class Views {
     reduced(file, signal) { return this.table(file, signal, true); }
 
     async table(file, signal, reduced) {
-        const bytes = await file.table(this.page.calls, signal, reduced), table = new Table(bytes);
+        const { calls } = this.page, bytes = await file.table(calls, signal, reduced), table = new Table(bytes);
+        if (file.kind === "tree") table.tree = await file.tree(calls, signal);
         const name = file.kind === "table" ? `${file.stem}.nfg` : `${file.stem}${reduced ? "-reduced" : "-table"}.nfg`;
         const bar = el("div", { class: "tools", role: "group", "aria-label": "Table" }, saveButton("Save .nfg", () => saveBytes(bytes, name)),
             copyButton("Copy as text", async () => decoded(bytes)));
         if (file.kind === "tree") bar.append(el("button", { type: "button", click: () => this.page.take([new GameFile(name, bytes)]) }, "Open as a file"));
         bar.append(el("span", { class: "note" }, counted(table.profiles, "profile", "profiles")));
-        return { element: el("div", {}, ...this.heading(table), bar, new TableViewer(table).element) };
+        return { element: el("div", {}, ...this.heading(table), bar, this.key(table), new TableViewer(table).element) };
+    }
+
+    // What the numbers in the strategies of a tree's table stand for.
+    key({ tree }) {
+        const sets = tree?.sets.filter(it => it.player > 0) ?? [];
+        if (sets.length === 0 || sets.length > MOST_KEYS) return null;
+        const name = it => `${tree.playerName(it.player)}, ${it.name === "" ? `set ${it.number}` : shown(it.name)}: `;
+        return el("details", {}, el("summary", {}, "What the strategies are"),
+            el("p", {}, "A strategy has the number of an action for each of the player's information sets, in this order. A * stands where the set is not reached."),
+            el("ul", { class: "keys" }, ...sets.map(it => el("li", { class: colourOf(it.player) }, name(it),
+                it.actions.map((action, i) => `${i + 1} ${shown(action.label)}`).join(", ")))));
     }
 
     async canonical(file, signal) {
