@@ -144,10 +144,17 @@ class TreeReader {
     }
 }
 
+function countLines(bytes) {
+    let lines = 0;
+    for (let at = bytes.indexOf(LINE_FEED); at >= 0; at = bytes.indexOf(LINE_FEED, at + 1)) lines++;
+    return lines;
+}
+
 async function readTree(bytes) {
     const tokens = new CanonicalTokens(bytes);
     tokens.at = 7;
-    const tree = new Tree(bytes, bytes.reduce((lines, byte) => lines + (byte === LINE_FEED), 0));
+    // Each node has a line, which may have further ones in its labels.
+    const tree = new Tree(bytes, countLines(bytes));
     tree.title = tokens.label();
     tree.players = tokens.list(() => tokens.label());
     tree.comment = tokens.label();

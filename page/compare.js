@@ -2,14 +2,17 @@
 // Compares two files: whether they are the same game, the same but for names, or not; which information sets and outcomes
 // correspond, and where two games first differ. Only the proved calls judge; what is shown is read from canonical texts.
 
+// No more sets, and no more outcomes, are listed.
+const MOST_PAIRS = 300;
+
 // The numbers that sets and outcomes of a canonical text have in the file.
 async function numbersIn(file, calls, signal) {
     const pairs = await calls.run(signal, "renumbering", await file.canonical(calls, signal), file.bytes), found = new Map();
-    for (const { player, from, to } of pairs) found.set(`${player} ${from}`, to);
-    return {
-        set: it => found.get(`${it.player} ${it.number}`),
-        outcome: it => found.get(`null ${it.number}`),
-    };
+    for (const { player, from, to } of pairs) {
+        if (!found.has(player)) found.set(player, []);
+        found.get(player)[from] = to;
+    }
+    return { set: it => found.get(it.player)[it.number], outcome: it => found.get(null)[it.number] };
 }
 
 // Where two lists of bytes first differ: one past the end of the shorter one if it begins the longer one.
@@ -69,8 +72,12 @@ class Comparison {
             body.append(el("tr", {}, el("th", { scope: "row" }, button), el("td", {}, String(numberOf(numbers[0], one))),
                 el("td", {}, String(numberOf(numbers[1], other))), ...names));
         };
-        a.sets.forEach((set, i) => row(`Set of ${a.playerName(set.player)}`, { set: i }, (it, set) => it.set(set), set, b.sets[i]));
-        a.outcomes.forEach((outcome, i) => row("Outcome", { outcome: i }, (it, outcome) => it.outcome(outcome), outcome, b.outcomes[i]));
+        a.sets.slice(0, MOST_PAIRS).forEach((set, i) =>
+            row(`Set of ${a.playerName(set.player)}`, { set: i }, (it, set) => it.set(set), set, b.sets[i]));
+        a.outcomes.slice(0, MOST_PAIRS).forEach((outcome, i) =>
+            row("Outcome", { outcome: i }, (it, outcome) => it.outcome(outcome), outcome, b.outcomes[i]));
+        const left = a.sets.length + a.outcomes.length - body.childElementCount;
+        if (left > 0) body.append(el("tr", {}, el("td", { colspan: 5 }, `and ${left.toLocaleString("en")} more`)));
         const [first, second] = this.files.map(it => it.name);
         const head = el("thead", {}, el("tr", {}, el("th", { scope: "col" }, "What corresponds"), el("th", { scope: "col" }, `Number in ${first}`),
             el("th", { scope: "col" }, `Number in ${second}`), el("th", { scope: "col", colspan: 2 }, "Name")));

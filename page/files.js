@@ -17,31 +17,33 @@ class GameFile {
         this.answers = new Map();
     }
 
-    // An answer that is asked for once; one that failed is asked for again.
-    answer(key, ask) {
-        if (!this.answers.has(key)) {
-            const asked = ask(), { answers } = this;
+    // An answer that is asked for once; one that failed, or was not waited for, is asked for again.
+    answer(key, signal, ask) {
+        const { answers } = this;
+        if (!answers.has(key)) {
+            const forget = () => answers.delete(key), asked = ask();
             answers.set(key, asked);
-            asked.catch(() => answers.delete(key));
+            signal.addEventListener("abort", forget);
+            asked.then(() => signal.removeEventListener("abort", forget), forget);
         }
-        return this.answers.get(key);
+        return answers.get(key);
     }
 
     canonical(calls, signal, names = true) {
-        return this.answer(names ? "canonical" : "plain", () => calls.run(signal, "canonical", this.bytes, { names }));
+        return this.answer(names ? "canonical" : "plain", signal, () => calls.run(signal, "canonical", this.bytes, { names }));
     }
 
     hash(calls, signal, names = true) {
-        return this.answer(names ? "hash" : "plain hash", () => calls.run(signal, "hash", this.bytes, { names }));
+        return this.answer(names ? "hash" : "plain hash", signal, () => calls.run(signal, "hash", this.bytes, { names }));
     }
 
     table(calls, signal, reduced) {
         if (this.kind === "table") return this.canonical(calls, signal);
-        return this.answer(reduced ? "reduced" : "table", () => calls.run(signal, "table", this.bytes, { reduced }));
+        return this.answer(reduced ? "reduced" : "table", signal, () => calls.run(signal, "table", this.bytes, { reduced }));
     }
 
     tree(calls, signal) {
-        return this.answer("tree", async () => readTree(await this.canonical(calls, signal)));
+        return this.answer("tree", signal, async () => readTree(await this.canonical(calls, signal)));
     }
 
     get stem() { return this.name.replace(/\.[en]fg$/i, "") || "game"; }
@@ -160,10 +162,10 @@ function listen(take) {
     });
     document.addEventListener("paste", async event => {
         const { files } = event.clipboardData, text = event.clipboardData.getData("text/plain");
-        if (files.length > 0) take(await readFiles(files));
-        else if (text && !event.target.closest?.("textarea, input")) take([pastedFile(text)]);
-        else return;
+        const box = event.target.closest?.("textarea, input");
+        if (files.length === 0 && (text === "" || (box && !box.readOnly))) return;
         event.preventDefault();
+        take(files.length > 0 ? await readFiles(files) : [pastedFile(text)]);
     });
 }
 

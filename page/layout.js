@@ -28,8 +28,8 @@ function side(item) {
 function roomDown(item) {
     const wide = Math.max(item.right ? item.right.width / 2 + 8 : 12, item.outcome ? item.outcome.width / 2 + 7 : 0), under = Math.max(0, ...item.under.map(it => it.width));
     const label = item.action ? item.action.width : 0, toLeft = item.side < 0;
-    item.before = Math.max(wide, toLeft ? label - 2 : 0, toLeft && under > 0 ? under + 14 : 0);
-    item.after = Math.max(wide, toLeft ? 0 : label - 2, !toLeft && under > 0 ? under + 14 : 0);
+    item.before = Math.max(wide, toLeft ? label + 4 : 0, toLeft && under > 0 ? under + 14 : 0);
+    item.after = Math.max(wide, toLeft ? 0 : label + 4, !toLeft && under > 0 ? under + 14 : 0);
     item.further = item.children.length > 0 || item.right === null ? 0 : 1;
     item.apart = 0;
 }
@@ -242,6 +242,16 @@ function boxOf(items, words) {
         bottom = Math.max(bottom, it.bottom);
     }
     return { left: left - MARGIN, top: top - MARGIN, width: right - left + 2 * MARGIN, height: bottom - top + 2 * MARGIN };
+}
+
+// How many words are met by a line or by other words.
+function clashes({ lines, words }) {
+    const segments = lines.flatMap(({ points }) => points.slice(1).map((point, i) => [points[i], point]));
+    const boxes = words.filter(it => it.line.width > 0).map(boxOfWords);
+    const inner = ({ left, right, top, bottom }) => ({ left: left + 1, right: right - 1, top: top + 3, bottom: bottom - 3 });
+    const overlap = (a, b) => a.left < b.right && b.left < a.right && a.top < b.bottom && b.top < a.bottom;
+    return boxes.map(inner).filter((box, i) => segments.some(it => meets(it, box))
+        || boxes.some((other, j) => j > i && overlap(box, inner(other)))).length;
 }
 
 function layOut(tree, items, down) {

@@ -2,7 +2,8 @@
 // The text of the current file, with the place marked where it is refused. It can be edited, if it is short enough and
 // nothing is lost by it: what is not UTF-8 is shown with U+FFFD, and can only be read.
 
-const MOST_TEXT = 200000;
+// So many bytes of a text are shown; more would make the page slow.
+const MOST_TEXT = 100000;
 
 const decoded = bytes => new TextDecoder("utf-8", { ignoreBOM: true }).decode(bytes);
 // A text box has line feeds alone.

@@ -4,6 +4,8 @@
 // part is shown at a time.
 
 const MOST_ROWS = 50, MOST_COLUMNS = 24, MOST_GRIDS = 12;
+// The actions of a strategy are written under it if they are no more.
+const MOST_ACTIONS = 4;
 
 const strategyOf = (table, player, strategy) => shown(table.strategies[player - 1][strategy]) || "(no label)";
 
@@ -17,8 +19,9 @@ function actionsOf(table, player, strategy) {
 
 // The head of a row or a column: the strategy, and under it its actions.
 function strategyHead(table, player, strategy, scope) {
-    const actions = actionsOf(table, player, strategy), head = el("th", { scope, class: `player-${player}` }, el("span", {}, strategyOf(table, player, strategy)));
-    if (actions) head.append(el("small", { title: actions }, actions));
+    const actions = actionsOf(table, player, strategy);
+    const head = el("th", { scope, class: `player-${player}`, title: actions }, el("span", {}, strategyOf(table, player, strategy)));
+    if (actions && actions.split(", ").length <= MOST_ACTIONS) head.append(el("small", {}, actions));
     return head;
 }
 
@@ -59,7 +62,8 @@ function grid(table, others, { row, column }, marked) {
         body.append(line);
     }
     element.append(head, body);
-    return el("div", { class: "scroll" }, element);
+    const label = others.length > 0 ? element.caption.textContent : "Payoffs";
+    return el("div", { class: "scroll", tabindex: 0, role: "region", "aria-label": label }, element);
 }
 
 // A table with the menus and buttons that choose what is in sight.

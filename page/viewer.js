@@ -2,7 +2,8 @@
 // A picture of a tree with what one can do to it: close and open subtrees, zoom, choose the direction, and save it. The
 // picture is one stop of the tab key; arrow keys go from node to node, as in a tree of folders.
 
-const ZOOM = 1.25, LARGEST_FIT = 1.4, LEAST_FIT = 0.55, ZOOMS = [0.1, 5];
+// A picture that would have to be smaller than LEAST_FIT is shown at READABLE, and scrolled.
+const ZOOM = 1.25, LARGEST_FIT = 1.4, LEAST_FIT = 0.55, READABLE = 0.85, ZOOMS = [0.1, 5];
 
 class TreeViewer {
     // `numbers` as PictureWords has them; `save` takes the bytes of an SVG file.
@@ -43,7 +44,8 @@ class TreeViewer {
         const across = layOut(this.tree, shown, false);
         if (this.direction === "across" || shown.length > 60) return across;
         const down = layOut(this.tree, items(), true);
-        return down.lanes <= 2 && !down.isBent && this.room(down) >= Math.min(1, this.room(across)) ? down : across;
+        const isClear = down.lanes <= 2 && !down.isBent && clashes(down) === 0;
+        return isClear && this.room(down) >= Math.min(1, this.room(across)) ? down : across;
     }
 
     // How many times as large as a drawing the room for it is. A drawing may be somewhat higher than the room.
@@ -53,27 +55,25 @@ class TreeViewer {
     }
 
     draw(focused = null) {
-        const drawing = this.layOut(), { tree, folding } = this;
+        const drawing = this.layOut(), { tree, frame } = this, { scrollLeft, scrollTop } = frame;
         this.svg = drawTree(tree, drawing);
         this.svg.addEventListener("click", event => this.onClick(event));
         this.svg.addEventListener("keydown", event => this.onKey(event));
-        this.frame.replaceChildren(this.svg);
+        frame.replaceChildren(this.svg);
         this.items = drawing.items;
         this.drawn = drawing;
         this.mark();
         this.fit();
+        Object.assign(frame, { scrollLeft, scrollTop });
         this.select(focused ?? this.selected ?? 0, focused !== null);
-        const hidden = tree.count - this.items.filter(it => it.more === 0).length;
-        this.note.textContent = hidden === 0 ? ""
-            : `${counted(tree.count, "node", "nodes")}, of which ${hidden.toLocaleString("en")} are closed. Click a triangle to open it.`;
-        this.element.querySelectorAll(".tools button").forEach(it => {
-            if (it.textContent === "Close all") it.disabled = folding.tree.count < 3;
-        });
+        const seen = this.items.filter(it => it.more === 0).length;
+        this.note.textContent = seen === tree.count ? ""
+            : `${counted(tree.count, "node", "nodes")}, of which ${seen.toLocaleString("en")} are shown: a triangle opens what is below it.`;
     }
 
     fit() {
-        const { width, height } = this.svg.viewBox.baseVal;
-        this.scale(Math.max(LEAST_FIT, Math.min(LARGEST_FIT, this.room({ width, height: height - LEGEND }))), true);
+        const { width, height } = this.svg.viewBox.baseVal, room = this.room({ width, height: height - LEGEND });
+        this.scale(room < LEAST_FIT ? READABLE : Math.min(LARGEST_FIT, room), true);
     }
 
     scale(to, isFit = false) {
@@ -103,9 +103,8 @@ class TreeViewer {
             it.setAttribute("aria-selected", String(it === at));
         }
         this.selected = Number(at.dataset.node);
-        if (!takeFocus) return;
-        at.focus({ preventScroll: true });
-        at.scrollIntoView({ block: "nearest", inline: "nearest" });
+        if (takeFocus) at.focus({ preventScroll: true });
+        this.bring(at);
     }
 
     toggle(item) {
@@ -164,7 +163,14 @@ class TreeViewer {
             if (!this.folding.reveal(node)) return false;
             this.draw();
         }
-        this.svg.querySelector(`[data-node="${node}"]`).scrollIntoView({ block: "nearest", inline: "center" });
+        this.bring(this.svg.querySelector(`[data-node="${node}"]`));
         return true;
+    }
+
+    // Scrolls the frame, and not the page, until a node is in sight.
+    bring(group) {
+        const { frame } = this, room = frame.getBoundingClientRect(), at = group.getBoundingClientRect();
+        if (at.left < room.left || at.right > room.right) frame.scrollLeft += at.left + at.width / 2 - room.left - room.width / 2;
+        if (at.top < room.top || at.bottom > room.bottom) frame.scrollTop += at.top + at.height / 2 - room.top - room.height / 2;
     }
 }

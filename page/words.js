@@ -86,7 +86,7 @@ class PictureWords {
         else if (set) item.right = null;
         else {
             item.right = this.paid(node);
-            item.outcome = this.outcomeOf(node);
+            item.outcome = this.outcomeOf(node, this.nameOf(item));
         }
         if (item.more > 0) return;
         if (set && !this.labelled.has(set)) {
@@ -94,8 +94,8 @@ class PictureWords {
             item.who = this.mover(set);
             item.under.push(item.who);
         }
-        const name = this.names ? tree.nameOf(node) : "", isSaid = set?.name === name || (item.action && tree.actionTo(node).label === name);
-        if (name !== "" && !isSaid) item.under.push(lineOf([piece(name, "name", 150)], WORD_GAP));
+        const name = set ? this.nameOf(item) : [];
+        if (name.length > 0) item.under.push(lineOf(name, WORD_GAP));
         if (set && tree.outcomeOf(node)) item.under.push(beside(this.paid(node), this.outcomeOf(node)));
     }
 
@@ -118,9 +118,15 @@ class PictureWords {
         return lineOf(this.tree.paysAt(node).map((it, i) => piece(signed(it), "pays", 110, i + 1)), PAYS_GAP, 420);
     }
 
-    // The number and the name of the outcome at a node; null if neither is written.
-    outcomeOf(node) {
-        const outcome = this.tree.outcomeOf(node), pieces = [];
+    // The name of a node as a list of pieces: of none if there is no name, or the action or the set has it too.
+    nameOf({ node, action }) {
+        const { tree } = this, name = this.names ? tree.nameOf(node) : "", set = tree.setOf(node);
+        return name === "" || name === set?.name || (action && name === tree.actionTo(node).label) ? [] : [piece(name, "name", 150)];
+    }
+
+    // The number and the name of the outcome at a node, after other pieces; null if there are none.
+    outcomeOf(node, pieces = []) {
+        const outcome = this.tree.outcomeOf(node);
         if (outcome && this.numbers) pieces.push(piece(`outcome ${this.numbers.outcome(outcome)}`, "name", 120));
         if (outcome && this.names && outcome.name !== "") pieces.push(piece(outcome.name, "outcome", 150));
         return pieces.length > 0 ? lineOf(pieces, WORD_GAP) : null;
