@@ -1,9 +1,9 @@
 # `make` proves the crates and builds the proved program, ./gamefile, and `make run` shows what it
-# writes of an example; `make library` proves and builds the library for C and Python; `make install
-# PREFIX=..` puts the program, its page and, if it was built, the library in place, `make
-# install-library PREFIX=..` the library alone, and `make uninstall PREFIX=..` removes all of these;
-# `make test` proves and tests everything; `make bench` times the program and, if it was built, the
-# library; `make clean` removes what was built.
+# writes of an example; `make library` proves and builds the library for C and Python, and `make page`
+# makes of it a page that any browser opens; `make install PREFIX=..` puts the program, its man page
+# and, if it was built, the library in place, `make install-library PREFIX=..` the library alone, and
+# `make uninstall PREFIX=..` removes all of these; `make test` proves and tests everything; `make bench`
+# times the program and, if it was built, the library; `make clean` removes what was built.
 
 RT ?= rt
 export RT
@@ -12,7 +12,7 @@ PREFIX ?= /usr/local
 version = $(shell sed -n 's/^.define GAMEFILE_VERSION "\(.*\)"/\1/p' library/gamefile.h)
 sources := crates.txt $(shell find crates -name out -prune -o -type f -print)
 
-.PHONY: all run library install install-library uninstall test bench clean
+.PHONY: all run library page install install-library uninstall test bench clean
 
 all: gamefile
 
@@ -29,6 +29,10 @@ library: library/out/libgamefile.so.1
 library/out/libgamefile.so.1: $(sources) $(wildcard library/gamefile.*) library/build
 	./prove gamefile_c
 	library/build
+
+# page/out, of what was proved for the library.
+page: library/out/libgamefile.so.1
+	page/build
 
 install: gamefile $(if $(wildcard library/out/libgamefile.so.1),install-library)
 	install -D -m 755 gamefile $(DESTDIR)$(PREFIX)/bin/gamefile
@@ -65,4 +69,4 @@ bench:
 	fi
 
 clean:
-	rm -rf gamefile bench/inputs crates/*/out library/out python/gamefile/libgamefile.so.1
+	rm -rf gamefile bench/inputs crates/*/out library/out page/out python/gamefile/libgamefile.so.1

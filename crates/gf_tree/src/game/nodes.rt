@@ -1,6 +1,6 @@
 //! The nodes of a game in prefix order.
 
-ghost use Rattle.std.specs.Prelude.{◌≡◌, length, map};
+ghost use Rattle.std.specs.Prelude.{◌≡◌, Some, length, map};
 
 use crate::game::Game;
 use crate::game::node::Node;
@@ -52,7 +52,7 @@ impl<'g, 'a> Iterator for Nodes<'g, 'a> {
     }
 
     fn size_hint(&self) -> (usize, Option<usize>)
-        ensures { result ≡ record { field-0 = length (nodes_left self.now); field-1 = Some (length (nodes_left self.now)) } }
+        ensures { result ≡ (length (nodes_left self.now), Some (length (nodes_left self.now))) }
     {
         let left = self.len();
         (left, Some(left))

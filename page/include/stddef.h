@@ -1,0 +1,6 @@
+/* What C's header says, for WebAssembly, where there is no C library. */
+#ifndef STDDEF_H
+#define STDDEF_H
+typedef __SIZE_TYPE__ size_t;
+#define NULL ((void *)0)
+#endif
