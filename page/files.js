@@ -2,8 +2,8 @@
 // The files that are open, and how they come in and go out: opened, dropped, pasted, in the link of the page, saved and
 // copied. The bytes of a file are kept as they are.
 
-// No longer file is taken from a link, nor are longer links made: some programs cut them.
-const MOST_BYTES = 16777216, MOST_LINK = 8000;
+// No longer file is read, and no longer link is made: some programs cut them.
+const MOST_BYTES = gamefile.LONGEST, MOST_LINK = 8000;
 
 // A file, and what was answered about it. `kind` is "tree" or "table" once it is found valid.
 class GameFile {
@@ -109,8 +109,8 @@ async function packedLink(file) {
     if (file.bytes.length > MOST_LINK * 64) return null;
     const packed = await through(file.bytes, new CompressionStream("deflate-raw"), Infinity);
     if (packed.length > MOST_LINK) return null;
-    const letters = btoa(String.fromCharCode(...packed)).replaceAll("+", "-").replaceAll("/", "_").replaceAll("=", "");
-    const link = `${location.href.split("#")[0]}#game=${letters}&name=${encodeURIComponent(file.name)}`;
+    const game = btoa(String.fromCharCode(...packed)).replaceAll("+", "-").replaceAll("/", "_").replaceAll("=", "");
+    const link = `${location.href.split("#")[0]}#${new URLSearchParams({ game, name: file.name })}`;
     return link.length > MOST_LINK ? null : link;
 }
 
@@ -124,14 +124,10 @@ async function linkedFile() {
 
 // Coming in -----------------------------------------------------------------------------------------------
 
+// Reads a file; of one that is too long only so much that the engine refuses it.
 async function readFile(file) {
-    if (file.size > MOST_BYTES) {
-        // Its bytes are not read: the engine would not take them either.
-        const tooLong = new GameFile(file.name, new Uint8Array());
-        return Object.assign(tooLong, { state: "failed", failure: new gamefile.TooLong() });
-    }
     try {
-        return new GameFile(file.name, new Uint8Array(await file.arrayBuffer()));
+        return new GameFile(file.name, new Uint8Array(await file.slice(0, MOST_BYTES + 1).arrayBuffer()));
     } catch {
         const failure = new Error("this file cannot be read");
         return Object.assign(new GameFile(file.name, new Uint8Array()), { state: "failed", failure });

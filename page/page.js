@@ -20,7 +20,6 @@ class Page {
         for (const { name } of gamefile.examples) menu.append(el("option", {}, name));
         menu.addEventListener("change", () => {
             if (menu.value) this.choose(this.example(menu.value));
-            menu.value = "";
         });
         listen(files => this.take(files));
         byId("new").addEventListener("click", () => {
@@ -124,6 +123,8 @@ class Page {
     choose(file) {
         this.current = file;
         byId("source").value = "";
+        // The menu shows the current example, so that arrow keys go on from there.
+        byId("examples").value = file.isExample ? file.name : "";
         this.bringsPlace = true; // the refused place is brought into sight; not while one types
         this.show();
         this.showFiles();

@@ -68,7 +68,7 @@ class SourceView {
     scrollToPlace() {
         const { mark, box } = this;
         box.scrollTop = Math.max(0, mark.offsetTop - box.clientHeight / 2);
-        box.scrollLeft = Math.max(0, mark.offsetLeft + mark.offsetWidth - box.clientWidth + 40);
+        box.scrollLeft = Math.max(0, Math.min(mark.offsetLeft - 40, mark.offsetLeft + mark.offsetWidth - box.clientWidth + 40));
         this.follow();
     }
 
