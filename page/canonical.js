@@ -1,6 +1,6 @@
 "use strict";
-// Reads canonical text, as section 8 of docs/FORMATS.md describes it, for pictures and tables. It judges nothing: it is
-// given only what the proved calls have written. Labels that are not UTF-8 are read with U+FFFD.
+// Reads canonical text, as section 8 of docs/FORMATS.md describes it, for pictures and tables. It judges
+// nothing: it is given only what the proved calls have written. What is no UTF-8 in labels is read as U+FFFD.
 
 const SPACE = 32, LINE_FEED = 10, QUOTE = 34, BACKSLASH = 92, CLOSING = 125;
 // How many milliseconds a long reading takes before the page may answer.
@@ -20,7 +20,9 @@ class CanonicalTokens {
         return this.bytes[this.at];
     }
 
-    isLabel() { return this.peek() === QUOTE; }
+    isLabel() {
+        return this.peek() === QUOTE;
+    }
 
     passLabel() {
         this.peek();
@@ -39,7 +41,8 @@ class CanonicalTokens {
     bare() {
         this.peek();
         const start = this.at;
-        while (this.at < this.bytes.length && this.bytes[this.at] !== SPACE && this.bytes[this.at] !== LINE_FEED) this.at++;
+        const ends = byte => byte === undefined || byte === SPACE || byte === LINE_FEED;
+        while (!ends(this.bytes[this.at])) this.at++;
         return String.fromCharCode(...this.bytes.subarray(start, this.at));
     }
 
@@ -52,32 +55,59 @@ class CanonicalTokens {
     }
 }
 
-// A tree. A node is a number, from 0 in prefix order, and what is known of nodes stands in arrays: so a tree of a
-// million nodes takes some megabytes, and nothing walks it by recursion.
+// A tree. A node is a number, from 0 in prefix order, and what is known of nodes stands in arrays: so a tree of
+// a million nodes takes some megabytes, and nothing walks it by recursion.
 class Tree {
     constructor(bytes, most) {
         this.bytes = bytes;
         this.count = 0;
         this.sets = [];
         this.outcomes = [];
-        this.set = new Int32Array(most);      // the place of the node's set in `sets`; -1 at a terminal node
-        this.outcome = new Int32Array(most);  // the place of its outcome in `outcomes`; -1 for none
-        this.parent = new Int32Array(most);   // -1 for the root
-        this.action = new Int32Array(most);   // the action of the parent's set that leads here
-        this.end = new Int32Array(most);      // one past the last node below
+        // The place of a node's set in `sets`, -1 at a terminal node; of its outcome in `outcomes`, -1 for none.
+        this.set = new Int32Array(most);
+        this.outcome = new Int32Array(most);
+        // Its parent, -1 for the root; the number of its action, from 0; and one past the last node below it.
+        this.parent = new Int32Array(most);
+        this.action = new Int32Array(most);
+        this.end = new Int32Array(most);
         this.depth = new Int32Array(most);
-        this.place = new Uint32Array(most);   // where its line begins
+        // Where its line begins.
+        this.place = new Uint32Array(most);
     }
 
-    setOf(node) { return this.set[node] < 0 ? null : this.sets[this.set[node]]; }
-    outcomeOf(node) { return this.outcome[node] < 0 ? null : this.outcomes[this.outcome[node]]; }
-    actionTo(node) { return node === 0 ? null : this.setOf(this.parent[node]).actions[this.action[node]]; }
-    playerName(player) { return player === 0 ? "chance" : shown(this.players[player - 1]) || `player ${player}`; }
+    setOf(node) {
+        return this.set[node] < 0 ? null : this.sets[this.set[node]];
+    }
+
+    outcomeOf(node) {
+        return this.outcome[node] < 0 ? null : this.outcomes[this.outcome[node]];
+    }
+
+    // The action of the parent's set that leads to a node.
+    actionTo(node) {
+        return node === 0 ? null : this.setOf(this.parent[node]).actions[this.action[node]];
+    }
+
+    playerName(player) {
+        return player === 0 ? "chance" : shown(this.players[player - 1]) || `player ${player}`;
+    }
 
     nameOf(node) {
         const tokens = new CanonicalTokens(this.bytes);
         tokens.at = this.place[node] + 2;
         return tokens.label();
+    }
+
+    // The line of a node.
+    lineOf(node) {
+        const end = node + 1 < this.count ? this.place[node + 1] : this.bytes.length;
+        return this.bytes.subarray(this.place[node], end - 1);
+    }
+
+    // The sets of a player, in their order.
+    setsOf(player) {
+        this.byPlayer ??= Map.groupBy(this.sets, it => it.player);
+        return this.byPlayer.get(player) ?? [];
     }
 
     // What a terminal node pays, or an outcome on the way; null if nothing is paid on the way.
@@ -183,10 +213,13 @@ class Table {
         this.profiles = this.counts.reduce((product, count) => product * count, 1);
         this.lines = new Uint32Array(this.profiles + 1);
         this.lines[0] = tokens.at + 2;
-        for (let i = 1; i <= this.profiles; i++) this.lines[i] = bytes.indexOf(LINE_FEED, this.lines[i - 1]) + 1;
+        for (let i = 1; i <= this.profiles; i++)
+            this.lines[i] = bytes.indexOf(LINE_FEED, this.lines[i - 1]) + 1;
     }
 
-    playerName(player) { return shown(this.players[player - 1]) || `player ${player}`; }
+    playerName(player) {
+        return shown(this.players[player - 1]) || `player ${player}`;
+    }
 
     // The place of a profile, of the numbers of strategies from 0.
     placeOf(strategies) {
@@ -204,6 +237,7 @@ class Table {
 
     payoffs(place) {
         if (this.players.length === 0) return [];
-        return new TextDecoder().decode(this.bytes.subarray(this.lines[place], this.lines[place + 1] - 1)).split(" ");
+        const line = this.bytes.subarray(this.lines[place], this.lines[place + 1] - 1);
+        return new TextDecoder().decode(line).split(" ");
     }
 }

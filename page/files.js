@@ -1,11 +1,9 @@
 "use strict";
-// The files that are open, and how they come in and go out: opened, dropped, pasted, in the link of the page, saved and
-// copied. The bytes of a file are kept as they are.
+// The files that are open, and how they come in and go out: opened, dropped, pasted, saved and copied. The bytes of
+// a file are kept as they are.
 
-// No longer file is read, and no longer link is made: some programs cut them.
-const MOST_BYTES = gamefile.LONGEST, MOST_LINK = 8000;
-
-// A file, and what was answered about it. `kind` is "tree" or "table" once it is found valid.
+// A file, and what was answered about it. `state` is waiting, valid, refused or failed; `kind` is "tree" or
+// "table" if it is valid.
 class GameFile {
     constructor(name, bytes) {
         this.name = name;
@@ -30,115 +28,53 @@ class GameFile {
     }
 
     canonical(calls, signal, names = true) {
-        return this.answer(names ? "canonical" : "plain", signal, () => calls.run(signal, "canonical", this.bytes, { names }));
+        const ask = () => calls.run(signal, "canonical", this.bytes, { names });
+        return this.answer(names ? "canonical" : "plain", signal, ask);
     }
 
     hash(calls, signal, names = true) {
-        return this.answer(names ? "hash" : "plain hash", signal, () => calls.run(signal, "hash", this.bytes, { names }));
+        const ask = () => calls.run(signal, "hash", this.bytes, { names });
+        return this.answer(names ? "hash" : "plain hash", signal, ask);
     }
 
     table(calls, signal, reduced) {
         if (this.kind === "table") return this.canonical(calls, signal);
-        return this.answer(reduced ? "reduced" : "table", signal, () => calls.run(signal, "table", this.bytes, { reduced }));
+        const ask = () => calls.run(signal, "table", this.bytes, { reduced });
+        return this.answer(reduced ? "reduced" : "table", signal, ask);
     }
 
     tree(calls, signal) {
         return this.answer("tree", signal, async () => readTree(await this.canonical(calls, signal)));
     }
 
-    get stem() { return this.name.replace(/\.[en]fg$/i, "") || "game"; }
-}
-
-// The calls of the engine, one after the other. A call whose signal is aborted is taken out, or stopped if it runs.
-class Calls {
-    constructor(engine) {
-        Object.assign(this, { engine, waiting: [], running: null });
+    // Its name without the ending.
+    get stem() {
+        return this.name.replace(/\.[en]fg$/i, "") || "game";
     }
-
-    run(signal, name, ...words) {
-        return new Promise((resolve, reject) => {
-            const call = { signal, name, words, resolve, reject };
-            signal?.addEventListener("abort", () => this.drop(call), { once: true });
-            if (signal?.aborted) return reject(new gamefile.Stopped("stopped"));
-            this.waiting.push(call);
-            this.next();
-        });
-    }
-
-    drop(call) {
-        if (this.running === call) return this.engine.stop();
-        this.waiting = this.waiting.filter(it => it !== call);
-        call.reject(new gamefile.Stopped("stopped"));
-    }
-
-    async next() {
-        if (this.running || this.waiting.length === 0) return;
-        const call = this.running = this.waiting.shift();
-        try {
-            call.resolve(await this.engine[call.name](...call.words));
-        } catch (error) {
-            call.reject(error);
-        }
-        this.running = null;
-        this.next();
-    }
-}
-
-// Links ---------------------------------------------------------------------------------------------------
-
-async function readStream(stream, most) {
-    const parts = [], reader = stream.getReader();
-    let length = 0;
-    for (let part = await reader.read(); !part.done; part = await reader.read()) {
-        length += part.value.length;
-        parts.push(part.value);
-        if (length > most) {
-            await reader.cancel();
-            throw new RangeError("the game in this link is larger than 16 MiB");
-        }
-    }
-    const all = new Uint8Array(length);
-    parts.reduce((at, part) => (all.set(part, at), at + part.length), 0);
-    return all;
-}
-
-const through = (bytes, transform, most) => readStream(new Blob([bytes]).stream().pipeThrough(transform), most);
-
-// The fragment of a link that has the game in it; null if it would be too long.
-async function packedLink(file) {
-    if (file.bytes.length > MOST_LINK * 64) return null;
-    const packed = await through(file.bytes, new CompressionStream("deflate-raw"), Infinity);
-    if (packed.length > MOST_LINK) return null;
-    const game = btoa(String.fromCharCode(...packed)).replaceAll("+", "-").replaceAll("/", "_").replaceAll("=", "");
-    const link = `${location.href.split("#")[0]}#${new URLSearchParams({ game, name: file.name })}`;
-    return link.length > MOST_LINK ? null : link;
-}
-
-// The file in the fragment of the page's address; null if there is none.
-async function linkedFile() {
-    const words = new URLSearchParams(location.hash.slice(1)), letters = words.get("game");
-    if (letters === null) return null;
-    const packed = Uint8Array.from(atob(letters.replaceAll("-", "+").replaceAll("_", "/")), it => it.charCodeAt(0));
-    return new GameFile(words.get("name") || "linked game", await through(packed, new DecompressionStream("deflate-raw"), MOST_BYTES));
 }
 
 // Coming in -----------------------------------------------------------------------------------------------
 
 // Reads a file; of one that is too long only so much that the engine refuses it.
 async function readFile(file) {
+    const name = shown(file.name);
     try {
-        return new GameFile(file.name, new Uint8Array(await file.slice(0, MOST_BYTES + 1).arrayBuffer()));
+        return new GameFile(name, new Uint8Array(await file.slice(0, gamefile.LONGEST + 1).arrayBuffer()));
     } catch {
         const failure = new Error("this file cannot be read");
-        return Object.assign(new GameFile(file.name, new Uint8Array()), { state: "failed", failure });
+        return Object.assign(new GameFile(name, new Uint8Array()), { state: "failed", failure });
     }
 }
 
 const readFiles = list => Promise.all([...list].map(readFile));
 
+function pastedFile(text) {
+    return new GameFile(`pasted.${/^\s*NFG/.test(text) ? "nfg" : "efg"}`, new TextEncoder().encode(text));
+}
+
 // Calls `take` with the files that are opened, dropped or pasted.
 function listen(take) {
-    const open = byId("open");
+    const open = byId("open"), { classList } = document.body;
     open.addEventListener("change", async () => {
         const files = await readFiles(open.files);
         open.value = "";
@@ -146,46 +82,47 @@ function listen(take) {
     });
     document.addEventListener("dragover", event => {
         event.preventDefault();
-        document.body.classList.add("over");
+        classList.add("over");
     });
-    document.addEventListener("dragleave", event => { if (!event.relatedTarget) document.body.classList.remove("over"); });
-    document.addEventListener("drop", async event => {
+    document.addEventListener("dragleave", event => event.relatedTarget || classList.remove("over"));
+    document.addEventListener("drop", event => {
         event.preventDefault();
-        document.body.classList.remove("over");
-        const text = event.dataTransfer.getData("text/plain");
-        if (event.dataTransfer.files.length > 0) take(await readFiles(event.dataTransfer.files));
-        else if (text) take([pastedFile(text)]);
+        classList.remove("over");
+        takeFrom(event.dataTransfer, take);
     });
-    document.addEventListener("paste", async event => {
-        const { files } = event.clipboardData, text = event.clipboardData.getData("text/plain");
+    document.addEventListener("paste", event => {
         const box = event.target.closest?.("textarea, input");
-        if (files.length === 0 && (text === "" || (box && !box.readOnly))) return;
+        if (event.clipboardData.files.length === 0 && box && !box.readOnly) return;
         event.preventDefault();
-        take(files.length > 0 ? await readFiles(files) : [pastedFile(text)]);
+        takeFrom(event.clipboardData, take);
     });
 }
 
-function pastedFile(text) {
-    return new GameFile(`pasted.${/^\s*NFG/.test(text) ? "nfg" : "efg"}`, new TextEncoder().encode(text));
+// Takes the files of what is dropped or pasted, or else its text.
+async function takeFrom(data, take) {
+    const text = data.getData("text/plain");
+    if (data.files.length > 0) take(await readFiles(data.files));
+    else if (text !== "") take([pastedFile(text)]);
 }
 
 // Going out -----------------------------------------------------------------------------------------------
 
 function saveBytes(bytes, name) {
-    const link = el("a", { href: URL.createObjectURL(new Blob([bytes], { type: "application/octet-stream" })), download: name });
-    link.click();
-    setTimeout(() => URL.revokeObjectURL(link.href), 60000);
+    const href = URL.createObjectURL(new Blob([bytes], { type: "application/octet-stream" }));
+    el("a", { href, download: name }).click();
+    setTimeout(() => URL.revokeObjectURL(href), 60000);
 }
 
-// A button that copies what `text` gives, and says so.
+// A button that copies what `text` gives, and says so; null is not copied.
 function copyButton(words, text) {
-    const button = el("button", { type: "button", click: async () => {
+    const copy = async () => {
         const copied = await text();
         if (copied === null) return;
         await navigator.clipboard.writeText(copied);
-        button.textContent = "Copied";
+        it.textContent = "Copied";
         byId("said").textContent = `${words}: done`;
-        setTimeout(() => { button.textContent = words; }, 1500);
-    } }, words);
-    return button;
+        setTimeout(() => { it.textContent = words; }, 1500);
+    };
+    const it = button(words, copy);
+    return it;
 }

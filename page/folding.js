@@ -1,6 +1,6 @@
 "use strict";
-// Which nodes of a tree are shown. A node can be closed, and then what is below it is not shown; of a node with very
-// many children only the first ones are shown, and then how many more there are.
+// Which nodes of a tree are shown. A node can be closed, and then what is below it is not shown; of a node with
+// very many children only the first ones are shown, and then how many more there are.
 
 // A tree of up to this many nodes is shown whole at first.
 const MOST_OPEN = 300;
@@ -19,12 +19,15 @@ class Folding {
         if (tree.count > MOST_OPEN) this.openFrom(0, FIRST_OPEN);
     }
 
-    isInner(node) { return this.tree.end[node] > node + 1; }
+    isInner(node) {
+        return this.tree.end[node] > node + 1;
+    }
 
     // The children that are shown.
     childrenOf(node) {
         const { end } = this.tree, children = [], most = this.wider.get(node) ?? this.most;
-        for (let child = node + 1; child < end[node] && children.length < most; child = end[child]) children.push(child);
+        for (let child = node + 1; child < end[node] && children.length < most; child = end[child])
+            children.push(child);
         return children;
     }
 
@@ -55,9 +58,15 @@ class Folding {
         });
     }
 
-    close(node) { this.closed.add(node); }
+    close(node) {
+        this.closed.add(node);
+    }
 
-    showMore(node) { return this.tried(() => this.wider.set(node, (this.wider.get(node) ?? this.most) + MOST_CHILDREN)); }
+    // Shows further children of a node.
+    showMore(node) {
+        const most = (this.wider.get(node) ?? this.most) + MOST_CHILDREN;
+        return this.tried(() => this.wider.set(node, most));
+    }
 
     // Opens more, but not if more than MOST_ITEMS would be shown then; tells whether it did.
     tried(change) {
@@ -71,7 +80,9 @@ class Folding {
     }
 
     // Opens what leads to a node.
-    reveal(node) { return this.tried(() => this.openTo(node)); }
+    reveal(node) {
+        return this.tried(() => this.openTo(node));
+    }
 
     openTo(node) {
         const { parent, end } = this.tree;

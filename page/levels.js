@@ -36,12 +36,20 @@ function membersOfSets(items, tree) {
 }
 
 function placeLevels(items, sets) {
-    let group = new Map(items.map(it => [it, it])), levels = levelsOf(items, group);
-    for (const { set, members } of sets) {
-        const joined = new Map(group);
-        for (const it of members) joined.set(it, set);
-        const found = levelsOf(items, joined);
-        if (found) [group, levels] = [joined, found];
+    const joined = (group, { set, members }) => {
+        for (const item of members) group.set(item, set);
+        return group;
+    };
+    const alone = () => new Map(items.map(it => [it, it]));
+    let group = sets.reduce(joined, alone()), levels = levelsOf(items, group);
+    // Not all can be joined: one after the other, as far as it goes.
+    if (!levels) {
+        group = alone();
+        levels = levelsOf(items, group);
+        for (const it of sets) {
+            const more = joined(new Map(group), it), found = levelsOf(items, more);
+            if (found) [group, levels] = [more, found];
+        }
     }
     for (const item of items) item.level = levels.get(group.get(item));
 }

@@ -1,9 +1,9 @@
 "use strict";
-// Places the items of a picture across: subtrees as close as what they take allows, a parent in the middle of its
-// children. What a subtree takes is an outline: for each level from which place to which.
+// Places the items of a picture across: subtrees as close as what they take allows, a parent in the middle of
+// its children. What a subtree takes is an outline: for each level from which place to which.
 
-// An outline whose item is at 0. An item takes its level, the levels through which the line to it runs, and, with what
-// is written beside it, `further` levels.
+// An outline whose item is at 0. An item takes its level, the levels through which the line to it runs, and,
+// with what is written beside it, `further` levels.
 function outlineOf(item) {
     const outline = { low: [], high: [] };
     const first = item.parent ? item.parent.level + 1 : item.level;
@@ -32,8 +32,8 @@ function distance(before, after) {
     return least;
 }
 
-// Where siblings stand if each is as near to the first as it can, and the same from the last, halfway between: so the
-// ones in the middle are spread evenly.
+// Where siblings stand if each is as near to the first as it can, and the same from the last, halfway between:
+// so the ones in the middle are spread evenly.
 function placesOf(children) {
     const near = [], far = [], last = children.length - 1;
     const first = { low: [], high: [] };
@@ -43,8 +43,9 @@ function placesOf(children) {
     });
     const beyond = { low: [], high: [] };
     for (let i = last; i >= 0; i--) {
-        far[i] = i === last ? near[last] : Math.min(-distance(children[i].outline, beyond), far[i + 1] - children[i].apart);
-        join(beyond, children[i].outline, far[i]);
+        const { outline, apart } = children[i];
+        far[i] = i === last ? near[last] : Math.min(-distance(outline, beyond), far[i + 1] - apart);
+        join(beyond, outline, far[i]);
     }
     return near.map((place, i) => (place + far[i]) / 2);
 }

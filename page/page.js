@@ -6,10 +6,11 @@ const PAUSE = 150, PATIENCE = 250;
 
 class Page {
     constructor(engine) {
-        this.calls = new Calls(engine);
+        this.calls = new CallQueue(engine);
         this.views = new Views(this);
         this.source = new SourceView(bytes => this.onEdit(bytes));
-        Object.assign(this, { files: [], current: null, other: null, tab: "picture", showing: new AbortController() });
+        this.showing = new AbortController();
+        Object.assign(this, { files: [], current: null, other: null, tab: "picture" });
         byId("version").textContent = `gamefile ${engine.version}`;
     }
 
@@ -46,19 +47,22 @@ class Page {
     example(name) {
         const open = this.files.find(it => it.name === name && it.isExample);
         if (open) return open;
-        const file = new GameFile(name, new TextEncoder().encode(gamefile.examples.find(it => it.name === name).text));
+        const { text } = gamefile.examples.find(it => it.name === name);
+        const file = new GameFile(name, new TextEncoder().encode(text));
         file.isExample = true;
         this.files.push(file);
         this.judge(file);
         return file;
     }
 
-    // Takes further files. The example that was shown at first makes room for them, and a name that is taken gets a number.
+    // Takes further files. The example that was shown at first makes room for them, and a name that is taken gets a
+    // number.
     take(files) {
         if (this.files.length === 1 && this.files[0].isFirst) this.files = [];
         for (const file of files) {
             const { name } = file;
-            for (let i = 2; this.files.some(it => it.name === file.name); i++) file.name = name.replace(/(\.[en]fg)?$/i, ` (${i})$1`);
+            for (let i = 2; this.files.some(it => it.name === file.name); i++)
+                file.name = name.replace(/(\.[en]fg)?$/i, ` (${i})$1`);
             this.files.push(file);
         }
         for (const file of files) if (file.state === "waiting") this.judge(file);
@@ -104,19 +108,19 @@ class Page {
         try {
             return { state: "valid", kind: (await this.calls.run(null, "check", bytes)).kind };
         } catch (error) {
-            return error instanceof gamefile.Refusal ? this.explained(file, bytes, error) : { state: "failed", failure: error };
+            if (error instanceof gamefile.Refusal) return this.explained(file, bytes, error);
+            return { state: "failed", failure: error };
         }
     }
 
     async explained(file, bytes, refusal) {
         try {
-            return { state: "refused", refusal, explanation: await this.calls.run(null, "explain", bytes, refusal, file.name) };
+            const explanation = await this.calls.run(null, "explain", bytes, refusal, file.name);
+            return { state: "refused", refusal, explanation };
         } catch (error) {
             return { state: "failed", failure: error };
         }
     }
-
-    async judged(file) { await file.judged; }
 
     // Showing ---------------------------------------------------------------------------------------------
 
@@ -134,7 +138,7 @@ class Page {
     compareWith(file) {
         this.other = file;
         this.showFiles();
-        this.show().then(() => byId("other").focus());
+        this.show().then(() => byId("other")?.focus());
     }
 
     say(words) {
@@ -143,34 +147,49 @@ class Page {
     }
 
     showFiles() {
-        const list = byId("files"), had = document.activeElement?.closest?.("#files") ? document.activeElement.textContent : null;
-        list.replaceChildren(...this.files.map(file => {
-            const what = file.state === "refused" ? file.refusal.code : file.state === "valid" ? file.kind : file.state === "failed" ? "not read" : "…";
-            return el("li", { class: file.state }, el("button", { type: "button", class: "name", "aria-current": file === this.current ? "true" : null, click: () => this.choose(file) },
-                el("span", {}, file.name), " ", el("small", {}, what)), el("button", { type: "button", class: "close", "aria-label": `Close ${file.name}`, click: () => this.close(file) }, "×"));
-        }));
+        const list = byId("files"), focused = document.activeElement, had = list.contains(focused) ? focused.textContent : null;
+        list.replaceChildren(...this.files.map(it => this.entry(it)));
         if (had !== null) [...list.querySelectorAll("button")].find(it => it.textContent === had)?.focus();
     }
 
+    // A file in the list.
+    entry(file) {
+        const what = { refused: file.refusal?.code, valid: file.kind, failed: "not read", waiting: "…" }[file.state];
+        const choose = el("button", {
+            type: "button", class: "name", "aria-current": file === this.current ? "true" : null,
+            click: () => this.choose(file),
+        }, el("span", {}, file.name), " ", el("small", {}, what));
+        const close = button("×", () => this.close(file), { class: "close", "aria-label": `Close ${file.name}` });
+        return el("li", { class: file.state }, choose, close);
+    }
+
     showVerdict(file) {
-        const verdict = byId("verdict"), { state, refusal, failure } = file;
+        const verdict = byId("verdict"), isEmpty = file.bytes.length === 0 && file.state === "refused";
         byId("name").textContent = file.name;
         document.title = `${file.name}: gamefile`;
-        verdict.className = state;
-        verdict.textContent = state === "valid" ? `Valid: ${file.kind === "tree" ? "an extensive file, a tree" : "a strategic file, a table"}.`
-            : state === "refused" ? (file.bytes.length === 0 ? "There is no text yet." : `Refused with ${refusal.code}: ${refusal.message}.`)
-            : state === "failed" ? `${failure.message.replace(/^./, it => it.toUpperCase())}.` : "…";
-        if (state === "refused" && file.bytes.length === 0) verdict.className = "waiting";
-        byId("wrong").hidden = state !== "refused" || file.bytes.length === 0;
+        verdict.className = isEmpty ? "waiting" : file.state;
+        verdict.textContent = isEmpty ? "There is no text yet." : this.verdictOf(file);
+        byId("wrong").hidden = file.state !== "refused" || isEmpty;
         byId("explanation").textContent = file.explanation;
     }
 
+    verdictOf({ state, kind, refusal, failure }) {
+        if (state === "refused") return `Refused with ${refusal.code}: ${refusal.message}.`;
+        if (state === "failed") return `${capital(failure.message)}.`;
+        if (state === "waiting") return "…";
+        return kind === "tree" ? "Valid: an extensive file, a tree." : "Valid: a strategic file, a table.";
+    }
+
+    // Shows the tabs of a file, and gives the chosen one; null if there are none.
     showTabs(file) {
-        const tabs = file.state === "valid" ? TABS[file.kind] : [], list = byId("tabs"), hadFocus = list.contains(document.activeElement);
-        const chosen = tabs.some(([id]) => id === this.tab) ? this.tab : tabs[0]?.[0];
-        list.hidden = tabs.length === 0;
-        list.replaceChildren(...tabs.map(([id, words]) => el("button", { type: "button", role: "tab", id: `tab-${id}`, "aria-controls": "view",
-            "aria-selected": String(id === chosen), tabindex: id === chosen ? 0 : -1, click: () => this.chooseTab(id) }, words)));
+        const tabs = file.state === "valid" ? TABS[file.kind] : [], list = byId("tabs");
+        const chosen = tabs.some(([id]) => id === this.tab) ? this.tab : tabs[0]?.[0] ?? null;
+        const hadFocus = list.contains(document.activeElement);
+        list.hidden = chosen === null;
+        list.replaceChildren(...tabs.map(([id, words]) => button(words, () => this.chooseTab(id), {
+            role: "tab", id: `tab-${id}`, "aria-controls": "view",
+            "aria-selected": `${id === chosen}`, tabindex: id === chosen ? 0 : -1,
+        })));
         if (chosen) byId("view").setAttribute("aria-labelledby", `tab-${chosen}`);
         if (hadFocus) list.querySelector("[aria-selected=true]")?.focus();
         return chosen;
@@ -192,38 +211,49 @@ class Page {
     // Shows the current file. What was still being worked out for another view is stopped.
     async show() {
         this.showing.abort();
-        const showing = this.showing = new AbortController(), { signal } = showing, file = this.current, view = byId("view");
+        const file = this.current, showing = this.showing = new AbortController(), view = byId("view");
         this.source.show(file);
         if (file.refusal && this.bringsPlace) this.source.scrollToPlace();
         this.showVerdict(file);
         const tab = this.showTabs(file);
-        if (!tab) {
-            view.replaceChildren();
-            view.removeAttribute("aria-busy");
-            byId("working").hidden = true;
-            return;
-        }
         view.setAttribute("aria-busy", "true");
-        const slow = setTimeout(() => { byId("working").hidden = false; view.replaceChildren(); }, PATIENCE);
-        const made = await this.views[tab](file, signal).catch(error => this.failed(error));
-        clearTimeout(slow);
+        const made = tab ? await this.made(tab, file, showing.signal) : { element: "" };
         if (showing !== this.showing) return;
         byId("working").hidden = true;
         view.replaceChildren(made.element);
         view.removeAttribute("aria-busy");
-        view.dataset.shows = tab;
         made.attached?.();
+    }
+
+    // Makes a view, and says meanwhile that it takes long, if it does.
+    async made(tab, file, signal) {
+        const slow = setTimeout(() => {
+            byId("view").replaceChildren();
+            byId("working").hidden = false;
+        }, PATIENCE);
+        signal.addEventListener("abort", () => clearTimeout(slow));
+        try {
+            return await this.views[tab](file, signal);
+        } catch (error) {
+            return this.failed(error);
+        } finally {
+            clearTimeout(slow);
+        }
     }
 
     // What is shown in place of a view that could not be made.
     failed(error) {
-        const isOwn = Object.values(gamefile).some(it => typeof it === "function" && error instanceof it);
-        if (!isOwn) console.error(error);
-        const words = error instanceof gamefile.Stopped ? "Stopped" : error.message;
-        return { element: el("div", {}, el("p", { class: "bad" }, `${words.replace(/^./, it => it.toUpperCase())}.`),
-            el("button", { type: "button", click: () => this.show() }, "Try again")) };
+        const isKnown = Object.values(gamefile).some(it => typeof it === "function" && error instanceof it);
+        if (!isKnown) console.error(error);
+        const words = error instanceof gamefile.Stopped ? "Stopped" : capital(error.message);
+        return { element: el("div", {}, el("p", { class: "bad" }, `${words}.`), button("Try again", () => this.show())) };
     }
 }
+
+const capital = words => words.replace(/^./, it => it.toUpperCase());
+
+const UNSUPPORTED = "This browser cannot run the page: it needs WebAssembly with a memory of 64 bits, which Chromium "
+    + "has from version 133 on and Firefox from 134 on";
 
 async function start() {
     let engine;
@@ -231,7 +261,7 @@ async function start() {
         engine = await gamefile.startEngine();
     } catch (error) {
         byId("verdict").className = "failed";
-        byId("verdict").textContent = `This browser cannot run the page: it needs WebAssembly with 64-bit memory, as Chromium has from version 133 and Firefox from 134 on (${error.message}).`;
+        byId("verdict").textContent = `${UNSUPPORTED} (${error.message}).`;
         return;
     }
     const page = new Page(engine);

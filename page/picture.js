@@ -1,16 +1,18 @@
 "use strict";
-// Draws a laid out tree as SVG. The colours and sizes are those of page.css; the picture that is downloaded has them in
-// its own attributes, in the colours for light paper.
+// Draws a laid out tree as SVG. The colours and sizes are those of page.css; the picture that is saved has them in its
+// own attributes, in the colours for light paper.
 
 // There are so many colours of players; page.css has them.
 const COLOURS = 7;
-const colourOf = player => player === null ? "plain" : player === 0 ? "chance" : `player-${(player - 1) % COLOURS + 1}`;
-
+// The height of the legend, and the most width that its entries take.
 const LEGEND = 30, MOST_LEGEND = 640;
 
+const colourOf = player => player === null ? "plain" : player === 0 ? "chance" : `player-${(player - 1) % COLOURS + 1}`;
+const rounded = number => +number.toFixed(1);
+
 // A line of words at a place.
-function drawWords({ line, x, y, anchor }, className = "") {
-    const text = svgEl("text", { x: x.toFixed(1), y: y.toFixed(1), "text-anchor": anchor, class: className || null });
+function drawWords({ line, x, y, anchor }) {
+    const text = svgEl("text", { x: rounded(x), y: rounded(y), "text-anchor": anchor });
     for (const it of line.pieces)
         text.append(svgEl("tspan", { dx: it.dx || null, class: `${it.kind} ${colourOf(it.player)}` }, it.text));
     if (line.isCut) text.prepend(svgEl("title", {}, line.whole));
@@ -22,107 +24,125 @@ function drawMark(item, tree, down) {
     const { x, y, node } = item, set = item.more > 0 ? null : tree.setOf(node);
     if (item.more > 0) return svgEl("circle", { cx: x, cy: y, r: 4, class: "mark more" });
     if (item.closed) {
-        const points = down ? [[-9, -5], [9, -5], [0, 9]] : [[-5, -9], [-5, 9], [9, 0]];
-        return svgEl("polygon", { points: points.map(([dx, dy]) => `${x + dx},${y + dy}`).join(" "), class: `mark closed ${colourOf(set.player)}` });
+        const corners = down ? [[-9, -5], [9, -5], [0, 9]] : [[-5, -9], [-5, 9], [9, 0]];
+        const points = corners.map(([dx, dy]) => `${x + dx},${y + dy}`).join(" ");
+        return svgEl("polygon", { points, class: `mark closed ${colourOf(set.player)}` });
     }
     if (!set) return svgEl("circle", { cx: x, cy: y, r: 3, class: "mark end" });
-    if (set.player === 0) return svgEl("rect", { x: x - 5.5, y: y - 5.5, width: 11, height: 11, class: "mark open chance" });
-    return svgEl("circle", { cx: x, cy: y, r: 6, class: `mark ${colourOf(set.player)}` });
+    const square = { x: x - 5.5, y: y - 5.5, width: 11, height: 11, class: "mark open chance" };
+    return set.player === 0 ? svgEl("rect", square) : svgEl("circle", { cx: x, cy: y, r: 6, class: `mark ${colourOf(set.player)}` });
+}
+
+// What leads to a node, and what it pays, in words.
+function wayInWords(tree, node) {
+    const { label, chance } = tree.actionTo(node);
+    return `${shown(label) || "unnamed action"}${chance === null ? "" : `, probability ${chance}`}: `;
+}
+
+function paidInWords(tree, node) {
+    const pays = tree.paysAt(node)?.slice(0, MOST_PAYS) ?? [], outcome = tree.outcomeOf(node);
+    if (pays.length === 0) return "";
+    const name = outcome?.name ? ` (${shown(outcome.name)})` : "";
+    return `pays ${pays.map((it, i) => `${tree.playerName(i + 1)} ${it}`).join(", ")}${name}`;
 }
 
 // A node in words, for those who do not see the picture.
 function inWords(item, tree) {
-    const { node } = item, action = item.parent ? tree.actionTo(node) : null;
-    if (item.more > 0) return `${item.more} more of these`;
-    const way = action ? `${shown(action.label) || "unnamed action"}${action.chance === null ? "" : `, probability ${action.chance}`}: ` : "";
-    const set = tree.setOf(node), name = shown(tree.nameOf(node)), outcome = tree.outcomeOf(node);
-    const pays = (tree.paysAt(node) ?? []).map((it, i) => `${tree.playerName(i + 1)} ${it}`).join(", ");
-    const paid = !pays ? "" : `pays ${pays}${outcome && outcome.name ? ` (${shown(outcome.name)})` : ""}`;
-    const called = name === "" ? "" : `node ${name}; `;
+    const { node } = item;
+    if (item.more > 0) return `${item.more.toLocaleString("en")} more of these`;
+    const way = item.parent ? wayInWords(tree, node) : "", paid = paidInWords(tree, node);
+    const set = tree.setOf(node), name = shown(tree.nameOf(node)), called = name === "" ? "" : `node ${name}; `;
     if (!set) return `${way}${called}the end${paid ? `, ${paid}` : ""}`;
-    const label = set.name === "" ? `set ${set.number}` : `set ${set.number}, ${shown(set.name)}`;
-    const members = set.size > 1 ? `, one of ${set.size} nodes` : "";
-    return `${way}${called}${tree.playerName(set.player)} moves at ${label}${members}; ${counted(set.actions.length, "action", "actions")}${paid ? `; ${paid}` : ""}`;
+    const label = `set ${set.number}${set.name === "" ? "" : `, ${shown(set.name)}`}`;
+    const members = set.size > 1 ? `, one of ${set.size.toLocaleString("en")} nodes` : "";
+    const moves = `${tree.playerName(set.player)} moves at ${label}${members}`;
+    return `${way}${called}${moves}; ${counted(set.actions.length, "action", "actions")}${paid ? `; ${paid}` : ""}`;
 }
 
 // An item that can be reached by keys and read aloud.
 function drawItem(item, tree, words, down) {
-    const { node, parent } = item, inner = tree.end[node] > node + 1 && item.more === 0;
-    const siblings = parent ? parent.children : [item];
+    const { node, parent, more } = item, isInner = tree.end[node] > node + 1 && more === 0;
+    const siblings = parent ? parent.children : [item], known = list => more === 0 && list[node] >= 0 ? list[node] : null;
     const group = svgEl("g", {
-        role: "treeitem", tabindex: -1, class: `node${inner || item.more > 0 ? " folds" : ""}`, "data-node": node,
-        "aria-level": tree.depth[node] + 1, "aria-posinset": siblings.indexOf(item) + 1, "aria-setsize": siblings.length,
-        "aria-expanded": inner ? String(!item.closed) : null, "aria-selected": "false", "aria-label": inWords(item, tree),
-        "data-set": item.more === 0 && tree.set[node] >= 0 ? tree.set[node] : null,
-        "data-outcome": item.more === 0 && tree.outcome[node] >= 0 ? tree.outcome[node] : null,
+        role: "treeitem", tabindex: -1, class: `node${isInner || more > 0 ? " folds" : ""}`,
+        "data-node": node, "data-set": known(tree.set), "data-outcome": known(tree.outcome),
+        "aria-level": tree.depth[node] + 1, "aria-posinset": siblings.indexOf(item) + 1,
+        "aria-setsize": siblings.length, "aria-expanded": isInner ? `${!item.closed}` : null,
+        "aria-selected": "false", "aria-label": inWords(item, tree),
     });
-    group.append(svgEl("circle", { cx: item.x, cy: item.y, r: tree.set[node] < 0 ? 9 : 12, class: "ring" }), drawMark(item, tree, down));
-    for (const it of words) group.append(drawWords(it));
+    const ring = svgEl("circle", { cx: item.x, cy: item.y, r: tree.set[node] < 0 ? 9 : 12, class: "ring" });
+    group.append(ring, drawMark(item, tree, down), ...words.map(drawWords));
     return group;
 }
 
-// The players with their colours, in the order of payoffs.
+// The players with their colours, in the order of payoffs, and chance.
 function drawLegend(tree, left) {
-    const group = svgEl("g", { "aria-hidden": "true", class: "legend" }), hasChance = tree.sets.some(it => it.player === 0);
-    let x = left + MARGIN;
-    const entries = tree.players.map((_, i) => i + 1);
-    if (hasChance) entries.push(0);
-    for (const player of entries) {
-        const words = piece(player === 0 ? "chance" : tree.playerName(player), "legend", 150, player);
-        if (x > left + MARGIN && x + words.width > left + MOST_LEGEND) {
-            group.append(svgEl("text", { x, y: MARGIN + 9, class: "legend plain" }, "…"));
-            return { group, width: x - left + 30 };
-        }
+    const group = svgEl("g", { "aria-hidden": "true" }), begin = left + MARGIN;
+    const players = [...tree.players.keys()].slice(0, MOST_PAYS).map(it => it + 1);
+    if (tree.setsOf(0).length > 0) players.push(0);
+    let x = begin;
+    for (const player of players) {
+        const words = piece(tree.playerName(player), "legend", 150, player);
+        const isCut = x > begin && x + words.width > left + MOST_LEGEND, line = lineOf([isCut ? piece("…", "legend", 20) : words], 0);
+        group.append(drawWords({ line, x: x + 16, y: MARGIN + 8.5, anchor: "start" }));
+        if (isCut) break;
         group.append(player === 0 ? svgEl("rect", { x, y: MARGIN - 1, width: 10, height: 10, class: "mark open chance" })
             : svgEl("circle", { cx: x + 5, cy: MARGIN + 4, r: 5.5, class: `mark ${colourOf(player)}` }));
-        group.append(drawWords({ line: lineOf([words], 0), x: x + 16, y: MARGIN + 8.5, anchor: "start" }));
         x += 16 + words.width + 22;
     }
-    return { group, width: x - left };
+    return { group, width: x - left + MARGIN };
 }
 
 // The lines of a drawing: the dashed ones of sets under those to nodes.
 function drawLines({ lines, dashes }, tree) {
     const group = svgEl("g", { "aria-hidden": "true" });
-    for (const { set, path } of dashes) group.append(svgEl("path", { d: path, class: `dash ${colourOf(set.player)}`, "data-set": set.index }));
+    for (const { set, path } of dashes)
+        group.append(svgEl("path", { d: path, class: `dash ${colourOf(set.player)}`, "data-set": set.index }));
     for (const { item, points } of lines) {
-        const player = tree.setOf(tree.parent[item.node]).player;
-        group.append(svgEl("polyline", { points: points.map(it => it.map(n => +n.toFixed(1)).join(",")).join(" "), class: `line ${colourOf(player)}` }));
+        const { player } = tree.setOf(tree.parent[item.node]);
+        const places = points.map(([x, y]) => `${rounded(x)},${rounded(y)}`).join(" ");
+        group.append(svgEl("polyline", { points: places, class: `line ${colourOf(player)}` }));
     }
     return group;
 }
 
 function drawTree(tree, drawing) {
-    const legend = drawLegend(tree, drawing.left), wordsOf = new Map();
-    for (const it of drawing.words) wordsOf.set(it.item, [...wordsOf.get(it.item) ?? [], it]);
+    const { left, top, down } = drawing, legend = drawLegend(tree, left);
     const width = Math.ceil(Math.max(drawing.width, legend.width)), height = Math.ceil(drawing.height + LEGEND);
-    const svg = svgEl("svg", {
-        viewBox: `${Math.floor(drawing.left)} 0 ${width} ${height}`, width, height, class: "picture", role: "tree",
+    const words = Map.groupBy(drawing.words, it => it.item);
+    const body = svgEl("g", { transform: `translate(0 ${rounded(LEGEND - top)})`, role: "none" }, drawLines(drawing, tree));
+    for (const item of drawing.items) body.append(drawItem(item, tree, words.get(item) ?? [], down));
+    return svgEl("svg", {
+        viewBox: `${Math.floor(left)} 0 ${width} ${height}`, width, height, class: "picture", role: "tree",
         "aria-label": `The tree of ${shown(tree.title) || "a game without a title"}`,
-    }, legend.group);
-    const body = svgEl("g", { transform: `translate(0 ${(LEGEND - drawing.top).toFixed(1)})`, role: "none" }, drawLines(drawing, tree));
-    for (const item of drawing.items) body.append(drawItem(item, tree, wordsOf.get(item) ?? [], drawing.down));
-    svg.append(body);
-    return svg;
+    }, legend.group, body);
 }
 
-// The picture as a file of its own.
-const COPIED = ["fill", "stroke", "stroke-width", "stroke-dasharray", "font-family", "font-size", "font-weight", "font-style"];
+// The picture as a file -----------------------------------------------------------------------------------
+
+const STYLES = [
+    "fill", "stroke", "stroke-width", "stroke-dasharray", "stroke-linejoin", "paint-order",
+    "font-family", "font-size", "font-weight", "font-style",
+];
+// What only the page needs.
+const OF_PAGE = /^(role|tabindex|class|style|aria-.*|data-.*)$/;
+
+// Gives a copy of an element what it looks like as attributes of its own.
+function settle(copy, element) {
+    for (const { name } of [...copy.attributes]) if (OF_PAGE.test(name)) copy.removeAttribute(name);
+    if (["g", "title"].includes(copy.localName)) return;
+    const style = getComputedStyle(element);
+    for (const name of STYLES) copy.setAttribute(name, style.getPropertyValue(name));
+}
 
 function svgFile(svg, tree) {
-    const copy = svg.cloneNode(true), from = [svg, ...svg.querySelectorAll("*")], to = [copy, ...copy.querySelectorAll("*")];
+    const copy = svg.cloneNode(true), copies = [copy, ...copy.querySelectorAll("*")];
+    const elements = [svg, ...svg.querySelectorAll("*")];
     svg.style.colorScheme = "light";
-    from.forEach((element, i) => {
-        for (const name of ["role", "tabindex", "class", ...[...to[i].attributes].map(it => it.name).filter(it => /^(aria|data)-/.test(it))])
-            to[i].removeAttribute(name);
-        if (element.namespaceURI !== SVG || ["g", "title"].includes(element.localName)) return;
-        const style = getComputedStyle(element);
-        for (const name of COPIED) to[i].setAttribute(name, style.getPropertyValue(name));
-    });
+    copies.forEach((it, i) => settle(it, elements[i]));
     svg.style.colorScheme = "";
-    copy.removeAttribute("style");
-    for (const ring of from.map((it, i) => it.classList.contains("ring") ? to[i] : null)) if (ring) ring.remove();
-    const [x, y, width, height] = svg.getAttribute("viewBox").split(" ");
+    elements.forEach((it, i) => it.classList.contains("ring") && copies[i].remove());
+    const { x, y, width, height } = svg.viewBox.baseVal;
     setAll(copy, { width, height });
     copy.prepend(svgEl("title", {}, shown(tree.title)), svgEl("rect", { x, y, width, height, fill: "#ffffff" }));
     return new TextEncoder().encode(`${new XMLSerializer().serializeToString(copy)}\n`);

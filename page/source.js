@@ -1,6 +1,6 @@
 "use strict";
-// The text of the current file, with the place marked where it is refused. It can be edited, if it is short enough and
-// nothing is lost by it: what is not UTF-8 is shown with U+FFFD, and can only be read.
+// The text of the current file, with the place marked where it is refused. It can be edited, if it is short enough
+// and nothing is lost by it: what is not UTF-8 is shown with U+FFFD, and can only be read.
 
 // So many bytes of a text are shown; more would make the page slow.
 const MOST_TEXT = 100000;
@@ -10,52 +10,59 @@ const decoded = bytes => new TextDecoder("utf-8", { ignoreBOM: true }).decode(by
 const inBox = text => text.replace(/\r\n?/g, "\n");
 
 // The part of a file that is shown: all of it, or of a long one what is around its refused place.
-function windowOf({ bytes, refusal }) {
+function partOf({ bytes, refusal }) {
     if (bytes.length <= MOST_TEXT) return { from: 0, to: bytes.length };
-    const start = refusal ? refusal.start : 0, from = start < MOST_TEXT / 2 ? 0 : bytes.lastIndexOf(10, start - MOST_TEXT / 4) + 1;
-    return { from: Math.max(from, start - MOST_TEXT / 2, 0), to: Math.min(bytes.length, from + MOST_TEXT) };
+    const start = refusal ? refusal.start : 0, least = Math.max(0, start - MOST_TEXT / 2);
+    const from = start < MOST_TEXT / 2 ? 0 : Math.max(least, bytes.lastIndexOf(10, start - MOST_TEXT / 4) + 1);
+    return { from, to: Math.min(bytes.length, from + MOST_TEXT) };
 }
 
 class SourceView {
     // `edited` is called with the bytes of a changed text.
     constructor(edited) {
-        Object.assign(this, { edited, box: byId("source"), behind: byId("behind"), note: byId("source-note"), place: byId("show-place") });
+        Object.assign(this, { edited, box: byId("source"), behind: byId("behind"), note: byId("source-note") });
         this.box.addEventListener("input", () => this.onInput());
         this.box.addEventListener("scroll", () => this.follow());
-        this.place.addEventListener("click", () => this.goToPlace());
+        byId("show-place").addEventListener("click", () => this.choosePlace());
     }
 
     show(file) {
-        const { from, to } = windowOf(file), text = decoded(file.bytes.subarray(from, to));
-        this.file = file;
-        this.shownPart = { from, to };
+        const { bytes } = file, part = partOf(file), text = decoded(bytes.subarray(part.from, part.to));
+        Object.assign(this, { file, part });
         this.lineEnd = /\r\n/.test(text) && !/[^\r]\n/.test(text) ? "\r\n" : "\n";
-        const isWhole = from === 0 && to === file.bytes.length, again = new TextEncoder().encode(this.withEnds(inBox(text)));
-        const isExact = again.length === file.bytes.length && again.every((byte, i) => byte === file.bytes[i]);
-        this.box.readOnly = !isWhole || !isExact;
+        const again = this.bytesOf(inBox(text));
+        const isExact = again.length === bytes.length && again.every((byte, i) => byte === bytes[i]);
+        this.box.readOnly = !isExact;
         if (this.box.value !== inBox(text)) this.box.value = inBox(text);
-        this.note.textContent = !isWhole ? `Bytes ${from.toLocaleString("en")} to ${to.toLocaleString("en")} of ${file.bytes.length.toLocaleString("en")}, to read only.`
-            : isExact ? "" : "Not all of it is UTF-8 with usual line ends: such bytes are shown as they can be, and the text is to read only.";
-        this.markPlace(file);
+        this.note.textContent = isExact ? "" : this.whyReadOnly();
+        this.markPlace();
     }
 
-    withEnds(text) { return this.lineEnd === "\n" ? text : text.replaceAll("\n", this.lineEnd); }
+    whyReadOnly() {
+        const { part: { from, to }, file: { bytes } } = this, number = n => n.toLocaleString("en");
+        if (to - from < bytes.length) return `Bytes ${number(from)} to ${number(to)} of ${number(bytes.length)}, to read only.`;
+        return "Not all of it is UTF-8 with usual line ends: it is shown as far as it can be, to read only.";
+    }
 
-    // Where a byte stands in the box.
+    // The bytes of a text of the box.
+    bytesOf(text) {
+        return new TextEncoder().encode(this.lineEnd === "\n" ? text : text.replaceAll("\n", this.lineEnd));
+    }
+
+    // Where a byte of the file stands in the box.
     letterAt(byte) {
-        const { from, to } = this.shownPart;
+        const { from, to } = this.part;
         return inBox(decoded(this.file.bytes.subarray(from, Math.max(from, Math.min(byte, to))))).length;
     }
 
-    markPlace({ refusal }) {
-        this.place.hidden = !refusal;
+    // Marks the refused place, in a copy of the text that lies behind the box. An empty place has a mark too.
+    markPlace() {
+        const { refusal } = this.file, { value } = this.box;
         if (!refusal) return this.behind.replaceChildren();
-        const start = this.letterAt(refusal.start), end = this.letterAt(refusal.end), { value } = this.box;
-        this.span = { start, end };
-        // The end of the file, or of a line, has a mark too.
-        const mark = el("mark", { class: end > start ? null : "empty" }, value.slice(start, end));
-        this.behind.replaceChildren(value.slice(0, start), mark, value.slice(end), "\n");
-        this.mark = mark;
+        this.start = this.letterAt(refusal.start);
+        this.end = this.letterAt(refusal.end);
+        this.mark = el("mark", { class: this.end > this.start ? null : "empty" }, value.slice(this.start, this.end));
+        this.behind.replaceChildren(value.slice(0, this.start), this.mark, value.slice(this.end), "\n");
         this.follow();
     }
 
@@ -64,22 +71,22 @@ class SourceView {
         this.behind.scrollLeft = this.box.scrollLeft;
     }
 
-    // Brings the place into sight.
+    // Brings the place into sight: its end, or its beginning if it is wide.
     scrollToPlace() {
-        const { mark, box } = this;
+        const { mark, box } = this, end = mark.offsetLeft + mark.offsetWidth;
         box.scrollTop = Math.max(0, mark.offsetTop - box.clientHeight / 2);
-        box.scrollLeft = Math.max(0, Math.min(mark.offsetLeft - 40, mark.offsetLeft + mark.offsetWidth - box.clientWidth + 40));
+        box.scrollLeft = Math.max(0, Math.min(mark.offsetLeft - 40, end - box.clientWidth + 40));
         this.follow();
     }
 
-    goToPlace() {
+    choosePlace() {
         this.box.focus();
-        this.box.setSelectionRange(this.span.start, this.span.end);
+        this.box.setSelectionRange(this.start, this.end);
         this.scrollToPlace();
     }
 
     onInput() {
         this.behind.replaceChildren();
-        this.edited(new TextEncoder().encode(this.withEnds(this.box.value)));
+        this.edited(this.bytesOf(this.box.value));
     }
 }

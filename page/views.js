@@ -1,98 +1,126 @@
 "use strict";
 // What each tab shows of a file. A view gives an element, and perhaps what is to be done once that is on the page.
 
-// No more information sets are listed beside a table.
-const MOST_KEYS = 60;
-
-const saveButton = (words, save) => el("button", { type: "button", class: "save", click: save }, words);
-
-// The tabs of a file: of a tree, and of a table.
+// The tabs of a tree and of a table.
 const TABS = {
-    tree: [["picture", "Picture"], ["form", "Strategic form"], ["reduced", "Reduced form"], ["canonical", "Canonical text"], ["compare", "Compare"]],
+    tree: [
+        ["picture", "Picture"], ["form", "Strategic form"], ["reduced", "Reduced form"],
+        ["canonical", "Canonical text"], ["compare", "Compare"],
+    ],
     table: [["form", "Table"], ["canonical", "Canonical text"], ["compare", "Compare"]],
 };
+// No more information sets, and no more of their actions, are listed beside a table.
+const MOST_KEYS = 60, MOST_KEY_ACTIONS = 600;
+
+const STRATEGIES = "A strategy has the number of an action for each information set of its player, in this order. "
+    + "A * stands where the set is not reached.";
 
 class Views {
-    // `page` has the calls, the files, and `take` for further ones.
-    constructor(page) { this.page = page; }
+    // `page` has the calls and the files, and takes further ones.
+    constructor(page) {
+        this.page = page;
+    }
 
     // The title of a game and its comment.
     heading({ title, comment }) {
-        return [title === "" ? null : el("h3", {}, shown(title)), comment === "" ? null : el("p", { class: "comment" }, comment)];
+        const lines = comment.split("\n").map(shown).join("\n");
+        return [title === "" ? null : el("h3", {}, shown(title)), comment === "" ? null : el("p", { class: "comment" }, lines)];
     }
 
     async picture(file, signal) {
-        const { calls } = this.page, tree = await file.tree(calls, signal);
+        const tree = await file.tree(this.page.calls, signal);
         const viewer = new TreeViewer(tree, { save: bytes => saveBytes(bytes, `${file.stem}.svg`) });
         return { element: el("div", {}, ...this.heading(tree), viewer.element), attached: () => viewer.draw() };
     }
 
-    form(file, signal) { return this.table(file, signal, false); }
-    reduced(file, signal) { return this.table(file, signal, true); }
+    form(file, signal) {
+        return this.table(file, signal, false);
+    }
+
+    reduced(file, signal) {
+        return this.table(file, signal, true);
+    }
 
     async table(file, signal, reduced) {
-        const { calls } = this.page, bytes = await file.table(calls, signal, reduced), table = new Table(bytes);
-        if (file.kind === "tree") table.tree = await file.tree(calls, signal);
-        const name = file.kind === "table" ? `${file.stem}.nfg` : `${file.stem}${reduced ? "-reduced" : "-table"}.nfg`;
-        const bar = el("div", { class: "tools", role: "group", "aria-label": "Table" }, saveButton("Save .nfg", () => saveBytes(bytes, name)),
-            copyButton("Copy as text", async () => decoded(bytes)));
-        if (file.kind === "tree") bar.append(el("button", { type: "button", click: () => this.page.take([new GameFile(name, bytes)]) }, "Open as a file"));
-        bar.append(el("span", { class: "note" }, counted(table.profiles, "profile", "profiles")));
-        return { element: el("div", {}, ...this.heading(table), bar, this.key(table), new TableViewer(table).element) };
+        const { page } = this, isTree = file.kind === "tree";
+        const bytes = await file.table(page.calls, signal, reduced), table = new Table(bytes);
+        if (isTree) table.tree = await file.tree(page.calls, signal);
+        const name = `${file.stem}${isTree ? reduced ? "-reduced" : "-table" : ""}.nfg`;
+        const bar = toolbar("Table", button("Save .nfg", () => saveBytes(bytes, name)),
+            copyButton("Copy as text", () => decoded(bytes)),
+            isTree ? button("Open as a file", () => page.take([new GameFile(name, bytes)])) : null,
+            el("span", { class: "note" }, counted(table.profiles, "profile", "profiles")));
+        const parts = [...this.heading(table), bar, isTree ? this.key(table.tree) : null, new TableViewer(table).element];
+        return { element: el("div", {}, ...parts) };
     }
 
     // What the numbers in the strategies of a tree's table stand for.
-    key({ tree }) {
-        const sets = tree?.sets.filter(it => it.player > 0) ?? [];
-        if (sets.length === 0 || sets.length > MOST_KEYS) return null;
-        const name = it => `${tree.playerName(it.player)}, ${it.name === "" ? `set ${it.number}` : shown(it.name)}: `;
-        return el("details", {}, el("summary", {}, "What the strategies are"),
-            el("p", {}, "A strategy has the number of an action for each of the player's information sets, in this order. A * stands where the set is not reached."),
-            el("ul", { class: "keys" }, ...sets.map(it => el("li", { class: colourOf(it.player) }, name(it),
-                it.actions.map((action, i) => `${i + 1} ${shown(action.label)}`).join(", ")))));
+    key(tree) {
+        const sets = tree.sets.filter(it => it.player > 0), actions = sets.reduce((sum, it) => sum + it.actions.length, 0);
+        if (sets.length === 0 || sets.length > MOST_KEYS || actions > MOST_KEY_ACTIONS) return null;
+        const lines = sets.map(set => {
+            const name = set.name === "" ? `set ${set.number}` : shown(set.name);
+            const labels = set.actions.map((it, i) => `${i + 1} ${shown(it.label)}`).join(", ");
+            return el("li", { class: colourOf(set.player) }, `${tree.playerName(set.player)}, ${name}: ${labels}`);
+        });
+        return el("details", {}, el("summary", {}, "What the strategies are"), el("p", {}, STRATEGIES),
+            el("ul", { class: "keys" }, ...lines));
     }
 
     async canonical(file, signal) {
         const { calls } = this.page, bytes = await file.canonical(calls, signal), isLong = bytes.length > MOST_TEXT;
         const hash = await file.hash(calls, signal), plain = await file.hash(calls, signal, false);
-        const ending = file.kind === "tree" ? "efg" : "nfg", text = decoded(isLong ? bytes.subarray(0, MOST_TEXT) : bytes);
-        const hashLine = (words, value) => [el("dt", {}, words), el("dd", {}, el("code", {}, value), " ", copyButton("Copy", async () => value))];
-        const bar = el("div", { class: "tools", role: "group", "aria-label": "Canonical text" },
-            copyButton("Copy text", async () => decoded(bytes)), saveButton(`Save .${ending}`, () => saveBytes(bytes, `${file.stem}-canonical.${ending}`)),
+        const line = (words, value) => [el("dt", {}, words), el("dd", {}, el("code", {}, value), " ", copyButton("Copy", () => value))];
+        const hashes = el("dl", { class: "hashes" }, ...line("SHA-256 of the canonical text", hash),
+            ...line("The same with names set aside", plain));
+        const ending = file.kind === "tree" ? "efg" : "nfg", number = n => n.toLocaleString("en");
+        const bar = toolbar("Canonical text", copyButton("Copy text", () => decoded(bytes)),
+            button(`Save .${ending}`, () => saveBytes(bytes, `${file.stem}-canonical.${ending}`)),
             copyButton("Copy link with this game", () => this.link(file)));
-        return { element: el("div", {}, el("dl", { class: "hashes" }, ...hashLine("SHA-256 of the canonical text", hash), ...hashLine("the same with names set aside", plain)),
-            bar, isLong ? el("p", { class: "note" }, `The first ${MOST_TEXT.toLocaleString("en")} of ${bytes.length.toLocaleString("en")} bytes; all are saved and copied.`) : null,
-            el("pre", { class: "text", tabindex: 0, role: "region", "aria-label": "Canonical text" }, text)) };
+        const note = `The first ${number(MOST_TEXT)} of ${number(bytes.length)} bytes; all are saved and copied.`;
+        const text = el("pre", { class: "text", tabindex: 0, role: "region", "aria-label": "Canonical text" },
+            decoded(isLong ? bytes.subarray(0, MOST_TEXT) : bytes));
+        return { element: el("div", {}, hashes, bar, isLong ? el("p", { class: "note" }, note) : null, text) };
     }
 
     async link(file) {
-        const link = await packedLink(file);
-        if (link === null) this.page.say(`${file.name} is too long for a link: packed, it would have more than ${MOST_LINK.toLocaleString("en")} letters.`);
+        const link = await packedLink(file), most = MOST_LINK.toLocaleString("en");
+        if (link === null) this.page.say(`${file.name} is too long for a link, which may have ${most} letters.`);
         return link;
     }
 
-    async compare(file, signal) {
-        const { page } = this, others = page.files.filter(it => it !== file), menu = el("select", { id: "other", "aria-label": "Compare with" },
-            el("option", { value: "" }, others.length > 0 ? "Choose a file or an example" : "Choose an example, or open another file"));
-        const group = (label, names) => names.length > 0 && menu.append(el("optgroup", { label }, ...names));
+    // The menu of what a file can be compared with.
+    otherMenu(others) {
+        const { page } = this, words = others.length > 0 ? "Choose a file or an example" : "Choose an example, or open another file";
+        const menu = el("select", { id: "other" }, el("option", { value: "" }, words));
+        const group = (label, options) => options.length > 0 && menu.append(el("optgroup", { label }, ...options));
         group("Open files", others.map((it, i) => el("option", { value: `file ${i}`, selected: it === page.other }, it.name)));
-        group("Examples", gamefile.examples.map((it, i) => el("option", { value: `example ${i}` }, it.name)));
+        group("Examples", gamefile.examples.map(({ name }) => el("option", { value: `example ${name}` }, name)));
         menu.addEventListener("change", () => {
-            const [kind, i] = menu.value.split(" ");
-            if (kind === "file") page.compareWith(others[i]);
-            if (kind === "example") page.compareWith(page.example(gamefile.examples[i].name));
+            const [, kind, which] = menu.value.match(/^(\w+) (.*)$/) ?? [];
+            if (kind) page.compareWith(kind === "file" ? others[which] : page.example(which));
         });
-        const element = el("div", {}, el("div", { class: "tools" }, el("label", { for: "other" }, `Compare ${file.name} with`), menu));
-        if (!others.includes(page.other)) return { element };
-        await page.judged(page.other);
-        if (page.other.state !== "valid") {
-            element.append(el("p", { class: "bad" }, page.other.state === "refused" ? `${page.other.name} is refused: ${page.other.refusal.code} at ${page.other.refusal.start}..${page.other.refusal.end}: ${page.other.refusal.message}.`
-                : `${page.other.name}: ${page.other.failure.message}.`));
+        return menu;
+    }
+
+    async compare(file, signal) {
+        const { page } = this, { other } = page, others = page.files.filter(it => it !== file);
+        const bar = el("div", { class: "tools" }, el("label", { for: "other" }, `Compare ${file.name} with`), this.otherMenu(others));
+        const element = el("div", {}, bar);
+        if (!others.includes(other)) return { element };
+        await other.judged;
+        if (other.state !== "valid") {
+            element.append(el("p", { class: "bad" }, this.whyNot(other)));
             return { element };
         }
-        const comparison = new Comparison(file, page.other, page.calls, signal);
+        const comparison = new Comparison(file, other, page.calls, signal);
         await comparison.judge();
         element.append(comparison.element);
         return { element, attached: () => comparison.attached() };
+    }
+
+    whyNot({ name, state, refusal, failure }) {
+        return state === "refused" ? `${name} is refused: ${refusal.code} at ${refusal.start}..${refusal.end}: ${refusal.message}.`
+            : `${name}: ${failure.message}.`;
     }
 }

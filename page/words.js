@@ -7,6 +7,8 @@ const TYPE = {
     outcome: "italic 12px", note: "12px", legend: "600 13px",
 };
 const PAYS_GAP = 8, WORD_GAP = 6;
+// Of so many players at most, payoffs are looked at for a picture.
+const MOST_PAYS = 40;
 
 const pen = document.createElement("canvas").getContext("2d");
 const widths = new Map();
@@ -115,7 +117,8 @@ class PictureWords {
     }
 
     paid(node) {
-        return lineOf(this.tree.paysAt(node).map((it, i) => piece(signed(it), "pays", 110, i + 1)), PAYS_GAP, 420);
+        const pays = this.tree.paysAt(node).slice(0, MOST_PAYS);
+        return lineOf(pays.map((it, i) => piece(signed(it), "pays", 110, i + 1)), PAYS_GAP, 420);
     }
 
     // The name of a node as a list of pieces: of none if there is no name, or the action or the set has it too.

@@ -3,7 +3,7 @@ players that the colour-blind can tell apart, and views that fit narrow and wide
 tests/page_views.py runs it."""
 import itertools
 
-from page_view import EXAMPLES, judge
+from page_driver import EXAMPLES, judge
 
 POKER = EXAMPLES / "one-card-poker.efg"
 TREE_TABS = ["Picture", "Strategic form", "Reduced form", "Canonical text", "Compare"]
@@ -89,8 +89,8 @@ def use_keys(view):
         view.calm()
         judge(f"{words} by an arrow key", view.do("return document.activeElement.textContent") == words)
     view.do("document.getElementById('examples').focus()")
-    for name in "absent-minded-driver.efg", "battle-of-the-sexes.nfg", "centipede.efg":
-        view.keys(Keys.ARROW_DOWN)
+    for key, name in (Keys.ARROW_DOWN, "stag-hunt.nfg"), (Keys.ARROW_DOWN, "ultimatum.efg"), (Keys.ARROW_UP, "stag-hunt.nfg"):
+        view.keys(key)
         view.until(lambda: view.text("#name") == name)
         view.calm()
         judge(f"{name} by an arrow key", view.do("return document.activeElement.id") == "examples")

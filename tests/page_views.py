@@ -17,7 +17,7 @@ sys.dont_write_bytecode = True
 
 import browser
 import page_sight
-from page_view import CORPUS, EXAMPLES, PAGE, View, counts, judge, program
+from page_driver import CORPUS, EXAMPLES, PAGE, View, counts, judge, program
 
 POKER, BY_HAND, HORSE = (EXAMPLES / f"{it}.efg" for it in ("one-card-poker", "one-card-poker-by-hand", "selten-horse"))
 MARKUP = '<img src=x onerror="document.title=1">'
