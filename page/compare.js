@@ -85,14 +85,15 @@ class Comparison {
         const body = el("tbody"), take = list => list.slice(0, MOST_PAIRS);
         take(a.sets).forEach((set, i) => {
             const what = `Set of ${a.playerName(set.player)}`;
-            body.append(this.pair(what, { set: i }, [set, b.sets[i]], numbers.map((it, n) => it.set([a, b][n].sets[i]))));
+            const both = [set, b.sets[i]];
+            body.append(this.pair(what, { set: i }, both, numbers.map((it, n) => it.set(both[n]))));
         });
         take(a.outcomes).forEach((outcome, i) => {
             const both = [outcome, b.outcomes[i]];
             body.append(this.pair("Outcome", { outcome: i }, both, numbers.map((it, n) => it.outcome(both[n]))));
         });
         const left = a.sets.length + a.outcomes.length - body.childElementCount;
-        if (left > 0) body.append(el("tr", {}, el("td", { colspan: 5 }, `and ${left.toLocaleString("en")} more`)));
+        if (left > 0) body.append(el("tr", {}, el("td", { colspan: 5 }, `and ${grouped(left)} more`)));
         if (body.childElementCount === 0) return el("p", {}, "They have no information sets and no outcomes.");
         const head = (words, colspan = 1) => el("th", { scope: "col", colspan }, words);
         const heads = ["What corresponds", ...this.files.map(it => `Number in ${it.name}`)].map(it => head(it));
@@ -128,7 +129,7 @@ class Comparison {
         if (nodes.includes(-1)) return this.otherPlayers(trees);
         this.different = nodes;
         this.viewers.forEach((viewer, i) => viewer.marks = [{ node: nodes[i] }]);
-        const words = `They first differ at node ${(nodes[0] + 1).toLocaleString("en")}, which is marked in both pictures.`;
+        const words = `They first differ at node ${grouped(nodes[0] + 1)}, which is marked in both pictures.`;
         return el("div", {}, el("p", {}, `${words} In canonical text it is`),
             this.twoLines(trees.map((tree, i) => shown(decoded(tree.lineOf(nodes[i]))))));
     }
@@ -156,7 +157,8 @@ class Comparison {
         const { calls, signal } = this;
         const tables = (await this.both(it => it.canonical(calls, signal))).map(it => new Table(it));
         const marked = this.isAlike ? null : this.differentProfile(tables);
-        if (!this.isAlike) this.element.append(marked === null ? this.otherLabels(tables) : this.profile(tables[0], marked));
+        const other = marked === null ? this.otherLabels(tables) : this.profile(tables[0], marked);
+        if (!this.isAlike) this.element.append(other);
         this.element.append(this.besides(i => new TableViewer(tables[i], { marked }).element));
     }
 
@@ -168,16 +170,18 @@ class Comparison {
     }
 
     profile(table, place) {
-        const words = table.profileAt(place).map((it, i) => `${table.playerName(i + 1)} ${strategyOf(table, i + 1, it)}`);
-        return el("p", {}, `The first profile with other payoffs is marked: ${words.join(", ")}.`);
+        const chosen = (it, i) => `${table.playerName(i + 1)} ${strategyOf(table, i + 1, it)}`;
+        const words = table.profileAt(place).map(chosen).join(", ");
+        return el("p", {}, `The first profile with other payoffs is marked: ${words}.`);
     }
 
     otherLabels([a, b]) {
         if (!areEqual(a.players, b.players)) return this.otherPlayers([a, b]);
         const player = a.strategies.findIndex((it, i) => !areEqual(it, b.strategies[i]));
         if (player < 0) return el("p", {}, "Their labels differ in bytes that are not UTF-8.");
-        const list = ({ strategies: { [player]: all } }) => `${quoted(all.slice(0, 8))}${all.length > 8 ? ", …" : ""}`;
-        return el("p", {}, `The strategies of ${a.playerName(player + 1)} differ: ${list(a)}; ${list(b)}.`);
+        const list = all => `${quoted(all.slice(0, 8))}${all.length > 8 ? ", …" : ""}`;
+        const both = [a, b].map(it => list(it.strategies[player])).join("; ");
+        return el("p", {}, `The strategies of ${a.playerName(player + 1)} differ: ${both}.`);
     }
 
     // Draws the pictures, once they are on the page.

@@ -39,7 +39,8 @@ function shown(label) {
     return label.replace(/[\t\n\r]+/g, " ").replace(STEERING, "\ufffd");
 }
 
-const counted = (n, one, many) => `${n.toLocaleString("en")} ${n === 1 ? one : many}`;
+const grouped = number => number.toLocaleString("en");
+const counted = (number, one, many) => `${grouped(number)} ${number === 1 ? one : many}`;
 
 // Lets the page answer before long work goes on.
 const breath = () => new Promise(resolve => setTimeout(resolve));

@@ -1,6 +1,6 @@
 "use strict";
-// Where the parts of a picture of a tree stand. A level is a column if the picture runs from left to right, and a row
-// if it runs down. What it gives is drawn by picture.js: the items have `x` and `y`, and there are lines and words.
+// Where the parts of a picture of a tree stand. A level is a column if the picture runs from left to right, and a
+// row if it runs down. What it gives is drawn by picture.js: the items have `x` and `y`, and there are lines and words.
 
 // The space between lanes, from a node to what is written at it, and around the picture.
 const LANE = { across: 14, down: 22 }, BESIDE = 10, MARGIN = 16;
@@ -26,7 +26,8 @@ function side(item) {
 }
 
 function roomDown(item) {
-    const wide = Math.max(item.right ? item.right.width / 2 + 8 : 12, item.outcome ? item.outcome.width / 2 + 7 : 0), under = Math.max(0, ...item.under.map(it => it.width));
+    const wide = Math.max(12, (item.right?.width ?? 0) / 2 + 8, (item.outcome?.width ?? 0) / 2 + 7);
+    const under = Math.max(0, ...item.under.map(it => it.width));
     const label = item.action ? item.action.width : 0, toLeft = item.side < 0;
     item.before = Math.max(wide, toLeft ? label + 4 : 0, toLeft && under > 0 ? under + 14 : 0);
     item.after = Math.max(wide, toLeft ? 0 : label + 4, !toLeft && under > 0 ? under + 14 : 0);
@@ -38,8 +39,10 @@ function roomDown(item) {
 function roomBetween(item) {
     const { children } = item;
     for (let i = 0; i + 1 < children.length; i++) {
-        const label = children[i].side < 0 ? (children[i + 1].side < 0 ? children[i + 1].action : null) : children[i].action;
-        children[i].apart = label ? 2 * (label.width + 12) : 0;
+        // A label stands to the left of a line to the left, and to the right of others.
+        const [one, next] = [children[i], children[i + 1]];
+        const label = one.side >= 0 ? one.action : next.side < 0 ? next.action : null;
+        one.apart = label ? 2 * (label.width + 12) : 0;
     }
 }
 
@@ -72,7 +75,7 @@ function lanesOf(spans) {
     }
     const wide = spans.filter(it => it.members.length > 1);
     for (const { members: [item], from } of spans.filter(isAlone))
-        item.lane = Math.max(-1, ...wide.filter(it => it.from < from && it.to > from).map(it => it.members[0].lane)) + 1;
+        item.lane = 1 + Math.max(-1, ...wide.map(it => it.from < from && it.to > from ? it.members[0].lane : -1));
     return Math.max(1, ends.length);
 }
 
@@ -103,7 +106,8 @@ function alongAcross(items, lanes) {
         if (!before) at.start = MARGIN + (at.under > 0 ? at.under + BESIDE + 2 : 8);
         else {
             at.bend = before.fan + at.slope;
-            at.start = Math.max(at.bend + Math.max(at.label + 8, at.under + 6) + BESIDE, before.start + before.right + 24);
+            const written = at.bend + Math.max(at.label + 8, at.under + 6) + BESIDE;
+            at.start = Math.max(written, before.start + before.right + 24);
         }
         at.fan = at.start + (lanes[i] - 1) * LANE.across;
     });
@@ -148,8 +152,9 @@ function setLines(members) {
         const a = order[i];
         if (a.level === b.level) return `M${a.x} ${a.y}L${b.x} ${b.y}`;
         // It bends to the lower side of the straight line between the two.
-        const right = b.x >= a.x ? 1 : -1, dx = b.x - a.x, dy = b.y - a.y;
-        return `M${a.x} ${a.y}Q${(a.x + b.x) / 2 - right * dy * BEND} ${(a.y + b.y) / 2 + right * dx * BEND} ${b.x} ${b.y}`;
+        const bend = b.x >= a.x ? BEND : -BEND;
+        const x = (a.x + b.x) / 2 - bend * (b.y - a.y), y = (a.y + b.y) / 2 + bend * (b.x - a.x);
+        return `M${a.x} ${a.y}Q${x} ${y} ${b.x} ${b.y}`;
     }).join("");
 }
 
@@ -158,8 +163,8 @@ const wordsAt = (item, line, x, y, anchor) => ({ item, line, x, y, anchor });
 function wordsAcross(item, levels) {
     const words = [], { x, y, parent } = item;
     if (item.action) words.push(wordsAt(item, item.action, levels[parent.level + 1].bend + 3, y - 5, "start"));
-    const left = levels[item.level].start - BESIDE;
-    item.under.forEach((line, i) => words.push(wordsAt(item, line, left, parent ? y + 15 + 15 * i : y + 4 + 15 * i, "end")));
+    const left = levels[item.level].start - BESIDE, first = parent ? y + 15 : y + 4;
+    item.under.forEach((line, i) => words.push(wordsAt(item, line, left, first + 15 * i, "end")));
     if (item.right) words.push(wordsAt(item, beside(item.right, item.outcome), x + BESIDE, y + 4.5, "start"));
     return words;
 }
@@ -183,6 +188,8 @@ function wordsDown(item, levels, spot) {
     if (item.outcome) words.push(wordsAt(item, item.outcome, x, y + 36, "middle"));
     return words;
 }
+
+const segmentsOf = lines => lines.flatMap(({ points }) => points.slice(1).map((point, i) => [points[i], point]));
 
 // Whether a line from point to point meets a box.
 function meets([[x1, y1], [x2, y2]], { left, right, top, bottom }) {
@@ -208,9 +215,10 @@ const boxOfWords = ({ line, x, y, anchor }) => {
 // In a picture that runs down, who moves at a set of several nodes stands above its dashed line, where nothing else is:
 // in the middle of the widest free part, if there is one that is wide enough.
 function spotsOf(sets, lines, words) {
-    const spots = new Map(), segments = lines.flatMap(({ points }) => points.slice(1).map((point, i) => [points[i], point]));
+    const spots = new Map(), segments = segmentsOf(lines);
     const boxes = words.filter(it => it.line !== it.item.who).map(boxOfWords);
-    for (const { left, right, top, bottom } of boxes) segments.push([[left, top], [right, top]], [[left, bottom], [right, bottom]]);
+    for (const { left, right, top, bottom } of boxes)
+        segments.push([[left, top], [right, top]], [[left, bottom], [right, bottom]]);
     for (const { members } of sets) {
         const named = members.find(it => it.who), order = [...members].sort((a, b) => a.x - b.x);
         if (!named || members.some(it => it.level !== named.level)) continue;
@@ -241,17 +249,19 @@ function boxOf(items, words) {
         top = Math.min(top, it.top);
         bottom = Math.max(bottom, it.bottom);
     }
-    return { left: left - MARGIN, top: top - MARGIN, width: right - left + 2 * MARGIN, height: bottom - top + 2 * MARGIN };
+    const width = right - left + 2 * MARGIN, height = bottom - top + 2 * MARGIN;
+    return { left: left - MARGIN, top: top - MARGIN, width, height };
 }
 
 // How many words are met by a line or by other words.
 function clashes({ lines, words }) {
-    const segments = lines.flatMap(({ points }) => points.slice(1).map((point, i) => [points[i], point]));
-    const boxes = words.filter(it => it.line.width > 0).map(boxOfWords);
-    const inner = ({ left, right, top, bottom }) => ({ left: left + 1, right: right - 1, top: top + 3, bottom: bottom - 3 });
+    const segments = segmentsOf(lines), boxes = words.filter(it => it.line.width > 0).map(it => {
+        const { left, right, top, bottom } = boxOfWords(it);
+        return { left: left + 1, right: right - 1, top: top + 3, bottom: bottom - 3 };
+    });
     const overlap = (a, b) => a.left < b.right && b.left < a.right && a.top < b.bottom && b.top < a.bottom;
-    return boxes.map(inner).filter((box, i) => segments.some(it => meets(it, box))
-        || boxes.some((other, j) => j > i && overlap(box, inner(other)))).length;
+    const isMet = (box, i) => segments.some(it => meets(it, box)) || boxes.some((it, j) => j > i && overlap(box, it));
+    return boxes.filter(isMet).length;
 }
 
 function layOut(tree, items, down) {

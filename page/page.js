@@ -147,9 +147,10 @@ class Page {
     }
 
     showFiles() {
-        const list = byId("files"), focused = document.activeElement, had = list.contains(focused) ? focused.textContent : null;
+        const list = byId("files"), focused = document.activeElement;
+        const at = [...list.querySelectorAll("button")].indexOf(focused);
         list.replaceChildren(...this.files.map(it => this.entry(it)));
-        if (had !== null) [...list.querySelectorAll("button")].find(it => it.textContent === had)?.focus();
+        list.querySelectorAll("button")[at]?.focus();
     }
 
     // A file in the list.
@@ -216,6 +217,7 @@ class Page {
         if (file.refusal && this.bringsPlace) this.source.scrollToPlace();
         this.showVerdict(file);
         const tab = this.showTabs(file);
+        view.hidden = !tab;
         view.setAttribute("aria-busy", "true");
         const made = tab ? await this.made(tab, file, showing.signal) : { element: "" };
         if (showing !== this.showing) return;
@@ -246,7 +248,8 @@ class Page {
         const isKnown = Object.values(gamefile).some(it => typeof it === "function" && error instanceof it);
         if (!isKnown) console.error(error);
         const words = error instanceof gamefile.Stopped ? "Stopped" : capital(error.message);
-        return { element: el("div", {}, el("p", { class: "bad" }, `${words}.`), button("Try again", () => this.show())) };
+        const again = button("Try again", () => this.show());
+        return { element: el("div", {}, el("p", { class: "bad" }, `${words}.`), again) };
     }
 }
 

@@ -29,8 +29,14 @@ function drawMark(item, tree, down) {
         return svgEl("polygon", { points, class: `mark closed ${colourOf(set.player)}` });
     }
     if (!set) return svgEl("circle", { cx: x, cy: y, r: 3, class: "mark end" });
-    const square = { x: x - 5.5, y: y - 5.5, width: 11, height: 11, class: "mark open chance" };
-    return set.player === 0 ? svgEl("rect", square) : svgEl("circle", { cx: x, cy: y, r: 6, class: `mark ${colourOf(set.player)}` });
+    return drawPlayer(set.player, x, y, 6);
+}
+
+// The mark of a player, or of chance.
+function drawPlayer(player, x, y, r) {
+    const side = 2 * r - 1, square = { x: x - side / 2, y: y - side / 2, width: side, height: side };
+    return player === 0 ? svgEl("rect", { ...square, class: "mark open chance" })
+        : svgEl("circle", { cx: x, cy: y, r, class: `mark ${colourOf(player)}` });
 }
 
 // What leads to a node, and what it pays, in words.
@@ -49,12 +55,12 @@ function paidInWords(tree, node) {
 // A node in words, for those who do not see the picture.
 function inWords(item, tree) {
     const { node } = item;
-    if (item.more > 0) return `${item.more.toLocaleString("en")} more of these`;
+    if (item.more > 0) return `${grouped(item.more)} more of these`;
     const way = item.parent ? wayInWords(tree, node) : "", paid = paidInWords(tree, node);
     const set = tree.setOf(node), name = shown(tree.nameOf(node)), called = name === "" ? "" : `node ${name}; `;
     if (!set) return `${way}${called}the end${paid ? `, ${paid}` : ""}`;
     const label = `set ${set.number}${set.name === "" ? "" : `, ${shown(set.name)}`}`;
-    const members = set.size > 1 ? `, one of ${set.size.toLocaleString("en")} nodes` : "";
+    const members = set.size > 1 ? `, one of ${grouped(set.size)} nodes` : "";
     const moves = `${tree.playerName(set.player)} moves at ${label}${members}`;
     return `${way}${called}${moves}; ${counted(set.actions.length, "action", "actions")}${paid ? `; ${paid}` : ""}`;
 }
@@ -62,7 +68,8 @@ function inWords(item, tree) {
 // An item that can be reached by keys and read aloud.
 function drawItem(item, tree, words, down) {
     const { node, parent, more } = item, isInner = tree.end[node] > node + 1 && more === 0;
-    const siblings = parent ? parent.children : [item], known = list => more === 0 && list[node] >= 0 ? list[node] : null;
+    const siblings = parent ? parent.children : [item];
+    const known = list => more === 0 && list[node] >= 0 ? list[node] : null;
     const group = svgEl("g", {
         role: "treeitem", tabindex: -1, class: `node${isInner || more > 0 ? " folds" : ""}`,
         "data-node": node, "data-set": known(tree.set), "data-outcome": known(tree.outcome),
@@ -83,11 +90,11 @@ function drawLegend(tree, left) {
     let x = begin;
     for (const player of players) {
         const words = piece(tree.playerName(player), "legend", 150, player);
-        const isCut = x > begin && x + words.width > left + MOST_LEGEND, line = lineOf([isCut ? piece("…", "legend", 20) : words], 0);
+        const isCut = x > begin && x + words.width > left + MOST_LEGEND;
+        const line = lineOf([isCut ? piece("…", "legend", 20) : words], 0);
         group.append(drawWords({ line, x: x + 16, y: MARGIN + 8.5, anchor: "start" }));
         if (isCut) break;
-        group.append(player === 0 ? svgEl("rect", { x, y: MARGIN - 1, width: 10, height: 10, class: "mark open chance" })
-            : svgEl("circle", { cx: x + 5, cy: MARGIN + 4, r: 5.5, class: `mark ${colourOf(player)}` }));
+        group.append(drawPlayer(player, x + 5, MARGIN + 4, 5.5));
         x += 16 + words.width + 22;
     }
     return { group, width: x - left + MARGIN };
@@ -110,7 +117,8 @@ function drawTree(tree, drawing) {
     const { left, top, down } = drawing, legend = drawLegend(tree, left);
     const width = Math.ceil(Math.max(drawing.width, legend.width)), height = Math.ceil(drawing.height + LEGEND);
     const words = Map.groupBy(drawing.words, it => it.item);
-    const body = svgEl("g", { transform: `translate(0 ${rounded(LEGEND - top)})`, role: "none" }, drawLines(drawing, tree));
+    const transform = `translate(0 ${rounded(LEGEND - top)})`;
+    const body = svgEl("g", { transform, role: "none" }, drawLines(drawing, tree));
     for (const item of drawing.items) body.append(drawItem(item, tree, words.get(item) ?? [], down));
     return svgEl("svg", {
         viewBox: `${Math.floor(left)} 0 ${width} ${height}`, width, height, class: "picture", role: "tree",

@@ -22,7 +22,8 @@ const halfOf = (...lines) => Math.max(0, ...lines.map(it => it ? it.width / 2 : 
 // What the words at a move take: above it and below, to each side, and beside the line down from it.
 function roomOf(item, drop) {
     const above = halfOf(...item.under);
-    return drop ? { above, below: halfOf(drop.right, drop.outcome), beside: drop.action.width + 12 } : { above, below: 0, beside: 0 };
+    if (!drop) return { above, below: 0, beside: 0 };
+    return { above, below: halfOf(drop.right, drop.outcome), beside: drop.action.width + 12 };
 }
 
 // The places of the moves, each as near to the one before as what is written at both allows.

@@ -39,8 +39,8 @@ class SourceView {
     }
 
     whyReadOnly() {
-        const { part: { from, to }, file: { bytes } } = this, number = n => n.toLocaleString("en");
-        if (to - from < bytes.length) return `Bytes ${number(from)} to ${number(to)} of ${number(bytes.length)}, to read only.`;
+        const { from, to } = this.part, all = this.file.bytes.length;
+        if (to - from < all) return `Bytes ${grouped(from)} to ${grouped(to)} of ${grouped(all)}, to read only.`;
         return "Not all of it is UTF-8 with usual line ends: it is shown as far as it can be, to read only.";
     }
 

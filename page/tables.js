@@ -142,11 +142,11 @@ class TableViewer {
 
     // Goes to the part before or after the one in sight.
     pager(name, count, step, what) {
-        const words = el("span", { role: "status" }), number = n => n.toLocaleString("en");
+        const words = el("span", { role: "status" });
         const go = by => {
             this[name] = Math.min(Math.max(0, this[name] + by), Math.floor((count - 1) / step) * step);
             const last = Math.min(count, this[name] + step);
-            words.textContent = ` ${what} ${number(this[name] + 1)} to ${number(last)} of ${number(count)} `;
+            words.textContent = ` ${what} ${grouped(this[name] + 1)} to ${grouped(last)} of ${grouped(count)} `;
             if (by !== 0) this.draw();
         };
         go(0);

@@ -38,8 +38,8 @@ class TreeViewer {
             this.draw();
         };
         const menu = el("select", { "aria-label": "Direction of the picture", change: choose },
-            el("option", { value: "" }, "Direction: as it fits"), el("option", { value: "across" }, "From left to right"),
-            el("option", { value: "down" }, "Down"));
+            el("option", { value: "" }, "Direction: as it fits"),
+            el("option", { value: "across" }, "From left to right"), el("option", { value: "down" }, "Down"));
         return menu;
     }
 
@@ -86,8 +86,9 @@ class TreeViewer {
         this.fit();
         Object.assign(frame, { scrollLeft, scrollTop });
         this.select(focused ?? this.selected ?? 0, focused !== null);
-        const all = counted(tree.count, "node", "nodes"), seen = this.items.filter(it => it.more === 0).length;
-        this.say(seen === tree.count ? "" : `${all}, of which ${seen.toLocaleString("en")} are shown: a triangle opens what is below it.`);
+        const seen = this.items.filter(it => it.more === 0).length, all = counted(tree.count, "node", "nodes");
+        const words = `${all}, of which ${grouped(seen)} are shown: a triangle opens what is below it.`;
+        this.say(seen === tree.count ? "" : words);
     }
 
     say(words) {
@@ -121,7 +122,8 @@ class TreeViewer {
 
     // Makes one node the stop of the tab key, brings it into sight, and perhaps gives it the focus.
     select(node, takesFocus) {
-        const all = [...this.svg.querySelectorAll(".node")], at = all.find(it => it.dataset.node === `${node}`) ?? all[0];
+        const all = [...this.svg.querySelectorAll(".node")];
+        const at = all.find(it => it.dataset.node === `${node}`) ?? all[0];
         for (const it of all) setAll(it, { tabindex: it === at ? 0 : -1, "aria-selected": `${it === at}` });
         this.selected = Number(at.dataset.node);
         if (takesFocus) at.focus({ preventScroll: true });
@@ -151,7 +153,7 @@ class TreeViewer {
         else return;
         this.draw(item.node);
         if (!isFit) this.scale(zoom);
-        if (!isDone) this.say(`No more than ${MOST_ITEMS.toLocaleString("en")} nodes are shown at once: close some first.`);
+        if (!isDone) this.say(`No more than ${grouped(MOST_ITEMS)} nodes are shown at once: close some first.`);
     }
 
     onClick(event) {
@@ -200,7 +202,7 @@ class TreeViewer {
     reveal(node) {
         const item = this.itemOf(node);
         if (!item || item.more > 0) {
-            if (!this.folding.reveal(node)) return this.say(`Node ${(node + 1).toLocaleString("en")} is too deep to be shown.`);
+            if (!this.folding.reveal(node)) return this.say(`Node ${grouped(node + 1)} is too deep to be shown.`);
             this.draw();
         }
         this.bring(this.svg.querySelector(`[data-node="${node}"]`));

@@ -23,8 +23,10 @@ class Views {
 
     // The title of a game and its comment.
     heading({ title, comment }) {
-        const lines = comment.split("\n").map(shown).join("\n");
-        return [title === "" ? null : el("h3", {}, shown(title)), comment === "" ? null : el("p", { class: "comment" }, lines)];
+        const lines = comment.split("\n").map(shown).join("\n"), parts = [];
+        if (title !== "") parts.push(el("h3", {}, shown(title)));
+        if (comment !== "") parts.push(el("p", { class: "comment" }, lines));
+        return parts;
     }
 
     async picture(file, signal) {
@@ -50,13 +52,14 @@ class Views {
             copyButton("Copy as text", () => decoded(bytes)),
             isTree ? button("Open as a file", () => page.take([new GameFile(name, bytes)])) : null,
             el("span", { class: "note" }, counted(table.profiles, "profile", "profiles")));
-        const parts = [...this.heading(table), bar, isTree ? this.key(table.tree) : null, new TableViewer(table).element];
-        return { element: el("div", {}, ...parts) };
+        const key = isTree ? this.key(table.tree) : null;
+        return { element: el("div", {}, ...this.heading(table), bar, key, new TableViewer(table).element) };
     }
 
     // What the numbers in the strategies of a tree's table stand for.
     key(tree) {
-        const sets = tree.sets.filter(it => it.player > 0), actions = sets.reduce((sum, it) => sum + it.actions.length, 0);
+        const sets = tree.sets.filter(it => it.player > 0);
+        const actions = sets.reduce((sum, it) => sum + it.actions.length, 0);
         if (sets.length === 0 || sets.length > MOST_KEYS || actions > MOST_KEY_ACTIONS) return null;
         const lines = sets.map(set => {
             const name = set.name === "" ? `set ${set.number}` : shown(set.name);
@@ -70,32 +73,33 @@ class Views {
     async canonical(file, signal) {
         const { calls } = this.page, bytes = await file.canonical(calls, signal), isLong = bytes.length > MOST_TEXT;
         const hash = await file.hash(calls, signal), plain = await file.hash(calls, signal, false);
-        const line = (words, value) => [el("dt", {}, words), el("dd", {}, el("code", {}, value), " ", copyButton("Copy", () => value))];
+        const line = (words, value) =>
+            [el("dt", {}, words), el("dd", {}, el("code", {}, value), " ", copyButton("Copy", () => value))];
         const hashes = el("dl", { class: "hashes" }, ...line("SHA-256 of the canonical text", hash),
             ...line("The same with names set aside", plain));
-        const ending = file.kind === "tree" ? "efg" : "nfg", number = n => n.toLocaleString("en");
+        const ending = file.kind === "tree" ? "efg" : "nfg";
         const bar = toolbar("Canonical text", copyButton("Copy text", () => decoded(bytes)),
             button(`Save .${ending}`, () => saveBytes(bytes, `${file.stem}-canonical.${ending}`)),
             copyButton("Copy link with this game", () => this.link(file)));
-        const note = `The first ${number(MOST_TEXT)} of ${number(bytes.length)} bytes; all are saved and copied.`;
+        const note = `The first ${grouped(MOST_TEXT)} of ${grouped(bytes.length)} bytes; all are saved and copied.`;
         const text = el("pre", { class: "text", tabindex: 0, role: "region", "aria-label": "Canonical text" },
             decoded(isLong ? bytes.subarray(0, MOST_TEXT) : bytes));
         return { element: el("div", {}, hashes, bar, isLong ? el("p", { class: "note" }, note) : null, text) };
     }
 
     async link(file) {
-        const link = await packedLink(file), most = MOST_LINK.toLocaleString("en");
+        const link = await packedLink(file), most = grouped(MOST_LINK);
         if (link === null) this.page.say(`${file.name} is too long for a link, which may have ${most} letters.`);
         return link;
     }
 
     // The menu of what a file can be compared with.
     otherMenu(others) {
-        const { page } = this, words = others.length > 0 ? "Choose a file or an example" : "Choose an example, or open another file";
-        const menu = el("select", { id: "other" }, el("option", { value: "" }, words));
+        const { page } = this, menu = el("select", { id: "other" }, el("option", { value: "" }, "Choose a file"));
+        const option = (value, it) => el("option", { value, selected: it === page.other }, it.name);
         const group = (label, options) => options.length > 0 && menu.append(el("optgroup", { label }, ...options));
-        group("Open files", others.map((it, i) => el("option", { value: `file ${i}`, selected: it === page.other }, it.name)));
-        group("Examples", gamefile.examples.map(({ name }) => el("option", { value: `example ${name}` }, name)));
+        group("Open files", others.map((it, i) => option(`file ${i}`, it)));
+        group("Examples", gamefile.examples.map(it => option(`example ${it.name}`, it)));
         menu.addEventListener("change", () => {
             const [, kind, which] = menu.value.match(/^(\w+) (.*)$/) ?? [];
             if (kind) page.compareWith(kind === "file" ? others[which] : page.example(which));
@@ -105,8 +109,8 @@ class Views {
 
     async compare(file, signal) {
         const { page } = this, { other } = page, others = page.files.filter(it => it !== file);
-        const bar = el("div", { class: "tools" }, el("label", { for: "other" }, `Compare ${file.name} with`), this.otherMenu(others));
-        const element = el("div", {}, bar);
+        const label = el("label", { for: "other" }, `Compare ${file.name} with`);
+        const element = el("div", {}, el("div", { class: "tools" }, label, this.otherMenu(others)));
         if (!others.includes(other)) return { element };
         await other.judged;
         if (other.state !== "valid") {
@@ -120,7 +124,8 @@ class Views {
     }
 
     whyNot({ name, state, refusal, failure }) {
-        return state === "refused" ? `${name} is refused: ${refusal.code} at ${refusal.start}..${refusal.end}: ${refusal.message}.`
-            : `${name}: ${failure.message}.`;
+        if (state === "failed") return `${name}: ${failure.message}.`;
+        const { code, start, end, message } = refusal;
+        return `${name} is refused: ${code} at ${start}..${end}: ${message}.`;
     }
 }

@@ -44,8 +44,8 @@ function piece(words, kind, most, player = null) {
 
 // A line of pieces, side by side; what would make it wider than `most` is left out, and an ellipsis stands for it.
 function lineOf(pieces, gap, most = Infinity) {
-    const line = { pieces: [], width: 0, whole: pieces.map(it => it.whole ?? it.text).join(gap === PAYS_GAP ? ", " : " ") };
-    line.isCut = pieces.some(it => it.whole !== null);
+    const whole = pieces.map(it => it.whole ?? it.text).join(gap === PAYS_GAP ? ", " : " ");
+    const line = { pieces: [], width: 0, whole, isCut: pieces.some(it => it.whole !== null) };
     for (const it of pieces) {
         const width = line.width + (line.pieces.length > 0 ? gap : 0) + it.width;
         if (line.pieces.length > 0 && width > most) {
@@ -64,13 +64,15 @@ function lineOf(pieces, gap, most = Infinity) {
 function beside(line, after, gap = 12) {
     if (!after) return line;
     const pieces = [...line.pieces, ...after.pieces.map((it, i) => i === 0 ? { ...it, dx: gap } : it)];
-    return { pieces, width: line.width + gap + after.width, whole: `${line.whole} ${after.whole}`, isCut: line.isCut || after.isCut };
+    const whole = `${line.whole} ${after.whole}`, isCut = line.isCut || after.isCut;
+    return { pieces, width: line.width + gap + after.width, whole, isCut };
 }
 
 // Payoffs as they are written in a picture: with a minus sign in place of a hyphen.
 const signed = number => number.replace("-", "\u2212");
 
-// What is written in a picture of a tree. `numbers` has the numbers of sets and outcomes in the file, if they are shown.
+// What is written in a picture of a tree. `numbers` has the numbers of sets and outcomes in the file, if they are to
+// be shown.
 class PictureWords {
     constructor(tree, { names, numbers }) {
         Object.assign(this, { tree, names, numbers });
@@ -83,7 +85,7 @@ class PictureWords {
         item.action = item.parent && item.more === 0 ? this.actionTo(node) : null;
         item.under = [];
         item.outcome = null;
-        if (item.more > 0) item.right = lineOf([piece(`${item.more.toLocaleString("en")} more`, "note", 160)], WORD_GAP);
+        if (item.more > 0) item.right = lineOf([piece(`${grouped(item.more)} more`, "note", 160)], WORD_GAP);
         else if (item.closed) item.right = lineOf([piece(counted(item.below, "node", "nodes"), "note", 160)], WORD_GAP);
         else if (set) item.right = null;
         else {
@@ -123,8 +125,9 @@ class PictureWords {
 
     // The name of a node as a list of pieces: of none if there is no name, or the action or the set has it too.
     nameOf({ node, action }) {
-        const { tree } = this, name = this.names ? tree.nameOf(node) : "", set = tree.setOf(node);
-        return name === "" || name === set?.name || (action && name === tree.actionTo(node).label) ? [] : [piece(name, "name", 150)];
+        const { tree } = this, name = this.names ? tree.nameOf(node) : "";
+        const label = action ? tree.actionTo(node).label : "";
+        return ["", label, tree.setOf(node)?.name].includes(name) ? [] : [piece(name, "name", 150)];
     }
 
     // The number and the name of the outcome at a node, after other pieces; null if there are none.
