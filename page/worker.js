@@ -8,6 +8,9 @@ const OK = 0, DIFFERENT = 1, REFUSED = 2, NOMEM = 5, TOO_MANY_PROFILES = 6, OVER
 const NO_NAMES = 1, REDUCED = 2;
 // The bytes of a fault, and of a pair of numbers.
 const FAULT = 24, PAIR = 16;
+// The first room for a table, which may be far longer than its tree. Few are longer, and these take twice
+// the time. What is not written of it costs nothing.
+const ROOM = 16 * 1024 * 1024;
 // An instance that has more memory is given up after its call, so that the browser gets it back.
 const MOST_KEPT = 64 * 1024 * 1024;
 
@@ -166,7 +169,7 @@ class Calls {
 
     table(input, options) {
         const file = this.put(input), flags = flagsOf(options), profile = this.take(8);
-        return this.written(input.length + 65536, (...out) =>
+        return this.written(ROOM, (...out) =>
             this.exports.gamefile_c_table(...file, flags, ...out, this.fault, profile), { profile });
     }
 
