@@ -12,7 +12,7 @@ const within = (value, { least, share, most }) => Math.min(most, Math.max(least,
 
 // The room that each item takes on both sides of its place across.
 function roomAcross(item) {
-    item.before = item.action && item.action.width > 0 ? 18 : 10;
+    item.before = item.action && item.action.width > 0 ? 19 : 10;
     item.after = item.under.length > 0 && item.parent ? 5 + 15 * item.under.length : 10;
     item.further = item.children.length > 0 || item.right === null ? 0 : 1;
     item.apart = 0;
@@ -162,7 +162,7 @@ const wordsAt = (item, line, x, y, anchor) => ({ item, line, x, y, anchor });
 
 function wordsAcross(item, levels) {
     const words = [], { x, y, parent } = item;
-    if (item.action) words.push(wordsAt(item, item.action, levels[parent.level + 1].bend + 3, y - 5, "start"));
+    if (item.action) words.push(wordsAt(item, item.action, levels[parent.level + 1].bend + 3, y - 6, "start"));
     const left = levels[item.level].start - BESIDE, first = parent ? y + 15 : y + 4;
     item.under.forEach((line, i) => words.push(wordsAt(item, line, left, first + 15 * i, "end")));
     if (item.right) words.push(wordsAt(item, beside(item.right, item.outcome), x + BESIDE, y + 4.5, "start"));

@@ -128,26 +128,28 @@ function drawTree(tree, drawing) {
 
 // The picture as a file -----------------------------------------------------------------------------------
 
-const STYLES = [
-    "fill", "stroke", "stroke-width", "stroke-dasharray", "stroke-linejoin", "paint-order",
-    "font-family", "font-size", "font-weight", "font-style",
-];
+const WORD_STYLES = ["fill", "font-family", "font-size", "font-weight", "font-style"];
+const STYLES = [...WORD_STYLES, "stroke", "stroke-width", "stroke-dasharray", "stroke-linejoin"];
 // What only the page needs.
 const OF_PAGE = /^(role|tabindex|class|style|aria-.*|data-.*)$/;
 
-// Gives a copy of an element what it looks like as attributes of its own.
-function settle(copy, element) {
+// Gives a copy of an element what it looks like as attributes of its own, where it does not look as its parent. Words
+// lose the edge that sets them off from lines: not all programs draw it under them.
+function settle(copy, element, isRoot) {
     for (const { name } of [...copy.attributes]) if (OF_PAGE.test(name)) copy.removeAttribute(name);
-    if (["g", "title"].includes(copy.localName)) return;
-    const style = getComputedStyle(element);
-    for (const name of STYLES) copy.setAttribute(name, style.getPropertyValue(name));
+    const style = getComputedStyle(element), above = getComputedStyle(element.parentElement);
+    const isWords = ["text", "tspan"].includes(copy.localName);
+    for (const name of isWords ? WORD_STYLES : STYLES) {
+        const value = style.getPropertyValue(name);
+        if (isRoot || value !== above.getPropertyValue(name)) copy.setAttribute(name, value);
+    }
 }
 
 function svgFile(svg, tree) {
     const copy = svg.cloneNode(true), copies = [copy, ...copy.querySelectorAll("*")];
     const elements = [svg, ...svg.querySelectorAll("*")];
     svg.style.colorScheme = "light";
-    copies.forEach((it, i) => settle(it, elements[i]));
+    copies.forEach((it, i) => settle(it, elements[i], i === 0));
     svg.style.colorScheme = "";
     elements.forEach((it, i) => it.classList.contains("ring") && copies[i].remove());
     const { x, y, width, height } = svg.viewBox.baseVal;

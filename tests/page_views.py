@@ -76,6 +76,10 @@ def show_pictures(view):
     paths = view.do("return [...document.querySelectorAll('.dash.player-2')].map(it => it.getBBox()).map(b => [b.x, b.y, b.y + b.height])")
     crossing = [(a, b) for a, b in itertools.combinations(paths, 2) if a[1] < b[2] and b[1] < a[2]]
     judge("lanes of sets that interleave", len(crossing) > 3 and all(a[0] != b[0] for a, b in crossing), paths)
+    view.open(CORPUS / "numbers-at-their-bounds.efg")
+    cut = view.do("return [...document.querySelectorAll('.node text')].filter(it => it.textContent.includes('…')).map(it => it.querySelector('title')?.textContent)")
+    judge("words that are cut have all in a title", len(cut) > 3 and all("…" not in (it or "…") for it in cut), cut)
+    view.press("kuhn-poker.efg tree", "#files")
     for way in "Down", "From left to right":
         view.choose(".viewer select", way)
         judge(f"a picture that runs {way.lower()}", view.texts(".picture .node .pays") != [] and len(view.all(".node")) == 55)
@@ -93,8 +97,10 @@ def save_picture(view):
     root = xml.fromstring(data)
     found = ["".join(it.itertext()) for it in root.iter("{http://www.w3.org/2000/svg}text")]
     judge("words of the saved picture", sorted(filter(None, found)) == sorted(words), found)
+    judge("words of the saved picture have no edge", not any(it.get("stroke") for it in root.iter("{http://www.w3.org/2000/svg}tspan")))
     parts = {it.tag.split("}")[1] for it in root.iter()}
-    judge("parts of the saved picture", parts <= {"svg", "title", "g", "rect", "circle", "path", "polyline", "polygon", "text", "tspan"}, parts)
+    known = {"svg", "title", "g", "rect", "circle", "path", "polyline", "polygon", "text", "tspan"}
+    judge("parts of the saved picture", parts <= known, parts)
     fills = {it.get("fill") for it in root.iter("{http://www.w3.org/2000/svg}circle")}
     judge("colours of the saved picture", len(fills) >= 3 and None not in fills, fills)
     judge("no classes in the saved picture", b"class=" not in data and b"aria-" not in data and b"var(" not in data)
@@ -405,6 +411,10 @@ def stay_apart(view):
         image.src = 'data:image/gif;base64,R0lGODlhAQABAAAAACwAAAAAAQABAAA=';
     """)
     judge("what the policy refuses", seen == ["refused", "refused"], seen)
+    for file in sorted(PAGE.glob("*.js")):
+        if file.name != "built.js":
+            found = re.findall(r"innerHTML|outerHTML|insertAdjacentHTML|document\.write|\beval\(|new Function", file.read_text())
+            judge(f"{file.name} makes no markup of text", found == [], found)
     browser.complaints(view.driver)
 
 
