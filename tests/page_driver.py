@@ -5,7 +5,12 @@ import time
 from pathlib import Path
 
 ROOT = Path(__file__).resolve().parent.parent
-PROGRAM, PAGE, EXAMPLES, CORPUS = ROOT / "gamefile", ROOT / "page" / "out", ROOT / "examples", ROOT / "tests" / "corpus"
+PROGRAM, PAGE, EXAMPLES, CORPUS = (
+    ROOT / "gamefile",
+    ROOT / "page" / "out",
+    ROOT / "examples",
+    ROOT / "tests" / "corpus",
+)
 # Seconds until something has to be seen.
 PATIENCE = 60
 
@@ -56,7 +61,9 @@ class View:
         end = time.monotonic() + PATIENCE
         while not holds():
             if time.monotonic() > end:
-                raise TimeoutError(f"not seen; the page says {self.text('#verdict')!r}, {self.text('#view')!r:.300}")
+                raise TimeoutError(
+                    f"not seen; the page says {self.text('#verdict')!r}, {self.text('#view')!r:.300}"
+                )
             time.sleep(0.02)
 
     def is_calm(self):
@@ -74,7 +81,11 @@ class View:
         return before
 
     def button(self, words, within=""):
-        found = [it for it in self.all(f"{within} button") if words in (" ".join(it.text.split()), it.get_attribute("aria-label"))]
+        found = [
+            it
+            for it in self.all(f"{within} button")
+            if words in (" ".join(it.text.split()), it.get_attribute("aria-label"))
+        ]
         assert found, f"no button {words!r} among {[it.text for it in self.all('button')]}"
         return found[0]
 
@@ -123,7 +134,9 @@ class View:
         return self.driver.execute_cdp_cmd(name, words)
 
     def set_size(self, width, height=900):
-        self.command("Emulation.setDeviceMetricsOverride", width=width, height=height, deviceScaleFactor=1, mobile=False)
+        self.command(
+            "Emulation.setDeviceMetricsOverride", width=width, height=height, deviceScaleFactor=1, mobile=False
+        )
 
     def set_scheme(self, scheme):
         self.command("Emulation.setEmulatedMedia", features=[{"name": "prefers-color-scheme", "value": scheme}])
