@@ -96,6 +96,7 @@ class Folding {
 
     openAll() {
         this.closed.clear();
+        this.wider.clear();
         if (this.tree.count > MOST_ITEMS) this.openFrom(0, MOST_ITEMS);
         else this.most = Infinity;
     }

@@ -227,8 +227,20 @@ def fit(view):
                 view.choose("#other", "selten-horse.efg" if scheme == "dark" else POKER.name)
             has_picture = words in ("Picture", "Compare")
             look(view, f"{words}, {scheme}, {width}", {"text", "line", "mark"} if has_picture else {"text"})
+        view.open(view.made("seven.efg", seven_players()))
+        for words in "Picture", "Strategic form":
+            view.tab(words)
+            look(view, f"{words} of seven players, {scheme}, {width}", {"text"})
     view.set_size(1400)
     view.set_scheme("light")
+
+
+def seven_players():
+    """Gives a tree in which each of seven players has a move."""
+    numbers = range(1, 8)
+    players = " ".join(f'"P{it}"' for it in numbers)
+    moves = "".join(f'p "" {it} 1 "" {{ "stop" "go" }} 0 t "" {it} "" {{ 1 2 3 4 5 6 7 }} ' for it in numbers)
+    return f'EFG 2 R "seven" {{ {players} }} {moves} t "" 0'
 
 
 def look(view, name, wanted):

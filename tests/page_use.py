@@ -69,6 +69,8 @@ def fold_large(view):
     view.do("document.querySelector('.mark.more').scrollIntoView()")
     view.one(".mark.more").click()
     judge("more of its children", nodes(view) == 82, nodes(view))
+    view.press("Open all", "#view")
+    judge("all of its children", nodes(view) == 1001, nodes(view))
 
 
 # Large files --------------------------------------------------------------------------------------------
@@ -107,6 +109,16 @@ def answer_meanwhile(view):
     judge("its canonical text", view.saved("large-canonical.nfg") == program("canon", file))
 
 
+COUNT_STOPS = """
+    const { prototype } = gamefile.Engine, { stop } = prototype;
+    window.stops = 0;
+    prototype.stop = function () {
+        window.stops++;
+        stop.call(this);
+    };
+"""
+
+
 def stop(view):
     """What takes long can be stopped, and asked for again."""
     file = view.made("large.nfg", large_table())
@@ -119,8 +131,10 @@ def stop(view):
         "menu.dispatchEvent(new Event('change'))"
     )
     view.until(lambda: view.one("#stop").is_displayed())
+    view.do(COUNT_STOPS)
     view.one("#stop").click()
     view.calm()
+    judge("the engine is stopped", view.do("return window.stops") == 1, view.do("return window.stops"))
     judge("a call that is stopped", view.text("#view .bad") == "Stopped.", view.text("#view"))
     view.press("Try again", "#view")
     judge("and asked for again", "the same game but for names" in view.text(".answer"), view.text(".answer"))
@@ -275,6 +289,10 @@ TRY_ALL = """
     };
     image.src = 'data:image/gif;base64,R0lGODlhAQABAAAAACwAAAAAAQABAAA=';
 """
+POLICY = {
+    *("default-src 'none'", "connect-src 'none'", "base-uri 'none'", "form-action 'none'"),
+    *("script-src 'self' 'wasm-unsafe-eval'", "style-src 'self'", "worker-src blob:"),
+}
 MARKUP = re.compile(r"innerHTML|outerHTML|insertAdjacentHTML|document\.write|\beval\(|new Function")
 
 
@@ -282,6 +300,8 @@ def stay_apart(view):
     """The page may connect to nothing, and run no script that is not its own; and it makes no markup of texts."""
     seen = view.driver.execute_async_script(TRY_ALL)
     judge("what the policy refuses", seen == ["refused", "refused"], seen)
+    policy = view.one("meta[http-equiv]").get_attribute("content").split("; ")
+    judge("the policy", set(policy) == POLICY, policy)
     # What was refused is in the log.
     browser.complaints(view.driver)
     for file in sorted(PAGE.glob("*.js")):

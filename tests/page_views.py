@@ -102,6 +102,11 @@ def show_pictures(view):
     view.open(CORPUS / "numbers-at-their-bounds.efg")
     cut = view.do(CUT)
     judge("words that are cut have all in a title", len(cut) > 3 and not any("…" in it for it in cut), cut)
+    players = " ".join(f'"P{it}"' for it in range(60))
+    view.open(view.made("sixty.efg", f'EFG 2 R "" {{ {players} }} t "" 1 "" {{ {" ".join(["100"] * 60)} }}'))
+    judge("payoffs of many players are cut", view.text(".node text").endswith("…"), view.text(".node text"))
+    width = view.do("return document.querySelector('.picture').viewBox.baseVal.width")
+    judge("a picture of many players", width < 900, width)
     view.press("kuhn-poker.efg tree", "#files")
     dashes = view.do(DASHES)
     crossing = [(a, b) for a, b in itertools.combinations(dashes, 2) if a[1] < b[2] and b[1] < a[2]]
