@@ -25,6 +25,7 @@ impl Model for Line {
 }
 
 impl Line {
+    // No edit: it puts parts together.
     pub fn new() -> Line
         ensures { result ≡ [] }
     {
@@ -34,12 +35,14 @@ impl Line {
         }
     }
 
+    // No edit: it returns a part.
     pub fn as_slice(&self) -> &[u8]
         ensures { result.now ≡ self.now }
     {
         &self.bytes[..self.len]
     }
 
+    // No edit: `refusal_line` calls it and has one.
     pub fn push(&mut self, part: &[u8])
         requires { length self.old + length part.now ≤ ROOM }
         ensures text { self.new ≡ self.old ++ part.now }
@@ -50,6 +53,7 @@ impl Line {
         self.len = end;
     }
 
+    // No edit: `refusal_line` calls it and has one.
     pub fn push_number(&mut self, number: usize)
         requires { length self.old + 20 ≤ ROOM }
         ensures text { self.new ≡ self.old ++ decimal number }

@@ -28,12 +28,14 @@ impl Model for ShownText {
 }
 
 impl ShownText {
+    // No clause: nothing is said of what is shown.
     pub fn new(alloc: Global) -> ShownText {
         ShownText {
             text: String::new(alloc),
         }
     }
 
+    // No edit: it returns a part.
     pub fn as_bytes(&self) -> &[u8]
         ensures value { result.now ≡ self.now }
         ensures shown { IsShown self.now }
@@ -42,11 +44,13 @@ impl ShownText {
     }
 
     /// Appends what is shown of a character.
+    // No clause: nothing is said of what is shown.
     pub fn push(&mut self, character: char) -> Result<(), AllocError> {
         self.text.push(shown(character))
     }
 
     /// Ends a line.
+    // No clause: nothing is said of what is shown.
     pub fn end_line(&mut self) -> Result<(), AllocError> {
         self.text.push('\n')
     }
@@ -140,6 +144,7 @@ pub fn push_part(text: &mut ShownText, part: Part<'_>) -> Result<(), AllocError>
 }
 
 /// Appends a line of these parts.
+// No clause: nothing is said of what is shown.
 pub fn push_line(text: &mut ShownText, parts: &[Part<'_>]) -> Result<(), AllocError> {
     for part in parts {
         push_part(text, *part)?;

@@ -86,6 +86,7 @@ fn push_refusal(text: &mut ShownText, fault: &Fault, bytes: &[u8]) -> Result<(),
 }
 
 /// A line, and after it what is shown.
+// No edit: it puts parts together.
 pub fn said_after(alloc: Global, line: &[u8], text: &ShownText) -> Result<Vec<u8>, AllocError>
     ensures { IfOk result (λ said. IsSaidAfter line.now said.items) }
 {
@@ -119,6 +120,7 @@ pub fn refusal_explanation(
 /// # Errors
 ///
 /// `AllocError` if memory runs out.
+// No edit: it passes on `said_after`.
 pub fn form_explanation(alloc: Global, fault: &FormFault) -> Result<Vec<u8>, AllocError>
     ensures { IfOk result (λ text. IsSaidAfter (form_text fault.now) text.items) }
 {
