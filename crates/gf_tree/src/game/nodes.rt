@@ -1,6 +1,6 @@
 //! The nodes of a game in prefix order.
 
-ghost use Rattle.std.specs.Prelude.{◌≡◌, Some, length, map};
+ghost use Rattle.std.specs.Prelude.{◌≡◌, IfSome, Some, length, map};
 
 use crate::game::Game;
 use crate::game::node::Node;
@@ -30,7 +30,8 @@ impl<'g, 'a> Nodes<'g, 'a> {
 }
 
 impl<'g, 'a> Iterator for Nodes<'g, 'a> {
-    ghost use Rattle.std.specs.Iterator.{YieldsFirstBy, item_count};
+    ghost use Rattle.std.specs.Iterator.{UpTo, YieldsFirstBy, item_count};
+    ghost use Rattle.std.specs.Iterator.SizeHint.{IsWithinCount};
     ghost use Rattle.gf_tree.specs.NodeOf.{node_of};
     ghost use Rattle.gf_tree.specs.NodesLeft.{nodes_left};
 
@@ -52,7 +53,9 @@ impl<'g, 'a> Iterator for Nodes<'g, 'a> {
     }
 
     fn size_hint(&self) -> (usize, Option<usize>)
-        ensures { result ≡ (length (nodes_left self.now), Some (length (nodes_left self.now))) }
+        ensures lower { IsWithinCount result.0 (item_count nodes_left self.now) }
+        ensures upper { IfSome result.1 (UpTo (item_count nodes_left self.now)) }
+        ensures exact { result ≡ (length (nodes_left self.now), Some (length (nodes_left self.now))) }
     {
         let left = self.len();
         (left, Some(left))
