@@ -332,11 +332,19 @@ def move_beside_opposites(actions, payoff):
     return tree.game(relevant=True)
 
 
-def penalties(row, column, count):
-    """Two penalties, whose sizes together do not fit."""
-    if row == column < 2:
-        return 99 + row, -(10**38), -(10**38)
-    return few_outcomes(row, column, count)
+def matrix_beside_penalties(count, penalty):
+    """A toss over two moves with many actions, the second at one set, and two penalties. If these are large, their
+    sizes together do not fit, although each row does."""
+    tree = Tree(2)
+    tree.toss(1, ["1/2", "1/4", "1/4"])
+    tree.move(1, 1, count)
+    for row in range(count):
+        tree.move(2, 1, count)
+        for column in range(count):
+            tree.end(*few_outcomes(row, column, count))
+    for number in (98, 99):
+        tree.end(number, penalty, number)
+    return tree.game(relevant=True)
 
 
 def sets_never_met(sets, count, payoff):
@@ -401,7 +409,10 @@ SHAPES = {
         partial(move_beside_opposites, 2**16, LARGEST),
         partial(move_beside_opposites, 2**16, 7),
     ),
-    "penalties": (partial(matrix, 1000, penalties), partial(matrix, 1000, few_outcomes)),
+    "a matrix beside penalties": (
+        partial(matrix_beside_penalties, 700, -(10**38)),
+        partial(matrix_beside_penalties, 700, -7),
+    ),
     "sets that are never met": (
         partial(sets_never_met, 13, 300_000, LARGEST),
         partial(sets_never_met, 13, 300_000, 7),
