@@ -2,7 +2,7 @@
 import itertools
 import random
 from fractions import Fraction
-from functools import partial
+from functools import cache, partial
 
 from .games import Answer, table_text
 from .shapes import SEED, SOME_ROWS, sets_below, side_by_side
@@ -199,6 +199,55 @@ def visits_again(sets, actions, times, collide):
         tree.end()
     labels = ["-".join([*["1"] * sets, str(action)]) for action in range(1, actions + 1)]
     form = Answer(table_text("s", tree.players, [labels], "0\n" * actions).encode())
+    return tree.game(form, without=["table"], relevant=True)
+
+
+def move_beside_chains(actions, sets, count, times, slow=True):
+    """A toss over a move with many actions and some sets to which chance may bring play. After each way to choose at
+    some of these stands a chain of sets of one action. The set of the move is the first one or, if it isn't slow,
+    the last."""
+    rng, tree = random.Random(SEED), Tree(1)
+    tree.toss(1, ["1/2", "1/2"])
+
+    def move():
+        tree.move(1, 0, actions)
+        for _ in range(actions):
+            tree.end()
+
+    if slow:
+        move()
+    chains, due = [], [(1, {}, False)]
+    while due:
+        number, chosen, moves = due.pop()
+        if moves:
+            tree.move(1, number)
+            due += [(number + 1, {**chosen, (1, number): action}, False) for action in (2, 1)]
+        elif number <= sets:
+            tree.toss(1)
+            due += [(number + 1, chosen, False), (number, chosen, True)]
+        else:
+            chain = sorted(rng.sample(range(sets + 1, sets + count + 1), times)) if chosen else []
+            chains.append((chosen, {(1, at) for at in chain}))
+            for at in chain:
+                tree.move(1, at, 1)
+            tree.end()
+    if not slow:
+        move()
+    # Chance can bring play to each set of several actions, whatever is chosen.
+    always = {(1, number) for number in range(sets + 1)}
+
+    @cache
+    def met(*choices):
+        """The sets of one action that are met after these choices at the sets."""
+        made = dict(zip(sorted(always)[1:], choices))
+        return always.union(*(chain for chosen, chain in chains if chosen.items() <= made.items()))
+
+    labels, owned = [], tree.owned[1][1]
+    for strategy in tree.actions(1):
+        made = dict(zip(owned, strategy))
+        seen = met(*(made[1, number] for number in range(1, sets + 1)))
+        labels.append("-".join(str(action) if key in seen else "*" for key, action in made.items()))
+    form = Answer(table_text("s", tree.players, [labels], "0\n" * len(labels)).encode())
     return tree.game(form, without=["table"], relevant=True)
 
 

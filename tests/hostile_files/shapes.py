@@ -318,6 +318,55 @@ def paid_at_the_root(sets, payoff):
     return tree.game(relevant=True)
 
 
+def move_beside_opposites(actions, payoff):
+    """A toss over a move with many actions and a toss for a payoff and its opposite: if it is large, the sizes of
+    what is added to a row do not fit, although each row does."""
+    tree = Tree(1)
+    tree.toss(1, ["1/2", "1/2"])
+    tree.move(1, 1, actions)
+    for _ in range(actions):
+        tree.end(1, 1)
+    tree.toss(1)
+    tree.end(2, payoff)
+    tree.end(3, -payoff)
+    return tree.game(relevant=True)
+
+
+def matrix_beside_penalties(count, penalty):
+    """A toss over two moves with many actions, the second at one set, and two penalties. If these are large, their
+    sizes together do not fit, although each row does."""
+    tree = Tree(2)
+    tree.toss(1, ["1/2", "1/4", "1/4"])
+    tree.move(1, 1, count)
+    for row in range(count):
+        tree.move(2, 1, count)
+        for column in range(count):
+            tree.end(*few_outcomes(row, column, count))
+    for number in (98, 99):
+        tree.end(number, penalty, number)
+    return tree.game(relevant=True)
+
+
+def sets_never_met(sets, count, payoff):
+    """A toss over some sets that pays this itself. Many sets of one action come only after two choices that exclude
+    each other."""
+    tree = Tree(2)
+    tree.pays(1, payoff, 0)
+    tree.toss(1, [Fraction(1, sets)] * sets, 1)
+    tree.move(1, 1)
+    tree.move(1, 1)
+    tree.end(2, -sets, 1)
+    for number in range(1, count + 1):
+        tree.move(2, number, 1)
+    tree.end()
+    tree.end()
+    for number in range(2, sets + 1):
+        tree.move(1, number)
+        tree.end(2)
+        tree.end()
+    return tree.game(relevant=True)
+
+
 MOST_ROWS = partial(side_by_side, 20)
 LONG_PAYOFFS = partial(payoffs_over, 10**36 + 67, 10)
 SOME_ROWS = partial(side_by_side, 12)
@@ -356,6 +405,18 @@ SHAPES = {
     "overflow at half of them": (partial(overflow_at_half, 20), MOST_ROWS),
     "a deep payoff": (partial(deep_payoff, 14), partial(side_by_side, 14)),
     "the largest payoffs of two": (partial(largest_payoffs_of_two, 14), partial(side_by_side, 14)),
+    "a move beside opposites": (
+        partial(move_beside_opposites, 2**16, LARGEST),
+        partial(move_beside_opposites, 2**16, 7),
+    ),
+    "a matrix beside penalties": (
+        partial(matrix_beside_penalties, 700, -(10**38)),
+        partial(matrix_beside_penalties, 700, -7),
+    ),
+    "sets that are never met": (
+        partial(sets_never_met, 13, 300_000, LARGEST),
+        partial(sets_never_met, 13, 300_000, 7),
+    ),
     "many demands beside a move": (partial(move_beside, 256, 12), MOST_ROWS),
     "many demands beside sets": (partial(slow_sets_beside, 8, 12), MOST_ROWS),
     "a golden payoff": (

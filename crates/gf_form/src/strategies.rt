@@ -4,6 +4,5 @@ pub(crate) mod counts;
 pub(crate) mod label_text;
 pub(crate) mod labels;
 pub(crate) mod numbered;
-pub(crate) mod profile;
 pub(crate) mod profile_numbers;
 pub(crate) mod valid;

@@ -2,6 +2,7 @@ pub mod Alike
 pub mod BottomUp
 pub mod Denominators
 pub mod Following
+pub mod NodesListed
 pub mod PaidRows
 pub mod RowSums
 pub mod ValuesComputed

@@ -1,3 +1,5 @@
+pub mod ChoicesGiven
+pub mod NodeLists
 pub mod PaidRows
 pub mod Rows
 pub mod ValueLeft

@@ -10,8 +10,8 @@ ghost use Rattle.gf_form.specs.inner.rows.Descents.{step_at, stop_at, stops, sto
 ghost use Rattle.gf_form.specs.inner.rows.Descents.{stops_left, turns, turns_left};
 
 use crate::rows::digits::demanded;
+use crate::values::choices::at_set;
 use crate::values::positions::at;
-use crate::values::walk::at_set;
 use gf_tree::{Branch, Branches, Game};
 use std::alloc::{AllocError, Global};
 

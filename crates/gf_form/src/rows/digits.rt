@@ -1,15 +1,18 @@
 //! Sets at which a player has a choice, as the digits of a number: 0 if any action will do, and
 //! otherwise the action's position.
 
-ghost use Rattle.std.specs.Prelude.{◌≡◌, ◌≤◌, ◌^◌, ◌++◌, ◌∷◌, ℕ, List, IfOk, IfSome, MatchOption};
+ghost use Rattle.std.specs.Prelude.{◌≡◌, ◌<◌, ◌≤◌, ◌^◌, ◌++◌, ◌∷◌, ℕ, List, IfOk, MatchOption};
+ghost use Rattle.std.specs.Prelude.{length};
 ghost use Rattle.gf_tree.specs.Game.{Game};
-ghost use Rattle.gf_tree.specs.IsGame.{IsGame};
 ghost use Rattle.gf_form.specs.inner.strategies.Counted.{AreCounts};
 ghost use Rattle.gf_form.specs.inner.rows.DigitSteps.{steps_after, width};
 ghost use Rattle.gf_form.specs.inner.rows.GameDigits.{AreDigitsOf, HasDigits};
 ghost use Rattle.gf_form.specs.inner.rows.Descents.{demanded};
+ghost use Rattle.gf_form.specs.inner.values.ChoicesGiven.{AreOfProfile};
+ghost use Rattle.gf_form.specs.Strategies.{full_profiles};
 
 use crate::strategies::counts::Counts;
+use crate::values::choices::ProfileChoices;
 use std::alloc::{AllocError, Global};
 
 /// A digit: a set of a player who has several actions there.
@@ -102,24 +105,51 @@ pub(crate) struct Digits {
     pub steps: Vec<Vec<u64>>,
     /// From the slowest on.
     pub digits: Vec<Digit>,
+    /// How many profiles there are.
+    pub profiles: u32,
 }
 
 impl Digits {
-    /// The digits of a game with this many actions; `None` if they have too many values together.
-    pub(crate) fn new(alloc: Global, counts: &Counts) -> Result<Option<Digits>, AllocError>
-        ensures { IfOk result (λ made. IfSome made (λ digits. (g : Game) → IsGame g
-            → AreCounts g counts.now → HasDigits g digits)) }
+    /// The digits of a game with this many actions.
+    pub(crate) fn new(alloc: Global, counts: &Counts) -> Result<Digits, AllocError>
+        requires { (g : Game) × AreCounts g counts.now }
+        ensures { IfOk result (λ digits. (g : Game) → AreCounts g counts.now
+            → HasDigits g digits) }
     {
         let mut steps = Vec::with_capacity(alloc, counts.actions.len())?;
         let mut digits = Vec::new(alloc);
         let mut values = 1;
         for own in &counts.actions {
-            let Some((own_steps, more)) = put_digits(alloc, own, values, &mut digits)? else {
-                return Ok(None);
-            };
+            let (own_steps, more) = put_digits(alloc, own, values, &mut digits)?.unwrap();
             values = more;
             steps.push(own_steps)?;
         }
-        Ok(Some(Digits { steps, digits }))
+        Ok(Digits {
+            steps,
+            digits,
+            profiles: counts.profiles.count,
+        })
+    }
+
+    /// The choices of the profile with this number, from 0.
+    pub(crate) fn profile(&self, number: u32) -> ProfileChoices<'_>
+        requires { (g : Game) × HasDigits g self.now × (number < length (full_profiles g)) }
+        ensures number { result.number ≡ number }
+        ensures choices { (g : Game) → HasDigits g self.now → number < length (full_profiles g)
+            → AreOfProfile g result }
+    {
+        let mut demands = 0;
+        let mut stride = self.profiles;
+        let mut rest = number;
+        for digit in &self.digits {
+            stride /= digit.actions;
+            demands += u64::from(rest / stride + 1) * digit.step;
+            rest %= stride;
+        }
+        ProfileChoices {
+            number,
+            digits: self,
+            demands,
+        }
     }
 }

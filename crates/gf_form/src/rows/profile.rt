@@ -54,18 +54,15 @@ pub(crate) fn profile_rows(
     let profiles = numbers.len() as u32;
     let players = game.players().len();
     let payoffs = Payoffs::new(alloc, game)?;
+    let digits = Digits::new(alloc, counts)?;
     let asked = Asked {
         game,
-        counts,
+        digits: &digits,
         payoffs: &payoffs,
         numbers,
         are_places: are_places(numbers),
     };
-    let mut written = Written::new(alloc, counts, profiles, players)?;
-    let Some(digits) = Digits::new(alloc, counts)? else {
-        written.push_all_walked(&asked, 0, profiles)?;
-        return Ok(written.rows);
-    };
+    let mut written = Written::new(alloc, profiles, players)?;
     let listed = game_terms(alloc, game, &digits, &payoffs)?;
     let terms = listed.paying(alloc)?;
     let run = Run {

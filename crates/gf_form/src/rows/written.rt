@@ -2,27 +2,26 @@
 
 ghost use Rattle.std.specs.Prelude.{◌≡◌, ◌+◌, ◌/◌, ◌<◌, ◌≤◌, [], ◌∷◌, ℕ, List, IfOk};
 ghost use Rattle.std.specs.Prelude.{IfSome, IsErrOf, OnOk};
-ghost use Rattle.std.specs.Prelude.{get_or, length, map, true};
+ghost use Rattle.std.specs.Prelude.{None, get_or, length, true};
 ghost use Rattle.gf_form.specs.inner.rows.TermLists.{AreWithin};
-ghost use Rattle.gf_form.specs.inner.values.PaidRows.{rows_of};
+ghost use Rattle.gf_form.specs.inner.values.NodeLists.{AreNodesOf};
 ghost use Rattle.gf_form.specs.Refusal.{HasValues};
-ghost use Rattle.gf_form.specs.inner.values.Rows.{ArePaid};
 ghost use Rattle.gf_form.specs.inner.rows.Pairs.{IsPaidPair};
 ghost use Rattle.gf_form.specs.inner.rows.SettledRows.{AreDue, AreTermsFor, AreWritten};
 ghost use Rattle.gf_form.specs.inner.rows.SettledRows.{IsAsked, IsRightlyRefused, SettleBy};
 ghost use Rattle.gf_form.specs.inner.rows.SettledRows.{SettleRows};
 ghost use Rattle.gf_form.specs.StrategicForm.{ArePayoffsAt};
-ghost use Rattle.gf_form.specs.Strategies.{full_profiles, strategies_at};
+ghost use Rattle.gf_form.specs.Strategies.{full_profiles};
 
 use crate::fault::{EvalFault, FormFault};
 use crate::rows::chosen::Chosen;
-use crate::rows::digits::Digit;
+use crate::rows::digits::{Digit, Digits};
 use crate::rows::pairs::Pair;
 use crate::rows::spare::SpareTerms;
 use crate::rows::terms::{Terms, push_few};
-use crate::strategies::counts::Counts;
-use crate::strategies::profile::{no_actions, write_strategies};
+use crate::values::choices::Choices;
 use crate::values::expectation::expected_with;
+use crate::values::nodes::Nodes;
 use crate::values::payoffs::Payoffs;
 use crate::values::spare::SpareRows;
 use gf_fraction::{Fraction, SharedDenominator};
@@ -32,8 +31,8 @@ use std::alloc::{AllocError, Global};
 /// Profiles of a game.
 #[derive(Drop)]
 pub(crate) struct Asked<'q, 'g, 'a> {
-    pub game: &'q Game<'a>,
-    pub counts: &'q Counts,
+    pub game: &'g Game<'a>,
+    pub digits: &'q Digits,
     pub payoffs: &'q Payoffs<'g>,
     /// The number of each profile among all, from 0.
     pub numbers: &'q [u32],
@@ -54,11 +53,11 @@ pub(crate) struct Run {
 
 /// The rows so far, and what is kept for those that are worked out by a walk.
 #[derive(Drop)]
-pub(crate) struct Written {
+pub(crate) struct Written<'g, 'a> {
     pub alloc: Global,
     pub rows: Vec<Fraction>,
-    /// The strategies of the last profile with a walk.
-    pub strategies: Vec<Vec<u32>>,
+    /// The nodes of the game, from the first walk on.
+    pub nodes: Option<Nodes<'g, 'a>>,
     pub spare_rows: SpareRows,
     /// The denominator of the last pair.
     pub shared: SharedDenominator,
@@ -66,27 +65,25 @@ pub(crate) struct Written {
 }
 
 /// What each player is paid at the profile with this number, from 0, by a walk through the tree.
-/// The strategies are those of the profile.
-fn row_by_walk(
+fn row_by_walk<'g, 'a>(
     alloc: Global,
-    game: &Game<'_>,
-    payoffs: &Payoffs<'_>,
+    asked: &Asked<'_, 'g, 'a>,
+    nodes: &Nodes<'g, 'a>,
     profile: u32,
-    strategies: &[Vec<u32>],
     spare: &mut SpareRows,
 ) -> Result<Vec<Fraction>, EvalFault>
-    requires within { profile < length (full_profiles game.now) }
-    requires payoffs { ArePaid game.now (rows_of payoffs.now) }
-    requires strategies { map (λ own. own.items) strategies.now
-        ≡ strategies_at game.now (get_or (full_profiles game.now) profile []) }
-    ensures payoffs { IfOk result (λ row. ArePayoffsAt game.now
-        (get_or (full_profiles game.now) profile []) row.items) }
-    ensures values { OnOk result
-        (HasValues game.now (get_or (full_profiles game.now) profile [])) }
-    ensures overflow { IsErrOf result EvalFault.Overflow
-        → ¬ (HasValues game.now (get_or (full_profiles game.now) profile [])) }
+    requires asked { IsAsked asked.now }
+    requires nodes { AreNodesOf asked.now.game.now nodes.now }
+    requires within { profile < length (full_profiles asked.now.game.now) }
+    ensures payoffs { IfOk result (λ row. ArePayoffsAt asked.now.game.now
+        (get_or (full_profiles asked.now.game.now) profile []) row.items) }
+    ensures values { OnOk result (HasValues asked.now.game.now
+        (get_or (full_profiles asked.now.game.now) profile [])) }
+    ensures overflow { IsErrOf result EvalFault.Overflow → ¬ (HasValues asked.now.game.now
+        (get_or (full_profiles asked.now.game.now) profile [])) }
 {
-    expected_with(alloc, game, payoffs, strategies, spare)
+    let choices = Choices::OfProfile(asked.digits.profile(profile));
+    expected_with(alloc, asked.game, asked.payoffs, nodes, choices, spare)
 }
 
 impl Asked<'_, '_, '_> {
@@ -102,32 +99,42 @@ impl Asked<'_, '_, '_> {
     }
 }
 
-impl Written {
+impl<'g, 'a> Written<'g, 'a> {
     /// No rows yet, and room for those of this many profiles.
     pub(crate) fn new(
         alloc: Global,
-        counts: &Counts,
         profiles: u32,
         players: usize,
-    ) -> Result<Written, AllocError>
+    ) -> Result<Written<'g, 'a>, AllocError>
         requires { players ≤ 4294967295 }
         ensures rows { IfOk result (λ written. written.rows.items ≡ []) }
-        ensures strategies { IfOk result (λ written.
-            length written.strategies.items ≡ length counts.now.actions.items) }
+        ensures nodes { IfOk result (λ written. written.nodes ≡ None) }
     {
         Ok(Written {
             alloc,
             rows: Vec::with_capacity(alloc, profiles as usize * players)?,
-            strategies: no_actions(alloc, counts.actions.len())?,
+            nodes: None,
             spare_rows: SpareRows::new(alloc),
             shared: SharedDenominator::new(1),
             spare: SpareTerms::new(alloc),
         })
     }
 
+    /// Takes the list of the game's nodes, which is made for the first walk.
+    fn take_nodes(&mut self, game: &'g Game<'a>) -> Result<Nodes<'g, 'a>, AllocError>
+        requires { IfSome self.old.nodes (AreNodesOf game.now) }
+        ensures nodes { IfOk result (AreNodesOf game.entry.now) }
+        ensures rows { self.new.rows ≡ self.old.rows }
+    {
+        match self.nodes.take() {
+            Some(nodes) => Ok(nodes),
+            None => Nodes::new(self.alloc, game),
+        }
+    }
+
     /// Appends the row of the profile at this place, from 0, by a walk.
     #[inline(never)]
-    fn push_walked(&mut self, asked: &Asked<'_, '_, '_>, before: u32) -> Result<(), FormFault>
+    fn push_walked(&mut self, asked: &Asked<'_, 'g, 'a>, before: u32) -> Result<(), FormFault>
         requires asked { IsAsked asked.now }
         requires within { before < length asked.now.numbers.now }
         requires written { AreWritten asked.now before self.old }
@@ -135,16 +142,10 @@ impl Written {
         ensures refused { IsRightlyRefused asked.now result }
     {
         let number = asked.numbers[before as usize];
-        write_strategies(asked.counts, number, &mut self.strategies)?;
-        match row_by_walk(
-            self.alloc,
-            asked.game,
-            asked.payoffs,
-            number,
-            &self.strategies,
-            &mut self.spare_rows,
-        ) {
+        let nodes = self.take_nodes(asked.game)?;
+        match row_by_walk(self.alloc, asked, &nodes, number, &mut self.spare_rows) {
             Ok(row) => {
+                self.nodes = Some(nodes);
                 self.rows.extend_from_slice(&row)?;
                 self.spare_rows.give_back(row)?;
                 Ok(())
@@ -159,7 +160,7 @@ impl Written {
     /// Appends the rows of the profiles from one place up to another, each by a walk.
     pub(crate) fn push_all_walked(
         &mut self,
-        asked: &Asked<'_, '_, '_>,
+        asked: &Asked<'_, 'g, 'a>,
         from: u32,
         to: u32,
     ) -> Result<(), FormFault>
@@ -181,7 +182,7 @@ impl Written {
     #[inline(always)]
     fn push_row(
         &mut self,
-        asked: &Asked<'_, '_, '_>,
+        asked: &Asked<'_, 'g, 'a>,
         pair: Option<Pair<'_>>,
         players: usize,
         before: u32,
@@ -207,7 +208,7 @@ impl Written {
     /// one, which is worked out once.
     fn push_alike(
         &mut self,
-        asked: &Asked<'_, '_, '_>,
+        asked: &Asked<'_, 'g, 'a>,
         terms: &Terms,
         run: Run,
     ) -> Result<(), FormFault>
@@ -242,7 +243,7 @@ impl Written {
     /// digit.
     fn push_last(
         &mut self,
-        asked: &Asked<'_, '_, '_>,
+        asked: &Asked<'_, 'g, 'a>,
         terms: &Terms,
         run: Run,
     ) -> Result<(), FormFault>
@@ -267,7 +268,7 @@ impl Written {
     #[cycle(rows)]
     pub(crate) fn push_rows(
         &mut self,
-        asked: &Asked<'_, '_, '_>,
+        asked: &Asked<'_, 'g, 'a>,
         terms: &Terms,
         digits: &[Digit],
         run: Run,
@@ -300,7 +301,7 @@ impl Written {
     #[inline(never)]
     fn push_summed(
         &mut self,
-        asked: &Asked<'_, '_, '_>,
+        asked: &Asked<'_, 'g, 'a>,
         terms: &Terms,
         slowest: Digit,
         faster: &[Digit],
@@ -320,7 +321,7 @@ impl Written {
     #[inline(always)]
     fn push_each(
         &mut self,
-        asked: &Asked<'_, '_, '_>,
+        asked: &Asked<'_, 'g, 'a>,
         terms: &Terms,
         slowest: Digit,
         faster: &[Digit],

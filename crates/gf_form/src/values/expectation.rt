@@ -1,7 +1,8 @@
 //! The payoffs if the players choose these actions.
 
 ghost use Rattle.std.specs.Prelude.{◌≤◌, IfOk, IsErrOf, OnOk, map};
-ghost use Rattle.std.specs.List.{AllZip};
+ghost use Rattle.gf_form.specs.inner.values.ChoicesGiven.{AreChoices, chosen_by};
+ghost use Rattle.gf_form.specs.inner.values.NodeLists.{AreNodesOf};
 ghost use Rattle.gf_form.specs.inner.values.PaidRows.{rows_of};
 ghost use Rattle.gf_form.specs.Refusal.{HasValuesWith};
 ghost use Rattle.gf_form.specs.inner.values.Rows.{ArePaid};
@@ -10,6 +11,8 @@ ghost use Rattle.gf_form.specs.Strategies.{AreStrategies, choices_by};
 
 use crate::fault::EvalFault;
 use crate::rows::write_out;
+use crate::values::choices::Choices;
+use crate::values::nodes::Nodes;
 use crate::values::payoffs::Payoffs;
 use crate::values::spare::SpareRows;
 use crate::values::walk::Walk;
@@ -17,24 +20,26 @@ use gf_fraction::Fraction;
 use gf_tree::Game;
 use std::alloc::Global;
 
-/// What `expected` returns, given the payoffs of the outcomes. The row uses the room of one of
-/// these values.
+/// What `expected` returns, given the payoffs of the outcomes and the nodes. The row uses the room
+/// of one of these values.
 #[tactic(auto, using(crate::proofs::lemmas::values::BottomUp::payoff_steps))]
-pub(crate) fn expected_with(
+pub(crate) fn expected_with<'g, 'a>(
     alloc: Global,
-    game: &Game<'_>,
-    payoffs: &Payoffs<'_>,
-    choices: &[Vec<u32>],
+    game: &'g Game<'a>,
+    payoffs: &Payoffs<'g>,
+    nodes: &Nodes<'g, 'a>,
+    choices: Choices<'_>,
     spare: &mut SpareRows,
 ) -> Result<Vec<Fraction>, EvalFault>
-    requires strategies { AreStrategies game.now (map (λ own. own.items) choices.now) }
+    requires choices { AreChoices game.now choices }
     requires payoffs { ArePaid game.now (rows_of payoffs.now) }
-    ensures payoffs { IfOk result (λ payoffs. ArePayoffs game.now
-        (choices_by game.now (map (λ own. own.items) choices.now)) payoffs.items) }
-    ensures values { OnOk result (HasValuesWith game.now
-        (choices_by game.now (map (λ own. own.items) choices.now))) }
-    ensures overflow { IsErrOf result EvalFault.Overflow → ¬ (HasValuesWith game.now
-        (choices_by game.now (map (λ own. own.items) choices.now))) }
+    requires nodes { AreNodesOf game.now nodes.now }
+    ensures payoffs { IfOk result
+        (λ row. ArePayoffs game.entry.now (chosen_by game.entry.now choices.entry) row.items) }
+    ensures values { OnOk result
+        (HasValuesWith game.entry.now (chosen_by game.entry.now choices.entry)) }
+    ensures overflow { IsErrOf result EvalFault.Overflow
+        → ¬ (HasValuesWith game.entry.now (chosen_by game.entry.now choices.entry)) }
 {
     let players = game.players().len();
     if players == 0 {
@@ -43,6 +48,7 @@ pub(crate) fn expected_with(
     let walk = Walk {
         game,
         payoffs,
+        nodes,
         choices,
     };
     let mut row = match walk.value(alloc, spare) {
@@ -81,6 +87,8 @@ pub fn expected(
 {
     let _players = game.players();
     let payoffs = Payoffs::new(alloc, game)?;
+    let nodes = Nodes::new(alloc, game)?;
     let mut spare = SpareRows::new(alloc);
-    expected_with(alloc, game, &payoffs, choices, &mut spare)
+    let given = Choices::Given(choices);
+    expected_with(alloc, game, &payoffs, &nodes, given, &mut spare)
 }

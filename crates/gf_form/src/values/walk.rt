@@ -1,47 +1,50 @@
 //! The bottom-up value of a tree. The tree is walked once, and only the nodes on the path are kept,
 //! each with the sum of the children that were left.
 
-ghost use Rattle.std.specs.Prelude.{◌≡◌, ◌<◌, ◌+◌, ◌*◌, ℕ, Some, IfOk, IsErrOf, length, map};
+ghost use Rattle.std.specs.Prelude.{◌≡◌, ◌<◌, ◌+◌, ◌*◌, ℕ, None, Some, IfOk, IsErrOf, MatchOption};
+ghost use Rattle.std.specs.Prelude.{length, slice_get};
 ghost use Rattle.gf_token.specs.Positions.{at_position};
 ghost use Rattle.gf_tree.specs.Branches.{game_of, tree_of};
+ghost use Rattle.gf_tree.specs.Description.{SetKey};
+ghost use Rattle.gf_tree.specs.IsGame.{IsGame};
+ghost use Rattle.gf_tree.specs.Movers.{IsMover};
 ghost use Rattle.gf_tree.specs.PrefixOrder.{flatten};
-ghost use Rattle.gf_form.specs.Strategies.{strategy_at};
-ghost use Rattle.gf_form.specs.inner.values.PaidRows.{rows_of};
-ghost use Rattle.gf_form.specs.inner.values.Rows.{ArePaid, IsRow, at_place};
-ghost use Rattle.gf_form.specs.inner.values.ValueLeft.{IsOpen, Gives, Lacks, branch_chances};
-ghost use Rattle.gf_form.specs.inner.values.ValueLeft.{open_size, open_value, tree_value};
-ghost use Rattle.gf_form.specs.inner.values.ValueLeft.{drawn_value, with_own};
+ghost use Rattle.gf_tree.specs.Subtrees.{child_trees};
+ghost use Rattle.gf_form.specs.inner.values.Rows.{IsRow, at_place};
+ghost use Rattle.gf_form.specs.inner.values.ValueLeft.{IsOpen, IsThere, IsWalk, Gives, Lacks};
+ghost use Rattle.gf_form.specs.inner.values.ValueLeft.{branch_chances, choices_of, drawn_value};
+ghost use Rattle.gf_form.specs.inner.values.ValueLeft.{node_there, open_size, open_value, tree_there};
+ghost use Rattle.gf_form.specs.inner.values.ValueLeft.{tree_value, with_own};
 
 use crate::fault::EvalFault;
 use crate::rows::{pay, weigh};
+use crate::values::choices::Choices;
+use crate::values::nodes::Nodes;
 use crate::values::payoffs::Payoffs;
 use crate::values::positions::at;
 use crate::values::spare::SpareRows;
 use gf_fraction::Fraction;
-use gf_tree::{Branch, Branches, Game};
+use gf_tree::{Branch, Game};
 use std::alloc::Global;
 
-/// A node on the path, whose value is not known yet.
+/// A node on the path, by its place in the list of nodes, whose value is not known yet.
 #[derive(Drop)]
-enum Open<'g, 'a> {
+enum Open {
     /// A player moves there: the node's payoffs are added to the value of the child that is chosen.
-    Choice(Branch<'g, 'a>),
-    /// Chance moves there: the children before come to this sum, and these are left.
+    Choice(usize),
+    /// Chance moves there: so many of its children, the first ones, come to this sum.
     Chance {
-        node: Branch<'g, 'a>,
-        rest: Branches<'g, 'a>,
+        node: usize,
+        given: usize,
         sum: Vec<Fraction>,
     },
 }
 
 /// What a walk does next.
 #[derive(Drop)]
-enum Next<'g, 'a> {
+enum Next {
     /// It goes into this child of a node that stays open.
-    Child {
-        node: Open<'g, 'a>,
-        child: Branch<'g, 'a>,
-    },
+    Child { node: Open, child: usize },
     /// It leaves a subtree, which has this value.
     Value(Vec<Fraction>),
 }
@@ -51,16 +54,8 @@ enum Next<'g, 'a> {
 pub(crate) struct Walk<'c, 'g, 'a> {
     pub game: &'g Game<'a>,
     pub payoffs: &'c Payoffs<'g>,
-    /// The action at each set of each player.
-    pub choices: &'c [Vec<u32>],
-}
-
-/// What is given for a set of a player, by the position of the set among his.
-#[tactic(auto, using(crate::proofs::lemmas::values::Walks::set_there))]
-pub(crate) fn at_set<T: Copy>(all: &[Vec<T>], player: u32, position: u32) -> Option<T>
-    ensures { result ≡ at_position (strategy_at (map (λ own. own.items) all.now) player) position }
-{
-    at(at(all, player as usize)?, position as usize).copied()
+    pub nodes: &'c Nodes<'g, 'a>,
+    pub choices: Choices<'c>,
 }
 
 /// The probability of the action at this position, or one if a player moves.
@@ -74,79 +69,123 @@ pub(crate) fn chance_of(node: &Branch<'_, '_>, position: usize) -> Fraction
     }
 }
 
-impl<'c, 'g, 'a> Walk<'c, 'g, 'a> {
+impl<'g, 'a> Walk<'_, 'g, 'a> {
+    /// The node at a place, with the branches below it.
+    fn branch(&self, node: usize) -> Branch<'g, 'a>
+        requires walk { IsWalk self.now }
+        requires there { IsThere self.now node }
+        ensures tree { tree_of result ≡ tree_there self.now node }
+        ensures game { game_of result ≡ self.now.game.now }
+    {
+        self.nodes.branch(node)
+    }
+
+    /// The child of a node after so many others. `None` if there is none.
+    fn child(&self, node: usize, before: usize) -> Option<usize>
+        requires walk { IsWalk self.now }
+        requires there { IsThere self.now node }
+        ensures { MatchOption result
+            (slice_get (child_trees (tree_there self.now node)) before ≡ None)
+            (λ child. IsThere self.now child
+            × (slice_get (child_trees (tree_there self.now node)) before
+            ≡ Some (tree_there self.now child))) }
+    {
+        self.nodes.child(node, before)
+    }
+
     /// The value of a node, if this comes from below.
     #[tactic(auto, using(crate::proofs::lemmas::values::PaidRows::own_is))]
-    fn close(
-        &self,
-        node: Branch<'g, 'a>,
-        mut below: Vec<Fraction>,
-    ) -> Result<Next<'g, 'a>, EvalFault>
-        requires paid { ArePaid self.now.game.now (rows_of self.now.payoffs.now) }
-        requires game { game_of node ≡ self.now.game.now }
+    fn close(&self, node: usize, mut below: Vec<Fraction>) -> Result<Next, EvalFault>
+        requires walk { IsWalk self.now }
+        requires there { IsThere self.now node }
         requires row { IsRow (length self.now.game.now.players) below.items }
         ensures gives { IfOk result (Gives self.now
-            (λ k. with_own self.now k node.entry (Some (at_place below.items k))) 2) }
+            (λ k. with_own self.now k node (Some (at_place below.items k))) 2) }
         ensures overflow { IsErrOf result EvalFault.Overflow → Lacks self.now
-            (λ k. with_own self.now k node.entry (Some (at_place below.items k))) }
+            (λ k. with_own self.now k node (Some (at_place below.items k))) }
     {
-        match pay(self.payoffs.at(node.outcome_position()), &mut below) {
+        let branch = self.branch(node);
+        match pay(self.payoffs.at(branch.outcome_position()), &mut below) {
             Ok(()) => Ok(Next::Value(below)),
             Err(fault) => Err(fault),
         }
     }
 
     /// Goes on at a node of chance: into the next child, or with its value after the last one.
-    fn draw(
-        &self,
-        node: Branch<'g, 'a>,
-        mut rest: Branches<'g, 'a>,
-        sum: Vec<Fraction>,
-    ) -> Result<Next<'g, 'a>, EvalFault>
-        requires paid { ArePaid self.now.game.now (rows_of self.now.payoffs.now) }
-        requires is_open { IsOpen self.now (Open.Chance node rest sum) }
+    #[tactic(auto, using(crate::proofs::lemmas::values::Walks::draw_steps))]
+    fn draw(&self, node: usize, given: usize, sum: Vec<Fraction>) -> Result<Next, EvalFault>
+        requires walk { IsWalk self.now }
+        requires is_open { IsOpen self.now (Open.Chance node given sum) }
         ensures gives { IfOk result (Gives self.now
-            (λ k. drawn_value self.now k node.entry rest.entry (Some (at_place sum.items k)))
-            (open_size (Open.Chance node.entry rest.entry sum) + 1)) }
+            (λ k. drawn_value self.now k node given (Some (at_place sum.items k)))
+            (open_size self.now (Open.Chance node given sum) + 1)) }
         ensures overflow { IsErrOf result EvalFault.Overflow → Lacks self.now
-            (λ k. drawn_value self.now k node.entry rest.entry
-            (Some (at_place sum.items k))) }
+            (λ k. drawn_value self.now k node given (Some (at_place sum.items k))) }
     {
-        match rest.next() {
+        match self.child(node, given) {
             Some(child) => Ok(Next::Child {
-                node: Open::Chance { node, rest, sum },
+                node: Open::Chance {
+                    node,
+                    given: given + 1,
+                    sum,
+                },
                 child,
             }),
             None => self.close(node, sum),
         }
     }
 
-    /// Goes into a branch.
-    fn enter(
-        &self,
-        branch: Branch<'g, 'a>,
-        spare: &mut SpareRows,
-    ) -> Result<Next<'g, 'a>, EvalFault>
-        requires some_player { 0 < length self.now.game.now.players }
-        requires paid { ArePaid self.now.game.now (rows_of self.now.payoffs.now) }
-        requires game { game_of branch ≡ self.now.game.now }
-        ensures gives { IfOk result (Gives self.now
-            (λ k. tree_value self.now k (tree_of branch.entry))
-            (2 * length (flatten (tree_of branch.entry)))) }
-        ensures overflow { IsErrOf result EvalFault.Overflow → Lacks self.now
-            (λ k. tree_value self.now k (tree_of branch.entry)) }
+    /// The action that is chosen at a node, where a player moves at his set with this position.
+    fn action(&self, node: usize, player: u32, position: u32) -> usize
+        requires walk { IsWalk self.now }
+        requires there { IsThere self.now node }
+        requires is_game { IsGame self.now.game.now }
+        requires personal { ¬ (player ≡ 0) }
+        requires mover { IsMover self.now.game.now (node_there self.now node).set
+            (Some (player, position)) }
+        ensures { (key : SetKey) → (node_there self.now node).set ≡ Some key
+            → ¬ (key.player ≡ 0) × (result ≡ choices_of self.now key) }
     {
+        let actions = self.branch(node).actions().len();
+        self.choices.action(player, position, actions)
+    }
+
+    /// The child of a player's node after this action, by its position. `None` if there is none.
+    fn child_by(&self, node: usize, action: usize) -> Option<usize>
+        requires walk { IsWalk self.now }
+        requires there { IsThere self.now node }
+        ensures { MatchOption result
+            (at_position (child_trees (tree_there self.now node)) action ≡ None)
+            (λ child. IsThere self.now child
+            × (at_position (child_trees (tree_there self.now node)) action
+            ≡ Some (tree_there self.now child))) }
+    {
+        self.child(node, action.checked_sub(1)?)
+    }
+
+    /// Goes into a node.
+    fn enter(&self, node: usize, spare: &mut SpareRows) -> Result<Next, EvalFault>
+        requires some_player { 0 < length self.now.game.now.players }
+        requires walk { IsWalk self.now }
+        requires there { IsThere self.now node }
+        ensures gives { IfOk result (Gives self.now
+            (λ k. tree_value self.now k (tree_there self.now node))
+            (2 * length (flatten (tree_there self.now node)))) }
+        ensures overflow { IsErrOf result EvalFault.Overflow → Lacks self.now
+            (λ k. tree_value self.now k (tree_there self.now node)) }
+    {
+        let branch = self.branch(node);
         let Some((player, position)) = branch.mover() else {
             let payoffs = self.payoffs.at(branch.outcome_position());
             return Ok(Next::Value(spare.row(payoffs)?));
         };
         if player == 0 {
-            return self.draw(branch, branch.child_branches(), spare.row(&[])?);
+            return self.draw(node, 0, spare.row(&[])?);
         }
-        let choice = at_set(self.choices, player, position).unwrap_or(0);
-        match branch.child(choice as usize) {
+        let action = self.action(node, player, position);
+        match self.child_by(node, action) {
             Some(child) => Ok(Next::Child {
-                node: Open::Choice(branch),
+                node: Open::Choice(node),
                 child,
             }),
             None => Err(EvalFault::Overflow),
@@ -157,32 +196,32 @@ impl<'c, 'g, 'a> Walk<'c, 'g, 'a> {
     #[tactic(auto, using(crate::proofs::lemmas::values::PaidRows::below_players))]
     fn leave(
         &self,
-        node: Open<'g, 'a>,
+        node: Open,
         value: Vec<Fraction>,
         spare: &mut SpareRows,
-    ) -> Result<Next<'g, 'a>, EvalFault>
-        requires paid { ArePaid self.now.game.now (rows_of self.now.payoffs.now) }
+    ) -> Result<Next, EvalFault>
+        requires walk { IsWalk self.now }
         requires is_open { IsOpen self.now node }
         requires row { IsRow (length self.now.game.now.players) value.items }
         ensures gives { IfOk result (Gives self.now
-            (λ k. open_value self.now k node.entry (Some (at_place value.items k)))
-            (open_size node.entry + 1)) }
+            (λ k. open_value self.now k node (Some (at_place value.items k)))
+            (open_size self.now node + 1)) }
         ensures overflow { IsErrOf result EvalFault.Overflow → Lacks self.now
-            (λ k. open_value self.now k node.entry (Some (at_place value.items k))) }
+            (λ k. open_value self.now k node (Some (at_place value.items k))) }
     {
         match node {
             Open::Choice(node) => self.close(node, value),
             Open::Chance {
                 node,
-                rest,
+                given,
                 mut sum,
             } => {
-                let chance = chance_of(&node, rest.given());
+                let chance = chance_of(&self.branch(node), given);
                 if let Err(fault) = weigh(&mut sum, chance, &value) {
                     return Err(fault);
                 }
                 spare.give_back(value)?;
-                self.draw(node, rest, sum)
+                self.draw(node, given, sum)
             }
         }
     }
@@ -195,7 +234,7 @@ impl<'c, 'g, 'a> Walk<'c, 'g, 'a> {
         spare: &mut SpareRows,
     ) -> Result<Vec<Fraction>, EvalFault>
         requires some_player { 0 < length self.now.game.now.players }
-        requires paid { ArePaid self.now.game.now (rows_of self.now.payoffs.now) }
+        requires walk { IsWalk self.now }
         ensures row { IfOk result (λ row. IsRow (length self.now.game.now.players) row.items) }
         ensures values { IfOk result (λ row. (k : ℕ)
             → tree_value self.now k self.now.game.now.tree ≡ Some (at_place row.items k)) }
@@ -203,7 +242,7 @@ impl<'c, 'g, 'a> Walk<'c, 'g, 'a> {
             → Lacks self.now (λ k. tree_value self.now k self.now.game.now.tree) }
     {
         let mut open = Vec::new(alloc);
-        let mut next = self.enter(self.game.root(), spare)?;
+        let mut next = self.enter(0, spare)?;
         loop {
             next = match next {
                 Next::Child { node, child } => {

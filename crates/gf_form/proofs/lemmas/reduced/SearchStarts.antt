@@ -4,7 +4,7 @@ use Rattle.gf_form.proofs.Common
 use Common.{slice_get-get_or, mul-le-mul_right, AllByRecursion, reduced_labels, []}
 use Common.{is_relevant_at, action_counts, FindRelevance, AreLabelledTo, append_assoc, steps_after}
 use Common.{ArePositive, digits_from, player_keys, is_relevant, AreFirstsOf, HaveChoices, is_met_on}
-use Common.{same_choice, digits_with, mul-le-mul, get_or-map, choices_at, strategies, AreFoundTo, ℕ}
+use Common.{same_choice, digits_with, get_or-map, choices_at, strategies, AreFoundTo, ℕ}
 use Common.{IsSearched, actions_of, first_uses, drop-drop, choice_at, pointwise, map_twice, reduced}
 use Common.{numbered, OwnDigit, digit_at, cases_lt, steps_to, steps_of, IsLevel, is_left}
 use Common.{product, IsShown, nat_lt, AreOwn, picked, SetKey, IsGame, IsFine, is_met, length, subst}
@@ -18,30 +18,11 @@ use Rattle.gf_form.proofs.lemmas.reduced.Searches.{place_inside}
 use Rattle.std.proofs.lemmas.Bool.Decides.{nat_tests}
 use Rattle.std.proofs.lemmas.List.{get_or-drop}
 use Rattle.gf_form.proofs.lemmas.rows.DigitChoices.{choice_at_number, product_picked, picked_at}
+use Rattle.gf_form.proofs.lemmas.rows.DigitChoices.{width_fits}
 use Rattle.gf_form.proofs.lemmas.strategies.Choices.{length-all_choices, choice_length}
 use Rattle.gf_form.proofs.lemmas.strategies.CountedActions.{actions_positive, sets_counted}
 use Rattle.gf_form.proofs.lemmas.strategies.CountedActions.{take_past}
 use Rattle.gf_form.proofs.lemmas.strategies.StrategiesByNumber.{all_at}
-
--- with more than one action, one more is at most the square
-width_square : (counts : List ℕ) → ArePositive counts
-    → width counts ≤ product counts * product counts
-width_square [] h = omega arith
-width_square (suc (suc n) ∷ counts) h =
-    let more : suc (suc n) + 1 ≤ suc (suc n) * suc (suc n) = grind arith in
-    omega (
-      arith,
-      mul-le-mul more (width_square counts h.1),
-      turned (suc (suc n)) (product counts),
-    )
-  where
-    turned : (a p : ℕ) → a * a * (p * p) ≡ a * p * (a * p)
-    turned a p = grind arith
-width_square (n ∷ counts) h = grind (arith, width_square counts)
-
-pub width_fits : (counts : List ℕ) → ArePositive counts → product counts < 2 ^ 32
-    → width counts < 2 ^ 64
-width_fits counts h few = grind (arith, width_square, mul-le-mul)
 
 -- the digits so far and those to come
 pub digit_more : (counts steps : List ℕ) (i step : ℕ) (made next : List OwnDigit)

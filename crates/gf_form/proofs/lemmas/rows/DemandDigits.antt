@@ -6,6 +6,7 @@ use Rattle.gf_form.proofs.Common.{dvd_refl, product, length, get_or, eq-eqb, lt-
 use Rattle.gf_form.proofs.Common.{spans, arith, meets, true, List, refl, ◌==◌, ◌&&◌, ◌||◌, Bool, ap}
 use Rattle.gf_form.proofs.Common.{◌<◌, ◌≤◌, ◌∷◌, set, map, inl, inr, ◌∣◌, suc, ◌+◌, ◌*◌, ◌/◌, [], ℕ}
 use Rattle.std.proofs.lemmas.Bool.{le-leb, le-ltb, lt-leb}
+pub use Rattle.gf_form.specs.inner.rows.Demands.{pack}
 use Rattle.std.proofs.lemmas.Nat.{div-mul-add}
 use Rattle.std.proofs.Math.Nat.{add-mul-mod_self_right, dvd-mul_left_of_dvd, mul-add-div}
 
@@ -14,11 +15,6 @@ use Rattle.std.proofs.Math.Nat.{add-mul-mod_self_right, dvd-mul_left_of_dvd, mul
 -- a digit for each set, which is 0 or one of this many actions
 abbrev pub AreWithin : List ℕ → List ℕ → Type 0
 AreWithin actions ds = AllZip (λ n d. d ≤ n) actions ds
-
--- the number that has these digits
-abbrev pub pack : List ℕ → List ℕ → ℕ
-pack (n ∷ faster) (d ∷ ds) = d * product (spans faster) + pack faster ds
-pack _ _ = 0
 
 pub spans_above : (actions : List ℕ) → 0 < product (spans actions)
 spans_above [] = omega arith

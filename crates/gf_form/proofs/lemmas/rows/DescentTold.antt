@@ -10,7 +10,7 @@ use Rattle.gf_form.specs.inner.rows.Descents.{steps_by, stops, turns}
 use Rattle.gf_form.proofs.lemmas.values.Walks.{trees_of_list, choice_is, choice_there}
 use Rattle.gf_form.proofs.lemmas.strategies.Lookups.{keys_distinct}
 use Rattle.gf_tree.specs.declared.game.branch.Branch.{Branch}
-use Rattle.gf_form.specs.inner.values.ValueLeft.{trees_of}
+use Rattle.gf_form.specs.inner.values.Values.{trees_of}
 use Rattle.gf_tree.specs.declared.game.branches.Branches.{Branches}
 use Rattle.gf_form.specs.declared.rows.descent.Open.{Open}
 use Rattle.gf_form.specs.declared.rows.descent.Steps.{Steps}

@@ -5,7 +5,8 @@ use Common.{IsSpellable, all_choices, IsFraction, choices_by, HasPairRow, IsPaid
 use Common.{zero_ratio, HasValues, AreChosen, SettlesAt, all_terms, steps_of, at_place, all_both, ℤ}
 use Common.{IsScale, term_at, lowered, Settles, get_or, length, IsGame, Chosen, arith, Ratio, meets}
 use Common.{value, Scale, Terms, Asked, Term, List, ◌++◌, Some, lit<, true, Game, part, ints, ◌+ℤ◌}
-use Common.{◌*ℤ◌, zero, ◌≡◌, suc, ◌+◌, ◌-◌, ◌*◌, ◌<◌, ◌≤◌, ◌^◌, ◌∷◌, map, ◌∙◌, pos, [], ap}
+use Common.{IfSome}
+use Common.{◌*ℤ◌, zero, ◌≡◌, suc, ◌+◌, ◌-◌, ◌*◌, ◌<◌, ◌≤◌, ◌^◌, ◌∷◌, map, ◌∙◌, pos, []}
 use Rattle.gf_form.specs.declared.rows.written.Written.{Written}
 use Rattle.gf_form.specs.inner.rows.Pairs.{ComeToPair, IsOnly, IsPair, only_term}
 use Rattle.gf_form.proofs.lemmas.rows.SettledRows.{settled_left}
@@ -20,6 +21,7 @@ use Rattle.gf_form.proofs.lemmas.strategies.PickedProfiles.{numbered_at}
 use Rattle.gf_form.proofs.lemmas.strategies.StrategiesByNumber.{choices_row}
 use Rattle.gf_form.proofs.lemmas.values.BottomUp.{are_payoffs, have_values}
 use Rattle.gf_form.proofs.lemmas.rows.ItemRows.{all_by_place}
+use Rattle.gf_form.specs.inner.values.NodeLists.{AreNodesOf}
 
 -- ---- one term, or none
 
@@ -108,9 +110,9 @@ pub next_written : (asked : Asked) (before : ℕ) (written after : Written) (row
     → ArePayoffsAt asked.game.now (asked_at asked before) row
     → HasValues asked.game.now (asked_at asked before)
     → after.rows.items ≡ written.rows.items ++ row
-    → length after.strategies.items ≡ length asked.counts.now.actions.items
+    → IfSome after.nodes (AreNodesOf asked.game.now)
     → AreWritten asked before written → AreWritten asked (before + 1) after
-next_written asked before written after row within right values is as_long done =
+next_written asked before written after row within right values is nodes done =
     let g = asked.game.now in
     let profiles = asked_profiles asked in
     let at = numbered_at g asked.numbers.now before within in
@@ -118,7 +120,7 @@ next_written asked before written after row within right values is as_long done 
       rows = one_row_more (ArePayoffsAt g) profiles before written.rows.items after.rows.items row
           at.0 done.rows (rw at.1 right) is;
       values = all_more (HasValues g) profiles before [] at.0 done.values (rw at.1 values);
-      as_long = as_long;
+      nodes = nodes;
     }
 
 -- what the pair comes to
@@ -128,7 +130,7 @@ pub next_row : (asked : Asked) → IsGame asked.game.now → IsSpellable asked.g
     → IsPaidPair asked.game.now (get_or asked.numbers.now before 0) pair
     → (more : HasPairRow pair players old new)
     → after.rows.items ≡ written.rows.items ++ more.row
-    → after.strategies ≡ written.strategies
+    → after.nodes ≡ written.nodes
     → AreWritten asked before written → AreWritten asked (before + 1) after
 next_row asked game spellable before players pair written after old new within all paid more is same
     done =
@@ -139,7 +141,7 @@ next_row asked game spellable before players pair written after old new within a
     (all_by_place IsFraction more.row
     (λ k d less. (more.each k d (omega (arith, less, more.one_each))).0)) values)
     (have_values g game spellable choices more.row values) is
-    (ap (λ (own : _). length own.items) same ∙ done.as_long) done
+    (rw same done.nodes) done
   where
     values : (k : ℕ) → k < length asked.game.now.players → value asked.game.now
         (choices_by asked.game.now (strategies_at asked.game.now (asked_at asked before))) (suc k)

@@ -11,11 +11,9 @@ use Common.{AreBelow, product, add-one, get_or, AllZip, Counts, length, mod-lt, 
 use Common.{refl, ◌++◌, take, ◌≡◌, suc, ◌+◌, ◌*◌, ◌/◌, ◌%◌, ◌<◌, ◌≤◌, ◌∷◌, map, ◌∙◌, sym, zip, set}
 use Common.{⊤}
 use Rattle.gf_form.proofs.lemmas.strategies.Lookups.{in_turn, row_at, zip_by_places, zip_flat}
-use Rattle.gf_form.proofs.lemmas.strategies.Lookups.{zip_weaker, all_in_turn}
-use Rattle.gf_form.proofs.lemmas.strategies.Choices.{every_choice, length-all_choices}
-use Rattle.gf_form.proofs.lemmas.strategies.Chosen.{profile_strategies}
+use Rattle.gf_form.proofs.lemmas.strategies.Lookups.{all_in_turn}
+use Rattle.gf_form.proofs.lemmas.strategies.Choices.{length-all_choices}
 use Rattle.gf_form.proofs.lemmas.strategies.StrategiesByNumber.{all_at, positive_parts}
-use Rattle.gf_form.proofs.lemmas.strategies.CountedActions.{take_past}
 
 -- ---- the profile with a number
 
@@ -38,18 +36,6 @@ pub profiles_next : (count : ℕ) (counts : List ℕ) (rest : ℕ)
     → 0 < count → rest < count * product counts → get_or (profiles (count ∷ counts)) rest []
     ≡ (rest % count + 1) ∷ get_or (profiles counts) (rest / count) []
 profiles_next count counts rest some below = grind (arith, mul_comm, below, mod-add-div, profile_at)
-
--- ---- full profiles
-
--- their strategies have an action for each set
-pub are_strategies : (g : Game) (number : ℕ) → number < length (full_profiles g)
-    → AreStrategies g (strategies_at g (get_or (full_profiles g) number []))
-are_strategies g number within =
-    let profile = get_or (full_profiles g) number [] in
-    zip_weaker (λ _. ⊤) _ _ (λ strategy player _ there. (every_choice (action_counts g player)
-    strategy).0 there) (strategies_at g profile) (players_of g)
-    (all_of_each (λ _. ⊤) (strategies_at g profile) (λ _ _. tt)) (profile_strategies g profile
-    (Contains-get_or (full_profiles g) number [] within))
 
 -- ---- their numbers
 
@@ -155,30 +141,3 @@ numbered_strategies g (player ∷ players) number less =
     let others = numbered_strategies g players (number / length all) later in
     let next = profiles_next (length all) counts number parts.0 less in
     grind (arith, is, next, others, add-one, unwrap_or-slice_get)
-
--- those of the players so far are written
-pub record Written (actions : List (List ℕ)) (number i rest : ℕ) (all : List (List ℕ)) : Type
-    0 where
-  pub as_long : length all ≡ length actions
-  pub wanted : take i all ++ numbered (drop i actions) rest ≡ numbered actions number
-
-pub one_written : (actions : List (List ℕ)) (number i rest whole : ℕ) (all : List (List ℕ))
-    (own : List ℕ) → i < length actions → whole ≡ product (get_or actions i [])
-    → own ≡ get_or (all_choices (get_or actions i [])) (rest % whole) []
-    → Written actions number i rest all
-    → Written actions number (i + 1) (rest / whole) (set all i own)
-one_written actions number i rest whole all own less whole_is own_is h =
-    grind (arith, length-set, numbered, add-one, append_assoc, drop-cons, set, take_more_set)
-
-pub last_written : (actions : List (List ℕ)) (number i rest : ℕ) (all : List (List ℕ))
-    → Written actions number i rest all → length actions ≤ i → all ≡ numbered actions number
-last_written actions number i rest all h past =
-    grind (arith, take_past, append-nil, drop_of_length-le)
-
-pub ruleset written_steps = (
-  mod-lt,
-  last_written,
-  numbered_strategies,
-  length-map,
-  length-profiles,
-)

@@ -7,17 +7,20 @@ use Common.{child_trees, child_value, choices_by, chances_at, zero_ratio, root_n
 use Common.{slice_get, unwrap_or, payoff_at, flatten, plus_of, game_of, tree_of, IsGame, set_at, []}
 use Common.{has_at, length, Option, Global, eq-eqb, branch, Action, SetKey, Trees, Ratio, arith, ap}
 use Common.{value, List, ◌++◌, Some, None, refl, Tree, none, more, Game, Node, suc, ◌+◌, ◌<◌, ◌∷◌}
-use Common.{map, Vec, ◌∙◌, sym, ℕ}
+use Common.{map, Vec, ◌∙◌, sym, ℕ, drop, drop-cons, zero}
+use Rattle.std.proofs.Math.Seq.{drop-nil}
+use Rattle.std.proofs.lemmas.Option.{get_or_from_slice_get, slice_get_within}
 use Rattle.std.proofs.Common.{reverse}
 use Rattle.std.proofs.lemmas.List.Sums.{sum_by_push}
 use Rattle.std.proofs.lemmas.List.{reverse-append}
-use Rattle.gf_tree.specs.declared.game.branch.Branch.{Branch}
 use Rattle.gf_form.proofs.lemmas.values.PaidRows.{at_mapped, own_is}
 use Rattle.gf_form.specs.declared.values.walk.Open.{Open}
 use Rattle.gf_form.specs.declared.values.walk.Open.TheVariants.{Chance, Choice}
 use Rattle.gf_form.specs.declared.values.walk.Walk.{Walk}
-use Rattle.gf_form.specs.inner.values.ValueLeft.{branch_chances, choices_of, trees_of, whole_value}
-use Rattle.gf_form.specs.inner.values.ValueLeft.{open_value, with_own, tree_value, Lacks}
+use Rattle.gf_form.specs.inner.values.ValueLeft.{choices_of, node_there, open_value, tree_there}
+use Rattle.gf_form.specs.inner.values.ValueLeft.{tree_value, trees_left, whole_value, with_own}
+use Rattle.gf_form.specs.inner.values.ValueLeft.{Lacks}
+use Rattle.gf_form.specs.inner.values.Values.{trees_of}
 use Rattle.gf_form.proofs.lemmas.values.ValuesComputed.{none_stays}
 
 -- ---- the value of a tree by the list of its children
@@ -61,9 +64,9 @@ module _ (w : Walk) where
   -- a value that is not defined stays so
   open_none : (k : ℕ) (o : Open) → open_value w k o None ≡ None
   open_none k (Choice node) = refl
-  open_none k (Chance node rest sum) =
-      ap (with_own w k node) (none_stays w.game.now (choices_of w) (suc k)
-      (trees_of (branches_left rest)) (branch_chances node) (branches_given rest + 1))
+  open_none k (Chance node given sum) =
+      ap (with_own w k node) (none_stays w.game.now (choices_of w) (suc k) (trees_left w node given)
+      (chances_at w.game.now (node_there w node)) (given + 1))
 
   whole_none : (k : ℕ) (os : List Open) → whole_value w k os None ≡ None
   whole_none k [] = refl
@@ -89,21 +92,12 @@ pub choice_is : (g : Game) (all : List (List ℕ)) (player position : ℕ) (key 
 choice_is g all player position key game his at =
     grind (arith, sets_by_first_use, first_uses_distinct, same_set_equality, choice_there)
 
-pub chosen : (w : Walk) (k : ℕ) (node : Branch) (player position : ℕ) (key : SetKey)
-    → game_of node ≡ w.game.now → IsGame (game_of node) → (root_node (tree_of node)).set ≡ Some key
-    → key.player ≡ player → at_position (player_keys (game_of node) player) position ≡ Some key
-    → ¬ (player ≡ 0)
-    → tree_value w k (tree_of node) ≡ with_own w k node (option_and_then (tree_value w k)
-    (at_position (child_trees (tree_of node)) (unwrap_or (at_position
-    (strategy_at (map (λ own. own.items) w.choices.now) player) position) 0)))
-chosen w k node player position key same game is his there personal =
-    let all = map (λ own. own.items) w.choices.now in
-    value_by_choice w.game.now (choices_of w) (suc k) (tree_of node) key is
-    (λ e. personal (sym his ∙ e))
-    ∙ ap (λ (action : ℕ). with_own w k node (option_and_then (tree_value w k)
-    (at_position (child_trees (tree_of node)) action)))
-    (ap (λ g. choices_by g all key) (sym same)
-    ∙ choice_is (game_of node) all player position key game his there)
+pub chosen : (w : Walk) (k node action : ℕ) (key : SetKey) → (node_there w node).set ≡ Some key
+    → ¬ (key.player ≡ 0) → action ≡ choices_of w key
+    → tree_value w k (tree_there w node) ≡ with_own w k node (option_and_then (tree_value w k)
+    (at_position (child_trees (tree_there w node)) action))
+chosen w k node action key is personal same =
+    rw same (value_by_choice w.game.now (choices_of w) (suc k) (tree_there w node) key is personal)
 
 -- ---- the probability of an action
 
@@ -119,6 +113,20 @@ pub set_there : {A : Type 0} (all : List (Vec A Global)) (player position : ℕ)
     → at_position (strategy_at (map (λ own. own.items) all) player) position
     ≡ option_and_then (λ own. at_position own.items position) (at_position all player)
 set_there all player position = grind (arith, at_mapped)
+
+-- ---- the children that are left
+
+pub left_more : {A : Type 0} (xs : List A) (k : ℕ) (x : A) → slice_get xs k ≡ Some x
+    → drop k xs ≡ x ∷ drop (k + 1) xs
+left_more xs k x there =
+    let next : k + 1 ≡ suc k = omega arith in
+    rw next (drop-cons xs k x (slice_get_within xs k x there)
+    ∙ ap (λ (y : _). y ∷ drop (suc k) xs) (get_or_from_slice_get xs k x x there))
+
+pub none_left : {A : Type 0} (xs : List A) (k : ℕ) → slice_get xs k ≡ None → drop k xs ≡ []
+none_left (y ∷ xs) (suc k) past = none_left xs k past
+none_left [] k past = drop-nil k
+none_left (y ∷ xs) zero past = absurd (grind arith)
 
 -- ---- sizes
 
@@ -138,6 +146,8 @@ pub tree_size : (t : Tree Node)
 tree_size (branch n ts) = ap (λ us. suc (length (flatten_all us))) (sym (trees_of_list ts))
 
 pub ruleset chance_steps = (chance_is, at_mapped)
+
+pub ruleset draw_steps = (left_more, none_left, length-append)
 
 pub ruleset enter_steps = (own_is, value_of_leaf, value_by_chance, chosen, child_smaller, tree_size)
 

@@ -14,6 +14,11 @@ abbrev pub steps_of : List ℕ → List ℕ
 steps_of [] = []
 steps_of (n ∷ faster) = product (spans faster) ∷ steps_of faster
 
+-- the number that has these digits
+abbrev pub pack : List ℕ → List ℕ → ℕ
+pack (n ∷ faster) (d ∷ ds) = d * product (spans faster) + pack faster ds
+pack _ _ = 0
+
 -- whether these choices, one for each digit, meet the demands of a number
 abbrev pub meets : List ℕ → List ℕ → ℕ → Bool
 meets (step ∷ steps) (action ∷ actions) demands =

@@ -15,7 +15,7 @@ use Rattle.gf_tree.specs.BranchesLeft.{branches_given, branches_left, game_of_br
 use Rattle.gf_tree.specs.KeysInOrder.{player_keys}
 use Rattle.gf_tree.specs.Subtrees.{root_node}
 use Rattle.gf_tree.specs.declared.game.branch.Branch.{Branch}
-use Rattle.gf_form.specs.inner.values.ValueLeft.{trees_of}
+use Rattle.gf_form.specs.inner.values.Values.{trees_of}
 use Rattle.gf_form.specs.Strategies.{choice_at, choices_by, strategy_at}
 use Rattle.gf_form.specs.declared.rows.descent.Descent.{Descent}
 use Rattle.gf_form.specs.declared.rows.descent.Open.{Open}

@@ -43,6 +43,7 @@ digit_steps d = map (λ digit. digit.step) d.digits.items
 pub record HasDigits (g : Game) (d : Digits) : Type 0 where
   pub steps : digit_steps d ≡ steps_of (digit_actions d)
   pub within : product (spans (digit_actions d)) < 2 ^ 64
+  pub profiles : d.profiles ≡ length (full_profiles g)
   pub as_many : product (digit_actions d) ≡ length (full_profiles g)
   pub choices : (number : ℕ) → number < length (full_profiles g)
       → AreDigits g is_personal (choices_by g (map (λ own. own.items) d.steps.items))

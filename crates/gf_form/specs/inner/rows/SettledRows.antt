@@ -1,17 +1,18 @@
 -- Payoffs at profiles, by the terms of which they are sums.
 use Rattle.std.specs.Prelude.{◌≡◌, ℕ, ℤ, suc, ◌-◌, ◌<◌, ◌≤◌, ◌^◌, List, []}
-use Rattle.std.specs.Prelude.{IsErrOf, Result, Some, get_or, length, take, true}
+use Rattle.std.specs.Prelude.{IfSome, IsErrOf, Result, Some, get_or, length, take, true}
 use Rattle.std.specs.List.{AllByRecursion}
 use Rattle.gf_fraction.specs.Ratio.{HasValue, IsFraction, IsWithin, Ratio}
 use Rattle.gf_nfg.specs.Limit.{profile_limit}
 use Rattle.gf_nfg.specs.Profiles.{product}
 use Rattle.gf_tree.specs.Game.{Game}
+use Rattle.gf_tree.specs.IsGame.{IsGame}
 use Rattle.gf_tree.specs.Spellable.{IsSpellable}
-use Rattle.gf_form.specs.inner.strategies.Counted.{AreCounts}
 use Rattle.gf_form.specs.inner.rows.Demands.{spans, steps_of}
-use Rattle.gf_form.specs.inner.rows.GameDigits.{HaveSteps, actions_at}
+use Rattle.gf_form.specs.inner.rows.GameDigits.{HasDigits, HaveSteps, actions_at}
 use Rattle.gf_form.specs.inner.rows.TermLists.{AreExactAt, AreInOrder, Term, all_terms}
 use Rattle.gf_form.specs.inner.rows.TermLists.{sum_of_terms}
+use Rattle.gf_form.specs.inner.values.NodeLists.{AreNodesOf}
 use Rattle.gf_form.specs.inner.values.PaidRows.{rows_of}
 use Rattle.gf_form.specs.inner.strategies.ProfileNumbers.{AreProfileNumbers, numbered_profiles}
 use Rattle.gf_form.specs.inner.rows.ProfileRows.{AreRowsAt}
@@ -57,8 +58,9 @@ abbrev pub asked_profiles : Asked → List (List ℕ)
 asked_profiles asked = numbered_profiles asked.game.now asked.numbers.now
 
 pub record IsAsked (asked : Asked) : Type 0 where
+  pub is_game : IsGame asked.game.now
   pub spellable : IsSpellable asked.game.now
-  pub counts : AreCounts asked.game.now asked.counts.now
+  pub digits : HasDigits asked.game.now asked.digits.now
   pub payoffs : ArePaid asked.game.now (rows_of asked.payoffs.now)
   pub numbers : AreProfileNumbers asked.game.now asked.numbers.now
   pub few : length asked.numbers.now ≤ profile_limit
@@ -71,7 +73,7 @@ pub record AreWritten (asked : Asked) (count : ℕ) (written : Written) : Type 0
       (take count (asked_profiles asked)) written.rows.items
   pub values : AllByRecursion (HasValues asked.game.now)
       (take count (asked_profiles asked))
-  pub as_long : length written.strategies.items ≡ length asked.counts.now.actions.items
+  pub nodes : IfSome written.nodes (AreNodesOf asked.game.now)
 
 -- the terms settle the rows of these profiles
 abbrev pub SettleRows : Asked → List ℕ → Terms → Run → Type 0

@@ -1,6 +1,7 @@
 -- The bottom-up value, computed. No public contract cites it: proofs/lemmas/values/ValuesComputed
 -- proves that it is the value of the relation.
-use Rattle.std.specs.Prelude.{ℕ, zero, suc, ◌+◌, ◌==◌, Option, Some, None, if◌then◌else◌}
+use Rattle.std.specs.Prelude.{ℕ, zero, suc, ◌+◌, ◌==◌, List, [], ◌∷◌, Option, Some, None}
+use Rattle.std.specs.Prelude.{if◌then◌else◌}
 use Rattle.gf_fraction.specs.Ratio.{Ratio}
 use Rattle.gf_fraction.specs.Rational.{zero_ratio}
 use Rattle.gf_fraction.specs.inner.Computed.{product_of, sum_of}
@@ -10,6 +11,10 @@ use Rattle.gf_tree.specs.Tree.Trees.{none, more}
 use Rattle.gf_tree.specs.Description.{SetKey}
 use Rattle.gf_tree.specs.Game.{Game, Node}
 use Rattle.gf_form.specs.Payoff.{payoff_at, probability}
+
+abbrev pub trees_of : {N : Type 0} → List (Tree N) → Trees N
+trees_of [] = none
+trees_of (t ∷ ts) = more t (trees_of ts)
 
 -- the sum, if both are defined and it fits
 abbrev pub plus_of : Option Ratio → Option Ratio → Option Ratio

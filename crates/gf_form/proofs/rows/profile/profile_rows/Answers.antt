@@ -6,10 +6,9 @@ use Rattle.gf_form.proofs.rows.profile.profile_rows.Goals as goal
 
 pub push_rows-requires-clause-settled : goal.push_rows-requires-clause-settled
 push_rows-requires-clause-settled c =
-    let d = c.in-Some.digits in
+    let d = c.in_ok-digits.digits in
     let is_game = c.players-players.ensures.is_game in
-    let digits = (rw c.in-Some.is at c.in_ok-digits.ensures) c.args.game.now is_game
-    c.requires.counts in
+    let digits = c.in_ok-digits.ensures c.args.game.now c.requires.counts in
     let terms = c.in_ok-terms.ensures in
     rw c.deref.ensures.value (record {
       are_terms = ((terms.shaped, terms.ordered), terms.players ∙ c.in_ok-listed.ensures.players);
@@ -27,12 +26,6 @@ push_rows-requires-clause-settled c =
 
 pub new-requires-2 : goal.new-requires-2
 new-requires-2 c = grind (arith, common_steps)
-
-pub returns-in_default-clause-rows : goal.returns-in_default-clause-rows
-returns-in_default-clause-rows c = grind (arith, common_steps)
-
-pub returns-in_default-clause-values : goal.returns-in_default-clause-values
-returns-in_default-clause-values c = grind (arith, common_steps)
 
 pub returns-clause-rows : goal.returns-clause-rows
 returns-clause-rows c = grind (arith, common_steps)

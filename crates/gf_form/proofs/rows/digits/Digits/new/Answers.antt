@@ -1,11 +1,28 @@
 use Rattle.gf_form.proofs.Common.{◌≡◌, ◌<◌, ℕ, [], Vec, Global, ap, arith, get_or, length}
 use Rattle.gf_form.proofs.Common.{length-map, length-append, take, in_order}
-use Rattle.gf_form.proofs.lemmas.strategies.CountedActions.{take_past, actions_in, own_read}
+use Rattle.gf_form.proofs.lemmas.strategies.CountedActions.{take_past, actions_in}
+use Rattle.gf_form.proofs.lemmas.strategies.CountedActions.{own_read}
 use Rattle.gf_form.proofs.lemmas.rows.DigitPlaces.{steps_long}
 use Rattle.gf_form.proofs.lemmas.rows.DigitsMade.{player_order, player_steps}
-use Rattle.gf_form.proofs.lemmas.rows.GameDigits.{has_digits}
+use Rattle.gf_form.proofs.lemmas.rows.GameDigits.{first_fit, has_digits}
 use Rattle.std.proofs.lemmas.List.{map_push}
 use Rattle.gf_form.proofs.rows.digits.Digits.new.Goals as goal
+
+pub unwrap-own_steps-requires : goal.unwrap-own_steps-requires
+unwrap-own_steps-requires c =
+    let all = c.args.counts.now.actions.items in
+    let counts = actions_in c.args.counts.now in
+    let i = c.loop-own.own-index in
+    let less : i < length all =
+    omega (arith, c.loop-own-test.true, ap length c.deref-own-items.ensures.value) in
+    let inside : i < length counts = grind (arith, length-map) in
+    let own : c.deref.result.now ≡ get_or counts i [] = own_read all i c.own-item.result _ less
+    (rw c.deref-own-items.ensures.value at c.own-item.is) c.deref.ensures.value in
+    let put = rw own at
+    (c.in_ok-put_digits.ensures (in_order (take i counts)) c.loop-own.invariant.digits) in
+    let are = c.requires.1 in
+    let fit = first_fit c.requires.0 are.is_game c.args.counts.now are i inside in
+    grind (arith, put, fit)
 
 pub loop-own-preserved : goal.loop-own-preserved
 loop-own-preserved c =
@@ -19,22 +36,21 @@ loop-own-preserved c =
     let own : c.deref.result.now ≡ get_or counts i [] = own_read all i c.own-item.result _ less
     (rw c.deref-own-items.ensures.value at c.own-item.is) c.deref.ensures.value in
     let order = player_order counts i inside in
-    let put = rw (c.in-Some.is, own) at
-    (c.in_ok-own_steps.ensures (in_order (take i counts)) inv.digits) in
-    let long : length c.in-Some.own_steps.items ≡ length (get_or counts i []) =
+    let put = rw (c.unwrap-own_steps.ensures, own) at
+    (c.in_ok-put_digits.ensures (in_order (take i counts)) inv.digits) in
+    let long : length c.unwrap-own_steps.result.0.items ≡ length (get_or counts i []) =
     omega (arith, ap length put.1, steps_long, length-append {A = ℕ}) in
     record {
       digits = rw order put.0;
-      steps = player_steps counts i c.in-Some.own_steps.items _ _ inside long
+      steps = player_steps counts i c.unwrap-own_steps.result.0.items _ _ inside long
           (rw c.in_ok-push.ensures.items (map_push (λ (own : Vec ℕ Global). own.items)
-          c.loop-own.steps.items c.in-Some.own_steps)) (rw order put.1) inv.steps;
+          c.loop-own.steps.items c.unwrap-own_steps.result.0)) (rw order put.1) inv.steps;
     }
 
 pub returns : goal.returns
-returns c g game are =
+returns c g are =
     let counts = actions_in c.args.counts.now in
     let long = ap length c.deref-own-items.ensures.value in
     let all : take c.loop-own.own-index counts ≡ counts = grind (arith, take_past, length-map) in
     let inv = rw (all, are.actions) at c.loop-own.invariant in
-    has_digits g game (record { steps = c.loop-own.steps; digits = c.loop-own.digits })
-    c.loop-own.values inv.digits inv.steps
+    has_digits g are.is_game _ c.loop-own.values inv.digits inv.steps are.profiles

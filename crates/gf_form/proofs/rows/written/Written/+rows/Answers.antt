@@ -24,7 +24,7 @@ push_summed-push_each-requires t c =
           record {
             rows = due.3.rows;
             values = due.3.values;
-            as_long = due.3.as_long;
+            nodes = due.3.nodes;
           },
         ),
         settled_summed c.args.asked.now c.args.terms.now c.in_ok-summed.summed

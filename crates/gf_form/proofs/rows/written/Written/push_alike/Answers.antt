@@ -15,7 +15,7 @@ loop-before-preserved c =
     let t = c.args.terms.now in
     let less = c.loop-before-test.true in
     let more = c.in_ok-push_to.ensures.row c.if-branch.true in
-    next_row asked c.requires.due.0.counts.is_game c.requires.due.0.spellable before t.players
+    next_row asked c.requires.due.0.is_game c.requires.due.0.spellable before t.players
     c.in-Some.pair c.loop-before.self _ c.in_ok-row.row.items c.push_to.new.rows.items
     (omega (arith, less, c.requires.due.2)) c.requires.terms.1
     (paid_alike asked.game.now c.requires.settles.0 t c.args.run.first

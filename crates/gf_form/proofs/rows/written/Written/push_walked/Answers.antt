@@ -1,17 +1,20 @@
-use Rattle.gf_form.proofs.Common.{◌≡◌, ◌+◌, ◌∙◌, ◌++◌, Err, List, ap, arith, subst, Ratio}
+use Rattle.gf_form.proofs.Common.{◌≡◌, ◌+◌, Err, ap, arith, subst}
 use Rattle.gf_form.proofs.Common.{asked_profiles, HasValues, IsFirstWithout}
 use Rattle.gf_form.proofs.lemmas.strategies.PickedProfiles.{numbered_at}
 use Rattle.gf_form.proofs.lemmas.rows.PairRows.{next_written}
 use Rattle.gf_form.proofs.lemmas.rows.RowsMade.{first_without}
 use Rattle.gf_form.proofs.rows.written.Written.push_walked.Goals as goal
 
-pub returns-in_ok-give_back-in-Ok-clause-written : goal.returns-in_ok-give_back-in-Ok-clause-written
-returns-in_ok-give_back-in-Ok-clause-written c =
+pub returns-in-Ok-clause-written : goal.returns-in-Ok-clause-written
+returns-in-Ok-clause-written c =
     next_written c.args.asked.now c.args.before c.args.self.now _ c.in-Ok.row.items
     c.requires.within c.in-Ok.ensures.payoffs c.in-Ok.ensures.values
-    (c.in_ok-extend_from_slice-in-Ok.ensures.items
-    ∙ ap (λ (row : List Ratio). c.args.self.now.rows.items ++ row) c.deref-in-Ok.ensures.value)
-    c.in_ok-write_strategies.ensures.as_long c.requires.written
+    (cc (
+      c.in_ok-extend_from_slice-in-Ok.ensures.items,
+      c.in_ok-nodes.ensures.rows,
+      c.deref.ensures.value,
+    ))
+    c.in_ok-nodes.ensures.nodes c.requires.written
 
 pub returns-in-Err-Overflow-clause-refused : goal.returns-in-Err-Overflow-clause-refused
 returns-in-Err-Overflow-clause-refused c = (

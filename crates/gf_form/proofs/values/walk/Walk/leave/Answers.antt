@@ -6,7 +6,10 @@ use Rattle.gf_form.proofs.values.walk.Walk.leave.Goals as goal
 pub draw-requires-clause-is_open : goal.draw-requires-clause-is_open
 draw-requires-clause-is_open c =
     let is = rw c.in-Chance.is at c.requires.is_open in
-    (is.0, is.1, c.in_default.ensures.row _ is.2 (rw c.deref.ensures.value c.requires.row))
+    (is.0, c.in_default.ensures.row _ is.1 (rw c.deref.ensures.value c.requires.row))
+
+pub returns-in-Choice-clause-overflow : goal.returns-in-Choice-clause-overflow
+returns-in-Choice-clause-overflow c h = rw c.in-Choice.is (c.close.ensures.overflow h)
 
 pub returns-in-Err-clause-overflow : goal.returns-in-Err-clause-overflow
 returns-in-Err-clause-overflow c h =

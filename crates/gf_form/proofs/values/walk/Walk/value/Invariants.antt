@@ -12,4 +12,5 @@ invariant-loop-next l = IsNext l.self l.next
     ≡ whole_value l.self k (reverse l.open.items) (next_value l.self k l.next))
 
 abbrev pub decreases-loop-next : goal.decreases-loop-next
-decreases-loop-next l = sum_by open_size l.open.items + next_size l.next
+decreases-loop-next l =
+    sum_by (open_size l.self) l.open.items + next_size l.self l.next
