@@ -89,9 +89,10 @@ fn write_groups<W: Sink, E: Sink>(
 /// The files are read in their order, each one freed before the next one. A file that is refused,
 /// or cannot be opened or read, is in no group: its fault is written to standard error after its
 /// name, and the run goes on. A group has a line for each name, and there is an empty line between
-/// two groups, which are in the order of their first files. A name is written as `run_hash` does. The status is the worst of all: 1 if
-/// there is a group, and above it those of the faults. If memory runs out, E19 is reported, and
-/// nothing is written. `progress` is told of each file that is done.
+/// two groups, which are in the order of their first files. A name is written as `run_line` writes
+/// it with a hash. The status is the worst of all: 1 if there is a group, and above it those of the
+/// faults. If memory runs out, E19 is reported, and nothing is written. `progress` is told of each
+/// file that is done.
 pub fn run_duplicates<I: Inputs, P: Progress, W: Sink, E: Sink>(
     alloc: Global,
     inputs: &mut I,
