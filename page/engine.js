@@ -3,24 +3,25 @@
 // worker, so that the page answers meanwhile. Bytes are of type Uint8Array, and are copied. The module and
 // the worker are in built.js, and nothing is fetched.
 
-class Failure extends Error {
+// What all errors of the engine are.
+gamefile.Failure = class Failure extends Error {
     get name() {
         return this.constructor.name;
     }
-}
+};
 
 // A file is refused: its code, such as "E9", the range of bytes, what is wrong, and a hint or null. Of two
 // files, `which` is 0 for the first and 1 for the second.
-gamefile.Refusal = class Refusal extends Failure {};
+gamefile.Refusal = class Refusal extends gamefile.Failure {};
 // A tree has no table: `profile` is the first that overflows, from 1, or null if there are too many.
-gamefile.TableError = class TableError extends Failure {};
-gamefile.OutOfMemory = class OutOfMemory extends Failure {};
+gamefile.TableError = class TableError extends gamefile.Failure {};
+gamefile.OutOfMemory = class OutOfMemory extends gamefile.Failure {};
 // A file is longer than the program reads. Its `code` is "E1".
-gamefile.TooLong = class TooLong extends Failure {};
+gamefile.TooLong = class TooLong extends gamefile.Failure {};
 // The call was running, or waiting, when the engine was stopped.
-gamefile.Stopped = class Stopped extends Failure {};
+gamefile.Stopped = class Stopped extends gamefile.Failure {};
 // The browser has no memory of 64 bits for WebAssembly.
-gamefile.Unsupported = class Unsupported extends Failure {};
+gamefile.Unsupported = class Unsupported extends gamefile.Failure {};
 
 gamefile.LONGEST = 16777216;
 
@@ -92,6 +93,7 @@ gamefile.Engine = class Engine {
     }
 
     async #ask(call, inputs, options) {
+        if (!inputs.every(it => it instanceof Uint8Array)) throw new TypeError("a file is a Uint8Array");
         if (inputs.some(it => it.length > gamefile.LONGEST)) {
             const message = "the file is larger than 16,777,216 bytes, the largest size that the program reads";
             throw Object.assign(new gamefile.TooLong(message), { code: "E1" });
@@ -127,8 +129,12 @@ gamefile.Engine = class Engine {
     }
 
     #end(error) {
-        this.#worker?.terminate();
-        this.#worker = null;
+        if (this.#worker !== null) {
+            this.#worker.terminate();
+            // It may have sent an answer before that.
+            this.#worker.onmessage = this.#worker.onerror = null;
+            this.#worker = null;
+        }
         const waiting = [...this.#waiting.values()];
         this.#waiting.clear();
         for (const { reject } of waiting) reject(error());
