@@ -265,6 +265,7 @@ async function start() {
     } catch (error) {
         byId("verdict").className = "failed";
         byId("verdict").textContent = `${UNSUPPORTED} (${error.message}).`;
+        for (const id of ["inputs", "file", "tabs"]) byId(id).hidden = true;
         return;
     }
     const page = new Page(engine);
