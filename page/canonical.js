@@ -1,6 +1,6 @@
 "use strict";
 // Reads canonical text, as section 8 of docs/FORMATS.md describes it, for pictures and tables. It judges
-// nothing: it is given only what the proved calls have written. What is no UTF-8 in labels is read as U+FFFD.
+// nothing: it is given only what the proved calls have written. Bytes that are not UTF-8 are read as U+FFFD.
 
 const SPACE = 32, LINE_FEED = 10, QUOTE = 34, BACKSLASH = 92, CLOSING = 125;
 // How many milliseconds a long reading takes before the page may answer.

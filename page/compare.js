@@ -1,6 +1,6 @@
 "use strict";
 // Compares two files: whether they are the same game, the same but for names, or not; which information sets and
-// outcomes correspond, and where two games first differ. Only the proved calls judge; what is shown beside is read
+// outcomes correspond, and where two games first differ. Only the proved calls judge; what is shown beside that is read
 // from canonical texts.
 
 // No more sets, and no more outcomes, are listed.
