@@ -298,6 +298,18 @@ def lack_memory(view):
     judge("the page goes on", len(view.texts(".hashes code")) == 2, view.text("#view"))
 
 
+def lack_clipboard(view):
+    """If nothing can be copied, the button says so."""
+    view.tab("Canonical text")
+    view.press("Copy text", "#view")
+    view.until(lambda: view.text("#said") == "Copy text: Copied")
+    view.do("Object.defineProperty(navigator, 'clipboard', { value: undefined })")
+    view.press("Copy link with this game", "#view")
+    view.until(lambda: view.text("#said") != "Copy text: Copied")
+    said = view.text("#said")
+    judge("a clipboard that is not there", said == "Copy link with this game: Not copied", said)
+
+
 def refuse_browser(view):
     """A browser without WebAssembly is told that it cannot run the page."""
     script = view.command("Page.addScriptToEvaluateOnNewDocument", source="delete window.WebAssembly")
@@ -346,20 +358,9 @@ def show_markup(view):
 # ---------------------------------------------------------------------------------------------------------
 
 
-PARTS = [
-    *(show_examples, show_pictures, save_picture, show_tables, show_large_table, show_form),
-    *(
-        show_refusals,
-        edit,
-        say,
-        lack_memory,
-        refuse_browser,
-        show_bytes,
-        show_markup,
-        *page_use.PARTS,
-        *page_sight.PARTS,
-    ),
-]
+VIEWS = [show_examples, show_pictures, save_picture, show_tables, show_large_table, show_form]
+FAULTS = [show_refusals, edit, say, lack_memory, lack_clipboard, refuse_browser, show_bytes, show_markup]
+PARTS = [*VIEWS, *FAULTS, *page_use.PARTS, *page_sight.PARTS]
 
 
 def main():
