@@ -1,10 +1,11 @@
 "use strict";
 // Reads canonical text, as section 8 of docs/FORMATS.md describes it, for pictures and tables. It judges
-// nothing: it is given only what the proved calls have written. What is no UTF-8 in labels is read as U+FFFD.
+// nothing: it is given only what the proved calls have written. Bytes that are not UTF-8 are read as U+FFFD.
 
 const SPACE = 32, LINE_FEED = 10, QUOTE = 34, BACKSLASH = 92, CLOSING = 125;
 // How many milliseconds a long reading takes before the page may answer.
 const SLICE = 25;
+const SHORT = 16;
 
 // The tokens of a canonical text, from its first byte on.
 class CanonicalTokens {
@@ -35,7 +36,19 @@ class CanonicalTokens {
         this.peek();
         const start = this.at + 1;
         this.passLabel();
-        return this.decoder.decode(this.bytes.subarray(start, this.at - 1)).replaceAll('\\"', '"');
+        return this.plain(start, this.at - 1)
+            ?? this.decoder.decode(this.bytes.subarray(start, this.at - 1)).replaceAll('\\"', '"');
+    }
+
+    // A short label of plain letters, which takes much less time so; null for others.
+    plain(start, end) {
+        if (end - start > SHORT) return null;
+        let text = "";
+        for (let i = start; i < end; i++) {
+            if (this.bytes[i] >= 128 || this.bytes[i] === BACKSLASH) return null;
+            text += String.fromCharCode(this.bytes[i]);
+        }
+        return text;
     }
 
     bare() {

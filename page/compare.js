@@ -1,6 +1,6 @@
 "use strict";
 // Compares two files: whether they are the same game, the same but for names, or not; which information sets and
-// outcomes correspond, and where two games first differ. Only the proved calls judge; what is shown beside is read
+// outcomes correspond, and where two games first differ. Only the proved calls judge; what is shown beside that is read
 // from canonical texts.
 
 // No more sets, and no more outcomes, are listed.
@@ -60,6 +60,15 @@ class Comparison {
         else await this.showTables();
     }
 
+    // The titles and comments, where they are not the same.
+    otherNames([a, b]) {
+        const words = ["title", "comment"].filter(it => a[it] !== b[it]).map(it => {
+            const both = [a[it], b[it]].map(label => quoted([label.slice(0, MOST_DIFFERENT)])).join(" and ");
+            return `Their ${it}s are ${both}.`;
+        });
+        return words.length > 0 ? el("p", {}, words.join(" ")) : "";
+    }
+
     // The answer of `ask` for each of the two files.
     async both(ask) {
         return [await ask(this.files[0]), await ask(this.files[1])];
@@ -76,7 +85,8 @@ class Comparison {
         const trees = await this.both(it => it.tree(calls, signal));
         const numbers = await this.both(it => numbersIn(it, calls, signal));
         this.viewers = trees.map((tree, i) => new TreeViewer(tree, { numbers: numbers[i] }));
-        this.element.append(this.isAlike ? this.pairs(trees, numbers) : await this.difference(trees));
+        if (this.isAlike) this.element.append(this.otherNames(trees), this.pairs(trees, numbers));
+        else this.element.append(await this.difference(trees));
         this.element.append(this.besides(i => this.viewers[i].element));
     }
 
@@ -157,8 +167,8 @@ class Comparison {
         const { calls, signal } = this;
         const tables = (await this.both(it => it.canonical(calls, signal))).map(it => new Table(it));
         const marked = this.isAlike ? null : this.differentProfile(tables);
-        const other = marked === null ? this.otherLabels(tables) : this.profile(tables[0], marked);
-        if (!this.isAlike) this.element.append(other);
+        this.element.append(this.isAlike ? this.otherNames(tables)
+            : marked === null ? this.otherLabels(tables) : this.profile(tables[0], marked));
         this.element.append(this.besides(i => new TableViewer(tables[i], { marked }).element));
     }
 

@@ -31,8 +31,8 @@ const toolbar = (label, ...content) => el("div", { class: "tools", role: "group"
 
 const byId = id => document.getElementById(id);
 
-// Control characters, and marks that turn the direction of what follows.
-const STEERING = /[\u0000-\u001f\u007f-\u009f\u200e\u200f\u202a-\u202e\u2066-\u2069]/g;
+// Control characters, and those that turn the direction of what follows.
+const STEERING = /[\u0000-\u001f\u007f-\u009f\u202a-\u202e\u2066-\u2069]/g;
 
 // A label as one line: line breaks and tabs become spaces, and what would steer the display becomes U+FFFD.
 function shown(label) {

@@ -115,14 +115,17 @@ function saveBytes(bytes, name) {
 
 // A button that copies what `text` gives, and says so; null is not copied.
 function copyButton(words, text) {
+    const tell = said => {
+        it.textContent = said;
+        byId("said").textContent = `${words}: ${said}`;
+        setTimeout(() => { it.textContent = words; }, 1500);
+    };
     const copy = async () => {
         const copied = await text();
         if (copied === null) return;
-        await navigator.clipboard.writeText(copied);
-        it.textContent = "Copied";
-        byId("said").textContent = `${words}: done`;
-        setTimeout(() => { it.textContent = words; }, 1500);
+        // A browser may have no clipboard for a page, or refuse it.
+        await navigator.clipboard.writeText(copied).then(() => tell("Copied"), () => tell("Not copied"));
     };
-    const it = button(words, copy);
+    const it = button(words, () => copy().catch(() => tell("Not copied")));
     return it;
 }

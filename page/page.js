@@ -157,8 +157,8 @@ class Page {
     entry(file) {
         const what = { refused: file.refusal?.code, valid: file.kind, failed: "not read", waiting: "…" }[file.state];
         const choose = el("button", {
-            type: "button", class: "name", "aria-current": file === this.current ? "true" : null,
-            click: () => this.choose(file),
+            type: "button", class: "name", title: file.name, click: () => this.choose(file),
+            "aria-current": file === this.current ? "true" : null,
         }, el("span", {}, file.name), " ", el("small", {}, what));
         const close = button("×", () => this.close(file), { class: "close", "aria-label": `Close ${file.name}` });
         return el("li", { class: file.state }, choose, close);
@@ -265,6 +265,7 @@ async function start() {
     } catch (error) {
         byId("verdict").className = "failed";
         byId("verdict").textContent = `${UNSUPPORTED} (${error.message}).`;
+        for (const id of ["inputs", "file", "tabs"]) byId(id).hidden = true;
         return;
     }
     const page = new Page(engine);

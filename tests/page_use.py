@@ -174,6 +174,8 @@ def find_alike(view):
     answer = compare_with(view, DILEMMA, EXAMPLES / "prisoners-dilemma-by-outcomes.nfg")
     judge("tables that are the same but for names", "are the same game but for names" in answer, answer)
     judge("both are shown", len(view.all("table.game")) == 2)
+    titles = view.text(".comparison p")
+    judge("titles that differ", "“Two suspects” and “Prisoner's dilemma”" in titles, titles)
     other = view.made("other.efg", POKER.read_text().replace('"Alice wins big"', '"a great win"'))
     answer = compare_with(view, POKER, other)
     judge("trees that are the same but for names", "are the same game but for names" in answer, answer)

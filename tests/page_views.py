@@ -280,6 +280,49 @@ def say(view):
     judge("a file that is too long", "16,777,216 bytes" in view.text("#verdict"), view.text("#verdict"))
 
 
+LACK_MEMORY = """
+    const { prototype } = gamefile.Engine, { hash } = prototype;
+    prototype.hash = async () => {
+        prototype.hash = hash;
+        throw new gamefile.OutOfMemory('out of memory');
+    };
+"""
+
+
+def lack_memory(view):
+    """If memory runs out in a call, the page says so, and goes on."""
+    view.do(LACK_MEMORY)
+    view.tab("Canonical text")
+    judge("memory that runs out", view.text("#view .bad") == "Out of memory.", view.text("#view"))
+    view.press("Try again", "#view")
+    judge("the page goes on", len(view.texts(".hashes code")) == 2, view.text("#view"))
+
+
+def lack_clipboard(view):
+    """If nothing can be copied, the button says so."""
+    view.tab("Canonical text")
+    view.press("Copy text", "#view")
+    view.until(lambda: view.text("#said") == "Copy text: Copied")
+    view.do("Object.defineProperty(navigator, 'clipboard', { value: undefined })")
+    view.press("Copy link with this game", "#view")
+    view.until(lambda: view.text("#said") != "Copy text: Copied")
+    said = view.text("#said")
+    judge("a clipboard that is not there", said == "Copy link with this game: Not copied", said)
+
+
+def refuse_browser(view):
+    """A browser without WebAssembly is told that it cannot run the page."""
+    script = view.command("Page.addScriptToEvaluateOnNewDocument", source="delete window.WebAssembly")
+    view.driver.refresh()
+    view.until(lambda: view.text("#verdict") != "")
+    judge("a browser without WebAssembly", "WebAssembly" in view.text("#verdict"), view.text("#verdict"))
+    judge(
+        "nothing is offered there",
+        not any(it.is_displayed() for it in view.all("header input, header select, button")),
+    )
+    view.command("Page.removeScriptToEvaluateOnNewDocument", **script)
+
+
 def show_bytes(view):
     """A file that is not UTF-8 is shown with U+FFFD, to read only; what is saved has its bytes."""
     view.open(view.made("latin-1.efg", b'EFG 2 R "caf\xe9" { "\xff" } p "" 1 1 "" { "\xfe" } 0 t "" 0'))
@@ -315,10 +358,9 @@ def show_markup(view):
 # ---------------------------------------------------------------------------------------------------------
 
 
-PARTS = [
-    *(show_examples, show_pictures, save_picture, show_tables, show_large_table, show_form),
-    *(show_refusals, edit, say, show_bytes, show_markup, *page_use.PARTS, *page_sight.PARTS),
-]
+VIEWS = [show_examples, show_pictures, save_picture, show_tables, show_large_table, show_form]
+FAULTS = [show_refusals, edit, say, lack_memory, lack_clipboard, refuse_browser, show_bytes, show_markup]
+PARTS = [*VIEWS, *FAULTS, *page_use.PARTS, *page_sight.PARTS]
 
 
 def main():
