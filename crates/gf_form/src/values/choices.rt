@@ -15,7 +15,7 @@ use crate::values::positions::at;
 /// The choices of a profile.
 #[derive(Clone, Copy)]
 pub(crate) struct ProfileChoices<'c> {
-    /// The number of the profile, from 0.
+    /// The number of the profile, from 0, by which contracts name it.
     pub number: u32,
     /// The digits of the game.
     pub digits: &'c Digits,
