@@ -2,7 +2,7 @@
 # `canon --check` and `canon --write`, over files and folders.
 
 # Files, of which some are canonical: named are those that are not.
-check_canonical() {
+check_canonical_files() {
     local folder=$scratch/canonical five refused=$scratch/refused.nfg
     mkdir "$folder" && five=$folder/five.efg
     cp "$scratch/five.efg" "$five"
@@ -45,7 +45,7 @@ check_nearly_canonical() { # FILE
     head -c -1 "$1" >"$near"
     run canon --check "$near"
     judge_lines "canon --check of a text without its last line feed" 1 "$near"
-    sed '$ s/ $/  /; $ s/}/ }/' "$1" >"$near"
+    sed '1 s/ /  /' "$1" >"$near"
     run canon --check "$near"
     judge_lines "canon --check of a text with a space more" 1 "$near"
     rm "$near"

@@ -51,21 +51,25 @@ check_page() {
     fi
 }
 
-# The hook for pre-commit runs `check` on game files, and on no others.
-check_hook() {
-    local hook=$root/.pre-commit-hooks.yaml entry files
-    entry=$(sed -n 's/^  entry: gamefile //p' "$hook")
-    files=$(sed -n "s/^  files: '\(.*\)'$/\1/p" "$hook")
+# The hooks for pre-commit run `check` and `canon --check` on game files, and on no others.
+check_hooks() {
+    local hooks=$root/.pre-commit-hooks.yaml entries files
+    mapfile -t entries < <(sed -n 's/^  entry: gamefile //p' "$hooks")
+    files=$(sed -n "s/^  files: '\(.*\)'$/\1/p" "$hooks" | sort -u)
     printf '%s\n' a.efg b/c.nfg d.efg.txt efg | grep -E "$files" >"$scratch/out"
     : >"$scratch/err"
     status=0
     printf '%s\n' a.efg b/c.nfg >"$scratch/expected"
-    judge "files of the hook" "$scratch/expected" "$nothing" 0
-    echo "$accepted.nfg: table" >"$scratch/expected"
+    judge "files of the hooks" "$scratch/expected" "$nothing" 0
     launch check --explain "$scratch/refused.nfg" 2>"$scratch/lines"
+    echo "$accepted.nfg: table" >"$scratch/expected"
     # shellcheck disable=SC2086
-    run $entry "$accepted.nfg" "$scratch/refused.nfg"
-    judge "the hook" "$scratch/expected" "$scratch/lines" 2
+    run ${entries[0]} "$accepted.nfg" "$scratch/refused.nfg"
+    judge "the hook gamefile-check" "$scratch/expected" "$scratch/lines" 2
+    echo "$accepted.nfg" >"$scratch/expected"
+    # shellcheck disable=SC2086
+    run ${entries[1]} "$accepted.nfg" "$scratch/refused.nfg"
+    judge "the hook gamefile-canon" "$scratch/expected" "$scratch/lines" 2
 }
 
 # Counts what another script passes and fails, which its last line says.
@@ -84,7 +88,7 @@ check_by() { # SCRIPT WORD..
 # The files and headings that documents link to are there, and the commands that documents show write
 # what stands there.
 check_documents() {
-    check_hook
+    check_hooks
     check_by links
     check_by transcripts README.md examples/README.md docs/COLLECTIONS.md CONTRIBUTING.md
 }
