@@ -90,8 +90,19 @@ class View:
         return found[0]
 
     def press(self, words, within=""):
-        self.button(words, within).click()
+        self.steadily(lambda: self.button(words, within).click())
         self.calm()
+
+    def steadily(self, act):
+        """Acts once more if the page has just made a part anew."""
+        from selenium.common.exceptions import StaleElementReferenceException
+
+        for _ in range(20):
+            try:
+                return act()
+            except StaleElementReferenceException:
+                time.sleep(0.05)
+        return act()
 
     def tab(self, words):
         self.press(words, "#tabs")
@@ -99,7 +110,7 @@ class View:
     def choose(self, selector, words):
         from selenium.webdriver.support.ui import Select
 
-        Select(self.one(selector)).select_by_visible_text(words)
+        self.steadily(lambda: Select(self.one(selector)).select_by_visible_text(words))
         self.until(lambda: self.is_calm() and not self.all("#files .waiting"))
         time.sleep(0.05)
         self.calm()

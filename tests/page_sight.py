@@ -163,8 +163,11 @@ def name_all(view):
 
 
 def unnamed(view):
-    shown = [it for it in view.all(NAMED) if it.is_displayed()]
-    return [it.get_attribute("outerHTML") for it in shown if not it.accessible_name]
+    def found():
+        shown = [it for it in view.all(NAMED) if it.is_displayed()]
+        return [it.get_attribute("outerHTML") for it in shown if not it.accessible_name]
+
+    return view.steadily(found)
 
 
 def read_aloud(view):
