@@ -7,7 +7,7 @@ use crate::streams::last_error::LastError;
 use crate::texts::text::push_text;
 use gf_nfg::TextAndPayoffs;
 use std::alloc::AllocError;
-use std::fs::File;
+use std::fs::{File, Permissions};
 use std::io::ErrorKind;
 use std::{fs, io};
 
@@ -50,8 +50,9 @@ fn new_file_beside(rt: &HostRuntime, path: &str) -> Result<NewFile, Unreplaced> 
     Err(Unreplaced::System(io::Error::from(ErrorKind::AlreadyExists)))
 }
 
-/// Writes a text to a file.
-fn write_to(file: File, text: TextAndPayoffs) -> Result<(), io::Error> {
+/// Gives a new file its permissions and its text.
+fn fill(file: File, permissions: Permissions, text: TextAndPayoffs) -> Result<(), io::Error> {
+    file.set_permissions(permissions)?;
     let mut output = Counted::new(file);
     match push_text(&mut output, text) {
         Ok(()) => Ok(()),
@@ -59,6 +60,20 @@ fn write_to(file: File, text: TextAndPayoffs) -> Result<(), io::Error> {
             Some(error) => Err(error),
             None => Err(io::Error::from(ErrorKind::WriteZero)),
         },
+    }
+}
+
+/// Removes a new file after this error.
+fn given_up(rt: &HostRuntime, new: &str, error: io::Error) -> Unreplaced {
+    let _ = fs::remove_file(rt, new);
+    Unreplaced::from(error)
+}
+
+/// Gives a new file the name of another, which it replaces.
+fn take_place(rt: &HostRuntime, new: &str, path: &str) -> Result<(), Unreplaced> {
+    match fs::rename(rt, new, path) {
+        Ok(()) => Ok(()),
+        Err(error) => Err(given_up(rt, new, error)),
     }
 }
 
@@ -72,17 +87,8 @@ pub fn replace(rt: &HostRuntime, name: &str, text: TextAndPayoffs) -> Result<(),
         return Err(Unreplaced::System(io::Error::from(ErrorKind::InvalidInput)));
     }
     let NewFile { path: new, file } = new_file_beside(rt, path)?;
-    let is_done = match file.set_permissions(found.permissions()) {
-        Ok(()) => write_to(file, text),
-        Err(error) => Err(error),
-    };
-    let is_done = match is_done {
-        Ok(()) => fs::rename(rt, new.as_str(), path),
-        Err(error) => Err(error),
-    };
-    if let Err(error) = is_done {
-        let _ = fs::remove_file(rt, new.as_str());
-        return Err(Unreplaced::from(error));
+    match fill(file, found.permissions(), text) {
+        Ok(()) => take_place(rt, new.as_str(), path),
+        Err(error) => Err(given_up(rt, new.as_str(), error)),
     }
-    Ok(())
 }
