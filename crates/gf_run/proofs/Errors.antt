@@ -1,5 +1,5 @@
 -- What holds for the value or for the error of a result.
-use Rattle.std.proofs.Common.{◌≡◌, Result, Ok, Err, IfErr, IfOk, IsErrAnd, OnErr, ap, sym, subst}
+use Rattle.std.proofs.Common.{◌≡◌, Result, Ok, Err, IfErr, IsErrAnd, OnErr, ap, sym, subst}
 use Rattle.std.specs.Prelude.{⊤}
 use Rattle.gf_run.specs.Rewritten.{without_cause}
 use Rattle.gf_run.specs.declared.collections.rewrite.Failed.{Failed}
@@ -20,12 +20,6 @@ IfErr-only (Err e) only P is holds = subst P (sym is) holds
 pub is_error : {T E : Type 0} (r : Result T E) (e : E) → IsErrAnd r (λ x. x ≡ e) → r ≡ Err e
 is_error (Ok x) e is = absurd is
 is_error (Err x) e is = cc
-
--- what follows from what is known of the value
-pub IfOk-then : {T E : Type 0} (r : Result T E) (P Q : T → Type 0) → IfOk r P
-    → ((x : T) → P x → Q x) → IfOk r Q
-IfOk-then (Ok x) P Q holds then = then x holds
-IfOk-then (Err e) P Q holds then = tt
 
 -- a failure has this fault
 pub is_failed : (r : Result ⊤ Failed) (fault : RunFault)

@@ -23,14 +23,14 @@ use Rattle.gf_run.specs.declared.opening.inputs.Unreplaced.TheVariants.{Memory, 
 use Rattle.gf_run.specs.declared.streams.kept.Kept.{Kept}
 
 -- the fault of a file whose text could not be put in its place
-abbrev pub fault_of : Unreplaced → RunFault
-fault_of Memory = fault.Memory
-fault_of (System error) = fault.Write
+abbrev pub unreplaced_fault : Unreplaced → RunFault
+unreplaced_fault Memory = fault.Memory
+unreplaced_fault (System error) = fault.Write
 
 -- the result of a run, by whether a text was put in the place of a file
-abbrev pub result_of : Result ⊤ Unreplaced → Result ⊤ RunFault
-result_of (Ok done) = Ok done
-result_of (Err why) = Err (fault_of why)
+abbrev pub replacing_result : Result ⊤ Unreplaced → Result ⊤ RunFault
+replacing_result (Ok done) = Ok done
+replacing_result (Err why) = Err (unreplaced_fault why)
 
 -- the result of a run, without what the system says about a fault
 abbrev pub without_cause : Result ⊤ Failed → Result ⊤ RunFault
@@ -42,7 +42,7 @@ module _ {I S : Type 0} (opener : Opener I S) where
   -- a text was put in the place of a file, if it could be; standard input has no place
   abbrev pub IsReplacedBy : CollectionFile → List ℕ → Result ⊤ RunFault → I → I → Type 0
   IsReplacedBy (Input (input.File name)) text result i i' = (answer : Result ⊤ Unreplaced)
-      × opener.replaced i (string_bytes name) text answer i' × (result ≡ result_of answer)
+      × opener.replaced i (string_bytes name) text answer i' × (result ≡ replacing_result answer)
   IsReplacedBy file text result i i' = (result ≡ Err fault.Write) × (i' ≡ i)
 
   -- what is done about a file that has these bytes

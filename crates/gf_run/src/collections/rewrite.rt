@@ -2,7 +2,7 @@
 
 ghost use Rattle.std.specs.Prelude.{◌≡◌};
 ghost use Rattle.gf_run.specs.Rewritten.{IsReplacedBy, IsRewritten, Rewrites, RewritesAll, Step};
-ghost use Rattle.gf_run.specs.Rewritten.{fault_of, without_cause};
+ghost use Rattle.gf_run.specs.Rewritten.{unreplaced_fault, without_cause};
 
 use crate::collections::file::{CollectionFile, name_of, open_file};
 use crate::collections::named_fault::{tell_of, tell_unopened_of};
@@ -38,7 +38,7 @@ impl From<RunFault> for Failed {
 }
 
 impl From<Unreplaced> for Failed {
-    ghost from_gives = { λ why failed. failed.fault ≡ fault_of why };
+    ghost from_gives = { λ why failed. failed.fault ≡ unreplaced_fault why };
 
     fn from(why: Unreplaced) -> Failed {
         match why {
