@@ -1,6 +1,7 @@
 -- What the program does for a job that has one answer.
-use Rattle.std.specs.Prelude.{◌≡◌, ℕ, Bool, true, false, List, Result, Ok, Err}
+use Rattle.std.specs.Prelude.{◌≡◌, ℕ, Bool, true, false, List, Result, Ok, Err, ⊤}
 use Rattle.std.specs.declared.io.Error.{Error}
+use Rattle.gf_canon.specs.declared.kind.FileKind.{FileKind}
 use Rattle.gf_canon.specs.declared.sameness.Names.{Names}
 use Rattle.gf_form.specs.declared.forms.Strategies.{Strategies}
 use Rattle.gf_form.specs.declared.forms.Strategies.TheVariants.{Pure, Reduced}
@@ -11,17 +12,35 @@ use Rattle.gf_run.specs.FaultInput.{is_of_second, of_second}
 use Rattle.gf_run.specs.FaultStatus.{answer_status}
 use Rattle.gf_run.specs.Kept.{bytes_kept, kept_at_first, source_of}
 use Rattle.gf_run.specs.Opening.{IsNotOpened, IsOpened, Opener, Opens}
+use Rattle.gf_run.specs.Run.{RunsCanonBy, RunsCheck, RunsTable}
 use Rattle.gf_run.specs.RunOfTwo.{RunsSameBy, RunsSameMap}
 use Rattle.gf_run.specs.Streams.{Reader, Writer}
 use Rattle.gf_run.specs.declared.fault.RunFault.{RunFault}
 use Rattle.gf_run.specs.declared.fault.RunFault.TheVariants.{Read}
 use Rattle.gf_run.specs.declared.fault.Which.TheVariants.{Only, First, Second}
+use Rattle.gf_run.specs.declared.jobs.one_file.OneTask.{OneTask}
+use Rattle.gf_run.specs.declared.jobs.one_file.OneTask.TheVariants.{Canon, Check, Table}
 use Rattle.gf_run.specs.declared.streams.kept.Kept.{Kept}
 
 -- the strategies of a form, or the reduced ones if they are asked for
 abbrev pub strategies_of : Bool → Strategies
 strategies_of false = Pure
 strategies_of true = Reduced
+
+-- the result of a run, without the kind of its file
+abbrev pub without_kind : Result FileKind RunFault → Result ⊤ RunFault
+without_kind (Ok kind) = Ok tt
+without_kind (Err fault) = Err fault
+
+-- the run over one file
+abbrev pub RunsOne : {S W : Type 0} → Reader S → Writer W → OneTask → Result ⊤ RunFault
+    → S → S → W → W → Type 0
+RunsOne reader writer (Canon names) result s s' o o' =
+    RunsCanonBy reader writer names result s s' o o'
+RunsOne reader writer Check result s s' o o' = (kind : Result FileKind RunFault)
+    × (result ≡ without_kind kind) × RunsCheck reader writer kind s s' o o'
+RunsOne reader writer (Table strategies) result s s' o o' =
+    RunsTable reader writer strategies result s s' o o'
 
 -- the run over two files, with their renumbering if it is asked for, or by names
 abbrev pub RunsComparison : {S W : Type 0} → Reader S → Writer W → Bool → Names

@@ -8,12 +8,12 @@ use Rattle.gf_run.specs.Collected.{PerformsAll}
 use Rattle.gf_run.specs.CollectionRun.{Standing}
 use Rattle.gf_run.specs.Kept.{kept_reader}
 use Rattle.gf_run.specs.Opening.{Opener}
-use Rattle.gf_run.specs.Performed.{PerformsOne, PerformsTwo, RunsComparison, strategies_of}
-use Rattle.gf_run.specs.Run.{RunsCanonBy, RunsCheck, RunsTable}
+use Rattle.gf_run.specs.Performed.{PerformsOne, PerformsTwo, RunsComparison, RunsOne, strategies_of}
 use Rattle.gf_run.specs.Streams.{Reader, Writer}
 use Rattle.gf_run.specs.Task.{Does}
 use Rattle.gf_run.specs.declared.collections.line.FileLine.TheVariants as line
 use Rattle.gf_run.specs.declared.collections.task.Task.TheVariants as task
+use Rattle.gf_run.specs.declared.jobs.one_file.OneTask.TheVariants as one
 
 -- for what opens inputs, for the inputs, for standard output and for standard error; `explain` says
 -- whether a fault is explained
@@ -21,13 +21,13 @@ module _ {I S W E : Type 0} (opener : Opener I S) (reader : Reader S) (writer : 
     (errors : Writer E) (explain : Bool) where
   abbrev pub Performs : Job → Standing I W E → Standing I W E → Type 0
   Performs (Canon input names) a b = PerformsOne opener errors explain
-      (RunsCanonBy (kept_reader reader) writer names) input
+      (RunsOne (kept_reader reader) writer (one.Canon names)) input
       b.status a.inputs b.inputs a.output b.output a.errors b.errors
   Performs (Check input) a b = PerformsOne opener errors explain
-      (RunsCheck (kept_reader reader) writer) input
+      (RunsOne (kept_reader reader) writer one.Check) input
       b.status a.inputs b.inputs a.output b.output a.errors b.errors
   Performs (Table input reduced) a b = PerformsOne opener errors explain
-      (RunsTable (kept_reader reader) writer (strategies_of reduced)) input
+      (RunsOne (kept_reader reader) writer (one.Table (strategies_of reduced))) input
       b.status a.inputs b.inputs a.output b.output a.errors b.errors
   Performs (Same first second map names) a b = PerformsTwo opener errors explain
       (RunsComparison (kept_reader reader) writer map names)

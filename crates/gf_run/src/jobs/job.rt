@@ -6,7 +6,7 @@ use crate::collections::collection::perform_all;
 use crate::collections::line::FileLine;
 use crate::collections::progress::Progress;
 use crate::collections::task::Task;
-use crate::jobs::one_file::{perform_canon, perform_check, perform_table};
+use crate::jobs::one_file::{OneTask, perform_one, strategies_of};
 use crate::jobs::two_files::perform_same;
 use crate::opening::inputs::Inputs;
 use crate::streams::last_error::LastError;
@@ -59,11 +59,16 @@ pub fn perform<R: Files + AllocGlobal, I: Inputs, P: Progress, W: Sink + LastErr
     let (alloc, explain) = (rt.alloc(), request.explain);
     match &request.job {
         Job::Canon { input, names } => {
-            perform_canon(alloc, inputs, input, *names, explain, output, errors)
+            let task = OneTask::Canon(*names);
+            perform_one(alloc, inputs, input, task, explain, output, errors)
         }
-        Job::Check(input) => perform_check(alloc, inputs, input, explain, output, errors),
+        Job::Check(input) => {
+            let task = OneTask::Check;
+            perform_one(alloc, inputs, input, task, explain, output, errors)
+        }
         Job::Table { input, reduced } => {
-            perform_table(alloc, inputs, input, *reduced, explain, output, errors)
+            let task = OneTask::Table(strategies_of(*reduced));
+            perform_one(alloc, inputs, input, task, explain, output, errors)
         }
         Job::Same { a, b, map, names } => {
             let (a, b) = (a.as_str(), b.as_str());

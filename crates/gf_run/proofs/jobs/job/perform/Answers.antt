@@ -1,13 +1,14 @@
 use Rattle.gf_run.proofs.jobs.job.perform.Goals as goal
 
 pub returns-in-Canon : goal.returns-in-Canon
-returns-in-Canon g c = rw c.in-Canon.is c.perform_canon.ensures
+returns-in-Canon g c = rw c.in-Canon.is c.perform_one.ensures
 
 pub returns-in-Check : goal.returns-in-Check
-returns-in-Check g c = rw c.in-Check.is c.perform_check.ensures
+returns-in-Check g c = rw c.in-Check.is c.perform_one-in-Check.ensures
 
 pub returns-in-Table : goal.returns-in-Table
-returns-in-Table g c = rw c.in-Table.is c.perform_table.ensures
+returns-in-Table g c =
+    rw c.in-Table.is (rw c.strategies_of.ensures at c.perform_one-in-Table.ensures)
 
 pub returns-in-Same : goal.returns-in-Same
 returns-in-Same g c = rw c.in-Same.is
